@@ -1,0 +1,5 @@
+pub mod SourceLemmas
+pub mod MeetingLemmas
+pub mod TableLemmas
+pub mod ArrayLemmas
+pub mod ZeroLemmas

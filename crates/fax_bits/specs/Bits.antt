@@ -1,0 +1,31 @@
+-- The bits of a strip: a list of truth values, where true is the bit 1.
+use Rattle.std.specs.Prelude.{◌≡◌, ℕ, zero, suc, ◌+◌, ◌*◌, Bool, true, false, if◌then◌else◌, List, [], ◌∷◌, ◌++◌, replicate, reverse, fold, flat_map, ◌==◌}
+use Rattle.std.specs.Int.{bit_at}
+use Rattle.fax_bits.specs.declared.FillOrder.{FillOrder}
+use Rattle.fax_bits.specs.declared.FillOrder.TheVariants.{MsbFirst, LsbFirst}
+
+-- the lowest `len` bits of a number, the highest of them first
+unfoldable pub code_bits : ℕ → ℕ → List Bool
+code_bits zero number = []
+code_bits (suc len) number = (bit_at number len == 1) ∷ code_bits len number
+
+-- the eight bits of a byte, in the order in which they were coded (TIFF 6.0, FillOrder)
+unfoldable pub byte_bits : FillOrder → ℕ → List Bool
+byte_bits MsbFirst byte = code_bits 8 byte
+byte_bits LsbFirst byte = reverse (code_bits 8 byte)
+
+-- the bits of the bytes (TIFF 6.0, FillOrder)
+unfoldable pub bits : FillOrder → List ℕ → List Bool
+bits order bytes = flat_map (byte_bits order) bytes
+
+-- the number that bits spell, the highest first
+abbrev pub bits_number : List Bool → ℕ
+bits_number b = fold (λ number bit. 2 * number + (if bit then 1 else 0)) 0 b
+
+-- no 1 is among the bits
+abbrev pub IsAllZeros : List Bool → Type 0
+IsAllZeros b = (zeros : ℕ) × (b ≡ replicate zeros false)
+
+-- the bits begin with this many zeros and a 1
+abbrev pub HasZerosAhead : List Bool → ℕ → Type 0
+HasZerosAhead b zeros = (behind : List Bool) × (b ≡ replicate zeros false ++ true ∷ behind)

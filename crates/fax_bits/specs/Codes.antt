@@ -1,0 +1,44 @@
+-- What it is that bits begin with a code of a table, or with none.
+use Rattle.std.specs.Prelude.{◌≡◌, Bool, List, [], ◌∷◌, ◌++◌, Contains}
+use Rattle.fax_bits.specs.declared.codes.CodeEntry.{CodeEntry}
+use Rattle.fax_bits.specs.declared.codes.CodeFault.{CodeFault}
+use Rattle.fax_bits.specs.declared.codes.CodeFault.TheVariants.{DataEnds, BadCode}
+use Rattle.fax_bits.specs.Bits.{code_bits}
+
+-- the bits of an entry's code
+abbrev pub bits_of : {M : Type 0} → CodeEntry M → List Bool
+bits_of entry = code_bits entry.len entry.code
+
+-- the bits begin with the code of some entry that has this meaning, and the rest follows it
+pub record Takes {M : Type 0} (table : List (CodeEntry M)) (b : List Bool) (meaning : M) (rest : List Bool) : Type 0 where
+  pub entry : CodeEntry M
+  pub listed : Contains table entry
+  pub means : entry.meaning ≡ meaning
+  pub spelled : b ≡ bits_of entry ++ rest
+
+-- the code begins the bits
+abbrev pub IsCodeAhead : List Bool → List Bool → Type 0
+IsCodeAhead code b = (rest : List Bool) × (b ≡ code ++ rest)
+
+-- the bits begin the code, and are not all of it
+abbrev pub IsCutBy : List Bool → List Bool → Type 0
+IsCutBy code b = (missing : Bool) × (more : List Bool) × (b ++ missing ∷ more ≡ code)
+
+-- no code of the table begins the bits
+abbrev pub HasNoCode : {M : Type 0} → List (CodeEntry M) → List Bool → Type 0
+HasNoCode {M} table b = (entry : CodeEntry M) → Contains table entry → IsCodeAhead (bits_of entry) b → ⊥
+
+-- the bits begin some code of the table, and are not all of it
+abbrev pub IsCutShort : {M : Type 0} → List (CodeEntry M) → List Bool → Type 0
+IsCutShort {M} table b = (entry : CodeEntry M) × Contains table entry × IsCutBy (bits_of entry) b
+
+-- which fault it is that no code begins the bits (this project's profile)
+abbrev pub IsFaultOf : {M : Type 0} → List (CodeEntry M) → List Bool → CodeFault → Type 0
+IsFaultOf table b DataEnds = HasNoCode table b × IsCutShort table b
+IsFaultOf table b BadCode = HasNoCode table b × (IsCutShort table b → ⊥)
+
+-- the bits are the codes of these meanings, one after another, and the rest follows them
+abbrev pub Spells : {M : Type 0} → List (CodeEntry M) → List Bool → List M → List Bool → Type 0
+Spells table b [] rest = b ≡ rest
+Spells table b (meaning ∷ meanings) rest =
+    (middle : List Bool) × Takes table b meaning middle × Spells table middle meanings rest

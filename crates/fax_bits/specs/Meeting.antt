@@ -1,0 +1,11 @@
+-- How bits begin beside a code.
+use Rattle.std.specs.Prelude.{Bool, List}
+use Rattle.fax_bits.specs.declared.codes.Meeting.{Meeting}
+use Rattle.fax_bits.specs.declared.codes.Meeting.TheVariants.{Whole, Cut, Other}
+use Rattle.fax_bits.specs.Codes.{IsCodeAhead, IsCutBy}
+
+-- the code begins the bits, or the bits end within the code, or neither
+abbrev pub IsMeeting : Meeting → List Bool → List Bool → Type 0
+IsMeeting Whole code b = IsCodeAhead code b
+IsMeeting Cut code b = (IsCodeAhead code b → ⊥) × IsCutBy code b
+IsMeeting Other code b = (IsCodeAhead code b → ⊥) × (IsCutBy code b → ⊥)

@@ -1,0 +1,115 @@
+//! Code tables, and the code that bits begin with.
+ghost use Rattle.std.specs.Prelude.{◌≡◌, ℕ, ◌+◌, ◌<◌, ◌≤◌, List, length, slice_get, OnOk, OnErr, IfOk, IfErr, Some};
+ghost use Rattle.fax_bits.specs.Bits.{code_bits};
+ghost use Rattle.fax_bits.specs.Codes.{Takes, IsFaultOf};
+ghost use Rattle.fax_bits.specs.Meeting.{IsMeeting};
+
+use crate::BitSource;
+use thiserror::Error;
+
+/// A code of a table: the lowest `len` bits of `code`, the highest of them first.
+#[derive(Clone, Copy, Debug, PartialEq, Eq)]
+pub struct CodeEntry<M> {
+    pub code: u16,
+    /// How many bits the code has, 1 to 13.
+    pub len: u8,
+    pub meaning: M,
+}
+
+/// Why no code could be read.
+#[derive(Clone, Copy, Debug, PartialEq, Eq, Error)]
+pub enum CodeFault {
+    /// The bits end within a code.
+    #[error("the data ends within a code")]
+    DataEnds,
+    /// No code of the table begins so.
+    #[error("no code begins so")]
+    BadCode,
+}
+
+/// A table of codes, none of which has more than 13 bits.
+pub trait CodeTable {
+    ghost use Rattle.fax_bits.specs.declared.codes.CodeEntry.{CodeEntry};
+
+    /// What its codes mean.
+    type Meaning: Copy;
+
+    ghost COUNT: { ℕ };
+
+    /// How many entries it has.
+    const COUNT: usize;
+
+    /// The table of the standard.
+    ghost table: { List (CodeEntry Self.Meaning) };
+
+    /// The entry at a place below `COUNT`.
+    fn entry(i: usize) -> CodeEntry<Self::Meaning>
+        requires { i < COUNT }
+        ensures found { slice_get table i ≡ Some result }
+        ensures not_empty { 0 < result.len }
+        ensures short { result.len ≤ 13 };
+
+    ghost counted: { length table ≡ COUNT };
+}
+
+/// How bits begin beside a code.
+#[derive(Clone, Copy)]
+enum Meeting {
+    /// With the code.
+    Whole,
+    /// They end within the code.
+    Cut,
+    /// Neither.
+    Other,
+}
+
+impl<'a> BitSource<'a> {
+    /// How the bits that are left begin beside a code.
+    fn meeting(&self, code: u16, len: u8) -> Meeting
+        requires { len ≤ 13 }
+        ensures { IsMeeting result (code_bits len code) self.now.left }
+    {
+        let left = self.remaining();
+        for i in 0..len {
+            if u64::from(i) >= left {
+                return Meeting::Cut;
+            }
+            let wanted = (code >> (len - 1 - i)) & 1 == 1;
+            if self.bit(u64::from(i)) != wanted {
+                return Meeting::Other;
+            }
+        }
+        Meeting::Whole
+    }
+}
+
+/// Reads a code of the table. After an `Err` the source is as it was.
+pub fn read_code<T: CodeTable>(source: &mut BitSource) -> Result<T::Meaning, CodeFault>
+    ensures ok { IfOk result (λ meaning. Takes T.table source.old.left meaning source.new.left) }
+    ensures err { IfErr result (λ fault. IsFaultOf T.table source.old.left fault) }
+    ensures unchanged { OnErr result (source.new ≡ source.old) }
+
+    // The source goes on in the same bits, and a code takes at least one of them.
+    ensures same_end { source.new.place + length source.new.left ≡ source.old.place + length source.old.left }
+    ensures shorter { OnOk result (length source.new.left < length source.old.left) }
+{
+    let mut cut = false;
+    for i in 0..T::COUNT {
+        let entry = T::entry(i);
+        match source.meeting(entry.code, entry.len) {
+            Meeting::Whole => {
+                source.skip(u64::from(entry.len));
+                return Ok(entry.meaning);
+            }
+            Meeting::Cut => {
+                cut = true;
+            }
+            Meeting::Other => {}
+        }
+    }
+    if cut {
+        Err(CodeFault::DataEnds)
+    } else {
+        Err(CodeFault::BadCode)
+    }
+}

@@ -1,0 +1,34 @@
+//! Bits of coded strips, and the code tables of ITU-T T.4.
+#![tactic(auto)]
+
+mod codes;
+mod modes;
+mod runs;
+mod source;
+
+pub use codes::{CodeEntry, CodeFault, CodeTable, read_code};
+pub use modes::ModeCode;
+pub use runs::{BlackRuns, RunCode, WhiteRuns};
+pub use source::BitSource;
+use thiserror::Error;
+
+/// The colour of a pel.
+#[derive(Clone, Copy, Debug, PartialEq, Eq)]
+pub enum Colour {
+    White,
+    Black,
+}
+
+/// Which bit of a byte comes first (TIFF 6.0, FillOrder).
+#[derive(Clone, Copy, Debug, PartialEq, Eq)]
+pub enum FillOrder {
+    /// The highest bit is first: FillOrder 1.
+    MsbFirst,
+    /// The lowest bit is first: FillOrder 2.
+    LsbFirst,
+}
+
+/// Want of memory: a growth was refused.
+#[derive(Clone, Copy, Debug, PartialEq, Eq, Error)]
+#[error("out of memory")]
+pub struct Memory;

@@ -1,0 +1,319 @@
+//! The codes of runs (ITU-T T.4, tables 2, 3a and 3b).
+ghost use Rattle.std.specs.Prelude.{◌≡◌, ◌<◌};
+ghost use Rattle.fax_bits.specs.Tables.{run_meaning};
+
+use crate::codes::{CodeEntry, CodeTable};
+
+/// What a code of a run table means (T.4, section 4.1.1).
+#[derive(Clone, Copy, Debug, PartialEq, Eq)]
+pub enum RunCode {
+    /// Ends a run: this many pels, 0 to 63.
+    Terminating(u16),
+    /// Goes on with a run: this many pels, 64 to 2560.
+    MakeUp(u16),
+    /// The prefix of codes that T.4 leaves to extensions.
+    Extension,
+}
+
+/// How many entries a run table has: 64 terminating codes, 27 make-up codes of its own, 13 that
+/// both colours share, and the extension prefix.
+const RUN_ENTRIES: usize = 105;
+
+// The codes in the order of their meaning, which `meaning_at` gives, and their lengths in bits.
+
+const WHITE_CODES: [u16; RUN_ENTRIES] = [
+    0b00110101,
+    0b000111,
+    0b0111,
+    0b1000,
+    0b1011,
+    0b1100,
+    0b1110,
+    0b1111,
+    0b10011,
+    0b10100,
+    0b00111,
+    0b01000,
+    0b001000,
+    0b000011,
+    0b110100,
+    0b110101,
+    0b101010,
+    0b101011,
+    0b0100111,
+    0b0001100,
+    0b0001000,
+    0b0010111,
+    0b0000011,
+    0b0000100,
+    0b0101000,
+    0b0101011,
+    0b0010011,
+    0b0100100,
+    0b0011000,
+    0b00000010,
+    0b00000011,
+    0b00011010,
+    0b00011011,
+    0b00010010,
+    0b00010011,
+    0b00010100,
+    0b00010101,
+    0b00010110,
+    0b00010111,
+    0b00101000,
+    0b00101001,
+    0b00101010,
+    0b00101011,
+    0b00101100,
+    0b00101101,
+    0b00000100,
+    0b00000101,
+    0b00001010,
+    0b00001011,
+    0b01010010,
+    0b01010011,
+    0b01010100,
+    0b01010101,
+    0b00100100,
+    0b00100101,
+    0b01011000,
+    0b01011001,
+    0b01011010,
+    0b01011011,
+    0b01001010,
+    0b01001011,
+    0b00110010,
+    0b00110011,
+    0b00110100,
+    0b11011,
+    0b10010,
+    0b010111,
+    0b0110111,
+    0b00110110,
+    0b00110111,
+    0b01100100,
+    0b01100101,
+    0b01101000,
+    0b01100111,
+    0b011001100,
+    0b011001101,
+    0b011010010,
+    0b011010011,
+    0b011010100,
+    0b011010101,
+    0b011010110,
+    0b011010111,
+    0b011011000,
+    0b011011001,
+    0b011011010,
+    0b011011011,
+    0b010011000,
+    0b010011001,
+    0b010011010,
+    0b011000,
+    0b010011011,
+    0b00000001000,
+    0b00000001100,
+    0b00000001101,
+    0b000000010010,
+    0b000000010011,
+    0b000000010100,
+    0b000000010101,
+    0b000000010110,
+    0b000000010111,
+    0b000000011100,
+    0b000000011101,
+    0b000000011110,
+    0b000000011111,
+    0b000000001,
+];
+
+const WHITE_LENS: [u8; RUN_ENTRIES] = [
+    8, 6, 4, 4, 4, 4, 4, 4, 5, 5, 5, 5, 6, 6, 6, 6, 6, 6, 7, 7, 7, 7, 7, 7, 7, 7, 7, 7, 7, 8, 8, 8,
+    8, 8, 8, 8, 8, 8, 8, 8, 8, 8, 8, 8, 8, 8, 8, 8, 8, 8, 8, 8, 8, 8, 8, 8, 8, 8, 8, 8, 8, 8, 8, 8,
+    5, 5, 6, 7, 8, 8, 8, 8, 8, 8, 9, 9, 9, 9, 9, 9, 9, 9, 9, 9, 9, 9, 9, 9, 9, 6, 9, 11, 11, 11,
+    12, 12, 12, 12, 12, 12, 12, 12, 12, 12, 9,
+];
+
+const BLACK_CODES: [u16; RUN_ENTRIES] = [
+    0b0000110111,
+    0b010,
+    0b11,
+    0b10,
+    0b011,
+    0b0011,
+    0b0010,
+    0b00011,
+    0b000101,
+    0b000100,
+    0b0000100,
+    0b0000101,
+    0b0000111,
+    0b00000100,
+    0b00000111,
+    0b000011000,
+    0b0000010111,
+    0b0000011000,
+    0b0000001000,
+    0b00001100111,
+    0b00001101000,
+    0b00001101100,
+    0b00000110111,
+    0b00000101000,
+    0b00000010111,
+    0b00000011000,
+    0b000011001010,
+    0b000011001011,
+    0b000011001100,
+    0b000011001101,
+    0b000001101000,
+    0b000001101001,
+    0b000001101010,
+    0b000001101011,
+    0b000011010010,
+    0b000011010011,
+    0b000011010100,
+    0b000011010101,
+    0b000011010110,
+    0b000011010111,
+    0b000001101100,
+    0b000001101101,
+    0b000011011010,
+    0b000011011011,
+    0b000001010100,
+    0b000001010101,
+    0b000001010110,
+    0b000001010111,
+    0b000001100100,
+    0b000001100101,
+    0b000001010010,
+    0b000001010011,
+    0b000000100100,
+    0b000000110111,
+    0b000000111000,
+    0b000000100111,
+    0b000000101000,
+    0b000001011000,
+    0b000001011001,
+    0b000000101011,
+    0b000000101100,
+    0b000001011010,
+    0b000001100110,
+    0b000001100111,
+    0b0000001111,
+    0b000011001000,
+    0b000011001001,
+    0b000001011011,
+    0b000000110011,
+    0b000000110100,
+    0b000000110101,
+    0b0000001101100,
+    0b0000001101101,
+    0b0000001001010,
+    0b0000001001011,
+    0b0000001001100,
+    0b0000001001101,
+    0b0000001110010,
+    0b0000001110011,
+    0b0000001110100,
+    0b0000001110101,
+    0b0000001110110,
+    0b0000001110111,
+    0b0000001010010,
+    0b0000001010011,
+    0b0000001010100,
+    0b0000001010101,
+    0b0000001011010,
+    0b0000001011011,
+    0b0000001100100,
+    0b0000001100101,
+    0b00000001000,
+    0b00000001100,
+    0b00000001101,
+    0b000000010010,
+    0b000000010011,
+    0b000000010100,
+    0b000000010101,
+    0b000000010110,
+    0b000000010111,
+    0b000000011100,
+    0b000000011101,
+    0b000000011110,
+    0b000000011111,
+    0b000000001,
+];
+
+const BLACK_LENS: [u8; RUN_ENTRIES] = [
+    10, 3, 2, 2, 3, 4, 4, 5, 6, 6, 7, 7, 7, 8, 8, 9, 10, 10, 10, 11, 11, 11, 11, 11, 11, 11, 12,
+    12, 12, 12, 12, 12, 12, 12, 12, 12, 12, 12, 12, 12, 12, 12, 12, 12, 12, 12, 12, 12, 12, 12, 12,
+    12, 12, 12, 12, 12, 12, 12, 12, 12, 12, 12, 12, 12, 10, 12, 12, 12, 12, 12, 12, 13, 13, 13, 13,
+    13, 13, 13, 13, 13, 13, 13, 13, 13, 13, 13, 13, 13, 13, 13, 13, 11, 11, 11, 12, 12, 12, 12, 12,
+    12, 12, 12, 12, 12, 9,
+];
+
+/// The codes of white runs.
+pub struct WhiteRuns;
+
+impl CodeTable for WhiteRuns {
+    ghost use Rattle.fax_bits.specs.Tables.{white_runs};
+    ghost use Rattle.fax_bits.specs.TableSizes.{length-white_runs};
+
+    type Meaning = RunCode;
+
+    ghost COUNT = { 105 };
+
+    const COUNT: usize = RUN_ENTRIES;
+
+    ghost table = { white_runs };
+
+    fn entry(i: usize) -> CodeEntry<RunCode> {
+        CodeEntry {
+            code: WHITE_CODES[i],
+            len: WHITE_LENS[i],
+            meaning: meaning_at(i as u16),
+        }
+    }
+
+    ghost counted = { length-white_runs };
+}
+
+/// The codes of black runs.
+pub struct BlackRuns;
+
+impl CodeTable for BlackRuns {
+    ghost use Rattle.fax_bits.specs.Tables.{black_runs};
+    ghost use Rattle.fax_bits.specs.TableSizes.{length-black_runs};
+
+    type Meaning = RunCode;
+
+    ghost COUNT = { 105 };
+
+    const COUNT: usize = RUN_ENTRIES;
+
+    ghost table = { black_runs };
+
+    fn entry(i: usize) -> CodeEntry<RunCode> {
+        CodeEntry {
+            code: BLACK_CODES[i],
+            len: BLACK_LENS[i],
+            meaning: meaning_at(i as u16),
+        }
+    }
+
+    ghost counted = { length-black_runs };
+}
+
+/// What the code at a place of a run table means.
+fn meaning_at(i: u16) -> RunCode
+    requires { i < 105 }
+    ensures { result ≡ run_meaning i }
+{
+    if i < 64 {
+        RunCode::Terminating(i)
+    } else if i < 104 {
+        RunCode::MakeUp(64 * (i - 63))
+    } else {
+        RunCode::Extension
+    }
+}
