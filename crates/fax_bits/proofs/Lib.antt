@@ -3,3 +3,4 @@ pub mod MeetingLemmas
 pub mod TableLemmas
 pub mod ArrayLemmas
 pub mod ZeroLemmas
+pub mod PeekLemmas

@@ -3,11 +3,12 @@ use Rattle.std.proofs.Common.{◌≡◌, ℕ, zero, suc, ◌+◌, ◌-◌, ◌*�
 use Rattle.std.proofs.Math.ListN.{get_or-append}
 use Rattle.std.proofs.lemmas.List.{get_or-append-add}
 use Rattle.std.proofs.lemmas.Nat.{and_mask}
+use Rattle.std.proofs.lemmas.Nat.Bits.{bit_at-zero}
 use Rattle.std.specs.Prelude.{bit_and}
 use Rattle.std.specs.Int.{bit_at}
 use Rattle.fax_bits.specs.declared.FillOrder.TheVariants.{MsbFirst}
-use Rattle.fax_bits.specs.Bits.{code_bits, byte_bits, bits}
-use Rattle.fax_bits.specs.Source.{source_of}
+use Rattle.fax_bits.specs.Bits.{code_bits, byte_bits, bits, IsZeroByteAt}
+use Rattle.fax_bits.specs.Source.{Source, source_of}
 
 -- a byte has eight bits
 pub length-byte_bits : (byte : ℕ) → length (byte_bits MsbFirst byte) ≡ 8
@@ -52,6 +53,10 @@ get_or-bits (byte ∷ bytes) (suc q) r in_bytes in_byte =
 pub length-left : (bytes : List ℕ) (place : ℕ) → length (source_of bytes place).left ≡ 8 * length bytes - place
 length-left bytes place = length-drop place (bits MsbFirst bytes) ∙ ap (λ n. n - place) (length-bits bytes)
 
+pub length-left_of : (bytes : List ℕ) (place : ℕ) (source : Source) → source_of bytes place ≡ source
+    → length source.left ≡ 8 * length bytes - place
+length-left_of bytes place source is = ap (λ (s : Source). length s.left) (sym is) ∙ length-left bytes place
+
 -- the bit i places ahead, as code reads it
 pub bit_ahead : (bytes : List ℕ) (place i : ℕ) → (place + i) / 8 < length bytes
     → nat_eq (bit_and (get_or bytes ((place + i) / 8) 0 / 2 ^ (7 - (place + i) % 8)) 1) 1 ≡ get_or (source_of bytes place).left i false
@@ -62,3 +67,17 @@ bit_ahead bytes place i in_bytes =
     ∙ sym (get_or-bits bytes ((place + i) / 8) ((place + i) % 8) in_bytes in_byte)
     ∙ ap (λ n. get_or (bits MsbFirst bytes) n false) at
     ∙ sym (get_or-drop place (bits MsbFirst bytes) i false)
+
+-- a byte that is 0, and whole
+pub zero_byte : (bytes : List ℕ) (place i : ℕ) → (place + i) / 8 < length bytes → (place + i) % 8 ≡ 0 → get_or bytes ((place + i) / 8) 0 ≡ 0
+    → IsZeroByteAt (source_of bytes place).left i
+zero_byte bytes place i in_bytes whole zero_is = record {
+  within = omega (arith, length-left bytes place);
+  zeros = λ k below.
+      let at : place + (i + k) ≡ 8 * ((place + i) / 8) + k = omega arith in
+      get_or-drop place (bits MsbFirst bytes) (i + k) false
+      ∙ ap (λ n. get_or (bits MsbFirst bytes) n false) at
+      ∙ get_or-bits bytes ((place + i) / 8) k in_bytes below
+      ∙ ap (λ byte. nat_eq (bit_at byte (7 - k)) 1) zero_is
+      ∙ ap (λ n. nat_eq n 1) (bit_at-zero (7 - k));
+}

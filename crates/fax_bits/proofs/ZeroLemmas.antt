@@ -1,10 +1,21 @@
 -- Zeros that bits begin with.
-use Rattle.std.proofs.Common.{◌≡◌, ℕ, zero, suc, ◌<◌, List, [], ◌∷◌, length, get_or, Bool, true, false, refl, ap, arith}
-use Rattle.fax_bits.specs.Bits.{IsAllZeros, HasZerosAhead}
+use Rattle.std.proofs.Common.{◌≡◌, ℕ, zero, suc, ◌+◌, ◌-◌, ◌<◌, List, [], ◌∷◌, length, get_or, Bool, true, false, refl, ap, sym, ◌∙◌, inl, inr, arith}
+use Rattle.std.proofs.lemmas.Bool.{cases_lt}
+use Rattle.fax_bits.specs.Bits.{IsAllZeros, HasZerosAhead, IsZeroByteAt}
 
 -- the first n bits are 0
 abbrev pub IsZeroBelow : List Bool → ℕ → Type 0
 IsZeroBelow b n = (k : ℕ) → k < n → get_or b k false ≡ false
+
+-- and the eight behind them
+pub zeros_more : (b : List Bool) (n : ℕ) → IsZeroBelow b n → IsZeroByteAt b n → IsZeroBelow b (n + 8)
+zeros_more b n below byte k h =
+    elim (cases_lt k n) [
+      | inl near ↦ below k near
+      | inr far ↦
+          let at : n + (k - n) ≡ k = omega arith in
+          ap (λ i. get_or b i false) (sym at) ∙ byte.zeros (k - n) (omega arith)
+    ]
 
 pub zeros_ahead : (b : List Bool) (n : ℕ) → n < length b → IsZeroBelow b n → get_or b n false ≡ true → HasZerosAhead b n
 zeros_ahead [] n within below one = absurd (omega arith)

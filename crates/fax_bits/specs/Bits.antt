@@ -1,5 +1,5 @@
 -- The bits of a strip: a list of truth values, where true is the bit 1.
-use Rattle.std.specs.Prelude.{◌≡◌, ℕ, zero, suc, ◌+◌, ◌*◌, Bool, true, false, if◌then◌else◌, List, [], ◌∷◌, ◌++◌, replicate, reverse, fold, flat_map, ◌==◌}
+use Rattle.std.specs.Prelude.{◌≡◌, ℕ, zero, suc, ◌+◌, ◌*◌, ◌<◌, ◌≤◌, Bool, true, false, if◌then◌else◌, List, [], ◌∷◌, ◌++◌, length, slice_index_or, replicate, reverse, fold, flat_map, ◌==◌}
 use Rattle.std.specs.Int.{bit_at}
 use Rattle.fax_bits.specs.declared.FillOrder.{FillOrder}
 use Rattle.fax_bits.specs.declared.FillOrder.TheVariants.{MsbFirst, LsbFirst}
@@ -25,6 +25,11 @@ bits_number b = fold (λ number bit. 2 * number + (if bit then 1 else 0)) 0 b
 -- no 1 is among the bits
 abbrev pub IsAllZeros : List Bool → Type 0
 IsAllZeros b = (zeros : ℕ) × (b ≡ replicate zeros false)
+
+-- eight zeros stand at this place of the bits
+pub record IsZeroByteAt (b : List Bool) (place : ℕ) : Type 0 where
+  pub within : place + 8 ≤ length b
+  pub zeros : (k : ℕ) → k < 8 → slice_index_or b (place + k) false ≡ false
 
 -- the bits begin with this many zeros and a 1
 abbrev pub HasZerosAhead : List Bool → ℕ → Type 0

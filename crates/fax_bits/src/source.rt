@@ -1,7 +1,7 @@
 //! Bits of bytes, read from a place on.
-ghost use Rattle.std.specs.Prelude.{◌≡◌, ◌+◌, ◌≤◌, ◌<◌, length, take, drop, replicate, slice_index_or, false, ◌++◌, MatchOption};
+ghost use Rattle.std.specs.Prelude.{◌≡◌, ◌+◌, ◌≤◌, ◌<◌, length, take, drop, replicate, slice_index_or, false, ◌++◌, MatchOption, IsTrue};
 ghost use Rattle.fax_bits.specs.declared.FillOrder.TheVariants.{MsbFirst};
-ghost use Rattle.fax_bits.specs.Bits.{bits, bits_number, IsAllZeros, HasZerosAhead};
+ghost use Rattle.fax_bits.specs.Bits.{bits, bits_number, IsAllZeros, HasZerosAhead, IsZeroByteAt};
 
 use crate::FillOrder;
 use std::marker::Model;
@@ -27,12 +27,14 @@ impl<'a> Model for BitSource<'a> {
 impl<'a> BitSource<'a> {
     ghost use Rattle.fax_bits.specs.Source.{source_of};
 
-    /// The first bit of at most 4,294,967,295 bytes (TIFF 6.0, FillOrder).
-    pub fn new(bytes: &'a [u8], _order: FillOrder) -> Self
+    /// The first bit of at most 4,294,967,295 bytes, the highest bit of each byte first (TIFF 6.0,
+    /// FillOrder 1).
+    pub fn new(bytes: &'a [u8], order: FillOrder) -> Self
         requires count { length bytes.now ≤ 4294967295 }
-        requires order { _order ≡ MsbFirst }
+        requires highest_first { order ≡ MsbFirst }
         ensures { result ≡ source_of bytes.now 0 }
     {
+        let _ = order;
         BitSource { bytes, place: 0 }
     }
 
@@ -60,13 +62,49 @@ impl<'a> BitSource<'a> {
         (byte >> (7 - at % 8)) & 1 == 1
     }
 
+    /// The bit that is `i` bits ahead, or a zero past the end.
+    fn bit_or_zero(&self, i: u64) -> bool
+        ensures { result ≡ slice_index_or self.now.left i false }
+    {
+        i < self.remaining() && self.bit(i)
+    }
+
+    /// The number that the next `n` bits spell, 0 to 24 of them, the highest first. Past the end of
+    /// the bytes it sees zeros, which are no bits: `remaining` says how many bits there are.
+    pub fn peek(&self, n: u32) -> u32
+        requires { n ≤ 24 }
+        ensures { result ≡ bits_number (take n (self.now.left ++ replicate n false)) }
+    {
+        let mut number = 0;
+        for i in 0..n {
+            number = 2 * number + u32::from(self.bit_or_zero(u64::from(i)));
+        }
+        number
+    }
+
+    /// The byte that begins `i` bits ahead is whole and all zeros. `false` where no byte begins
+    /// there.
+    fn is_zero_byte(&self, i: u64) -> bool
+        requires { i < length self.now.left }
+        ensures { IsTrue result → IsZeroByteAt self.now.left i }
+    {
+        let at = self.place + i;
+        at % 8 == 0 && self.bytes[(at / 8) as usize] == 0
+    }
+
     /// How many zeros stand before the next 1, or `None` where no 1 is left.
     pub fn zeros(&self) -> Option<u64>
         ensures { MatchOption result (IsAllZeros self.now.left) (HasZerosAhead self.now.left) }
     {
-        for i in 0..self.remaining() {
-            if self.bit(i) {
-                return Some(i);
+        let left = self.remaining();
+        let mut zeros = 0;
+        while zeros < left {
+            if self.is_zero_byte(zeros) {
+                zeros += 8;
+            } else if self.bit(zeros) {
+                return Some(zeros);
+            } else {
+                zeros += 1;
             }
         }
         None

@@ -1,5 +1,12 @@
+use Rattle.std.proofs.Common.{◌≤◌, ◌-◌, length}
 use Rattle.fax_bits.proofs.ZeroLemmas.{IsZeroBelow}
 use Rattle.fax_bits.proofs.source.BitSource.zeros.Given as goal
 
-abbrev pub invariant-loop-i : goal.invariant-loop-i
-invariant-loop-i l = IsZeroBelow l.self.left l.i
+abbrev pub invariant-loop-zeros : goal.invariant-loop-zeros
+invariant-loop-zeros l = record {
+  within : l.zeros ≤ l.left;
+  below : IsZeroBelow l.self.left l.zeros;
+}
+
+abbrev pub decreases-loop-zeros : goal.decreases-loop-zeros
+decreases-loop-zeros l = l.left - l.zeros
