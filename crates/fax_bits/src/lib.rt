@@ -5,6 +5,8 @@ mod codes;
 mod modes;
 mod runs;
 mod source;
+#[cfg(test)]
+mod tests;
 
 pub use codes::{CodeEntry, CodeFault, CodeTable, read_code};
 pub use modes::ModeCode;

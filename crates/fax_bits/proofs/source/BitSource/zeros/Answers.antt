@@ -1,5 +1,5 @@
-use Rattle.std.proofs.Common.{◌≡◌, length, arith, below_more, sym, ◌∙◌, subst}
-use Rattle.fax_bits.proofs.ZeroLemmas.{IsZeroBelow, zeros_more, zeros_ahead, all_zeros}
+use Rattle.std.proofs.Common.{◌≡◌, length, arith, sym, ◌∙◌, subst}
+use Rattle.fax_bits.proofs.ZeroLemmas.{IsZeroBelow, zeros_ahead, all_zeros}
 use Rattle.fax_bits.proofs.source.BitSource.zeros.Goals as goal
 
 pub returns-then-bit : goal.returns-then-bit

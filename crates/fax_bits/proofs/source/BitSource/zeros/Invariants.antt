@@ -1,4 +1,4 @@
-use Rattle.std.proofs.Common.{◌≤◌, ◌-◌, length}
+use Rattle.std.proofs.Common.{◌≤◌, ◌-◌}
 use Rattle.fax_bits.proofs.ZeroLemmas.{IsZeroBelow}
 use Rattle.fax_bits.proofs.source.BitSource.zeros.Given as goal
 

@@ -1,0 +1,207 @@
+use crate::{
+    BitSource, BlackRuns, CodeEntry, CodeFault, CodeTable, FillOrder, Memory, RunCode, WhiteRuns,
+    read_code,
+};
+use std::alloc::{AllocError, Global};
+use std::process::Abort;
+use std::test::Fail;
+
+// The codes of T.4, tables 2, 3a and 3b, as the standard prints them, in the order of their runs.
+
+const WHITE_TERMINATING: &str = "00110101 000111 0111 1000 1011 1100 1110 1111 \
+    10011 10100 00111 01000 001000 000011 110100 110101 \
+    101010 101011 0100111 0001100 0001000 0010111 0000011 0000100 \
+    0101000 0101011 0010011 0100100 0011000 00000010 00000011 00011010 \
+    00011011 00010010 00010011 00010100 00010101 00010110 00010111 00101000 \
+    00101001 00101010 00101011 00101100 00101101 00000100 00000101 00001010 \
+    00001011 01010010 01010011 01010100 01010101 00100100 00100101 01011000 \
+    01011001 01011010 01011011 01001010 01001011 00110010 00110011 00110100";
+
+const BLACK_TERMINATING: &str = "0000110111 010 11 10 011 0011 0010 00011 \
+    000101 000100 0000100 0000101 0000111 00000100 00000111 000011000 \
+    0000010111 0000011000 0000001000 00001100111 00001101000 00001101100 00000110111 00000101000 \
+    00000010111 00000011000 000011001010 000011001011 000011001100 000011001101 000001101000 000001101001 \
+    000001101010 000001101011 000011010010 000011010011 000011010100 000011010101 000011010110 000011010111 \
+    000001101100 000001101101 000011011010 000011011011 000001010100 000001010101 000001010110 000001010111 \
+    000001100100 000001100101 000001010010 000001010011 000000100100 000000110111 000000111000 000000100111 \
+    000000101000 000001011000 000001011001 000000101011 000000101100 000001011010 000001100110 000001100111";
+
+const WHITE_MAKE_UP: &str =
+    "11011 10010 010111 0110111 00110110 00110111 01100100 01100101 01101000 \
+    01100111 011001100 011001101 011010010 011010011 011010100 011010101 011010110 011010111 \
+    011011000 011011001 011011010 011011011 010011000 010011001 010011010 011000 010011011";
+
+const BLACK_MAKE_UP: &str = "0000001111 000011001000 000011001001 000001011011 000000110011 \
+    000000110100 000000110101 0000001101100 0000001101101 \
+    0000001001010 0000001001011 0000001001100 0000001001101 0000001110010 \
+    0000001110011 0000001110100 0000001110101 0000001110110 \
+    0000001110111 0000001010010 0000001010011 0000001010100 0000001010101 \
+    0000001011010 0000001011011 0000001100100 0000001100101";
+
+const COMMON_MAKE_UP: &str =
+    "00000001000 00000001100 00000001101 000000010010 000000010011 000000010100 000000010101 \
+    000000010110 000000010111 000000011100 000000011101 000000011110 000000011111";
+
+// The prefix of extensions, and bits behind it that fill a byte.
+const EXTENSION: &str = "000000001 1111111";
+
+/// The bytes of the bits that a text spells. What fills no byte at its end is left out.
+fn packed(alloc: Global, texts: &[&str]) -> Result<Vec<u8>, AllocError> {
+    let mut bytes = Vec::new(alloc);
+    let mut byte = 1u8;
+    for text in texts {
+        for character in text.bytes() {
+            if character != b' ' {
+                let full = byte >= 128;
+                byte = (byte << 1) | u8::from(character == b'1');
+                if full {
+                    bytes.push(byte)?;
+                    byte = 1;
+                }
+            }
+        }
+    }
+    Ok(bytes)
+}
+
+/// Reads each code of a table, in the order of its runs.
+fn reads_each_code<T: CodeTable<Meaning = RunCode>>(rt: &impl Abort, bytes: &[u8], colour: &str) {
+    assert!(rt; bytes.len() < 1000);
+    let mut source = BitSource::new(bytes, FillOrder::MsbFirst);
+    for run in 0..64u16 {
+        assert_eq!(rt;
+            read_code::<T>(&mut source),
+            Ok(RunCode::Terminating(run)),
+            "{colour} {run}"
+        );
+    }
+    for steps in 1..41u16 {
+        let run = 64 * steps;
+        assert_eq!(rt;
+            read_code::<T>(&mut source),
+            Ok(RunCode::MakeUp(run)),
+            "{colour} {run}"
+        );
+    }
+    assert_eq!(rt;
+        read_code::<T>(&mut source),
+        Ok(RunCode::Extension),
+        "{colour} extension"
+    );
+    assert!(rt; source.remaining() < 8);
+}
+
+#[test]
+fn reads_the_codes_of_the_standard(rt: HostRuntime) -> Result<(), Fail> {
+    let white = packed(
+        rt.alloc(),
+        &[WHITE_TERMINATING, WHITE_MAKE_UP, COMMON_MAKE_UP, EXTENSION],
+    )?;
+    reads_each_code::<WhiteRuns>(&rt, &white, "white");
+    let black = packed(
+        rt.alloc(),
+        &[BLACK_TERMINATING, BLACK_MAKE_UP, COMMON_MAKE_UP, EXTENSION],
+    )?;
+    reads_each_code::<BlackRuns>(&rt, &black, "black");
+    Ok(())
+}
+
+#[test]
+fn tells_why_no_code_is_read(rt: HostRuntime) {
+    let rows: [(&[u8], CodeFault); 3] = [
+        (&[], CodeFault::DataEnds),
+        (&[0], CodeFault::DataEnds),
+        (&[0, 0], CodeFault::BadCode),
+    ];
+    for (bytes, fault) in rows {
+        assert!(rt; bytes.len() < 1000);
+        let mut source = BitSource::new(bytes, FillOrder::MsbFirst);
+        assert_eq!(rt; read_code::<WhiteRuns>(&mut source), Err(fault), "white");
+        assert_eq!(rt; read_code::<BlackRuns>(&mut source), Err(fault), "black");
+        assert_eq!(rt; source.place(), 0);
+        assert_eq!(rt; source.remaining(), 8 * bytes.len() as u64);
+    }
+}
+
+#[test]
+fn looks_at_bits_and_skips_them(rt: HostRuntime) {
+    let mut source = BitSource::new(&[0xA5, 0x0F], FillOrder::MsbFirst);
+    for (count, number) in [
+        (0, 0),
+        (1, 1),
+        (4, 0xA),
+        (12, 0xA50),
+        (16, 0xA50F),
+        (24, 0xA50F00),
+    ] {
+        assert_eq!(rt; source.peek(count), number, "{count} bits");
+    }
+    assert_eq!(rt; source.remaining(), 16);
+    source.skip(12);
+    assert_eq!(rt; source.place(), 12);
+    assert_eq!(rt; source.remaining(), 4);
+    assert_eq!(rt; source.peek(6), 0b111100);
+    source.skip(4);
+    assert_eq!(rt; source.remaining(), 0);
+    assert_eq!(rt; source.peek(24), 0);
+    source.skip(0);
+    assert_eq!(rt; source.place(), 16);
+}
+
+#[test]
+fn counts_zeros(rt: HostRuntime) {
+    let rows: [(&[u8], u64, Option<u64>); 7] = [
+        (&[], 0, None),
+        (&[0, 0, 0], 5, None),
+        (&[0x80], 0, Some(0)),
+        (&[0, 0, 0x10], 0, Some(19)),
+        (&[0, 0, 0x10], 3, Some(16)),
+        (&[0xFF, 0, 1], 8, Some(15)),
+        (&[0xFF, 0, 2], 23, None),
+    ];
+    for (bytes, skipped, zeros) in rows {
+        assert!(rt; bytes.len() < 1000);
+        let mut source = BitSource::new(bytes, FillOrder::MsbFirst);
+        assert!(rt; skipped <= source.remaining());
+        source.skip(skipped);
+        assert_eq!(rt;
+            source.zeros(),
+            zeros,
+            "{skipped} skipped of {} bytes",
+            bytes.len()
+        );
+    }
+}
+
+#[test]
+fn gives_entries_by_their_place(rt: HostRuntime) {
+    assert_eq!(rt; WhiteRuns::COUNT, 105);
+    assert_eq!(rt; BlackRuns::COUNT, 105);
+    let white = CodeEntry {
+        code: 0b0110111,
+        len: 7,
+        meaning: RunCode::MakeUp(256),
+    };
+    assert_eq!(rt; WhiteRuns::entry(67), white);
+    let black = CodeEntry {
+        code: 0b10,
+        len: 2,
+        meaning: RunCode::Terminating(3),
+    };
+    assert_eq!(rt; BlackRuns::entry(3), black);
+}
+
+#[test]
+fn prints_errors(rt: HostRuntime) -> Result<(), Fail> {
+    let alloc = rt.alloc();
+    assert_eq!(rt;
+        format!(in alloc; "{}", CodeFault::DataEnds)?.as_str(),
+        "the data ends within a code"
+    );
+    assert_eq!(rt;
+        format!(in alloc; "{}", CodeFault::BadCode)?.as_str(),
+        "no code begins so"
+    );
+    assert_eq!(rt; format!(in alloc; "{}", Memory)?.as_str(), "out of memory");
+    Ok(())
+}
