@@ -4,3 +4,6 @@ pub mod TableLemmas
 pub mod ArrayLemmas
 pub mod ZeroLemmas
 pub mod PeekLemmas
+pub mod PrefixLemmas
+pub mod ReadingLemmas
+pub mod TableLaws

@@ -5,3 +5,4 @@ pub mod Meeting
 pub mod Tables
 pub mod TableSizes
 pub mod Runs
+pub mod Laws

@@ -1,0 +1,35 @@
+-- Laws of code tables, which the functions of the module `laws` prove.
+use Rattle.std.specs.Prelude.{◌≡◌, Bool, List, ◌⊎◌}
+use Rattle.fax_bits.specs.declared.codes.CodeEntry.{CodeEntry}
+use Rattle.fax_bits.specs.declared.codes.CodeFault.{CodeFault}
+use Rattle.fax_bits.specs.Codes.{Takes, IsFaultOf}
+
+-- at most one code of the table is taken, and one rest follows it (T.4, tables 2, 3a, 3b and 4)
+abbrev pub TakesOne : {M : Type 0} → List (CodeEntry M) → Type 0
+TakesOne {M} table =
+    (b : List Bool) (meaning other : M) (rest remaining : List Bool)
+    → Takes table b meaning rest → Takes table b other remaining → (meaning ≡ other) × (rest ≡ remaining)
+
+-- a code of the table is taken, or there is a fault (this project's profile)
+abbrev pub TakesOrFails : {M : Type 0} → List (CodeEntry M) → Type 0
+TakesOrFails {M} table =
+    (b : List Bool)
+    → ((meaning : M) × (rest : List Bool) × Takes table b meaning rest) ⊎ ((fault : CodeFault) × IsFaultOf table b fault)
+
+-- bits of which a code is taken have no fault (this project's profile)
+abbrev pub TakenHasNoFault : {M : Type 0} → List (CodeEntry M) → Type 0
+TakenHasNoFault {M} table =
+    (b : List Bool) (meaning : M) (rest : List Bool) (fault : CodeFault)
+    → Takes table b meaning rest → IsFaultOf table b fault → ⊥
+
+-- bits have at most one fault (this project's profile)
+abbrev pub HasOneFault : {M : Type 0} → List (CodeEntry M) → Type 0
+HasOneFault table =
+    (b : List Bool) (fault other : CodeFault) → IsFaultOf table b fault → IsFaultOf table b other → fault ≡ other
+
+-- bits are read by a table in one way: one code and one rest, or one fault
+pub record ReadsOneWay {M : Type 0} (table : List (CodeEntry M)) : Type 0 where
+  pub takes_one : TakesOne table
+  pub takes_or_fails : TakesOrFails table
+  pub taken_has_no_fault : TakenHasNoFault table
+  pub has_one_fault : HasOneFault table
