@@ -1,10 +1,10 @@
 -- From a computed test of a table: no code of it begins another.
-use Rattle.std.proofs.Common.{◌≡◌, ℕ, zero, suc, ◌<◌, List, [], ◌∷◌, ◌++◌, length, get_or, map, Bool, true, false, not, refl, ap, sym, ◌∙◌, arith, inl, inr}
+use Rattle.std.proofs.Common.{◌≡◌, ℕ, zero, suc, ◌<◌, List, [], ◌∷◌, ◌++◌, length, length-append, get_or, map, Bool, true, false, not, refl, ap, sym, ◌∙◌, arith, inl, inr}
 use Rattle.std.specs.Prelude.{◌&&◌, ◌⊎◌, Contains}
 use Rattle.std.proofs.lemmas.List.{append_cancel_left, get_or-map, get_or_default, length-map}
 use Rattle.fax_bits.specs.declared.codes.CodeEntry.{CodeEntry}
 use Rattle.fax_bits.specs.Codes.{bits_of, Takes}
-use Rattle.fax_bits.specs.Laws.{TakesOne}
+use Rattle.fax_bits.specs.Laws.{TakesOne, TakesBits}
 
 -- the first list begins the second
 abbrev pub starts : List Bool → List Bool → Bool
@@ -23,6 +23,12 @@ none_starts code (other ∷ others) = (not (starts code other) && not (starts ot
 abbrev pub prefix_free : List (List Bool) → Bool
 prefix_free [] = true
 prefix_free (code ∷ codes) = none_starts code codes && prefix_free codes
+
+-- each code has a bit
+abbrev pub none_empty : List (List Bool) → Bool
+none_empty [] = true
+none_empty ([] ∷ codes) = false
+none_empty ((bit ∷ code) ∷ codes) = none_empty codes
 
 and_both : (a b : Bool) → (a && b) ≡ true → (a ≡ true) × (b ≡ true)
 and_both true b h = (refl, h)
@@ -75,6 +81,12 @@ one_starts_the_other (x ∷ a) (y ∷ b) r s is =
       | inr longer ↦ inr (longer.0, cc)
     ]
 
+has_bits : (codes : List (List Bool)) (i : ℕ) → none_empty codes ≡ true → i < length codes → 0 < length (get_or codes i [])
+has_bits [] i full within = absurd (omega arith)
+has_bits ([] ∷ codes) i full within = cc
+has_bits ((bit ∷ code) ∷ codes) zero full within = omega arith
+has_bits ((bit ∷ code) ∷ codes) (suc i) full within = has_bits codes i full (omega arith)
+
 code_at : {M : Type 0} (table : List (CodeEntry M)) (entry : CodeEntry M) (i : ℕ) → i < length table → get_or table i entry ≡ entry
     → get_or (map bits_of table) i [] ≡ bits_of entry
 code_at table entry i within is = get_or-map bits_of table i entry [] within ∙ ap bits_of is
@@ -106,3 +118,11 @@ takes_one table free b meaning other rest remaining first second =
           took_same table b meaning other rest remaining first second
           (sym (same_entry table second.entry first.entry shorter.0 free second.listed first.listed shorter.1))
     ]
+
+pub takes_bits : {M : Type 0} (table : List (CodeEntry M)) → none_empty (map bits_of table) ≡ true → TakesBits table
+takes_bits table full b meaning rest takes =
+    let here = takes.listed in
+    let some = has_bits (map bits_of table) here.0 full (simp length-map here.1) in
+    let code : length (get_or (map bits_of table) here.0 []) ≡ length (bits_of takes.entry) =
+    ap length (code_at table takes.entry here.0 here.1 here.2) in
+    omega (arith, some, code, length-append (bits_of takes.entry) rest, ap length takes.spelled)

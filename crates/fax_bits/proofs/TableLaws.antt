@@ -6,7 +6,7 @@ use Rattle.fax_bits.specs.Bits.{code_bits}
 use Rattle.fax_bits.specs.Codes.{bits_of}
 use Rattle.fax_bits.specs.Laws.{ReadsOneWay}
 use Rattle.fax_bits.specs.Tables.{run_table, white_runs, white_terminating, white_make_up, black_runs, black_terminating, black_make_up, common_make_up, run_extension}
-use Rattle.fax_bits.proofs.PrefixLemmas.{prefix_free, takes_one}
+use Rattle.fax_bits.proofs.PrefixLemmas.{prefix_free, none_empty, takes_one, takes_bits}
 use Rattle.fax_bits.proofs.ReadingLemmas.{takes_or_fails, taken_has_no_fault, has_one_fault}
 
 run_table_prefix_free : (colour : Colour) → prefix_free (map bits_of (run_table colour)) ≡ true
@@ -14,9 +14,15 @@ unfolding code_bits white_runs black_runs run_extension white_terminating black_
 run_table_prefix_free White = refl
 run_table_prefix_free Black = refl
 
+run_table_none_empty : (colour : Colour) → none_empty (map bits_of (run_table colour)) ≡ true
+unfolding code_bits white_runs black_runs run_extension white_terminating black_terminating white_make_up black_make_up common_make_up
+run_table_none_empty White = refl
+run_table_none_empty Black = refl
+
 pub run_table_reads_one_way : (colour : Colour) → ReadsOneWay (run_table colour)
 run_table_reads_one_way colour = record {
   takes_one = takes_one (run_table colour) (run_table_prefix_free colour);
+  takes_bits = takes_bits (run_table colour) (run_table_none_empty colour);
   takes_or_fails = takes_or_fails (run_table colour);
   taken_has_no_fault = taken_has_no_fault (run_table colour);
   has_one_fault = has_one_fault (run_table colour);

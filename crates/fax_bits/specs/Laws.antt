@@ -1,5 +1,5 @@
 -- Laws of code tables, which the functions of the module `laws` prove.
-use Rattle.std.specs.Prelude.{◌≡◌, Bool, List, ◌⊎◌}
+use Rattle.std.specs.Prelude.{◌≡◌, ◌<◌, Bool, List, length, ◌⊎◌}
 use Rattle.fax_bits.specs.declared.codes.CodeEntry.{CodeEntry}
 use Rattle.fax_bits.specs.declared.codes.CodeFault.{CodeFault}
 use Rattle.fax_bits.specs.Codes.{Takes, IsFaultOf}
@@ -9,6 +9,11 @@ abbrev pub TakesOne : {M : Type 0} → List (CodeEntry M) → Type 0
 TakesOne {M} table =
     (b : List Bool) (meaning other : M) (rest remaining : List Bool)
     → Takes table b meaning rest → Takes table b other remaining → (meaning ≡ other) × (rest ≡ remaining)
+
+-- a code that is taken has at least one bit (T.4, tables 2, 3a, 3b and 4)
+abbrev pub TakesBits : {M : Type 0} → List (CodeEntry M) → Type 0
+TakesBits {M} table =
+    (b : List Bool) (meaning : M) (rest : List Bool) → Takes table b meaning rest → length rest < length b
 
 -- a code of the table is taken, or there is a fault (this project's profile)
 abbrev pub TakesOrFails : {M : Type 0} → List (CodeEntry M) → Type 0
@@ -30,6 +35,7 @@ HasOneFault table =
 -- bits are read by a table in one way: one code and one rest, or one fault
 pub record ReadsOneWay {M : Type 0} (table : List (CodeEntry M)) : Type 0 where
   pub takes_one : TakesOne table
+  pub takes_bits : TakesBits table
   pub takes_or_fails : TakesOrFails table
   pub taken_has_no_fault : TakenHasNoFault table
   pub has_one_fault : HasOneFault table

@@ -3,8 +3,9 @@ ghost use Rattle.fax_bits.specs.declared.Colour.{Colour};
 ghost use Rattle.fax_bits.specs.Laws.{ReadsOneWay};
 ghost use Rattle.fax_bits.specs.Tables.{run_table};
 
-/// Bits are read by the run table of a colour in one way: at most one code is taken, a code is
-/// taken or there is a fault, never both, and never two faults (T.4, tables 2, 3a and 3b).
+/// Bits are read by the run table of a colour in one way: at most one code is taken, which has at
+/// least one bit; a code is taken or there is a fault, never both, and never two faults (T.4,
+/// tables 2, 3a and 3b).
 pub fn run_codes_are_read_in_one_way()
     ensures { (colour : Colour) → ReadsOneWay (run_table colour) }
 {}
