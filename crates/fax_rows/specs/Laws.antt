@@ -1,0 +1,39 @@
+-- Laws of rows, which the functions of the module `laws` prove.
+use Rattle.std.specs.Prelude.{◌≡◌, ℕ, ◌⊎◌, Bool, List}
+use Rattle.fax_bits.specs.declared.Colour.{Colour}
+use Rattle.fax_rows.specs.declared.RowFault.{RowFault}
+use Rattle.fax_rows.specs.OneDimensional.{IsOneDimensionalRow}
+use Rattle.fax_rows.specs.Faults.{IsOneDimensionalFault}
+
+-- bits begin with at most one row of the width, and one rest follows it (T.4, section 4.1.1)
+abbrev pub IsOneRow : ℕ → Type 0
+IsOneRow width =
+    (b : List Bool) (row another : List Colour) (rest remaining : List Bool)
+    → IsOneDimensionalRow width b row rest → IsOneDimensionalRow width b another remaining
+    → (row ≡ another) × (rest ≡ remaining)
+
+-- bits begin with a row of the width, or there is a fault (this project's profile)
+abbrev pub IsRowOrFault : ℕ → Type 0
+IsRowOrFault width =
+    (b : List Bool)
+    → ((row : List Colour) × (rest : List Bool) × IsOneDimensionalRow width b row rest)
+    ⊎ ((fault : RowFault) × IsOneDimensionalFault width b fault)
+
+-- bits that begin with a row of the width have no fault (this project's profile)
+abbrev pub IsNoFaultOfRow : ℕ → Type 0
+IsNoFaultOfRow width =
+    (b : List Bool) (row : List Colour) (rest : List Bool) (fault : RowFault)
+    → IsOneDimensionalRow width b row rest → IsOneDimensionalFault width b fault → ⊥
+
+-- bits have at most one fault (this project's profile)
+abbrev pub IsOneFault : ℕ → Type 0
+IsOneFault width =
+    (b : List Bool) (fault another : RowFault)
+    → IsOneDimensionalFault width b fault → IsOneDimensionalFault width b another → fault ≡ another
+
+-- bits are read in one way as a row of the width in one-dimensional coding: one row and one rest, or one fault
+pub record ReadsRowsOneWay (width : ℕ) : Type 0 where
+  pub one_row : IsOneRow width
+  pub row_or_fault : IsRowOrFault width
+  pub row_has_no_fault : IsNoFaultOfRow width
+  pub one_fault : IsOneFault width
