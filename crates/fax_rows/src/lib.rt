@@ -4,6 +4,8 @@
 mod one_dimensional;
 mod pels;
 mod runs;
+#[cfg(test)]
+mod tests;
 
 pub use fax_bits::{BitSource, Colour, Memory};
 pub use one_dimensional::read_1d;
