@@ -3,6 +3,8 @@
 
 mod lines;
 mod reader;
+#[cfg(test)]
+mod tests;
 
 pub use fax_bits::FillOrder;
 use fax_rows::RowFault;
