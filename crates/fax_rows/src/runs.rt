@@ -61,16 +61,17 @@ pub fn read_run(
     loop {
         match read_run_code(source, colour) {
             Ok(RunCode::Terminating(more)) => {
-                if from + n + u32::from(more) > width {
+                let run = n + u32::from(more);
+                if from + run > width {
                     return Err(RowFault::RunTooLong);
                 }
-                return Ok(n + u32::from(more));
+                return Ok(run);
             }
             Ok(RunCode::MakeUp(more)) => {
-                if from + n + u32::from(more) > width {
+                n += u32::from(more);
+                if from + n > width {
                     return Err(RowFault::RunTooLong);
                 }
-                n += u32::from(more);
             }
             Ok(RunCode::Extension) => return Err(RowFault::Extension),
             Err(fault) => return Err(row_fault(fault)),

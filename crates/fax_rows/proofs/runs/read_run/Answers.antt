@@ -5,7 +5,7 @@ use Rattle.fax_rows.proofs.runs.read_run.Goals as goal
 pub returns-in-Ok-Terminating-clause-ok : goal.returns-in-Ok-Terminating-clause-ok
 returns-in-Ok-Terminating-clause-ok c =
     let taken = rw c.in-Ok-Terminating.field-0-is at c.in-Ok-Terminating.ensures.ok in
-    rw c.from-in-Ok-Terminating.ensures (run_done c.args.colour _ _ _ _ _ c.loop-more.invariant.part taken)
+    rw c.from.ensures (run_done c.args.colour _ _ _ _ _ c.loop-more.invariant.part taken)
 
 pub returns-in-Ok-Terminating-clause-shorter : goal.returns-in-Ok-Terminating-clause-shorter
 returns-in-Ok-Terminating-clause-shorter c = omega (arith, c.in-Ok-Terminating.ensures.shorter)
