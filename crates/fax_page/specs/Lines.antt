@@ -13,7 +13,7 @@ use Rattle.fax_page.specs.declared.StripForm.{StripForm}
 use Rattle.fax_page.specs.declared.StripFault.{StripFault}
 use Rattle.fax_page.specs.declared.StripFault.TheVariants.{DataEnds, BadCode, Extension, RunTooLong, OutOfRow, MissingEol, EndMarker}
 
--- how a row is coded
+-- how a row is coded (T.4, section 4.2.2)
 pub data Dimension : Type 0 where
   one_dimensional : Dimension
   two_dimensional : Dimension
@@ -27,7 +27,7 @@ tag_bit two_dimensional = false
 abbrev pub IsEndOfLine : List Bool → List Bool → Type 0
 IsEndOfLine b rest = (zeros : ℕ) × (11 ≤ zeros) × (b ≡ replicate zeros false ++ true ∷ rest)
 
--- a 1 stands behind fewer than eleven zeros, so that the bits begin with no EOL
+-- a 1 stands behind fewer than eleven zeros, so that the bits begin with no EOL (T.4, section 4.1.2)
 abbrev pub BeginsBelowEleven : List Bool → Type 0
 BeginsBelowEleven b = (zeros : ℕ) × (zeros < 11) × HasZerosAhead b zeros
 
@@ -44,7 +44,7 @@ pub record IsBegin (form : StripForm) (i : ℕ) (b : List Bool) (dimension : Dim
   pub start : IsStart form.coding i b dimension rest
   pub first_code : BeginsBelowEleven rest
 
--- the bits begin with this row, coded so
+-- the bits begin with this row, coded so (T.4, sections 4.1.1 and 4.2.1.3.3)
 abbrev pub IsRowIn : Dimension → ℕ → List Colour → List Bool → List Colour → List Bool → Type 0
 IsRowIn one_dimensional width reference b row rest = IsOneDimensionalRow width b row rest
 IsRowIn two_dimensional width reference b row rest = IsTwoDimensionalRow reference b row rest
@@ -56,7 +56,7 @@ pub record IsLine (form : StripForm) (i : ℕ) (reference : List Colour) (b : Li
   pub begin : IsBegin form i b dimension codes
   pub coded : IsRowIn dimension form.width reference codes row rest
 
--- a strip's name for the fault of a row
+-- a strip's name for the fault of a row (this project's profile)
 abbrev pub strip_fault : RowFault → StripFault
 strip_fault RowDataEnds = DataEnds
 strip_fault RowBadCode = BadCode
@@ -80,19 +80,19 @@ IsFirstCodeFault b fault =
     ((behind : List Bool) × (b ≡ replicate 11 false ++ behind) × (fault ≡ EndMarker))
     ⊎ ((zeros : ℕ) × (zeros < 11) × (b ≡ replicate zeros false) × (fault ≡ DataEnds))
 
--- the codes of a row, coded so, stop with this fault
+-- the codes of a row, coded so, stop with this fault (this project's profile)
 abbrev pub IsRowFaultIn : Dimension → ℕ → List Colour → List Bool → RowFault → Type 0
 IsRowFaultIn one_dimensional width reference b fault = IsOneDimensionalFault width b fault
 IsRowFaultIn two_dimensional width reference b fault = IsTwoDimensionalFault reference b fault
 
--- the first code of row i of a strip is not there
+-- the first code of row i of a strip is not there (this project's profile)
 pub record IsNoFirstCode (form : StripForm) (i : ℕ) (b : List Bool) (fault : StripFault) : Type 0 where
   pub dimension : Dimension
   pub codes : List Bool
   pub start : IsStart form.coding i b dimension codes
   pub at_first_code : IsFirstCodeFault codes fault
 
--- row i of a strip begins, and its codes stop with a fault
+-- row i of a strip begins, and its codes stop with a fault (this project's profile)
 pub record IsStopInCodes (form : StripForm) (i : ℕ) (reference : List Colour) (b : List Bool) (fault : StripFault) : Type 0 where
   pub dimension : Dimension
   pub codes : List Bool

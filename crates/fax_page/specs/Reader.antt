@@ -9,7 +9,7 @@ use Rattle.fax_page.specs.Lines.{IsLine, IsCause}
 use Rattle.fax_page.specs.Strip.{IsStripForm, white_row}
 
 -- how far a strip is read: the bits from the row that is due on, the number of that row, the row before it,
--- and the fault that was answered
+-- and the fault that was answered (this project's profile)
 pub record StripState : Type 0 where
   pub form : StripForm
   pub left : List Bool
@@ -17,7 +17,7 @@ pub record StripState : Type 0 where
   pub reference : List Colour
   pub fault : Option StripFault
 
--- before the first row of the bytes
+-- before the first row of the bytes (this project's profile)
 abbrev pub strip_beginning : StripForm → List ℕ → StripState
 strip_beginning form bytes = record {
   form = form;
@@ -27,14 +27,15 @@ strip_beginning form bytes = record {
   fault = None;
 }
 
--- the strip is MH within the limits, its reference has its width, and no row behind its last is due
+-- the strip is MH within the limits, its reference has its width, and no row behind its last is due (this
+-- project's profile)
 pub record IsReading (form : StripForm) (row : ℕ) (reference : List Colour) : Type 0 where
   pub limits : IsStripForm form
   pub coding : form.coding ≡ Mh
   pub width : length reference ≡ form.width
   pub within : row ≤ form.rows
 
--- the row that was due is read, and the next one is due
+-- the row that was due is read, and the next one is due (this project's profile)
 pub record ReadsRow (old new : StripState) : Type 0 where
   pub no_fault : old.fault ≡ None
   pub due : old.row < old.form.rows
@@ -43,13 +44,13 @@ pub record ReadsRow (old new : StripState) : Type 0 where
   pub same_form : new.form ≡ old.form
   pub still_no_fault : new.fault ≡ None
 
--- all rows are read, and nothing changes
+-- all rows are read, and nothing changes (this project's profile)
 pub record IsAtEnd (old new : StripState) : Type 0 where
   pub no_fault : old.fault ≡ None
   pub all_read : old.row ≡ old.form.rows
   pub unchanged : new ≡ old
 
--- the row that was due is not there, for this cause
+-- the row that was due is not there, for this cause (this project's profile)
 pub record MeetsFault (old : StripState) (fault : StripFault) (new : StripState) : Type 0 where
   pub no_fault : old.fault ≡ None
   pub due : old.row < old.form.rows
@@ -58,7 +59,7 @@ pub record MeetsFault (old : StripState) (fault : StripFault) (new : StripState)
   pub same_form : new.form ≡ old.form
   pub told : new.fault ≡ Some fault
 
--- the fault was answered before, and nothing changes
+-- the fault was answered before, and nothing changes (this project's profile)
 pub record TellsAgain (old : StripState) (fault : StripFault) (new : StripState) : Type 0 where
   pub told : old.fault ≡ Some fault
   pub unchanged : new ≡ old

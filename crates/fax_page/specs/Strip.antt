@@ -14,12 +14,13 @@ pub record IsStripForm (form : StripForm) : Type 0 where
   pub few_rows : form.rows ≤ 1000000
 
 -- a strip ends before row i: there, where it has all its rows, or at the cause in the way of that row
+-- (this project's profile)
 abbrev pub EndsAt : StripForm → ℕ → List Colour → List Bool → Option StripFault → Type 0
 EndsAt form i reference b None = i ≡ form.rows
 EndsAt form i reference b (Some fault) = (i < form.rows) × IsCause form i reference b fault
 
 -- from row i on, over this reference, the bits are these rows, each over the row before it, then this end, and
--- then the bits that are left
+-- then the bits that are left (this project's profile)
 abbrev pub AreLines : StripForm → ℕ → List Colour → List Bool → List (List Colour) → Option StripFault → List Bool → Type 0
 AreLines form i reference b [] end left = (b ≡ left) × EndsAt form i reference b end
 AreLines form i reference b (row ∷ rows) end left =

@@ -6,9 +6,7 @@ mod reader;
 #[cfg(test)]
 mod tests;
 
-pub use fax_bits::FillOrder;
-use fax_rows::RowFault;
-pub use fax_rows::{Colour, Memory, Row};
+pub use fax_rows::{Colour, FillOrder, Memory, Row, RowFault};
 pub use reader::StripReader;
 use thiserror::Error;
 

@@ -8,18 +8,18 @@ pub record HasWidth (row : List Colour) : Type 0 where
   pub some : 0 < length row
   pub short : length row < 2 ^ 16
 
--- the opposite colour
+-- the opposite colour (T.4, section 4.1.1)
 abbrev pub other : Colour → Colour
 other White = Black
 other Black = White
 
--- the two colours are one
+-- the two colours are one (T.4, section 4.2.1.3.1)
 abbrev pub same_colour : Colour → Colour → Bool
 same_colour White White = true
 same_colour Black Black = true
 same_colour _ _ = false
 
--- the pel at place i
+-- the pel at place i, from the left (T.4, section 4.2.1.3.1)
 abbrev pub pel : List Colour → ℕ → Colour
 pel row i = slice_index_or row i White
 
@@ -33,12 +33,13 @@ pel_before row (suc i) = pel row i
 abbrev pub is_changing : List Colour → ℕ → Bool
 is_changing row i = not (same_colour (pel row i) (pel_before row i))
 
--- place i is right of a place, where None is the place just before the first pel
+-- place i is right of a place, where None is the place just before the first pel (T.4, section 4.2.1.3.4)
 abbrev pub is_right_of : Option ℕ → ℕ → Bool
 is_right_of None i = true
 is_right_of (Some a) i = nat_lt a i
 
 -- the least of the n places from i on that passes the test, or the place behind them all
+-- (T.4, section 4.2.1.3.1)
 unfoldable pub first_place : (ℕ → Bool) → ℕ → ℕ → ℕ
 first_place test i zero = i
 first_place test i (suc n) = if test i then i else first_place test (i + 1) n

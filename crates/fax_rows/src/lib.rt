@@ -7,7 +7,7 @@ mod runs;
 #[cfg(test)]
 mod tests;
 
-pub use fax_bits::{BitSource, Colour, Memory};
+pub use fax_bits::{BitSource, Colour, FillOrder, Memory};
 pub use one_dimensional::read_1d;
 pub use pels::Row;
 use thiserror::Error;

@@ -1,6 +1,5 @@
 //! Rows whose bits were written by hand from tables 2 and 3 of T.4.
-use crate::{BitSource, Colour, Row, RowFault, read_1d};
-use fax_bits::FillOrder;
+use crate::{BitSource, Colour, FillOrder, Row, RowFault, read_1d};
 use std::test::Fail;
 
 /// 25 times 2,560 white pels, then 1,472 and 63.
