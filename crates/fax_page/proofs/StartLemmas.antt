@@ -1,0 +1,25 @@
+-- Zeros before a row.
+use Rattle.std.proofs.Common.{◌≡◌, ℕ, ◌+◌, ◌-◌, ◌≤◌, List, ◌∷◌, ◌++◌, length, replicate, Bool, true, false, ap, sym, ◌∙◌, arith, append_assoc}
+use Rattle.std.proofs.lemmas.List.{replicate-append-replicate, length-replicate}
+use Rattle.fax_bits.specs.Bits.{IsAllZeros, HasZerosAhead}
+
+-- so many zeros begin with fewer
+replicate-split : (n m : ℕ) → n ≤ m → replicate m false ≡ replicate n false ++ replicate (m - n) false
+replicate-split n m h =
+    let same : n + (m - n) ≡ m = omega arith in
+    sym (replicate-append-replicate n (m - n) false ∙ ap (λ k. replicate k false) same)
+
+-- eleven zeros or more before a 1
+pub eleven_ahead : (b : List Bool) (zeros : ℕ) → 11 ≤ zeros → HasZerosAhead b zeros
+    → (behind : List Bool) × (b ≡ replicate 11 false ++ behind)
+eleven_ahead b zeros enough ahead = (
+  replicate (zeros - 11) false ++ true ∷ ahead.0,
+  ahead.1 ∙ ap (λ x. x ++ true ∷ ahead.0) (replicate-split 11 zeros enough)
+      ∙ append_assoc (replicate 11 false) (replicate (zeros - 11) false) (true ∷ ahead.0),
+)
+
+-- eleven zeros or more, and nothing else
+pub eleven_alone : (b : List Bool) → 11 ≤ length b → IsAllZeros b → (behind : List Bool) × (b ≡ replicate 11 false ++ behind)
+eleven_alone b enough all =
+    let zeros : length b ≡ all.0 = ap length all.1 ∙ length-replicate all.0 false in
+    (replicate (all.0 - 11) false, all.1 ∙ replicate-split 11 all.0 (omega arith))

@@ -1,0 +1,108 @@
+-- How a row begins in a strip, and what keeps it from being read.
+use Rattle.std.specs.Prelude.{◌≡◌, ◌≢◌, ℕ, ◌<◌, ◌≤◌, ◌⊎◌, Bool, true, false, List, [], ◌∷◌, ◌++◌, replicate}
+use Rattle.fax_bits.specs.Bits.{IsAllZeros, HasZerosAhead}
+use Rattle.fax_bits.specs.declared.Colour.{Colour}
+use Rattle.fax_rows.specs.declared.RowFault.{RowFault}
+use Rattle.fax_rows.specs.declared.RowFault.TheVariants.{DataEnds as RowDataEnds, BadCode as RowBadCode, Extension as RowExtension, RunTooLong as RowRunTooLong, OutOfRow as RowOutOfRow}
+use Rattle.fax_rows.specs.OneDimensional.{IsOneDimensionalRow}
+use Rattle.fax_rows.specs.TwoDimensional.{IsTwoDimensionalRow}
+use Rattle.fax_rows.specs.Faults.{IsOneDimensionalFault, IsTwoDimensionalFault}
+use Rattle.fax_page.specs.declared.Coding.{Coding}
+use Rattle.fax_page.specs.declared.Coding.TheVariants.{Mh, Mr, Mmr}
+use Rattle.fax_page.specs.declared.StripForm.{StripForm}
+use Rattle.fax_page.specs.declared.StripFault.{StripFault}
+use Rattle.fax_page.specs.declared.StripFault.TheVariants.{DataEnds, BadCode, Extension, RunTooLong, OutOfRow, MissingEol, EndMarker}
+
+-- how a row is coded (T.4, section 4.2.2)
+pub data Dimension : Type 0 where
+  one_dimensional : Dimension
+  two_dimensional : Dimension
+
+-- the bit behind an EOL in MR that says how the next row is coded (T.4, section 4.2.2)
+abbrev pub tag_bit : Dimension → Bool
+tag_bit one_dimensional = true
+tag_bit two_dimensional = false
+
+-- the bits begin with fill and an EOL: at least eleven zeros and a 1 (T.4, sections 4.1.2 and 4.1.3)
+abbrev pub IsEndOfLine : List Bool → List Bool → Type 0
+IsEndOfLine b rest = (zeros : ℕ) × (11 ≤ zeros) × (b ≡ replicate zeros false ++ true ∷ rest)
+
+-- a 1 stands behind fewer than eleven zeros, so that the bits begin with no EOL (T.4, section 4.1.2)
+abbrev pub BeginsBelowEleven : List Bool → Type 0
+BeginsBelowEleven b = (zeros : ℕ) × (zeros < 11) × HasZerosAhead b zeros
+
+-- what stands before the first code of row i of a strip: an EOL, which the first row may lack in MH, in MR
+-- an EOL and a tag bit, nothing in MMR (T.4, sections 4.1.2 and 4.2.2; T.6, section 2.2.1; this project's profile)
+abbrev pub IsStart : Coding → ℕ → List Bool → Dimension → List Bool → Type 0
+IsStart Mh i b dimension rest =
+    (dimension ≡ one_dimensional) × (IsEndOfLine b rest ⊎ ((i ≡ 0) × BeginsBelowEleven b × (b ≡ rest)))
+IsStart Mr i b dimension rest = IsEndOfLine b (tag_bit dimension ∷ rest)
+IsStart Mmr i b dimension rest = (dimension ≡ two_dimensional) × (b ≡ rest)
+
+-- a row of the strip begins in the bits, coded so, and its first code begins the rest (this project's profile)
+pub record IsBegin (form : StripForm) (i : ℕ) (b : List Bool) (dimension : Dimension) (rest : List Bool) : Type 0 where
+  pub start : IsStart form.coding i b dimension rest
+  pub first_code : BeginsBelowEleven rest
+
+-- the bits begin with this row, coded so (T.4, sections 4.1.1 and 4.2.1.3.3)
+abbrev pub IsRowIn : Dimension → ℕ → List Colour → List Bool → List Colour → List Bool → Type 0
+IsRowIn one_dimensional width reference b row rest = IsOneDimensionalRow width b row rest
+IsRowIn two_dimensional width reference b row rest = IsTwoDimensionalRow reference b row rest
+
+-- row i of a strip is this row over its reference, and the rest follows it (this project's profile)
+pub record IsLine (form : StripForm) (i : ℕ) (reference : List Colour) (b : List Bool) (row : List Colour) (rest : List Bool) : Type 0 where
+  pub dimension : Dimension
+  pub codes : List Bool
+  pub begin : IsBegin form i b dimension codes
+  pub coded : IsRowIn dimension form.width reference codes row rest
+
+-- a strip's name for the fault of a row (this project's profile)
+abbrev pub strip_fault : RowFault → StripFault
+strip_fault RowDataEnds = DataEnds
+strip_fault RowBadCode = BadCode
+strip_fault RowExtension = Extension
+strip_fault RowRunTooLong = RunTooLong
+strip_fault RowOutOfRow = OutOfRow
+
+-- no 1 is left where an EOL is due, or another row than an MH strip's first begins with none, or in MR the
+-- tag bit is missing (this project's profile)
+abbrev pub IsStartFault : Coding → ℕ → List Bool → StripFault → Type 0
+IsStartFault Mh i b fault =
+    (IsAllZeros b × (fault ≡ DataEnds)) ⊎ ((i ≢ 0) × BeginsBelowEleven b × (fault ≡ MissingEol))
+IsStartFault Mr i b fault =
+    (IsAllZeros b × (fault ≡ DataEnds)) ⊎ (IsEndOfLine b [] × (fault ≡ DataEnds)) ⊎ (BeginsBelowEleven b × (fault ≡ MissingEol))
+IsStartFault Mmr i b fault = ⊥
+
+-- eleven zeros stand where a row's first code is due, or fewer zeros and nothing behind them (this project's
+-- profile)
+abbrev pub IsFirstCodeFault : List Bool → StripFault → Type 0
+IsFirstCodeFault b fault =
+    ((behind : List Bool) × (b ≡ replicate 11 false ++ behind) × (fault ≡ EndMarker))
+    ⊎ ((zeros : ℕ) × (zeros < 11) × (b ≡ replicate zeros false) × (fault ≡ DataEnds))
+
+-- the codes of a row, coded so, stop with this fault (this project's profile)
+abbrev pub IsRowFaultIn : Dimension → ℕ → List Colour → List Bool → RowFault → Type 0
+IsRowFaultIn one_dimensional width reference b fault = IsOneDimensionalFault width b fault
+IsRowFaultIn two_dimensional width reference b fault = IsTwoDimensionalFault reference b fault
+
+-- the first code of row i of a strip is not there (this project's profile)
+pub record IsNoFirstCode (form : StripForm) (i : ℕ) (b : List Bool) (fault : StripFault) : Type 0 where
+  pub dimension : Dimension
+  pub codes : List Bool
+  pub start : IsStart form.coding i b dimension codes
+  pub at_first_code : IsFirstCodeFault codes fault
+
+-- row i of a strip begins, and its codes stop with a fault (this project's profile)
+pub record IsStopInCodes (form : StripForm) (i : ℕ) (reference : List Colour) (b : List Bool) (fault : StripFault) : Type 0 where
+  pub dimension : Dimension
+  pub codes : List Bool
+  pub begin : IsBegin form i b dimension codes
+  pub cause : RowFault
+  pub in_codes : IsRowFaultIn dimension form.width reference codes cause
+  pub fault_is : fault ≡ strip_fault cause
+
+-- row i of a strip is not there, for this cause: at its start, at its first code, or in its codes (this
+-- project's profile)
+abbrev pub IsCause : StripForm → ℕ → List Colour → List Bool → StripFault → Type 0
+IsCause form i reference b fault =
+    IsStartFault form.coding i b fault ⊎ IsNoFirstCode form i b fault ⊎ IsStopInCodes form i reference b fault

@@ -1,0 +1,76 @@
+//! Strips of fax pages, row by row (ITU-T T.4, and this project's profile).
+#![tactic(auto)]
+
+mod lines;
+mod reader;
+#[cfg(test)]
+mod tests;
+
+pub use fax_rows::{Colour, FillOrder, Memory, Row, RowFault};
+pub use reader::StripReader;
+use thiserror::Error;
+
+/// How the rows of a strip are coded.
+#[derive(Clone, Copy, Debug, PartialEq, Eq)]
+pub enum Coding {
+    /// One-dimensional coding of T.4, each row behind an EOL.
+    Mh,
+    /// Two-dimensional coding of T.4.
+    Mr,
+    /// T.6.
+    Mmr,
+}
+
+/// The form of a strip.
+#[derive(Clone, Copy, Debug, PartialEq, Eq)]
+pub struct StripForm {
+    pub coding: Coding,
+    pub order: FillOrder,
+    /// How many pels a row has, 1 to 65,535.
+    pub width: u32,
+    /// How many rows the strip has, 1 to 1,000,000.
+    pub rows: u32,
+}
+
+/// Why a row of a strip could not be read.
+#[derive(Clone, Copy, Debug, PartialEq, Eq, Error)]
+pub enum StripFault {
+    /// The bits end where the row's start, its first code or another of its codes is due.
+    #[error("the data ends within a row")]
+    DataEnds,
+    /// No code of the table that is due begins so.
+    #[error("no code begins so")]
+    BadCode,
+    /// The prefix of codes that T.4 leaves to extensions.
+    #[error("an extension code")]
+    Extension,
+    /// A run passes the row's width.
+    #[error("a run is longer than the row")]
+    RunTooLong,
+    /// A vertical code leads out of the row.
+    #[error("a vertical code leads out of the row")]
+    OutOfRow,
+    /// The row begins without an EOL.
+    #[error("no EOL stands before a row")]
+    MissingEol,
+    /// The end of the page stands where a row is due.
+    #[error("the page ends before its last row")]
+    EndMarker,
+}
+
+impl From<RowFault> for StripFault {
+    ghost use Rattle.std.specs.Prelude.{◌≡◌};
+    ghost use Rattle.fax_page.specs.Lines.{strip_fault};
+
+    ghost from_gives = { λ cause fault. fault ≡ strip_fault cause };
+
+    fn from(cause: RowFault) -> StripFault {
+        match cause {
+            RowFault::DataEnds => StripFault::DataEnds,
+            RowFault::BadCode => StripFault::BadCode,
+            RowFault::Extension => StripFault::Extension,
+            RowFault::RunTooLong => StripFault::RunTooLong,
+            RowFault::OutOfRow => StripFault::OutOfRow,
+        }
+    }
+}

@@ -1,0 +1,3 @@
+pub mod RunLemmas
+pub mod RowLemmas
+pub mod RowRunLemmas

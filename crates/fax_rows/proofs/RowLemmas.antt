@@ -1,0 +1,144 @@
+-- A row in one-dimensional coding, run by run.
+use Rattle.std.proofs.Common.{◌≡◌, ℕ, zero, suc, ◌+◌, ◌-◌, ◌<◌, ◌≤◌, List, [], ◌∷◌, ◌++◌, length, take, get_or, replicate, Bool, refl, ap, sym, ◌∙◌, subst, arith, length-append, inl, inr}
+use Rattle.std.specs.Prelude.{sum, ◌⊎◌}
+use Rattle.std.proofs.lemmas.Bool.{cases_lt}
+use Rattle.std.proofs.Math.Nat.{eq-or-lt_of_le}
+use Rattle.std.proofs.lemmas.Grind.{common_steps}
+use Rattle.std.proofs.Math.ListN.{get_or-append}
+use Rattle.std.proofs.Math.Seq.{get_or-append_right, take-length}
+use Rattle.std.proofs.lemmas.List.{get_or-replicate, length-replicate, take-append-le}
+use Rattle.fax_bits.specs.declared.Colour.{Colour}
+use Rattle.fax_bits.specs.declared.Colour.TheVariants.{White}
+use Rattle.fax_bits.specs.Runs.{IsRun}
+use Rattle.fax_rows.specs.declared.RowFault.{RowFault}
+use Rattle.fax_rows.specs.Elements.{other, pels_of}
+use Rattle.fax_rows.specs.OneDimensional.{AreRuns, IsOneDimensionalRow}
+use Rattle.fax_rows.specs.Faults.{IsRunFault, IsOneDimensionalFault, colour_behind}
+use Rattle.fax_rows.proofs.RunLemmas.{sum-push}
+
+AreRuns-push : (c : Colour) (b : List Bool) (runs : List ℕ) (n : ℕ) (mid rest : List Bool)
+    → AreRuns c b runs mid → IsRun (colour_behind c runs) mid n rest → AreRuns c b (runs ++ n ∷ []) rest
+AreRuns-push c b [] n mid rest coded run = (rest, subst (λ x. IsRun c x n rest) (sym coded) run, refl)
+AreRuns-push c b (m ∷ runs) n mid rest coded run =
+    (coded.0, coded.1, AreRuns-push (other c) coded.0 runs n mid rest coded.2 run)
+
+colour_behind-push : (c : Colour) (runs : List ℕ) (n : ℕ) → colour_behind c (runs ++ n ∷ []) ≡ other (colour_behind c runs)
+colour_behind-push c [] n = refl
+colour_behind-push c (m ∷ runs) n = colour_behind-push (other c) runs n
+
+append_nil : (xs : List Colour) → xs ++ [] ≡ xs
+append_nil [] = refl
+append_nil (x ∷ xs) = ap (λ ys. x ∷ ys) (append_nil xs)
+
+append_three : (xs ys zs : List Colour) → (xs ++ ys) ++ zs ≡ xs ++ (ys ++ zs)
+append_three [] ys zs = refl
+append_three (x ∷ xs) ys zs = ap (λ ws. x ∷ ws) (append_three xs ys zs)
+
+pels_of-push : (c : Colour) (runs : List ℕ) (n : ℕ) → pels_of c (runs ++ n ∷ []) ≡ pels_of c runs ++ replicate n (colour_behind c runs)
+pels_of-push c [] n = append_nil (replicate n c)
+pels_of-push c (m ∷ runs) n =
+    ap (λ ys. replicate m c ++ ys) (pels_of-push (other c) runs n)
+    ∙ sym (append_three (replicate m c) (pels_of (other c) runs) (replicate n (colour_behind (other c) runs)))
+
+sum-cons : (n : ℕ) (runs : List ℕ) → sum (n ∷ runs) ≡ n + sum runs
+sum-cons n runs = grind (arith, common_steps)
+
+length-pels_of : (c : Colour) (runs : List ℕ) → length (pels_of c runs) ≡ sum runs
+length-pels_of c [] = refl
+length-pels_of c (n ∷ runs) =
+    omega (arith, length-append (replicate n c) (pels_of (other c) runs), length-replicate n c, length-pels_of (other c) runs, sum-cons n runs)
+
+same_pels : (xs ys : List Colour) → length xs ≡ length ys → ((k : ℕ) → k < length xs → get_or xs k White ≡ get_or ys k White) → xs ≡ ys
+same_pels [] [] len each = refl
+same_pels [] (y ∷ ys) len each = absurd (omega arith)
+same_pels (x ∷ xs) [] len each = absurd (omega arith)
+same_pels (x ∷ xs) (y ∷ ys) len each =
+    let first : x ≡ y = each zero (omega arith) in
+    let more = same_pels xs ys (omega arith) (λ k h. each (suc k) (omega arith)) in
+    cc
+
+-- runs of a row so far
+pub record IsRowSoFar (width : ℕ) (b : List Bool) (total : ℕ) (colour : Colour) (row : List Colour) (rest : List Bool) : Type 0 where
+  pub runs : List ℕ
+  pub coded : AreRuns White b runs rest
+  pub sum_is : total ≡ sum runs
+  pub colour_is : colour ≡ colour_behind White runs
+  pub pels : (k : ℕ) → k < total → get_or row k White ≡ get_or (pels_of White runs) k White
+  pub below : (k : ℕ) → k < length runs → sum (take k runs) < width
+
+pub row_begins : (width : ℕ) (b : List Bool) (row : List Colour) → IsRowSoFar width b 0 White row b
+row_begins width b row = record {
+  runs = [];
+  coded = refl;
+  sum_is = refl;
+  colour_is = refl;
+  pels = λ k h. absurd (omega arith);
+  below = λ k h. absurd (omega arith);
+}
+
+below_push : (width : ℕ) (runs : List ℕ) (n : ℕ) → ((k : ℕ) → k < length runs → sum (take k runs) < width) → sum runs < width
+    → (k : ℕ) → k < length (runs ++ n ∷ []) → sum (take k (runs ++ n ∷ [])) < width
+below_push width runs n below all k h =
+    let within : k ≤ length runs = omega (arith, length-append runs (n ∷ [])) in
+    rw (take-append-le k runs (n ∷ []) within) (at_most k within)
+  where
+    by : (k : ℕ) → (k ≡ length runs) ⊎ (k < length runs) → sum (take k runs) < width
+    by k (inl same) = rw same (rw (take-length runs) all)
+    by k (inr less) = below k less
+
+    at_most : (k : ℕ) → k ≤ length runs → sum (take k runs) < width
+    at_most k within = by k (eq-or-lt_of_le within)
+
+pub row_goes_on : (width : ℕ) (b : List Bool) (total n : ℕ) (colour : Colour) (old new : List Colour) (mid rest : List Bool)
+    → IsRowSoFar width b total colour old mid → total < width → IsRun colour mid n rest
+    → ((k : ℕ) → k < total → get_or new k White ≡ get_or old k White)
+    → ((k : ℕ) → total ≤ k → k < total + n → get_or new k White ≡ colour)
+    → IsRowSoFar width b (total + n) (other colour) new rest
+row_goes_on width b total n colour old new mid rest so_far unfinished run before painted = record {
+  runs = so_far.runs ++ n ∷ [];
+  coded = AreRuns-push White b so_far.runs n mid rest so_far.coded (subst (λ c. IsRun c mid n rest) so_far.colour_is run);
+  sum_is = omega (arith, sum-push so_far.runs n, so_far.sum_is);
+  colour_is = ap other so_far.colour_is ∙ sym (colour_behind-push White so_far.runs n);
+  pels = λ k h. pel_at k h (cases_lt k total);
+  below = below_push width so_far.runs n so_far.below (omega (arith, so_far.sum_is));
+}
+  where
+    len : length (pels_of White so_far.runs) ≡ total
+    len = length-pels_of White so_far.runs ∙ sym so_far.sum_is
+
+    pel_at : (k : ℕ) → k < total + n → (k < total) ⊎ (total ≤ k) → get_or new k White ≡ get_or (pels_of White (so_far.runs ++ n ∷ [])) k White
+    pel_at k h (inl less) =
+        let short : k < length (pels_of White so_far.runs) = omega (arith, len) in
+        before k less ∙ so_far.pels k less
+        ∙ sym (get_or-append (pels_of White so_far.runs) (replicate n (colour_behind White so_far.runs)) White k short)
+        ∙ ap (λ xs. get_or xs k White) (sym (pels_of-push White so_far.runs n))
+    pel_at k h (inr more) =
+        let long : length (pels_of White so_far.runs) ≤ k = omega (arith, len) in
+        let short : k - length (pels_of White so_far.runs) < n = omega (arith, len) in
+        painted k more h ∙ so_far.colour_is
+        ∙ sym (get_or-replicate n (k - length (pels_of White so_far.runs)) (colour_behind White so_far.runs) White short)
+        ∙ sym (get_or-append_right (pels_of White so_far.runs) (replicate n (colour_behind White so_far.runs)) k White long)
+        ∙ ap (λ xs. get_or xs k White) (sym (pels_of-push White so_far.runs n))
+
+pub row_done : (width : ℕ) (b : List Bool) (total : ℕ) (colour : Colour) (row : List Colour) (rest : List Bool)
+    → IsRowSoFar width b total colour row rest → total ≡ width → length row ≡ width → IsOneDimensionalRow width b row rest
+row_done width b total colour row rest so_far done len = record {
+  runs = so_far.runs;
+  coded = so_far.coded;
+  pels = same_pels row (pels_of White so_far.runs)
+      (len ∙ sym done ∙ so_far.sum_is ∙ sym (length-pels_of White so_far.runs))
+      (λ k h. so_far.pels k (omega arith));
+  whole = len;
+  ends = λ k h e. absurd (omega (arith, so_far.below k h));
+}
+
+pub row_fault_at : (width : ℕ) (b : List Bool) (total : ℕ) (colour : Colour) (row : List Colour) (rest : List Bool) (fault : RowFault)
+    → IsRowSoFar width b total colour row rest → total < width → IsRunFault colour width total rest fault → IsOneDimensionalFault width b fault
+row_fault_at width b total colour row rest fault so_far unfinished at = record {
+  runs = so_far.runs;
+  left = rest;
+  coded = so_far.coded;
+  unfinished = omega (arith, so_far.sum_is);
+  at_run = subst (λ c. IsRunFault c width (sum so_far.runs) rest fault) so_far.colour_is
+      (subst (λ n. IsRunFault colour width n rest fault) so_far.sum_is at);
+}

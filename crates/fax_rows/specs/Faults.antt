@@ -1,0 +1,96 @@
+-- Where the codes of a row stop, and why (this project's profile).
+use Rattle.std.specs.Prelude.{◌≡◌, ℕ, ◌+◌, ◌<◌, ◌≤◌, ◌⊎◌, Bool, List, [], ◌∷◌, map, sum, length}
+use Rattle.fax_bits.specs.declared.codes.CodeEntry.{CodeEntry}
+use Rattle.fax_bits.specs.declared.codes.CodeFault.{CodeFault}
+use Rattle.fax_bits.specs.declared.codes.CodeFault.TheVariants.{DataEnds as CodeDataEnds, BadCode as CodeBadCode}
+use Rattle.fax_bits.specs.declared.Colour.{Colour}
+use Rattle.fax_bits.specs.declared.Colour.TheVariants.{White}
+use Rattle.fax_bits.specs.declared.runs.RunCode.{RunCode}
+use Rattle.fax_bits.specs.declared.runs.RunCode.TheVariants.{Terminating, MakeUp, Extension as RunExtension}
+use Rattle.fax_bits.specs.declared.modes.ModeCode.{ModeCode}
+use Rattle.fax_bits.specs.declared.modes.ModeCode.TheVariants.{Pass, Horizontal, Vertical, Extension as ModeExtension}
+use Rattle.fax_bits.specs.Tables.{run_table, modes}
+use Rattle.fax_bits.specs.Codes.{Takes, IsFaultOf, Spells}
+use Rattle.fax_bits.specs.Runs.{IsRun}
+use Rattle.fax_rows.specs.declared.RowFault.{RowFault}
+use Rattle.fax_rows.specs.declared.RowFault.TheVariants.{DataEnds, BadCode, Extension, RunTooLong, OutOfRow}
+use Rattle.fax_rows.specs.Elements.{other}
+use Rattle.fax_rows.specs.OneDimensional.{AreRuns}
+use Rattle.fax_rows.specs.TwoDimensional.{Position, beginning, first_pel, IsInRow, IsUnfinished, AreSteps}
+
+-- a row's name for the fault of a code (this project's profile)
+abbrev pub row_fault : CodeFault → RowFault
+row_fault CodeDataEnds = DataEnds
+row_fault CodeBadCode = BadCode
+
+-- no code of the table begins the bits, and this is the row's fault for it (this project's profile)
+abbrev pub IsCodeFault : {M : Type 0} → List (CodeEntry M) → List Bool → RowFault → Type 0
+IsCodeFault table b fault = (code : CodeFault) × IsFaultOf table b code × (fault ≡ row_fault code)
+
+-- the fault of a run code, where `so_far` pels of the row come before what it adds (this project's profile)
+abbrev pub IsRunCodeFault : ℕ → ℕ → RunCode → RowFault → Type 0
+IsRunCodeFault width so_far (Terminating n) fault = (width < so_far + n) × (fault ≡ RunTooLong)
+IsRunCodeFault width so_far (MakeUp n) fault = (width < so_far + n) × (fault ≡ RunTooLong)
+IsRunCodeFault width so_far RunExtension fault = fault ≡ Extension
+
+-- the fault stands at the first run code of the bits (this project's profile)
+abbrev pub IsAtRunCode : Colour → ℕ → ℕ → List Bool → RowFault → Type 0
+IsAtRunCode colour width so_far b fault =
+    IsCodeFault (run_table colour) b fault
+    ⊎ ((code : RunCode) × (behind : List Bool)
+    × Takes (run_table colour) b code behind × IsRunCodeFault width so_far code fault)
+
+-- the bits begin with a run from the pel `from` on that is not whole: make-up codes within the width, and
+-- then the fault (this project's profile)
+pub record IsRunFault (colour : Colour) (width from : ℕ) (b : List Bool) (fault : RowFault) : Type 0 where
+  pub make_up : List ℕ
+  pub left : List Bool
+  pub spelled : Spells (run_table colour) b (map MakeUp make_up) left
+  pub within : from + sum make_up ≤ width
+  pub at_code : IsAtRunCode colour width (from + sum make_up) left fault
+
+-- the colour of the run behind these runs (T.4, section 4.1.1)
+abbrev pub colour_behind : Colour → List ℕ → Colour
+colour_behind colour [] = colour
+colour_behind colour (n ∷ runs) = colour_behind (other colour) runs
+
+-- the bits begin with whole runs that do not make up the width, and then a run with this fault (this
+-- project's profile)
+pub record IsOneDimensionalFault (width : ℕ) (b : List Bool) (fault : RowFault) : Type 0 where
+  pub runs : List ℕ
+  pub left : List Bool
+  pub coded : AreRuns White b runs left
+  pub unfinished : sum runs < width
+  pub at_run : IsRunFault (colour_behind White runs) width (sum runs) left fault
+
+-- horizontal mode with a fault in its first run, or with a first run within the row and a fault in its second
+-- (this project's profile)
+abbrev pub IsHorizontalFault : List Colour → Position → List Bool → RowFault → Type 0
+IsHorizontalFault reference at b fault =
+    IsRunFault at.colour (length reference) (first_pel at) b fault
+    ⊎ ((first : ℕ) × (middle : List Bool)
+    × IsRun at.colour b first middle × (first_pel at + first ≤ length reference)
+    × IsRunFault (other at.colour) (length reference) (first_pel at + first) middle fault)
+
+-- the fault of a mode, with the bits behind its code (this project's profile)
+abbrev pub IsModeFault : ModeCode → List Colour → Position → List Bool → RowFault → Type 0
+IsModeFault Pass reference at b fault = ⊥
+IsModeFault (Vertical d) reference at b fault = (IsInRow reference at d → ⊥) × (fault ≡ OutOfRow)
+IsModeFault Horizontal reference at b fault = IsHorizontalFault reference at b fault
+IsModeFault ModeExtension reference at b fault = fault ≡ Extension
+
+-- the bits begin with a step that has this fault (this project's profile)
+abbrev pub IsStepFault : List Colour → Position → List Bool → RowFault → Type 0
+IsStepFault reference at b fault =
+    IsCodeFault modes b fault
+    ⊎ ((mode : ModeCode) × (behind : List Bool)
+    × Takes modes b mode behind × IsModeFault mode reference at behind fault)
+
+-- the bits begin with steps that do not end the row, and then a step with this fault (this project's profile)
+pub record IsTwoDimensionalFault (reference : List Colour) (b : List Bool) (fault : RowFault) : Type 0 where
+  pub positions : List Position
+  pub last : Position
+  pub left : List Bool
+  pub steps : AreSteps reference beginning b positions last left
+  pub unfinished : IsUnfinished reference last
+  pub at_step : IsStepFault reference last left fault

@@ -1,0 +1,4 @@
+pub mod Elements
+pub mod OneDimensional
+pub mod TwoDimensional
+pub mod Faults

@@ -1,0 +1,33 @@
+//! Rows of fax pages, read in one-dimensional coding (ITU-T T.4).
+#![tactic(auto)]
+
+mod one_dimensional;
+mod pels;
+mod runs;
+#[cfg(test)]
+mod tests;
+
+pub use fax_bits::{BitSource, Colour, FillOrder, Memory};
+pub use one_dimensional::read_1d;
+pub use pels::Row;
+use thiserror::Error;
+
+/// Why a row could not be read.
+#[derive(Clone, Copy, Debug, PartialEq, Eq, Error)]
+pub enum RowFault {
+    /// The bits end within a code.
+    #[error("the data ends within a row")]
+    DataEnds,
+    /// No code of the table that is due begins so.
+    #[error("no code begins so")]
+    BadCode,
+    /// The prefix of codes that T.4 leaves to extensions.
+    #[error("an extension code")]
+    Extension,
+    /// A run passes the row's width.
+    #[error("a run is longer than the row")]
+    RunTooLong,
+    /// A vertical code leads out of the row.
+    #[error("a vertical code leads out of the row")]
+    OutOfRow,
+}
