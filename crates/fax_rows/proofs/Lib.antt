@@ -1,3 +1,5 @@
 pub mod RunLemmas
 pub mod RowLemmas
 pub mod RowRunLemmas
+pub mod RunLaws
+pub mod RowLaws

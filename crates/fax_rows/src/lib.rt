@@ -1,6 +1,7 @@
 //! Rows of fax pages, read in one-dimensional coding (ITU-T T.4).
 #![tactic(auto)]
 
+pub mod laws;
 mod one_dimensional;
 mod pels;
 mod runs;

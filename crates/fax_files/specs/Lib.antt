@@ -1,0 +1,8 @@
+pub mod Numbers
+pub mod Directory
+pub mod Chain
+pub mod Page
+pub mod StripBytes
+pub mod PageRows
+pub mod Tiff
+pub mod FaultNames

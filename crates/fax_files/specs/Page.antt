@@ -1,0 +1,109 @@
+-- The form of a page, from the fields of its directory.
+use Rattle.std.specs.Prelude.{◌≡◌, ◌≤◌, ℕ, ◌-◌, ◌%◌, ◌^◌, min, Bool, false, nat_le, ◌==◌, ◌&&◌, not, List, Result, Ok}
+use Rattle.std.specs.Int.{div_ceil}
+use Rattle.fax_bits.specs.declared.FillOrder.TheVariants.{MsbFirst}
+use Rattle.fax_page.specs.declared.Coding.TheVariants.{Mh}
+use Rattle.fax_files.specs.declared.FileFault.{FileFault}
+use Rattle.fax_files.specs.declared.FileFault.TheVariants.{BadField, Unsupported, OutOfLimits}
+use Rattle.fax_files.specs.declared.PageForm.{PageForm}
+use Rattle.fax_files.specs.declared.entries.Entry.{Entry}
+use Rattle.fax_files.specs.Numbers.{Endian, check, ◌>>=◌}
+use Rattle.fax_files.specs.Directory.{entries, has_integers, needed, needed_scalar, scalar_or}
+
+-- the number lies between these two
+abbrev pub is_between : ℕ → ℕ → ℕ → Bool
+is_between low high n = nat_le low n && nat_le n high
+
+-- a page's width and its rows (TIFF 6.0, ImageWidth and ImageLength, in the limits of this project's profile)
+unfoldable pub page_size : Endian → List ℕ → List Entry → Result (ℕ × ℕ) FileFault
+page_size endian file fields = do
+  -- ImageWidth
+  width ← needed_scalar endian file fields 256
+  _ ← check (is_between 1 65535 width) (OutOfLimits 256)
+  -- ImageLength
+  rows ← needed_scalar endian file fields 257
+  _ ← check (is_between 1 1000000 rows) (OutOfLimits 257)
+  Ok (width, rows)
+
+-- the fields on how pels are coded: one bit for each, in one-dimensional rows, 0 for white, a byte's highest bit first
+-- (this project's profile)
+unfoldable pub pel_format : Endian → List ℕ → List Entry → Result (Unit {0}) FileFault
+pel_format endian file fields = do
+  -- BitsPerSample
+  bits_per_sample ← scalar_or endian file fields 258 1
+  _ ← check (bits_per_sample == 1) (Unsupported 258)
+  -- Compression: 4 is not read yet
+  compression ← needed_scalar endian file fields 259
+  _ ← check (compression == 3) (Unsupported 259)
+  -- PhotometricInterpretation: 1 is not read yet
+  photometric ← needed_scalar endian file fields 262
+  _ ← check (photometric == 0) (Unsupported 262)
+  -- FillOrder: 2 is not read yet
+  fill_order ← scalar_or endian file fields 266 1
+  _ ← check (fill_order == 1) (Unsupported 266)
+  -- SamplesPerPixel
+  samples_per_pixel ← scalar_or endian file fields 277 1
+  check (samples_per_pixel == 1) (Unsupported 277)
+
+-- the rows of each strip but the last of a page of so many rows (TIFF 6.0, RowsPerStrip; more than the page's rows
+-- means the page's rows)
+unfoldable pub strip_rows : Endian → List ℕ → List Entry → ℕ → Result ℕ FileFault
+strip_rows endian file fields rows = do
+  rows_per_strip ← scalar_or endian file fields 278 (2 ^ 32 - 1)
+  _ ← check (not (rows_per_strip == 0)) (BadField 278)
+  Ok (min rows_per_strip rows)
+
+-- the number of strips: the rows divided by those of a strip, rounded up (TIFF 6.0, RowsPerStrip)
+abbrev pub strip_count : ℕ → ℕ → ℕ
+strip_count rows rows_per_strip = div_ceil rows rows_per_strip
+
+-- T4Options: bit 0, which stands for two-dimensional rows, is not read yet; the others are ignored
+unfoldable pub t4_options : Endian → List ℕ → List Entry → Result (Unit {0}) FileFault
+t4_options endian file fields = do
+  options ← scalar_or endian file fields 292 0
+  check (options % 2 == 0) (Unsupported 292)
+
+-- StripOffsets or StripByteCounts, with a value for each strip (this project's profile)
+unfoldable pub strip_field : Endian → List ℕ → List Entry → ℕ → ℕ → Result Entry FileFault
+strip_field endian file fields tag strips = do
+  entry ← needed fields tag
+  _ ← check (has_integers endian file entry strips) (BadField tag)
+  Ok entry
+
+-- the form of the page whose directory stands whole at offset q, or its first fault: the fields in the order of
+-- this project's profile, each with what stands for it where it is absent, and what is refused
+unfoldable pub page : Endian → List ℕ → ℕ → Result PageForm FileFault
+page endian file q = do
+  let fields = entries endian file q
+  size ← page_size endian file fields
+  _ ← pel_format endian file fields
+  rows_per_strip ← strip_rows endian file fields size.1
+  let strips = strip_count size.1 rows_per_strip
+  -- more than one strip is not read yet
+  _ ← check (strips == 1) (Unsupported 278)
+  _ ← t4_options endian file fields
+  -- StripOffsets
+  _ ← strip_field endian file fields 273 strips
+  -- StripByteCounts
+  _ ← strip_field endian file fields 279 strips
+  Ok (record {
+    width = size.0;
+    rows = size.1;
+    coding = Mh;
+    order = MsbFirst;
+    exchanged = false;
+    rows_per_strip = rows_per_strip;
+    strips = strips;
+  })
+
+-- the limits of a page's form (this project's profile)
+pub record IsPageForm (form : PageForm) : Type 0 where
+  pub some_width : 1 ≤ form.width
+  pub width : form.width ≤ 65535
+  pub some_rows : 1 ≤ form.rows
+  pub rows : form.rows ≤ 1000000
+  pub coding : form.coding ≡ Mh
+  pub order : form.order ≡ MsbFirst
+  pub exchanged : form.exchanged ≡ false
+  pub rows_per_strip : form.rows_per_strip ≡ form.rows
+  pub strips : form.strips ≡ 1

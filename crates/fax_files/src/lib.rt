@@ -1,0 +1,149 @@
+//! TIFF files of fax pages: header, directories, fields, and the bytes of a strip (TIFF 6.0).
+#![tactic(auto)]
+
+ghost use Rattle.std.specs.Prelude.{◌≡◌};
+ghost use Rattle.fax_files.specs.FaultNames.{fault_name, fault_tag, file_fault_name, file_fault_tag, strip_fault_name};
+
+mod entries;
+mod numbers;
+mod page;
+#[cfg(test)]
+mod tests;
+mod tiff;
+
+use fax_bits::FillOrder;
+use fax_page::{Coding, StripFault};
+use thiserror::Error;
+pub use tiff::{Directory, Tiff};
+
+/// Why a file's header, a directory, a field or a strip's place is refused.
+#[derive(Clone, Copy, Debug, PartialEq, Eq, Error)]
+pub enum FileFault {
+    /// The file has fewer bytes than a header, which has eight.
+    #[error("the file is shorter than a header")]
+    ShortHeader,
+    /// The file does not begin with a known order of bytes.
+    #[error("the order of bytes is not known")]
+    ByteOrder,
+    /// The header's number is not 42.
+    #[error("the header's number is not 42")]
+    Magic,
+    /// The header gives 0 for the first directory.
+    #[error("the file has no directory")]
+    NoDirectory,
+    /// A directory does not lie whole in the file.
+    #[error("a directory lies outside the file")]
+    DirectoryOutside,
+    /// The chain of directories turns back.
+    #[error("the chain of directories turns back")]
+    DirectoryLoop,
+    /// The field of this tag has to be there and is not.
+    #[error("field {0} is missing")]
+    MissingField(u16),
+    /// The field of this tag has a type or a count that is refused, or a value outside the file.
+    #[error("field {0} is bad")]
+    BadField(u16),
+    /// The field of this tag has a value that is not read.
+    #[error("field {0} has a value that is not supported")]
+    Unsupported(u16),
+    /// The field of this tag passes a limit.
+    #[error("field {0} is out of limits")]
+    OutOfLimits(u16),
+    /// A strip's bytes do not lie in the file.
+    #[error("a strip lies outside the file")]
+    StripOutside,
+}
+
+impl FileFault {
+    /// The fault's own name.
+    fn name(self) -> &'static str
+        ensures { result.now ≡ file_fault_name self }
+    {
+        match self {
+            FileFault::ShortHeader => "ShortHeader",
+            FileFault::ByteOrder => "ByteOrder",
+            FileFault::Magic => "Magic",
+            FileFault::NoDirectory => "NoDirectory",
+            FileFault::DirectoryOutside => "DirectoryOutside",
+            FileFault::DirectoryLoop => "DirectoryLoop",
+            FileFault::MissingField(_) => "MissingField",
+            FileFault::BadField(_) => "BadField",
+            FileFault::Unsupported(_) => "Unsupported",
+            FileFault::OutOfLimits(_) => "OutOfLimits",
+            FileFault::StripOutside => "StripOutside",
+        }
+    }
+
+    /// The tag of the field at fault, where it has one.
+    fn tag(self) -> Option<u16>
+        ensures { result ≡ file_fault_tag self }
+    {
+        match self {
+            FileFault::MissingField(tag)
+            | FileFault::BadField(tag)
+            | FileFault::Unsupported(tag)
+            | FileFault::OutOfLimits(tag) => Some(tag),
+            FileFault::ShortHeader
+            | FileFault::ByteOrder
+            | FileFault::Magic
+            | FileFault::NoDirectory
+            | FileFault::DirectoryOutside
+            | FileFault::DirectoryLoop
+            | FileFault::StripOutside => None,
+        }
+    }
+}
+
+/// Why a row cannot be had: a fault of the file, or one of the strip that holds the row.
+#[derive(Clone, Copy)]
+pub enum Cause {
+    File(FileFault),
+    Strip(StripFault),
+}
+
+impl Cause {
+    /// The fault's name, and the tag of the field at fault where it has one.
+    pub fn name(&self) -> (&'static str, Option<u16>)
+        ensures name { result.0.now ≡ fault_name self.now }
+        ensures tag { result.1 ≡ fault_tag self.now }
+    {
+        match self {
+            Cause::File(fault) => (fault.name(), fault.tag()),
+            Cause::Strip(fault) => (strip_name(*fault), None),
+        }
+    }
+}
+
+/// The own name of a strip's fault.
+fn strip_name(fault: StripFault) -> &'static str
+    ensures { result.now ≡ strip_fault_name fault }
+{
+    match fault {
+        StripFault::DataEnds => "DataEnds",
+        StripFault::BadCode => "BadCode",
+        StripFault::Extension => "Extension",
+        StripFault::RunTooLong => "RunTooLong",
+        StripFault::OutOfRow => "OutOfRow",
+        StripFault::MissingEol => "MissingEol",
+        StripFault::EndMarker => "EndMarker",
+    }
+}
+
+/// The form of a page, as the fields of its directory give it.
+#[derive(Clone, Copy)]
+pub struct PageForm {
+    /// The pels of a row, 1 to 65,535.
+    pub width: u32,
+    /// The rows of the page, 1 to 1,000,000.
+    pub rows: u32,
+    /// How the rows are coded.
+    pub coding: Coding,
+    /// Which bit of a byte is first.
+    pub order: FillOrder,
+    /// Whether black is coded as white, and white as black.
+    pub exchanged: bool,
+    /// The rows of each strip but the last, which may have fewer: 1 to `rows`.
+    pub rows_per_strip: u32,
+    /// The number of strips.
+    pub strips: u32,
+}

@@ -1,0 +1,44 @@
+//! Refusals of a run that are no fault of the input.
+ghost use Rattle.std.specs.Prelude.{◌≡◌};
+ghost use Rattle.fax_tool.specs.Run.{refusal_line};
+
+use fax_bits::Memory as OutOfMemory;
+use thiserror::Error;
+
+/// Why a run ended with status 3.
+#[derive(Clone, Copy, Debug, PartialEq, Eq, Error)]
+pub enum Refusal {
+    /// A growth was refused.
+    #[error("out of memory")]
+    Memory,
+    /// A read failed, or the input is longer than the program reads.
+    #[error("the input cannot be read")]
+    Read,
+    /// A write failed.
+    #[error("the output cannot be written")]
+    Write,
+}
+
+impl Refusal {
+    /// The line for the error stream.
+    pub fn line(self) -> &'static str
+        ensures { result.now ≡ refusal_line self }
+    {
+        match self {
+            Refusal::Memory => "fault: Memory\n",
+            Refusal::Read => "fault: Read\n",
+            Refusal::Write => "fault: Write\n",
+        }
+    }
+}
+
+impl From<OutOfMemory> for Refusal {
+    ghost use Rattle.std.specs.Prelude.{◌≡◌};
+    ghost use Rattle.fax_tool.specs.declared.refusal.Refusal.TheVariants.{Memory};
+
+    ghost from_gives = { λ _ refusal. refusal ≡ Memory };
+
+    fn from(_memory: OutOfMemory) -> Self {
+        Refusal::Memory
+    }
+}

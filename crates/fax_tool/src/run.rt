@@ -1,0 +1,73 @@
+//! A run of the program over its streams.
+ghost use Rattle.std.specs.Prelude.{◌≡◌, ◌<◌, ◌⊎◌};
+ghost use Rattle.fax_tool.specs.Printing.{IsReport, IsSaid};
+ghost use Rattle.fax_tool.specs.Run.{IsStatus, PrintsRows, SaysRefusal};
+ghost use Rattle.fax_tool.specs.Streams.{no_faults};
+
+use crate::refusal::Refusal;
+use crate::rows::rows;
+use crate::streams::{Sink, Source};
+use crate::text::fault_text;
+use crate::transfer::give_all;
+use crate::words::{Command, Job};
+use fax_walk::End;
+use std::alloc::Global;
+
+/// Nothing was refused: all rows were printed.
+const DONE: u8 = 0;
+
+/// The input has a fault.
+const INPUT_FAULT: u8 = 1;
+
+/// Memory, a read or a write was refused.
+const REFUSED: u8 = 3;
+
+/// Says a line on the error stream, and answers this status, or 3 where the stream fails.
+fn say<E: Sink>(err: &mut E, line: &str, status: u8) -> u8
+    requires { E.counts err.old ≡ no_faults }
+    ensures { IsSaid (E.written err.old) (E.written err.new) (E.counts err.new) line.now status result }
+{
+    match give_all(err, line.as_bytes()) {
+        Ok(()) => status,
+        Err(_) => REFUSED,
+    }
+}
+
+/// Says on the error stream how a run ended, and answers the program's status.
+fn report<E: Sink>(alloc: Global, ending: Result<End, Refusal>, err: &mut E) -> u8
+    requires { E.counts err.old ≡ no_faults }
+    ensures { IsReport ending (E.written err.old) (E.written err.new) (E.counts err.new) result }
+{
+    match ending {
+        Ok(End::Proper) => DONE,
+        Ok(End::Fault { page, row, cause }) => match fault_text(alloc, page, row, cause) {
+            Ok(line) => say(err, line.as_str(), INPUT_FAULT),
+            Err(_) => say(err, Refusal::Memory.line(), REFUSED),
+        },
+        Err(refusal) => say(err, refusal.line(), REFUSED),
+    }
+}
+
+/// Carries out a job: reads the input whole, writes the output, and says on the error stream why
+/// that is not all. It answers the program's status: 0 where all is done; 1 at a fault of the
+/// input; 3 where memory, a read or a write was refused, or the error stream failed.
+pub fn run<R: Source, W: Sink, E: Sink>(
+    alloc: Global,
+    job: &Job,
+    input: &mut R,
+    out: &mut W,
+    err: &mut E,
+) -> u8
+    requires input_counts { R.counts input.old ≡ no_faults }
+    requires taken { R.taken input.old ≡ 0 }
+    requires output_counts { W.counts out.old ≡ no_faults }
+    requires error_counts { E.counts err.old ≡ no_faults }
+    ensures status { IsStatus result }
+    ensures printed { result < 3 → PrintsRows (R.left input.old) (W.written out.old) (W.written out.new) (E.written err.old) (E.written err.new) result }
+    ensures refused { result ≡ 3 → SaysRefusal (R.counts input.new) (R.taken input.new) (W.counts out.new) (E.counts err.new) (E.written err.old) (E.written err.new) }
+{
+    let ending = match job.command {
+        Command::Rows => rows(alloc, input, out),
+    };
+    report(alloc, ending, err)
+}

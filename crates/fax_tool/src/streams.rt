@@ -1,0 +1,175 @@
+//! The streams that a run reads and writes.
+ghost use Rattle.std.specs.Prelude.{◌≡◌, ℕ, ◌<◌, ◌≤◌, length, take, Option, List, IfOk, IfErr, OnOk, Result};
+ghost use Rattle.std.specs.Io.KnownBytes.{Appends, Consumes, IsAtEnd, Keeps};
+ghost use Rattle.fax_tool.specs.Streams.{Counts, counts_after, taken_after, no_faults, TakesBytes, GivesBytes};
+ghost use Rattle.fax_tool.specs.Adapters.{reader_of, writer_of};
+
+use std::io;
+use thiserror::Error;
+
+/// Why a call on a stream moved nothing.
+#[derive(Clone, Copy, Debug, PartialEq, Eq, Error)]
+pub enum StreamFault {
+    /// A signal came in between, and the call may be made again.
+    #[error("the call was interrupted")]
+    Interrupted,
+    #[error("the call failed")]
+    Failed,
+}
+
+/// A stream that bytes are taken from. Contracts see its bytes left, where they are known, how many
+/// bytes were taken, and how many calls were interrupted or failed; counts stay at `u64::MAX`.
+pub trait Source {
+    ghost use Rattle.fax_tool.specs.Streams.{Counts};
+
+    ghost left: { Self → Option (List ℕ) };
+
+    ghost taken: { Self → ℕ };
+
+    ghost counts: { Self → Counts };
+
+    /// Moves the next bytes to the front of the buffer, and answers how many: 0 only where the
+    /// buffer is empty or no byte is left.
+    fn take(&mut self, buffer: &mut [u8]) -> Result<usize, StreamFault>
+        ensures within { IfOk result (λ n. n ≤ length buffer.new) }
+        ensures bytes { TakesBytes (left self.old) (left self.new) result buffer.new }
+        ensures taken { taken self.new ≡ taken_after result (taken self.old) }
+        ensures counts { counts self.new ≡ counts_after result (counts self.old) };
+}
+
+/// A stream that bytes are given to. Contracts see its bytes written, where they are known, and how
+/// many calls were interrupted or failed; counts stay at `u64::MAX`.
+pub trait Sink {
+    ghost use Rattle.fax_tool.specs.Streams.{Counts};
+
+    ghost written: { Self → Option (List ℕ) };
+
+    ghost counts: { Self → Counts };
+
+    /// Writes bytes from the front of the slice, and answers how many: 0 only where the slice is
+    /// empty.
+    fn give(&mut self, bytes: &[u8]) -> Result<usize, StreamFault>
+        ensures within { IfOk result (λ n. n ≤ length bytes.now) }
+        ensures some { IfOk result (λ n. 0 < length bytes.now → 0 < n) }
+        ensures bytes { GivesBytes (written self.old) (written self.new) result bytes.now }
+        ensures counts { counts self.new ≡ counts_after result (counts self.old) };
+}
+
+/// A reader of std as a source.
+#[derive(Drop)]
+pub struct FromRead<R> {
+    reader: R,
+    taken: u64,
+    interrupted: u64,
+    failed: u64,
+}
+
+impl<R: io::Read> FromRead<R> {
+    /// The reader's bytes from here on, with counts of 0.
+    pub fn new(reader: R) -> Self
+        ensures reader { reader_of result ≡ reader }
+        ensures taken { ⟦<FromRead<R> as Source>⟧.taken result ≡ 0 }
+        ensures counts { ⟦<FromRead<R> as Source>⟧.counts result ≡ no_faults }
+    {
+        FromRead {
+            reader,
+            taken: 0,
+            interrupted: 0,
+            failed: 0,
+        }
+    }
+
+    /// The reader, behind the bytes that were taken.
+    pub fn into_inner(self) -> R
+        ensures { result ≡ reader_of self }
+    {
+        let FromRead { reader, .. } = self;
+        reader
+    }
+}
+
+impl<R: io::Read> Source for FromRead<R> {
+    ghost use Rattle.fax_tool.specs.Streams.{counts_of};
+
+    ghost left = { λ s. R.remaining s.reader };
+
+    ghost taken = { λ s. s.taken };
+
+    ghost counts = { λ s. counts_of s.interrupted s.failed };
+
+    fn take(&mut self, buffer: &mut [u8]) -> Result<usize, StreamFault> {
+        match self.reader.read(buffer) {
+            Ok(count) => {
+                self.taken = self.taken.saturating_add(count as u64);
+                Ok(count)
+            }
+            Err(error) => {
+                if error.kind() == io::ErrorKind::Interrupted {
+                    self.interrupted = self.interrupted.saturating_add(1);
+                    Err(StreamFault::Interrupted)
+                } else {
+                    self.failed = self.failed.saturating_add(1);
+                    Err(StreamFault::Failed)
+                }
+            }
+        }
+    }
+}
+
+/// A writer of std as a sink.
+#[derive(Drop)]
+pub struct ToWrite<W> {
+    writer: W,
+    interrupted: u64,
+    failed: u64,
+}
+
+impl<W: io::Write> ToWrite<W> {
+    /// The writer, with counts of 0.
+    pub fn new(writer: W) -> Self
+        ensures writer { writer_of result ≡ writer }
+        ensures counts { ⟦<ToWrite<W> as Sink>⟧.counts result ≡ no_faults }
+    {
+        ToWrite {
+            writer,
+            interrupted: 0,
+            failed: 0,
+        }
+    }
+
+    /// The writer, with what was given.
+    pub fn into_inner(self) -> W
+        ensures { result ≡ writer_of self }
+    {
+        let ToWrite { writer, .. } = self;
+        writer
+    }
+}
+
+impl<W: io::Write> Sink for ToWrite<W> {
+    ghost use Rattle.fax_tool.specs.Streams.{counts_of};
+
+    ghost written = { λ s. W.contents s.writer };
+
+    ghost counts = { λ s. counts_of s.interrupted s.failed };
+
+    /// A write that takes 0 bytes of a slice that is not empty has failed.
+    fn give(&mut self, bytes: &[u8]) -> Result<usize, StreamFault> {
+        match self.writer.write(bytes) {
+            Ok(0) if !bytes.is_empty() => {
+                self.failed = self.failed.saturating_add(1);
+                Err(StreamFault::Failed)
+            }
+            Ok(count) => Ok(count),
+            Err(error) => {
+                if error.kind() == io::ErrorKind::Interrupted {
+                    self.interrupted = self.interrupted.saturating_add(1);
+                    Err(StreamFault::Interrupted)
+                } else {
+                    self.failed = self.failed.saturating_add(1);
+                    Err(StreamFault::Failed)
+                }
+            }
+        }
+    }
+}

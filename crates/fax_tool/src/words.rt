@@ -1,0 +1,97 @@
+//! The words of a command line.
+ghost use Rattle.std.specs.Prelude.{◌≡◌, codes};
+ghost use Rattle.fax_tool.specs.Words.{words_text, words_status};
+
+use clap::error::ErrorKind;
+use clap::{Arg, ArgMatches};
+use std::alloc::{AllocError, Global};
+use thiserror::Error;
+
+/// What is to be done, and with which file.
+#[derive(Debug, Drop, PartialEq, Eq)]
+pub struct Job {
+    pub command: Command,
+    /// The file to read, or `None` for standard input.
+    pub file: Option<String>,
+}
+
+#[derive(Clone, Copy, Debug, PartialEq, Eq)]
+pub enum Command {
+    /// Prints the runs of each row.
+    Rows,
+}
+
+/// Why no job was made of the words.
+#[derive(Clone, Copy, Debug, PartialEq, Eq, Error)]
+pub enum WordsFault {
+    /// The words are not those of a command, or ask for help.
+    #[error("not the words of a command")]
+    Usage,
+    /// A growth was refused.
+    #[error("out of memory")]
+    Memory,
+}
+
+impl WordsFault {
+    /// The text for the error stream, with its line ends, and the program's status.
+    pub fn text(&self) -> (&'static str, u8)
+        ensures text { result.0.now ≡ words_text self.now }
+        ensures status { result.1 ≡ words_status self.now }
+    {
+        match self {
+            WordsFault::Usage => (
+                "usage: faxpages list [--cursor C] [--max N] [FILE]\n       faxpages rows [--cursor C] [--max N] [FILE]\n       faxpages convert -o pbm|mh|mr|mmr [--order 1|2] [--k K] [--strip ROWS] [FILE]\n       faxpages check [FILE]\n",
+                2,
+            ),
+            WordsFault::Memory => ("fault: Memory\n", 3),
+        }
+    }
+}
+
+impl From<AllocError> for WordsFault {
+    fn from(_error: AllocError) -> Self {
+        WordsFault::Memory
+    }
+}
+
+impl From<clap::Error> for WordsFault {
+    fn from(error: clap::Error) -> Self {
+        match error.kind() {
+            ErrorKind::OutOfMemory => WordsFault::Memory,
+            _ => WordsFault::Usage,
+        }
+    }
+}
+
+/// The command line of the program: its commands, as far as they are built.
+fn command_line<'a>(alloc: Global) -> Result<clap::Command<'a>, AllocError> {
+    let rows = clap::Command::new(alloc, "rows")
+        .disable_help_flag(true)
+        .arg(Arg::new(alloc, "FILE"))?;
+    clap::Command::new(alloc, "faxpages")
+        .disable_help_flag(true)
+        .disable_help_subcommand(true)
+        .subcommand_required(true)
+        .subcommand(rows)
+}
+
+/// The file among the words behind a command.
+fn file_of(alloc: Global, matches: &ArgMatches) -> Result<Option<String>, AllocError> {
+    match matches.get_str("FILE") {
+        Some(name) => Ok(Some(String::from_str(alloc, name)?)),
+        None => Ok(None),
+    }
+}
+
+/// The job that the words name, the program's own name first. Each refusal of words, a request for
+/// help or the version included, is `Usage`.
+pub fn parse_words(alloc: Global, words: &[&str]) -> Result<Job, WordsFault> {
+    let matches = command_line(alloc)?.try_get_matches_from(words)?;
+    match matches.subcommand() {
+        Some(("rows", of_command)) => Ok(Job {
+            command: Command::Rows,
+            file: file_of(alloc, of_command)?,
+        }),
+        _ => Err(WordsFault::Usage),
+    }
+}

@@ -1,0 +1,4 @@
+pub mod Cursor
+pub mod Items
+pub mod Due
+pub mod Next
