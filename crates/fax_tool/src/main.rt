@@ -7,6 +7,8 @@ mod refusal;
 mod rows;
 mod run;
 mod streams;
+#[cfg(test)]
+mod tests;
 mod text;
 mod transfer;
 mod words;

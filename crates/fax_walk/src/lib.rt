@@ -2,6 +2,8 @@
 #![tactic(auto)]
 
 mod cursor;
+#[cfg(test)]
+mod tests;
 mod walk;
 
 pub use cursor::Cursor;
