@@ -13,18 +13,21 @@ use thiserror::Error;
 /// How the rows of a strip are coded.
 #[derive(Clone, Copy, Debug, PartialEq, Eq)]
 pub enum Coding {
-    /// One-dimensional coding of T.4, each row behind an EOL.
+    /// One-dimensional coding, each row behind an EOL (T.4, sections 4.1.1 and 4.1.2).
     Mh,
-    /// Two-dimensional coding of T.4.
+    /// One-dimensional and two-dimensional rows, each behind an EOL and a tag bit
+    /// (T.4, section 4.2.2).
     Mr,
-    /// T.6.
+    /// Two-dimensional rows with nothing between them (T.6, section 2.2.1).
     Mmr,
 }
 
 /// The form of a strip.
 #[derive(Clone, Copy, Debug, PartialEq, Eq)]
 pub struct StripForm {
+    /// How its rows are coded.
     pub coding: Coding,
+    /// Which bit of a byte comes first.
     pub order: FillOrder,
     /// How many pels a row has, 1 to 65,535.
     pub width: u32,
@@ -32,7 +35,7 @@ pub struct StripForm {
     pub rows: u32,
 }
 
-/// Why a row of a strip could not be read.
+/// Why a row of a strip could not be read: the first fault in its bits.
 #[derive(Clone, Copy, Debug, PartialEq, Eq, Error)]
 pub enum StripFault {
     /// The bits end where the row's start, its first code or another of its codes is due.
@@ -50,10 +53,11 @@ pub enum StripFault {
     /// A vertical code leads out of the row.
     #[error("a vertical code leads out of the row")]
     OutOfRow,
-    /// The row begins without an EOL.
+    /// The row begins without an EOL (T.4, section 4.1.2).
     #[error("no EOL stands before a row")]
     MissingEol,
-    /// The end of the page stands where a row is due.
+    /// An EOL stands where a row's first code is due, as in a return to control
+    /// (T.4, section 4.1.4).
     #[error("the page ends before its last row")]
     EndMarker,
 }

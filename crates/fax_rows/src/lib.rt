@@ -28,7 +28,7 @@ pub enum RowFault {
     /// A run passes the row's width.
     #[error("a run is longer than the row")]
     RunTooLong,
-    /// A vertical code leads out of the row.
+    /// A vertical code leads out of the row (T.4, section 4.2.1.3.2).
     #[error("a vertical code leads out of the row")]
     OutOfRow,
 }

@@ -9,7 +9,7 @@ use crate::runs::{other, read_run};
 use fax_bits::{BitSource, Colour};
 
 /// Reads a row in one-dimensional coding: runs of white and black pels in turn, white first, up to
-/// the width. It takes no memory.
+/// the row's width (T.4, section 4.1.1). It takes no memory.
 ///
 /// # Errors
 ///
