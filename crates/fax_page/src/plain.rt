@@ -3,7 +3,9 @@ mod drawing;
 mod reading;
 mod tables;
 
-use crate::plain::drawing::{Numbers, Strip, draw, with_code};
+use crate::plain::drawing::{
+    Numbers, Strip, draw, with_code, with_zeros_at_the_end, with_zeros_between,
+};
 use crate::plain::reading::{Reading, longest_runs, read};
 use crate::plain::tables::CODES;
 use crate::{Coding, Colour, FillOrder, Row, StripFault, StripForm, StripReader};
@@ -250,6 +252,19 @@ fn compare_codes(
     Ok(())
 }
 
+/// Compares strips with 0 to 15 zeros before a later row, and where the first code is due, there behind fill
+/// of 0 to 7 zeros.
+fn compare_zeros(rt: &impl Abort, alloc: Global, tally: &mut Tally) -> Result<(), Fail> {
+    for k in 0..128 {
+        if k < 16 {
+            compare_whole(rt, alloc, &with_zeros_between(alloc, k)?, tally)?;
+        }
+        let end = with_zeros_at_the_end(alloc, k / 16, k % 16)?;
+        compare_whole(rt, alloc, &end, tally)?;
+    }
+    Ok(())
+}
+
 /// The strips to draw.
 #[derive(Clone, Copy)]
 struct Draws {
@@ -311,6 +326,7 @@ fn agrees_with_a_plain_reading(rt: HostRuntime) -> Result<(), Fail> {
     };
     compare_codes(&rt, alloc, Colour::White, &mut tally)?;
     compare_codes(&rt, alloc, Colour::Black, &mut tally)?;
+    compare_zeros(&rt, alloc, &mut tally)?;
     for draws in DRAWS {
         compare_drawn(&rt, alloc, &draws, &mut tally)?;
     }

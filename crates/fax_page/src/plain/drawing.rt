@@ -219,3 +219,31 @@ pub fn with_code(alloc: Global, colour: Colour, entry: usize) -> Result<Strip, A
         bits,
     })
 }
+
+/// A strip of two rows of one pel: zeros and a 1 stand between them.
+pub fn with_zeros_between(alloc: Global, zeros: u32) -> Result<Strip, AllocError> {
+    let mut bits = Vec::new(alloc);
+    put(&mut bits, EOL)?;
+    put_code(&mut bits, Colour::White, 1)?;
+    put_same(&mut bits, false, zeros)?;
+    put(&mut bits, "1")?;
+    put_code(&mut bits, Colour::White, 1)?;
+    Ok(Strip {
+        width: 1,
+        rows: 2,
+        bits,
+    })
+}
+
+/// A strip without a row: fill, an EOL, and zeros in the place of the first code.
+pub fn with_zeros_at_the_end(alloc: Global, fill: u32, zeros: u32) -> Result<Strip, AllocError> {
+    let mut bits = Vec::new(alloc);
+    put_same(&mut bits, false, fill)?;
+    put(&mut bits, EOL)?;
+    put_same(&mut bits, false, zeros)?;
+    Ok(Strip {
+        width: 1,
+        rows: 1,
+        bits,
+    })
+}
