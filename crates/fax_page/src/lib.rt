@@ -2,6 +2,8 @@
 #![tactic(auto)]
 
 mod lines;
+#[cfg(test)]
+mod plain;
 mod reader;
 #[cfg(test)]
 mod tests;

@@ -1,0 +1,240 @@
+//! A plain reading of an MH strip: slow searches over a list of bits, by the wording of T.4 and this project's profile.
+use crate::plain::tables::{CODES, EXTENSION, LAST_TERMINATING, codes};
+use crate::{Colour, StripFault};
+use std::alloc::{AllocError, Global};
+
+/// What a strip's bits say: the pels of the rows that could be read, one row after the other, the codes
+/// that were taken (entries of the white table, or of the black one behind it), and why no more rows were
+/// read, or none where all were.
+#[derive(Drop)]
+pub struct Reading {
+    pub pels: Vec<bool>,
+    pub codes: Vec<usize>,
+    pub end: Option<StripFault>,
+}
+
+/// Why a row was not read.
+#[derive(Drop)]
+enum Stop {
+    Fault(StripFault),
+    Memory(AllocError),
+}
+
+impl From<StripFault> for Stop {
+    fn from(fault: StripFault) -> Stop {
+        Stop::Fault(fault)
+    }
+}
+
+impl From<AllocError> for Stop {
+    fn from(error: AllocError) -> Stop {
+        Stop::Memory(error)
+    }
+}
+
+/// How a code meets the bits from a place on.
+enum Meeting {
+    /// The bits begin with the code.
+    Whole,
+    /// The bits end within the code.
+    Cut,
+    /// Some bit is another.
+    Other,
+}
+
+/// Compares the bits from place `at` on with a code.
+fn meet(bits: &[bool], at: usize, code: &str) -> Meeting {
+    for (k, digit) in code.as_bytes().iter().enumerate() {
+        match bits.get(at.saturating_add(k)) {
+            None => return Meeting::Cut,
+            Some(bit) => {
+                if *bit != (*digit == b'1') {
+                    return Meeting::Other;
+                }
+            }
+        }
+    }
+    Meeting::Whole
+}
+
+/// The entry of the code that stands at place `at`, and the place behind it.
+fn find(bits: &[bool], at: usize, colour: Colour) -> Result<(usize, usize), StripFault> {
+    let mut fault = StripFault::BadCode;
+    for (entry, code) in codes(colour).iter().enumerate() {
+        match meet(bits, at, code) {
+            Meeting::Whole => return Ok((entry, at.saturating_add(code.len()))),
+            Meeting::Cut => fault = StripFault::DataEnds,
+            Meeting::Other => {}
+        }
+    }
+    Err(fault)
+}
+
+/// How many pels the code of this entry stands for.
+fn length(entry: usize) -> usize {
+    if entry <= LAST_TERMINATING {
+        entry
+    } else {
+        entry.saturating_sub(LAST_TERMINATING).saturating_mul(64)
+    }
+}
+
+/// The number of zeros from place `at` to the next 1, if there is one.
+fn zeros(bits: &[bool], at: usize) -> Option<usize> {
+    let mut count: usize = 0;
+    for k in at..bits.len() {
+        if bits.get(k) == Some(&true) {
+            return Some(count);
+        }
+        count = count.saturating_add(1);
+    }
+    None
+}
+
+/// The place where the codes of row `i` are due: behind fill and EOL, which the first row may lack.
+fn begin(bits: &[bool], at: usize, i: u32) -> Result<usize, StripFault> {
+    match zeros(bits, at) {
+        None => Err(StripFault::DataEnds),
+        Some(count) if count >= 11 => Ok(at.saturating_add(count).saturating_add(1)),
+        Some(_) if i == 0 => Ok(at),
+        Some(_) => Err(StripFault::MissingEol),
+    }
+}
+
+/// Refuses eleven zeros where the first code is due, and fewer where the bits end with them.
+fn check_first(bits: &[bool], at: usize) -> Result<(), StripFault> {
+    for k in 0..11 {
+        match bits.get(at.saturating_add(k)) {
+            None => return Err(StripFault::DataEnds),
+            Some(true) => return Ok(()),
+            Some(false) => {}
+        }
+    }
+    Err(StripFault::EndMarker)
+}
+
+/// Reads one run in a colour: any make-up codes, then a terminating code. Answers its length, at most
+/// `most`, and the place behind it.
+fn read_run(
+    bits: &[bool],
+    at: usize,
+    colour: Colour,
+    most: usize,
+    taken: &mut Vec<usize>,
+) -> Result<(usize, usize), Stop> {
+    let mut at = at;
+    let mut run: usize = 0;
+    for _ in 0..bits.len() {
+        let (entry, behind) = find(bits, at, colour)?;
+        let table = if colour == Colour::Black { CODES } else { 0 };
+        taken
+            .push(table.saturating_add(entry))
+            .map_err(AllocError::from)?;
+        if entry == EXTENSION {
+            return Err(Stop::Fault(StripFault::Extension));
+        }
+        run = run.saturating_add(length(entry));
+        at = behind;
+        if run > most {
+            return Err(Stop::Fault(StripFault::RunTooLong));
+        }
+        if entry <= LAST_TERMINATING {
+            return Ok((run, at));
+        }
+    }
+    Err(Stop::Fault(StripFault::DataEnds))
+}
+
+/// Reads the codes of one row, alternating runs with white first, up to the first whole run that reaches the
+/// width. Answers its pels (black is true) and the place behind it.
+fn read_row(
+    alloc: Global,
+    bits: &[bool],
+    at: usize,
+    width: usize,
+    taken: &mut Vec<usize>,
+) -> Result<(Vec<bool>, usize), Stop> {
+    let mut row = Vec::new(alloc);
+    let mut at = at;
+    let mut colour = Colour::White;
+    for _ in 0..bits.len() {
+        let most = width.saturating_sub(row.len());
+        let (run, behind) = read_run(bits, at, colour, most, taken)?;
+        paint(&mut row, run, colour == Colour::Black)?;
+        at = behind;
+        if row.len() == width {
+            return Ok((row, at));
+        }
+        colour = other(colour);
+    }
+    Err(Stop::Fault(StripFault::DataEnds))
+}
+
+/// Appends a run of pels.
+fn paint(row: &mut Vec<bool>, run: usize, black: bool) -> Result<(), AllocError> {
+    for _ in 0..run {
+        row.push(black)?;
+    }
+    Ok(())
+}
+
+/// The colour of the next run.
+pub fn other(colour: Colour) -> Colour {
+    match colour {
+        Colour::White => Colour::Black,
+        Colour::Black => Colour::White,
+    }
+}
+
+/// Reads row `i` from place `at`. Answers its pels and the place behind it.
+fn read_line(
+    alloc: Global,
+    bits: &[bool],
+    at: usize,
+    i: u32,
+    width: usize,
+    taken: &mut Vec<usize>,
+) -> Result<(Vec<bool>, usize), Stop> {
+    let first = begin(bits, at, i)?;
+    check_first(bits, first)?;
+    read_row(alloc, bits, first, width, taken)
+}
+
+/// Reads an MH strip of `rows` rows.
+pub fn read(alloc: Global, bits: &[bool], width: usize, rows: u32) -> Result<Reading, AllocError> {
+    let mut pels = Vec::new(alloc);
+    let mut codes = Vec::new(alloc);
+    let mut end = None;
+    let mut at = 0;
+    for i in 0..rows {
+        match read_line(alloc, bits, at, i, width, &mut codes) {
+            Ok((row, behind)) => {
+                pels.extend_from_slice(row.as_slice())?;
+                at = behind;
+            }
+            Err(Stop::Memory(error)) => return Err(error),
+            Err(Stop::Fault(fault)) => {
+                end = Some(fault);
+                break;
+            }
+        }
+    }
+    Ok(Reading { pels, codes, end })
+}
+
+/// The lengths of the longest runs of a row, white first.
+pub fn longest_runs(alloc: Global, row: &[bool]) -> Result<Vec<u32>, AllocError> {
+    let mut runs = Vec::new(alloc);
+    let mut colour = false;
+    let mut run: u32 = 0;
+    for pel in row {
+        if *pel != colour {
+            runs.push(run)?;
+            run = 0;
+            colour = *pel;
+        }
+        run = run.saturating_add(1);
+    }
+    runs.push(run)?;
+    Ok(runs)
+}
