@@ -95,9 +95,11 @@ impl FileFault {
 }
 
 /// Why a row cannot be had: a fault of the file, or one of the strip that holds the row.
-#[derive(Clone, Copy)]
+#[derive(Clone, Copy, Debug, PartialEq, Eq, Error)]
 pub enum Cause {
+    #[error(transparent)]
     File(FileFault),
+    #[error(transparent)]
     Strip(StripFault),
 }
 
@@ -130,7 +132,7 @@ fn strip_name(fault: StripFault) -> &'static str
 }
 
 /// The form of a page, as the fields of its directory give it.
-#[derive(Clone, Copy)]
+#[derive(Clone, Copy, Debug, PartialEq, Eq)]
 pub struct PageForm {
     /// The pels of a row, 1 to 65,535.
     pub width: u32,

@@ -23,18 +23,20 @@ pub struct Place {
 
 /// How a file's rows end: behind the last page, or at a fault, with the place of the row that was
 /// due there.
-#[derive(Clone, Copy)]
+#[derive(Clone, Copy, Debug, PartialEq, Eq)]
 pub enum End {
     Proper,
     Fault { page: u32, row: u32, cause: Cause },
 }
 
 /// Why a walk hands out no row.
-#[derive(Clone, Copy)]
+#[derive(Clone, Copy, Debug, PartialEq, Eq, Error)]
 pub enum WalkFault {
     /// A growth was refused. The walk is as it was, and the call may be made again.
+    #[error("out of memory")]
     Memory,
     /// The fault that ends the rows, with the place of the row that was due. It is answered again.
+    #[error("page {page} row {row}: {cause}")]
     AtRow { page: u32, row: u32, cause: Cause },
 }
 
