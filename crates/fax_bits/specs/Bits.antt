@@ -4,7 +4,7 @@ use Rattle.std.specs.Int.{bit_at}
 use Rattle.fax_bits.specs.declared.FillOrder.{FillOrder}
 use Rattle.fax_bits.specs.declared.FillOrder.TheVariants.{MsbFirst, LsbFirst}
 
--- the lowest `len` bits of a number, the highest of them first
+-- the lowest `len` bits of a number, the highest of them first (T.4, tables 2, 3a, 3b and 4)
 unfoldable pub code_bits : ℕ → ℕ → List Bool
 code_bits zero number = []
 code_bits (suc len) number = (bit_at number len == 1) ∷ code_bits len number
@@ -18,19 +18,19 @@ byte_bits LsbFirst byte = reverse (code_bits 8 byte)
 unfoldable pub bits : FillOrder → List ℕ → List Bool
 bits order bytes = flat_map (byte_bits order) bytes
 
--- the number that bits spell, the highest first
+-- the number that bits spell, the highest first (this project's profile)
 abbrev pub bits_number : List Bool → ℕ
 bits_number b = fold (λ number bit. 2 * number + (if bit then 1 else 0)) 0 b
 
--- no 1 is among the bits
+-- no 1 is among the bits (T.4, section 4.1.3)
 abbrev pub IsAllZeros : List Bool → Type 0
 IsAllZeros b = (zeros : ℕ) × (b ≡ replicate zeros false)
 
--- eight zeros stand at this place of the bits
+-- eight zeros stand at this place of the bits (this project's profile)
 pub record IsZeroByteAt (b : List Bool) (place : ℕ) : Type 0 where
   pub within : place + 8 ≤ length b
   pub zeros : (k : ℕ) → k < 8 → slice_index_or b (place + k) false ≡ false
 
--- the bits begin with this many zeros and a 1
+-- the bits begin with this many zeros and a 1 (T.4, section 4.1.3)
 abbrev pub HasZerosAhead : List Bool → ℕ → Type 0
 HasZerosAhead b zeros = (behind : List Bool) × (b ≡ replicate zeros false ++ true ∷ behind)

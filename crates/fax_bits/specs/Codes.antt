@@ -5,30 +5,30 @@ use Rattle.fax_bits.specs.declared.codes.CodeFault.{CodeFault}
 use Rattle.fax_bits.specs.declared.codes.CodeFault.TheVariants.{DataEnds, BadCode}
 use Rattle.fax_bits.specs.Bits.{code_bits}
 
--- the bits of an entry's code
+-- the bits of an entry's code (T.4, tables 2, 3a, 3b and 4)
 abbrev pub bits_of : {M : Type 0} → CodeEntry M → List Bool
 bits_of entry = code_bits entry.len entry.code
 
--- the bits begin with the code of some entry that has this meaning, and the rest follows it
+-- the bits begin with the code of some entry that has this meaning, and the rest follows it (T.4, section 4.1.1)
 pub record Takes {M : Type 0} (table : List (CodeEntry M)) (b : List Bool) (meaning : M) (rest : List Bool) : Type 0 where
   pub entry : CodeEntry M
   pub listed : Contains table entry
   pub means : entry.meaning ≡ meaning
   pub spelled : b ≡ bits_of entry ++ rest
 
--- the code begins the bits
+-- the code begins the bits (T.4, section 4.1.1)
 abbrev pub IsCodeAhead : List Bool → List Bool → Type 0
 IsCodeAhead code b = (rest : List Bool) × (b ≡ code ++ rest)
 
--- the bits begin the code, and are not all of it
+-- the bits begin the code, and are not all of it (T.4, section 4.1.1)
 abbrev pub IsCutBy : List Bool → List Bool → Type 0
 IsCutBy code b = (missing : Bool) × (more : List Bool) × (b ++ missing ∷ more ≡ code)
 
--- no code of the table begins the bits
+-- no code of the table begins the bits (T.4, section 4.1.1)
 abbrev pub HasNoCode : {M : Type 0} → List (CodeEntry M) → List Bool → Type 0
 HasNoCode {M} table b = (entry : CodeEntry M) → Contains table entry → IsCodeAhead (bits_of entry) b → ⊥
 
--- the bits begin some code of the table, and are not all of it
+-- the bits begin some code of the table, and are not all of it (T.4, section 4.1.1)
 abbrev pub IsCutShort : {M : Type 0} → List (CodeEntry M) → List Bool → Type 0
 IsCutShort {M} table b = (entry : CodeEntry M) × Contains table entry × IsCutBy (bits_of entry) b
 
@@ -37,7 +37,7 @@ abbrev pub IsFaultOf : {M : Type 0} → List (CodeEntry M) → List Bool → Cod
 IsFaultOf table b DataEnds = HasNoCode table b × IsCutShort table b
 IsFaultOf table b BadCode = HasNoCode table b × (IsCutShort table b → ⊥)
 
--- the bits are the codes of these meanings, one after another, and the rest follows them
+-- the bits are the codes of these meanings, one after another, and the rest follows them (T.4, section 4.1.1)
 abbrev pub Spells : {M : Type 0} → List (CodeEntry M) → List Bool → List M → List Bool → Type 0
 Spells table b [] rest = b ≡ rest
 Spells table b (meaning ∷ meanings) rest =

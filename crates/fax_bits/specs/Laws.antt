@@ -32,7 +32,7 @@ abbrev pub HasOneFault : {M : Type 0} → List (CodeEntry M) → Type 0
 HasOneFault table =
     (b : List Bool) (fault other : CodeFault) → IsFaultOf table b fault → IsFaultOf table b other → fault ≡ other
 
--- bits are read by a table in one way: one code and one rest, or one fault
+-- bits are read by a table in one way: one code and one rest, or one fault (T.4, tables 2, 3a, 3b and 4)
 pub record ReadsOneWay {M : Type 0} (table : List (CodeEntry M)) : Type 0 where
   pub takes_one : TakesOne table
   pub takes_bits : TakesBits table

@@ -6,6 +6,7 @@ use Rattle.fax_bits.specs.Tables.{run_table}
 use Rattle.fax_bits.specs.Codes.{Spells}
 
 -- the bits begin with a run of n pels: any number of make-up codes, in any order, then one terminating code
+-- (T.4, section 4.1.1)
 pub record IsRun (colour : Colour) (b : List Bool) (n : ℕ) (rest : List Bool) : Type 0 where
   pub make_up : List ℕ
   pub last : ℕ

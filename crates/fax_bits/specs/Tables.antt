@@ -9,19 +9,20 @@ use Rattle.fax_bits.specs.declared.modes.ModeCode.TheVariants.{Pass, Horizontal,
 use Rattle.fax_bits.specs.declared.runs.RunCode.{RunCode}
 use Rattle.fax_bits.specs.declared.runs.RunCode.TheVariants.{Terminating, MakeUp, Extension}
 
--- the number that binary digits spell, the highest first (48 is the digit 0)
+-- the number that binary digits spell, the highest first (48 is the digit 0) (T.4, tables 2, 3a, 3b and 4)
 abbrev pub binary : List ℕ → ℕ
 binary digits = fold (λ number digit. 2 * number + (digit - 48)) 0 digits
 
--- the code that these binary digits spell, with its meaning
+-- the code that these binary digits spell, with its meaning (T.4, tables 2, 3a, 3b and 4)
 abbrev pub entry : {M : Type 0} → List ℕ → M → CodeEntry M
 entry digits meaning = record { code = binary digits; len = length digits; meaning = meaning }
 
--- the codes that a text spells, parted by single blanks
+-- the codes that a text spells, parted by single blanks (T.4, tables 2, 3a, 3b and 4)
 abbrev pub written : List ℕ → List (List ℕ)
 written text = slice_split (λ character. character == 32) text
 
 -- entries for these codes, whose meanings are at first, first + step, first + 2 * step and so on
+-- (T.4, tables 2, 3a and 3b)
 abbrev pub numbered : {M : Type 0} → (ℕ → M) → ℕ → ℕ → List (List ℕ) → List (CodeEntry M)
 numbered meaning first step [] = []
 numbered meaning first step (digits ∷ more) =
@@ -107,12 +108,12 @@ black_runs =
     ++ numbered MakeUp 1792 64 common_make_up
     ++ run_extension
 
--- what the code at a place of a run table means
+-- what the code at a place of a run table means (T.4, tables 2, 3a and 3b)
 abbrev pub run_meaning : ℕ → RunCode
 run_meaning i =
     if nat_lt i 64 then Terminating i else (if nat_lt i 104 then MakeUp (64 * (i - 63)) else Extension)
 
--- the codes of runs of a colour
+-- the codes of runs of a colour (T.4, tables 2, 3a and 3b)
 abbrev pub run_table : Colour → List (CodeEntry RunCode)
 run_table White = white_runs
 run_table Black = black_runs

@@ -28,7 +28,7 @@ entry_count endian file q = number_at endian 2 file q
 abbrev pub is_directory : Endian → List ℕ → ℕ → Bool
 is_directory endian file q = is_inside file q 2 && is_inside file q (6 + 12 * entry_count endian file q)
 
--- the same as a fact
+-- the same as a fact (TIFF 6.0, section 2)
 abbrev pub IsWholeDirectory : Endian → List ℕ → ℕ → Type 0
 IsWholeDirectory endian file q = q + (6 + 12 * entry_count endian file q) ≤ length file
 
@@ -48,6 +48,7 @@ field fields tag = find (λ entry. entry.tag == tag) fields
 abbrev pub SHORT : ℕ
 SHORT = 3
 
+-- the type LONG (this project's profile)
 abbrev pub LONG : ℕ
 LONG = 4
 

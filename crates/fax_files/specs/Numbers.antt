@@ -9,16 +9,16 @@ pub data Endian : Type 0 where
   little_endian : Endian
   big_endian : Endian
 
--- the number that the first n bytes spell
+-- the number that the first n bytes spell (TIFF 6.0, section 2)
 abbrev pub number : Endian → ℕ → List ℕ → ℕ
 number little_endian n bytes = little_number n bytes
 number big_endian n bytes = big_number n bytes
 
--- the n bytes from a place on lie in the file
+-- the n bytes from a place on lie in the file (TIFF 6.0, section 2)
 abbrev pub is_inside : List ℕ → ℕ → ℕ → Bool
 is_inside file place n = nat_le (place + n) (length file)
 
--- the number of n bytes at a place that lies in the file
+-- the number of n bytes at a place that lies in the file (TIFF 6.0, section 2)
 unfoldable pub number_at : Endian → ℕ → List ℕ → ℕ → ℕ
 number_at endian n file place = number endian n (drop place file)
 
@@ -28,7 +28,7 @@ abbrev pub ◌>>=◌ : {A B : Type 0} → Result A FileFault → (A → Result B
 (Ok x) >>= next = next x
 (Err fault) >>= next = Err fault
 
--- goes on where the test holds, and else ends with the fault
+-- goes on where the test holds, and else ends with the fault (this project's profile)
 abbrev pub check : Bool → FileFault → Result (Unit {0}) FileFault
 check test fault = if test then (Ok tt) else (Err fault)
 

@@ -10,7 +10,7 @@ use Rattle.fax_files.specs.declared.entries.Entry.{Entry}
 use Rattle.fax_files.specs.Numbers.{Endian, check, ◌>>=◌}
 use Rattle.fax_files.specs.Directory.{entries, has_integers, needed, needed_scalar, scalar_or}
 
--- the number lies between these two
+-- the number lies between these two (this project's profile)
 abbrev pub is_between : ℕ → ℕ → ℕ → Bool
 is_between low high n = nat_le low n && nat_le n high
 
@@ -58,6 +58,7 @@ abbrev pub strip_count : ℕ → ℕ → ℕ
 strip_count rows rows_per_strip = div_ceil rows rows_per_strip
 
 -- T4Options: bit 0, which stands for two-dimensional rows, is not read yet; the others are ignored
+-- (TIFF 6.0, T4Options)
 unfoldable pub t4_options : Endian → List ℕ → List Entry → Result (Unit {0}) FileFault
 t4_options endian file fields = do
   options ← scalar_or endian file fields 292 0

@@ -4,11 +4,12 @@ use Rattle.fax_files.specs.declared.entries.Entry.{Entry}
 use Rattle.fax_files.specs.Numbers.{Endian, is_inside}
 use Rattle.fax_files.specs.Directory.{entries, field, value_at}
 
--- the bytes of a length at an offset, where they lie in the file
+-- the bytes of a length at an offset, where they lie in the file (TIFF 6.0, StripOffsets and StripByteCounts)
 abbrev pub bytes_at : List ℕ → ℕ → ℕ → Option (List ℕ)
 bytes_at file offset len = if is_inside file offset len then (Some (take len (drop offset file))) else None
 
 -- the bytes of strip s, where there are entries for the strips' offsets and byte counts
+-- (TIFF 6.0, StripOffsets and StripByteCounts)
 abbrev pub placed_bytes : Endian → List ℕ → Option Entry → Option Entry → ℕ → Option (List ℕ)
 placed_bytes endian file (Some offsets) (Some counts) s = bytes_at file (value_at endian file offsets s) (value_at endian file counts s)
 placed_bytes endian file _ _ s = None

@@ -32,6 +32,7 @@ IsOneFault width =
     → IsOneDimensionalFault width b fault → IsOneDimensionalFault width b another → fault ≡ another
 
 -- bits are read in one way as a row of the width in one-dimensional coding: one row and one rest, or one fault
+-- (this project's profile)
 pub record ReadsRowsOneWay (width : ℕ) : Type 0 where
   pub one_row : IsOneRow width
   pub row_or_fault : IsRowOrFault width

@@ -4,44 +4,46 @@ use Rattle.std.specs.Io.KnownBytes.{Appends, Consumes, IsAtEnd, Keeps}
 use Rattle.fax_tool.specs.declared.streams.StreamFault.{StreamFault}
 use Rattle.fax_tool.specs.declared.streams.StreamFault.TheVariants.{Interrupted, Failed}
 
--- how many calls on a stream were interrupted, and how many failed
+-- how many calls on a stream were interrupted, and how many failed (this project's profile)
 pub record Counts : Type 0 where
   pub interrupted : ℕ
   pub failed : ℕ
 
+-- the counts of so many interrupted and failed calls (this project's profile)
 abbrev pub counts_of : ℕ → ℕ → Counts
 counts_of interrupted failed = record { interrupted = interrupted; failed = failed }
 
--- no call was interrupted, and none failed
+-- no call was interrupted, and none failed (this project's profile)
 abbrev pub no_faults : Counts
 no_faults = counts_of 0 0
 
--- a sum that stays at the greatest number of 64 bits
+-- a sum that stays at the greatest number of 64 bits (this project's profile)
 abbrev pub capped_sum : ℕ → ℕ → ℕ
 capped_sum n more = min (n + more) (2 ^ 64 - 1)
 
--- the counts behind a call with this answer
+-- the counts behind a call with this answer (this project's profile)
 abbrev pub counts_after : Result ℕ StreamFault → Counts → Counts
 counts_after (Ok n) counts = counts
 counts_after (Err Interrupted) counts = counts_of (capped_sum counts.interrupted 1) counts.failed
 counts_after (Err Failed) counts = counts_of counts.interrupted (capped_sum counts.failed 1)
 
--- the count of bytes taken behind a call with this answer
+-- the count of bytes taken behind a call with this answer (this project's profile)
 abbrev pub taken_after : Result ℕ StreamFault → ℕ → ℕ
 taken_after (Ok n) taken = capped_sum taken n
 taken_after (Err fault) taken = taken
 
--- known bytes stay as they were, or are no longer known
+-- known bytes stay as they were, or are no longer known (this project's profile)
 abbrev pub KeepsOrForgets : Option (List ℕ) → Option (List ℕ) → Type 0
 KeepsOrForgets known None = ⊤
 KeepsOrForgets known (Some bytes) = Keeps known (Some bytes)
 
 -- what a source has left behind a call: the bytes behind those that now stand at the buffer's front
+-- (this project's profile)
 abbrev pub TakesBytes : Option (List ℕ) → Option (List ℕ) → Result ℕ StreamFault → List ℕ → Type 0
 TakesBytes old new (Ok n) buffer = Consumes old new (take n buffer) × (n ≡ 0 → 0 < length buffer → IsAtEnd new)
 TakesBytes old new (Err fault) buffer = KeepsOrForgets old new
 
--- what a sink holds behind a call: the bytes that it took at its end
+-- what a sink holds behind a call: the bytes that it took at its end (this project's profile)
 abbrev pub GivesBytes : Option (List ℕ) → Option (List ℕ) → Result ℕ StreamFault → List ℕ → Type 0
 GivesBytes old new (Ok n) bytes = Appends old new (take n bytes)
 GivesBytes old new (Err fault) bytes = Keeps old new

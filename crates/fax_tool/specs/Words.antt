@@ -3,7 +3,7 @@ use Rattle.std.specs.Prelude.{ℕ, List, ◌++◌, codes}
 use Rattle.fax_tool.specs.declared.words.WordsFault.{WordsFault}
 use Rattle.fax_tool.specs.declared.words.WordsFault.TheVariants.{Usage, Memory}
 
--- the four lines of the usage
+-- the four lines of the usage (this project's profile)
 abbrev pub usage_text : List ℕ
 usage_text =
     codes "usage: faxpages list [--cursor C] [--max N] [FILE]\n"
@@ -11,12 +11,12 @@ usage_text =
     ++ codes "       faxpages convert -o pbm|mh|mr|mmr [--order 1|2] [--k K] [--strip ROWS] [FILE]\n"
     ++ codes "       faxpages check [FILE]\n"
 
--- the text for the error stream
+-- the text for the error stream (this project's profile)
 abbrev pub words_text : WordsFault → List ℕ
 words_text Usage = usage_text
 words_text Memory = codes "fault: Memory\n"
 
--- the program's status
+-- the program's status (this project's profile)
 abbrev pub words_status : WordsFault → ℕ
 words_status Usage = 2
 words_status Memory = 3

@@ -73,7 +73,8 @@ fn print_rows<W: Sink>(
 ) -> Result<End, Refusal>
     requires counts { W.counts out.old ≡ no_faults }
     ensures printed { IfOk result (PrintsAllRows walk.old walk.new
-        (append_known (W.written out.old) (string_bytes text.old)) (append_known (W.written out.new) (string_bytes text.new))) }
+        (append_known (W.written out.old) (string_bytes text.old))
+        (append_known (W.written out.new) (string_bytes text.new))) }
     ensures no_fault { OnOk result (W.counts out.new ≡ no_faults) }
     ensures reason { IfErr result (λ refusal. HasReason refusal no_faults 0 (W.counts out.new)) }
 {
@@ -100,9 +101,12 @@ pub fn rows<R: Source, W: Sink>(alloc: Global, input: &mut R, out: &mut W) -> Re
     requires input_counts { R.counts input.old ≡ no_faults }
     requires taken { R.taken input.old ≡ 0 }
     requires counts { W.counts out.old ≡ no_faults }
-    ensures printed { IfOk result (λ end. IfSome (R.left input.old) (λ file. (items : List Item) × AreItems file items end
-        × Appends (W.written out.old) (W.written out.new) (row_lines items ++ last_line end (last_cursor start items)))) }
-    ensures reason { IfErr result (λ refusal. HasReason refusal (R.counts input.new) (R.taken input.new) (W.counts out.new)) }
+    ensures printed { IfOk result (λ end. IfSome (R.left input.old) (λ file.
+        (items : List Item) × AreItems file items end
+        × Appends (W.written out.old) (W.written out.new)
+        (row_lines items ++ last_line end (last_cursor start items)))) }
+    ensures reason { IfErr result (λ refusal.
+        HasReason refusal (R.counts input.new) (R.taken input.new) (W.counts out.new)) }
 {
     let mut text = empty_text(alloc)?;
     let file = read_whole(alloc, input)?;

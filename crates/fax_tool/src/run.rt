@@ -63,8 +63,14 @@ pub fn run<R: Source, W: Sink, E: Sink>(
     requires output_counts { W.counts out.old ≡ no_faults }
     requires error_counts { E.counts err.old ≡ no_faults }
     ensures status { IsStatus result }
-    ensures printed { result < 3 → PrintsRows (R.left input.old) (W.written out.old) (W.written out.new) (E.written err.old) (E.written err.new) result }
-    ensures refused { result ≡ 3 → SaysRefusal (R.counts input.new) (R.taken input.new) (W.counts out.new) (E.counts err.new) (E.written err.old) (E.written err.new) }
+
+    // What was done is the text of the input's rows and of their end.
+    ensures printed { result < 3 → PrintsRows (R.left input.old) (W.written out.old) (W.written out.new)
+        (E.written err.old) (E.written err.new) result }
+
+    // What was refused was refused for a reason that the streams' counts show.
+    ensures refused { result ≡ 3 → SaysRefusal (R.counts input.new) (R.taken input.new) (W.counts out.new)
+        (E.counts err.new) (E.written err.old) (E.written err.new) }
 {
     let ending = match job.command {
         Command::Rows => rows(alloc, input, out),

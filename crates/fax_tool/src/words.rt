@@ -32,6 +32,14 @@ pub enum WordsFault {
     Memory,
 }
 
+/// The four lines of the usage: all commands, also those that are not built yet.
+const USAGE: &str = "\
+usage: faxpages list [--cursor C] [--max N] [FILE]
+       faxpages rows [--cursor C] [--max N] [FILE]
+       faxpages convert -o pbm|mh|mr|mmr [--order 1|2] [--k K] [--strip ROWS] [FILE]
+       faxpages check [FILE]
+";
+
 impl WordsFault {
     /// The text for the error stream, with its line ends, and the program's status.
     pub fn text(&self) -> (&'static str, u8)
@@ -39,10 +47,7 @@ impl WordsFault {
         ensures status { result.1 ≡ words_status self.now }
     {
         match self {
-            WordsFault::Usage => (
-                "usage: faxpages list [--cursor C] [--max N] [FILE]\n       faxpages rows [--cursor C] [--max N] [FILE]\n       faxpages convert -o pbm|mh|mr|mmr [--order 1|2] [--k K] [--strip ROWS] [FILE]\n       faxpages check [FILE]\n",
-                2,
-            ),
+            WordsFault::Usage => (USAGE, 2),
             WordsFault::Memory => ("fault: Memory\n", 3),
         }
     }

@@ -2,10 +2,10 @@
 use Rattle.std.specs.Prelude.{ℕ, List, ◌++◌, codes, decimal}
 use Rattle.fax_walk.specs.declared.cursor.Cursor.{Cursor}
 
--- a cursor's text: `1:P:R`
+-- a cursor's text: `1:P:R` (this project's profile)
 abbrev pub cursor_text : Cursor → List ℕ
 cursor_text at = codes "1:" ++ decimal at.page ++ codes ":" ++ decimal at.row
 
--- the cursor before the first row
+-- the cursor before the first row (this project's profile)
 abbrev pub start : Cursor
 start = record { page = 0; row = 0 }

@@ -94,7 +94,8 @@ fn first_page<'a>(file: &'a [u8]) -> Result<FirstPage<'a>, FileFault>
 /// The first page of a file, with its first row due.
 fn open_page<'a>(alloc: Global, file: &'a [u8]) -> Result<OpenPage<'a>, OpenFault>
     ensures ok { IfOk result (λ page. IsOpen page 0) }
-    ensures items { IfOk result (λ page. (items : List Item) (end : End) → IsDueOnPage page items end → AreItems file.now items end) }
+    ensures items { IfOk result (λ page. (items : List Item) (end : End)
+        → IsDueOnPage page items end → AreItems file.now items end) }
     ensures refused { IfErr result (IsRefusal file.now) }
 {
     match first_page(file) {
