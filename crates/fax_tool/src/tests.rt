@@ -57,6 +57,8 @@ const FILL_ORDER: usize = 94;
 
 const ROWS_PER_STRIP: usize = 130;
 
+const STRIP_OFFSETS: usize = 106;
+
 const BYTE_COUNTS_TAG: usize = 134;
 
 const BYTE_COUNTS: usize = 142;
@@ -361,6 +363,66 @@ static CUTS: [(usize, &str); 7] = [
 fn prints_rows_or_names_the_fault(rt: HostRuntime) -> Result<(), Fail> {
     for case in &CASES {
         let file = changed(rt.alloc(), case.changes, ONE_MH_PAGE.len())?;
+        let printed = rows_of(rt.alloc(), &file);
+        let name = case.name;
+        assert_eq!(rt;
+            printed.output.as_slice(),
+            case.output.as_bytes(),
+            "output of {name}"
+        );
+        assert_eq!(rt;
+            printed.error.as_slice(),
+            case.error.as_bytes(),
+            "error line of {name}"
+        );
+        assert_eq!(rt; printed.status, case.status, "status of {name}");
+    }
+    Ok(())
+}
+
+/// A run on the file with another strip, which stands behind it.
+struct StripCase {
+    name: &'static str,
+    strip: &'static [u8],
+    output: &'static str,
+    error: &'static str,
+    status: u8,
+}
+
+static STRIP_CASES: [StripCase; 3] = [
+    StripCase {
+        name: "a return to control where a row is due",
+        strip: &[0x00, 0x10, 0x01, 0x00, 0x10, 0x01, 0x00, 0x10, 0x01],
+        output: "next 1:0:0\n",
+        error: "fault page 0 row 0: EndMarker\n",
+        status: 1,
+    },
+    StripCase {
+        name: "a row, and then a return to control",
+        strip: &[
+            0x00, 0x18, 0xe0, 0x00, 0x40, 0x04, 0x00, 0x40, 0x04, 0x00, 0x40, 0x04,
+        ],
+        output: "row 0 0 3 2 3\nend\n",
+        error: "",
+        status: 0,
+    },
+    StripCase {
+        name: "an empty strip",
+        strip: &[],
+        output: "next 1:0:0\n",
+        error: "fault page 0 row 0: DataEnds\n",
+        status: 1,
+    },
+];
+
+#[test]
+fn reads_a_strip_behind_the_directory(rt: HostRuntime) -> Result<(), Fail> {
+    for case in &STRIP_CASES {
+        let mut file = ONE_MH_PAGE.to_vec(rt.alloc())?;
+        file.extend_from_slice(case.strip)?;
+        assert!(rt; file.len() > BYTE_COUNTS && case.strip.len() < 256);
+        file[STRIP_OFFSETS] = 226;
+        file[BYTE_COUNTS] = case.strip.len() as u8;
         let printed = rows_of(rt.alloc(), &file);
         let name = case.name;
         assert_eq!(rt;
