@@ -1,5 +1,6 @@
 pub mod Bits
 pub mod Source
+pub mod Sink
 pub mod Codes
 pub mod Meeting
 pub mod Tables
