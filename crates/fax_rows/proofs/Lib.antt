@@ -3,3 +3,4 @@ pub mod RowLemmas
 pub mod RowRunLemmas
 pub mod RunLaws
 pub mod RowLaws
+pub mod ChangeLemmas

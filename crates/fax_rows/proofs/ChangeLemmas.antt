@@ -1,0 +1,180 @@
+-- Changing elements: where the next one stands, and the pels before it.
+use Rattle.std.proofs.Common.{◌≡◌, ◌≢◌, ℕ, zero, suc, ◌+◌, ◌-◌, ◌<◌, ◌≤◌, List, [], ◌∷◌, ◌++◌, length, take, get_or, replicate, Bool, true, false, not, refl, ap, sym, ◌∙◌, subst, arith, inl, inr}
+use Rattle.std.specs.Prelude.{◌&&◌, ◌⊎◌, nat_lt, Option, Some, None, unwrap_or}
+use Rattle.std.proofs.lemmas.Bool.{cases_lt, ltb-true, lt-ltb}
+use Rattle.std.proofs.Math.Nat.{eq-or-lt_of_le}
+use Rattle.fax_bits.specs.declared.Colour.{Colour}
+use Rattle.fax_bits.specs.declared.Colour.TheVariants.{White, Black}
+use Rattle.fax_rows.specs.Elements.{other, same_colour, pel, pel_before, is_changing, is_right_of, first_place, next_change, next_of, HasWidth}
+use Rattle.fax_rows.specs.Coded.{colour_of}
+
+-- the first of n places from i on that passes the test
+pub record IsFirstPlace (test : ℕ → Bool) (i n place : ℕ) : Type 0 where
+  pub from : i ≤ place
+  pub within : place ≤ i + n
+  pub before : (k : ℕ) → i ≤ k → k < place → test k ≡ false
+  pub there : place < i + n → test place ≡ true
+
+-- one more place before the others
+first_place_more : (test : ℕ → Bool) (i n : ℕ) (passes : Bool) → test i ≡ passes
+    → IsFirstPlace test (i + 1) n (first_place test (i + 1) n) → IsFirstPlace test i (suc n) (first_place test i (suc n))
+unfolding first_place
+first_place_more test i n true is more = rw is record {
+  from = omega arith;
+  within = omega arith;
+  before = λ k h l. absurd (omega arith);
+  there = λ h. is;
+}
+first_place_more test i n false is more = rw is record {
+  from = omega (arith, more.from);
+  within = omega (arith, more.within);
+  before = λ k h l. elim (eq-or-lt_of_le h) [
+    | inl same ↦ subst (λ j. test j ≡ false) same is
+    | inr less ↦ more.before k (omega arith) l
+  ];
+  there = λ h. more.there (omega arith);
+}
+
+pub first_place_is : (test : ℕ → Bool) (i n : ℕ) → IsFirstPlace test i n (first_place test i n)
+unfolding first_place
+first_place_is test i zero = record {
+  from = omega arith;
+  within = omega arith;
+  before = λ k h l. absurd (omega arith);
+  there = λ h. absurd (omega arith);
+}
+first_place_is test i (suc n) = first_place_more test i n (test i) refl (first_place_is test (i + 1) n)
+
+-- there is only one
+pub first_place_one : (test : ℕ → Bool) (i n p q : ℕ) → IsFirstPlace test i n p → IsFirstPlace test i n q → p ≡ q
+first_place_one test i n p q first second = by (cases_lt p q) (cases_lt q p)
+  where
+    by : (p < q) ⊎ (q ≤ p) → (q < p) ⊎ (p ≤ q) → p ≡ q
+    by (inl less) more =
+        absurd (cc (second.before p first.from less, first.there (omega (arith, second.within))))
+    by (inr at) (inl less) =
+        absurd (cc (first.before q second.from less, second.there (omega (arith, first.within))))
+    by (inr at) (inr below) = omega arith
+
+-- the first place that passes the first test, among those that pass the second
+abbrev pub ChangeTest : List Colour → Option ℕ → ℕ → Bool
+ChangeTest row from i = is_right_of from i && is_changing row i
+
+-- where the next changing element right of a place stands
+pub record IsNextChange (row : List Colour) (from : Option ℕ) (place : ℕ) : Type 0 where
+  pub within : place ≤ length row
+  pub before : (k : ℕ) → k < place → is_right_of from k ≡ true → is_changing row k ≡ false
+  pub right : place < length row → is_right_of from place ≡ true
+  pub there : place < length row → is_changing row place ≡ true
+
+both_false : (a b : Bool) → (a && b) ≡ false → a ≡ true → b ≡ false
+both_false true b h is = h
+both_false false b h is = cc
+
+both_true : (a b : Bool) → (a && b) ≡ true → (a ≡ true) × (b ≡ true)
+both_true true b h = (refl, h)
+both_true false b h = cc
+
+pub next_change_is : (row : List Colour) (from : Option ℕ) → IsNextChange row from (next_change row from)
+unfolding next_change
+next_change_is row from =
+    let first = first_place_is (ChangeTest row from) 0 (length row) in
+    record {
+      within = omega (arith, first.within);
+      before = λ k h l. both_false (is_right_of from k) (is_changing row k) (first.before k (omega arith) h) l;
+      right = λ h. (both_true (is_right_of from _) (is_changing row _) (first.there (omega arith))).0;
+      there = λ h. (both_true (is_right_of from _) (is_changing row _) (first.there (omega arith))).1;
+    }
+
+-- the colour before a pel that is not a changing element is its own
+not_changing : (a b : Colour) → not (same_colour a b) ≡ false → a ≡ b
+not_changing White White h = refl
+not_changing Black Black h = refl
+not_changing White Black h = cc
+not_changing Black White h = cc
+
+changing : (a b : Colour) → not (same_colour a b) ≡ true → a ≡ other b
+changing White White h = cc
+changing Black Black h = cc
+changing White Black h = refl
+changing Black White h = refl
+
+-- up to the next changing element the pel before each has the colour
+pub colour_before : (row : List Colour) (from : Option ℕ) (place : ℕ) → IsNextChange row from place
+    → (k : ℕ) → k ≤ place → is_right_of from k ≡ true → pel_before row k ≡ colour_of row from
+colour_before row None place next zero within right = refl
+colour_before row None place next (suc k) within right =
+    not_changing (pel row k) (pel_before row k) (next.before k (omega arith) refl)
+    ∙ colour_before row None place next k (omega arith) refl
+colour_before row (Some a) place next zero within right = absurd (omega (arith, ltb-true a 0 right))
+colour_before row (Some a) place next (suc k) within right =
+    elim (eq-or-lt_of_le at_most) [
+      | inl same ↦ ap (λ i. pel row i) (sym same)
+      | inr less ↦
+          not_changing (pel row k) (pel_before row k) (next.before k (omega arith) (lt-ltb a k less))
+          ∙ colour_before row (Some a) place next k (omega arith) (lt-ltb a k less)
+    ]
+  where
+    at_most : a ≤ k
+    at_most = omega (arith, ltb-true a (suc k) right)
+
+-- where a0 stands as a number of pels: those before it are written
+abbrev pub first_of : Option ℕ → ℕ
+first_of from = unwrap_or from 0
+
+right_behind : (from : Option ℕ) (k : ℕ) → first_of from ≤ k → is_right_of from (suc k) ≡ true
+right_behind None k h = refl
+right_behind (Some a) k h = lt-ltb a (suc k) (omega arith)
+
+-- the pels from a place up to the next changing element have one colour
+pub colour_up_to : (row : List Colour) (from : Option ℕ) (place : ℕ) → IsNextChange row from place
+    → (k : ℕ) → first_of from ≤ k → k < place → pel row k ≡ colour_of row from
+colour_up_to row from place next k behind before =
+    colour_before row from place next (suc k) (omega arith) (right_behind from k behind)
+
+-- and the changing element has the other
+pub colour_at : (row : List Colour) (from : Option ℕ) (place : ℕ) → IsNextChange row from place
+    → place < length row → pel row place ≡ other (colour_of row from)
+colour_at row from place next inside =
+    changing (pel row place) (pel_before row place) (next.there inside)
+    ∙ ap other (colour_before row from place next place (omega arith) (next.right inside))
+
+-- the next changing element is not left of the place
+pub next_is_ahead : (row : List Colour) (from : Option ℕ) (place : ℕ) → IsNextChange row from place
+    → first_of from ≤ length row → first_of from ≤ place
+next_is_ahead row None place next within = omega arith
+next_is_ahead row (Some a) place next within =
+    elim (cases_lt place (length row)) [
+      | inl inside ↦ omega (arith, ltb-true a place (next.right inside))
+      | inr over ↦ omega arith
+    ]
+
+-- and inside the row it is right of it
+pub next_is_right : (row : List Colour) (a place : ℕ) → IsNextChange row (Some a) place → a < length row → a < place
+next_is_right row a place next within =
+    elim (cases_lt place (length row)) [
+      | inl inside ↦ ltb-true a place (next.right inside)
+      | inr over ↦ omega arith
+    ]
+
+-- pels of one colour
+replicate_pels : (row : List Colour) (n : ℕ) (colour : Colour) → n ≤ length row
+    → ((k : ℕ) → k < n → pel row k ≡ colour) → replicate n colour ≡ take n row
+replicate_pels row zero colour within each = refl
+replicate_pels [] (suc n) colour within each = absurd (omega arith)
+replicate_pels (first ∷ row) (suc n) colour within each =
+    let here : first ≡ colour = each zero (omega arith) in
+    let more = replicate_pels row n colour (omega arith) (λ k h. each (suc k) (omega arith)) in
+    cc
+
+-- the pels before `to` are those before `from` and a run
+pub pels_up_to : (row : List Colour) (from to : ℕ) (colour : Colour) → from ≤ to → to ≤ length row
+    → ((k : ℕ) → from ≤ k → k < to → pel row k ≡ colour) → take from row ++ replicate (to - from) colour ≡ take to row
+pels_up_to row zero to colour order within each =
+    let all : to - zero ≡ to = omega arith in
+    rw all (replicate_pels row to colour within (λ k h. each k (omega arith) h))
+pels_up_to [] (suc from) to colour order within each = absurd (omega arith)
+pels_up_to (first ∷ row) (suc from) zero colour order within each = absurd (omega arith)
+pels_up_to (first ∷ row) (suc from) (suc to) colour order within each =
+    let same : suc to - suc from ≡ to - from = omega arith in
+    rw same (ap (λ pels. first ∷ pels) (pels_up_to row from to colour (omega arith) (omega arith) (λ k h l. each (suc k) (omega arith) (omega arith))))
