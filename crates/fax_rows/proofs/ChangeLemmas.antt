@@ -178,3 +178,16 @@ pels_up_to (first ∷ row) (suc from) zero colour order within each = absurd (om
 pels_up_to (first ∷ row) (suc from) (suc to) colour order within each =
     let same : suc to - suc from ≡ to - from = omega arith in
     rw same (ap (λ pels. first ∷ pels) (pels_up_to row from to colour (omega arith) (omega arith) (λ k h l. each (suc k) (omega arith) (omega arith))))
+
+-- the next changing element of another colour lies in the row or is its width, right of the place
+pub next_of_within : (row : List Colour) (from : Option ℕ) (colour : Colour) → next_of row from colour ≤ length row
+unfolding next_of
+next_of_within row from colour =
+    omega (arith, (first_place_is (λ i. is_right_of from i && (is_changing row i && not (same_colour (pel row i) colour))) 0 (length row)).within)
+
+pub next_of_right : (row : List Colour) (from : Option ℕ) (colour : Colour) → next_of row from colour < length row
+    → is_right_of from (next_of row from colour) ≡ true
+unfolding next_of
+next_of_right row from colour inside =
+    let first = first_place_is (λ i. is_right_of from i && (is_changing row i && not (same_colour (pel row i) colour))) 0 (length row) in
+    (both_true (is_right_of from _) _ (first.there (omega arith))).0

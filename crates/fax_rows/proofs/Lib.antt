@@ -4,3 +4,6 @@ pub mod RowRunLemmas
 pub mod RunLaws
 pub mod RowLaws
 pub mod ChangeLemmas
+pub mod ChoiceLemmas
+pub mod WrittenLemmas
+pub mod StepLaws

@@ -15,7 +15,7 @@ use Rattle.fax_rows.specs.Laws.{ReadsRowsOneWay}
 use Rattle.fax_rows.specs.OneDimensional.{AreRuns, IsOneDimensionalRow}
 use Rattle.fax_rows.proofs.RunLaws.{sum-cons, same_run, run_has_no_fault, same_run_fault, run_or_fault}
 
-length-pels_of : (colour : Colour) (runs : List ℕ) → length (pels_of colour runs) ≡ sum runs
+pub length-pels_of : (colour : Colour) (runs : List ℕ) → length (pels_of colour runs) ≡ sum runs
 length-pels_of colour [] = refl
 length-pels_of colour (n ∷ runs) =
     omega (arith, length-append (replicate n colour) (pels_of (other colour) runs), length-replicate n colour, length-pels_of (other colour) runs, sum-cons n runs)

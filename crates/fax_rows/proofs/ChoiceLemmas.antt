@@ -1,0 +1,210 @@
+-- The step that T.4 chooses is a step to the place that it leads to.
+use Rattle.std.proofs.Common.{◌≡◌, ◌≢◌, ℕ, zero, suc, ◌+◌, ◌-◌, ◌^◌, ◌<◌, ◌≤◌, List, [], ◌∷◌, ◌++◌, length, take, replicate, Bool, true, false, refl, ap, sym, ◌∙◌, subst, arith, inl, inr, append_assoc}
+use Rattle.std.specs.Prelude.{ℤ, pos, negsuc, ◌-ℤ◌, ◌+ℤ◌, ◌<ℤ◌, ◌≤ℤ◌, nat_abs, nat_lt, nat_le, if◌then◌else◌, Option, Some, None, unwrap_or}
+use Rattle.std.proofs.lemmas.Bool.{cases_lt, ltb-true, ltb-false, lt-ltb}
+use Rattle.std.proofs.lemmas.Bool.Decides.{nat_tests}
+use Rattle.std.proofs.lemmas.Int.{ints}
+use Rattle.fax_bits.specs.declared.Colour.{Colour}
+use Rattle.fax_bits.specs.declared.Colour.TheVariants.{White, Black}
+use Rattle.fax_bits.specs.declared.modes.ModeCode.{ModeCode}
+use Rattle.fax_bits.specs.declared.modes.ModeCode.TheVariants.{Pass, Horizontal, Vertical, Extension}
+use Rattle.fax_bits.specs.Runs.{IsRun, run_bits}
+use Rattle.fax_rows.specs.Elements.{other, pel, next_change, next_of, is_right_of, b1, b2, HasWidth}
+use Rattle.fax_rows.specs.Coded.{Places, places, colour_of, chosen_mode, run_pair_bits, next_a0}
+use Rattle.fax_rows.specs.TwoDimensional.{Position, IsStepBy, IsVerticalStep, IsHorizontalStep, IsInRow, a0_number}
+use Rattle.fax_rows.proofs.ChangeLemmas.{IsNextChange, next_change_is, colour_up_to, colour_at, next_is_ahead, next_is_right, pels_up_to, first_of, next_of_within, next_of_right}
+
+-- the position at a place of a row
+abbrev pub here : List Colour → Option ℕ → Colour → Position
+here row a0 colour = record { a0 = a0; colour = colour; pels = take (first_of a0) row }
+
+-- how many places the start of a step has passed: 0 just before the first pel
+abbrev pub passed : Option ℕ → ℕ
+passed None = 0
+passed (Some a) = suc a
+
+-- a0's colour behind a step
+abbrev pub colour_after : ModeCode → Colour → Colour
+colour_after (Vertical d) colour = other colour
+colour_after _ colour = colour
+
+-- the modes that are written
+abbrev pub IsChoice : ModeCode → Type 0
+IsChoice Pass = Unit {0}
+IsChoice Horizontal = Unit {0}
+IsChoice (Vertical d) = nat_abs d ≤ 3
+IsChoice Extension = ⊥
+
+-- the mode makes a step from a0, with these bits behind its code
+pub record IsChosen (reference row : List Colour) (a0 : Option ℕ) (rest : List Bool) (mode : ModeCode) : Type 0 where
+  pub choice : IsChoice mode
+  pub step : IsStepBy mode reference (here row a0 (colour_of row a0)) (run_pair_bits mode row a0 (places reference row a0) ++ rest)
+      (here row (Some (next_a0 mode (places reference row a0))) (colour_after mode (colour_of row a0))) rest
+  pub right : passed a0 < passed (Some (next_a0 mode (places reference row a0)))
+  pub within : next_a0 mode (places reference row a0) ≤ length row
+  pub colour : next_a0 mode (places reference row a0) < length row
+      → colour_after mode (colour_of row a0) ≡ pel row (next_a0 mode (places reference row a0))
+
+right_passes : (from : Option ℕ) (place : ℕ) → is_right_of from place ≡ true → passed from ≤ place
+right_passes None place right = omega arith
+right_passes (Some a) place right = ltb-true a place right
+
+passed_within : (from : Option ℕ) (width : ℕ) → first_of from < width → passed from ≤ width
+passed_within None width h = omega arith
+passed_within (Some a) width h = omega arith
+
+-- a place right of the start of a step, or the width, is passed later
+passes : (from : Option ℕ) (place width : ℕ) → first_of from < width → place ≤ width → (place < width → is_right_of from place ≡ true)
+    → passed from ≤ place
+passes from place width unfinished within right =
+    elim (cases_lt place width) [
+      | inl inside ↦ right_passes from place (right inside)
+      | inr over ↦ omega (arith, passed_within from width unfinished)
+    ]
+
+first_passed : (from : Option ℕ) (place : ℕ) → passed from ≤ place → first_of from ≤ place
+first_passed None place h = omega arith
+first_passed (Some a) place h = omega arith
+
+-- a written run is read back
+abbrev pub RunsAreRead : Type 0
+RunsAreRead = (colour : Colour) (n : ℕ) (more : List Bool) → n < 2 ^ 16 → IsRun colour (run_bits colour n ++ more) n more
+
+number_passes : (from : Option ℕ) (colour : Colour) (pels : List Colour) (place : ℕ) → passed from ≤ place
+    → a0_number (record { a0 = from; colour = colour; pels = pels }) <ℤ pos place
+number_passes None colour pels place h = omega (arith, ints)
+number_passes (Some a) colour pels place h = omega (arith, ints)
+
+other_twice : (colour : Colour) → other (other colour) ≡ colour
+other_twice White = refl
+other_twice Black = refl
+
+module _ (reference row : List Colour) (same_width : length reference ≡ length row) (a0 : Option ℕ) (unfinished : first_of a0 < length row) where
+  a1_is : IsNextChange row a0 (next_change row a0)
+  a1_is = next_change_is row a0
+
+  a1_right : passed a0 ≤ next_change row a0
+  a1_right = passes a0 (next_change row a0) (length row) unfinished a1_is.within a1_is.right
+
+  b1_within : b1 reference a0 (colour_of row a0) ≤ length row
+  b1_within = omega (arith, next_of_within reference a0 (colour_of row a0))
+
+  b1_right : passed a0 ≤ b1 reference a0 (colour_of row a0)
+  b1_right =
+      passes a0 (b1 reference a0 (colour_of row a0)) (length row) unfinished b1_within
+      (λ h. next_of_right reference a0 (colour_of row a0) (omega arith))
+
+  b2_is : IsNextChange reference (Some (b1 reference a0 (colour_of row a0))) (b2 reference a0 (colour_of row a0))
+  b2_is = next_change_is reference (Some (b1 reference a0 (colour_of row a0)))
+
+  b2_within : b2 reference a0 (colour_of row a0) ≤ length row
+  b2_within = omega (arith, b2_is.within)
+
+  b2_right : passed a0 ≤ b2 reference a0 (colour_of row a0)
+  b2_right = omega (arith, b1_right, next_is_ahead reference (Some (b1 reference a0 (colour_of row a0))) _ b2_is (omega (arith, b1_within)))
+
+  pass_chosen : (rest : List Bool) → b2 reference a0 (colour_of row a0) < next_change row a0 → IsChosen reference row a0 rest Pass
+  pass_chosen rest left =
+      let ahead = first_passed a0 (b2 reference a0 (colour_of row a0)) b2_right in
+      let pels = pels_up_to row (first_of a0) (b2 reference a0 (colour_of row a0)) (colour_of row a0) ahead b2_within
+      (λ k h l. colour_up_to row a0 (next_change row a0) a1_is k h (omega arith)) in
+      record {
+        choice = tt;
+        step = (cc, refl);
+        right = omega (arith, b2_right);
+        within = b2_within;
+        colour = λ h. sym (colour_up_to row a0 (next_change row a0) a1_is (b2 reference a0 (colour_of row a0)) ahead left);
+      }
+
+  -- where a1 stands as seen from b1
+  a1_from_b1 : pos (b1 reference a0 (colour_of row a0)) +ℤ (pos (next_change row a0) -ℤ pos (b1 reference a0 (colour_of row a0)))
+      ≡ pos (next_change row a0)
+  a1_from_b1 = omega (arith, ints)
+
+  vertical_chosen : (rest : List Bool) → nat_abs (pos (next_change row a0) -ℤ pos (b1 reference a0 (colour_of row a0))) ≤ 3
+      → IsChosen reference row a0 rest (Vertical (pos (next_change row a0) -ℤ pos (b1 reference a0 (colour_of row a0))))
+  vertical_chosen rest near =
+      let ahead = first_passed a0 (next_change row a0) a1_right in
+      let pels = pels_up_to row (first_of a0) (next_change row a0) (colour_of row a0) ahead a1_is.within
+      (colour_up_to row a0 (next_change row a0) a1_is) in
+      record {
+        choice = near;
+        step = (
+          record {
+            in_row = record {
+              right_of_a0 = rw a1_from_b1 (number_passes a0 (colour_of row a0) (take (first_of a0) row) (next_change row a0) a1_right);
+              within = rw a1_from_b1 (omega (arith, ints, a1_is.within));
+            };
+            a1 = next_change row a0;
+            a1_is = sym a1_from_b1;
+            new_is = cc;
+          },
+          refl,
+        );
+        right = omega (arith, a1_right);
+        within = a1_is.within;
+        colour = λ h. sym (colour_at row a0 (next_change row a0) a1_is h);
+      }
+
+  a2_is : IsNextChange row (Some (next_change row a0)) (next_change row (Some (next_change row a0)))
+  a2_is = next_change_is row (Some (next_change row a0))
+
+  a2_ahead : next_change row a0 ≤ next_change row (Some (next_change row a0))
+  a2_ahead = next_is_ahead row (Some (next_change row a0)) _ a2_is a1_is.within
+
+  -- the pels from a1 to a2
+  second_run : (k : ℕ) → next_change row a0 ≤ k → k < next_change row (Some (next_change row a0)) → pel row k ≡ other (colour_of row a0)
+  second_run k h l =
+      colour_up_to row (Some (next_change row a0)) _ a2_is k h l
+      ∙ colour_at row a0 (next_change row a0) a1_is (omega (arith, a2_is.within))
+
+  -- the colour of a2
+  third_run : next_change row (Some (next_change row a0)) < length row
+      → colour_of row a0 ≡ pel row (next_change row (Some (next_change row a0)))
+  third_run h =
+      sym (colour_at row (Some (next_change row a0)) _ a2_is h
+      ∙ ap other (colour_at row a0 (next_change row a0) a1_is (omega (arith, a2_ahead)))
+      ∙ other_twice (colour_of row a0))
+
+  horizontal_chosen : RunsAreRead → HasWidth row → (rest : List Bool) → IsChosen reference row a0 rest Horizontal
+  horizontal_chosen runs_read limits rest =
+      let ahead = first_passed a0 (next_change row a0) a1_right in
+      let first_pels = pels_up_to row (first_of a0) (next_change row a0) (colour_of row a0) ahead a1_is.within
+      (colour_up_to row a0 (next_change row a0) a1_is) in
+      let second_pels = pels_up_to row (next_change row a0) (next_change row (Some (next_change row a0))) (other (colour_of row a0))
+      a2_ahead a2_is.within second_run in
+      let sums : first_of a0 + (next_change row a0 - first_of a0) + (next_change row (Some (next_change row a0)) - next_change row a0)
+      ≡ next_change row (Some (next_change row a0)) = omega (arith, a2_ahead) in
+      let both = sym second_pels
+      ∙ ap (λ pels. pels ++ replicate (next_change row (Some (next_change row a0)) - next_change row a0) (other (colour_of row a0))) (sym first_pels)
+      ∙ append_assoc (take (first_of a0) row) (replicate (next_change row a0 - first_of a0) (colour_of row a0))
+      (replicate (next_change row (Some (next_change row a0)) - next_change row a0) (other (colour_of row a0))) in
+      record {
+        choice = tt;
+        step = record {
+          first = next_change row a0 - first_of a0;
+          second = next_change row (Some (next_change row a0)) - next_change row a0;
+          middle = run_bits (other (colour_of row a0)) (next_change row (Some (next_change row a0)) - next_change row a0) ++ rest;
+          first_run = rw append_assoc (runs_read (colour_of row a0) (next_change row a0 - first_of a0) _ (omega (arith, a1_is.within, limits.short)));
+          second_run = runs_read (other (colour_of row a0)) _ rest (omega (arith, a2_is.within, limits.short));
+          within = omega (arith, a2_is.within);
+          new_is = cc;
+        };
+        right = omega (arith, a1_right, a2_ahead);
+        within = a2_is.within;
+        colour = third_run;
+      }
+
+  -- the mode by the two tests that choose it
+  by_tests : RunsAreRead → HasWidth row → (rest : List Bool) (pass near : Bool)
+      → nat_lt (b2 reference a0 (colour_of row a0)) (next_change row a0) ≡ pass
+      → nat_le (nat_abs (pos (next_change row a0) -ℤ pos (b1 reference a0 (colour_of row a0)))) 3 ≡ near
+      → IsChosen reference row a0 rest
+      (if pass then Pass
+      else (if near then Vertical (pos (next_change row a0) -ℤ pos (b1 reference a0 (colour_of row a0))) else Horizontal))
+  by_tests runs_read limits rest true near is close = pass_chosen rest (ltb-true _ _ is)
+  by_tests runs_read limits rest false true is close = vertical_chosen rest (grind (arith, nat_tests))
+  by_tests runs_read limits rest false false is close = horizontal_chosen runs_read limits rest
+
+  pub chosen : RunsAreRead → HasWidth row → (rest : List Bool) → IsChosen reference row a0 rest (chosen_mode (places reference row a0))
+  chosen runs_read limits rest = by_tests runs_read limits rest _ _ refl refl

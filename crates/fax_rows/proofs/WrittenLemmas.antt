@@ -1,0 +1,203 @@
+-- A row that is written is read back.
+use Rattle.std.proofs.Common.{◌≡◌, ◌≢◌, ℕ, zero, suc, ◌+◌, ◌-◌, ◌^◌, ◌<◌, ◌≤◌, List, [], ◌∷◌, ◌++◌, length, take, replicate, Bool, true, false, refl, ap, sym, ◌∙◌, subst, arith, inl, inr, append_assoc}
+use Rattle.std.specs.Prelude.{nat_eq, sum, if◌then◌else◌, Option, Some, None, unwrap_or}
+use Rattle.std.proofs.Math.Seq.{take-length}
+use Rattle.std.proofs.lemmas.Bool.{cases_lt}
+use Rattle.std.proofs.lemmas.List.{replicate-append-replicate}
+use Rattle.std.proofs.lemmas.Bool.Decides.{nat_tests}
+use Rattle.fax_bits.specs.declared.Colour.{Colour}
+use Rattle.fax_bits.specs.declared.Colour.TheVariants.{White, Black}
+use Rattle.fax_bits.specs.declared.modes.ModeCode.{ModeCode}
+use Rattle.fax_bits.specs.Codes.{Takes}
+use Rattle.fax_bits.specs.Runs.{IsRun, run_bits, mode_bits}
+use Rattle.fax_bits.specs.Tables.{modes}
+use Rattle.fax_rows.specs.Elements.{other, same_colour, pel, pels_of, runs_behind, runs_of, HasWidth}
+use Rattle.fax_rows.specs.Coded.{places, colour_of, chosen_mode, run_pair_bits, next_a0, step_bits, two_dimensional_bits, alternating_bits, one_dimensional_bits}
+use Rattle.fax_rows.specs.OneDimensional.{AreRuns, IsOneDimensionalRow}
+use Rattle.fax_rows.specs.TwoDimensional.{Position, IsUnfinished, AreSteps, IsTwoDimensionalRow}
+use Rattle.fax_rows.proofs.ChangeLemmas.{first_of}
+use Rattle.fax_rows.proofs.RowLaws.{length-pels_of}
+use Rattle.fax_rows.proofs.RunLaws.{sum-cons}
+use Rattle.fax_rows.proofs.ChoiceLemmas.{here, passed, colour_after, IsChoice, RunsAreRead, IsChosen, chosen}
+
+-- a written mode is read back
+abbrev pub ModesAreTaken : Type 0
+ModesAreTaken = (mode : ModeCode) (more : List Bool) → IsChoice mode → Takes modes (mode_bits mode ++ more) mode more
+
+-- the bits begin with steps from a position to the row's end, and the row is what they make
+pub record IsWrittenBack (reference row : List Colour) (from : Position) (b more : List Bool) : Type 0 where
+  pub positions : List Position
+  pub last : Position
+  pub steps : AreSteps reference from b positions last more
+  pub ends : last.a0 ≡ Some (length reference)
+  pub pels : row ≡ last.pels
+
+-- no step is written at the row's end
+step_bits-end : (limit : ℕ) (reference row : List Colour) (a0 : Option ℕ) → first_of a0 ≡ length row → step_bits limit reference row a0 ≡ []
+unfolding step_bits
+step_bits-end zero reference row a0 done = refl
+step_bits-end (suc limit) reference row a0 done =
+    let ends : nat_eq (unwrap_or a0 0) (length row) ≡ true = grind (arith, nat_tests) in
+    rw ends refl
+
+-- elsewhere a step is written, and those behind it
+step_bits-more : (limit : ℕ) (reference row : List Colour) (a0 : Option ℕ) → first_of a0 < length row
+    → step_bits (suc limit) reference row a0
+    ≡ mode_bits (chosen_mode (places reference row a0)) ++ run_pair_bits (chosen_mode (places reference row a0)) row a0 (places reference row a0)
+    ++ step_bits limit reference row (Some (next_a0 (chosen_mode (places reference row a0)) (places reference row a0)))
+unfolding step_bits
+step_bits-more limit reference row a0 unfinished =
+    let goes_on : nat_eq (unwrap_or a0 0) (length row) ≡ false = grind (arith, nat_tests) in
+    rw goes_on refl
+
+-- a0 at the width
+at_width : (a0 : Option ℕ) (width : ℕ) → 0 < width → first_of a0 ≡ width → a0 ≡ Some width
+at_width None width some same = absurd (omega arith)
+at_width (Some a) width some same = ap (λ n. Some n) same
+
+not_at_width : (a0 : Option ℕ) (width : ℕ) → first_of a0 < width → a0 ≢ Some width
+not_at_width a0 width before same = omega (arith, ap first_of same)
+
+still_short : (a0 : Option ℕ) (width limit : ℕ) → width + 1 ≤ passed a0 + limit → limit ≡ 0 → first_of a0 ≤ width → first_of a0 ≡ width
+still_short None width limit enough none within = absurd (omega arith)
+still_short (Some a) width limit enough none within = omega arith
+
+module _ (runs_read : RunsAreRead) (modes_taken : ModesAreTaken) (reference row : List Colour) (same_width : length reference ≡ length row)
+    (limits : HasWidth row) where
+  back_at_end : (a0 : Option ℕ) (colour : Colour) (limit : ℕ) (more : List Bool) → first_of a0 ≡ length row
+      → IsWrittenBack reference row (here row a0 colour) (step_bits limit reference row a0 ++ more) more
+  back_at_end a0 colour limit more done = record {
+    positions = [];
+    last = here row a0 colour;
+    steps = (refl, ap (λ b. b ++ more) (step_bits-end limit reference row a0 done));
+    ends = at_width a0 (length row) limits.some done ∙ ap (λ n. Some n) (sym same_width);
+    pels = sym (ap (λ n. take n row) done ∙ take-length row);
+  }
+
+  -- the place and the mode of the step from a0
+  abbrev mode_at : Option ℕ → ModeCode
+  mode_at a0 = chosen_mode (places reference row a0)
+
+  abbrev next_at : Option ℕ → ℕ
+  next_at a0 = next_a0 (mode_at a0) (places reference row a0)
+
+  bits_of_step : (limit : ℕ) (a0 : Option ℕ) (more : List Bool) → first_of a0 < length row
+      → step_bits (suc limit) reference row a0 ++ more
+      ≡ mode_bits (mode_at a0) ++ (run_pair_bits (mode_at a0) row a0 (places reference row a0) ++ (step_bits limit reference row (Some (next_at a0)) ++ more))
+  bits_of_step limit a0 more unfinished =
+      ap (λ b. b ++ more) (step_bits-more limit reference row a0 unfinished)
+      ∙ append_assoc (mode_bits (mode_at a0) ++ run_pair_bits (mode_at a0) row a0 (places reference row a0))
+      (step_bits limit reference row (Some (next_at a0))) more
+      ∙ append_assoc (mode_bits (mode_at a0)) (run_pair_bits (mode_at a0) row a0 (places reference row a0))
+      (step_bits limit reference row (Some (next_at a0)) ++ more)
+
+  back_by_step : (limit : ℕ) (a0 : Option ℕ) (more : List Bool) → first_of a0 < length row
+      → (rest : List Bool) → rest ≡ step_bits limit reference row (Some (next_at a0)) ++ more
+      → (step : IsChosen reference row a0 rest (mode_at a0))
+      → IsWrittenBack reference row (here row (Some (next_at a0)) (colour_after (mode_at a0) (colour_of row a0))) rest more
+      → IsWrittenBack reference row (here row a0 (colour_of row a0)) (step_bits (suc limit) reference row a0 ++ more) more
+  back_by_step limit a0 more unfinished rest rest_is step back = record {
+    positions = here row (Some (next_at a0)) (colour_after (mode_at a0) (colour_of row a0)) ∷ back.positions;
+    last = back.last;
+    steps = (
+      λ same. not_at_width a0 (length row) unfinished (same ∙ ap (λ n. Some n) same_width),
+      rest,
+      record {
+        mode = mode_at a0;
+        behind = run_pair_bits (mode_at a0) row a0 (places reference row a0) ++ rest;
+        taken = subst (λ b. Takes modes b (mode_at a0) (run_pair_bits (mode_at a0) row a0 (places reference row a0) ++ rest))
+            (ap (λ b. mode_bits (mode_at a0) ++ (run_pair_bits (mode_at a0) row a0 (places reference row a0) ++ b)) rest_is
+            ∙ sym (bits_of_step limit a0 more unfinished))
+            (modes_taken (mode_at a0) _ step.choice);
+        step = step.step;
+      },
+      back.steps,
+    );
+    ends = back.ends;
+    pels = back.pels;
+  }
+
+  pub steps_back : (limit : ℕ) (a0 : Option ℕ) (colour : Colour) (more : List Bool) → first_of a0 ≤ length row
+      → length row + 1 ≤ passed a0 + limit → (first_of a0 < length row → colour ≡ colour_of row a0)
+      → IsWrittenBack reference row (here row a0 colour) (step_bits limit reference row a0 ++ more) more
+  steps_back zero a0 colour more within enough coloured =
+      back_at_end a0 colour zero more (still_short a0 (length row) zero enough refl within)
+  steps_back (suc limit) a0 colour more within enough coloured =
+      elim (cases_lt (first_of a0) (length row)) [
+        | inr over ↦ back_at_end a0 colour (suc limit) more (omega arith)
+        | inl unfinished ↦
+            let rest = step_bits limit reference row (Some (next_at a0)) ++ more in
+            let step = chosen reference row same_width a0 unfinished runs_read limits rest in
+            let back = steps_back limit (Some (next_at a0)) (colour_after (mode_at a0) (colour_of row a0)) more
+            step.within (omega (arith, step.right)) step.colour in
+            subst (λ c. IsWrittenBack reference row (here row a0 c) (step_bits (suc limit) reference row a0 ++ more) more)
+            (sym (coloured unfinished)) (back_by_step limit a0 more unfinished rest refl step back)
+      ]
+
+  -- a row in two-dimensional coding is read back
+  pub two_dimensional_back : (more : List Bool) → IsTwoDimensionalRow reference (two_dimensional_bits reference row ++ more) row more
+  two_dimensional_back more =
+      let back = steps_back (length row + 1) None White more (omega arith) (omega arith) (λ h. refl) in
+      record {
+        positions = back.positions;
+        last = back.last;
+        steps = back.steps;
+        ends = back.ends;
+        pels = back.pels;
+      }
+
+replicate_more : (n : ℕ) (colour : Colour) (pels : List Colour) → replicate (n + 1) colour ++ pels ≡ replicate n colour ++ (colour ∷ pels)
+replicate_more n colour pels =
+    rw (← replicate-append-replicate n 1 colour) (append_assoc (replicate n colour) (colour ∷ []) pels)
+
+-- the longest runs make up the pels
+pels_of-runs_behind : (colour : Colour) (n : ℕ) (pels : List Colour) → pels_of colour (runs_behind colour n pels) ≡ replicate n colour ++ pels
+unfolding runs_behind
+pels_of-runs_behind colour n [] = refl
+pels_of-runs_behind White n (White ∷ pels) =
+    pels_of-runs_behind White (n + 1) pels ∙ replicate_more n White pels
+pels_of-runs_behind Black n (Black ∷ pels) =
+    pels_of-runs_behind Black (n + 1) pels ∙ replicate_more n Black pels
+pels_of-runs_behind White n (Black ∷ pels) = ap (λ more. replicate n White ++ more) (pels_of-runs_behind Black 1 pels)
+pels_of-runs_behind Black n (White ∷ pels) = ap (λ more. replicate n Black ++ more) (pels_of-runs_behind White 1 pels)
+
+-- no fewer of them do
+fewer_runs : (colour : Colour) (n : ℕ) (pels : List Colour) → 0 < n + length pels
+    → (k : ℕ) → k < length (runs_behind colour n pels) → sum (take k (runs_behind colour n pels)) < n + length pels
+unfolding runs_behind
+fewer_runs colour n [] some zero h = omega arith
+fewer_runs colour n [] some (suc k) h = absurd (omega arith)
+fewer_runs White n (White ∷ pels) some k h = omega (arith, fewer_runs White (n + 1) pels (omega arith) k h)
+fewer_runs Black n (Black ∷ pels) some k h = omega (arith, fewer_runs Black (n + 1) pels (omega arith) k h)
+fewer_runs White n (Black ∷ pels) some zero h = omega arith
+fewer_runs Black n (White ∷ pels) some zero h = omega arith
+fewer_runs White n (Black ∷ pels) some (suc k) h =
+    omega (arith, fewer_runs Black 1 pels (omega arith) k (omega arith), sum-cons n (take k (runs_behind Black 1 pels)))
+fewer_runs Black n (White ∷ pels) some (suc k) h =
+    omega (arith, fewer_runs White 1 pels (omega arith) k (omega arith), sum-cons n (take k (runs_behind White 1 pels)))
+
+-- written runs are read back
+runs_back : RunsAreRead → (colour : Colour) (runs : List ℕ) (more : List Bool) → sum runs < 2 ^ 16
+    → AreRuns colour (alternating_bits colour runs ++ more) runs more
+unfolding alternating_bits
+runs_back runs_read colour [] more short = refl
+runs_back runs_read colour (n ∷ runs) more short =
+    (
+      alternating_bits (other colour) runs ++ more,
+      rw append_assoc (runs_read colour n (alternating_bits (other colour) runs ++ more) (omega (arith, sum-cons n runs))),
+      runs_back runs_read (other colour) runs more (omega (arith, sum-cons n runs)),
+    )
+
+-- a row in one-dimensional coding is read back
+pub one_dimensional_back : RunsAreRead → (row : List Colour) → HasWidth row → (more : List Bool)
+    → IsOneDimensionalRow (length row) (one_dimensional_bits row ++ more) row more
+one_dimensional_back runs_read row limits more =
+    let pels : row ≡ pels_of White (runs_of row) = sym (pels_of-runs_behind White 0 row) in
+    let sum_is : sum (runs_of row) ≡ length row = sym (length-pels_of White (runs_of row)) ∙ ap (λ (xs : List Colour). length xs) (sym pels) in
+    record {
+      runs = runs_of row;
+      coded = runs_back runs_read White (runs_of row) more (omega (arith, sum_is, limits.short));
+      pels = pels;
+      whole = refl;
+      ends = λ k h e. absurd (omega (arith, fewer_runs White 0 row (omega (arith, limits.some)) k h));
+    }
