@@ -53,3 +53,17 @@ get_or-are_short (l ∷ lens) (suc i) within h =
 pub black_runs_are : black_runs ≡ run_entries 0 BLACK_CODES BLACK_LENS
 unfolding black_runs run_extension black_terminating black_make_up common_make_up
 black_runs_are = refl
+
+-- each entry's code has 1 to 13 bits
+abbrev pub are_short_entries : {M : Type 0} → List (CodeEntry M) → Bool
+are_short_entries [] = true
+are_short_entries (entry ∷ entries) = (nat_le 1 entry.len && nat_le entry.len 13) && are_short_entries entries
+
+pub get_or-short_entries : {M : Type 0} (entries : List (CodeEntry M)) (default : CodeEntry M) (i : ℕ) → i < length entries → are_short_entries entries ≡ true
+    → (1 ≤ (get_or entries i default).len) × ((get_or entries i default).len ≤ 13)
+get_or-short_entries [] default i within h = absurd (omega arith)
+get_or-short_entries (entry ∷ entries) default zero within h =
+    let here = and_left (nat_le 1 entry.len && nat_le entry.len 13) (are_short_entries entries) h in
+    (le-from_test 1 entry.len (and_left (nat_le 1 entry.len) (nat_le entry.len 13) here), le-from_test entry.len 13 (and_right (nat_le 1 entry.len) (nat_le entry.len 13) here))
+get_or-short_entries (entry ∷ entries) default (suc i) within h =
+    get_or-short_entries entries default i (omega arith) (and_right (nat_le 1 entry.len && nat_le entry.len 13) (are_short_entries entries) h)

@@ -10,7 +10,7 @@ mod source;
 mod tests;
 
 pub use codes::{CodeEntry, CodeFault, CodeTable, read_code};
-pub use modes::ModeCode;
+pub use modes::{ModeCode, Modes};
 pub use runs::{BlackRuns, RunCode, WhiteRuns};
 pub use source::BitSource;
 use thiserror::Error;

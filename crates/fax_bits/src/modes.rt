@@ -1,4 +1,7 @@
 //! The modes of two-dimensional coding (ITU-T T.4, table 4).
+ghost use Rattle.std.specs.Prelude.{◌≡◌, ◌<◌};
+
+use crate::codes::{CodeEntry, CodeTable};
 
 /// What a code of the mode table means (T.4, section 4.2.1.3.2).
 #[derive(Clone, Copy, Debug, PartialEq, Eq)]
@@ -9,4 +12,82 @@ pub enum ModeCode {
     Vertical(i8),
     /// The prefix of codes that T.4 leaves to extensions.
     Extension,
+}
+
+/// How many entries the mode table has: nine modes, and the extension prefix.
+const MODE_ENTRIES: usize = 10;
+
+const MODES: [CodeEntry<ModeCode>; MODE_ENTRIES] = [
+    CodeEntry {
+        code: 0b0001,
+        len: 4,
+        meaning: ModeCode::Pass,
+    },
+    CodeEntry {
+        code: 0b001,
+        len: 3,
+        meaning: ModeCode::Horizontal,
+    },
+    CodeEntry {
+        code: 0b1,
+        len: 1,
+        meaning: ModeCode::Vertical(0),
+    },
+    CodeEntry {
+        code: 0b011,
+        len: 3,
+        meaning: ModeCode::Vertical(1),
+    },
+    CodeEntry {
+        code: 0b000011,
+        len: 6,
+        meaning: ModeCode::Vertical(2),
+    },
+    CodeEntry {
+        code: 0b0000011,
+        len: 7,
+        meaning: ModeCode::Vertical(3),
+    },
+    CodeEntry {
+        code: 0b010,
+        len: 3,
+        meaning: ModeCode::Vertical(-1),
+    },
+    CodeEntry {
+        code: 0b000010,
+        len: 6,
+        meaning: ModeCode::Vertical(-2),
+    },
+    CodeEntry {
+        code: 0b0000010,
+        len: 7,
+        meaning: ModeCode::Vertical(-3),
+    },
+    CodeEntry {
+        code: 0b0000001,
+        len: 7,
+        meaning: ModeCode::Extension,
+    },
+];
+
+/// The codes of modes (T.4, table 4).
+pub struct Modes;
+
+impl CodeTable for Modes {
+    ghost use Rattle.fax_bits.specs.Tables.{modes};
+    ghost use Rattle.fax_bits.specs.TableSizes.{length-modes};
+
+    type Meaning = ModeCode;
+
+    ghost COUNT = { 10 };
+
+    const COUNT: usize = MODE_ENTRIES;
+
+    ghost table = { modes };
+
+    fn entry(i: usize) -> CodeEntry<ModeCode> {
+        MODES[i]
+    }
+
+    ghost counted = { length-modes };
 }
