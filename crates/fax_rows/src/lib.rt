@@ -4,6 +4,7 @@
 pub mod laws;
 mod one_dimensional;
 mod pels;
+mod places;
 mod runs;
 #[cfg(test)]
 mod tests;
@@ -11,6 +12,7 @@ mod tests;
 pub use fax_bits::{BitSource, Colour, FillOrder, Memory};
 pub use one_dimensional::read_1d;
 pub use pels::Row;
+pub use places::b1_b2;
 use thiserror::Error;
 
 /// Why a row could not be read.
