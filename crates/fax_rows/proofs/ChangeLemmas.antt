@@ -7,6 +7,7 @@ use Rattle.fax_bits.specs.declared.Colour.{Colour}
 use Rattle.fax_bits.specs.declared.Colour.TheVariants.{White, Black}
 use Rattle.fax_rows.specs.Elements.{other, same_colour, pel, pel_before, is_changing, is_right_of, first_place, next_change, next_of, HasWidth}
 use Rattle.fax_rows.specs.Coded.{colour_of}
+use Rattle.fax_rows.proofs.PlaceLemmas.{next_change_at, next_of_at}
 
 -- the first of n places from i on that passes the test
 pub record IsFirstPlace (test : ℕ → Bool) (i n place : ℕ) : Type 0 where
@@ -45,18 +46,7 @@ first_place_is test i zero = record {
 }
 first_place_is test i (suc n) = first_place_more test i n (test i) refl (first_place_is test (i + 1) n)
 
--- there is only one
-pub first_place_one : (test : ℕ → Bool) (i n p q : ℕ) → IsFirstPlace test i n p → IsFirstPlace test i n q → p ≡ q
-first_place_one test i n p q first second = by (cases_lt p q) (cases_lt q p)
-  where
-    by : (p < q) ⊎ (q ≤ p) → (q < p) ⊎ (p ≤ q) → p ≡ q
-    by (inl less) more =
-        absurd (cc (second.before p first.from less, first.there (omega (arith, second.within))))
-    by (inr at) (inl less) =
-        absurd (cc (first.before q second.from less, second.there (omega (arith, first.within))))
-    by (inr at) (inr below) = omega arith
-
--- the first place that passes the first test, among those that pass the second
+-- a place right of `from` that is a changing element
 abbrev pub ChangeTest : List Colour → Option ℕ → ℕ → Bool
 ChangeTest row from i = is_right_of from i && is_changing row i
 
@@ -191,3 +181,35 @@ unfolding next_of
 next_of_right row from colour inside =
     let first = first_place_is (λ i. is_right_of from i && (is_changing row i && not (same_colour (pel row i) colour))) 0 (length row) in
     (both_true (is_right_of from _) _ (first.there (omega arith))).0
+
+later_right : (from : Option ℕ) (a k : ℕ) → is_right_of from a ≡ true → is_right_of (Some a) k ≡ true → is_right_of from k ≡ true
+later_right None a k right further = refl
+later_right (Some b) a k right further = lt-ltb b k (omega (arith, ltb-true b a right, ltb-true a k further))
+
+still_left : (right change : Bool) → (right ≡ true → change ≡ false) → (right && change) ≡ false
+still_left true change h = h refl
+still_left false change h = refl
+
+both : (a b : Bool) → a ≡ true → b ≡ true → (a && b) ≡ true
+both a b h l = rw h l
+
+-- as seen from a place further right, but left of the next changing element, it is the next one still
+pub later_change : (row : List Colour) (from : Option ℕ) (a : ℕ) → is_right_of from a ≡ true → a < next_change row from
+    → next_change row from ≡ next_change row (Some a)
+later_change row from a right before =
+    let next = next_change_is row from in
+    next_change_at row (Some a) (next_change row from) next.within
+    (λ k h. still_left (is_right_of (Some a) k) (is_changing row k) (λ l. next.before k h (later_right from a k right l)))
+    (λ h. both (is_right_of (Some a) (next_change row from)) _ (lt-ltb a _ before) (next.there h))
+
+-- and so is the next one of another colour
+pub later_of : (row : List Colour) (from : Option ℕ) (colour : Colour) (a : ℕ) → is_right_of from a ≡ true → a < next_of row from colour
+    → next_of row from colour ≡ next_of row (Some a) colour
+unfolding next_of
+later_of row from colour a right before =
+    let test : ℕ → Bool = λ i. is_changing row i && not (same_colour (pel row i) colour) in
+    let first = first_place_is (λ i. is_right_of from i && (is_changing row i && not (same_colour (pel row i) colour))) 0 (length row) in
+    next_of_at row (Some a) colour (next_of row from colour) (next_of_within row from colour)
+    (λ k h. still_left (is_right_of (Some a) k) (test k)
+    (λ l. both_false (is_right_of from k) (test k) (first.before k (omega arith) h) (later_right from a k right l)))
+    (λ h. both (is_right_of (Some a) _) _ (lt-ltb a _ before) (both_true (is_right_of from _) _ (first.there (omega arith))).1)

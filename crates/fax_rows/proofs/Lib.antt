@@ -8,3 +8,4 @@ pub mod ChangeLemmas
 pub mod ChoiceLemmas
 pub mod WrittenLemmas
 pub mod StepLaws
+pub mod AheadLemmas

@@ -5,6 +5,7 @@ pub mod laws;
 mod one_dimensional;
 mod pels;
 mod places;
+mod put;
 mod runs;
 #[cfg(test)]
 mod tests;
