@@ -1,3 +1,5 @@
+pub mod CodeBitsLemmas
+pub mod SinkLemmas
 pub mod SourceLemmas
 pub mod MeetingLemmas
 pub mod TableLemmas

@@ -6,20 +6,22 @@ use Rattle.std.proofs.lemmas.Nat.{and_mask}
 use Rattle.std.proofs.lemmas.Nat.Bits.{bit_at-zero}
 use Rattle.std.specs.Prelude.{bit_and}
 use Rattle.std.specs.Int.{bit_at}
-use Rattle.fax_bits.specs.declared.FillOrder.TheVariants.{MsbFirst}
+use Rattle.fax_bits.specs.declared.FillOrder.{FillOrder}
+use Rattle.fax_bits.specs.declared.FillOrder.TheVariants.{MsbFirst, LsbFirst}
 use Rattle.fax_bits.specs.Bits.{code_bits, byte_bits, bits, IsZeroByteAt}
 use Rattle.fax_bits.specs.Source.{Source, source_of}
 
 -- a byte has eight bits
-pub length-byte_bits : (byte : ℕ) → length (byte_bits MsbFirst byte) ≡ 8
+pub length-byte_bits : (order : FillOrder) (byte : ℕ) → length (byte_bits order byte) ≡ 8
 unfolding byte_bits code_bits
-length-byte_bits byte = refl
+length-byte_bits MsbFirst byte = refl
+length-byte_bits LsbFirst byte = refl
 
-pub length-bits : (bytes : List ℕ) → length (bits MsbFirst bytes) ≡ 8 * length bytes
+pub length-bits : (order : FillOrder) (bytes : List ℕ) → length (bits order bytes) ≡ 8 * length bytes
 unfolding bits
-length-bits [] = refl
-length-bits (byte ∷ bytes) =
-    simp length-append (omega (arith, length-byte_bits byte, length-bits bytes))
+length-bits order [] = refl
+length-bits order (byte ∷ bytes) =
+    simp length-append (omega (arith, length-byte_bits order byte, length-bits order bytes))
 
 -- bit r of a byte, the highest first
 pub get_or-byte_bits : (byte r : ℕ) → r < 8 → get_or (byte_bits MsbFirst byte) r false ≡ nat_eq (bit_at byte (7 - r)) 1
@@ -39,19 +41,19 @@ pub get_or-bits : (bytes : List ℕ) (q r : ℕ) → q < length bytes → r < 8 
 unfolding bits
 get_or-bits [] q r in_bytes in_byte = absurd (omega arith)
 get_or-bits (byte ∷ bytes) zero r in_bytes in_byte =
-    let short : r < length (byte_bits MsbFirst byte) = omega (arith, length-byte_bits byte) in
+    let short : r < length (byte_bits MsbFirst byte) = omega (arith, length-byte_bits MsbFirst byte) in
     let place : 8 * zero + r ≡ r = omega arith in
     ap (λ i. get_or (byte_bits MsbFirst byte ++ bits MsbFirst bytes) i false) place
     ∙ get_or-append (byte_bits MsbFirst byte) (bits MsbFirst bytes) false r short ∙ get_or-byte_bits byte r in_byte
 get_or-bits (byte ∷ bytes) (suc q) r in_bytes in_byte =
-    let place : 8 * suc q + r ≡ length (byte_bits MsbFirst byte) + (8 * q + r) = omega (arith, length-byte_bits byte) in
+    let place : 8 * suc q + r ≡ length (byte_bits MsbFirst byte) + (8 * q + r) = omega (arith, length-byte_bits MsbFirst byte) in
     ap (λ i. get_or (byte_bits MsbFirst byte ++ bits MsbFirst bytes) i false) place
     ∙ get_or-append-add (byte_bits MsbFirst byte) (bits MsbFirst bytes) (8 * q + r) false
     ∙ get_or-bits bytes q r (omega arith) in_byte
 
 -- how many bits are left
 pub length-left : (bytes : List ℕ) (place : ℕ) → length (source_of bytes place).left ≡ 8 * length bytes - place
-length-left bytes place = length-drop place (bits MsbFirst bytes) ∙ ap (λ n. n - place) (length-bits bytes)
+length-left bytes place = length-drop place (bits MsbFirst bytes) ∙ ap (λ n. n - place) (length-bits MsbFirst bytes)
 
 pub length-left_of : (bytes : List ℕ) (place : ℕ) (source : Source) → source_of bytes place ≡ source
     → length source.left ≡ 8 * length bytes - place

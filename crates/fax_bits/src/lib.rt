@@ -5,6 +5,7 @@ mod codes;
 pub mod laws;
 mod modes;
 mod runs;
+mod sink;
 mod source;
 #[cfg(test)]
 mod tests;
@@ -12,6 +13,7 @@ mod tests;
 pub use codes::{CodeEntry, CodeFault, CodeTable, read_code};
 pub use modes::{ModeCode, Modes};
 pub use runs::{BlackRuns, RunCode, WhiteRuns};
+pub use sink::BitSink;
 pub use source::BitSource;
 use thiserror::Error;
 

@@ -1,0 +1,20 @@
+use Rattle.std.proofs.Common.{arith}
+use Rattle.fax_bits.proofs.SinkLemmas.{padded-lt, pads, pads_none}
+use Rattle.fax_bits.proofs.sink.BitSink.pad.Goals as goal
+
+pub overflow_cast-self-inside : goal.overflow_cast-self-inside
+overflow_cast-self-inside c =
+    let inside = c.self.inside in
+    let fits = padded-lt inside.count inside.pending c.if-self-gt0.true c.self.invariant.short c.self.invariant.fits in
+    omega (arith, fits)
+
+pub returns-then-self-gt0 : goal.returns-then-self-gt0
+returns-then-self-gt0 c =
+    let inside = c.self.inside in
+    pads inside.order inside.bytes.items _ inside.count inside.pending _ _ c.if-self-gt0.true c.self.invariant.short c.self.invariant.fits
+    c.self.view_is c.push_reserved.ensures.items c.in_order-byte.ensures
+
+pub returns-else-self-gt0 : goal.returns-else-self-gt0
+returns-else-self-gt0 c =
+    let inside = c.self.inside in
+    pads_none inside.order inside.bytes.items inside.count inside.pending _ (omega (arith, c.if-self-gt0.false)) c.self.view_is

@@ -1,0 +1,106 @@
+//! Bits that are put one behind another into bytes.
+ghost use Rattle.std.specs.Prelude.{◌≡◌, ◌<◌, ◌≤◌, ◌%◌, ◌^◌, [], length, OnOk, OnErr};
+ghost use Rattle.fax_bits.specs.Bits.{bits, byte_bits, code_bits};
+ghost use Rattle.fax_bits.specs.Sink.{Appends, IsPadded};
+
+use crate::{FillOrder, Memory};
+use std::alloc::Global;
+use std::marker::Model;
+
+/// Bits, and the bytes that hold them. Contracts see the order of the bits in a byte and the list
+/// of the bits.
+#[derive(Drop)]
+pub struct BitSink {
+    order: FillOrder,
+    /// The whole bytes. While bits are pending there is room for one more.
+    bytes: Vec<u8>,
+    /// The bits behind the whole bytes, as a number: the highest was put first.
+    pending: u32,
+    /// How many bits are pending, 0 to 7.
+    count: u32,
+}
+
+impl Model for BitSink {
+    ghost use Rattle.std.specs.Prelude.{vec_len, vec_capacity};
+    ghost use Rattle.fax_bits.specs.Sink.{Sink, sink_of, IsPending};
+
+    ghost Value = { Sink };
+
+    ghost view = { λ s. sink_of s.order s.bytes.items s.count s.pending };
+
+    ghost invariant = { λ s. IsPending s.count s.pending (vec_len s.bytes) (vec_capacity s.bytes) };
+}
+
+impl BitSink {
+    /// No bits; `order` says which bit of a byte is put first (TIFF 6.0, FillOrder).
+    pub fn new(alloc: Global, order: FillOrder) -> Self
+        ensures { result ≡ record { order = order; bits = [] } }
+    {
+        BitSink {
+            order,
+            bytes: Vec::new(alloc),
+            pending: 0,
+            count: 0,
+        }
+    }
+
+    /// How many bits were put.
+    pub fn len(&self) -> u128
+        ensures { result ≡ length self.now.bits }
+    {
+        self.bytes.len() as u128 * 8 + u128::from(self.count)
+    }
+
+    /// Puts the lowest `len` bits of `bits`, 0 to 24 of them, the highest first. After an `Err` the
+    /// sink is as it was.
+    pub fn put(&mut self, bits: u32, len: u32) -> Result<(), Memory>
+        requires short { len ≤ 24 }
+        requires fits { bits < 2 ^ len }
+        ensures ok { OnOk result (Appends self.old (code_bits len bits) self.new) }
+        ensures err { OnErr result (self.new ≡ self.old) }
+    {
+        // At most 31 bits are pending now, so three bytes become whole, and a fourth has room.
+        self.bytes.reserve(4).map_err(|_| Memory)?;
+        let mut pending = (self.pending << len) | bits;
+        let mut count = self.count + len;
+        while count >= 8 {
+            count -= 8;
+            let byte = in_order((pending >> count) as u8, self.order);
+            self.bytes.push_reserved(byte);
+            pending &= (1 << count) - 1;
+        }
+        self.pending = pending;
+        self.count = count;
+        Ok(())
+    }
+
+    /// Puts zeros up to a whole byte. This takes no memory.
+    pub fn pad(&mut self)
+        ensures { IsPadded self.old self.new }
+    {
+        if self.count > 0 {
+            let byte = in_order((self.pending << (8 - self.count)) as u8, self.order);
+            self.bytes.push_reserved(byte);
+            self.pending = 0;
+            self.count = 0;
+        }
+    }
+
+    /// The bytes of the bits, which make up whole bytes.
+    pub fn into_bytes(self) -> Vec<u8>
+        requires whole { length self.bits % 8 ≡ 0 }
+        ensures { bits self.order result.items ≡ self.bits }
+    {
+        self.bytes
+    }
+}
+
+/// The byte whose bits are coded in this order, where those of `byte` are coded from the highest on.
+fn in_order(byte: u8, order: FillOrder) -> u8
+    ensures { byte_bits order result ≡ code_bits 8 byte }
+{
+    match order {
+        FillOrder::MsbFirst => byte,
+        FillOrder::LsbFirst => byte.reverse_bits(),
+    }
+}
