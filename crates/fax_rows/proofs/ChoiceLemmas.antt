@@ -62,7 +62,7 @@ passes from place width unfinished within right =
       | inr over ↦ omega (arith, passed_within from width unfinished)
     ]
 
-first_passed : (from : Option ℕ) (place : ℕ) → passed from ≤ place → first_of from ≤ place
+pub first_passed : (from : Option ℕ) (place : ℕ) → passed from ≤ place → first_of from ≤ place
 first_passed None place h = omega arith
 first_passed (Some a) place h = omega arith
 
@@ -79,17 +79,26 @@ other_twice : (colour : Colour) → other (other colour) ≡ colour
 other_twice White = refl
 other_twice Black = refl
 
+-- a place right of the start of a step, and not behind the row
+pub record IsPlaceAhead (from : Option ℕ) (width place : ℕ) : Type 0 where
+  pub right : passed from ≤ place
+  pub within : place ≤ width
+
+pub passed_right : (from : Option ℕ) (place : ℕ) → passed from ≤ place → is_right_of from place ≡ true
+passed_right None place h = refl
+passed_right (Some a) place h = lt-ltb a place (omega arith)
+
 module _ (reference row : List Colour) (same_width : length reference ≡ length row) (a0 : Option ℕ) (unfinished : first_of a0 < length row) where
-  a1_is : IsNextChange row a0 (next_change row a0)
+  pub a1_is : IsNextChange row a0 (next_change row a0)
   a1_is = next_change_is row a0
 
-  a1_right : passed a0 ≤ next_change row a0
+  pub a1_right : passed a0 ≤ next_change row a0
   a1_right = passes a0 (next_change row a0) (length row) unfinished a1_is.within a1_is.right
 
-  b1_within : b1 reference a0 (colour_of row a0) ≤ length row
+  pub b1_within : b1 reference a0 (colour_of row a0) ≤ length row
   b1_within = omega (arith, next_of_within reference a0 (colour_of row a0))
 
-  b1_right : passed a0 ≤ b1 reference a0 (colour_of row a0)
+  pub b1_right : passed a0 ≤ b1 reference a0 (colour_of row a0)
   b1_right =
       passes a0 (b1 reference a0 (colour_of row a0)) (length row) unfinished b1_within
       (λ h. next_of_right reference a0 (colour_of row a0) (omega arith))
@@ -97,10 +106,10 @@ module _ (reference row : List Colour) (same_width : length reference ≡ length
   b2_is : IsNextChange reference (Some (b1 reference a0 (colour_of row a0))) (b2 reference a0 (colour_of row a0))
   b2_is = next_change_is reference (Some (b1 reference a0 (colour_of row a0)))
 
-  b2_within : b2 reference a0 (colour_of row a0) ≤ length row
+  pub b2_within : b2 reference a0 (colour_of row a0) ≤ length row
   b2_within = omega (arith, b2_is.within)
 
-  b2_right : passed a0 ≤ b2 reference a0 (colour_of row a0)
+  pub b2_right : passed a0 ≤ b2 reference a0 (colour_of row a0)
   b2_right = omega (arith, b1_right, next_is_ahead reference (Some (b1 reference a0 (colour_of row a0))) _ b2_is (omega (arith, b1_within)))
 
   pass_chosen : (rest : List Bool) → b2 reference a0 (colour_of row a0) < next_change row a0 → IsChosen reference row a0 rest Pass
@@ -208,3 +217,21 @@ module _ (reference row : List Colour) (same_width : length reference ≡ length
 
   pub chosen : RunsAreRead → HasWidth row → (rest : List Bool) → IsChosen reference row a0 rest (chosen_mode (places reference row a0))
   chosen runs_read limits rest = by_tests runs_read limits rest _ _ refl refl
+
+  -- a1 is not left of the first pel of the step
+  pub a1_ahead : first_of a0 ≤ next_change row a0
+  a1_ahead = first_passed a0 (next_change row a0) a1_right
+
+  -- the next step begins further right, and within the row
+  place_by_tests : (pass near : Bool) → nat_lt (b2 reference a0 (colour_of row a0)) (next_change row a0) ≡ pass
+      → IsPlaceAhead a0 (length row)
+      (next_a0
+      (if pass then Pass
+      else (if near then Vertical (pos (next_change row a0) -ℤ pos (b1 reference a0 (colour_of row a0))) else Horizontal))
+      (places reference row a0))
+  place_by_tests true near is = record { right = b2_right; within = b2_within }
+  place_by_tests false true is = record { right = a1_right; within = a1_is.within }
+  place_by_tests false false is = record { right = omega (arith, a1_right, a2_ahead); within = a2_is.within }
+
+  pub place_ahead : IsPlaceAhead a0 (length row) (next_a0 (chosen_mode (places reference row a0)) (places reference row a0))
+  place_ahead = place_by_tests _ _ refl

@@ -9,3 +9,5 @@ pub mod ChoiceLemmas
 pub mod WrittenLemmas
 pub mod StepLaws
 pub mod AheadLemmas
+pub mod PutLemmas
+pub mod PlacedLemmas

@@ -7,7 +7,7 @@ use Rattle.fax_bits.specs.declared.Colour.TheVariants.{White, Black}
 use Rattle.fax_rows.specs.Elements.{runs_behind}
 
 -- behind the last pel stands the run so far
-runs_behind-nil : (colour : Colour) (n : ℕ) → runs_behind colour n [] ≡ n ∷ []
+pub runs_behind-nil : (colour : Colour) (n : ℕ) → runs_behind colour n [] ≡ n ∷ []
 unfolding runs_behind
 runs_behind-nil colour n = refl
 
@@ -30,7 +30,7 @@ runs_behind-other White White n pels other = absurd (other refl)
 runs_behind-other Black Black n pels other = absurd (other refl)
 
 -- the pel at place i is of the run's colour
-goes_on : (colour first : Colour) (n i : ℕ) (pels : List Colour) → i < length pels → get_or pels i White ≡ first → first ≡ colour
+pub goes_on : (colour first : Colour) (n i : ℕ) (pels : List Colour) → i < length pels → get_or pels i White ≡ first → first ≡ colour
     → runs_behind colour n (drop i pels) ≡ runs_behind colour (n + 1) (drop (i + 1) pels)
 goes_on colour first n i pels within at same =
     ap (λ xs. runs_behind colour n xs) (drop-cons pels i White within)
@@ -38,7 +38,7 @@ goes_on colour first n i pels within at same =
     ∙ ap (λ j. runs_behind colour (n + 1) (drop j pels)) (suc-eq-add-one i)
 
 -- it is of the other colour, so that a run ends before it
-turns : (colour first : Colour) (n i : ℕ) (pels : List Colour) → i < length pels → get_or pels i White ≡ first → first ≢ colour
+pub turns : (colour first : Colour) (n i : ℕ) (pels : List Colour) → i < length pels → get_or pels i White ≡ first → first ≢ colour
     → runs_behind colour n (drop i pels) ≡ n ∷ runs_behind first 1 (drop (i + 1) pels)
 turns colour first n i pels within at other =
     ap (λ xs. runs_behind colour n xs) (drop-cons pels i White within ∙ ap (λ x. x ∷ drop (suc i) pels) at)

@@ -33,7 +33,7 @@ pub record IsWrittenBack (reference row : List Colour) (from : Position) (b more
   pub pels : row ≡ last.pels
 
 -- no step is written at the row's end
-step_bits-end : (limit : ℕ) (reference row : List Colour) (a0 : Option ℕ) → first_of a0 ≡ length row → step_bits limit reference row a0 ≡ []
+pub step_bits-end : (limit : ℕ) (reference row : List Colour) (a0 : Option ℕ) → first_of a0 ≡ length row → step_bits limit reference row a0 ≡ []
 unfolding step_bits
 step_bits-end zero reference row a0 done = refl
 step_bits-end (suc limit) reference row a0 done =
@@ -41,7 +41,7 @@ step_bits-end (suc limit) reference row a0 done =
     rw ends refl
 
 -- elsewhere a step is written, and those behind it
-step_bits-more : (limit : ℕ) (reference row : List Colour) (a0 : Option ℕ) → first_of a0 < length row
+pub step_bits-more : (limit : ℕ) (reference row : List Colour) (a0 : Option ℕ) → first_of a0 < length row
     → step_bits (suc limit) reference row a0
     ≡ mode_bits (chosen_mode (places reference row a0)) ++ run_pair_bits (chosen_mode (places reference row a0)) row a0 (places reference row a0)
     ++ step_bits limit reference row (Some (next_a0 (chosen_mode (places reference row a0)) (places reference row a0)))
@@ -181,12 +181,11 @@ runs_back : RunsAreRead → (colour : Colour) (runs : List ℕ) (more : List Boo
     → AreRuns colour (alternating_bits colour runs ++ more) runs more
 unfolding alternating_bits
 runs_back runs_read colour [] more short = refl
-runs_back runs_read colour (n ∷ runs) more short =
-    (
-      alternating_bits (other colour) runs ++ more,
-      rw append_assoc (runs_read colour n (alternating_bits (other colour) runs ++ more) (omega (arith, sum-cons n runs))),
-      runs_back runs_read (other colour) runs more (omega (arith, sum-cons n runs)),
-    )
+runs_back runs_read colour (n ∷ runs) more short = (
+  alternating_bits (other colour) runs ++ more,
+  rw append_assoc (runs_read colour n (alternating_bits (other colour) runs ++ more) (omega (arith, sum-cons n runs))),
+  runs_back runs_read (other colour) runs more (omega (arith, sum-cons n runs)),
+)
 
 -- a row in one-dimensional coding is read back
 pub one_dimensional_back : RunsAreRead → (row : List Colour) → HasWidth row → (more : List Bool)

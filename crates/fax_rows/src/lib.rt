@@ -10,10 +10,11 @@ mod runs;
 #[cfg(test)]
 mod tests;
 
-pub use fax_bits::{BitSource, Colour, FillOrder, Memory};
+pub use fax_bits::{BitSink, BitSource, Colour, FillOrder, Memory};
 pub use one_dimensional::read_1d;
 pub use pels::Row;
 pub use places::b1_b2;
+pub use put::{put_1d, put_2d};
 use thiserror::Error;
 
 /// Why a row could not be read.

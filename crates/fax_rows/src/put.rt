@@ -1,13 +1,40 @@
 //! Rows as they are written, in T.4's own choice of codes (ITU-T T.4, sections 4.1.1 and
 //! 4.2.1.3.3; T.6, section 2.2.3).
-ghost use Rattle.std.specs.Prelude.{◌≡◌, ◌+◌, ◌-◌, ◌≤◌, ◌<◌, ◌^◌, length, true, unwrap_or, Some, None};
-ghost use Rattle.fax_rows.specs.Ahead.{IsAhead, AreB1B2, known};
-ghost use Rattle.fax_rows.specs.Coded.{chosen_mode, colour_of};
-ghost use Rattle.fax_rows.specs.Elements.{is_right_of, b1, b2};
+ghost use Rattle.std.specs.Prelude.{◌≡◌, ◌+◌, ◌-◌, ◌≤◌, ◌<◌, ◌^◌, length, true, unwrap_or, Some, None, OnOk, OnErr, IfOk};
+ghost use Rattle.fax_bits.specs.Sink.{Appends, AppendsPrefix};
+ghost use Rattle.fax_rows.specs.Ahead.{IsAhead, AreB1B2, known, bits_from, place_from, run_pair};
+ghost use Rattle.fax_rows.specs.Coded.{chosen_mode, colour_of, one_dimensional_bits, two_dimensional_bits};
+ghost use Rattle.fax_rows.specs.Elements.{is_right_of, next_change};
 
 use crate::pels::Row;
 use crate::places::b1_b2;
-use fax_bits::{Colour, ModeCode};
+use crate::runs::other;
+use fax_bits::{BitSink, Colour, Memory, ModeCode, put_mode, put_run};
+
+/// Puts a row in one-dimensional coding: the longest runs of white and black pels in turn, white
+/// first, which has no pels where the row begins black (T.4, section 4.1.1).
+///
+/// # Errors
+///
+/// `Memory` where a growth was refused. The row's bits were put up to some place then.
+pub fn put_1d(row: &Row, sink: &mut BitSink) -> Result<(), Memory>
+    ensures ok { OnOk result (Appends sink.old (one_dimensional_bits row.now) sink.new) }
+    ensures err { OnErr result (AppendsPrefix sink.old (one_dimensional_bits row.now) sink.new) }
+{
+    let mut colour = Colour::White;
+    let mut n = 0;
+    for i in 0..row.width() {
+        let pel = row.pel(i);
+        if pel == colour {
+            n += 1;
+        } else {
+            put_run(sink, colour, n)?;
+            n = 1;
+            colour = pel;
+        }
+    }
+    put_run(sink, colour, n)
+}
 
 /// The changing elements ahead of a0 on the row that is written and on its reference row.
 #[derive(Clone, Copy)]
@@ -98,4 +125,71 @@ fn choose(a1: u32, b1: u32, b2: u32) -> ModeCode
     } else {
         ModeCode::Horizontal
     }
+}
+
+/// The colour of a0: white just before the first pel.
+fn colour_at(row: &Row, a0: Option<u32>) -> Colour
+    requires { unwrap_or a0 0 < length row.now }
+    ensures { result ≡ colour_of row.now a0 }
+{
+    match a0 {
+        None => Colour::White,
+        Some(place) => row.pel(place),
+    }
+}
+
+/// Puts the two runs of horizontal mode, a0a1 and a1a2, and answers a2 (T.4, section 4.2.1.3.2).
+fn put_run_pair(row: &Row, ahead: Ahead, colour: Colour, sink: &mut BitSink) -> Result<u32, Memory>
+    requires a0 { unwrap_or ahead.a0 0 ≤ ahead.a1 }
+    requires a1 { ahead.a1 ≤ length row.now }
+    requires short { length row.now < 2 ^ 16 }
+    ensures ok { OnOk result (Appends sink.old (run_pair row.now ahead.a0 colour ahead.a1) sink.new) }
+    ensures a2 { IfOk result (λ a2. a2 ≡ next_change row.now (Some ahead.a1)) }
+    ensures err { OnErr result (AppendsPrefix sink.old (run_pair row.now ahead.a0 colour ahead.a1) sink.new) }
+{
+    let a2 = row.next_change(Some(ahead.a1));
+    put_run(sink, colour, ahead.a1 - ahead.a0.unwrap_or(0))?;
+    put_run(sink, other(colour), a2 - ahead.a1)?;
+    Ok(a2)
+}
+
+/// Puts the step from a0, and answers where the next one begins.
+fn put_step(reference: &Row, row: &Row, ahead: Ahead, sink: &mut BitSink) -> Result<u32, Memory>
+    requires same_width { length reference.now ≡ length row.now }
+    requires places { IsAhead reference.now row.now ahead }
+    requires unfinished { unwrap_or ahead.a0 0 < length row.now }
+    requires short { length row.now < 2 ^ 16 }
+    ensures ok { OnOk result (Appends sink.old (bits_from reference.now row.now ahead.a0) sink.new) }
+    ensures next { IfOk result (λ place. place ≡ place_from reference.now row.now ahead.a0) }
+    ensures err { OnErr result (AppendsPrefix sink.old (bits_from reference.now row.now ahead.a0) sink.new) }
+{
+    let colour = colour_at(row, ahead.a0);
+    let (b1, b2) = ahead.b1_b2(colour);
+    let mode = choose(ahead.a1, b1, b2);
+    put_mode(sink, mode)?;
+    match mode {
+        ModeCode::Pass => Ok(b2),
+        ModeCode::Horizontal => put_run_pair(row, ahead, colour, sink),
+        ModeCode::Vertical(_) | ModeCode::Extension => Ok(ahead.a1),
+    }
+}
+
+/// Puts a row in two-dimensional coding over its reference row (T.4, section 4.2.1.3.3; T.6,
+/// section 2.2.3). It takes time in proportion to the width.
+///
+/// # Errors
+///
+/// `Memory` where a growth was refused. The row's bits were put up to some place then.
+pub fn put_2d(reference: &Row, row: &Row, sink: &mut BitSink) -> Result<(), Memory>
+    requires same_width { length reference.now ≡ length row.now }
+    ensures ok { OnOk result (Appends sink.old (two_dimensional_bits reference.now row.now) sink.new) }
+    ensures err { OnErr result (AppendsPrefix sink.old (two_dimensional_bits reference.now row.now) sink.new) }
+{
+    let width = row.width();
+    let mut ahead = Ahead::of_row(reference, row);
+    while ahead.a0.unwrap_or(0) < width {
+        let place = put_step(reference, row, ahead, sink)?;
+        ahead = ahead.from_place(reference, row, place);
+    }
+    Ok(())
 }

@@ -1,0 +1,120 @@
+-- Bits that are put part by part.
+use Rattle.std.proofs.Common.{◌≡◌, ◌≢◌, ℕ, ◌+◌, ◌<◌, ◌≤◌, List, [], ◌∷◌, ◌++◌, length, drop, get_or, Bool, refl, ap, sym, ◌∙◌, append_assoc}
+use Rattle.std.specs.Prelude.{Result, Ok, Err, OnErr}
+use Rattle.std.proofs.lemmas.List.{append-nil, drop_all}
+use Rattle.fax_bits.specs.declared.Colour.{Colour}
+use Rattle.fax_bits.specs.declared.Colour.TheVariants.{White, Black}
+use Rattle.fax_bits.specs.Runs.{run_bits}
+use Rattle.fax_bits.specs.Sink.{Sink, Appends, AppendsPrefix}
+use Rattle.fax_rows.specs.Coded.{alternating_bits}
+use Rattle.fax_rows.specs.Elements.{other, runs_behind}
+use Rattle.fax_rows.proofs.RowRunLemmas.{goes_on, turns, runs_behind-nil}
+
+-- all but the missing bits are put
+pub record IsPutUpTo (old : Sink) (all missing : List Bool) (new : Sink) : Type 0 where
+  pub done : List Bool
+  pub appended : Appends old done new
+  pub parts : all ≡ done ++ missing
+
+appends_two : (old mid new : Sink) (first second : List Bool) → Appends old first mid → Appends mid second new → Appends old (first ++ second) new
+appends_two old mid new first second before behind =
+    let bits = append_assoc old.bits first second in
+    cc
+
+pub put_begins : (sink : Sink) (all : List Bool) → IsPutUpTo sink all all sink
+put_begins sink all = record {
+  done = [];
+  appended = ap (λ b. record { order = sink.order; bits = b }) (sym (append-nil sink.bits));
+  parts = refl;
+}
+
+pub put_goes_on : (old mid new : Sink) (all left first missing : List Bool) → IsPutUpTo old all left mid → left ≡ first ++ missing
+    → Appends mid first new → IsPutUpTo old all missing new
+put_goes_on old mid new all left first missing so_far parts more = record {
+  done = so_far.done ++ first;
+  appended = appends_two old mid new so_far.done first so_far.appended more;
+  parts = so_far.parts ∙ ap (λ b. so_far.done ++ b) parts ∙ sym (append_assoc so_far.done first missing);
+}
+
+-- the missing bits in other words
+pub put_same : (old new : Sink) (all left missing : List Bool) → IsPutUpTo old all left new → left ≡ missing → IsPutUpTo old all missing new
+put_same old new all left missing so_far is = record {
+  done = so_far.done;
+  appended = so_far.appended;
+  parts = so_far.parts ∙ ap (λ b. so_far.done ++ b) is;
+}
+
+-- a fact holds also where it is asked for after an error alone
+pub on_err : {T E P : Type 0} (r : Result T E) → P → OnErr r P
+on_err (Ok x) fact = tt
+on_err (Err x) fact = fact
+
+-- the last bits are put
+pub put_ends : (old mid new : Sink) (all left last : List Bool) → IsPutUpTo old all left mid → left ≡ last → Appends mid last new
+    → Appends old all new
+put_ends old mid new all left last so_far is more =
+    let bits = appends_two old mid new so_far.done last so_far.appended more in
+    let parts = so_far.parts in
+    cc
+
+-- no bits are missing
+pub put_all : (old new : Sink) (all left : List Bool) → IsPutUpTo old all left new → left ≡ [] → Appends old all new
+put_all old new all left so_far none =
+    let parts = so_far.parts ∙ ap (λ b. so_far.done ++ b) none ∙ append-nil so_far.done in
+    let appended = so_far.appended in
+    cc
+
+-- where a growth was refused, the first bits are put
+pub put_stops : (old mid new : Sink) (all left first missing : List Bool) → IsPutUpTo old all left mid → left ≡ first ++ missing
+    → AppendsPrefix mid first new → AppendsPrefix old all new
+put_stops old mid new all left first missing so_far parts more = record {
+  done = so_far.done ++ more.done;
+  missing = more.missing ++ missing;
+  appended = appends_two old mid new so_far.done more.done so_far.appended more.appended;
+  parts = so_far.parts
+      ∙ ap (λ b. so_far.done ++ b) (parts ∙ ap (λ b. b ++ missing) more.parts ∙ append_assoc more.done more.missing missing)
+      ∙ sym (append_assoc so_far.done more.done (more.missing ++ missing));
+}
+
+-- and where it was refused in the last of them
+pub put_stops_in_last : (old mid new : Sink) (all left last : List Bool) → IsPutUpTo old all left mid → left ≡ last
+    → AppendsPrefix mid last new → AppendsPrefix old all new
+put_stops_in_last old mid new all left last so_far is more =
+    put_stops old mid new all left last [] so_far (is ∙ sym (append-nil last)) more
+
+-- nothing more was put
+pub put_stopped : (old new : Sink) (all missing : List Bool) → IsPutUpTo old all missing new → AppendsPrefix old all new
+put_stopped old new all missing so_far = record {
+  done = so_far.done;
+  missing = missing;
+  appended = so_far.appended;
+  parts = so_far.parts;
+}
+
+-- the bits of the runs that are left, where the pel at place i goes on with a run
+pub row_bits_go_on : (colour pel : Colour) (n i : ℕ) (row : List Colour) → i < length row → get_or row i White ≡ pel → pel ≡ colour
+    → alternating_bits colour (runs_behind colour n (drop i row)) ≡ alternating_bits colour (runs_behind colour (n + 1) (drop (i + 1) row))
+row_bits_go_on colour pel n i row within at same = ap (alternating_bits colour) (goes_on colour pel n i row within at same)
+
+-- where it is of the other colour
+pub row_bits_turn : (colour pel : Colour) (n i : ℕ) (row : List Colour) → i < length row → get_or row i White ≡ pel → pel ≢ colour
+    → alternating_bits colour (runs_behind colour n (drop i row)) ≡ run_bits colour n ++ alternating_bits pel (runs_behind pel 1 (drop (i + 1) row))
+unfolding alternating_bits
+row_bits_turn colour pel n i row within at differs =
+    ap (alternating_bits colour) (turns colour pel n i row within at differs)
+    ∙ ap (λ c. run_bits colour n ++ alternating_bits c (runs_behind pel 1 (drop (i + 1) row))) (sym (differs_is colour pel differs))
+  where
+    differs_is : (colour pel : Colour) → pel ≢ colour → pel ≡ other colour
+    differs_is White Black h = refl
+    differs_is Black White h = refl
+    differs_is White White h = absurd (h refl)
+    differs_is Black Black h = absurd (h refl)
+
+-- behind the last pel
+pub row_bits_end : (colour : Colour) (n i : ℕ) (row : List Colour) → length row ≤ i
+    → alternating_bits colour (runs_behind colour n (drop i row)) ≡ run_bits colour n
+unfolding alternating_bits
+row_bits_end colour n i row over =
+    ap (λ pels. alternating_bits colour (runs_behind colour n pels)) (drop_all i row over)
+    ∙ ap (alternating_bits colour) (runs_behind-nil colour n)
+    ∙ append-nil (run_bits colour n)
