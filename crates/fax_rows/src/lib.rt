@@ -1,4 +1,5 @@
-//! Rows of fax pages, read in one-dimensional coding (ITU-T T.4).
+//! Rows of fax pages, read in one-dimensional and two-dimensional coding (ITU-T T.4
+//! and T.6).
 #![tactic(auto)]
 
 pub mod laws;
@@ -8,12 +9,14 @@ mod places;
 mod runs;
 #[cfg(test)]
 mod tests;
+mod two_dimensional;
 
 pub use fax_bits::{BitSource, Colour, FillOrder, Memory};
 pub use one_dimensional::read_1d;
 pub use pels::Row;
 pub use places::b1_b2;
 use thiserror::Error;
+pub use two_dimensional::read_2d;
 
 /// Why a row could not be read.
 #[derive(Clone, Copy, Debug, PartialEq, Eq, Error)]
