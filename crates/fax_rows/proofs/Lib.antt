@@ -1,4 +1,6 @@
 pub mod PlaceLemmas
+pub mod PaintLemmas
+pub mod StepLemmas
 pub mod RunLemmas
 pub mod RowLemmas
 pub mod RowRunLemmas

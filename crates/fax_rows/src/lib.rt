@@ -1,4 +1,5 @@
-//! Rows of fax pages, read in one-dimensional coding (ITU-T T.4).
+//! Rows of fax pages, read in one-dimensional and two-dimensional coding (ITU-T T.4
+//! and T.6).
 #![tactic(auto)]
 
 pub mod laws;
@@ -9,6 +10,7 @@ mod put;
 mod runs;
 #[cfg(test)]
 mod tests;
+mod two_dimensional;
 
 pub use fax_bits::{BitSink, BitSource, Colour, FillOrder, Memory};
 pub use one_dimensional::read_1d;
@@ -16,6 +18,7 @@ pub use pels::Row;
 pub use places::b1_b2;
 pub use put::{put_1d, put_2d};
 use thiserror::Error;
+pub use two_dimensional::read_2d;
 
 /// Why a row could not be read.
 #[derive(Clone, Copy, Debug, PartialEq, Eq, Error)]

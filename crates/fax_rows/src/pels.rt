@@ -1,5 +1,5 @@
 //! A row of pels.
-ghost use Rattle.std.specs.Prelude.{◌≡◌, ℕ, ◌+◌, ◌≤◌, ◌<◌, ◌^◌, length, replicate, slice_index_or, IfOk};
+ghost use Rattle.std.specs.Prelude.{◌≡◌, ℕ, ◌+◌, ◌≤◌, ◌<◌, ◌^◌, length, ◌++◌, take, replicate, slice_index_or, IfOk};
 ghost use Rattle.fax_rows.specs.Elements.{runs_of, pel as pel_of};
 
 use fax_bits::{Colour, Memory};
@@ -88,6 +88,7 @@ impl Row {
         requires { from + n ≤ length self.old }
         ensures before { (k : ℕ) → k < from → pel_of self.new k ≡ pel_of self.old k }
         ensures painted { (k : ℕ) → from ≤ k → k < from + n → pel_of self.new k ≡ colour }
+        ensures front { take (from + n) self.new ≡ take from self.old ++ replicate n colour }
         ensures same_width { length self.new ≡ length self.old }
     {
         let first = from as usize;

@@ -88,6 +88,7 @@ pub fn b1_b2(reference: &Row, a0: Option<u32>, colour: Colour) -> (u32, u32)
     ensures first { result.0 ≡ b1 reference.now a0 colour }
     ensures second { result.1 ≡ b2 reference.now a0 colour }
     ensures within { result.1 ≤ length reference.now }
+    ensures right { result.1 < length reference.now → is_right_of a0 result.1 ≡ true }
 {
     let b1 = reference.next_of(a0, colour);
     (b1, reference.next_change(Some(b1)))

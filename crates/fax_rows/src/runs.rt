@@ -20,7 +20,7 @@ pub fn other(colour: Colour) -> Colour
 }
 
 /// A row's name for the fault of a code.
-fn row_fault(fault: CodeFault) -> RowFault
+pub fn row_fault(fault: CodeFault) -> RowFault
     ensures { result ≡ fault_of_code fault }
 {
     match fault {

@@ -1,5 +1,5 @@
-//! Rows whose bits were written by hand from tables 2 and 3 of T.4.
-use crate::{BitSource, Colour, FillOrder, Row, RowFault, read_1d};
+//! Rows whose bits were written by hand from tables 2 to 4 of T.4.
+use crate::{BitSource, Colour, FillOrder, Row, RowFault, b1_b2, read_1d, read_2d};
 use std::test::Fail;
 
 /// 25 times 2,560 white pels, then 1,472 and 63.
@@ -8,6 +8,15 @@ const WIDEST_WHITE: [u8; 40] = [
     0xF0, 0x1F, 0x01, 0xF0, 0x1F, 0x01, 0xF0, 0x1F, 0x01, 0xF0, 0x1F, 0x01, 0xF0, 0x1F, 0x01, 0xF0,
     0x1F, 0x01, 0xF0, 0x1F, 0x01, 0xF4, 0xC1, 0xA0,
 ];
+
+/// Eight white pels: a white run of 8.
+const WHITE: &[u8] = &[0x98];
+
+/// Runs of 3, 2 and 3.
+const BLACK_INSIDE: &[u8] = &[0x8E, 0x00];
+
+/// Two black pels, then six white ones.
+const BLACK_FIRST: &[u8] = &[0x35, 0xF8];
 
 #[test]
 fn reads_rows(rt: HostRuntime) -> Result<(), Fail> {
@@ -76,5 +85,132 @@ fn numbers_pels_from_the_left(rt: HostRuntime) -> Result<(), Fail> {
         assert_eq!(rt; row.pel(i), want, "at {i}");
     }
     assert_eq!(rt; source.place(), 10);
+    Ok(())
+}
+
+#[test]
+fn finds_b1_and_b2(rt: HostRuntime) -> Result<(), Fail> {
+    let cases = [
+        ("inside", BLACK_INSIDE, None, Colour::White, (3, 5)),
+        (
+            "at the first change",
+            BLACK_INSIDE,
+            Some(3),
+            Colour::Black,
+            (5, 8),
+        ),
+        ("at the first pel", BLACK_FIRST, None, Colour::White, (0, 2)),
+        (
+            "behind the first pel",
+            BLACK_FIRST,
+            Some(0),
+            Colour::Black,
+            (2, 8),
+        ),
+        (
+            "no black is left",
+            BLACK_FIRST,
+            Some(0),
+            Colour::White,
+            (8, 8),
+        ),
+    ];
+    for (name, bytes, a0, colour, places) in cases {
+        assert!(rt; bytes.len() < 100);
+        let mut row = Row::white(rt.alloc(), 8)?;
+        let mut source = BitSource::new(bytes, FillOrder::MsbFirst);
+        assert_eq!(rt; read_1d(&mut source, &mut row), Ok(()), "{name}");
+        assert_eq!(rt; b1_b2(&row, a0, colour), places, "{name}");
+    }
+    Ok(())
+}
+
+#[test]
+fn reads_rows_over_a_reference(rt: HostRuntime) -> Result<(), Fail> {
+    let cases: [(&str, &[u8], &[u8], &[u32]); 9] = [
+        ("V0", WHITE, &[0x80], &[8]),
+        ("V0 from the first pel on", BLACK_FIRST, &[0xE0], &[0, 2, 6]),
+        ("pass and V0", BLACK_INSIDE, &[0x18], &[8]),
+        ("VL1, VR1 and V0", BLACK_INSIDE, &[0x4E], &[2, 4, 2]),
+        ("VR2, VL2 and V0", BLACK_INSIDE, &[0x0C, 0x28], &[5, 1, 2]),
+        ("VR3, VL3 and V0", BLACK_FIRST, &[0x06, 0x0A], &[3, 2, 3]),
+        ("horizontal and V0", WHITE, &[0x31, 0xC0], &[3, 2, 3]),
+        ("horizontal to the end", WHITE, &[0x36, 0xC0], &[4, 4]),
+        (
+            "runs of 0 move a0 to the first pel",
+            BLACK_FIRST,
+            &[0x26, 0xA1, 0xBC],
+            &[8],
+        ),
+    ];
+    for (name, over, bytes, runs) in cases {
+        assert!(rt; over.len() < 100 && bytes.len() < 100);
+        let mut reference = Row::white(rt.alloc(), 8)?;
+        let mut source = BitSource::new(over, FillOrder::MsbFirst);
+        assert_eq!(rt; read_1d(&mut source, &mut reference), Ok(()), "{name}");
+        let mut row = Row::white(rt.alloc(), 8)?;
+        let mut source = BitSource::new(bytes, FillOrder::MsbFirst);
+        assert_eq!(rt;
+            read_2d(&mut source, &reference, &mut row),
+            Ok(()),
+            "{name}"
+        );
+        assert_eq!(rt; row.runs(rt.alloc())?.as_slice(), runs, "{name}");
+    }
+    Ok(())
+}
+
+#[test]
+fn names_the_first_fault_over_a_reference(rt: HostRuntime) -> Result<(), Fail> {
+    let cases: [(&str, &[u8], &[u8], RowFault); 11] = [
+        ("no bits", WHITE, &[], RowFault::DataEnds),
+        ("within a mode", BLACK_INSIDE, &[0xC0], RowFault::DataEnds),
+        ("within a first run", WHITE, &[0x20], RowFault::DataEnds),
+        ("within a second run", WHITE, &[0x30], RowFault::DataEnds),
+        ("a first run to the end", WHITE, &[0x33], RowFault::DataEnds),
+        ("no mode", WHITE, &[0x00, 0x80], RowFault::BadCode),
+        ("an extension", WHITE, &[0x02], RowFault::Extension),
+        ("VR1 past the end", WHITE, &[0x60], RowFault::OutOfRow),
+        (
+            "VL1 at the first pel",
+            BLACK_FIRST,
+            &[0x40],
+            RowFault::OutOfRow,
+        ),
+        ("nine white pels", WHITE, &[0x34], RowFault::RunTooLong),
+        (
+            "three and six pels",
+            WHITE,
+            &[0x30, 0x40],
+            RowFault::RunTooLong,
+        ),
+    ];
+    for (name, over, bytes, fault) in cases {
+        assert!(rt; over.len() < 100 && bytes.len() < 100);
+        let mut reference = Row::white(rt.alloc(), 8)?;
+        let mut source = BitSource::new(over, FillOrder::MsbFirst);
+        assert_eq!(rt; read_1d(&mut source, &mut reference), Ok(()), "{name}");
+        let mut row = Row::white(rt.alloc(), 8)?;
+        let mut source = BitSource::new(bytes, FillOrder::MsbFirst);
+        assert_eq!(rt;
+            read_2d(&mut source, &reference, &mut row),
+            Err(fault),
+            "{name}"
+        );
+    }
+    Ok(())
+}
+
+#[test]
+fn reads_on_behind_a_row(rt: HostRuntime) -> Result<(), Fail> {
+    let mut reference = Row::white(rt.alloc(), 8)?;
+    let mut row = Row::white(rt.alloc(), 8)?;
+    let mut source = BitSource::new(&[0xB0, 0xDE, 0xE0], FillOrder::MsbFirst);
+    assert_eq!(rt; read_1d(&mut source, &mut reference), Ok(()));
+    assert_eq!(rt; reference.runs(rt.alloc())?.as_slice(), [8u32].as_slice());
+    assert_eq!(rt; source.place(), 18);
+    assert_eq!(rt; read_2d(&mut source, &reference, &mut row), Ok(()));
+    assert_eq!(rt; row.runs(rt.alloc())?.as_slice(), [8u32].as_slice());
+    assert_eq!(rt; source.place(), 19);
     Ok(())
 }

@@ -1,0 +1,38 @@
+-- Pels that are painted from a place on.
+use Rattle.std.proofs.Common.{◌≡◌, ℕ, ◌+◌, ◌-◌, ◌<◌, ◌≤◌, List, ◌++◌, length, take, get_or, replicate, sym, ◌∙◌, arith, length-append, inl, inr}
+use Rattle.std.specs.Prelude.{◌⊎◌}
+use Rattle.std.proofs.lemmas.Bool.{cases_lt}
+use Rattle.std.proofs.Math.ListN.{get_or-append}
+use Rattle.std.proofs.Math.Seq.{get_or-append_right}
+use Rattle.std.proofs.lemmas.List.{get_or-replicate, length-replicate, get_or-take, length-take-le}
+use Rattle.fax_bits.specs.declared.Colour.{Colour}
+use Rattle.fax_bits.specs.declared.Colour.TheVariants.{White}
+use Rattle.fax_rows.proofs.RowLemmas.{same_pels}
+
+-- the pels up to the last painted one
+pub painted_front : (old new : List Colour) (from n : ℕ) (colour : Colour) → from + n ≤ length old → length new ≡ length old
+    → ((k : ℕ) → k < from → get_or new k White ≡ get_or old k White)
+    → ((k : ℕ) → from ≤ k → k < from + n → get_or new k White ≡ colour)
+    → take (from + n) new ≡ take from old ++ replicate n colour
+painted_front old new from n colour within len before painted =
+    same_pels (take (from + n) new) (take from old ++ replicate n colour)
+    (omega (arith, length-append (take from old) (replicate n colour), length-replicate n colour, short, long))
+    (λ k h. by k (omega (arith, long)) (cases_lt k from))
+  where
+    short : length (take from old) ≡ from
+    short = length-take-le from old (omega arith)
+
+    long : length (take (from + n) new) ≡ from + n
+    long = length-take-le (from + n) new (omega arith)
+
+    by : (k : ℕ) → k < from + n → (k < from) ⊎ (from ≤ k) → get_or (take (from + n) new) k White ≡ get_or (take from old ++ replicate n colour) k White
+    by k h (inl less) =
+        let left : k < length (take from old) = omega (arith, short) in
+        get_or-take (from + n) new k White h ∙ before k less ∙ sym (get_or-take from old k White less)
+        ∙ sym (get_or-append (take from old) (replicate n colour) White k left)
+    by k h (inr more) =
+        let right : length (take from old) ≤ k = omega (arith, short) in
+        let near : k - length (take from old) < n = omega (arith, short) in
+        get_or-take (from + n) new k White h ∙ painted k more h
+        ∙ sym (get_or-replicate n (k - length (take from old)) colour White near)
+        ∙ sym (get_or-append_right (take from old) (replicate n colour) k White right)

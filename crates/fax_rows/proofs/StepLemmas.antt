@@ -1,0 +1,84 @@
+-- A row in two-dimensional coding, step by step.
+use Rattle.std.proofs.Common.{◌≡◌, ℕ, ◌<◌, List, [], ◌∷◌, ◌++◌, length, Option, Some, None, Bool, pos, negsuc, ◌+ℤ◌, ◌≤ℤ◌, ℤ, refl, ap, ◌∙◌, arith}
+use Rattle.std.specs.Prelude.{unwrap_or, nat_abs}
+use Rattle.std.proofs.lemmas.Int.{ints}
+use Rattle.fax_bits.specs.declared.Colour.{Colour}
+use Rattle.fax_bits.specs.declared.Colour.TheVariants.{White}
+use Rattle.fax_rows.specs.declared.RowFault.{RowFault}
+use Rattle.fax_rows.specs.declared.two_dimensional.Reached.{Reached}
+use Rattle.fax_rows.specs.Elements.{other}
+use Rattle.fax_rows.specs.TwoDimensional.{Position, beginning, a0_number, coloured_up_to, b1_from, IsInRow, IsVerticalStep, IsStep, IsUnfinished, AreSteps}
+use Rattle.fax_rows.specs.Reached.{position_of, reached_pel}
+use Rattle.fax_rows.specs.Faults.{IsHorizontalFault}
+
+-- a0 just before the first pel
+pub number-none : (at : Position) → at.a0 ≡ None → negsuc 0 ≡ a0_number at
+number-none at e = rw e refl
+
+-- a0 at a pel
+pub number-some : (at : Position) (a : ℕ) → at.a0 ≡ Some a → pos a ≡ a0_number at
+number-some at a e = rw e refl
+
+-- a place that is not negative
+pub abs-same : (z sum : ℤ) → pos 0 ≤ℤ z → z ≡ sum → pos (nat_abs z) ≡ sum
+abs-same (pos n) sum h same = same
+abs-same (negsuc n) sum h same = absurd (omega (arith, ints))
+
+abbrev with_colour : Colour → Position → Position
+with_colour colour at = record at { colour = colour }
+
+-- the colour changes where a step ends
+turned : (at next : Reached) (old new : List Colour) (to : ℕ) (colour : Colour)
+    → position_of next new ≡ coloured_up_to (position_of at old) to → colour ≡ other at.colour
+    → with_colour colour (position_of next new) ≡ with_colour (other at.colour) (coloured_up_to (position_of at old) to)
+turned at next old new to colour coloured turn =
+    ap (with_colour colour) coloured ∙ ap (λ c. with_colour c (coloured_up_to (position_of at old) to)) turn
+
+-- a step in vertical mode
+pub vertical_step : (reference old new : List Colour) (at next : Reached) (d : ℤ) (a1 : ℕ) (colour : Colour)
+    → IsInRow reference (position_of at old) d → pos a1 ≡ (pos (b1_from reference (position_of at old)) +ℤ d)
+    → position_of next new ≡ coloured_up_to (position_of at old) a1 → colour ≡ other at.colour
+    → IsVerticalStep reference (position_of at old) d (position_of (record { a0 = next.a0; colour = colour }) new)
+vertical_step reference old new at next d a1 colour in_row a1_is coloured turn = record {
+  in_row = in_row;
+  a1 = a1;
+  a1_is = a1_is;
+  new_is = turned at next old new a1 colour coloured turn;
+}
+
+-- the fault of a horizontal mode is the same over each reference row of this width
+pub horizontal_fault : (reference row : List Colour) (at : Position) (b : List Bool) (fault : RowFault)
+    → length reference ≡ length row → IsHorizontalFault row at b fault → IsHorizontalFault reference at b fault
+horizontal_fault reference row at b fault same h = rw same h
+
+AreSteps-push : (reference : List Colour) (old : Position) (b : List Bool) (positions : List Position) (at new : Position) (mid rest : List Bool)
+    → AreSteps reference old b positions at mid → IsUnfinished reference at → IsStep reference at mid new rest
+    → AreSteps reference old b (positions ++ new ∷ []) new rest
+AreSteps-push reference old b [] at new mid rest steps unfinished step =
+    (rw (← steps.0) unfinished, rest, rw (← steps.0, steps.1) step, (refl, refl))
+AreSteps-push reference old b (next ∷ more) at new mid rest steps unfinished step =
+    (steps.0, steps.1, steps.2, AreSteps-push reference next steps.1 more at new mid rest steps.3 unfinished step)
+
+-- steps of a row so far
+pub record AreStepsSoFar (reference : List Colour) (b : List Bool) (at : Position) (rest : List Bool) : Type 0 where
+  pub positions : List Position
+  pub steps : AreSteps reference beginning b positions at rest
+
+pub steps_begin : (reference row : List Colour) (b : List Bool)
+    → AreStepsSoFar reference b (position_of (record { a0 = None; colour = White }) row) b
+steps_begin reference row b = record { positions = []; steps = (refl, refl) }
+
+-- a row is unfinished while a pel is left
+unfinished_below : (reference : List Colour) (o : Option ℕ) → unwrap_or o 0 < length reference → o ≡ Some (length reference) → ⊥
+unfinished_below reference None less e = cc
+unfinished_below reference (Some a) less e = let same : a ≡ length reference = cc in omega arith
+
+pub steps_go_on : (reference : List Colour) (b : List Bool) (at next : Reached) (old new : List Colour) (mid rest : List Bool)
+    → AreStepsSoFar reference b (position_of at old) mid → reached_pel at < length reference
+    → IsStep reference (position_of at old) mid (position_of next new) rest
+    → AreStepsSoFar reference b (position_of next new) rest
+steps_go_on reference b at next old new mid rest so_far less step = record {
+  positions = so_far.positions ++ position_of next new ∷ [];
+  steps = AreSteps-push reference beginning b so_far.positions (position_of at old) (position_of next new) mid rest so_far.steps
+      (unfinished_below reference at.a0 less) step;
+}

@@ -1,0 +1,13 @@
+use Rattle.std.proofs.Common.{inr}
+use Rattle.std.proofs.lemmas.Result.{IfErr-weaker}
+use Rattle.fax_bits.specs.declared.modes.ModeCode.TheVariants.{Horizontal}
+use Rattle.fax_rows.specs.Reached.{position_of}
+use Rattle.fax_rows.proofs.StepLemmas.{horizontal_fault}
+use Rattle.fax_rows.proofs.two_dimensional.step.Goals as goal
+
+pub returns-in-Ok-Horizontal-clause-err : goal.returns-in-Ok-Horizontal-clause-err
+returns-in-Ok-Horizontal-clause-err c =
+    let taken = rw c.in-Ok-Horizontal.field-0-is at c.in-Ok-Horizontal.ensures.ok in
+    IfErr-weaker c.horizontal.result _ _
+    (λ fault h. inr (Horizontal, c.read_code.new.source.left, taken, horizontal_fault c.args.reference.now c.args.row.now (position_of c.args.at c.args.row.now) _ fault c.requires.width h))
+    c.horizontal.ensures.err
