@@ -8,4 +8,3 @@ pub mod ZeroLemmas
 pub mod PeekLemmas
 pub mod PrefixLemmas
 pub mod ReadingLemmas
-pub mod TableLaws
