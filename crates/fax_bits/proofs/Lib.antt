@@ -8,4 +8,6 @@ pub mod ZeroLemmas
 pub mod PeekLemmas
 pub mod PrefixLemmas
 pub mod ReadingLemmas
-pub mod TableLaws
+pub mod RunCodeLemmas
+pub mod ModeLemmas
+pub mod PutLemmas

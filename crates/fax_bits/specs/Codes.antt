@@ -1,5 +1,5 @@
 -- What it is that bits begin with a code of a table, or with none.
-use Rattle.std.specs.Prelude.{◌≡◌, Bool, List, [], ◌∷◌, ◌++◌, Contains}
+use Rattle.std.specs.Prelude.{◌≡◌, ℕ, zero, suc, ◌^◌, ◌<◌, ◌≤◌, Bool, List, [], ◌∷◌, ◌++◌, Contains}
 use Rattle.fax_bits.specs.declared.codes.CodeEntry.{CodeEntry}
 use Rattle.fax_bits.specs.declared.codes.CodeFault.{CodeFault}
 use Rattle.fax_bits.specs.declared.codes.CodeFault.TheVariants.{DataEnds, BadCode}
@@ -8,6 +8,23 @@ use Rattle.fax_bits.specs.Bits.{code_bits}
 -- the bits of an entry's code (T.4, tables 2, 3a, 3b and 4)
 abbrev pub bits_of : {M : Type 0} → CodeEntry M → List Bool
 bits_of entry = code_bits entry.len entry.code
+
+-- the bits of the code at a place of the table (T.4, tables 2, 3a, 3b and 4)
+abbrev pub bits_at : {M : Type 0} → List (CodeEntry M) → ℕ → List Bool
+bits_at [] place = []
+bits_at (entry ∷ table) zero = bits_of entry
+bits_at (entry ∷ table) (suc place) = bits_at table place
+
+-- each code has 1 to 13 bits, and its number no more than these (T.4, tables 2, 3a, 3b and 4)
+abbrev pub HasShortCodes : {M : Type 0} → List (CodeEntry M) → Type 0
+HasShortCodes {M} table =
+    (entry : CodeEntry M) → Contains table entry → (0 < entry.len) × (entry.len ≤ 13) × (entry.code < 2 ^ entry.len)
+
+-- no entry's code begins the code of another entry (T.4, tables 2, 3a, 3b and 4)
+abbrev pub IsPrefixFree : {M : Type 0} → List (CodeEntry M) → Type 0
+IsPrefixFree {M} table =
+    (entry other : CodeEntry M) (more : List Bool) → Contains table entry → Contains table other
+    → bits_of other ≡ bits_of entry ++ more → entry ≡ other
 
 -- the bits begin with the code of some entry that has this meaning, and the rest follows it (T.4, section 4.1.1)
 pub record Takes {M : Type 0} (table : List (CodeEntry M)) (b : List Bool) (meaning : M) (rest : List Bool) : Type 0 where

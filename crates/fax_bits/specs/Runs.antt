@@ -1,5 +1,5 @@
 -- Runs of pels of one colour, and the codes that are written (ITU-T T.4, sections 4.1.1 and 4.2.1.3.2).
-use Rattle.std.specs.Prelude.{◌≡◌, ℕ, ◌+◌, ◌*◌, ◌/◌, ◌%◌, Bool, true, false, if◌then◌else◌, ◌==◌, List, [], ◌∷◌, ◌++◌, map, sum, flat_map, replicate}
+use Rattle.std.specs.Prelude.{◌≡◌, ℕ, pos, negsuc, ◌≤ℤ◌, ◌+◌, ◌*◌, ◌/◌, ◌%◌, Bool, true, false, if◌then◌else◌, ◌==◌, List, [], ◌∷◌, ◌++◌, map, sum, flat_map, replicate}
 use Rattle.std.specs.Ordering.{int_eq}
 use Rattle.fax_bits.specs.declared.codes.CodeEntry.{CodeEntry}
 use Rattle.fax_bits.specs.declared.Colour.{Colour}
@@ -45,6 +45,12 @@ run_code_bits colour code = code_for (same_run_code code) (run_table colour)
 -- the bits of a mode (T.4, table 4)
 unfoldable pub mode_bits : ModeCode → List Bool
 mode_bits mode = code_for (same_mode mode) modes
+
+-- a mode that is written: no extension, and a1 at most 3 pels from b1 (T.4, section 4.2.1.3.2 and table 4)
+abbrev pub IsWritten : ModeCode → Type 0
+IsWritten (Vertical d) = (negsuc 2 ≤ℤ d) × (d ≤ℤ pos 3)
+IsWritten ModeExtension = ⊥
+IsWritten _ = Unit {0}
 
 -- the make-up code for what is left below 2560 pels, if that is at least 64 (T.4, section 4.1.1)
 abbrev pub one_make_up : ℕ → List RunCode

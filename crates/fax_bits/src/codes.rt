@@ -27,9 +27,10 @@ pub enum CodeFault {
     BadCode,
 }
 
-/// A table of codes, none of which has more than 13 bits.
+/// A table of codes of 1 to 13 bits, none of which begins another.
 pub trait CodeTable {
     ghost use Rattle.fax_bits.specs.declared.codes.CodeEntry.{CodeEntry};
+    ghost use Rattle.fax_bits.specs.Codes.{HasShortCodes, IsPrefixFree};
 
     /// What its codes mean.
     type Meaning: Copy;
@@ -50,6 +51,10 @@ pub trait CodeTable {
         ensures short { result.len ≤ 13 };
 
     ghost counted: { length table ≡ COUNT };
+
+    ghost short_codes: { HasShortCodes table };
+
+    ghost prefix_free: { IsPrefixFree table };
 }
 
 /// How bits begin beside a code.

@@ -4,6 +4,7 @@
 mod codes;
 pub mod laws;
 mod modes;
+mod put;
 mod runs;
 mod sink;
 mod source;
@@ -12,6 +13,7 @@ mod tests;
 
 pub use codes::{CodeEntry, CodeFault, CodeTable, read_code};
 pub use modes::{ModeCode, Modes};
+pub use put::{put_mode, put_run};
 pub use runs::{BlackRuns, RunCode, WhiteRuns};
 pub use sink::BitSink;
 pub use source::BitSource;

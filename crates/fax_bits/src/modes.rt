@@ -76,6 +76,7 @@ pub struct Modes;
 impl CodeTable for Modes {
     ghost use Rattle.fax_bits.specs.Tables.{modes};
     ghost use Rattle.fax_bits.specs.TableSizes.{length-modes};
+    ghost use Rattle.fax_bits.specs.TableRules.{modes_has_short_codes, modes_is_prefix_free};
 
     type Meaning = ModeCode;
 
@@ -90,4 +91,8 @@ impl CodeTable for Modes {
     }
 
     ghost counted = { length-modes };
+
+    ghost short_codes = { modes_has_short_codes };
+
+    ghost prefix_free = { modes_is_prefix_free };
 }

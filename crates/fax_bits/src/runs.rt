@@ -258,6 +258,8 @@ pub struct WhiteRuns;
 impl CodeTable for WhiteRuns {
     ghost use Rattle.fax_bits.specs.Tables.{white_runs};
     ghost use Rattle.fax_bits.specs.TableSizes.{length-white_runs};
+    ghost use Rattle.fax_bits.specs.declared.Colour.TheVariants.{White};
+    ghost use Rattle.fax_bits.specs.TableRules.{run_table_has_short_codes, run_table_is_prefix_free};
 
     type Meaning = RunCode;
 
@@ -276,6 +278,10 @@ impl CodeTable for WhiteRuns {
     }
 
     ghost counted = { length-white_runs };
+
+    ghost short_codes = { run_table_has_short_codes White };
+
+    ghost prefix_free = { run_table_is_prefix_free White };
 }
 
 /// The codes of black runs.
@@ -284,6 +290,8 @@ pub struct BlackRuns;
 impl CodeTable for BlackRuns {
     ghost use Rattle.fax_bits.specs.Tables.{black_runs};
     ghost use Rattle.fax_bits.specs.TableSizes.{length-black_runs};
+    ghost use Rattle.fax_bits.specs.declared.Colour.TheVariants.{Black};
+    ghost use Rattle.fax_bits.specs.TableRules.{run_table_has_short_codes, run_table_is_prefix_free};
 
     type Meaning = RunCode;
 
@@ -302,6 +310,10 @@ impl CodeTable for BlackRuns {
     }
 
     ghost counted = { length-black_runs };
+
+    ghost short_codes = { run_table_has_short_codes Black };
+
+    ghost prefix_free = { run_table_is_prefix_free Black };
 }
 
 /// What the code at a place of a run table means.

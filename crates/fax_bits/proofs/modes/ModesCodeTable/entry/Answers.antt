@@ -1,7 +1,7 @@
-use Rattle.std.proofs.Common.{refl}
 use Rattle.std.proofs.lemmas.Option.{slice_get-get_or}
 use Rattle.fax_bits.specs.Tables.{modes}
-use Rattle.fax_bits.proofs.ArrayLemmas.{get_or-short_entries}
+use Rattle.fax_bits.specs.TableRules.{modes_has_short_codes}
+use Rattle.fax_bits.proofs.TableLemmas.{listed}
 use Rattle.fax_bits.proofs.modes.ModesCodeTable.entry.Goals as goal
 
 pub returns-clause-found : goal.returns-clause-found
@@ -9,9 +9,7 @@ unfolding modes
 returns-clause-found c = slice_get-get_or modes c.args.i _ c.requires
 
 pub returns-clause-not_empty : goal.returns-clause-not_empty
-unfolding modes
-returns-clause-not_empty c = (get_or-short_entries modes _ c.args.i c.requires refl).0
+returns-clause-not_empty c = (modes_has_short_codes _ (listed _ _ _ (returns-clause-found c))).0
 
 pub returns-clause-short : goal.returns-clause-short
-unfolding modes
-returns-clause-short c = (get_or-short_entries modes _ c.args.i c.requires refl).1
+returns-clause-short c = (modes_has_short_codes _ (listed _ _ _ (returns-clause-found c))).1

@@ -1,10 +1,13 @@
-use Rattle.std.proofs.Common.{ℕ, refl, ap, sym, ◌∙◌, get_or, zero-add}
+use Rattle.std.proofs.Common.{ℕ, ap, sym, ◌∙◌, get_or, zero-add}
 use Rattle.std.specs.Prelude.{slice_get, Option, Some}
 use Rattle.fax_bits.specs.declared.codes.CodeEntry.{CodeEntry}
 use Rattle.fax_bits.specs.declared.runs.RunCode.{RunCode}
 use Rattle.fax_bits.specs.declared.runs.TheConstants.{WHITE_CODES, WHITE_LENS}
+use Rattle.fax_bits.specs.declared.Colour.TheVariants.{White}
 use Rattle.fax_bits.specs.Tables.{run_meaning}
-use Rattle.fax_bits.proofs.ArrayLemmas.{white_runs_are, slice_get-run_entries, get_or-are_short}
+use Rattle.fax_bits.specs.TableRules.{run_table_has_short_codes}
+use Rattle.fax_bits.proofs.ArrayLemmas.{white_runs_are, slice_get-run_entries}
+use Rattle.fax_bits.proofs.TableLemmas.{listed}
 use Rattle.fax_bits.proofs.runs.WhiteRunsCodeTable.entry.Goals as goal
 
 abbrev with_meaning : ℕ → RunCode → Option (CodeEntry RunCode)
@@ -17,7 +20,7 @@ returns-clause-found c =
     ∙ ap (with_meaning c.args.i) (ap run_meaning (zero-add c.args.i) ∙ sym c.meaning_at.ensures)
 
 pub returns-clause-not_empty : goal.returns-clause-not_empty
-returns-clause-not_empty c = (get_or-are_short WHITE_LENS c.args.i c.requires refl).0
+returns-clause-not_empty c = (run_table_has_short_codes White _ (listed _ _ _ (returns-clause-found c))).0
 
 pub returns-clause-short : goal.returns-clause-short
-returns-clause-short c = (get_or-are_short WHITE_LENS c.args.i c.requires refl).1
+returns-clause-short c = (run_table_has_short_codes White _ (listed _ _ _ (returns-clause-found c))).1

@@ -1,0 +1,89 @@
+-- Codes that are put one after another.
+use Rattle.std.proofs.Common.{◌≡◌, ℕ, ◌+◌, ◌-◌, ◌*◌, ◌/◌, ◌%◌, ◌<◌, ◌≤◌, List, [], ◌∷◌, ◌++◌, replicate, Bool, true, false, nat_eq, ap, sym, ◌∙◌, subst, arith, append_assoc, append-nil}
+use Rattle.std.specs.Prelude.{flat_map, Result, Ok, Err, OnErr}
+use Rattle.std.proofs.lemmas.Bool.Decides.{nat_tests}
+use Rattle.std.proofs.lemmas.List.{replicate-append-replicate}
+use Rattle.std.proofs.lemmas.List.Concat.{flat_map-append}
+use Rattle.fax_bits.specs.declared.Colour.{Colour}
+use Rattle.fax_bits.specs.declared.runs.RunCode.{RunCode}
+use Rattle.fax_bits.specs.declared.runs.RunCode.TheVariants.{Terminating, MakeUp}
+use Rattle.fax_bits.specs.Runs.{run_codes, one_make_up, run_code_bits, run_bits}
+use Rattle.fax_bits.specs.Tables.{run_meaning}
+use Rattle.fax_bits.specs.Sink.{Sink, Appends, AppendsPrefix}
+use Rattle.fax_bits.proofs.RunCodeLemmas.{run_meaning-terminating, run_meaning-make_up}
+
+pub appends-then : (old mid new : Sink) (first second : List Bool) → Appends old first mid → Appends mid second new → Appends old (first ++ second) new
+appends-then old mid new first second one two =
+    two ∙ ap (λ (s : Sink). record { order = s.order; bits = s.bits ++ second }) one
+    ∙ ap (λ b. record { order = old.order; bits = b }) (append_assoc old.bits first second)
+
+pub appends-none : (old new : Sink) → new ≡ old → Appends old [] new
+appends-none old new same = same ∙ ap (λ b. record { order = old.order; bits = b }) (sym (append-nil old.bits))
+
+-- these codes were put
+abbrev pub Put : Colour → Sink → List RunCode → Sink → Type 0
+Put colour old codes new = Appends old (flat_map (run_code_bits colour) codes) new
+
+pub put-more : (colour : Colour) (old mid new : Sink) (codes : List RunCode) (code : RunCode) → Put colour old codes mid
+    → Appends mid (run_code_bits colour code) new → Put colour old (codes ++ code ∷ []) new
+put-more colour old mid new codes code one two =
+    let all : flat_map (run_code_bits colour) codes ++ run_code_bits colour code ≡ flat_map (run_code_bits colour) (codes ++ code ∷ []) =
+    sym (flat_map-append (run_code_bits colour) codes (code ∷ []) ∙ ap (λ b. flat_map (run_code_bits colour) codes ++ b) (append-nil (run_code_bits colour code))) in
+    subst (λ b. Appends old b new) all (appends-then old mid new _ _ one two)
+
+-- the make-up codes of 2560 that were put before the i-th
+pub put-step : (colour : Colour) (old mid new : Sink) (i : ℕ) → Put colour old (replicate i (MakeUp 2560)) mid
+    → Appends mid (run_code_bits colour (run_meaning 103)) new → Put colour old (replicate (i + 1) (MakeUp 2560)) new
+put-step colour old mid new i one two =
+    subst (λ codes. Put colour old codes new) (replicate-append-replicate i 1 (MakeUp 2560))
+    (put-more colour old mid new (replicate i (MakeUp 2560)) (MakeUp 2560) one two)
+
+-- codes that were put are a prefix of a run's codes
+module _ (colour : Colour) (n : ℕ) (old new : Sink) (front back : List RunCode) (put : Put colour old front new) (parts : run_codes n ≡ front ++ back) where
+  pub put-prefix : AppendsPrefix old (run_bits colour n) new
+  unfolding run_bits
+  put-prefix = record {
+    done = flat_map (run_code_bits colour) front;
+    missing = flat_map (run_code_bits colour) back;
+    appended = put;
+    parts = ap (flat_map (run_code_bits colour)) parts ∙ flat_map-append (run_code_bits colour) front back;
+  }
+
+-- where the i-th make-up code of 2560 was refused
+pub first_codes : (n i : ℕ) → i ≤ n / 2560 → run_codes n
+    ≡ replicate i (MakeUp 2560) ++ (replicate (n / 2560 - i) (MakeUp 2560) ++ (one_make_up (n % 2560 / 64) ++ Terminating (n % 64) ∷ []))
+first_codes n i within =
+    let e : i + (n / 2560 - i) ≡ n / 2560 = omega arith in
+    let split : replicate (n / 2560) (MakeUp 2560) ≡ replicate i (MakeUp 2560) ++ replicate (n / 2560 - i) (MakeUp 2560) =
+    sym (replicate-append-replicate i (n / 2560 - i) (MakeUp 2560) ∙ ap (λ q. replicate q (MakeUp 2560)) e) in
+    ap (λ codes. codes ++ one_make_up (n % 2560 / 64) ++ Terminating (n % 64) ∷ []) split
+    ∙ append_assoc (replicate i (MakeUp 2560) ++ replicate (n / 2560 - i) (MakeUp 2560)) (one_make_up (n % 2560 / 64)) (Terminating (n % 64) ∷ [])
+    ∙ append_assoc (replicate i (MakeUp 2560)) (replicate (n / 2560 - i) (MakeUp 2560)) (one_make_up (n % 2560 / 64) ++ Terminating (n % 64) ∷ [])
+
+-- with one other make-up code, or with none
+pub put-make_up : (colour : Colour) (old mid new : Sink) (codes : List RunCode) (steps : ℕ) → 0 < steps → steps ≤ 40 → Put colour old codes mid
+    → Appends mid (run_code_bits colour (run_meaning (63 + steps))) new → Put colour old (codes ++ one_make_up steps) new
+put-make_up colour old mid new codes steps some few one two =
+    let not_none : nat_eq steps 0 ≡ false = grind (arith, nat_tests) in
+    rw not_none
+    (put-more colour old mid new codes (MakeUp (64 * steps)) one
+    (subst (λ code. Appends mid (run_code_bits colour code) new) (run_meaning-make_up steps some few) two))
+
+pub put-no_make_up : (colour : Colour) (old new : Sink) (codes : List RunCode) (steps : ℕ) → steps ≡ 0 → Put colour old codes new
+    → Put colour old (codes ++ one_make_up steps) new
+put-no_make_up colour old new codes steps none one =
+    let is_none : nat_eq steps 0 ≡ true = grind (arith, nat_tests) in
+    rw is_none (subst (λ all. Put colour old all new) (sym (append-nil codes)) one)
+
+-- and the terminating code: the whole run
+pub put-terminating : (colour : Colour) (n : ℕ) (old mid new : Sink) → Put colour old (replicate (n / 2560) (MakeUp 2560) ++ one_make_up (n % 2560 / 64)) mid
+    → Appends mid (run_code_bits colour (run_meaning (n % 64))) new → Appends old (run_bits colour n) new
+unfolding run_bits
+put-terminating colour n old mid new one two =
+    let low : n % 64 < 64 = omega arith in
+    put-more colour old mid new _ (Terminating (n % 64)) one
+    (subst (λ code. Appends mid (run_code_bits colour code) new) (run_meaning-terminating (n % 64) low) two)
+
+pub on_err-of : {T E P : Type 0} (result : Result T E) → P → OnErr result P
+on_err-of (Ok x) p = tt
+on_err-of (Err e) p = p

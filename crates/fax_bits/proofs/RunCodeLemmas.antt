@@ -1,0 +1,97 @@
+-- The codes of runs by their places in the run tables.
+use Rattle.std.proofs.Common.{◌≡◌, ℕ, zero, suc, ◌+◌, ◌*◌, ◌-◌, ◌<◌, ◌≤◌, List, [], ◌∷◌, length, true, false, refl, ap, sym, ◌∙◌, arith, inl, inr, zero-add}
+use Rattle.std.specs.Prelude.{Some, slice_get, nat_lt, nat_eq}
+use Rattle.std.proofs.lemmas.Bool.{cases_lt}
+use Rattle.std.proofs.lemmas.Bool.Decides.{nat_tests}
+use Rattle.fax_bits.specs.declared.codes.CodeEntry.{CodeEntry}
+use Rattle.fax_bits.specs.declared.Colour.{Colour}
+use Rattle.fax_bits.specs.declared.Colour.TheVariants.{White, Black}
+use Rattle.fax_bits.specs.declared.runs.RunCode.{RunCode}
+use Rattle.fax_bits.specs.declared.runs.RunCode.TheVariants.{Terminating, MakeUp, Extension}
+use Rattle.fax_bits.specs.declared.runs.TheConstants.{WHITE_CODES, WHITE_LENS, BLACK_CODES, BLACK_LENS}
+use Rattle.fax_bits.specs.Codes.{bits_of, bits_at}
+use Rattle.fax_bits.specs.Runs.{same_run_code, code_for, run_code_bits}
+use Rattle.fax_bits.specs.Tables.{run_table, run_meaning}
+use Rattle.fax_bits.proofs.ArrayLemmas.{run_entries, white_runs_are, black_runs_are}
+
+pub bits_at-found : {M : Type 0} (table : List (CodeEntry M)) (place : ℕ) (entry : CodeEntry M) → slice_get table place ≡ Some entry
+    → bits_at table place ≡ bits_of entry
+bits_at-found [] place entry found = cc
+bits_at-found (first ∷ table) zero entry found = let same : first ≡ entry = cc in ap bits_of same
+bits_at-found (first ∷ table) (suc place) entry found = bits_at-found table place entry found
+
+pub run_meaning-terminating : (n : ℕ) → n < 64 → run_meaning n ≡ Terminating n
+run_meaning-terminating n short =
+    let below : nat_lt n 64 ≡ true = grind (arith, nat_tests) in rw below
+
+make_up-at : (place : ℕ) → 64 ≤ place → place < 104 → run_meaning place ≡ MakeUp (64 * (place - 63))
+make_up-at place above below =
+    let not_terminating : nat_lt place 64 ≡ false = grind (arith, nat_tests) in
+    let make_up : nat_lt place 104 ≡ true = grind (arith, nat_tests) in
+    rw (not_terminating, make_up)
+
+extension-at : (place : ℕ) → 104 ≤ place → run_meaning place ≡ Extension
+extension-at place above =
+    let not_terminating : nat_lt place 64 ≡ false = grind (arith, nat_tests) in
+    let not_make_up : nat_lt place 104 ≡ false = grind (arith, nat_tests) in
+    rw (not_terminating, not_make_up)
+
+pub run_meaning-make_up : (steps : ℕ) → 0 < steps → steps ≤ 40 → run_meaning (63 + steps) ≡ MakeUp (64 * steps)
+run_meaning-make_up steps some few =
+    let e : 63 + steps - 63 ≡ steps = omega arith in
+    make_up-at (63 + steps) (omega arith) (omega arith) ∙ ap (λ n. MakeUp (64 * n)) e
+
+same_run_code-itself : (code : RunCode) → same_run_code code code ≡ true
+same_run_code-itself (Terminating n) = grind (arith, nat_tests)
+same_run_code-itself (MakeUp n) = grind (arith, nat_tests)
+same_run_code-itself Extension = refl
+
+apart : (n m : ℕ) → m < n → nat_eq n m ≡ false
+apart n m h = grind (arith, nat_tests)
+
+-- codes at two places mean different things
+differ : (i j : ℕ) → i < j → j < 105 → same_run_code (run_meaning j) (run_meaning i) ≡ false
+differ i j order within =
+    elim (cases_lt i 64) [
+      | inl i_low ↦ elim (cases_lt j 64) [
+        | inl j_low ↦ rw (run_meaning-terminating j j_low, run_meaning-terminating i i_low) (apart j i order)
+        | inr j_high ↦ elim (cases_lt j 104) [
+          | inl j_middle ↦ rw (make_up-at j j_high j_middle, run_meaning-terminating i i_low)
+          | inr j_last ↦ rw (extension-at j j_last, run_meaning-terminating i i_low)
+        ]
+      ]
+      | inr i_high ↦ elim (cases_lt j 104) [
+        | inl j_middle ↦ rw (make_up-at j (omega arith) j_middle, make_up-at i i_high (omega arith)) (apart (64 * (j - 63)) (64 * (i - 63)) (omega arith))
+        | inr j_last ↦ rw (extension-at j j_last, make_up-at i i_high (omega arith))
+      ]
+    ]
+
+-- the first code with a meaning is the one at its place
+code_for-run_entries : (first : ℕ) (codes lens : List ℕ) (i : ℕ) → i < length codes → i < length lens → first + i < 105
+    → code_for (same_run_code (run_meaning (first + i))) (run_entries first codes lens) ≡ bits_at (run_entries first codes lens) i
+code_for-run_entries first [] lens i h k within = absurd (omega arith)
+code_for-run_entries first (c ∷ codes) [] i h k within = absurd (omega arith)
+code_for-run_entries first (c ∷ codes) (l ∷ lens) zero h k within =
+    let e : first + zero ≡ first = omega arith in
+    let here : same_run_code (run_meaning (first + zero)) (run_meaning first) ≡ true =
+    ap (λ n. same_run_code (run_meaning n) (run_meaning first)) e ∙ same_run_code-itself (run_meaning first) in
+    rw here
+code_for-run_entries first (c ∷ codes) (l ∷ lens) (suc i) h k within =
+    let e : suc first + i ≡ first + suc i = omega arith in
+    let other : same_run_code (run_meaning (first + suc i)) (run_meaning first) ≡ false = differ first (first + suc i) (omega arith) within in
+    rw other
+    (ap (λ n. code_for (same_run_code (run_meaning n)) (run_entries (suc first) codes lens)) (sym e)
+    ∙ code_for-run_entries (suc first) codes lens i (omega arith) (omega arith) (omega arith))
+
+pub bits_at-run_table : (colour : Colour) (place : ℕ) → place < 105 → bits_at (run_table colour) place ≡ run_code_bits colour (run_meaning place)
+unfolding run_code_bits
+bits_at-run_table White place within =
+    ap (λ table. bits_at table place) white_runs_are
+    ∙ sym (code_for-run_entries 0 WHITE_CODES WHITE_LENS place within within (omega arith))
+    ∙ ap (λ n. code_for (same_run_code (run_meaning n)) (run_entries 0 WHITE_CODES WHITE_LENS)) (zero-add place)
+    ∙ ap (code_for (same_run_code (run_meaning place))) (sym white_runs_are)
+bits_at-run_table Black place within =
+    ap (λ table. bits_at table place) black_runs_are
+    ∙ sym (code_for-run_entries 0 BLACK_CODES BLACK_LENS place within within (omega arith))
+    ∙ ap (λ n. code_for (same_run_code (run_meaning n)) (run_entries 0 BLACK_CODES BLACK_LENS)) (zero-add place)
+    ∙ ap (code_for (same_run_code (run_meaning place))) (sym black_runs_are)

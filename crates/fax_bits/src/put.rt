@@ -1,0 +1,75 @@
+//! The codes of runs and modes, put into a sink (ITU-T T.4, sections 4.1.1 and 4.2.1.3.2).
+ghost use Rattle.std.specs.Prelude.{◌≡◌, ◌<◌, ◌^◌, OnOk, OnErr};
+ghost use Rattle.fax_bits.specs.Codes.{bits_at};
+ghost use Rattle.fax_bits.specs.Runs.{run_code_bits, run_bits, mode_bits, IsWritten};
+ghost use Rattle.fax_bits.specs.Sink.{Appends, AppendsPrefix};
+ghost use Rattle.fax_bits.specs.Tables.{run_meaning, modes};
+
+use crate::codes::CodeTable;
+use crate::{BitSink, BlackRuns, Colour, Memory, ModeCode, Modes, WhiteRuns};
+
+/// Puts a run of `n` pels, below 65,536, as codes of its colour: 2560 as often as it fits, at most
+/// one other make-up code, a terminating code (T.4, section 4.1.1). After an `Err` some of their
+/// bits may have been put, from the first on.
+pub fn put_run(sink: &mut BitSink, colour: Colour, n: u32) -> Result<(), Memory>
+    requires { n < 2 ^ 16 }
+    ensures ok { OnOk result (Appends sink.old (run_bits colour n) sink.new) }
+    ensures err { OnErr result (AppendsPrefix sink.old (run_bits colour n) sink.new) }
+{
+    for _ in 0..n / 2560 {
+        put_run_code(sink, colour, 103)?;
+    }
+    let steps = n % 2560 / 64;
+    if steps > 0 {
+        put_run_code(sink, colour, 63 + steps as usize)?;
+    }
+    put_run_code(sink, colour, (n % 64) as usize)
+}
+
+/// Puts a mode: pass, horizontal, or vertical with a1 at most 3 pels from b1 (T.4, section
+/// 4.2.1.3.2 and table 4). After an `Err` the sink is as it was.
+pub fn put_mode(sink: &mut BitSink, mode: ModeCode) -> Result<(), Memory>
+    requires { IsWritten mode }
+    ensures ok { OnOk result (Appends sink.old (mode_bits mode) sink.new) }
+    ensures err { OnErr result (sink.new ≡ sink.old) }
+{
+    put_code::<Modes>(sink, mode_place(mode))
+}
+
+/// The place of a mode in the mode table.
+fn mode_place(mode: ModeCode) -> usize
+    requires { IsWritten mode }
+    ensures within { result < 10 }
+    ensures found { bits_at modes result ≡ mode_bits mode }
+{
+    match mode {
+        ModeCode::Pass => 0,
+        ModeCode::Horizontal => 1,
+        ModeCode::Vertical(right) if right >= 0 => 2 + usize::from(right.unsigned_abs()),
+        ModeCode::Vertical(left) => 5 + usize::from(left.unsigned_abs()),
+        ModeCode::Extension => 9,
+    }
+}
+
+/// Puts the code at a place of the run tables: the terminating code of a run of 0 to 63 pels is at
+/// that place, the make-up code of 64 pels at place 64, of 128 pels at 65, and so on.
+fn put_run_code(sink: &mut BitSink, colour: Colour, place: usize) -> Result<(), Memory>
+    requires { place < 105 }
+    ensures ok { OnOk result (Appends sink.old (run_code_bits colour (run_meaning place)) sink.new) }
+    ensures err { OnErr result (sink.new ≡ sink.old) }
+{
+    match colour {
+        Colour::White => put_code::<WhiteRuns>(sink, place),
+        Colour::Black => put_code::<BlackRuns>(sink, place),
+    }
+}
+
+/// Puts the code at a place of the table.
+fn put_code<T: CodeTable>(sink: &mut BitSink, place: usize) -> Result<(), Memory>
+    requires { place < T.COUNT }
+    ensures ok { OnOk result (Appends sink.old (bits_at T.table place) sink.new) }
+    ensures err { OnErr result (sink.new ≡ sink.old) }
+{
+    let entry = T::entry(place);
+    sink.put(u32::from(entry.code), u32::from(entry.len))
+}
