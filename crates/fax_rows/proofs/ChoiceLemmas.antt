@@ -1,18 +1,18 @@
 -- The step that T.4 chooses is a step to the place that it leads to.
-use Rattle.std.proofs.Common.{◌≡◌, ◌≢◌, ℕ, zero, suc, ◌+◌, ◌-◌, ◌^◌, ◌<◌, ◌≤◌, List, [], ◌∷◌, ◌++◌, length, take, replicate, Bool, true, false, refl, ap, sym, ◌∙◌, subst, arith, inl, inr, append_assoc}
-use Rattle.std.specs.Prelude.{ℤ, pos, negsuc, ◌-ℤ◌, ◌+ℤ◌, ◌<ℤ◌, ◌≤ℤ◌, nat_abs, nat_lt, nat_le, if◌then◌else◌, Option, Some, None, unwrap_or}
-use Rattle.std.proofs.lemmas.Bool.{cases_lt, ltb-true, ltb-false, lt-ltb}
+use Rattle.std.proofs.Common.{◌≡◌, ℕ, suc, ◌+◌, ◌-◌, ◌^◌, ◌<◌, ◌≤◌, List, ◌++◌, length, take, replicate, Bool, true, false, refl, ap, sym, ◌∙◌, arith, inl, inr, append_assoc}
+use Rattle.std.specs.Prelude.{ℤ, pos, negsuc, ◌-ℤ◌, ◌+ℤ◌, ◌<ℤ◌, ◌≤ℤ◌, nat_abs, nat_lt, nat_le, if◌then◌else◌, Option, Some, None}
+use Rattle.std.proofs.lemmas.Bool.{cases_lt, ltb-true, lt-ltb}
 use Rattle.std.proofs.lemmas.Bool.Decides.{nat_tests}
 use Rattle.std.proofs.lemmas.Int.{ints}
 use Rattle.fax_bits.specs.declared.Colour.{Colour}
 use Rattle.fax_bits.specs.declared.Colour.TheVariants.{White, Black}
 use Rattle.fax_bits.specs.declared.modes.ModeCode.{ModeCode}
-use Rattle.fax_bits.specs.declared.modes.ModeCode.TheVariants.{Pass, Horizontal, Vertical, Extension}
-use Rattle.fax_bits.specs.Runs.{IsRun, run_bits}
-use Rattle.fax_rows.specs.Elements.{other, pel, next_change, next_of, is_right_of, b1, b2, HasWidth}
-use Rattle.fax_rows.specs.Coded.{Places, places, colour_of, chosen_mode, run_pair_bits, next_a0}
-use Rattle.fax_rows.specs.TwoDimensional.{Position, IsStepBy, IsVerticalStep, IsHorizontalStep, IsInRow, a0_number}
-use Rattle.fax_rows.proofs.ChangeLemmas.{IsNextChange, next_change_is, colour_up_to, colour_at, next_is_ahead, next_is_right, pels_up_to, first_of, next_of_within, next_of_right}
+use Rattle.fax_bits.specs.declared.modes.ModeCode.TheVariants.{Pass, Horizontal, Vertical}
+use Rattle.fax_bits.specs.Runs.{IsRun, IsWritten, run_bits}
+use Rattle.fax_rows.specs.Elements.{other, pel, next_change, is_right_of, b1, b2, HasWidth}
+use Rattle.fax_rows.specs.Coded.{places, colour_of, chosen_mode, run_pair_bits, next_a0}
+use Rattle.fax_rows.specs.TwoDimensional.{Position, IsStepBy, a0_number}
+use Rattle.fax_rows.proofs.ChangeLemmas.{IsNextChange, next_change_is, colour_up_to, colour_at, next_is_ahead, pels_up_to, first_of, next_of_within, next_of_right}
 
 -- the position at a place of a row
 abbrev pub here : List Colour → Option ℕ → Colour → Position
@@ -28,16 +28,9 @@ abbrev pub colour_after : ModeCode → Colour → Colour
 colour_after (Vertical d) colour = other colour
 colour_after _ colour = colour
 
--- the modes that are written
-abbrev pub IsChoice : ModeCode → Type 0
-IsChoice Pass = Unit {0}
-IsChoice Horizontal = Unit {0}
-IsChoice (Vertical d) = nat_abs d ≤ 3
-IsChoice Extension = ⊥
-
 -- the mode makes a step from a0, with these bits behind its code
 pub record IsChosen (reference row : List Colour) (a0 : Option ℕ) (rest : List Bool) (mode : ModeCode) : Type 0 where
-  pub choice : IsChoice mode
+  pub written : IsWritten mode
   pub step : IsStepBy mode reference (here row a0 (colour_of row a0)) (run_pair_bits mode row a0 (places reference row a0) ++ rest)
       (here row (Some (next_a0 mode (places reference row a0))) (colour_after mode (colour_of row a0))) rest
   pub right : passed a0 < passed (Some (next_a0 mode (places reference row a0)))
@@ -79,6 +72,11 @@ other_twice : (colour : Colour) → other (other colour) ≡ colour
 other_twice White = refl
 other_twice Black = refl
 
+-- a difference of at most 3 places
+near_is_written : (d : ℤ) → nat_abs d ≤ 3 → (negsuc 2 ≤ℤ d) × (d ≤ℤ pos 3)
+near_is_written (pos n) near = (omega (arith, ints), omega (arith, ints))
+near_is_written (negsuc n) near = (omega (arith, ints), omega (arith, ints))
+
 -- a place right of the start of a step, and not behind the row
 pub record IsPlaceAhead (from : Option ℕ) (width place : ℕ) : Type 0 where
   pub right : passed from ≤ place
@@ -118,7 +116,7 @@ module _ (reference row : List Colour) (same_width : length reference ≡ length
       let pels = pels_up_to row (first_of a0) (b2 reference a0 (colour_of row a0)) (colour_of row a0) ahead b2_within
       (λ k h l. colour_up_to row a0 (next_change row a0) a1_is k h (omega arith)) in
       record {
-        choice = tt;
+        written = tt;
         step = (cc, refl);
         right = omega (arith, b2_right);
         within = b2_within;
@@ -137,7 +135,7 @@ module _ (reference row : List Colour) (same_width : length reference ≡ length
       let pels = pels_up_to row (first_of a0) (next_change row a0) (colour_of row a0) ahead a1_is.within
       (colour_up_to row a0 (next_change row a0) a1_is) in
       record {
-        choice = near;
+        written = near_is_written _ near;
         step = (
           record {
             in_row = record {
@@ -189,7 +187,7 @@ module _ (reference row : List Colour) (same_width : length reference ≡ length
       ∙ append_assoc (take (first_of a0) row) (replicate (next_change row a0 - first_of a0) (colour_of row a0))
       (replicate (next_change row (Some (next_change row a0)) - next_change row a0) (other (colour_of row a0))) in
       record {
-        choice = tt;
+        written = tt;
         step = record {
           first = next_change row a0 - first_of a0;
           second = next_change row (Some (next_change row a0)) - next_change row a0;

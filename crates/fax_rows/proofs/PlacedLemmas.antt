@@ -1,12 +1,12 @@
 -- A row in two-dimensional coding, put step by step.
-use Rattle.std.proofs.Common.{◌≡◌, ℕ, zero, suc, ◌+◌, ◌-◌, ◌<◌, ◌≤◌, List, [], ◌++◌, length, refl, ap, sym, ◌∙◌, subst, arith}
+use Rattle.std.proofs.Common.{◌≡◌, ℕ, zero, suc, ◌+◌, ◌-◌, ◌<◌, ◌≤◌, List, length, arith}
 use Rattle.std.specs.Prelude.{Option, Some, None}
 use Rattle.fax_bits.specs.declared.Colour.{Colour}
 use Rattle.fax_bits.specs.Sink.{Sink, Appends, AppendsPrefix}
 use Rattle.fax_rows.specs.Ahead.{bits_from, place_from}
 use Rattle.fax_rows.specs.Coded.{step_bits, two_dimensional_bits}
 use Rattle.fax_rows.proofs.ChangeLemmas.{first_of}
-use Rattle.fax_rows.proofs.ChoiceLemmas.{passed, place_ahead, passed_right}
+use Rattle.fax_rows.proofs.ChoiceLemmas.{passed, place_ahead}
 use Rattle.fax_rows.proofs.PutLemmas.{IsPutUpTo, put_begins, put_goes_on, put_all, put_stops}
 use Rattle.fax_rows.proofs.WrittenLemmas.{step_bits-end, step_bits-more}
 

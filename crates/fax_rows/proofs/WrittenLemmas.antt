@@ -1,6 +1,6 @@
 -- A row that is written is read back.
-use Rattle.std.proofs.Common.{◌≡◌, ◌≢◌, ℕ, zero, suc, ◌+◌, ◌-◌, ◌^◌, ◌<◌, ◌≤◌, List, [], ◌∷◌, ◌++◌, length, take, replicate, Bool, true, false, refl, ap, sym, ◌∙◌, subst, arith, inl, inr, append_assoc}
-use Rattle.std.specs.Prelude.{nat_eq, sum, if◌then◌else◌, Option, Some, None, unwrap_or}
+use Rattle.std.proofs.Common.{◌≡◌, ◌≢◌, ℕ, zero, suc, ◌+◌, ◌^◌, ◌<◌, ◌≤◌, List, [], ◌∷◌, ◌++◌, length, take, replicate, Bool, true, false, refl, ap, sym, ◌∙◌, subst, arith, inl, inr, append_assoc}
+use Rattle.std.specs.Prelude.{nat_eq, sum, Option, Some, None, unwrap_or}
 use Rattle.std.proofs.Math.Seq.{take-length}
 use Rattle.std.proofs.lemmas.Bool.{cases_lt}
 use Rattle.std.proofs.lemmas.List.{replicate-append-replicate}
@@ -9,20 +9,20 @@ use Rattle.fax_bits.specs.declared.Colour.{Colour}
 use Rattle.fax_bits.specs.declared.Colour.TheVariants.{White, Black}
 use Rattle.fax_bits.specs.declared.modes.ModeCode.{ModeCode}
 use Rattle.fax_bits.specs.Codes.{Takes}
-use Rattle.fax_bits.specs.Runs.{IsRun, run_bits, mode_bits}
+use Rattle.fax_bits.specs.Runs.{IsWritten, mode_bits}
 use Rattle.fax_bits.specs.Tables.{modes}
-use Rattle.fax_rows.specs.Elements.{other, same_colour, pel, pels_of, runs_behind, runs_of, HasWidth}
+use Rattle.fax_rows.specs.Elements.{other, pels_of, runs_behind, runs_of, HasWidth}
 use Rattle.fax_rows.specs.Coded.{places, colour_of, chosen_mode, run_pair_bits, next_a0, step_bits, two_dimensional_bits, alternating_bits, one_dimensional_bits}
 use Rattle.fax_rows.specs.OneDimensional.{AreRuns, IsOneDimensionalRow}
-use Rattle.fax_rows.specs.TwoDimensional.{Position, IsUnfinished, AreSteps, IsTwoDimensionalRow}
+use Rattle.fax_rows.specs.TwoDimensional.{Position, AreSteps, IsTwoDimensionalRow}
 use Rattle.fax_rows.proofs.ChangeLemmas.{first_of}
 use Rattle.fax_rows.proofs.RowLaws.{length-pels_of}
 use Rattle.fax_rows.proofs.RunLaws.{sum-cons}
-use Rattle.fax_rows.proofs.ChoiceLemmas.{here, passed, colour_after, IsChoice, RunsAreRead, IsChosen, chosen}
+use Rattle.fax_rows.proofs.ChoiceLemmas.{here, passed, colour_after, RunsAreRead, IsChosen, chosen}
 
 -- a written mode is read back
 abbrev pub ModesAreTaken : Type 0
-ModesAreTaken = (mode : ModeCode) (more : List Bool) → IsChoice mode → Takes modes (mode_bits mode ++ more) mode more
+ModesAreTaken = (mode : ModeCode) (more : List Bool) → IsWritten mode → Takes modes (mode_bits mode ++ more) mode more
 
 -- the bits begin with steps from a position to the row's end, and the row is what they make
 pub record IsWrittenBack (reference row : List Colour) (from : Position) (b more : List Bool) : Type 0 where
@@ -108,7 +108,7 @@ module _ (runs_read : RunsAreRead) (modes_taken : ModesAreTaken) (reference row 
         taken = subst (λ b. Takes modes b (mode_at a0) (run_pair_bits (mode_at a0) row a0 (places reference row a0) ++ rest))
             (ap (λ b. mode_bits (mode_at a0) ++ (run_pair_bits (mode_at a0) row a0 (places reference row a0) ++ b)) rest_is
             ∙ sym (bits_of_step limit a0 more unfinished))
-            (modes_taken (mode_at a0) _ step.choice);
+            (modes_taken (mode_at a0) _ step.written);
         step = step.step;
       },
       back.steps,

@@ -1,8 +1,11 @@
 -- Laws of rows, which the functions of the module `laws` prove.
-use Rattle.std.specs.Prelude.{◌≡◌, ℕ, ◌⊎◌, Bool, List}
+use Rattle.std.specs.Prelude.{◌≡◌, ℕ, ◌⊎◌, Bool, List, ◌++◌, length}
 use Rattle.fax_bits.specs.declared.Colour.{Colour}
 use Rattle.fax_rows.specs.declared.RowFault.{RowFault}
+use Rattle.fax_rows.specs.Coded.{one_dimensional_bits, two_dimensional_bits}
+use Rattle.fax_rows.specs.Elements.{HasWidth}
 use Rattle.fax_rows.specs.OneDimensional.{IsOneDimensionalRow}
+use Rattle.fax_rows.specs.TwoDimensional.{IsTwoDimensionalRow}
 use Rattle.fax_rows.specs.Faults.{IsOneDimensionalFault}
 
 -- bits begin with at most one row of the width, and one rest follows it (T.4, section 4.1.1)
@@ -38,3 +41,29 @@ pub record ReadsRowsOneWay (width : ℕ) : Type 0 where
   pub row_or_fault : IsRowOrFault width
   pub row_has_no_fault : IsNoFaultOfRow width
   pub one_fault : IsOneFault width
+
+-- a row that is written in one-dimensional coding is read back, whatever bits follow it (T.4, section 4.1.1)
+abbrev pub OneDimensionalBitsAreRead : Type 0
+OneDimensionalBitsAreRead =
+    (row : List Colour) (more : List Bool) → HasWidth row
+    → IsOneDimensionalRow (length row) (one_dimensional_bits row ++ more) row more
+
+-- and as nothing else (T.4, section 4.1.1)
+abbrev pub OneDimensionalBitsAreOneRow : Type 0
+OneDimensionalBitsAreOneRow =
+    (row another : List Colour) (more rest : List Bool) → HasWidth row
+    → IsOneDimensionalRow (length row) (one_dimensional_bits row ++ more) another rest → (row ≡ another) × (more ≡ rest)
+
+-- a row that is written in two-dimensional coding is read back over its reference row, whatever bits follow it
+-- (T.4, section 4.2.1.3.3; T.6, section 2.2.3)
+abbrev pub TwoDimensionalBitsAreRead : Type 0
+TwoDimensionalBitsAreRead =
+    (reference row : List Colour) (more : List Bool) → HasWidth row → length reference ≡ length row
+    → IsTwoDimensionalRow reference (two_dimensional_bits reference row ++ more) row more
+
+-- and as nothing else (T.4, section 4.2.1.3.3; T.6, section 2.2.3)
+abbrev pub TwoDimensionalBitsAreOneRow : Type 0
+TwoDimensionalBitsAreOneRow =
+    (reference row another : List Colour) (more rest : List Bool) → HasWidth row → length reference ≡ length row
+    → IsTwoDimensionalRow reference (two_dimensional_bits reference row ++ more) another rest
+    → (row ≡ another) × (more ≡ rest)

@@ -1,6 +1,6 @@
-use Rattle.std.proofs.Common.{◌≡◌, ◌<◌, ◌≤◌, length, ap, sym, ◌∙◌, subst, arith}
+use Rattle.std.proofs.Common.{◌<◌, ◌≤◌, length, arith}
 use Rattle.fax_rows.proofs.ChangeLemmas.{first_of}
-use Rattle.fax_rows.proofs.ChoiceLemmas.{place_ahead, passed_right, passed}
+use Rattle.fax_rows.proofs.ChoiceLemmas.{place_ahead, passed_right}
 use Rattle.fax_rows.proofs.PlacedLemmas.{place_begins, place_goes_on, place_stops, place_ends, step_smaller}
 use Rattle.fax_rows.proofs.PutLemmas.{on_err}
 use Rattle.fax_rows.proofs.put.put_2d.Goals as goal

@@ -1,5 +1,4 @@
-use Rattle.std.proofs.Common.{◌≡◌, ◌≤◌, ◌+◌, ◌-◌, ap, sym, ◌∙◌, arith, Some}
-use Rattle.fax_rows.specs.Elements.{next_change}
+use Rattle.std.proofs.Common.{arith, Some}
 use Rattle.fax_rows.proofs.ChangeLemmas.{next_change_is, next_is_ahead}
 use Rattle.fax_rows.proofs.put.put_run_pair.Goals as goal
 

@@ -1,5 +1,5 @@
-use Rattle.std.proofs.Common.{◌≡◌, ℕ, ◌+◌, ◌-◌, ◌≤◌, ◌<◌, refl, ap, sym, ◌∙◌, arith}
-use Rattle.fax_rows.specs.Elements.{next_change, b1}
+use Rattle.std.proofs.Common.{◌≡◌, ℕ, ap, ◌∙◌, arith}
+use Rattle.fax_rows.specs.Elements.{b1}
 use Rattle.fax_rows.proofs.ChangeLemmas.{next_of_within}
 use Rattle.fax_rows.proofs.ChoiceLemmas.{a1_is, a1_ahead}
 use Rattle.fax_rows.proofs.put.put_step.Goals as goal

@@ -1,5 +1,3 @@
-use Rattle.std.proofs.Common.{◌≡◌, refl, ap, sym, subst, arith}
-use Rattle.fax_rows.specs.Ahead.{AreB1B2}
 use Rattle.fax_rows.proofs.AheadLemmas.{known_b1_b2}
 use Rattle.fax_rows.proofs.put.Ahead.b1_b2_from.Goals as goal
 

@@ -1,4 +1,4 @@
-use Rattle.std.proofs.Common.{◌≡◌, ◌∙◌, arith}
+use Rattle.std.proofs.Common.{◌∙◌, arith}
 use Rattle.fax_rows.proofs.AheadLemmas.{known_a1, are_ahead}
 use Rattle.fax_rows.proofs.put.Ahead.from_place.Goals as goal
 use Rattle.fax_rows.proofs.put.Ahead.from_place.Goals.{then-self-place, else-self-place}
