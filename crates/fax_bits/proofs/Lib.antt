@@ -10,4 +10,5 @@ pub mod PrefixLemmas
 pub mod ReadingLemmas
 pub mod RunCodeLemmas
 pub mod ModeLemmas
+pub mod ReadBackLemmas
 pub mod PutLemmas

@@ -1,13 +1,18 @@
 -- The codes of modes by their places in the mode table.
-use Rattle.std.proofs.Common.{◌≡◌, ℕ, zero, suc, ◌+◌, ◌^◌, ◌<◌, ℤ, pos, negsuc, unsigned_abs, int_le, to_z, of_z, w8, true, false, refl, ap, sym, ◌∙◌, subst, arith}
+use Rattle.std.proofs.Common.{◌≡◌, List, ◌++◌, Bool, lit<, ℕ, zero, suc, ◌+◌, ◌^◌, ◌<◌, ℤ, pos, negsuc, unsigned_abs, int_le, to_z, of_z, w8, true, false, refl, ap, sym, ◌∙◌, subst, arith}
+use Rattle.std.specs.Prelude.{Some, slice_get, codes}
 use Rattle.std.proofs.lemmas.Int.{ints, to_z-of_z, fits_signed_from_abs}
 use Rattle.std.proofs.lemmas.Bool.Decides.{nat_tests}
+use Rattle.fax_bits.specs.declared.codes.CodeEntry.{CodeEntry}
 use Rattle.fax_bits.specs.declared.modes.ModeCode.{ModeCode}
-use Rattle.fax_bits.specs.declared.modes.ModeCode.TheVariants.{Pass, Horizontal, Vertical}
+use Rattle.fax_bits.specs.declared.modes.ModeCode.TheVariants.{Pass, Horizontal, Vertical, Extension as ModeExtension}
 use Rattle.fax_bits.specs.Bits.{code_bits}
-use Rattle.fax_bits.specs.Codes.{bits_at}
+use Rattle.fax_bits.specs.Codes.{bits_at, Takes}
 use Rattle.fax_bits.specs.Runs.{mode_bits, IsWritten}
-use Rattle.fax_bits.specs.Tables.{modes}
+use Rattle.fax_bits.specs.Laws.{ModeBitsAreRead}
+use Rattle.fax_bits.specs.Tables.{modes, entry}
+use Rattle.fax_bits.proofs.RunCodeLemmas.{bits_at-found}
+use Rattle.fax_bits.proofs.TableLemmas.{listed}
 
 pub bits_at-pass : bits_at modes 0 ≡ mode_bits Pass
 unfolding modes mode_bits code_bits
@@ -72,3 +77,28 @@ module _ (mode : ModeCode) (d : ℤ) (n : ℕ) (is : mode ≡ Vertical d) (writt
   left_at left =
       vertical_left d n written_is (ap (int_le (pos 0)) (sym (read_back d written_is)) ∙ left) (n_is ∙ ap unsigned_abs (read_back d written_is))
       ∙ ap mode_bits (sym is)
+
+-- a mode that is written is read again
+takes_mode : (place : ℕ) (listed_entry : CodeEntry ModeCode) (mode : ModeCode) (more : List Bool) → slice_get modes place ≡ Some listed_entry
+    → listed_entry.meaning ≡ mode → bits_at modes place ≡ mode_bits mode → Takes modes (mode_bits mode ++ more) mode more
+takes_mode place listed_entry mode more found means same = record {
+  entry = listed_entry;
+  listed = listed modes place listed_entry found;
+  means = means;
+  spelled = ap (λ b. b ++ more) (sym same ∙ bits_at-found modes place listed_entry found);
+}
+
+pub mode_bits_are_read : ModeBitsAreRead
+unfolding modes
+mode_bits_are_read Pass more written = takes_mode 0 (entry (codes "0001") Pass) Pass more refl refl bits_at-pass
+mode_bits_are_read Horizontal more written = takes_mode 1 (entry (codes "001") Horizontal) Horizontal more refl refl bits_at-horizontal
+mode_bits_are_read (Vertical (pos zero)) more written = takes_mode 2 _ (Vertical (pos 0)) more refl refl (bits_at-right 0 (lit< tt))
+mode_bits_are_read (Vertical (pos (suc zero))) more written = takes_mode 3 _ (Vertical (pos 1)) more refl refl (bits_at-right 1 (lit< tt))
+mode_bits_are_read (Vertical (pos (suc (suc zero)))) more written = takes_mode 4 _ (Vertical (pos 2)) more refl refl (bits_at-right 2 (lit< tt))
+mode_bits_are_read (Vertical (pos (suc (suc (suc zero))))) more written = takes_mode 5 _ (Vertical (pos 3)) more refl refl (bits_at-right 3 (lit< tt))
+mode_bits_are_read (Vertical (pos (suc (suc (suc (suc n)))))) more written = absurd (omega (arith, few (pos (suc (suc (suc (suc n))))) written))
+mode_bits_are_read (Vertical (negsuc zero)) more written = takes_mode 6 _ (Vertical (negsuc 0)) more refl refl (bits_at-left 0 (lit< tt))
+mode_bits_are_read (Vertical (negsuc (suc zero))) more written = takes_mode 7 _ (Vertical (negsuc 1)) more refl refl (bits_at-left 1 (lit< tt))
+mode_bits_are_read (Vertical (negsuc (suc (suc zero)))) more written = takes_mode 8 _ (Vertical (negsuc 2)) more refl refl (bits_at-left 2 (lit< tt))
+mode_bits_are_read (Vertical (negsuc (suc (suc (suc n))))) more written = absurd (omega (arith, few (negsuc (suc (suc (suc n)))) written))
+mode_bits_are_read ModeExtension more written = absurd written

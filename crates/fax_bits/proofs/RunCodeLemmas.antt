@@ -1,5 +1,5 @@
 -- The codes of runs by their places in the run tables.
-use Rattle.std.proofs.Common.{◌≡◌, ℕ, zero, suc, ◌+◌, ◌*◌, ◌-◌, ◌<◌, ◌≤◌, List, [], ◌∷◌, length, true, false, refl, ap, sym, ◌∙◌, arith, inl, inr, zero-add}
+use Rattle.std.proofs.Common.{◌≡◌, ℕ, zero, suc, ◌+◌, ◌*◌, ◌-◌, ◌<◌, ◌≤◌, List, [], ◌∷◌, ◌++◌, length, Bool, true, false, refl, ap, sym, ◌∙◌, arith, inl, inr, zero-add}
 use Rattle.std.specs.Prelude.{Some, slice_get, nat_lt, nat_eq}
 use Rattle.std.proofs.lemmas.Bool.{cases_lt}
 use Rattle.std.proofs.lemmas.Bool.Decides.{nat_tests}
@@ -9,10 +9,11 @@ use Rattle.fax_bits.specs.declared.Colour.TheVariants.{White, Black}
 use Rattle.fax_bits.specs.declared.runs.RunCode.{RunCode}
 use Rattle.fax_bits.specs.declared.runs.RunCode.TheVariants.{Terminating, MakeUp, Extension}
 use Rattle.fax_bits.specs.declared.runs.TheConstants.{WHITE_CODES, WHITE_LENS, BLACK_CODES, BLACK_LENS}
-use Rattle.fax_bits.specs.Codes.{bits_of, bits_at}
+use Rattle.fax_bits.specs.Codes.{bits_of, bits_at, Takes}
 use Rattle.fax_bits.specs.Runs.{same_run_code, code_for, run_code_bits}
-use Rattle.fax_bits.specs.Tables.{run_table, run_meaning}
-use Rattle.fax_bits.proofs.ArrayLemmas.{run_entries, white_runs_are, black_runs_are}
+use Rattle.fax_bits.specs.Tables.{run_table, run_meaning, white_runs, black_runs}
+use Rattle.fax_bits.proofs.TableLemmas.{listed}
+use Rattle.fax_bits.proofs.ArrayLemmas.{run_entries, slice_get-run_entries, white_runs_are, black_runs_are}
 
 pub bits_at-found : {M : Type 0} (table : List (CodeEntry M)) (place : ℕ) (entry : CodeEntry M) → slice_get table place ≡ Some entry
     → bits_at table place ≡ bits_of entry
@@ -95,3 +96,23 @@ bits_at-run_table Black place within =
     ∙ sym (code_for-run_entries 0 BLACK_CODES BLACK_LENS place within within (omega arith))
     ∙ ap (λ n. code_for (same_run_code (run_meaning n)) (run_entries 0 BLACK_CODES BLACK_LENS)) (zero-add place)
     ∙ ap (code_for (same_run_code (run_meaning place))) (sym black_runs_are)
+
+-- bits that begin with a run code
+pub takes_run_code : (colour : Colour) (place : ℕ) (more : List Bool) → place < 105
+    → Takes (run_table colour) (run_code_bits colour (run_meaning place) ++ more) (run_meaning place) more
+takes_run_code White place more within =
+    let found = ap (λ table. slice_get table place) white_runs_are ∙ slice_get-run_entries 0 WHITE_CODES WHITE_LENS place within within in
+    record {
+      entry = _;
+      listed = listed white_runs place _ found;
+      means = ap run_meaning (zero-add place);
+      spelled = ap (λ b. b ++ more) (sym (bits_at-run_table White place within) ∙ bits_at-found white_runs place _ found);
+    }
+takes_run_code Black place more within =
+    let found = ap (λ table. slice_get table place) black_runs_are ∙ slice_get-run_entries 0 BLACK_CODES BLACK_LENS place within within in
+    record {
+      entry = _;
+      listed = listed black_runs place _ found;
+      means = ap run_meaning (zero-add place);
+      spelled = ap (λ b. b ++ more) (sym (bits_at-run_table Black place within) ∙ bits_at-found black_runs place _ found);
+    }

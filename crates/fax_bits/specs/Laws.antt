@@ -1,8 +1,12 @@
 -- Laws of code tables, which the functions of the module `laws` prove.
-use Rattle.std.specs.Prelude.{◌≡◌, ◌<◌, Bool, List, length, ◌⊎◌}
+use Rattle.std.specs.Prelude.{◌≡◌, ℕ, ◌^◌, ◌<◌, Bool, List, ◌++◌, length, ◌⊎◌}
 use Rattle.fax_bits.specs.declared.codes.CodeEntry.{CodeEntry}
 use Rattle.fax_bits.specs.declared.codes.CodeFault.{CodeFault}
+use Rattle.fax_bits.specs.declared.Colour.{Colour}
+use Rattle.fax_bits.specs.declared.modes.ModeCode.{ModeCode}
 use Rattle.fax_bits.specs.Codes.{Takes, IsFaultOf}
+use Rattle.fax_bits.specs.Runs.{IsRun, IsWritten, run_bits, mode_bits}
+use Rattle.fax_bits.specs.Tables.{modes}
 
 -- at most one code of the table is taken, and one rest follows it (T.4, tables 2, 3a, 3b and 4)
 abbrev pub TakesOne : {M : Type 0} → List (CodeEntry M) → Type 0
@@ -39,3 +43,17 @@ pub record ReadsOneWay {M : Type 0} (table : List (CodeEntry M)) : Type 0 where
   pub takes_or_fails : TakesOrFails table
   pub taken_has_no_fault : TakenHasNoFault table
   pub has_one_fault : HasOneFault table
+
+-- a run that is written is read again, whatever follows it (T.4, section 4.1.1)
+abbrev pub RunBitsAreRead : Type 0
+RunBitsAreRead = (colour : Colour) (n : ℕ) (more : List Bool) → n < 2 ^ 16 → IsRun colour (run_bits colour n ++ more) n more
+
+-- a run that is written is read as nothing else (T.4, section 4.1.1)
+abbrev pub RunBitsAreOneRun : Type 0
+RunBitsAreOneRun =
+    (colour : Colour) (n m : ℕ) (more rest : List Bool) → n < 2 ^ 16
+    → IsRun colour (run_bits colour n ++ more) m rest → (n ≡ m) × (more ≡ rest)
+
+-- a mode that is written is read again, whatever follows it (T.4, section 4.2.1.3.2 and table 4)
+abbrev pub ModeBitsAreRead : Type 0
+ModeBitsAreRead = (mode : ModeCode) (more : List Bool) → IsWritten mode → Takes modes (mode_bits mode ++ more) mode more

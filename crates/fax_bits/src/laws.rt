@@ -1,6 +1,6 @@
 //! Laws of the code tables. The functions compute nothing: each has a law as its contract.
 ghost use Rattle.fax_bits.specs.declared.Colour.{Colour};
-ghost use Rattle.fax_bits.specs.Laws.{ReadsOneWay};
+ghost use Rattle.fax_bits.specs.Laws.{ReadsOneWay, RunBitsAreRead, RunBitsAreOneRun, ModeBitsAreRead};
 ghost use Rattle.fax_bits.specs.Tables.{run_table, modes};
 
 /// Bits are read by the run table of a colour in one way: at most one code is taken, which has at
@@ -14,4 +14,22 @@ pub fn run_codes_are_read_in_one_way()
 /// tables (T.4, table 4).
 pub fn modes_are_read_in_one_way()
     ensures { ReadsOneWay modes }
+{}
+
+/// A run below 65,536 pels, as `put_run` writes it, is read as that run, whatever bits follow it
+/// (T.4, section 4.1.1).
+pub fn runs_are_read_back()
+    ensures { RunBitsAreRead }
+{}
+
+/// A run below 65,536 pels, as `put_run` writes it, is read as no other run, and no other bits are
+/// left behind it (T.4, section 4.1.1).
+pub fn runs_are_read_as_nothing_else()
+    ensures { RunBitsAreOneRun }
+{}
+
+/// A mode, as `put_mode` writes it, is read as that mode, whatever bits follow it (T.4, section
+/// 4.2.1.3.2).
+pub fn modes_are_read_back()
+    ensures { ModeBitsAreRead }
 {}

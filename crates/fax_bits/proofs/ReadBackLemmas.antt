@@ -1,0 +1,165 @@
+-- Runs that are written are read again, and as nothing else.
+use Rattle.std.proofs.Common.{◌≡◌, ℕ, zero, suc, ◌+◌, ◌*◌, ◌/◌, ◌%◌, ◌<◌, ◌≤◌, List, [], ◌∷◌, ◌++◌, map, replicate, Bool, false, nat_eq, refl, ap, sym, ◌∙◌, subst, arith, append_assoc, append-nil, zero-add}
+use Rattle.std.specs.Prelude.{sum, flat_map}
+use Rattle.std.proofs.lemmas.List.Concat.{flat_map-append}
+use Rattle.std.proofs.lemmas.Bool.Decides.{nat_tests}
+use Rattle.std.proofs.lemmas.List.{map-append}
+use Rattle.std.proofs.lemmas.List.Folds.{sum_by-replicate}
+use Rattle.std.proofs.lemmas.List.Sums.{sum_by-append}
+use Rattle.fax_bits.specs.declared.codes.CodeEntry.{CodeEntry}
+use Rattle.fax_bits.specs.declared.Colour.{Colour}
+use Rattle.fax_bits.specs.declared.runs.RunCode.{RunCode}
+use Rattle.fax_bits.specs.declared.runs.RunCode.TheVariants.{Terminating, MakeUp}
+use Rattle.fax_bits.specs.Codes.{Takes, Spells}
+use Rattle.fax_bits.specs.Laws.{RunBitsAreRead, RunBitsAreOneRun}
+use Rattle.fax_bits.specs.Runs.{IsRun, run_code_bits, run_codes, run_bits, one_make_up}
+use Rattle.fax_bits.specs.TableRules.{run_table_is_prefix_free}
+use Rattle.fax_bits.specs.Tables.{run_table, run_meaning}
+use Rattle.fax_bits.proofs.PrefixLemmas.{takes_one}
+use Rattle.fax_bits.proofs.RunCodeLemmas.{takes_run_code, run_meaning-terminating, run_meaning-make_up}
+
+-- ---- a run that is written is read again
+
+spells-append : {M : Type 0} (table : List (CodeEntry M)) (b middle rest : List Bool) (codes others : List M)
+    → Spells table b codes middle → Spells table middle others rest → Spells table b (codes ++ others) rest
+spells-append table b middle rest [] others first second = subst (λ x. Spells table x others rest) (sym first) second
+spells-append table b middle rest (code ∷ codes) others first second =
+    (first.0, first.1, spells-append table first.0 middle rest codes others first.2 second)
+
+spells_one : (colour : Colour) (place : ℕ) (code : RunCode) (more : List Bool) → place < 105 → run_meaning place ≡ code
+    → Spells (run_table colour) (run_code_bits colour code ++ more) (code ∷ []) more
+spells_one colour place code more within is =
+    (more, subst (λ c. Takes (run_table colour) (run_code_bits colour c ++ more) c more) is (takes_run_code colour place more within), refl)
+
+spells_terminating : (colour : Colour) (n : ℕ) (more : List Bool) → n < 64
+    → Spells (run_table colour) (run_code_bits colour (Terminating n) ++ more) (Terminating n ∷ []) more
+spells_terminating colour n more short = spells_one colour n (Terminating n) more (omega arith) (run_meaning-terminating n short)
+
+spells_make_up : (colour : Colour) (steps : ℕ) (more : List Bool) → 0 < steps → steps ≤ 40
+    → Spells (run_table colour) (run_code_bits colour (MakeUp (64 * steps)) ++ more) (MakeUp (64 * steps) ∷ []) more
+spells_make_up colour steps more some few =
+    spells_one colour (63 + steps) (MakeUp (64 * steps)) more (omega arith) (run_meaning-make_up steps some few)
+
+spells_often : (colour : Colour) (q : ℕ) (more : List Bool)
+    → Spells (run_table colour) (flat_map (run_code_bits colour) (replicate q (MakeUp 2560)) ++ more) (replicate q (MakeUp 2560)) more
+spells_often colour zero more = refl
+spells_often colour (suc q) more =
+    let f = run_code_bits colour in
+    let rest = flat_map f (replicate q (MakeUp 2560)) ++ more in
+    let first : Spells (run_table colour) (f (MakeUp 2560) ++ rest) (MakeUp 2560 ∷ []) rest = spells_make_up colour 40 rest (omega arith) (omega arith) in
+    subst (λ b. Spells (run_table colour) b (MakeUp 2560 ∷ replicate q (MakeUp 2560)) more)
+    (sym (append_assoc (f (MakeUp 2560)) (flat_map f (replicate q (MakeUp 2560))) more))
+    (spells-append (run_table colour) (f (MakeUp 2560) ++ rest) rest more (MakeUp 2560 ∷ []) (replicate q (MakeUp 2560)) first (spells_often colour q more))
+
+one_make_up-suc : (k : ℕ) → one_make_up (suc k) ≡ MakeUp (64 * suc k) ∷ []
+one_make_up-suc k = let some : nat_eq (suc k) 0 ≡ false = grind (arith, nat_tests) in rw some
+
+spells_rest : (colour : Colour) (steps : ℕ) (more : List Bool) → steps ≤ 40
+    → Spells (run_table colour) (flat_map (run_code_bits colour) (one_make_up steps) ++ more) (one_make_up steps) more
+spells_rest colour zero more few = refl
+spells_rest colour (suc k) more few =
+    let f = run_code_bits colour in
+    rw (one_make_up-suc k)
+    (subst (λ b. Spells (run_table colour) (b ++ more) (MakeUp (64 * suc k) ∷ []) more) (sym (append-nil (f (MakeUp (64 * suc k)))))
+    (spells_make_up colour (suc k) more (omega arith) few))
+
+-- codes that are spelled by their own bits, whatever follows them
+abbrev SpelledByOwn : Colour → List RunCode → Type 0
+SpelledByOwn colour codes = (more : List Bool) → Spells (run_table colour) (flat_map (run_code_bits colour) codes ++ more) codes more
+
+spelled-both : (colour : Colour) (codes others : List RunCode) → SpelledByOwn colour codes → SpelledByOwn colour others → SpelledByOwn colour (codes ++ others)
+spelled-both colour codes others first second more =
+    let f = run_code_bits colour in
+    let parts : flat_map f (codes ++ others) ++ more ≡ flat_map f codes ++ (flat_map f others ++ more) =
+    ap (λ b. b ++ more) (flat_map-append f codes others) ∙ append_assoc (flat_map f codes) (flat_map f others) more in
+    subst (λ b. Spells (run_table colour) b (codes ++ others) more) (sym parts)
+    (spells-append (run_table colour) _ (flat_map f others ++ more) more codes others (first (flat_map f others ++ more)) (second more))
+
+spelled-terminating : (colour : Colour) (n : ℕ) → n < 64 → SpelledByOwn colour (Terminating n ∷ [])
+spelled-terminating colour n short more =
+    subst (λ b. Spells (run_table colour) (b ++ more) (Terminating n ∷ []) more) (sym (append-nil (run_code_bits colour (Terminating n))))
+    (spells_terminating colour n more short)
+
+spelled-run : (colour : Colour) (n : ℕ) → SpelledByOwn colour (run_codes n)
+spelled-run colour n =
+    let steps : n % 2560 / 64 ≤ 40 = omega arith in
+    let low : n % 64 < 64 = omega arith in
+    spelled-both colour (replicate (n / 2560) (MakeUp 2560) ++ one_make_up (n % 2560 / 64)) (Terminating (n % 64) ∷ [])
+    (spelled-both colour (replicate (n / 2560) (MakeUp 2560)) (one_make_up (n % 2560 / 64))
+    (spells_often colour (n / 2560)) (λ more. spells_rest colour (n % 2560 / 64) more steps))
+    (spelled-terminating colour (n % 64) low)
+
+-- the pels of one_make_up
+abbrev rest_pels : ℕ → List ℕ
+rest_pels zero = []
+rest_pels (suc k) = 64 * suc k ∷ []
+
+map-rest_pels : (steps : ℕ) → map MakeUp (rest_pels steps) ≡ one_make_up steps
+map-rest_pels zero = refl
+map-rest_pels (suc k) = sym (one_make_up-suc k)
+
+sum-rest_pels : (steps : ℕ) → sum (rest_pels steps) ≡ 64 * steps
+sum-rest_pels zero = refl
+sum-rest_pels (suc k) = omega (arith, zero-add (64 * suc k))
+
+map-replicate : (q pels : ℕ) → map MakeUp (replicate q pels) ≡ replicate q (MakeUp pels)
+map-replicate zero pels = refl
+map-replicate (suc q) pels = ap (λ codes. MakeUp pels ∷ codes) (map-replicate q pels)
+
+codes_are : (n : ℕ) → map MakeUp (replicate (n / 2560) 2560 ++ rest_pels (n % 2560 / 64)) ++ Terminating (n % 64) ∷ [] ≡ run_codes n
+codes_are n =
+    ap (λ codes. codes ++ Terminating (n % 64) ∷ [])
+    (map-append MakeUp (replicate (n / 2560) 2560) (rest_pels (n % 2560 / 64))
+    ∙ ap (λ codes. codes ++ map MakeUp (rest_pels (n % 2560 / 64))) (map-replicate (n / 2560) 2560)
+    ∙ ap (λ codes. replicate (n / 2560) (MakeUp 2560) ++ codes) (map-rest_pels (n % 2560 / 64)))
+
+pels_are : (n : ℕ) → sum (replicate (n / 2560) 2560 ++ rest_pels (n % 2560 / 64)) + n % 64 ≡ n
+pels_are n =
+    omega (
+      arith,
+      sum_by-append (λ (x : ℕ). x) (replicate (n / 2560) 2560) (rest_pels (n % 2560 / 64)),
+      sum_by-replicate (λ (x : ℕ). x) (n / 2560) 2560,
+      sum-rest_pels (n % 2560 / 64),
+    )
+
+pub run_bits_are_read : RunBitsAreRead
+unfolding run_bits
+run_bits_are_read colour n more few = record {
+  make_up = replicate (n / 2560) 2560 ++ rest_pels (n % 2560 / 64);
+  last = n % 64;
+  spelled = subst (λ codes. Spells (run_table colour) (run_bits colour n ++ more) codes more) (sym (codes_are n)) (spelled-run colour n more);
+  length = sym (pels_are n);
+}
+
+-- ---- and as nothing else
+
+-- two readings of a run
+same_run : (colour : Colour) (b : List Bool) (pels others : List ℕ) (last end : ℕ) (rest remaining : List Bool)
+    → Spells (run_table colour) b (map MakeUp pels ++ Terminating last ∷ []) rest
+    → Spells (run_table colour) b (map MakeUp others ++ Terminating end ∷ []) remaining
+    → (pels ≡ others) × (last ≡ end) × (rest ≡ remaining)
+same_run colour b [] [] last end rest remaining first second =
+    let same = takes_one (run_table colour) (run_table_is_prefix_free colour) b _ _ _ _ first.1 second.1 in
+    (refl, cc (same.0), sym first.2 ∙ same.1 ∙ second.2)
+same_run colour b [] (n ∷ others) last end rest remaining first second =
+    let same = takes_one (run_table colour) (run_table_is_prefix_free colour) b _ _ _ _ first.1 second.1 in
+    absurd (cc (same.0))
+same_run colour b (n ∷ pels) [] last end rest remaining first second =
+    let same = takes_one (run_table colour) (run_table_is_prefix_free colour) b _ _ _ _ first.1 second.1 in
+    absurd (cc (same.0))
+same_run colour b (n ∷ pels) (m ∷ others) last end rest remaining first second =
+    let same = takes_one (run_table colour) (run_table_is_prefix_free colour) b _ _ _ _ first.1 second.1 in
+    let here : n ≡ m = cc (same.0) in
+    let behind = same_run colour first.0 pels others last end rest remaining first.2
+    (subst (λ x. Spells (run_table colour) x (map MakeUp others ++ Terminating end ∷ []) remaining) (sym same.1) second.2) in
+    (cc (here, behind.0), behind.1, behind.2)
+
+one_length : (colour : Colour) (b : List Bool) (n m : ℕ) (rest remaining : List Bool) → IsRun colour b n rest → IsRun colour b m remaining
+    → (n ≡ m) × (rest ≡ remaining)
+one_length colour b n m rest remaining first second =
+    let same = same_run colour b first.make_up second.make_up first.last second.last rest remaining first.spelled second.spelled in
+    (omega (arith, first.length, second.length, ap sum same.0, same.1), same.2)
+
+pub run_bits_are_one_run : RunBitsAreOneRun
+run_bits_are_one_run colour n m more rest few is =
+    one_length colour (run_bits colour n ++ more) n m more rest (run_bits_are_read colour n more few) is
