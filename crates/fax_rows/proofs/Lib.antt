@@ -1,3 +1,4 @@
+pub mod PackedLemmas
 pub mod PlaceLemmas
 pub mod PaintLemmas
 pub mod StepLemmas

@@ -4,6 +4,7 @@
 
 pub mod laws;
 mod one_dimensional;
+mod packed;
 mod pels;
 mod places;
 mod put;

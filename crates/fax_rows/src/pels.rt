@@ -1,7 +1,8 @@
 //! A row of pels.
-ghost use Rattle.std.specs.Prelude.{◌≡◌, ℕ, ◌+◌, ◌≤◌, ◌<◌, ◌^◌, length, ◌++◌, take, replicate, slice_index_or, IfOk};
-ghost use Rattle.fax_rows.specs.Elements.{runs_of, pel as pel_of};
+ghost use Rattle.std.specs.Prelude.{◌≡◌, ℕ, ◌+◌, ◌≤◌, ◌<◌, ◌^◌, length, ◌++◌, take, replicate, slice_index_or, map, IfOk};
+ghost use Rattle.fax_rows.specs.Elements.{other as other_than, runs_of, pel as pel_of};
 
+use crate::runs::other;
 use fax_bits::{Colour, Memory};
 use std::alloc::Global;
 use std::marker::Model;
@@ -81,6 +82,23 @@ impl Row {
         }
         runs.push(n).map_err(|_| Memory)?;
         Ok(runs)
+    }
+
+    /// Turns white pels black, and black ones white.
+    pub fn exchange(&mut self)
+        ensures { self.new ≡ map other_than self.old }
+    {
+        for pel in self.pels.iter_mut() {
+            *pel = other(*pel);
+        }
+    }
+
+    /// Takes the pels of a row of the same width.
+    pub fn set_from(&mut self, row: &Row)
+        requires { length self.old ≡ length row.now }
+        ensures { self.new ≡ row.now }
+    {
+        self.pels.copy_from_slice(&row.pels);
     }
 
     /// Gives `n` pels from place `from` on this colour.

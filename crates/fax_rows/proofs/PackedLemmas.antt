@@ -1,0 +1,138 @@
+-- Rows as packed bytes, bit by bit.
+use Rattle.std.proofs.Common.{◌≡◌, ℕ, zero, suc, ◌+◌, ◌-◌, ◌*◌, ◌/◌, ◌%◌, ◌^◌, ◌<◌, ◌≤◌, List, [], ◌∷◌, ◌++◌, map, length, take, drop, replicate, get_or, Bool, true, false, if◌then◌else◌, nat_eq, refl, ap, sym, ◌∙◌, arith, length-append, length-drop, get_or-drop, add-one}
+use Rattle.std.specs.Prelude.{bit_and}
+use Rattle.std.specs.Int.{bit_at}
+use mir.Val.{bool_byte}
+use Rattle.std.proofs.Math.ListN.{get_or-append}
+use Rattle.std.proofs.Math.Nat.{pow-succ'}
+use Rattle.std.proofs.lemmas.List.{length-replicate, length-map, get_or-append-add, get_or-map, get_or-take, length-take-le}
+use Rattle.std.proofs.lemmas.List.FromFn.{fill_by_all}
+use Rattle.std.proofs.lemmas.List.Sums.{fold_more}
+use Rattle.std.proofs.lemmas.Nat.{and_mask}
+use Rattle.fax_bits.specs.declared.FillOrder.TheVariants.{MsbFirst}
+use Rattle.fax_bits.specs.declared.Colour.{Colour}
+use Rattle.fax_bits.specs.declared.Colour.TheVariants.{White}
+use Rattle.fax_bits.specs.Bits.{code_bits, byte_bits, bits, bits_number}
+use Rattle.fax_rows.specs.Packed.{packed_len, is_black, colour_of_bit, packed_byte, packed_row, unpacked_row}
+use Rattle.fax_rows.proofs.RowLemmas.{same_pels}
+
+-- a byte has eight bits
+length-byte_bits : (byte : ℕ) → length (byte_bits MsbFirst byte) ≡ 8
+unfolding byte_bits code_bits
+length-byte_bits byte = refl
+
+length-bits : (bytes : List ℕ) → length (bits MsbFirst bytes) ≡ 8 * length bytes
+unfolding bits
+length-bits [] = refl
+length-bits (byte ∷ bytes) = simp length-append (omega (arith, length-byte_bits byte, length-bits bytes))
+
+-- bit r of a byte, the highest first
+get_or-byte_bits : (byte r : ℕ) → r < 8 → get_or (byte_bits MsbFirst byte) r false ≡ nat_eq (bit_at byte (7 - r)) 1
+unfolding byte_bits code_bits
+get_or-byte_bits byte zero h = refl
+get_or-byte_bits byte (suc zero) h = refl
+get_or-byte_bits byte (suc (suc zero)) h = refl
+get_or-byte_bits byte (suc (suc (suc zero))) h = refl
+get_or-byte_bits byte (suc (suc (suc (suc zero)))) h = refl
+get_or-byte_bits byte (suc (suc (suc (suc (suc zero))))) h = refl
+get_or-byte_bits byte (suc (suc (suc (suc (suc (suc zero)))))) h = refl
+get_or-byte_bits byte (suc (suc (suc (suc (suc (suc (suc zero))))))) h = refl
+get_or-byte_bits byte (suc (suc (suc (suc (suc (suc (suc (suc r)))))))) h = absurd (omega arith)
+
+-- bit r of byte q
+get_or-bits : (bytes : List ℕ) (q r : ℕ) → q < length bytes → r < 8
+    → get_or (bits MsbFirst bytes) (8 * q + r) false ≡ nat_eq (bit_at (get_or bytes q 0) (7 - r)) 1
+unfolding bits
+get_or-bits [] q r in_bytes in_byte = absurd (omega arith)
+get_or-bits (byte ∷ bytes) zero r in_bytes in_byte =
+    let short : r < length (byte_bits MsbFirst byte) = omega (arith, length-byte_bits byte) in
+    let place : 8 * zero + r ≡ r = omega arith in
+    ap (λ i. get_or (byte_bits MsbFirst byte ++ bits MsbFirst bytes) i false) place
+    ∙ get_or-append (byte_bits MsbFirst byte) (bits MsbFirst bytes) false r short ∙ get_or-byte_bits byte r in_byte
+get_or-bits (byte ∷ bytes) (suc q) r in_bytes in_byte =
+    let place : 8 * suc q + r ≡ length (byte_bits MsbFirst byte) + (8 * q + r) = omega (arith, length-byte_bits byte) in
+    ap (λ i. get_or (byte_bits MsbFirst byte ++ bits MsbFirst bytes) i false) place
+    ∙ get_or-append-add (byte_bits MsbFirst byte) (bits MsbFirst bytes) (8 * q + r) false
+    ∙ get_or-bits bytes q r (omega arith) in_byte
+
+-- bit i of the bytes, as the program reads it
+pub bit_read : (bytes : List ℕ) (i : ℕ) → i < 8 * length bytes
+    → nat_eq (bit_and (get_or bytes (i / 8) 0 / 2 ^ (7 - i % 8)) 1) 1 ≡ get_or (bits MsbFirst bytes) i false
+bit_read bytes i within =
+    let at : 8 * (i / 8) + i % 8 ≡ i = omega arith in
+    ap (λ n. nat_eq n 1) (and_mask (get_or bytes (i / 8) 0 / 2 ^ (7 - i % 8)) 1)
+    ∙ sym (get_or-bits bytes (i / 8) (i % 8) (omega arith) (omega arith))
+    ∙ ap (λ n. get_or (bits MsbFirst bytes) n false) at
+
+-- a row whose pels are the bits of bytes
+pub unpacked_at : (row : List Colour) (bytes : List ℕ) (width : ℕ) → length row ≡ width → length bytes ≡ packed_len width
+    → ((k : ℕ) → k < width → get_or row k White ≡ colour_of_bit (get_or (bits MsbFirst bytes) k false))
+    → row ≡ unpacked_row width bytes
+unfolding unpacked_row
+unpacked_at row bytes width len whole each =
+    same_pels row (take width (map colour_of_bit (bits MsbFirst bytes))) (len ∙ sym short)
+    (λ k h. pel_at k (omega arith))
+  where
+    long : width ≤ length (map colour_of_bit (bits MsbFirst bytes))
+    long = omega (arith, length-map (bits MsbFirst bytes) colour_of_bit, length-bits bytes)
+
+    short : length (take width (map colour_of_bit (bits MsbFirst bytes))) ≡ width
+    short = length-take-le width (map colour_of_bit (bits MsbFirst bytes)) long
+
+    pel_at : (k : ℕ) → k < width → get_or row k White ≡ get_or (take width (map colour_of_bit (bits MsbFirst bytes))) k White
+    pel_at k h =
+        let within : k < length (bits MsbFirst bytes) = omega (arith, length-bits bytes) in
+        each k h ∙ sym (get_or-map colour_of_bit (bits MsbFirst bytes) k false White within)
+        ∙ sym (get_or-take width (map colour_of_bit (bits MsbFirst bytes)) k White h)
+
+-- the bits of a row, with zeros behind the last pel
+abbrev pub padded_bits : List Colour → List Bool
+padded_bits row = map is_black row ++ replicate 8 false
+
+get_or-padded : (b : List Bool) (n i : ℕ) → get_or (b ++ replicate n false) i false ≡ get_or b i false
+get_or-padded [] zero i = refl
+get_or-padded [] (suc n) zero = refl
+get_or-padded [] (suc n) (suc i) = get_or-padded [] n i
+get_or-padded (x ∷ b) n zero = refl
+get_or-padded (x ∷ b) n (suc i) = get_or-padded b n i
+
+bit_digit : (bit : Bool) → bool_byte bit ≡ (if bit then 1 else 0)
+bit_digit true = refl
+bit_digit false = refl
+
+-- one more bit of a byte
+pub byte_more : (row : List Colour) (from i byte digit : ℕ) (bit : Bool) → from < length row → i < 8
+    → byte ≡ bits_number (take i (drop from (padded_bits row))) → bit ≡ get_or (map is_black row) (from + i) false → digit ≡ bool_byte bit
+    → 2 * byte + digit ≡ bits_number (take (i + 1) (drop from (padded_bits row)))
+byte_more row from i byte digit bit within few byte_is bit_is digit_is =
+    let long : i < length (drop from (padded_bits row)) =
+    omega (arith, length-drop from (padded_bits row), length-append (map is_black row) (replicate 8 false), length-map row is_black, length-replicate 8 false) in
+    let here : get_or (drop from (padded_bits row)) i false ≡ bit =
+    get_or-drop from (padded_bits row) i false ∙ get_or-padded (map is_black row) 8 (from + i) ∙ sym bit_is in
+    let digit_of : digit ≡ (if get_or (drop from (padded_bits row)) i false then 1 else 0) =
+    digit_is ∙ bit_digit bit ∙ ap (λ (b : Bool). if b then 1 else 0) (sym here) in
+    let more : bits_number (take (i + 1) (drop from (padded_bits row)))
+    ≡ 2 * bits_number (take i (drop from (padded_bits row))) + (if get_or (drop from (padded_bits row)) i false then 1 else 0) =
+    fold_more (λ number b. 2 * number + (if b then 1 else 0)) 0 (drop from (padded_bits row)) i false long in
+    omega arith
+
+digit-le : (bit : Bool) → bool_byte bit ≤ 1
+digit-le true = omega arith
+digit-le false = omega arith
+
+-- and it fits
+pub byte_fits : (byte digit i : ℕ) (bit : Bool) → byte < 2 ^ i → i < 8 → digit ≡ bool_byte bit → 2 * byte + digit < 2 ^ (i + 1)
+byte_fits byte digit i bit fits few digit_is =
+    rw (add-one, pow-succ' 2 i) (omega (arith, digit-le bit))
+
+-- all bytes of a row
+pub packed_at : (row : List Colour) (bytes : List ℕ) → length bytes ≡ packed_len (length row)
+    → ((k : ℕ) → k < length bytes → get_or bytes k 0 ≡ packed_byte row (8 * k)) → bytes ≡ packed_row row
+unfolding packed_row
+packed_at row bytes len each =
+    fill_by_all (λ k. packed_byte row (8 * k)) bytes (packed_len (length row)) 0 len (λ k h. each k (omega arith))
+
+-- behind the eighth bit
+pub byte_done : (row : List Colour) (from byte : ℕ) → byte ≡ bits_number (take 8 (drop from (padded_bits row))) → byte ≡ packed_byte row from
+unfolding packed_byte
+byte_done row from byte number = number

@@ -1,0 +1,78 @@
+//! Rows as packed bytes, as in a raw PBM (the netpbm format, P4): eight pels in a byte, the leftmost
+//! in its highest bit, where 1 is black.
+ghost use Rattle.std.specs.Prelude.{◌≡◌, ◌*◌, ◌<◌, ◌^◌, length, map, slice_index_or, false, IfOk};
+ghost use Rattle.fax_bits.specs.Bits.{bits};
+ghost use Rattle.fax_bits.specs.declared.FillOrder.TheVariants.{MsbFirst};
+ghost use Rattle.fax_rows.specs.Packed.{is_black as is_black_pel, colour_of_bit, packed_len, packed_byte as byte_from, packed_row, unpacked_row};
+
+use crate::pels::Row;
+use fax_bits::{Colour, Memory};
+use std::alloc::Global;
+
+impl Row {
+    /// The row of `width` pels, 1 to 65,535, that these bytes hold: pel `i` is black where bit `i`
+    /// is 1, the highest bit of each byte first. The bits behind the last pel are ignored. The row
+    /// has all the memory that one of this width can need.
+    ///
+    /// # Errors
+    ///
+    /// `Memory` where a growth was refused.
+    pub fn from_packed(alloc: Global, bytes: &[u8], width: u32) -> Result<Row, Memory>
+        requires some { 0 < width }
+        requires short { width < 2 ^ 16 }
+        requires whole { length bytes.now ≡ packed_len width }
+        ensures { IfOk result (λ row. row ≡ unpacked_row width bytes.now) }
+    {
+        let mut row = Row::white(alloc, width)?;
+        for i in 0..width {
+            row.paint(i, 1, colour_of(bit(bytes, i)));
+        }
+        Ok(row)
+    }
+
+    /// Writes the row's pels as bytes, the highest bit of each first, where 1 is black and the bits
+    /// behind the last pel are 0. `out` has just as many bytes as that takes.
+    pub fn to_packed(&self, out: &mut [u8])
+        requires { length out.old ≡ packed_len (length self.now) }
+        ensures { out.new ≡ packed_row self.now }
+    {
+        for k in 0..self.width().div_ceil(8) {
+            out[k as usize] = self.packed_byte(8 * k);
+        }
+    }
+
+    /// The byte of the eight pels from this place on, with zeros behind the last pel.
+    fn packed_byte(&self, from: u32) -> u8
+        requires within { from < length self.now }
+        requires short { from < 2 ^ 16 }
+        ensures { result ≡ byte_from self.now from }
+    {
+        let mut byte = 0;
+        for i in 0..8 {
+            byte = 2 * byte + u8::from(self.is_black(from + i));
+        }
+        byte
+    }
+
+    /// A pel stands at this place, and it is black.
+    fn is_black(&self, i: u32) -> bool
+        ensures { result ≡ slice_index_or (map is_black_pel self.now) i false }
+    {
+        i < self.width() && self.pel(i) == Colour::Black
+    }
+}
+
+/// Bit `i` of the bytes, the highest of each byte first.
+fn bit(bytes: &[u8], i: u32) -> bool
+    requires { i < 8 * length bytes.now }
+    ensures { result ≡ slice_index_or (bits MsbFirst bytes.now) i false }
+{
+    (bytes[(i / 8) as usize] >> (7 - i % 8)) & 1 == 1
+}
+
+/// The colour of a pel whose bit this is.
+fn colour_of(bit: bool) -> Colour
+    ensures { result ≡ colour_of_bit bit }
+{
+    if bit { Colour::Black } else { Colour::White }
+}
