@@ -8,6 +8,7 @@ use Rattle.fax_bits.specs.declared.Colour.{Colour}
 use Rattle.fax_bits.specs.declared.Colour.TheVariants.{White, Black}
 use Rattle.fax_bits.specs.declared.modes.ModeCode.{ModeCode}
 use Rattle.fax_bits.specs.declared.modes.ModeCode.TheVariants.{Pass, Horizontal, Vertical}
+use Rattle.fax_bits.specs.Laws.{RunBitsAreRead}
 use Rattle.fax_bits.specs.Runs.{IsRun, IsWritten, run_bits}
 use Rattle.fax_rows.specs.Elements.{other, pel, next_change, is_right_of, b1, b2, HasWidth}
 use Rattle.fax_rows.specs.Coded.{places, colour_of, chosen_mode, run_pair_bits, next_a0}
@@ -58,10 +59,6 @@ passes from place width unfinished within right =
 pub first_passed : (from : Option ℕ) (place : ℕ) → passed from ≤ place → first_of from ≤ place
 first_passed None place h = omega arith
 first_passed (Some a) place h = omega arith
-
--- a written run is read back
-abbrev pub RunsAreRead : Type 0
-RunsAreRead = (colour : Colour) (n : ℕ) (more : List Bool) → n < 2 ^ 16 → IsRun colour (run_bits colour n ++ more) n more
 
 number_passes : (from : Option ℕ) (colour : Colour) (pels : List Colour) (place : ℕ) → passed from ≤ place
     → a0_number (record { a0 = from; colour = colour; pels = pels }) <ℤ pos place
@@ -173,7 +170,7 @@ module _ (reference row : List Colour) (same_width : length reference ≡ length
       ∙ ap other (colour_at row a0 (next_change row a0) a1_is (omega (arith, a2_ahead)))
       ∙ other_twice (colour_of row a0))
 
-  horizontal_chosen : RunsAreRead → HasWidth row → (rest : List Bool) → IsChosen reference row a0 rest Horizontal
+  horizontal_chosen : RunBitsAreRead → HasWidth row → (rest : List Bool) → IsChosen reference row a0 rest Horizontal
   horizontal_chosen runs_read limits rest =
       let ahead = first_passed a0 (next_change row a0) a1_right in
       let first_pels = pels_up_to row (first_of a0) (next_change row a0) (colour_of row a0) ahead a1_is.within
@@ -203,7 +200,7 @@ module _ (reference row : List Colour) (same_width : length reference ≡ length
       }
 
   -- the mode by the two tests that choose it
-  by_tests : RunsAreRead → HasWidth row → (rest : List Bool) (pass near : Bool)
+  by_tests : RunBitsAreRead → HasWidth row → (rest : List Bool) (pass near : Bool)
       → nat_lt (b2 reference a0 (colour_of row a0)) (next_change row a0) ≡ pass
       → nat_le (nat_abs (pos (next_change row a0) -ℤ pos (b1 reference a0 (colour_of row a0)))) 3 ≡ near
       → IsChosen reference row a0 rest
@@ -213,7 +210,7 @@ module _ (reference row : List Colour) (same_width : length reference ≡ length
   by_tests runs_read limits rest false true is close = vertical_chosen rest (grind (arith, nat_tests))
   by_tests runs_read limits rest false false is close = horizontal_chosen runs_read limits rest
 
-  pub chosen : RunsAreRead → HasWidth row → (rest : List Bool) → IsChosen reference row a0 rest (chosen_mode (places reference row a0))
+  pub chosen : RunBitsAreRead → HasWidth row → (rest : List Bool) → IsChosen reference row a0 rest (chosen_mode (places reference row a0))
   chosen runs_read limits rest = by_tests runs_read limits rest _ _ refl refl
 
   -- a1 is not left of the first pel of the step

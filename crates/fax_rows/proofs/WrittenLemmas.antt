@@ -9,6 +9,7 @@ use Rattle.fax_bits.specs.declared.Colour.{Colour}
 use Rattle.fax_bits.specs.declared.Colour.TheVariants.{White, Black}
 use Rattle.fax_bits.specs.declared.modes.ModeCode.{ModeCode}
 use Rattle.fax_bits.specs.Codes.{Takes}
+use Rattle.fax_bits.specs.Laws.{RunBitsAreRead, ModeBitsAreRead}
 use Rattle.fax_bits.specs.Runs.{IsWritten, mode_bits}
 use Rattle.fax_bits.specs.Tables.{modes}
 use Rattle.fax_rows.specs.Elements.{other, pels_of, runs_behind, runs_of, HasWidth}
@@ -18,11 +19,7 @@ use Rattle.fax_rows.specs.TwoDimensional.{Position, AreSteps, IsTwoDimensionalRo
 use Rattle.fax_rows.proofs.ChangeLemmas.{first_of}
 use Rattle.fax_rows.proofs.RowLaws.{length-pels_of}
 use Rattle.fax_rows.proofs.RunLaws.{sum-cons}
-use Rattle.fax_rows.proofs.ChoiceLemmas.{here, passed, colour_after, RunsAreRead, IsChosen, chosen}
-
--- a written mode is read back
-abbrev pub ModesAreTaken : Type 0
-ModesAreTaken = (mode : ModeCode) (more : List Bool) → IsWritten mode → Takes modes (mode_bits mode ++ more) mode more
+use Rattle.fax_rows.proofs.ChoiceLemmas.{here, passed, colour_after, IsChosen, chosen}
 
 -- the bits begin with steps from a position to the row's end, and the row is what they make
 pub record IsWrittenBack (reference row : List Colour) (from : Position) (b more : List Bool) : Type 0 where
@@ -62,7 +59,7 @@ still_short : (a0 : Option ℕ) (width limit : ℕ) → width + 1 ≤ passed a0 
 still_short None width limit enough none within = absurd (omega arith)
 still_short (Some a) width limit enough none within = omega arith
 
-module _ (runs_read : RunsAreRead) (modes_taken : ModesAreTaken) (reference row : List Colour) (same_width : length reference ≡ length row)
+module _ (runs_read : RunBitsAreRead) (modes_taken : ModeBitsAreRead) (reference row : List Colour) (same_width : length reference ≡ length row)
     (limits : HasWidth row) where
   back_at_end : (a0 : Option ℕ) (colour : Colour) (limit : ℕ) (more : List Bool) → first_of a0 ≡ length row
       → IsWrittenBack reference row (here row a0 colour) (step_bits limit reference row a0 ++ more) more
@@ -177,7 +174,7 @@ fewer_runs Black n (White ∷ pels) some (suc k) h =
     omega (arith, fewer_runs White 1 pels (omega arith) k (omega arith), sum-cons n (take k (runs_behind White 1 pels)))
 
 -- written runs are read back
-runs_back : RunsAreRead → (colour : Colour) (runs : List ℕ) (more : List Bool) → sum runs < 2 ^ 16
+runs_back : RunBitsAreRead → (colour : Colour) (runs : List ℕ) (more : List Bool) → sum runs < 2 ^ 16
     → AreRuns colour (alternating_bits colour runs ++ more) runs more
 unfolding alternating_bits
 runs_back runs_read colour [] more short = refl
@@ -188,7 +185,7 @@ runs_back runs_read colour (n ∷ runs) more short = (
 )
 
 -- a row in one-dimensional coding is read back
-pub one_dimensional_back : RunsAreRead → (row : List Colour) → HasWidth row → (more : List Bool)
+pub one_dimensional_back : RunBitsAreRead → (row : List Colour) → HasWidth row → (more : List Bool)
     → IsOneDimensionalRow (length row) (one_dimensional_bits row ++ more) row more
 one_dimensional_back runs_read row limits more =
     let pels : row ≡ pels_of White (runs_of row) = sym (pels_of-runs_behind White 0 row) in

@@ -1,6 +1,6 @@
 //! Laws of rows. The functions compute nothing: each has a law as its contract.
 ghost use Rattle.std.specs.Prelude.{ℕ};
-ghost use Rattle.fax_rows.specs.Laws.{ReadsRowsOneWay};
+ghost use Rattle.fax_rows.specs.Laws.{ReadsRowsOneWay, OneDimensionalBitsAreRead, OneDimensionalBitsAreOneRow, TwoDimensionalBitsAreRead, TwoDimensionalBitsAreOneRow};
 
 /// Bits are read in one way as a row of a width in one-dimensional coding: they begin with one row
 /// and one rest follows it, or they have one fault, never both (T.4, section 4.1.1).
@@ -8,4 +8,39 @@ pub fn rows_are_read_in_one_way()
     ensures { (width : ℕ) → ReadsRowsOneWay width }
 {
     fax_bits::laws::run_codes_are_read_in_one_way();
+}
+
+/// What `put_1d` appends is read as the row that was put, whatever bits follow it (T.4, section
+/// 4.1.1).
+pub fn one_dimensional_rows_are_read_back()
+    ensures { OneDimensionalBitsAreRead }
+{
+    fax_bits::laws::runs_are_read_back();
+}
+
+/// What `put_1d` appends is read as no other row and with no other rest (T.4, section 4.1.1).
+pub fn one_dimensional_rows_are_read_as_nothing_else()
+    ensures { OneDimensionalBitsAreOneRow }
+{
+    one_dimensional_rows_are_read_back();
+    rows_are_read_in_one_way();
+}
+
+/// What `put_2d` appends is read over the same reference row as the row that was put, whatever bits
+/// follow it (T.4, section 4.2.1.3.3; T.6, section 2.2.3).
+pub fn two_dimensional_rows_are_read_back()
+    ensures { TwoDimensionalBitsAreRead }
+{
+    fax_bits::laws::runs_are_read_back();
+    fax_bits::laws::modes_are_read_back();
+}
+
+/// What `put_2d` appends is read over the same reference row as no other row and with no other rest
+/// (T.4, section 4.2.1.3.3; T.6, section 2.2.3).
+pub fn two_dimensional_rows_are_read_as_nothing_else()
+    ensures { TwoDimensionalBitsAreOneRow }
+{
+    two_dimensional_rows_are_read_back();
+    fax_bits::laws::run_codes_are_read_in_one_way();
+    fax_bits::laws::modes_are_read_in_one_way();
 }

@@ -2,6 +2,8 @@
 use crate::{BitSource, Colour, FillOrder, Row, RowFault, b1_b2, read_1d, read_2d};
 use std::test::Fail;
 
+mod put;
+
 /// 25 times 2,560 white pels, then 1,472 and 63.
 const WIDEST_WHITE: [u8; 40] = [
     0x01, 0xF0, 0x1F, 0x01, 0xF0, 0x1F, 0x01, 0xF0, 0x1F, 0x01, 0xF0, 0x1F, 0x01, 0xF0, 0x1F, 0x01,

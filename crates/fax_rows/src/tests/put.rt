@@ -1,0 +1,153 @@
+//! Rows as they are written. The bits were written by hand from tables 2 to 4 of T.4.
+use crate::{BitSink, BitSource, Colour, FillOrder, Memory, Row, put_1d, put_2d, read_1d, read_2d};
+use std::alloc::Global;
+use std::process::Abort;
+use std::test::Fail;
+
+/// A row of eight pels, the leftmost in the highest bit, where 1 is black.
+fn eight(alloc: Global, pels: u8) -> Result<Row, Memory> {
+    Row::from_packed(alloc, &[pels], 8)
+}
+
+/// The bits of a sink as text.
+fn text_of(rt: &impl Abort, alloc: Global, mut sink: BitSink) -> Result<String, Fail> {
+    let len = sink.len();
+    assert!(rt; len < 100);
+    sink.pad();
+    let bytes = sink.into_bytes();
+    let mut text = String::new(alloc);
+    for byte in bytes.iter() {
+        for k in 0..8 {
+            let bit = (*byte >> (7 - k)) & 1;
+            text.push(if bit == 1 { '1' } else { '0' })?;
+        }
+    }
+    text.truncate(len as usize);
+    Ok(text)
+}
+
+#[test]
+fn writes_the_choice_of_the_standard(rt: HostRuntime) -> Result<(), Fail> {
+    let cases: [(&str, u8, u8, &str); 8] = [
+        ("pass, then V0 behind the end", 0x18, 0x00, "00011"),
+        ("b2 at a1 is no pass", 0x30, 0x0C, "0000110000101"),
+        ("V0 at the first pel, VR1, V0", 0xC0, 0xE0, "10111"),
+        ("pass, VL2, V0", 0x18, 0x03, "00010000101"),
+        ("VL3, V0", 0x0F, 0x7F, "00000101"),
+        (
+            "horizontal with a white run of 0",
+            0x0F,
+            0xFF,
+            "00100110101000101",
+        ),
+        ("horizontal, V0", 0x00, 0x18, "0011000111"),
+        (
+            "horizontal with a black run of 0",
+            0x0F,
+            0x00,
+            "001100110000110111",
+        ),
+    ];
+    for (name, reference, row, bits) in cases {
+        let reference = eight(rt.alloc(), reference)?;
+        let row = eight(rt.alloc(), row)?;
+        let mut sink = BitSink::new(rt.alloc(), FillOrder::MsbFirst);
+        put_2d(&reference, &row, &mut sink)?;
+        assert_eq!(rt; text_of(&rt, rt.alloc(), sink)?.as_str(), bits, "{name}");
+    }
+    Ok(())
+}
+
+#[test]
+fn writes_the_longest_runs(rt: HostRuntime) -> Result<(), Fail> {
+    let cases: [(&str, u8, &str); 4] = [
+        ("white 8", 0x00, "10011"),
+        ("white 3, black 2, white 3", 0x18, "1000111000"),
+        ("white 0, black 8", 0xFF, "00110101000101"),
+        ("white 7, black 1", 0x01, "1111010"),
+    ];
+    for (name, row, bits) in cases {
+        let row = eight(rt.alloc(), row)?;
+        let mut sink = BitSink::new(rt.alloc(), FillOrder::MsbFirst);
+        put_1d(&row, &mut sink)?;
+        assert_eq!(rt; text_of(&rt, rt.alloc(), sink)?.as_str(), bits, "{name}");
+    }
+    Ok(())
+}
+
+/// Bytes of pels: 0 all white, 1 all black, 2 pel by pel in turn, 3 thin marks, else noise.
+fn marks(alloc: Global, kind: u32, len: usize) -> Result<Vec<u8>, Fail> {
+    let mut bytes = Vec::new(alloc);
+    let mut noise: u32 = kind.wrapping_mul(40_503);
+    for i in 0..len {
+        noise = noise.wrapping_mul(1_664_525).wrapping_add(1_013_904_223);
+        let byte = match kind {
+            0 => 0,
+            1 => 0xFF,
+            2 => 0x55,
+            3 if i % 7 == 3 => 0x18,
+            3 => 0,
+            _ => (noise >> 24) as u8,
+        };
+        bytes.push(byte)?;
+    }
+    Ok(bytes)
+}
+
+#[test]
+fn reads_back_what_it_writes(rt: HostRuntime) -> Result<(), Fail> {
+    for width in [1, 2, 7, 8, 9, 64, 1728, 65_535] {
+        for over in 0..5 {
+            for kind in 0..5 {
+                reads_back(&rt, rt.alloc(), width, over, kind)?;
+            }
+        }
+    }
+    Ok(())
+}
+
+/// A row of these marks is read back in both codings, over a row of the other marks.
+fn reads_back(
+    rt: &impl Abort,
+    alloc: Global,
+    width: u32,
+    over: u32,
+    kind: u32,
+) -> Result<(), Fail> {
+    assert!(rt; width > 0 && width < 65_536);
+    let len = ((width + 7) / 8) as usize;
+    let below = marks(alloc, over, len)?;
+    let bytes = marks(alloc, kind + 5 * over, len)?;
+    assert!(rt; below.len() == len && bytes.len() == len);
+    let reference = Row::from_packed(alloc, &below, width)?;
+    let row = Row::from_packed(alloc, &bytes, width)?;
+    let mut sink = BitSink::new(alloc, FillOrder::MsbFirst);
+    put_1d(&row, &mut sink)?;
+    put_2d(&reference, &row, &mut sink)?;
+    let end = sink.len();
+    sink.pad();
+    let coded = sink.into_bytes();
+    assert!(rt; coded.len() < 1_000_000);
+    let mut source = BitSource::new(&coded, FillOrder::MsbFirst);
+    let want = row.runs(alloc)?;
+    let mut again = Row::white(alloc, width)?;
+    assert_eq!(rt; read_1d(&mut source, &mut again), Ok(()), "{width} {kind}");
+    assert_eq!(rt;
+        again.runs(alloc)?.as_slice(),
+        want.as_slice(),
+        "{width} {kind}"
+    );
+    let mut again = Row::white(alloc, width)?;
+    assert_eq!(rt;
+        read_2d(&mut source, &reference, &mut again),
+        Ok(()),
+        "{width} {over} {kind}"
+    );
+    assert_eq!(rt;
+        again.runs(alloc)?.as_slice(),
+        want.as_slice(),
+        "{width} {over} {kind}"
+    );
+    assert_eq!(rt; u128::from(source.place()), end, "{width} {over} {kind}");
+    Ok(())
+}
