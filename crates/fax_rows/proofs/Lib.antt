@@ -1,4 +1,5 @@
 pub mod PackedLemmas
+pub mod PackedLaws
 pub mod PlaceLemmas
 pub mod PaintLemmas
 pub mod StepLemmas

@@ -5,7 +5,7 @@ use Rattle.std.specs.Int.{bit_at}
 use mir.Val.{bool_byte}
 use Rattle.std.proofs.Math.ListN.{get_or-append}
 use Rattle.std.proofs.Math.Nat.{pow-succ'}
-use Rattle.std.proofs.lemmas.List.{length-replicate, length-map, get_or-append-add, get_or-map, get_or-take, length-take-le}
+use Rattle.std.proofs.lemmas.List.{length-replicate, length-map, get_or-append-add, get_or-map, get_or-take, ext_get_or, length-take-le}
 use Rattle.std.proofs.lemmas.List.FromFn.{fill_by_all}
 use Rattle.std.proofs.lemmas.List.Sums.{fold_more}
 use Rattle.std.proofs.lemmas.Nat.{and_mask}
@@ -14,20 +14,19 @@ use Rattle.fax_bits.specs.declared.Colour.{Colour}
 use Rattle.fax_bits.specs.declared.Colour.TheVariants.{White}
 use Rattle.fax_bits.specs.Bits.{code_bits, byte_bits, bits, bits_number}
 use Rattle.fax_rows.specs.Packed.{packed_len, is_black, colour_of_bit, packed_byte, packed_row, unpacked_row}
-use Rattle.fax_rows.proofs.RowLemmas.{same_pels}
 
 -- a byte has eight bits
 length-byte_bits : (byte : ℕ) → length (byte_bits MsbFirst byte) ≡ 8
 unfolding byte_bits code_bits
 length-byte_bits byte = refl
 
-length-bits : (bytes : List ℕ) → length (bits MsbFirst bytes) ≡ 8 * length bytes
+pub length-bits : (bytes : List ℕ) → length (bits MsbFirst bytes) ≡ 8 * length bytes
 unfolding bits
 length-bits [] = refl
 length-bits (byte ∷ bytes) = simp length-append (omega (arith, length-byte_bits byte, length-bits bytes))
 
 -- bit r of a byte, the highest first
-get_or-byte_bits : (byte r : ℕ) → r < 8 → get_or (byte_bits MsbFirst byte) r false ≡ nat_eq (bit_at byte (7 - r)) 1
+pub get_or-byte_bits : (byte r : ℕ) → r < 8 → get_or (byte_bits MsbFirst byte) r false ≡ nat_eq (bit_at byte (7 - r)) 1
 unfolding byte_bits code_bits
 get_or-byte_bits byte zero h = refl
 get_or-byte_bits byte (suc zero) h = refl
@@ -40,7 +39,7 @@ get_or-byte_bits byte (suc (suc (suc (suc (suc (suc (suc zero))))))) h = refl
 get_or-byte_bits byte (suc (suc (suc (suc (suc (suc (suc (suc r)))))))) h = absurd (omega arith)
 
 -- bit r of byte q
-get_or-bits : (bytes : List ℕ) (q r : ℕ) → q < length bytes → r < 8
+pub get_or-bits : (bytes : List ℕ) (q r : ℕ) → q < length bytes → r < 8
     → get_or (bits MsbFirst bytes) (8 * q + r) false ≡ nat_eq (bit_at (get_or bytes q 0) (7 - r)) 1
 unfolding bits
 get_or-bits [] q r in_bytes in_byte = absurd (omega arith)
@@ -70,7 +69,7 @@ pub unpacked_at : (row : List Colour) (bytes : List ℕ) (width : ℕ) → lengt
     → row ≡ unpacked_row width bytes
 unfolding unpacked_row
 unpacked_at row bytes width len whole each =
-    same_pels row (take width (map colour_of_bit (bits MsbFirst bytes))) (len ∙ sym short)
+    ext_get_or White row (take width (map colour_of_bit (bits MsbFirst bytes))) (len ∙ sym short)
     (λ k h. pel_at k (omega arith))
   where
     long : width ≤ length (map colour_of_bit (bits MsbFirst bytes))
@@ -89,7 +88,7 @@ unpacked_at row bytes width len whole each =
 abbrev pub padded_bits : List Colour → List Bool
 padded_bits row = map is_black row ++ replicate 8 false
 
-get_or-padded : (b : List Bool) (n i : ℕ) → get_or (b ++ replicate n false) i false ≡ get_or b i false
+pub get_or-padded : (b : List Bool) (n i : ℕ) → get_or (b ++ replicate n false) i false ≡ get_or b i false
 get_or-padded [] zero i = refl
 get_or-padded [] (suc n) zero = refl
 get_or-padded [] (suc n) (suc i) = get_or-padded [] n i

@@ -4,10 +4,9 @@ use Rattle.std.specs.Prelude.{◌⊎◌}
 use Rattle.std.proofs.lemmas.Bool.{cases_lt}
 use Rattle.std.proofs.Math.ListN.{get_or-append}
 use Rattle.std.proofs.Math.Seq.{get_or-append_right}
-use Rattle.std.proofs.lemmas.List.{get_or-replicate, length-replicate, get_or-take, length-take-le}
+use Rattle.std.proofs.lemmas.List.{get_or-replicate, length-replicate, get_or-take, ext_get_or, length-take-le}
 use Rattle.fax_bits.specs.declared.Colour.{Colour}
 use Rattle.fax_bits.specs.declared.Colour.TheVariants.{White}
-use Rattle.fax_rows.proofs.RowLemmas.{same_pels}
 
 -- the pels up to the last painted one
 pub painted_front : (old new : List Colour) (from n : ℕ) (colour : Colour) → from + n ≤ length old → length new ≡ length old
@@ -15,7 +14,7 @@ pub painted_front : (old new : List Colour) (from n : ℕ) (colour : Colour) →
     → ((k : ℕ) → from ≤ k → k < from + n → get_or new k White ≡ colour)
     → take (from + n) new ≡ take from old ++ replicate n colour
 painted_front old new from n colour within len before painted =
-    same_pels (take (from + n) new) (take from old ++ replicate n colour)
+    ext_get_or White (take (from + n) new) (take from old ++ replicate n colour)
     (omega (arith, length-append (take from old) (replicate n colour), length-replicate n colour, short, long))
     (λ k h. by k (omega (arith, long)) (cases_lt k from))
   where

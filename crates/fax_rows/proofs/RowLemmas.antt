@@ -48,7 +48,7 @@ length-pels_of c [] = refl
 length-pels_of c (n ∷ runs) =
     omega (arith, length-append (replicate n c) (pels_of (other c) runs), length-replicate n c, length-pels_of (other c) runs, sum-cons n runs)
 
-pub same_pels : (xs ys : List Colour) → length xs ≡ length ys → ((k : ℕ) → k < length xs → get_or xs k White ≡ get_or ys k White) → xs ≡ ys
+same_pels : (xs ys : List Colour) → length xs ≡ length ys → ((k : ℕ) → k < length xs → get_or xs k White ≡ get_or ys k White) → xs ≡ ys
 same_pels [] [] len each = refl
 same_pels [] (y ∷ ys) len each = absurd (omega arith)
 same_pels (x ∷ xs) [] len each = absurd (omega arith)

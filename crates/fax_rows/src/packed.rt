@@ -21,7 +21,8 @@ impl Row {
         requires some { 0 < width }
         requires short { width < 2 ^ 16 }
         requires whole { length bytes.now ≡ packed_len width }
-        ensures { IfOk result (λ row. row ≡ unpacked_row width bytes.now) }
+        ensures pels { IfOk result (λ row. row ≡ unpacked_row width bytes.now) }
+        ensures same_width { IfOk result (λ row. length row ≡ width) }
     {
         let mut row = Row::white(alloc, width)?;
         for i in 0..width {

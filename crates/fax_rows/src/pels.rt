@@ -34,7 +34,8 @@ impl Row {
     pub fn white(alloc: Global, width: u32) -> Result<Row, Memory>
         requires some { 0 < width }
         requires short { width < 2 ^ 16 }
-        ensures { IfOk result (λ row. row ≡ replicate width Colour.White) }
+        ensures pels { IfOk result (λ row. row ≡ replicate width Colour.White) }
+        ensures same_width { IfOk result (λ row. length row ≡ width) }
     {
         let pels = vec![in alloc; Colour::White; width as usize].map_err(|_| Memory)?;
         Ok(Row { pels })

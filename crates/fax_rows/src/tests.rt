@@ -216,3 +216,31 @@ fn reads_on_behind_a_row(rt: HostRuntime) -> Result<(), Fail> {
     assert_eq!(rt; source.place(), 19);
     Ok(())
 }
+
+#[test]
+fn packs_and_unpacks_rows(rt: HostRuntime) -> Result<(), Fail> {
+    let mut row = Row::from_packed(rt.alloc(), &[0b0001_1000, 0b1011_1111], 11)?;
+    assert_eq!(rt; row.width(), 11);
+    assert_eq!(rt;
+        row.runs(rt.alloc())?.as_slice(),
+        [3u32, 2, 3, 1, 1, 1].as_slice()
+    );
+    let mut bytes = [0xFF; 2];
+    row.to_packed(&mut bytes);
+    assert_eq!(rt; bytes, [0b0001_1000, 0b1010_0000]);
+    row.exchange();
+    assert_eq!(rt;
+        row.runs(rt.alloc())?.as_slice(),
+        [0u32, 3, 2, 3, 1, 1, 1].as_slice()
+    );
+    Ok(())
+}
+
+#[test]
+fn sets_a_row_from_another(rt: HostRuntime) -> Result<(), Fail> {
+    let mut row = Row::white(rt.alloc(), 8)?;
+    let other = Row::from_packed(rt.alloc(), &[0b0001_1000], 8)?;
+    row.set_from(&other);
+    assert_eq!(rt; row.runs(rt.alloc())?.as_slice(), [3u32, 2, 3].as_slice());
+    Ok(())
+}

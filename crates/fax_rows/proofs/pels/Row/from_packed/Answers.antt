@@ -2,7 +2,7 @@ use Rattle.std.proofs.Common.{arith}
 use Rattle.fax_rows.proofs.PackedLemmas.{unpacked_at}
 use Rattle.fax_rows.proofs.pels.Row.from_packed.Goals as goal
 
-pub returns : goal.returns
-returns c =
+pub returns-clause-pels : goal.returns-clause-pels
+returns-clause-pels c =
     unpacked_at c.loop-i.row c.args.bytes.now c.args.width c.loop-i.invariant.same_width c.requires.whole
     (λ k h. c.loop-i.invariant.done k (omega arith))

@@ -1,0 +1,5 @@
+use Rattle.fax_rows.proofs.PackedLaws.{packing_undoes_unpacking}
+use Rattle.fax_rows.proofs.laws.packing_undoes_unpacking.Goals as goal
+
+pub returns : goal.returns
+returns c = packing_undoes_unpacking
