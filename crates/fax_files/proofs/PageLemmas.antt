@@ -3,14 +3,14 @@ use Rattle.std.proofs.Common.{◌≡◌, ℕ, ◌+◌, ◌-◌, Bool, true, fals
 use Rattle.std.specs.Prelude.{IfOk, ◌==◌}
 use Rattle.std.proofs.lemmas.Result.{IfOk-at_ok}
 use Rattle.fax_bits.specs.declared.FillOrder.TheVariants.{MsbFirst}
-use Rattle.fax_page.specs.declared.Coding.TheVariants.{Mh}
+use Rattle.fax_page.specs.declared.Coding.{Coding}
 use Rattle.fax_files.specs.declared.FileFault.{FileFault}
 use Rattle.fax_files.specs.declared.FileFault.TheVariants.{MissingField, BadField, Unsupported}
 use Rattle.fax_files.specs.declared.PageForm.{PageForm}
 use Rattle.fax_files.specs.declared.entries.Entry.{Entry}
 use Rattle.fax_files.specs.Numbers.{Endian, ◌>>=◌, check, is_inside}
 use Rattle.fax_files.specs.Directory.{entries, field, value_at, has_integers}
-use Rattle.fax_files.specs.Page.{page, page_size, pel_format, strip_rows, strip_count, t4_options, strip_field}
+use Rattle.fax_files.specs.Page.{page, page_size, pel_format, strip_rows, strip_count, page_coding, strip_field}
 use Rattle.fax_files.specs.StripBytes.{strip_bytes, placed_bytes, bytes_at}
 
 -- the value of a step that did not fail
@@ -21,39 +21,42 @@ bind_ok (Err fault) next y e = absurd cc
 ok_injective : {A : Type 0} (x y : A) → (let r : Result A FileFault = Ok x in r) ≡ Ok y → x ≡ y
 ok_injective x y e = cc
 
+same_strips : (made form : PageForm) → (let r : Result PageForm FileFault = Ok made in r) ≡ Ok form → made.strips ≡ form.strips
+same_strips made form e = ap (λ (f : PageForm). f.strips) (ok_injective made form e)
+
 -- What is left of a page's form after some of its steps, from the last one on.
-abbrev form_of : ℕ × ℕ → ℕ → PageForm
-form_of size rows_per_strip = record {
+abbrev form_of : ℕ × ℕ → ℕ → Coding → PageForm
+form_of size rows_per_strip coding = record {
   width = size.0;
   rows = size.1;
-  coding = Mh;
+  coding = coding;
   order = MsbFirst;
   exchanged = false;
   rows_per_strip = rows_per_strip;
   strips = strip_count size.1 rows_per_strip;
 }
 
-abbrev after_offsets : Endian → List ℕ → List Entry → ℕ × ℕ → ℕ → Result PageForm FileFault
-after_offsets endian file fields size rows_per_strip =
-    strip_field endian file fields 279 (strip_count size.1 rows_per_strip) >>= λ _. Ok (form_of size rows_per_strip)
+abbrev after_offsets : Endian → List ℕ → List Entry → ℕ × ℕ → ℕ → Coding → Result PageForm FileFault
+after_offsets endian file fields size rows_per_strip coding =
+    strip_field endian file fields 279 (strip_count size.1 rows_per_strip) >>= λ _. Ok (form_of size rows_per_strip coding)
 
-abbrev after_options : Endian → List ℕ → List Entry → ℕ × ℕ → ℕ → Result PageForm FileFault
-after_options endian file fields size rows_per_strip =
-    strip_field endian file fields 273 (strip_count size.1 rows_per_strip) >>= λ _. after_offsets endian file fields size rows_per_strip
+abbrev after_coding : Endian → List ℕ → List Entry → ℕ × ℕ → ℕ → Coding → Result PageForm FileFault
+after_coding endian file fields size rows_per_strip coding =
+    strip_field endian file fields 273 (strip_count size.1 rows_per_strip) >>= λ _. after_offsets endian file fields size rows_per_strip coding
 
-abbrev after_count : Endian → List ℕ → List Entry → ℕ × ℕ → ℕ → Result PageForm FileFault
-after_count endian file fields size rows_per_strip =
-    t4_options endian file fields >>= λ _. after_options endian file fields size rows_per_strip
+abbrev after_count : Endian → List ℕ → List Entry → ℕ × ℕ → ℕ → ℕ → Result PageForm FileFault
+after_count endian file fields size compression rows_per_strip =
+    page_coding endian file fields compression >>= after_coding endian file fields size rows_per_strip
 
-abbrev after_rows : Endian → List ℕ → List Entry → ℕ × ℕ → ℕ → Result PageForm FileFault
-after_rows endian file fields size rows_per_strip =
-    check (strip_count size.1 rows_per_strip == 1) (Unsupported 278) >>= λ _. after_count endian file fields size rows_per_strip
+abbrev after_rows : Endian → List ℕ → List Entry → ℕ × ℕ → ℕ → ℕ → Result PageForm FileFault
+after_rows endian file fields size compression rows_per_strip =
+    check (strip_count size.1 rows_per_strip == 1) (Unsupported 278) >>= λ _. after_count endian file fields size compression rows_per_strip
 
-abbrev after_pels : Endian → List ℕ → List Entry → ℕ × ℕ → Result PageForm FileFault
-after_pels endian file fields size = strip_rows endian file fields size.1 >>= after_rows endian file fields size
+abbrev after_pels : Endian → List ℕ → List Entry → ℕ × ℕ → ℕ → Result PageForm FileFault
+after_pels endian file fields size compression = strip_rows endian file fields size.1 >>= after_rows endian file fields size compression
 
 abbrev after_size : Endian → List ℕ → List Entry → ℕ × ℕ → Result PageForm FileFault
-after_size endian file fields size = pel_format endian file fields >>= λ _. after_pels endian file fields size
+after_size endian file fields size = pel_format endian file fields >>= after_pels endian file fields size
 
 -- the fields of a page's strips
 pub record StripFields (endian : Endian) (file : List ℕ) (q strips : ℕ) : Type 0 where
@@ -68,13 +71,13 @@ unfolding page
 strip_fields endian file q form e =
     let fields = entries endian file q in
     let size = bind_ok (page_size endian file fields) (after_size endian file fields) form e in
-    let pels = bind_ok (pel_format endian file fields) (λ _. after_pels endian file fields size.0) form size.2 in
-    let rows = bind_ok (strip_rows endian file fields size.0.1) (after_rows endian file fields size.0) form pels.2 in
-    let count = bind_ok (check (strip_count size.0.1 rows.0 == 1) (Unsupported 278)) (λ _. after_count endian file fields size.0 rows.0) form rows.2 in
-    let options = bind_ok (t4_options endian file fields) (λ _. after_options endian file fields size.0 rows.0) form count.2 in
-    let offsets = bind_ok (strip_field endian file fields 273 (strip_count size.0.1 rows.0)) (λ _. after_offsets endian file fields size.0 rows.0) form options.2 in
-    let counts = bind_ok (strip_field endian file fields 279 (strip_count size.0.1 rows.0)) (λ _. Ok (form_of size.0 rows.0)) form offsets.2 in
-    let strips : strip_count size.0.1 rows.0 ≡ form.strips = ap (λ (f : PageForm). f.strips) (ok_injective _ _ counts.2) in
+    let pels = bind_ok (pel_format endian file fields) (after_pels endian file fields size.0) form size.2 in
+    let rows = bind_ok (strip_rows endian file fields size.0.1) (after_rows endian file fields size.0 pels.0) form pels.2 in
+    let count = bind_ok (check (strip_count size.0.1 rows.0 == 1) (Unsupported 278)) (λ _. after_count endian file fields size.0 pels.0 rows.0) form rows.2 in
+    let coding = bind_ok (page_coding endian file fields pels.0) (after_coding endian file fields size.0 rows.0) form count.2 in
+    let offsets = bind_ok (strip_field endian file fields 273 (strip_count size.0.1 rows.0)) (λ _. after_offsets endian file fields size.0 rows.0 coding.0) form coding.2 in
+    let counts = bind_ok (strip_field endian file fields 279 (strip_count size.0.1 rows.0)) (λ _. Ok (form_of size.0 rows.0 coding.0)) form offsets.2 in
+    let strips : strip_count size.0.1 rows.0 ≡ form.strips = same_strips (form_of size.0 rows.0 coding.0) form counts.2 in
     let found : StripFields endian file q (strip_count size.0.1 rows.0) = record {
       offsets = offsets.0;
       offsets_are = offsets.1;

@@ -1,8 +1,9 @@
 -- The form of a page, from the fields of its directory.
-use Rattle.std.specs.Prelude.{◌≡◌, ◌≤◌, ℕ, ◌-◌, ◌%◌, ◌^◌, min, Bool, false, nat_le, ◌==◌, ◌&&◌, not, List, Result, Ok}
+use Rattle.std.specs.Prelude.{◌≡◌, ◌≢◌, ◌≤◌, ℕ, ◌-◌, ◌%◌, ◌^◌, min, Bool, false, nat_le, ◌==◌, ◌&&◌, ◌||◌, not, if◌then◌else◌, List, Result, Ok}
 use Rattle.std.specs.Int.{div_ceil}
 use Rattle.fax_bits.specs.declared.FillOrder.TheVariants.{MsbFirst}
-use Rattle.fax_page.specs.declared.Coding.TheVariants.{Mh}
+use Rattle.fax_page.specs.declared.Coding.{Coding}
+use Rattle.fax_page.specs.declared.Coding.TheVariants.{Mh, Mr, Mmr}
 use Rattle.fax_files.specs.declared.FileFault.{FileFault}
 use Rattle.fax_files.specs.declared.FileFault.TheVariants.{BadField, Unsupported, OutOfLimits}
 use Rattle.fax_files.specs.declared.PageForm.{PageForm}
@@ -25,16 +26,16 @@ page_size endian file fields = do
   _ ← check (is_between 1 1000000 rows) (OutOfLimits 257)
   Ok (width, rows)
 
--- the fields on how pels are coded: one bit for each, in one-dimensional rows, 0 for white, a byte's highest bit first
+-- Compression, with the fields on how pels are coded: one bit for each, 0 for white, a byte's highest bit first
 -- (this project's profile)
-unfoldable pub pel_format : Endian → List ℕ → List Entry → Result (Unit {0}) FileFault
+unfoldable pub pel_format : Endian → List ℕ → List Entry → Result ℕ FileFault
 pel_format endian file fields = do
   -- BitsPerSample
   bits_per_sample ← scalar_or endian file fields 258 1
   _ ← check (bits_per_sample == 1) (Unsupported 258)
-  -- Compression: 4 is not read yet
+  -- Compression
   compression ← needed_scalar endian file fields 259
-  _ ← check (compression == 3) (Unsupported 259)
+  _ ← check ((compression == 3) || (compression == 4)) (Unsupported 259)
   -- PhotometricInterpretation: 1 is not read yet
   photometric ← needed_scalar endian file fields 262
   _ ← check (photometric == 0) (Unsupported 262)
@@ -43,7 +44,8 @@ pel_format endian file fields = do
   _ ← check (fill_order == 1) (Unsupported 266)
   -- SamplesPerPixel
   samples_per_pixel ← scalar_or endian file fields 277 1
-  check (samples_per_pixel == 1) (Unsupported 277)
+  _ ← check (samples_per_pixel == 1) (Unsupported 277)
+  Ok compression
 
 -- the rows of each strip but the last of a page of so many rows (TIFF 6.0, RowsPerStrip; more than the page's rows
 -- means the page's rows)
@@ -57,12 +59,17 @@ strip_rows endian file fields rows = do
 abbrev pub strip_count : ℕ → ℕ → ℕ
 strip_count rows rows_per_strip = div_ceil rows rows_per_strip
 
--- T4Options: bit 0, which stands for two-dimensional rows, is not read yet; the others are ignored
--- (TIFF 6.0, T4Options)
-unfoldable pub t4_options : Endian → List ℕ → List Entry → Result (Unit {0}) FileFault
-t4_options endian file fields = do
+-- how the rows of Compression 3 are coded: in MH, since bit 0 of T4Options, which stands for MR, is not read yet; its
+-- other bits are ignored (TIFF 6.0, T4Options)
+unfoldable pub t4_coding : Endian → List ℕ → List Entry → Result Coding FileFault
+t4_coding endian file fields = do
   options ← scalar_or endian file fields 292 0
-  check (options % 2 == 0) (Unsupported 292)
+  _ ← check (options % 2 == 0) (Unsupported 292)
+  Ok Mh
+
+-- how the rows are coded: in MMR where Compression is 4, for which T4Options is not read (TIFF 6.0, Compression)
+unfoldable pub page_coding : Endian → List ℕ → List Entry → ℕ → Result Coding FileFault
+page_coding endian file fields compression = if compression == 4 then (Ok Mmr) else (t4_coding endian file fields)
 
 -- StripOffsets or StripByteCounts, with a value for each strip (this project's profile)
 unfoldable pub strip_field : Endian → List ℕ → List Entry → ℕ → ℕ → Result Entry FileFault
@@ -77,12 +84,12 @@ unfoldable pub page : Endian → List ℕ → ℕ → Result PageForm FileFault
 page endian file q = do
   let fields = entries endian file q
   size ← page_size endian file fields
-  _ ← pel_format endian file fields
+  compression ← pel_format endian file fields
   rows_per_strip ← strip_rows endian file fields size.1
   let strips = strip_count size.1 rows_per_strip
   -- more than one strip is not read yet
   _ ← check (strips == 1) (Unsupported 278)
-  _ ← t4_options endian file fields
+  coding ← page_coding endian file fields compression
   -- StripOffsets
   _ ← strip_field endian file fields 273 strips
   -- StripByteCounts
@@ -90,7 +97,7 @@ page endian file q = do
   Ok (record {
     width = size.0;
     rows = size.1;
-    coding = Mh;
+    coding = coding;
     order = MsbFirst;
     exchanged = false;
     rows_per_strip = rows_per_strip;
@@ -103,7 +110,7 @@ pub record IsPageForm (form : PageForm) : Type 0 where
   pub width : form.width ≤ 65535
   pub some_rows : 1 ≤ form.rows
   pub rows : form.rows ≤ 1000000
-  pub coding : form.coding ≡ Mh
+  pub coding : form.coding ≢ Mr
   pub order : form.order ≡ MsbFirst
   pub exchanged : form.exchanged ≡ false
   pub rows_per_strip : form.rows_per_strip ≡ form.rows

@@ -1,9 +1,9 @@
 //! The form of a page, from the fields of its directory (TIFF 6.0; RFC 2306).
 
-ghost use Rattle.std.specs.Prelude.{◌≡◌, ◌+◌, ◌≤◌, ◌<◌, length, IsTrue, IsOk, IfOk};
+ghost use Rattle.std.specs.Prelude.{◌≡◌, ◌≢◌, ◌+◌, ◌≤◌, ◌<◌, length, IsTrue, IsOk, IfOk};
 ghost use Rattle.fax_files.specs.Numbers.{little_endian};
 ghost use Rattle.fax_files.specs.Directory.{IsWholeDirectory, entries, has_integers as has_integers_in, value_at as value_in};
-ghost use Rattle.fax_files.specs.Page.{IsPageForm, page_size as size_of_page, pel_format, strip_rows as rows_of_strip, t4_options, strip_field as field_of_strips, page as page_of};
+ghost use Rattle.fax_files.specs.Page.{IsPageForm, page_size as size_of_page, pel_format as format_of_pels, strip_rows as rows_of_strip, page_coding as coding_of_page, strip_field as field_of_strips, page as page_of};
 
 use crate::entries::{Entry, has_integers, needed, needed_scalar, scalar_or, value_at};
 use crate::{FileFault, PageForm};
@@ -32,6 +32,10 @@ pub const STRIP_BYTE_COUNTS: u16 = 279;
 
 const T4_OPTIONS: u16 = 292;
 
+/// Compression by T.4.
+const COMPRESSION_T4: u32 = 3;
+/// Compression by T.6.
+const COMPRESSION_T6: u32 = 4;
 /// The most pels of a row.
 const MAX_WIDTH: u32 = 65_535;
 /// The most rows of a page.
@@ -45,19 +49,19 @@ pub fn page_form(file: &[u8], directory: usize) -> Result<PageForm, FileFault>
     ensures limits { IfOk result IsPageForm }
 {
     let (width, rows) = page_size(file, directory)?;
-    check_pel_format(file, directory)?;
+    let compression = pel_format(file, directory)?;
     let rows_per_strip = strip_rows(file, directory, rows)?;
     let strips = rows.div_ceil(rows_per_strip);
     if strips != 1 {
         return Err(FileFault::Unsupported(ROWS_PER_STRIP));
     }
-    check_t4_options(file, directory)?;
+    let coding = page_coding(file, directory, compression)?;
     strip_field(file, directory, STRIP_OFFSETS, strips)?;
     strip_field(file, directory, STRIP_BYTE_COUNTS, strips)?;
     Ok(PageForm {
         width,
         rows,
-        coding: Coding::Mh,
+        coding,
         order: FillOrder::MsbFirst,
         exchanged: false,
         rows_per_strip,
@@ -86,16 +90,17 @@ fn page_size(file: &[u8], directory: usize) -> Result<(u32, u32), FileFault>
     Ok((width, rows))
 }
 
-/// Tests the fields that say how pels are coded.
+/// Tests the fields that say how pels are coded, and answers Compression, which is then 3 or 4.
 #[tactic(auto, unfolding(crate::specs::Page::pel_format))]
-fn check_pel_format(file: &[u8], directory: usize) -> Result<(), FileFault>
+fn pel_format(file: &[u8], directory: usize) -> Result<u32, FileFault>
     requires { IsWholeDirectory little_endian file.now directory }
-    ensures { result ≡ pel_format little_endian file.now (entries little_endian file.now directory) }
+    ensures { result ≡ format_of_pels little_endian file.now (entries little_endian file.now directory) }
 {
     if scalar_or(file, directory, BITS_PER_SAMPLE, 1)? != 1 {
         return Err(FileFault::Unsupported(BITS_PER_SAMPLE));
     }
-    if needed_scalar(file, directory, COMPRESSION)? != 3 {
+    let compression = needed_scalar(file, directory, COMPRESSION)?;
+    if compression != COMPRESSION_T4 && compression != COMPRESSION_T6 {
         return Err(FileFault::Unsupported(COMPRESSION));
     }
     if needed_scalar(file, directory, PHOTOMETRIC_INTERPRETATION)? != 0 {
@@ -107,7 +112,7 @@ fn check_pel_format(file: &[u8], directory: usize) -> Result<(), FileFault>
     if scalar_or(file, directory, SAMPLES_PER_PIXEL, 1)? != 1 {
         return Err(FileFault::Unsupported(SAMPLES_PER_PIXEL));
     }
-    Ok(())
+    Ok(compression)
 }
 
 /// The rows of each strip but the last, of a page with so many rows.
@@ -126,16 +131,20 @@ fn strip_rows(file: &[u8], directory: usize, rows: u32) -> Result<u32, FileFault
     Ok(rows_per_strip.min(rows))
 }
 
-/// Tests that the rows are one-dimensional.
-#[tactic(auto, unfolding(crate::specs::Page::t4_options))]
-fn check_t4_options(file: &[u8], directory: usize) -> Result<(), FileFault>
+/// How the rows of a page are coded. T4Options is looked at in T.4 alone.
+#[tactic(auto, unfolding(crate::specs::Page::page_coding, crate::specs::Page::t4_coding))]
+fn page_coding(file: &[u8], directory: usize, compression: u32) -> Result<Coding, FileFault>
     requires { IsWholeDirectory little_endian file.now directory }
-    ensures { result ≡ t4_options little_endian file.now (entries little_endian file.now directory) }
+    ensures exact { result ≡ coding_of_page little_endian file.now (entries little_endian file.now directory) compression }
+    ensures read { IfOk result (λ coding. coding ≢ Coding.Mr) }
 {
+    if compression == COMPRESSION_T6 {
+        return Ok(Coding::Mmr);
+    }
     if scalar_or(file, directory, T4_OPTIONS, 0)? % 2 != 0 {
         return Err(FileFault::Unsupported(T4_OPTIONS));
     }
-    Ok(())
+    Ok(Coding::Mh)
 }
 
 /// The entry of a tag, which has to have a value for each strip.

@@ -68,6 +68,17 @@ fn reads_a_file_of_one_page(rt: HostRuntime) {
     assert_eq!(rt; strip, [0x00, 0x18, 0xE0].as_slice());
 }
 
+#[test]
+fn reads_compression_4_as_mmr(rt: HostRuntime) {
+    let mut file = changed(70, &[4]);
+    // T4Options is not looked at then.
+    file[178] = 1;
+    let form = first_page(&file).expect(&rt, "the page");
+    assert!(rt; matches!(form.coding, Coding::Mmr));
+    assert_eq!(rt; form.width, 8);
+    assert_eq!(rt; form.rows, 1);
+}
+
 /// A change of the file of one page: where it begins, its bytes, and the fault that comes of it.
 #[derive(Drop)]
 struct Refused(usize, &'static [u8], FileFault);
@@ -98,7 +109,7 @@ fn names_the_first_fault(rt: HostRuntime) {
         // Compression
         Refused(62, &[0xFF], FileFault::MissingField(259)),
         Refused(70, &[5], FileFault::Unsupported(259)),
-        Refused(70, &[4], FileFault::Unsupported(259)),
+        Refused(70, &[2], FileFault::Unsupported(259)),
         // PhotometricInterpretation
         Refused(82, &[1], FileFault::Unsupported(262)),
         // FillOrder

@@ -7,21 +7,18 @@ use Rattle.fax_rows.specs.declared.RowFault.TheVariants.{DataEnds as RowDataEnds
 use Rattle.fax_rows.specs.OneDimensional.{IsOneDimensionalRow}
 use Rattle.fax_rows.specs.TwoDimensional.{IsTwoDimensionalRow}
 use Rattle.fax_rows.specs.Faults.{IsOneDimensionalFault, IsTwoDimensionalFault}
+use Rattle.fax_page.specs.declared.lines.Dimension.{Dimension}
+use Rattle.fax_page.specs.declared.lines.Dimension.TheVariants.{OneDimensional, TwoDimensional}
 use Rattle.fax_page.specs.declared.Coding.{Coding}
 use Rattle.fax_page.specs.declared.Coding.TheVariants.{Mh, Mr, Mmr}
 use Rattle.fax_page.specs.declared.StripForm.{StripForm}
 use Rattle.fax_page.specs.declared.StripFault.{StripFault}
 use Rattle.fax_page.specs.declared.StripFault.TheVariants.{DataEnds, BadCode, Extension, RunTooLong, OutOfRow, MissingEol, EndMarker}
 
--- how a row is coded (T.4, section 4.2.2)
-pub data Dimension : Type 0 where
-  one_dimensional : Dimension
-  two_dimensional : Dimension
-
 -- the bit behind an EOL in MR that says how the next row is coded (T.4, section 4.2.2)
 abbrev pub tag_bit : Dimension → Bool
-tag_bit one_dimensional = true
-tag_bit two_dimensional = false
+tag_bit OneDimensional = true
+tag_bit TwoDimensional = false
 
 -- the bits begin with fill and an EOL: at least eleven zeros and a 1 (T.4, sections 4.1.2 and 4.1.3)
 abbrev pub IsEndOfLine : List Bool → List Bool → Type 0
@@ -35,9 +32,9 @@ BeginsBelowEleven b = (zeros : ℕ) × (zeros < 11) × HasZerosAhead b zeros
 -- an EOL and a tag bit, nothing in MMR (T.4, sections 4.1.2 and 4.2.2; T.6, section 2.2.1; this project's profile)
 abbrev pub IsStart : Coding → ℕ → List Bool → Dimension → List Bool → Type 0
 IsStart Mh i b dimension rest =
-    (dimension ≡ one_dimensional) × (IsEndOfLine b rest ⊎ ((i ≡ 0) × BeginsBelowEleven b × (b ≡ rest)))
+    (dimension ≡ OneDimensional) × (IsEndOfLine b rest ⊎ ((i ≡ 0) × BeginsBelowEleven b × (b ≡ rest)))
 IsStart Mr i b dimension rest = IsEndOfLine b (tag_bit dimension ∷ rest)
-IsStart Mmr i b dimension rest = (dimension ≡ two_dimensional) × (b ≡ rest)
+IsStart Mmr i b dimension rest = (dimension ≡ TwoDimensional) × (b ≡ rest)
 
 -- a row of the strip begins in the bits, coded so, and its first code begins the rest (this project's profile)
 pub record IsBegin (form : StripForm) (i : ℕ) (b : List Bool) (dimension : Dimension) (rest : List Bool) : Type 0 where
@@ -46,8 +43,8 @@ pub record IsBegin (form : StripForm) (i : ℕ) (b : List Bool) (dimension : Dim
 
 -- the bits begin with this row, coded so (T.4, sections 4.1.1 and 4.2.1.3.3)
 abbrev pub IsRowIn : Dimension → ℕ → List Colour → List Bool → List Colour → List Bool → Type 0
-IsRowIn one_dimensional width reference b row rest = IsOneDimensionalRow width b row rest
-IsRowIn two_dimensional width reference b row rest = IsTwoDimensionalRow reference b row rest
+IsRowIn OneDimensional width reference b row rest = IsOneDimensionalRow width b row rest
+IsRowIn TwoDimensional width reference b row rest = IsTwoDimensionalRow reference b row rest
 
 -- row i of a strip is this row over its reference, and the rest follows it (this project's profile)
 pub record IsLine (form : StripForm) (i : ℕ) (reference : List Colour) (b : List Bool) (row : List Colour) (rest : List Bool) : Type 0 where
@@ -82,8 +79,8 @@ IsFirstCodeFault b fault =
 
 -- the codes of a row, coded so, stop with this fault (this project's profile)
 abbrev pub IsRowFaultIn : Dimension → ℕ → List Colour → List Bool → RowFault → Type 0
-IsRowFaultIn one_dimensional width reference b fault = IsOneDimensionalFault width b fault
-IsRowFaultIn two_dimensional width reference b fault = IsTwoDimensionalFault reference b fault
+IsRowFaultIn OneDimensional width reference b fault = IsOneDimensionalFault width b fault
+IsRowFaultIn TwoDimensional width reference b fault = IsTwoDimensionalFault reference b fault
 
 -- the first code of row i of a strip is not there (this project's profile)
 pub record IsNoFirstCode (form : StripForm) (i : ℕ) (b : List Bool) (fault : StripFault) : Type 0 where

@@ -1,8 +1,8 @@
 -- A strip that is read row by row.
-use Rattle.std.specs.Prelude.{◌≡◌, ℕ, ◌+◌, ◌<◌, ◌≤◌, ◌⊎◌, Bool, true, false, List, length, Option, Some, None, Result, Ok, Err}
+use Rattle.std.specs.Prelude.{◌≡◌, ◌≢◌, ℕ, ◌+◌, ◌<◌, ◌≤◌, ◌⊎◌, Bool, true, false, List, length, Option, Some, None, Result, Ok, Err}
 use Rattle.fax_bits.specs.declared.Colour.{Colour}
 use Rattle.fax_bits.specs.Bits.{bits}
-use Rattle.fax_page.specs.declared.Coding.TheVariants.{Mh}
+use Rattle.fax_page.specs.declared.Coding.TheVariants.{Mr}
 use Rattle.fax_page.specs.declared.StripForm.{StripForm}
 use Rattle.fax_page.specs.declared.StripFault.{StripFault}
 use Rattle.fax_page.specs.Lines.{IsLine, IsCause}
@@ -27,12 +27,13 @@ strip_beginning form bytes = record {
   fault = None;
 }
 
--- the strip is MH within the limits, its reference has its width, and no row behind its last is due (this
--- project's profile)
-pub record IsReading (form : StripForm) (row : ℕ) (reference : List Colour) : Type 0 where
+-- the strip is MH or MMR within the limits, its reference and the row to come have its width, and no row
+-- behind its last is due (this project's profile)
+pub record IsReading (form : StripForm) (row : ℕ) (reference next : List Colour) : Type 0 where
   pub limits : IsStripForm form
-  pub coding : form.coding ≡ Mh
+  pub coding : form.coding ≢ Mr
   pub width : length reference ≡ form.width
+  pub next_width : length next ≡ form.width
   pub within : row ≤ form.rows
 
 -- the row that was due is read, and the next one is due (this project's profile)

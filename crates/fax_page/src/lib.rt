@@ -1,4 +1,4 @@
-//! Strips of fax pages, row by row (ITU-T T.4, and this project's profile).
+//! Strips of fax pages, row by row (ITU-T T.4 and T.6, and this project's profile).
 #![tactic(auto)]
 
 mod lines;
@@ -58,8 +58,8 @@ pub enum StripFault {
     /// The row begins without an EOL (T.4, section 4.1.2).
     #[error("no EOL stands before a row")]
     MissingEol,
-    /// An EOL stands where a row's first code is due, as in a return to control
-    /// (T.4, section 4.1.4).
+    /// Eleven zeros stand where a row's first code is due, as in a return to control (T.4,
+    /// section 4.1.4) or at the end of a facsimile block (T.6).
     #[error("the page ends before its last row")]
     EndMarker,
 }

@@ -1,13 +1,16 @@
 //! The reader of strips against a plain reading of the same bits.
 mod drawing;
 mod reading;
+mod steps;
 mod tables;
+mod two_dimensional;
 
 use crate::plain::drawing::{
     Numbers, Strip, draw, with_code, with_zeros_at_the_end, with_zeros_between,
 };
 use crate::plain::reading::{Reading, longest_runs, read};
-use crate::plain::tables::CODES;
+use crate::plain::steps::{Place, draw_mmr, with_step, with_zeros};
+use crate::plain::tables::{CODES, HORIZONTAL, MODE_CODES, MODE_EXTENSION, VERTICAL_0};
 use crate::{Coding, Colour, FillOrder, Row, StripFault, StripForm, StripReader};
 use std::alloc::{AllocError, Global};
 use std::process::Abort;
@@ -16,8 +19,8 @@ use std::test::Fail;
 /// The width of strips that are cut and flipped at each bit of a long run's codes.
 const NARROW: u32 = 70;
 
-/// Narrow strips, strips around the shortest make-up code, and wide ones.
-const DRAWS: [Draws; 3] = [
+/// MH strips: narrow ones, some around the shortest make-up code, and wide ones.
+const MH_DRAWS: [Draws; 3] = [
     Draws {
         seed: 1,
         strips: 260,
@@ -41,16 +44,65 @@ const DRAWS: [Draws; 3] = [
     },
 ];
 
+/// MMR strips, in the same kinds.
+const MMR_DRAWS: [Draws; 3] = [
+    Draws {
+        seed: 4,
+        strips: 600,
+        first: 1,
+        widths: 20,
+        cut: 400,
+    },
+    Draws {
+        seed: 5,
+        strips: 40,
+        first: 64,
+        widths: 7,
+        cut: 20,
+    },
+    Draws {
+        seed: 6,
+        strips: 10,
+        first: 1_700,
+        widths: 3_000,
+        cut: 0,
+    },
+];
+
+/// The number of an end in the tally.
+const MISSING_EOL: usize = 6;
+
+/// The number of an end in the tally.
+const OUT_OF_ROW: usize = 7;
+
 /// What the comparisons met.
 #[derive(Drop)]
 struct Tally {
     strips: u32,
     cuts: u32,
     flips: u32,
-    /// How many readings ended in each way that a one-dimensional strip can end.
-    ends: [u32; 7],
-    /// How often each code was taken, the white table's and then the black one's.
+    /// How many readings ended in each way.
+    ends: [u32; 8],
+    /// How often each run code was taken, the white table's and then the black one's.
     codes: [u32; 210],
+    /// How often each mode was taken.
+    modes: [u32; MODE_CODES],
+    /// How often each of them led out of the row.
+    refused: [u32; MODE_CODES],
+}
+
+impl Tally {
+    fn new() -> Tally {
+        Tally {
+            strips: 0,
+            cuts: 0,
+            flips: 0,
+            ends: [0; 8],
+            codes: [0; 210],
+            modes: [0; MODE_CODES],
+            refused: [0; MODE_CODES],
+        }
+    }
 }
 
 /// The number of an end in the tally.
@@ -61,23 +113,28 @@ fn number(end: Option<StripFault>) -> usize {
         Some(StripFault::BadCode) => 2,
         Some(StripFault::Extension) => 3,
         Some(StripFault::RunTooLong) => 4,
-        Some(StripFault::MissingEol) => 5,
-        Some(StripFault::EndMarker) => 6,
-        // Of two-dimensional rows alone.
-        Some(StripFault::OutOfRow) => 7,
+        Some(StripFault::EndMarker) => 5,
+        // Of MH alone, and of MMR alone.
+        Some(StripFault::MissingEol) => MISSING_EOL,
+        Some(StripFault::OutOfRow) => OUT_OF_ROW,
+    }
+}
+
+/// Counts these entries.
+fn count_each(times: &mut [u32], entries: &[usize]) {
+    for entry in entries {
+        if let Some(count) = times.get_mut(*entry) {
+            *count = count.saturating_add(1);
+        }
     }
 }
 
 /// Counts a reading.
 fn count(tally: &mut Tally, reading: &Reading) {
-    if let Some(times) = tally.ends.get_mut(number(reading.end)) {
-        *times = times.saturating_add(1);
-    }
-    for code in reading.codes.as_slice() {
-        if let Some(times) = tally.codes.get_mut(*code) {
-            *times = times.saturating_add(1);
-        }
-    }
+    count_each(&mut tally.ends, &[number(reading.end)]);
+    count_each(&mut tally.codes, reading.taken.runs.as_slice());
+    count_each(&mut tally.modes, reading.taken.modes.as_slice());
+    count_each(&mut tally.refused, reading.taken.refused.as_slice());
 }
 
 /// The bytes of bits, highest bit first, the last filled with zeros.
@@ -118,19 +175,18 @@ fn compare(
     rt: &impl Abort,
     alloc: Global,
     bytes: &[u8],
-    width: u32,
-    rows: u32,
+    form: StripForm,
     tally: &mut Tally,
 ) -> Result<(), Fail> {
     let mut pels = Vec::new(alloc);
-    let end = read_by_reader(rt, alloc, bytes, width, rows, &mut pels)?;
+    let end = read_by_reader(rt, alloc, bytes, form, &mut pels)?;
     let bits = unpacked(alloc, bytes)?;
-    let plain = read(alloc, bits.as_slice(), width as usize, rows)?;
-    assert_eq!(rt; end, plain.end, "{rows} rows of {width} in {bytes:?}");
+    let plain = read(alloc, bits.as_slice(), form)?;
+    assert_eq!(rt; end, plain.end, "{form:?} in {bytes:?}");
     assert_eq!(rt;
         pels.as_slice(),
         plain.pels.as_slice(),
-        "{rows} rows of {width} in {bytes:?}"
+        "{form:?} in {bytes:?}"
     );
     count(tally, &plain);
     Ok(())
@@ -142,19 +198,15 @@ fn read_by_reader(
     rt: &impl Abort,
     alloc: Global,
     bytes: &[u8],
-    width: u32,
-    rows: u32,
+    form: StripForm,
     pels: &mut Vec<bool>,
 ) -> Result<Option<StripFault>, Fail> {
-    assert!(rt; width > 0 && width < 65_536);
+    let rows = form.rows;
+    assert!(rt; matches!(form.coding, Coding::Mh | Coding::Mmr));
+    assert!(rt; matches!(form.order, FillOrder::MsbFirst));
+    assert!(rt; form.width > 0 && form.width < 65_536);
     assert!(rt; rows > 0 && rows <= 1_000_000);
     assert!(rt; bytes.len() < 1_000_000);
-    let form = StripForm {
-        coding: Coding::Mh,
-        order: FillOrder::MsbFirst,
-        width,
-        rows,
-    };
     let mut reader = StripReader::new(alloc, bytes, form)?;
     for _ in 0..rows {
         match reader.advance() {
@@ -193,7 +245,7 @@ fn compare_whole(
     tally: &mut Tally,
 ) -> Result<(), Fail> {
     let bytes = packed(alloc, strip.bits.as_slice())?;
-    compare(rt, alloc, bytes.as_slice(), strip.width, strip.rows, tally)?;
+    compare(rt, alloc, bytes.as_slice(), strip.form(), tally)?;
     tally.strips = tally.strips.saturating_add(1);
     Ok(())
 }
@@ -208,7 +260,7 @@ fn compare_cuts(
     let mut bits = Vec::new(alloc);
     for bit in strip.bits.as_slice() {
         let bytes = packed(alloc, bits.as_slice())?;
-        compare(rt, alloc, bytes.as_slice(), strip.width, strip.rows, tally)?;
+        compare(rt, alloc, bytes.as_slice(), strip.form(), tally)?;
         tally.cuts = tally.cuts.saturating_add(1);
         bits.push(*bit).map_err(AllocError::from)?;
     }
@@ -229,7 +281,7 @@ fn compare_flips(
             *bit = !*bit;
         }
         let bytes = packed(alloc, bits.as_slice())?;
-        compare(rt, alloc, bytes.as_slice(), strip.width, strip.rows, tally)?;
+        compare(rt, alloc, bytes.as_slice(), strip.form(), tally)?;
         tally.flips = tally.flips.saturating_add(1);
     }
     Ok(())
@@ -277,17 +329,31 @@ struct Draws {
     cut: u32,
 }
 
-/// Compares drawn strips.
+/// Draws a strip of a coding.
+fn draw_in(
+    alloc: Global,
+    numbers: &mut Numbers,
+    coding: Coding,
+    width: u32,
+) -> Result<Strip, AllocError> {
+    match coding {
+        Coding::Mmr => draw_mmr(alloc, numbers, width),
+        _ => draw(alloc, numbers, width),
+    }
+}
+
+/// Compares drawn strips of a coding.
 fn compare_drawn(
     rt: &impl Abort,
     alloc: Global,
+    coding: Coding,
     draws: &Draws,
     tally: &mut Tally,
 ) -> Result<(), Fail> {
     let mut numbers = Numbers::new(draws.seed);
     for i in 0..draws.strips {
         let width = numbers.below(draws.widths).saturating_add(draws.first);
-        let strip = draw(alloc, &mut numbers, width)?;
+        let strip = draw_in(alloc, &mut numbers, coding, width)?;
         compare_whole(rt, alloc, &strip, tally)?;
         if i < draws.cut {
             compare_cuts(rt, alloc, &strip, tally)?;
@@ -297,40 +363,151 @@ fn compare_drawn(
     Ok(())
 }
 
-/// Sees that there were many comparisons, and each end among them.
-fn assert_many(rt: &impl Abort, tally: &Tally) {
+/// Compares a strip with this step in this place, if steps lead there.
+fn compare_step(
+    rt: &impl Abort,
+    alloc: Global,
+    place: &Place,
+    mode: usize,
+    runs: (usize, usize),
+    tally: &mut Tally,
+) -> Result<(), Fail> {
+    match with_step(alloc, place, mode, runs.0, runs.1)? {
+        Some(strip) => compare_whole(rt, alloc, &strip, tally),
+        None => Ok(()),
+    }
+}
+
+/// Compares horizontal mode in a place with each two runs, up to one pel past the width.
+fn compare_runs(
+    rt: &impl Abort,
+    alloc: Global,
+    place: &Place,
+    tally: &mut Tally,
+) -> Result<(), Fail> {
+    let lengths = place.left().saturating_add(2).min(16);
+    for k in 0..lengths * lengths {
+        let runs = (k / lengths, k % lengths);
+        compare_step(rt, alloc, place, HORIZONTAL, runs, tally)?;
+    }
+    Ok(())
+}
+
+/// Compares each step in a place.
+fn compare_steps(
+    rt: &impl Abort,
+    alloc: Global,
+    place: &Place,
+    tally: &mut Tally,
+) -> Result<(), Fail> {
+    for mode in 0..MODE_CODES {
+        if mode != HORIZONTAL {
+            compare_step(rt, alloc, place, mode, (0, 0), tally)?;
+        }
+    }
+    compare_runs(rt, alloc, place, tally)
+}
+
+/// Compares each step in each place over a reference row.
+fn compare_places(
+    rt: &impl Abort,
+    alloc: Global,
+    width: u32,
+    reference: u32,
+    tally: &mut Tally,
+) -> Result<(), Fail> {
+    for k in 0..=width.saturating_mul(2) {
+        let place = Place::new(alloc, width, reference, k as usize)?;
+        compare_steps(rt, alloc, &place, tally)?;
+    }
+    Ok(())
+}
+
+/// Compares each step in each place over each reference row of a width.
+fn compare_references(
+    rt: &impl Abort,
+    alloc: Global,
+    width: u32,
+    references: u32,
+    tally: &mut Tally,
+) -> Result<(), Fail> {
+    for reference in 0..references {
+        compare_places(rt, alloc, width, reference, tally)?;
+    }
+    Ok(())
+}
+
+/// Compares MMR strips of 0 to 3 rows and then 0 to 15 zeros, with ones or nothing behind them.
+fn compare_zeros_in_mmr(rt: &impl Abort, alloc: Global, tally: &mut Tally) -> Result<(), Fail> {
+    for k in 0..64 {
+        for ones in [0, 20] {
+            let strip = with_zeros(alloc, k / 16, k % 16, ones)?;
+            compare_whole(rt, alloc, &strip, tally)?;
+        }
+    }
+    Ok(())
+}
+
+/// Sees that there were many comparisons, and among them each end but one that the coding has not.
+fn assert_many(rt: &impl Abort, tally: &Tally, no_end: usize) {
     assert!(rt; tally.strips >= 500, "only {} strips", tally.strips);
     assert!(rt; tally.cuts >= 10_000, "only {} cuts", tally.cuts);
     assert!(rt; tally.flips >= 10_000, "only {} flips", tally.flips);
     for (end, times) in tally.ends.as_slice().iter().enumerate() {
-        assert!(rt; *times >= 100, "only {times} readings ended in way {end}");
+        let least = if end == no_end { 0 } else { 100 };
+        assert!(rt; *times >= least, "only {times} readings ended in way {end}");
     }
 }
 
-/// Sees that each code was taken.
+/// Sees that each run code was taken.
 fn assert_all_codes(rt: &impl Abort, tally: &Tally) {
     for (code, times) in tally.codes.as_slice().iter().enumerate() {
         assert!(rt; *times > 0, "no strip had code {code}");
     }
 }
 
+/// Sees that each mode was taken often, and refused where it can lead out of the row.
+fn assert_all_modes(rt: &impl Abort, tally: &Tally) {
+    for (mode, times) in tally.modes.as_slice().iter().enumerate() {
+        assert!(rt; *times >= 300, "only {times} steps in mode {mode}");
+    }
+    for (mode, times) in tally.refused.as_slice().iter().enumerate() {
+        let is_refused = mode > HORIZONTAL && mode < MODE_EXTENSION && mode != VERTICAL_0;
+        let least = if is_refused { 100 } else { 0 };
+        assert!(rt;
+            *times >= least,
+            "only {times} steps in mode {mode} led out of the row"
+        );
+    }
+}
+
 #[test]
 fn agrees_with_a_plain_reading(rt: HostRuntime) -> Result<(), Fail> {
     let alloc = rt.alloc();
-    let mut tally = Tally {
-        strips: 0,
-        cuts: 0,
-        flips: 0,
-        ends: [0; 7],
-        codes: [0; 210],
-    };
+    let mut tally = Tally::new();
     compare_codes(&rt, alloc, Colour::White, &mut tally)?;
     compare_codes(&rt, alloc, Colour::Black, &mut tally)?;
     compare_zeros(&rt, alloc, &mut tally)?;
-    for draws in DRAWS {
-        compare_drawn(&rt, alloc, &draws, &mut tally)?;
+    for draws in MH_DRAWS {
+        compare_drawn(&rt, alloc, Coding::Mh, &draws, &mut tally)?;
     }
-    assert_many(&rt, &tally);
+    assert_many(&rt, &tally, OUT_OF_ROW);
     assert_all_codes(&rt, &tally);
+    Ok(())
+}
+
+#[test]
+fn agrees_with_a_plain_reading_in_mmr(rt: HostRuntime) -> Result<(), Fail> {
+    let alloc = rt.alloc();
+    let mut tally = Tally::new();
+    for (width, references) in [(1, 2), (2, 4), (3, 8), (4, 16), (5, 32)] {
+        compare_references(&rt, alloc, width, references, &mut tally)?;
+    }
+    compare_zeros_in_mmr(&rt, alloc, &mut tally)?;
+    for draws in MMR_DRAWS {
+        compare_drawn(&rt, alloc, Coding::Mmr, &draws, &mut tally)?;
+    }
+    assert_many(&rt, &tally, MISSING_EOL);
+    assert_all_modes(&rt, &tally);
     Ok(())
 }

@@ -1,5 +1,5 @@
 //! A reader of a strip.
-ghost use Rattle.std.specs.Prelude.{◌≡◌, ◌≤◌, length, IfOk};
+ghost use Rattle.std.specs.Prelude.{◌≡◌, ◌≢◌, ◌≤◌, length, IfOk};
 ghost use Rattle.fax_bits.specs.declared.FillOrder.TheVariants.{MsbFirst};
 
 use crate::lines::read_line;
@@ -7,6 +7,7 @@ use crate::{Coding, StripFault, StripForm};
 use fax_rows::{BitSource, Memory, Row};
 use std::alloc::Global;
 use std::marker::Model;
+use std::mem::swap;
 
 /// Reads a strip row by row. Contracts see how far it is read: its form, the bits from the row that
 /// is due on, the number of that row, the row before it, and the fault that was answered.
@@ -16,6 +17,8 @@ pub struct StripReader<'a> {
     form: StripForm,
     row: u32,
     reference: Row,
+    /// Where the row that is due is read to.
+    next: Row,
     fault: Option<StripFault>,
 }
 
@@ -26,14 +29,14 @@ impl<'a> Model for StripReader<'a> {
 
     ghost view = { λ reader. record { form = reader.form; left = reader.source.left; row = reader.row; reference = reader.reference; fault = reader.fault } };
 
-    ghost invariant = { λ reader. IsReading reader.form reader.row reader.reference };
+    ghost invariant = { λ reader. IsReading reader.form reader.row reader.reference reader.next };
 }
 
 impl<'a> StripReader<'a> {
     ghost use Rattle.fax_page.specs.Strip.{IsStripForm};
     ghost use Rattle.fax_page.specs.Reader.{strip_beginning, IsAdvance};
 
-    /// Before the first row of a strip in at most 4,294,967,295 bytes. It takes all the memory that
+    /// Before the first row of an MH or MMR strip in at most 4,294,967,295 bytes. It takes all the memory that
     /// the reading needs.
     ///
     /// # Errors
@@ -42,16 +45,18 @@ impl<'a> StripReader<'a> {
     pub fn new(alloc: Global, bytes: &'a [u8], form: StripForm) -> Result<Self, Memory>
         requires count { length bytes.now ≤ 4294967295 }
         requires limits { IsStripForm form }
-        requires coding { form.coding ≡ Coding.Mh }
+        requires coding { form.coding ≢ Coding.Mr }
         requires order { form.order ≡ MsbFirst }
         ensures { IfOk result (λ reader. reader ≡ strip_beginning form bytes.now) }
     {
         let reference = Row::white(alloc, form.width)?;
+        let next = Row::white(alloc, form.width)?;
         Ok(StripReader {
             source: BitSource::new(bytes, form.order),
             form,
             row: 0,
             reference,
+            next,
             fault: None,
         })
     }
@@ -70,8 +75,15 @@ impl<'a> StripReader<'a> {
         if self.row == self.form.rows {
             return Ok(false);
         }
-        match read_line(&mut self.source, self.form, self.row, &mut self.reference) {
+        match read_line(
+            &mut self.source,
+            self.form,
+            self.row,
+            &self.reference,
+            &mut self.next,
+        ) {
             Ok(()) => {
+                swap(&mut self.reference, &mut self.next);
                 self.row += 1;
                 Ok(true)
             }
@@ -82,8 +94,7 @@ impl<'a> StripReader<'a> {
         }
     }
 
-    /// The row before the one that is due: all white before the first. After a fault nothing is said of
-    /// its pels.
+    /// The row before the one that is due: all white before the first.
     pub fn row(&self) -> &Row
         ensures { result.now ≡ self.now.reference }
     {

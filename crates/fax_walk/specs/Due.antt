@@ -1,9 +1,9 @@
 -- What a walk still hands out.
-use Rattle.std.specs.Prelude.{◌≡◌, ℕ, ◌+◌, ◌-◌, ◌<◌, ◌≤◌, Bool, List, [], ◌∷◌, length, Option, Some, None}
+use Rattle.std.specs.Prelude.{◌≡◌, ◌≢◌, ℕ, ◌+◌, ◌-◌, ◌<◌, ◌≤◌, Bool, List, [], ◌∷◌, length, Option, Some, None}
 use Rattle.fax_bits.specs.declared.Colour.{Colour}
 use Rattle.fax_page.specs.declared.StripFault.{StripFault}
 use Rattle.fax_bits.specs.declared.FillOrder.TheVariants.{MsbFirst}
-use Rattle.fax_page.specs.declared.Coding.TheVariants.{Mh}
+use Rattle.fax_page.specs.declared.Coding.TheVariants.{Mr}
 use Rattle.fax_page.specs.declared.StripForm.{StripForm}
 use Rattle.fax_page.specs.Strip.{AreLines, IsStripForm}
 use Rattle.fax_page.specs.Reader.{StripState, strip_beginning}
@@ -88,7 +88,7 @@ pub record ReadsPageRow (old new : PageState) : Type 0 where
 -- (this project's profile)
 pub record IsFirstPage (file : List ℕ) (form : StripForm) (bytes : List ℕ) (next : ℕ) : Type 0 where
   pub limits : IsStripForm form
-  pub coding : form.coding ≡ Mh
+  pub coding : form.coding ≢ Mr
   pub order : form.order ≡ MsbFirst
   pub count : length bytes ≤ 4294967295
   pub due : (items : List Item) (end : End)

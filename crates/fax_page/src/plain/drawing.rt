@@ -1,7 +1,7 @@
-//! Strips drawn by a generator of numbers.
-use crate::Colour;
+//! MH strips drawn by a generator of numbers.
 use crate::plain::reading::other;
 use crate::plain::tables::{EOL, EXTENSION, LAST_TERMINATING, codes};
+use crate::{Coding, Colour, FillOrder, StripForm};
 use std::alloc::{AllocError, Global};
 
 /// A linear congruential generator.
@@ -34,16 +34,29 @@ impl Numbers {
 /// A strip: its form and its bits.
 #[derive(Drop)]
 pub struct Strip {
+    pub coding: Coding,
     pub width: u32,
     pub rows: u32,
     pub bits: Vec<bool>,
+}
+
+impl Strip {
+    /// Its form, with the highest bit of a byte first.
+    pub fn form(&self) -> StripForm {
+        StripForm {
+            coding: self.coding,
+            order: FillOrder::MsbFirst,
+            width: self.width,
+            rows: self.rows,
+        }
+    }
 }
 
 /// How many runs a drawn row has at most.
 const MOST_RUNS: u32 = 24;
 
 /// Appends bits that are written as text.
-fn put(bits: &mut Vec<bool>, text: &str) -> Result<(), AllocError> {
+pub fn put(bits: &mut Vec<bool>, text: &str) -> Result<(), AllocError> {
     for digit in text.as_bytes() {
         bits.push(*digit == b'1')?;
     }
@@ -51,7 +64,7 @@ fn put(bits: &mut Vec<bool>, text: &str) -> Result<(), AllocError> {
 }
 
 /// Appends bits that are all the same.
-fn put_same(bits: &mut Vec<bool>, bit: bool, count: u32) -> Result<(), AllocError> {
+pub fn put_same(bits: &mut Vec<bool>, bit: bool, count: u32) -> Result<(), AllocError> {
     for _ in 0..count {
         bits.push(bit)?;
     }
@@ -59,7 +72,7 @@ fn put_same(bits: &mut Vec<bool>, bit: bool, count: u32) -> Result<(), AllocErro
 }
 
 /// Appends bits as they come.
-fn put_any(bits: &mut Vec<bool>, numbers: &mut Numbers, count: u32) -> Result<(), AllocError> {
+pub fn put_any(bits: &mut Vec<bool>, numbers: &mut Numbers, count: u32) -> Result<(), AllocError> {
     for _ in 0..count {
         bits.push(numbers.once_in(2))?;
     }
@@ -67,7 +80,7 @@ fn put_any(bits: &mut Vec<bool>, numbers: &mut Numbers, count: u32) -> Result<()
 }
 
 /// Appends the code of an entry.
-fn put_code(bits: &mut Vec<bool>, colour: Colour, entry: usize) -> Result<(), AllocError> {
+pub fn put_code(bits: &mut Vec<bool>, colour: Colour, entry: usize) -> Result<(), AllocError> {
     match codes(colour).get(entry) {
         Some(code) => put(bits, code),
         None => Ok(()),
@@ -75,7 +88,7 @@ fn put_code(bits: &mut Vec<bool>, colour: Colour, entry: usize) -> Result<(), Al
 }
 
 /// Appends the codes of a run, its make-up codes in any order.
-fn put_run(
+pub fn put_run(
     bits: &mut Vec<bool>,
     numbers: &mut Numbers,
     colour: Colour,
@@ -170,7 +183,7 @@ fn put_start(bits: &mut Vec<bool>, numbers: &mut Numbers, i: u32) -> Result<(), 
 }
 
 /// Appends what may stand behind the last row.
-fn put_padding(bits: &mut Vec<bool>, numbers: &mut Numbers) -> Result<(), AllocError> {
+pub fn put_padding(bits: &mut Vec<bool>, numbers: &mut Numbers) -> Result<(), AllocError> {
     let count = numbers.below(20);
     match numbers.below(3) {
         0 => put_any(bits, numbers, count),
@@ -179,7 +192,7 @@ fn put_padding(bits: &mut Vec<bool>, numbers: &mut Numbers) -> Result<(), AllocE
     }
 }
 
-/// Draws a strip of this width, of 1 to 4 rows. About one in five has a wrong run.
+/// Draws an MH strip of this width, of 1 to 4 rows. About one in five has a wrong run.
 pub fn draw(alloc: Global, numbers: &mut Numbers, width: u32) -> Result<Strip, AllocError> {
     let mut bits = Vec::new(alloc);
     let rows = numbers.below(4).saturating_add(1);
@@ -191,7 +204,12 @@ pub fn draw(alloc: Global, numbers: &mut Numbers, width: u32) -> Result<Strip, A
         put_row(&mut bits, numbers, width, wrong)?;
     }
     put_padding(&mut bits, numbers)?;
-    Ok(Strip { width, rows, bits })
+    Ok(Strip {
+        coding: Coding::Mh,
+        width,
+        rows,
+        bits,
+    })
 }
 
 /// A strip of one row with the code of this entry, and one pel of the other colour behind its run.
@@ -214,6 +232,7 @@ pub fn with_code(alloc: Global, colour: Colour, entry: usize) -> Result<Strip, A
     put_code(&mut bits, other(colour), 1)?;
     let width = u32::try_from(run.saturating_add(1)).unwrap_or(1);
     Ok(Strip {
+        coding: Coding::Mh,
         width,
         rows: 1,
         bits,
@@ -229,6 +248,7 @@ pub fn with_zeros_between(alloc: Global, zeros: u32) -> Result<Strip, AllocError
     put(&mut bits, "1")?;
     put_code(&mut bits, Colour::White, 1)?;
     Ok(Strip {
+        coding: Coding::Mh,
         width: 1,
         rows: 2,
         bits,
@@ -242,6 +262,7 @@ pub fn with_zeros_at_the_end(alloc: Global, fill: u32, zeros: u32) -> Result<Str
     put(&mut bits, EOL)?;
     put_same(&mut bits, false, zeros)?;
     Ok(Strip {
+        coding: Coding::Mh,
         width: 1,
         rows: 1,
         bits,

@@ -1,21 +1,33 @@
-//! A plain reading of an MH strip: slow searches over a list of bits, by the wording of T.4 and this project's profile.
+//! A plain reading of strips: slow searches over a list of bits, by the wording of T.4 and T.6 and this
+//! project's profile.
 use crate::plain::tables::{CODES, EXTENSION, LAST_TERMINATING, codes};
-use crate::{Colour, StripFault};
+use crate::plain::two_dimensional::read_steps;
+use crate::{Coding, Colour, StripFault, StripForm};
 use std::alloc::{AllocError, Global};
 
 /// What a strip's bits say: the pels of the rows that could be read, one row after the other, the codes
-/// that were taken (entries of the white table, or of the black one behind it), and why no more rows were
-/// read, or none where all were.
+/// that were taken, and why no more rows were read, or none where all were.
 #[derive(Drop)]
 pub struct Reading {
     pub pels: Vec<bool>,
-    pub codes: Vec<usize>,
+    pub taken: Taken,
     pub end: Option<StripFault>,
+}
+
+/// The codes that were taken.
+#[derive(Drop)]
+pub struct Taken {
+    /// Runs: entries of the white table, or of the black one behind it.
+    pub runs: Vec<usize>,
+    /// Modes.
+    pub modes: Vec<usize>,
+    /// Those of the modes that led out of the row.
+    pub refused: Vec<usize>,
 }
 
 /// Why a row was not read.
 #[derive(Drop)]
-enum Stop {
+pub enum Stop {
     Fault(StripFault),
     Memory(AllocError),
 }
@@ -57,10 +69,10 @@ fn meet(bits: &[bool], at: usize, code: &str) -> Meeting {
     Meeting::Whole
 }
 
-/// The entry of the code that stands at place `at`, and the place behind it.
-fn find(bits: &[bool], at: usize, colour: Colour) -> Result<(usize, usize), StripFault> {
+/// The entry of the code of a table that stands at place `at`, and the place behind it.
+pub fn find(bits: &[bool], at: usize, table: &[&str]) -> Result<(usize, usize), StripFault> {
     let mut fault = StripFault::BadCode;
-    for (entry, code) in codes(colour).iter().enumerate() {
+    for (entry, code) in table.iter().enumerate() {
         match meet(bits, at, code) {
             Meeting::Whole => return Ok((entry, at.saturating_add(code.len()))),
             Meeting::Cut => fault = StripFault::DataEnds,
@@ -91,8 +103,12 @@ fn zeros(bits: &[bool], at: usize) -> Option<usize> {
     None
 }
 
-/// The place where the codes of row `i` are due: behind fill and EOL, which the first row may lack.
-fn begin(bits: &[bool], at: usize, i: u32) -> Result<usize, StripFault> {
+/// The place where the codes of row `i` are due: behind fill and EOL, which the first row may lack, and at
+/// once in MMR.
+fn begin(bits: &[bool], at: usize, coding: Coding, i: u32) -> Result<usize, StripFault> {
+    if coding == Coding::Mmr {
+        return Ok(at);
+    }
     match zeros(bits, at) {
         None => Err(StripFault::DataEnds),
         Some(count) if count >= 11 => Ok(at.saturating_add(count).saturating_add(1)),
@@ -115,19 +131,20 @@ fn check_first(bits: &[bool], at: usize) -> Result<(), StripFault> {
 
 /// Reads one run in a colour: any make-up codes, then a terminating code. Answers its length, at most
 /// `most`, and the place behind it.
-fn read_run(
+pub fn read_run(
     bits: &[bool],
     at: usize,
     colour: Colour,
     most: usize,
-    taken: &mut Vec<usize>,
+    taken: &mut Taken,
 ) -> Result<(usize, usize), Stop> {
     let mut at = at;
     let mut run: usize = 0;
     for _ in 0..bits.len() {
-        let (entry, behind) = find(bits, at, colour)?;
+        let (entry, behind) = find(bits, at, codes(colour))?;
         let table = if colour == Colour::Black { CODES } else { 0 };
         taken
+            .runs
             .push(table.saturating_add(entry))
             .map_err(AllocError::from)?;
         if entry == EXTENSION {
@@ -152,7 +169,7 @@ fn read_row(
     bits: &[bool],
     at: usize,
     width: usize,
-    taken: &mut Vec<usize>,
+    taken: &mut Taken,
 ) -> Result<(Vec<bool>, usize), Stop> {
     let mut row = Vec::new(alloc);
     let mut at = at;
@@ -171,7 +188,7 @@ fn read_row(
 }
 
 /// Appends a run of pels.
-fn paint(row: &mut Vec<bool>, run: usize, black: bool) -> Result<(), AllocError> {
+pub fn paint(row: &mut Vec<bool>, run: usize, black: bool) -> Result<(), AllocError> {
     for _ in 0..run {
         row.push(black)?;
     }
@@ -186,30 +203,49 @@ pub fn other(colour: Colour) -> Colour {
     }
 }
 
-/// Reads row `i` from place `at`. Answers its pels and the place behind it.
+/// Reads row `i` from place `at`, over its reference. Answers its pels and the place behind it.
 fn read_line(
     alloc: Global,
     bits: &[bool],
     at: usize,
+    coding: Coding,
     i: u32,
-    width: usize,
-    taken: &mut Vec<usize>,
+    reference: &[bool],
+    taken: &mut Taken,
 ) -> Result<(Vec<bool>, usize), Stop> {
-    let first = begin(bits, at, i)?;
+    let first = begin(bits, at, coding, i)?;
     check_first(bits, first)?;
-    read_row(alloc, bits, first, width, taken)
+    if coding == Coding::Mmr {
+        return read_steps(alloc, bits, first, reference, taken);
+    }
+    read_row(alloc, bits, first, reference.len(), taken)
 }
 
-/// Reads an MH strip of `rows` rows.
-pub fn read(alloc: Global, bits: &[bool], width: usize, rows: u32) -> Result<Reading, AllocError> {
+/// Reads an MH or MMR strip of this form.
+pub fn read(alloc: Global, bits: &[bool], form: StripForm) -> Result<Reading, AllocError> {
     let mut pels = Vec::new(alloc);
-    let mut codes = Vec::new(alloc);
+    let mut taken = Taken {
+        runs: Vec::new(alloc),
+        modes: Vec::new(alloc),
+        refused: Vec::new(alloc),
+    };
     let mut end = None;
     let mut at = 0;
-    for i in 0..rows {
-        match read_line(alloc, bits, at, i, width, &mut codes) {
+    let mut reference = Vec::new(alloc);
+    paint(&mut reference, form.width as usize, false)?;
+    for i in 0..form.rows {
+        match read_line(
+            alloc,
+            bits,
+            at,
+            form.coding,
+            i,
+            reference.as_slice(),
+            &mut taken,
+        ) {
             Ok((row, behind)) => {
                 pels.extend_from_slice(row.as_slice())?;
+                reference = row;
                 at = behind;
             }
             Err(Stop::Memory(error)) => return Err(error),
@@ -219,7 +255,7 @@ pub fn read(alloc: Global, bits: &[bool], width: usize, rows: u32) -> Result<Rea
             }
         }
     }
-    Ok(Reading { pels, codes, end })
+    Ok(Reading { pels, taken, end })
 }
 
 /// The lengths of the longest runs of a row, white first.

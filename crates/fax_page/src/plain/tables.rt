@@ -1,4 +1,5 @@
-//! The run codes of T.4 (tables 2, 3a and 3b) as text: one entry for each length, in ascending order.
+//! The codes of T.4 as text: runs (tables 2, 3a and 3b), one entry for each length in ascending order, and
+//! modes (table 4).
 use crate::Colour;
 
 /// How many codes each table has.
@@ -12,6 +13,31 @@ pub const LAST_TERMINATING: usize = 63;
 
 /// The end-of-line code word (T.4, section 4.1.2).
 pub const EOL: &str = "000000000001";
+
+/// How many modes there are, with the prefix that T.4 leaves to extensions.
+pub const MODE_CODES: usize = 10;
+
+/// The entry of pass mode.
+pub const PASS: usize = 0;
+
+/// The entry of horizontal mode.
+pub const HORIZONTAL: usize = 1;
+
+/// The entry of vertical mode with a1 at b1: entry 5 + d has a1 so far to the right, entry 5 - d to the left.
+pub const VERTICAL_0: usize = 5;
+
+/// The entry of the prefix that T.4 leaves to extensions.
+pub const MODE_EXTENSION: usize = 9;
+
+/// The codes of modes.
+pub static MODES: [&str; MODE_CODES] = [
+    // Pass and horizontal.
+    "0001", "001",
+    // Vertical, from 3 to the left to 3 to the right.
+    "0000010", "000010", "010", "1", "011", "000011", "0000011",
+    // The prefix of extensions.
+    "0000001",
+];
 
 /// The codes of runs in this colour.
 pub fn codes(colour: Colour) -> &'static [&'static str] {
