@@ -12,3 +12,4 @@ pub mod RunCodeLemmas
 pub mod ModeLemmas
 pub mod ReadBackLemmas
 pub mod PutLemmas
+pub mod FindLemmas

@@ -37,6 +37,14 @@ pub record Takes {M : Type 0} (table : List (CodeEntry M)) (b : List Bool) (mean
 abbrev pub IsCodeAhead : List Bool → List Bool → Type 0
 IsCodeAhead code b = (rest : List Bool) × (b ≡ code ++ rest)
 
+-- the code of some entry, which has this length and this meaning, begins the bits (T.4, section 4.1.1)
+pub record BeginsWith {M : Type 0} (table : List (CodeEntry M)) (b : List Bool) (len : ℕ) (meaning : M) : Type 0 where
+  pub entry : CodeEntry M
+  pub listed : Contains table entry
+  pub length : entry.len ≡ len
+  pub means : entry.meaning ≡ meaning
+  pub ahead : IsCodeAhead (bits_of entry) b
+
 -- the bits begin the code, and are not all of it (T.4, section 4.1.1)
 abbrev pub IsCutBy : List Bool → List Bool → Type 0
 IsCutBy code b = (missing : Bool) × (more : List Bool) × (b ++ missing ∷ more ≡ code)

@@ -5,6 +5,7 @@ pub mod Codes
 pub mod Meeting
 pub mod Tables
 pub mod TableSizes
+pub mod Trits
 pub mod TableTests
 pub mod TableRules
 pub mod Runs

@@ -1,5 +1,5 @@
 //! Code tables, and the code that bits begin with.
-ghost use Rattle.std.specs.Prelude.{◌≡◌, ℕ, ◌+◌, ◌<◌, ◌≤◌, List, length, slice_get, OnOk, OnErr, IfOk, IfErr, Some};
+ghost use Rattle.std.specs.Prelude.{◌≡◌, ℕ, ◌+◌, ◌^◌, ◌<◌, ◌≤◌, List, length, slice_get, OnOk, OnErr, IfOk, IfErr, MatchOption, Some};
 ghost use Rattle.fax_bits.specs.Bits.{code_bits};
 ghost use Rattle.fax_bits.specs.Codes.{Takes, IsFaultOf};
 ghost use Rattle.fax_bits.specs.Meeting.{IsMeeting};
@@ -30,7 +30,8 @@ pub enum CodeFault {
 /// A table of codes of 1 to 13 bits, none of which begins another.
 pub trait CodeTable {
     ghost use Rattle.fax_bits.specs.declared.codes.CodeEntry.{CodeEntry};
-    ghost use Rattle.fax_bits.specs.Codes.{HasShortCodes, IsPrefixFree};
+    ghost use Rattle.fax_bits.specs.Codes.{BeginsWith, HasNoCode, HasShortCodes, IsPrefixFree};
+    ghost use Rattle.fax_bits.specs.Bits.{code_bits};
 
     /// What its codes mean.
     type Meaning: Copy;
@@ -49,6 +50,23 @@ pub trait CodeTable {
         ensures found { slice_get table i ≡ Some result }
         ensures not_empty { 0 < result.len }
         ensures short { result.len ≤ 13 };
+
+    /// The length in bits and the meaning of the code that begins `n` bits, 0 to 13 of them: the
+    /// lowest of `window`, the highest first. `None` where no code is the beginning of them.
+    fn find(window: u32, n: u32) -> Option<(u32, Self::Meaning)>
+        requires few { n ≤ 13 }
+        requires fits { window < 2 ^ n }
+        ensures { MatchOption result (HasNoCode table (code_bits n window)) (λ found. BeginsWith table (code_bits n window) found.0 found.1) }
+    {
+        for i in 0..Self::COUNT {
+            let entry = Self::entry(i);
+            let len = u32::from(entry.len);
+            if len <= n && window >> (n - len) == u32::from(entry.code) {
+                return Some((len, entry.meaning));
+            }
+        }
+        None
+    }
 
     ghost counted: { length table ≡ COUNT };
 

@@ -1,7 +1,20 @@
 //! Laws of the code tables. The functions compute nothing: each has a law as its contract.
 ghost use Rattle.fax_bits.specs.declared.Colour.{Colour};
-ghost use Rattle.fax_bits.specs.Laws.{ReadsOneWay, RunBitsAreRead, RunBitsAreOneRun, ModeBitsAreRead};
+ghost use Rattle.fax_bits.specs.Laws.{TakesOne, ReadsOneWay, RunBitsAreRead, RunBitsAreOneRun, ModeBitsAreRead};
 ghost use Rattle.fax_bits.specs.Tables.{run_table, modes};
+
+use crate::codes::CodeTable;
+
+/// At most one code of a table is taken of any bits, with one rest behind it.
+pub fn one_code_is_taken<T: CodeTable>()
+    ensures { TakesOne T.table }
+{}
+
+/// Bits are read by any table in one way: at most one code is taken, which has at least one bit; a
+/// code is taken or there is a fault, never both, and never two faults.
+pub fn codes_are_read_in_one_way<T: CodeTable>()
+    ensures { ReadsOneWay T.table }
+{}
 
 /// Bits are read by the run table of a colour in one way: at most one code is taken, which has at
 /// least one bit; a code is taken or there is a fault, never both, and never two faults (T.4,

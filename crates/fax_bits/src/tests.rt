@@ -1,6 +1,6 @@
 use crate::{
-    BitSource, BlackRuns, CodeEntry, CodeFault, CodeTable, FillOrder, Memory, RunCode, WhiteRuns,
-    read_code,
+    BitSink, BitSource, BlackRuns, CodeEntry, CodeFault, CodeTable, Colour, FillOrder, Memory,
+    ModeCode, Modes, RunCode, WhiteRuns, put_mode, put_run, read_code,
 };
 use std::alloc::{AllocError, Global};
 use std::process::Abort;
@@ -189,6 +189,149 @@ fn gives_entries_by_their_place(rt: HostRuntime) {
         meaning: RunCode::Terminating(3),
     };
     assert_eq!(rt; BlackRuns::entry(3), black);
+}
+
+#[test]
+fn finds_the_code_that_begins_bits(rt: HostRuntime) {
+    assert_eq!(rt;
+        WhiteRuns::find(0b01110, 5),
+        Some((4, RunCode::Terminating(2)))
+    );
+    assert_eq!(rt;
+        BlackRuns::find(0b0000001100101, 13),
+        Some((13, RunCode::MakeUp(1728)))
+    );
+    assert_eq!(rt; Modes::find(0b0000001, 7), Some((7, ModeCode::Extension)));
+    assert_eq!(rt; Modes::find(0, 6), None);
+    assert_eq!(rt; Modes::find(0, 0), None);
+}
+
+/// A table with the codes 0, 10 and 11.
+struct Trits;
+
+impl CodeTable for Trits {
+    ghost use Rattle.std.specs.Prelude.{◌≡◌, map, true, refl};
+    ghost use Rattle.fax_bits.specs.Bits.{code_bits};
+    ghost use Rattle.fax_bits.specs.Codes.{bits_of};
+    ghost use Rattle.fax_bits.specs.TableTests.{prefix_free, has_short_codes, is_prefix_free};
+    ghost use Rattle.fax_bits.specs.Trits.{trits};
+
+    type Meaning = u8;
+
+    ghost COUNT = { 3 };
+
+    const COUNT: usize = 3;
+
+    ghost table = { trits };
+
+    fn entry(i: usize) -> CodeEntry<u8> {
+        let (code, len) = match i {
+            0 => (0b0, 1),
+            1 => (0b10, 2),
+            _ => (0b11, 2),
+        };
+        CodeEntry {
+            code,
+            len,
+            meaning: i as u8,
+        }
+    }
+
+    ghost counted = { refl };
+
+    ghost short_codes = { has_short_codes trits refl };
+
+    ghost prefix_free = { let free : prefix_free (map bits_of trits) ≡ true = unfold code_bits in refl in is_prefix_free trits free };
+}
+
+#[test]
+fn reads_any_table(rt: HostRuntime) {
+    let mut source = BitSource::new(&[0x01], FillOrder::MsbFirst);
+    assert!(rt; source.remaining() >= 6);
+    source.skip(6);
+    assert_eq!(rt; read_code::<Trits>(&mut source), Ok(0));
+    assert_eq!(rt; read_code::<Trits>(&mut source), Err(CodeFault::DataEnds));
+    assert_eq!(rt; source.place(), 7);
+}
+
+/// The bits that were put, as text.
+fn text_of(alloc: Global, mut sink: BitSink) -> Result<String, AllocError> {
+    let len = sink.len();
+    sink.pad();
+    let mut text = String::new(alloc);
+    let mut count = 0u128;
+    for byte in sink.into_bytes() {
+        for place in 0..8u32 {
+            if count < len {
+                let bit = (byte >> (7 - place)) & 1;
+                text.push(if bit == 1 { '1' } else { '0' })?;
+                count += 1;
+            }
+        }
+    }
+    Ok(text)
+}
+
+#[test]
+fn puts_runs(rt: HostRuntime) -> Result<(), Fail> {
+    let rows = [
+        (Colour::White, 0, "00110101"),
+        (Colour::White, 63, "00110100"),
+        (Colour::White, 64, "1101100110101"),
+        (Colour::White, 2560, "00000001111100110101"),
+        (Colour::White, 2623, "00000001111100110100"),
+        (Colour::White, 2624, "0000000111111101100110101"),
+        (Colour::White, 5200, "00000001111100000001111111011101010"),
+        (Colour::Black, 2561, "000000011111010"),
+        (Colour::Black, 1730, "000000110010111"),
+    ];
+    for (colour, pels, bits) in rows {
+        let mut sink = BitSink::new(rt.alloc(), FillOrder::MsbFirst);
+        put_run(&mut sink, colour, pels)?;
+        assert_eq!(rt; text_of(rt.alloc(), sink)?.as_str(), bits, "{pels}");
+    }
+    Ok(())
+}
+
+#[test]
+fn puts_modes(rt: HostRuntime) -> Result<(), Fail> {
+    let rows = [
+        (ModeCode::Pass, "0001"),
+        (ModeCode::Horizontal, "001"),
+        (ModeCode::Vertical(0), "1"),
+        (ModeCode::Vertical(1), "011"),
+        (ModeCode::Vertical(2), "000011"),
+        (ModeCode::Vertical(3), "0000011"),
+        (ModeCode::Vertical(-1), "010"),
+        (ModeCode::Vertical(-2), "000010"),
+        (ModeCode::Vertical(-3), "0000010"),
+    ];
+    for (mode, bits) in rows {
+        let mut sink = BitSink::new(rt.alloc(), FillOrder::MsbFirst);
+        put_mode(&mut sink, mode)?;
+        assert_eq!(rt; text_of(rt.alloc(), sink)?.as_str(), bits, "{bits}");
+    }
+    Ok(())
+}
+
+#[test]
+fn fills_bytes_in_both_orders(rt: HostRuntime) -> Result<(), Fail> {
+    let rows: [(FillOrder, &[u8]); 2] = [
+        (FillOrder::MsbFirst, &[0b10111000, 0b00010000]),
+        (FillOrder::LsbFirst, &[0b00011101, 0b00001000]),
+    ];
+    for (order, bytes) in rows {
+        let mut sink = BitSink::new(rt.alloc(), order);
+        sink.put(0b101, 3)?;
+        sink.put(0, 0)?;
+        sink.put(0b110000001, 9)?;
+        assert_eq!(rt; sink.len(), 12);
+        sink.pad();
+        sink.pad();
+        assert_eq!(rt; sink.len(), 16);
+        assert_eq!(rt; sink.into_bytes().as_slice(), bytes);
+    }
+    Ok(())
 }
 
 #[test]
