@@ -4,6 +4,7 @@ mod reading;
 mod steps;
 mod tables;
 mod two_dimensional;
+mod writing;
 
 use crate::plain::drawing::{
     Numbers, Strip, draw, with_code, with_zeros_at_the_end, with_zeros_between,

@@ -1,6 +1,7 @@
 //! Runs over streams in memory, and the words of command lines.
 
 mod mmr;
+mod page;
 mod streams;
 mod words;
 
