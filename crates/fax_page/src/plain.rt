@@ -70,10 +70,10 @@ const MMR_DRAWS: [Draws; 3] = [
     },
 ];
 
-/// The number of an end in the tally.
+/// The number in the tally of the end that MMR does not have.
 const MISSING_EOL: usize = 6;
 
-/// The number of an end in the tally.
+/// The number in the tally of the end that MH does not have.
 const OUT_OF_ROW: usize = 7;
 
 /// What the comparisons met.
@@ -115,7 +115,6 @@ fn number(end: Option<StripFault>) -> usize {
         Some(StripFault::Extension) => 3,
         Some(StripFault::RunTooLong) => 4,
         Some(StripFault::EndMarker) => 5,
-        // Of MH alone, and of MMR alone.
         Some(StripFault::MissingEol) => MISSING_EOL,
         Some(StripFault::OutOfRow) => OUT_OF_ROW,
     }
@@ -438,13 +437,20 @@ fn compare_references(
     Ok(())
 }
 
-/// Compares MMR strips of 0 to 3 rows and then 0 to 15 zeros, with ones or nothing behind them.
+/// Compares each step in each place over each reference row of up to five pels.
+fn compare_all_references(rt: &impl Abort, alloc: Global, tally: &mut Tally) -> Result<(), Fail> {
+    for (width, references) in [(1, 2), (2, 4), (3, 8), (4, 16), (5, 32)] {
+        compare_references(rt, alloc, width, references, tally)?;
+    }
+    Ok(())
+}
+
+/// Compares MMR strips of 0 to 3 rows and then 0 to 15 zeros, with nothing or ones behind them.
 fn compare_zeros_in_mmr(rt: &impl Abort, alloc: Global, tally: &mut Tally) -> Result<(), Fail> {
-    for k in 0..64 {
-        for ones in [0, 20] {
-            let strip = with_zeros(alloc, k / 16, k % 16, ones)?;
-            compare_whole(rt, alloc, &strip, tally)?;
-        }
+    for k in 0..128 {
+        let ones = if k < 64 { 0 } else { 20 };
+        let strip = with_zeros(alloc, k / 16 % 4, k % 16, ones)?;
+        compare_whole(rt, alloc, &strip, tally)?;
     }
     Ok(())
 }
@@ -467,14 +473,18 @@ fn assert_all_codes(rt: &impl Abort, tally: &Tally) {
     }
 }
 
-/// Sees that each mode was taken often, and refused where it can lead out of the row.
+/// Sees that each mode was taken often.
 fn assert_all_modes(rt: &impl Abort, tally: &Tally) {
     for (mode, times) in tally.modes.as_slice().iter().enumerate() {
         assert!(rt; *times >= 300, "only {times} steps in mode {mode}");
     }
+}
+
+/// Sees that each vertical mode that can lead out of a row did so often.
+fn assert_all_refused(rt: &impl Abort, tally: &Tally) {
     for (mode, times) in tally.refused.as_slice().iter().enumerate() {
-        let is_refused = mode > HORIZONTAL && mode < MODE_EXTENSION && mode != VERTICAL_0;
-        let least = if is_refused { 100 } else { 0 };
+        let can_be = mode > HORIZONTAL && mode < MODE_EXTENSION && mode != VERTICAL_0;
+        let least = if can_be { 100 } else { 0 };
         assert!(rt;
             *times >= least,
             "only {times} steps in mode {mode} led out of the row"
@@ -501,14 +511,13 @@ fn agrees_with_a_plain_reading(rt: HostRuntime) -> Result<(), Fail> {
 fn agrees_with_a_plain_reading_in_mmr(rt: HostRuntime) -> Result<(), Fail> {
     let alloc = rt.alloc();
     let mut tally = Tally::new();
-    for (width, references) in [(1, 2), (2, 4), (3, 8), (4, 16), (5, 32)] {
-        compare_references(&rt, alloc, width, references, &mut tally)?;
-    }
+    compare_all_references(&rt, alloc, &mut tally)?;
     compare_zeros_in_mmr(&rt, alloc, &mut tally)?;
     for draws in MMR_DRAWS {
         compare_drawn(&rt, alloc, Coding::Mmr, &draws, &mut tally)?;
     }
     assert_many(&rt, &tally, MISSING_EOL);
     assert_all_modes(&rt, &tally);
+    assert_all_refused(&rt, &tally);
     Ok(())
 }
