@@ -1,7 +1,7 @@
 //! Bits of bytes, read from a place on.
 ghost use Rattle.std.specs.Prelude.{◌≡◌, ◌+◌, ◌≤◌, ◌<◌, length, take, drop, replicate, slice_index_or, false, ◌++◌, MatchOption, IsTrue};
-ghost use Rattle.fax_bits.specs.declared.FillOrder.TheVariants.{MsbFirst};
 ghost use Rattle.fax_bits.specs.Bits.{bits, bits_number, IsAllZeros, HasZerosAhead, IsZeroByteAt};
+ghost use Rattle.fax_bits.specs.Source.{bit_in_byte};
 
 use crate::FillOrder;
 use std::marker::Model;
@@ -10,6 +10,7 @@ use std::marker::Model;
 /// before it.
 #[derive(Drop)]
 pub struct BitSource<'a> {
+    order: FillOrder,
     bytes: &'a [u8],
     place: u64,
 }
@@ -19,7 +20,7 @@ impl<'a> Model for BitSource<'a> {
 
     ghost Value = { Source };
 
-    ghost view = { λ s. source_of s.bytes.now s.place };
+    ghost view = { λ s. source_of s.order s.bytes.now s.place };
 
     ghost invariant = { λ s. IsPlaced s.bytes.now s.place };
 }
@@ -27,15 +28,17 @@ impl<'a> Model for BitSource<'a> {
 impl<'a> BitSource<'a> {
     ghost use Rattle.fax_bits.specs.Source.{source_of};
 
-    /// The first bit of at most 4,294,967,295 bytes, the highest bit of each byte first (TIFF 6.0,
-    /// FillOrder 1).
+    /// The first bit of at most 4,294,967,295 bytes; `order` says which bit of a byte comes first
+    /// (TIFF 6.0, FillOrder).
     pub fn new(bytes: &'a [u8], order: FillOrder) -> Self
         requires count { length bytes.now ≤ 4294967295 }
-        requires highest_first { order ≡ MsbFirst }
-        ensures { result ≡ source_of bytes.now 0 }
+        ensures { result ≡ source_of order bytes.now 0 }
     {
-        let _ = order;
-        BitSource { bytes, place: 0 }
+        BitSource {
+            order,
+            bytes,
+            place: 0,
+        }
     }
 
     /// How many bits were skipped since the first one.
@@ -59,7 +62,7 @@ impl<'a> BitSource<'a> {
     {
         let at = self.place + i;
         let byte = self.bytes[(at / 8) as usize];
-        (byte >> (7 - at % 8)) & 1 == 1
+        (byte >> bit_in_byte(self.order, at % 8)) & 1 == 1
     }
 
     /// The bit that is `i` bits ahead, or a zero past the end.
@@ -116,5 +119,16 @@ impl<'a> BitSource<'a> {
         ensures { self.new ≡ record { left = drop n self.old.left; place = self.old.place + n } }
     {
         self.place += n;
+    }
+}
+
+/// Which bit of a byte, 0 the lowest, is coded at a place of its eight bits (TIFF 6.0, FillOrder).
+fn bit_in_byte(order: FillOrder, place: u64) -> u64
+    requires { place < 8 }
+    ensures { result ≡ bit_in_byte order place }
+{
+    match order {
+        FillOrder::MsbFirst => 7 - place,
+        FillOrder::LsbFirst => place,
     }
 }

@@ -150,18 +150,20 @@ fn looks_at_bits_and_skips_them(rt: HostRuntime) {
 
 #[test]
 fn counts_zeros(rt: HostRuntime) {
-    let rows: [(&[u8], u64, Option<u64>); 7] = [
-        (&[], 0, None),
-        (&[0, 0, 0], 5, None),
-        (&[0x80], 0, Some(0)),
-        (&[0, 0, 0x10], 0, Some(19)),
-        (&[0, 0, 0x10], 3, Some(16)),
-        (&[0xFF, 0, 1], 8, Some(15)),
-        (&[0xFF, 0, 2], 23, None),
+    let rows: [(&[u8], FillOrder, u64, Option<u64>); 9] = [
+        (&[], FillOrder::MsbFirst, 0, None),
+        (&[0, 0, 0], FillOrder::MsbFirst, 5, None),
+        (&[0x80], FillOrder::MsbFirst, 0, Some(0)),
+        (&[0, 0, 0x10], FillOrder::MsbFirst, 0, Some(19)),
+        (&[0, 0, 0x10], FillOrder::MsbFirst, 3, Some(16)),
+        (&[0xFF, 0, 1], FillOrder::MsbFirst, 8, Some(15)),
+        (&[0xFF, 0, 2], FillOrder::MsbFirst, 23, None),
+        (&[0, 0, 0x10], FillOrder::LsbFirst, 3, Some(17)),
+        (&[0xFF, 0, 2], FillOrder::LsbFirst, 8, Some(9)),
     ];
-    for (bytes, skipped, zeros) in rows {
+    for (bytes, order, skipped, zeros) in rows {
         assert!(rt; bytes.len() < 1000);
-        let mut source = BitSource::new(bytes, FillOrder::MsbFirst);
+        let mut source = BitSource::new(bytes, order);
         assert!(rt; skipped <= source.remaining());
         source.skip(skipped);
         assert_eq!(rt;
@@ -329,7 +331,11 @@ fn fills_bytes_in_both_orders(rt: HostRuntime) -> Result<(), Fail> {
         sink.pad();
         sink.pad();
         assert_eq!(rt; sink.len(), 16);
-        assert_eq!(rt; sink.into_bytes().as_slice(), bytes);
+        let put = sink.into_bytes();
+        assert_eq!(rt; put.as_slice(), bytes);
+        assert!(rt; put.len() < 1000);
+        let source = BitSource::new(&put, order);
+        assert_eq!(rt; source.peek(12), 0b101110000001);
     }
     Ok(())
 }

@@ -4,10 +4,10 @@ use Rattle.fax_bits.proofs.source.BitSource.skip.Goals as goal
 
 pub overflow_add-self : goal.overflow_add-self
 overflow_add-self c =
-    omega (arith, length-left_of _ _ _ c.self.view_is)
+    omega (arith, length-left_of _ _ _ _ c.self.view_is)
 
 pub invariant_of-self : goal.invariant_of-self
 invariant_of-self c = record {
-  within = omega (arith, length-left_of _ _ _ c.self.view_is);
+  within = omega (arith, length-left_of _ _ _ _ c.self.view_is);
   counted = omega arith;
 }
