@@ -2,12 +2,12 @@
 use Rattle.std.proofs.Common.{◌≡◌, ℕ, ◌+◌, ◌-◌, Bool, true, false, List, take, drop, Option, Some, None, Result, Ok, Err, refl, sym, ap, subst, ◌∙◌, arith}
 use Rattle.std.specs.Prelude.{IfOk, ◌==◌}
 use Rattle.std.proofs.lemmas.Result.{IfOk-at_ok}
-use Rattle.fax_bits.specs.declared.FillOrder.TheVariants.{MsbFirst}
 use Rattle.fax_page.specs.declared.Coding.{Coding}
 use Rattle.fax_files.specs.declared.FileFault.{FileFault}
 use Rattle.fax_files.specs.declared.FileFault.TheVariants.{MissingField, BadField, Unsupported}
 use Rattle.fax_files.specs.declared.PageForm.{PageForm}
 use Rattle.fax_files.specs.declared.entries.Entry.{Entry}
+use Rattle.fax_files.specs.declared.page.PelFormat.{PelFormat}
 use Rattle.fax_files.specs.Numbers.{Endian, ◌>>=◌, check, is_inside}
 use Rattle.fax_files.specs.Directory.{entries, field, value_at, has_integers}
 use Rattle.fax_files.specs.Page.{page, page_size, pel_format, strip_rows, strip_count, page_coding, strip_field}
@@ -25,35 +25,35 @@ same_strips : (made form : PageForm) → (let r : Result PageForm FileFault = Ok
 same_strips made form e = ap (λ (f : PageForm). f.strips) (ok_injective made form e)
 
 -- What is left of a page's form after some of its steps, from the last one on.
-abbrev form_of : ℕ × ℕ → ℕ → Coding → PageForm
-form_of size rows_per_strip coding = record {
+abbrev form_of : ℕ × ℕ → PelFormat → ℕ → Coding → PageForm
+form_of size pels rows_per_strip coding = record {
   width = size.0;
   rows = size.1;
   coding = coding;
-  order = MsbFirst;
+  order = pels.order;
   exchanged = false;
   rows_per_strip = rows_per_strip;
   strips = strip_count size.1 rows_per_strip;
 }
 
-abbrev after_offsets : Endian → List ℕ → List Entry → ℕ × ℕ → ℕ → Coding → Result PageForm FileFault
-after_offsets endian file fields size rows_per_strip coding =
-    strip_field endian file fields 279 (strip_count size.1 rows_per_strip) >>= λ _. Ok (form_of size rows_per_strip coding)
+abbrev after_offsets : Endian → List ℕ → List Entry → ℕ × ℕ → PelFormat → ℕ → Coding → Result PageForm FileFault
+after_offsets endian file fields size pels rows_per_strip coding =
+    strip_field endian file fields 279 (strip_count size.1 rows_per_strip) >>= λ _. Ok (form_of size pels rows_per_strip coding)
 
-abbrev after_coding : Endian → List ℕ → List Entry → ℕ × ℕ → ℕ → Coding → Result PageForm FileFault
-after_coding endian file fields size rows_per_strip coding =
-    strip_field endian file fields 273 (strip_count size.1 rows_per_strip) >>= λ _. after_offsets endian file fields size rows_per_strip coding
+abbrev after_coding : Endian → List ℕ → List Entry → ℕ × ℕ → PelFormat → ℕ → Coding → Result PageForm FileFault
+after_coding endian file fields size pels rows_per_strip coding =
+    strip_field endian file fields 273 (strip_count size.1 rows_per_strip) >>= λ _. after_offsets endian file fields size pels rows_per_strip coding
 
-abbrev after_count : Endian → List ℕ → List Entry → ℕ × ℕ → ℕ → ℕ → Result PageForm FileFault
-after_count endian file fields size compression rows_per_strip =
-    page_coding endian file fields compression >>= after_coding endian file fields size rows_per_strip
+abbrev after_count : Endian → List ℕ → List Entry → ℕ × ℕ → PelFormat → ℕ → Result PageForm FileFault
+after_count endian file fields size pels rows_per_strip =
+    page_coding endian file fields pels.compression >>= after_coding endian file fields size pels rows_per_strip
 
-abbrev after_rows : Endian → List ℕ → List Entry → ℕ × ℕ → ℕ → ℕ → Result PageForm FileFault
-after_rows endian file fields size compression rows_per_strip =
-    check (strip_count size.1 rows_per_strip == 1) (Unsupported 278) >>= λ _. after_count endian file fields size compression rows_per_strip
+abbrev after_rows : Endian → List ℕ → List Entry → ℕ × ℕ → PelFormat → ℕ → Result PageForm FileFault
+after_rows endian file fields size pels rows_per_strip =
+    check (strip_count size.1 rows_per_strip == 1) (Unsupported 278) >>= λ _. after_count endian file fields size pels rows_per_strip
 
-abbrev after_pels : Endian → List ℕ → List Entry → ℕ × ℕ → ℕ → Result PageForm FileFault
-after_pels endian file fields size compression = strip_rows endian file fields size.1 >>= after_rows endian file fields size compression
+abbrev after_pels : Endian → List ℕ → List Entry → ℕ × ℕ → PelFormat → Result PageForm FileFault
+after_pels endian file fields size pels = strip_rows endian file fields size.1 >>= after_rows endian file fields size pels
 
 abbrev after_size : Endian → List ℕ → List Entry → ℕ × ℕ → Result PageForm FileFault
 after_size endian file fields size = pel_format endian file fields >>= after_pels endian file fields size
@@ -74,10 +74,10 @@ strip_fields endian file q form e =
     let pels = bind_ok (pel_format endian file fields) (after_pels endian file fields size.0) form size.2 in
     let rows = bind_ok (strip_rows endian file fields size.0.1) (after_rows endian file fields size.0 pels.0) form pels.2 in
     let count = bind_ok (check (strip_count size.0.1 rows.0 == 1) (Unsupported 278)) (λ _. after_count endian file fields size.0 pels.0 rows.0) form rows.2 in
-    let coding = bind_ok (page_coding endian file fields pels.0) (after_coding endian file fields size.0 rows.0) form count.2 in
-    let offsets = bind_ok (strip_field endian file fields 273 (strip_count size.0.1 rows.0)) (λ _. after_offsets endian file fields size.0 rows.0 coding.0) form coding.2 in
-    let counts = bind_ok (strip_field endian file fields 279 (strip_count size.0.1 rows.0)) (λ _. Ok (form_of size.0 rows.0 coding.0)) form offsets.2 in
-    let strips : strip_count size.0.1 rows.0 ≡ form.strips = same_strips (form_of size.0 rows.0 coding.0) form counts.2 in
+    let coding = bind_ok (page_coding endian file fields pels.0.compression) (after_coding endian file fields size.0 pels.0 rows.0) form count.2 in
+    let offsets = bind_ok (strip_field endian file fields 273 (strip_count size.0.1 rows.0)) (λ _. after_offsets endian file fields size.0 pels.0 rows.0 coding.0) form coding.2 in
+    let counts = bind_ok (strip_field endian file fields 279 (strip_count size.0.1 rows.0)) (λ _. Ok (form_of size.0 pels.0 rows.0 coding.0)) form offsets.2 in
+    let strips : strip_count size.0.1 rows.0 ≡ form.strips = same_strips (form_of size.0 pels.0 rows.0 coding.0) form counts.2 in
     let found : StripFields endian file q (strip_count size.0.1 rows.0) = record {
       offsets = offsets.0;
       offsets_are = offsets.1;

@@ -1,13 +1,15 @@
 -- The form of a page, from the fields of its directory.
 use Rattle.std.specs.Prelude.{◌≡◌, ◌≢◌, ◌≤◌, ℕ, ◌-◌, ◌%◌, ◌^◌, min, Bool, false, nat_le, ◌==◌, ◌&&◌, ◌||◌, not, if◌then◌else◌, List, Result, Ok}
 use Rattle.std.specs.Int.{div_ceil}
-use Rattle.fax_bits.specs.declared.FillOrder.TheVariants.{MsbFirst}
+use Rattle.fax_bits.specs.declared.FillOrder.{FillOrder}
+use Rattle.fax_bits.specs.declared.FillOrder.TheVariants.{MsbFirst, LsbFirst}
 use Rattle.fax_page.specs.declared.Coding.{Coding}
 use Rattle.fax_page.specs.declared.Coding.TheVariants.{Mh, Mr, Mmr}
 use Rattle.fax_files.specs.declared.FileFault.{FileFault}
 use Rattle.fax_files.specs.declared.FileFault.TheVariants.{BadField, Unsupported, OutOfLimits}
 use Rattle.fax_files.specs.declared.PageForm.{PageForm}
 use Rattle.fax_files.specs.declared.entries.Entry.{Entry}
+use Rattle.fax_files.specs.declared.page.PelFormat.{PelFormat}
 use Rattle.fax_files.specs.Numbers.{Endian, check, ◌>>=◌}
 use Rattle.fax_files.specs.Directory.{entries, has_integers, needed, needed_scalar, scalar_or}
 
@@ -26,9 +28,15 @@ page_size endian file fields = do
   _ ← check (is_between 1 1000000 rows) (OutOfLimits 257)
   Ok (width, rows)
 
--- Compression, with the fields on how pels are coded: one bit for each, 0 for white, a byte's highest bit first
--- (this project's profile)
-unfoldable pub pel_format : Endian → List ℕ → List Entry → Result ℕ FileFault
+-- which bit of a byte comes first (TIFF 6.0, FillOrder)
+unfoldable pub fill_order : Endian → List ℕ → List Entry → Result FillOrder FileFault
+fill_order endian file fields = do
+  number ← scalar_or endian file fields 266 1
+  _ ← check ((number == 1) || (number == 2)) (Unsupported 266)
+  Ok (if number == 2 then LsbFirst else MsbFirst)
+
+-- how pels are coded: by Compression, one bit for each, 0 for white, in a fill order (this project's profile)
+unfoldable pub pel_format : Endian → List ℕ → List Entry → Result PelFormat FileFault
 pel_format endian file fields = do
   -- BitsPerSample
   bits_per_sample ← scalar_or endian file fields 258 1
@@ -39,13 +47,12 @@ pel_format endian file fields = do
   -- PhotometricInterpretation: 1 is not read yet
   photometric ← needed_scalar endian file fields 262
   _ ← check (photometric == 0) (Unsupported 262)
-  -- FillOrder: 2 is not read yet
-  fill_order ← scalar_or endian file fields 266 1
-  _ ← check (fill_order == 1) (Unsupported 266)
+  -- FillOrder
+  order ← fill_order endian file fields
   -- SamplesPerPixel
   samples_per_pixel ← scalar_or endian file fields 277 1
   _ ← check (samples_per_pixel == 1) (Unsupported 277)
-  Ok compression
+  Ok (record { compression = compression; order = order })
 
 -- the rows of each strip but the last of a page of so many rows (TIFF 6.0, RowsPerStrip; more than the page's rows
 -- means the page's rows)
@@ -84,12 +91,12 @@ unfoldable pub page : Endian → List ℕ → ℕ → Result PageForm FileFault
 page endian file q = do
   let fields = entries endian file q
   size ← page_size endian file fields
-  compression ← pel_format endian file fields
+  pels ← pel_format endian file fields
   rows_per_strip ← strip_rows endian file fields size.1
   let strips = strip_count size.1 rows_per_strip
   -- more than one strip is not read yet
   _ ← check (strips == 1) (Unsupported 278)
-  coding ← page_coding endian file fields compression
+  coding ← page_coding endian file fields pels.compression
   -- StripOffsets
   _ ← strip_field endian file fields 273 strips
   -- StripByteCounts
@@ -98,7 +105,7 @@ page endian file q = do
     width = size.0;
     rows = size.1;
     coding = coding;
-    order = MsbFirst;
+    order = pels.order;
     exchanged = false;
     rows_per_strip = rows_per_strip;
     strips = strips;
@@ -111,7 +118,6 @@ pub record IsPageForm (form : PageForm) : Type 0 where
   pub some_rows : 1 ≤ form.rows
   pub rows : form.rows ≤ 1000000
   pub coding : form.coding ≢ Mr
-  pub order : form.order ≡ MsbFirst
   pub exchanged : form.exchanged ≡ false
   pub rows_per_strip : form.rows_per_strip ≡ form.rows
   pub strips : form.strips ≡ 1

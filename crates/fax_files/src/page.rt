@@ -3,7 +3,7 @@
 ghost use Rattle.std.specs.Prelude.{◌≡◌, ◌≢◌, ◌+◌, ◌≤◌, ◌<◌, length, IsTrue, IsOk, IfOk};
 ghost use Rattle.fax_files.specs.Numbers.{little_endian};
 ghost use Rattle.fax_files.specs.Directory.{IsWholeDirectory, entries, has_integers as has_integers_in, value_at as value_in};
-ghost use Rattle.fax_files.specs.Page.{IsPageForm, page_size as size_of_page, pel_format as format_of_pels, strip_rows as rows_of_strip, page_coding as coding_of_page, strip_field as field_of_strips, page as page_of};
+ghost use Rattle.fax_files.specs.Page.{IsPageForm, page_size as size_of_page, fill_order as order_of_bits, pel_format as format_of_pels, strip_rows as rows_of_strip, page_coding as coding_of_page, strip_field as field_of_strips, page as page_of};
 
 use crate::entries::{Entry, has_integers, needed, needed_scalar, scalar_or, value_at};
 use crate::{FileFault, PageForm};
@@ -41,6 +41,15 @@ const MAX_WIDTH: u32 = 65_535;
 /// The most rows of a page.
 const MAX_ROWS: u32 = 1_000_000;
 
+/// How the pels of a page are coded.
+#[derive(Clone, Copy)]
+struct PelFormat {
+    /// Compression: 3 or 4.
+    compression: u32,
+    /// Which bit of a byte comes first.
+    order: FillOrder,
+}
+
 /// The form of the page whose directory stands at an offset, or its first fault.
 #[tactic(auto, unfolding(crate::specs::Page::page))]
 pub fn page_form(file: &[u8], directory: usize) -> Result<PageForm, FileFault>
@@ -49,20 +58,20 @@ pub fn page_form(file: &[u8], directory: usize) -> Result<PageForm, FileFault>
     ensures limits { IfOk result IsPageForm }
 {
     let (width, rows) = page_size(file, directory)?;
-    let compression = pel_format(file, directory)?;
+    let pels = pel_format(file, directory)?;
     let rows_per_strip = strip_rows(file, directory, rows)?;
     let strips = rows.div_ceil(rows_per_strip);
     if strips != 1 {
         return Err(FileFault::Unsupported(ROWS_PER_STRIP));
     }
-    let coding = page_coding(file, directory, compression)?;
+    let coding = page_coding(file, directory, pels.compression)?;
     strip_field(file, directory, STRIP_OFFSETS, strips)?;
     strip_field(file, directory, STRIP_BYTE_COUNTS, strips)?;
     Ok(PageForm {
         width,
         rows,
         coding,
-        order: FillOrder::MsbFirst,
+        order: pels.order,
         exchanged: false,
         rows_per_strip,
         strips,
@@ -90,9 +99,9 @@ fn page_size(file: &[u8], directory: usize) -> Result<(u32, u32), FileFault>
     Ok((width, rows))
 }
 
-/// Tests the fields that say how pels are coded, and answers Compression, which is then 3 or 4.
+/// How pels are coded, by the fields that say so.
 #[tactic(auto, unfolding(crate::specs::Page::pel_format))]
-fn pel_format(file: &[u8], directory: usize) -> Result<u32, FileFault>
+fn pel_format(file: &[u8], directory: usize) -> Result<PelFormat, FileFault>
     requires { IsWholeDirectory little_endian file.now directory }
     ensures { result ≡ format_of_pels little_endian file.now (entries little_endian file.now directory) }
 {
@@ -106,13 +115,24 @@ fn pel_format(file: &[u8], directory: usize) -> Result<u32, FileFault>
     if needed_scalar(file, directory, PHOTOMETRIC_INTERPRETATION)? != 0 {
         return Err(FileFault::Unsupported(PHOTOMETRIC_INTERPRETATION));
     }
-    if scalar_or(file, directory, FILL_ORDER, 1)? != 1 {
-        return Err(FileFault::Unsupported(FILL_ORDER));
-    }
+    let order = fill_order(file, directory)?;
     if scalar_or(file, directory, SAMPLES_PER_PIXEL, 1)? != 1 {
         return Err(FileFault::Unsupported(SAMPLES_PER_PIXEL));
     }
-    Ok(compression)
+    Ok(PelFormat { compression, order })
+}
+
+/// Which bit of a byte comes first.
+#[tactic(auto, unfolding(crate::specs::Page::fill_order))]
+fn fill_order(file: &[u8], directory: usize) -> Result<FillOrder, FileFault>
+    requires { IsWholeDirectory little_endian file.now directory }
+    ensures { result ≡ order_of_bits little_endian file.now (entries little_endian file.now directory) }
+{
+    match scalar_or(file, directory, FILL_ORDER, 1)? {
+        1 => Ok(FillOrder::MsbFirst),
+        2 => Ok(FillOrder::LsbFirst),
+        _ => Err(FileFault::Unsupported(FILL_ORDER)),
+    }
 }
 
 /// The rows of each strip but the last, of a page with so many rows.

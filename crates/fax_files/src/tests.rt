@@ -69,6 +69,16 @@ fn reads_a_file_of_one_page(rt: HostRuntime) {
 }
 
 #[test]
+fn reads_both_fill_orders(rt: HostRuntime) {
+    let orders = [(1, FillOrder::MsbFirst), (2, FillOrder::LsbFirst)];
+    for (number, order) in orders {
+        let file = changed(94, &[number]);
+        let form = first_page(&file).expect(&rt, "the page");
+        assert_eq!(rt; form.order, order, "{number}");
+    }
+}
+
+#[test]
 fn reads_compression_4_as_mmr(rt: HostRuntime) {
     let mut file = changed(70, &[4]);
     // T4Options is not looked at then.
@@ -113,7 +123,8 @@ fn names_the_first_fault(rt: HostRuntime) {
         // PhotometricInterpretation
         Refused(82, &[1], FileFault::Unsupported(262)),
         // FillOrder
-        Refused(94, &[2], FileFault::Unsupported(266)),
+        Refused(94, &[0], FileFault::Unsupported(266)),
+        Refused(94, &[3], FileFault::Unsupported(266)),
         // SamplesPerPixel
         Refused(118, &[3], FileFault::Unsupported(277)),
         // RowsPerStrip, and two rows in two strips

@@ -12,7 +12,7 @@ use crate::plain::drawing::{
 use crate::plain::reading::{Reading, longest_runs, read};
 use crate::plain::steps::{Place, draw_mmr, with_step, with_zeros};
 use crate::plain::tables::{CODES, HORIZONTAL, MODE_CODES, MODE_EXTENSION, VERTICAL_0};
-use crate::{Coding, Colour, FillOrder, Row, StripFault, StripForm, StripReader};
+use crate::{Coding, Colour, Row, StripFault, StripForm, StripReader};
 use std::alloc::{AllocError, Global};
 use std::process::Abort;
 use std::test::Fail;
@@ -203,7 +203,6 @@ fn read_by_reader(
 ) -> Result<Option<StripFault>, Fail> {
     let rows = form.rows;
     assert!(rt; matches!(form.coding, Coding::Mh | Coding::Mmr));
-    assert!(rt; matches!(form.order, FillOrder::MsbFirst));
     assert!(rt; form.width > 0 && form.width < 65_536);
     assert!(rt; rows > 0 && rows <= 1_000_000);
     assert!(rt; bytes.len() < 1_000_000);

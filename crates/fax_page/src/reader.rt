@@ -1,6 +1,5 @@
 //! A reader of a strip.
 ghost use Rattle.std.specs.Prelude.{◌≡◌, ◌≢◌, ◌≤◌, length, IfOk};
-ghost use Rattle.fax_bits.specs.declared.FillOrder.TheVariants.{MsbFirst};
 
 use crate::lines::read_line;
 use crate::{Coding, StripFault, StripForm};
@@ -46,7 +45,6 @@ impl<'a> StripReader<'a> {
         requires count { length bytes.now ≤ 4294967295 }
         requires limits { IsStripForm form }
         requires coding { form.coding ≢ Coding.Mr }
-        requires order { form.order ≡ MsbFirst }
         ensures { IfOk result (λ reader. reader ≡ strip_beginning form bytes.now) }
     {
         let reference = Row::white(alloc, form.width)?;

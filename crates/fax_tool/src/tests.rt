@@ -115,7 +115,7 @@ struct Case {
     status: u8,
 }
 
-static CASES: [Case; 29] = [
+static CASES: [Case; 30] = [
     Case {
         name: "one MH page",
         changes: &[],
@@ -237,8 +237,15 @@ static CASES: [Case; 29] = [
         status: 1,
     },
     Case {
-        name: "fill order 2, which is not read yet",
-        changes: &[(FILL_ORDER, 2)],
+        name: "fill order 2",
+        changes: &[(FILL_ORDER, 2), (STRIP + 2, 0x07)],
+        output: "row 0 0 3 2 3\nend\n",
+        error: "",
+        status: 0,
+    },
+    Case {
+        name: "fill order 3",
+        changes: &[(FILL_ORDER, 3)],
         output: "next 1:0:0\n",
         error: "fault page 0 row 0: Unsupported 266\n",
         status: 1,

@@ -2,7 +2,6 @@
 use Rattle.std.specs.Prelude.{◌≡◌, ◌≢◌, ℕ, ◌+◌, ◌-◌, ◌<◌, ◌≤◌, Bool, List, [], ◌∷◌, length, Option, Some, None}
 use Rattle.fax_bits.specs.declared.Colour.{Colour}
 use Rattle.fax_page.specs.declared.StripFault.{StripFault}
-use Rattle.fax_bits.specs.declared.FillOrder.TheVariants.{MsbFirst}
 use Rattle.fax_page.specs.declared.Coding.TheVariants.{Mr}
 use Rattle.fax_page.specs.declared.StripForm.{StripForm}
 use Rattle.fax_page.specs.Strip.{AreLines, IsStripForm}
@@ -89,7 +88,6 @@ pub record ReadsPageRow (old new : PageState) : Type 0 where
 pub record IsFirstPage (file : List ℕ) (form : StripForm) (bytes : List ℕ) (next : ℕ) : Type 0 where
   pub limits : IsStripForm form
   pub coding : form.coding ≢ Mr
-  pub order : form.order ≡ MsbFirst
   pub count : length bytes ≤ 4294967295
   pub due : (items : List Item) (end : End)
       → IsDueOnPage (record { strip = strip_beginning form bytes; next = next }) items end → AreItems file items end

@@ -39,7 +39,6 @@ returns-clause-found c =
         few_rows = omega arith;
       };
       coding = limits.coding;
-      order = limits.order;
       count = c.in_ok-bytes.ensures.len;
       due = λ items end due.
           first_due _ _ _ _ c.in_ok-tiff.ensures.head whole good limits there items end
