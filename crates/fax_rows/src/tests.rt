@@ -2,6 +2,7 @@
 use crate::{BitSource, Colour, FillOrder, Row, RowFault, b1_b2, read_1d, read_2d};
 use std::test::Fail;
 
+mod caller;
 mod put;
 
 /// 25 times 2,560 white pels, then 1,472 and 63.

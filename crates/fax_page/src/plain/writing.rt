@@ -10,7 +10,7 @@ use std::process::Abort;
 use std::test::Fail;
 
 /// The longest row of the comparison.
-const MOST_PELS: u32 = 7;
+const MOST_PELS: u32 = 10;
 
 /// The longest make-up code's run.
 const MOST_IN_A_CODE: usize = 2560;
@@ -164,7 +164,6 @@ fn take_bits(rt: &impl Abort, mut sink: BitSink, want: &[bool]) -> Vec<u8> {
         let is_one = (byte << (i % 8)) >= 0x80;
         assert!(rt; is_one == *bit);
     }
-    assert!(rt; bytes.len() < 1_000);
     bytes
 }
 
@@ -188,6 +187,7 @@ fn compare_runs(
     let mut sink = BitSink::new(alloc, FillOrder::MsbFirst);
     put_1d(&sample.row, &mut sink)?;
     let bytes = take_bits(rt, sink, &want);
+    assert!(rt; bytes.len() < 1_000);
     let mut source = BitSource::new(&bytes, FillOrder::MsbFirst);
     assert!(rt; read_1d(&mut source, again).is_ok());
     assert!(rt; source.place() == want.len() as u64);
@@ -209,6 +209,7 @@ fn compare_steps(
     assert!(rt; reference.row.width() == sample.row.width());
     put_2d(&reference.row, &sample.row, &mut sink)?;
     let bytes = take_bits(rt, sink, &want);
+    assert!(rt; bytes.len() < 1_000);
     let mut source = BitSource::new(&bytes, FillOrder::MsbFirst);
     assert!(rt; reference.row.width() == again.width());
     assert!(rt; read_2d(&mut source, &reference.row, again).is_ok());
@@ -240,6 +241,6 @@ fn agrees_with_a_plain_writing(rt: HostRuntime) -> Result<(), Fail> {
         pairs = pairs.saturating_add(compare_width(&rt, rt.alloc(), width.saturating_add(1))?);
     }
     // 4 + 16 + .. + 1,048,576.
-    assert_eq!(rt; pairs, 21_844);
+    assert_eq!(rt; pairs, 1_398_100);
     Ok(())
 }
