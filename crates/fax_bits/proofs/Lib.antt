@@ -6,6 +6,7 @@ pub mod TableLemmas
 pub mod ArrayLemmas
 pub mod ZeroLemmas
 pub mod PeekLemmas
+pub mod TableLaws
 pub mod PrefixLemmas
 pub mod ReadingLemmas
 pub mod RunCodeLemmas

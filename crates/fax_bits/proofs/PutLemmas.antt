@@ -8,9 +8,7 @@ use Rattle.fax_bits.specs.declared.Colour.{Colour}
 use Rattle.fax_bits.specs.declared.runs.RunCode.{RunCode}
 use Rattle.fax_bits.specs.declared.runs.RunCode.TheVariants.{Terminating, MakeUp}
 use Rattle.fax_bits.specs.Runs.{run_codes, one_make_up, run_code_bits, run_bits}
-use Rattle.fax_bits.specs.Tables.{run_meaning}
 use Rattle.fax_bits.specs.Sink.{Sink, Appends, AppendsPrefix}
-use Rattle.fax_bits.proofs.RunCodeLemmas.{run_meaning-terminating, run_meaning-make_up}
 
 pub appends-then : (old mid new : Sink) (first second : List Bool) → Appends old first mid → Appends mid second new → Appends old (first ++ second) new
 appends-then old mid new first second one two =
@@ -33,7 +31,7 @@ put-more colour old mid new codes code one two =
 
 -- the make-up codes of 2560 that were put before the i-th
 pub put-step : (colour : Colour) (old mid new : Sink) (i : ℕ) → Put colour old (replicate i (MakeUp 2560)) mid
-    → Appends mid (run_code_bits colour (run_meaning 103)) new → Put colour old (replicate (i + 1) (MakeUp 2560)) new
+    → Appends mid (run_code_bits colour (MakeUp 2560)) new → Put colour old (replicate (i + 1) (MakeUp 2560)) new
 put-step colour old mid new i one two =
     subst (λ codes. Put colour old codes new) (replicate-append-replicate i 1 (MakeUp 2560))
     (put-more colour old mid new (replicate i (MakeUp 2560)) (MakeUp 2560) one two)
@@ -61,13 +59,11 @@ first_codes n i within =
     ∙ append_assoc (replicate i (MakeUp 2560)) (replicate (n / 2560 - i) (MakeUp 2560)) (one_make_up (n % 2560 / 64) ++ Terminating (n % 64) ∷ [])
 
 -- with one other make-up code, or with none
-pub put-make_up : (colour : Colour) (old mid new : Sink) (codes : List RunCode) (steps : ℕ) → 0 < steps → steps ≤ 40 → Put colour old codes mid
-    → Appends mid (run_code_bits colour (run_meaning (63 + steps))) new → Put colour old (codes ++ one_make_up steps) new
-put-make_up colour old mid new codes steps some few one two =
+pub put-make_up : (colour : Colour) (old mid new : Sink) (codes : List RunCode) (steps : ℕ) → 0 < steps → Put colour old codes mid
+    → Appends mid (run_code_bits colour (MakeUp (64 * steps))) new → Put colour old (codes ++ one_make_up steps) new
+put-make_up colour old mid new codes steps some one two =
     let not_none : nat_eq steps 0 ≡ false = grind (arith, nat_tests) in
-    rw not_none
-    (put-more colour old mid new codes (MakeUp (64 * steps)) one
-    (subst (λ code. Appends mid (run_code_bits colour code) new) (run_meaning-make_up steps some few) two))
+    rw not_none (put-more colour old mid new codes (MakeUp (64 * steps)) one two)
 
 pub put-no_make_up : (colour : Colour) (old new : Sink) (codes : List RunCode) (steps : ℕ) → steps ≡ 0 → Put colour old codes new
     → Put colour old (codes ++ one_make_up steps) new
@@ -77,12 +73,9 @@ put-no_make_up colour old new codes steps none one =
 
 -- and the terminating code: the whole run
 pub put-terminating : (colour : Colour) (n : ℕ) (old mid new : Sink) → Put colour old (replicate (n / 2560) (MakeUp 2560) ++ one_make_up (n % 2560 / 64)) mid
-    → Appends mid (run_code_bits colour (run_meaning (n % 64))) new → Appends old (run_bits colour n) new
+    → Appends mid (run_code_bits colour (Terminating (n % 64))) new → Appends old (run_bits colour n) new
 unfolding run_bits
-put-terminating colour n old mid new one two =
-    let low : n % 64 < 64 = omega arith in
-    put-more colour old mid new _ (Terminating (n % 64)) one
-    (subst (λ code. Appends mid (run_code_bits colour code) new) (run_meaning-terminating (n % 64) low) two)
+put-terminating colour n old mid new one two = put-more colour old mid new _ (Terminating (n % 64)) one two
 
 pub on_err-of : {T E P : Type 0} (result : Result T E) → P → OnErr result P
 on_err-of (Ok x) p = tt

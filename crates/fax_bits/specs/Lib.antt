@@ -7,6 +7,5 @@ pub mod Tables
 pub mod TableSizes
 pub mod Trits
 pub mod TableTests
-pub mod TableRules
 pub mod Runs
 pub mod Laws

@@ -20,14 +20,14 @@ none_starts code [] = true
 none_starts code (other ∷ others) = (not (starts code other) && not (starts other code)) && none_starts code others
 
 -- no code begins another
-abbrev pub prefix_free : List (List Bool) → Bool
-prefix_free [] = true
-prefix_free (code ∷ codes) = none_starts code codes && prefix_free codes
+abbrev pub prefix_free_test : List (List Bool) → Bool
+prefix_free_test [] = true
+prefix_free_test (code ∷ codes) = none_starts code codes && prefix_free_test codes
 
 -- each code has 1 to 13 bits, and its number no more than these
-abbrev pub short_codes : {M : Type 0} → List (CodeEntry M) → Bool
-short_codes [] = true
-short_codes (entry ∷ table) = ((nat_lt 0 entry.len && nat_le entry.len 13) && nat_lt entry.code (2 ^ entry.len)) && short_codes table
+abbrev pub short_codes_test : {M : Type 0} → List (CodeEntry M) → Bool
+short_codes_test [] = true
+short_codes_test (entry ∷ table) = ((nat_lt 0 entry.len && nat_le entry.len 13) && nat_lt entry.code (2 ^ entry.len)) && short_codes_test table
 
 and_both : (a b : Bool) → (a && b) ≡ true → (a ≡ true) × (b ≡ true)
 and_both true b h = (refl, h)
@@ -61,45 +61,45 @@ none_starts-at code (other ∷ others) (suc j) within h =
     none_starts-at code others j (omega arith) (and_both (not (starts code other) && not (starts other code)) _ h).1
 
 -- the one place of a code
-same_place : (codes : List (List Bool)) (i j : ℕ) (more : List Bool) → prefix_free codes ≡ true → i < length codes → j < length codes
+same_place : (codes : List (List Bool)) (i j : ℕ) (more : List Bool) → prefix_free_test codes ≡ true → i < length codes → j < length codes
     → get_or codes j [] ≡ get_or codes i [] ++ more → i ≡ j
 same_place [] i j more free here there is = absurd (omega arith)
 same_place (code ∷ codes) zero zero more free here there is = refl
 same_place (code ∷ codes) zero (suc j) more free here there is =
-    let apart = none_starts-at code codes j (omega arith) (and_both (none_starts code codes) (prefix_free codes) free).0 in
+    let apart = none_starts-at code codes j (omega arith) (and_both (none_starts code codes) (prefix_free_test codes) free).0 in
     absurd (cc (apart.0, starts-from_append code (get_or codes j []) more is))
 same_place (code ∷ codes) (suc i) zero more free here there is =
-    let apart = none_starts-at code codes i (omega arith) (and_both (none_starts code codes) (prefix_free codes) free).0 in
+    let apart = none_starts-at code codes i (omega arith) (and_both (none_starts code codes) (prefix_free_test codes) free).0 in
     absurd (cc (apart.1, starts-from_append (get_or codes i []) code more is))
 same_place (code ∷ codes) (suc i) (suc j) more free here there is =
-    ap suc (same_place codes i j more (and_both (none_starts code codes) (prefix_free codes) free).1 (omega arith) (omega arith) is)
+    ap suc (same_place codes i j more (and_both (none_starts code codes) (prefix_free_test codes) free).1 (omega arith) (omega arith) is)
 
 code_at : {M : Type 0} (table : List (CodeEntry M)) (entry : CodeEntry M) (i : ℕ) → i < length table → get_or table i entry ≡ entry
     → get_or (map bits_of table) i [] ≡ bits_of entry
 code_at table entry i within is = get_or-map bits_of table i entry [] within ∙ ap bits_of is
 
 -- from the computed test to the rule: no code begins another
-pub is_prefix_free : {M : Type 0} (table : List (CodeEntry M)) → prefix_free (map bits_of table) ≡ true → IsPrefixFree table
+pub is_prefix_free : {M : Type 0} (table : List (CodeEntry M)) → prefix_free_test (map bits_of table) ≡ true → IsPrefixFree table
 is_prefix_free table free entry other more here there is =
     let same : here.0 ≡ there.0 =
     same_place (map bits_of table) here.0 there.0 more free (simp length-map here.1) (simp length-map there.1)
     (code_at table other there.0 there.1 there.2 ∙ is ∙ ap (λ code. code ++ more) (sym (code_at table entry here.0 here.1 here.2))) in
     sym here.2 ∙ ap (λ i. get_or table i entry) same ∙ get_or_default table there.0 entry other there.1 ∙ there.2
 
-entry_is_short : {M : Type 0} (table : List (CodeEntry M)) (i : ℕ) (entry : CodeEntry M) → short_codes table ≡ true → i < length table
+entry_is_short : {M : Type 0} (table : List (CodeEntry M)) (i : ℕ) (entry : CodeEntry M) → short_codes_test table ≡ true → i < length table
     → get_or table i entry ≡ entry → (0 < entry.len) × (entry.len ≤ 13) × (entry.code < 2 ^ entry.len)
 entry_is_short [] i entry short within is = absurd (omega arith)
 entry_is_short (first ∷ table) zero entry short within is =
-    let here = and_both ((nat_lt 0 first.len && nat_le first.len 13) && nat_lt first.code (2 ^ first.len)) (short_codes table) short in
+    let here = and_both ((nat_lt 0 first.len && nat_le first.len 13) && nat_lt first.code (2 ^ first.len)) (short_codes_test table) short in
     let lengths = and_both (nat_lt 0 first.len && nat_le first.len 13) (nat_lt first.code (2 ^ first.len)) here.0 in
     let ends = and_both (nat_lt 0 first.len) (nat_le first.len 13) lengths.0 in
     let P : CodeEntry _ → Type 0 = λ e. (0 < e.len) × (e.len ≤ 13) × (e.code < 2 ^ e.len) in
     subst P is (lt-from_test 0 first.len ends.0, le-from_test first.len 13 ends.1, lt-from_test first.code (2 ^ first.len) lengths.1)
 entry_is_short (first ∷ table) (suc i) entry short within is =
     entry_is_short table i entry
-    (and_both ((nat_lt 0 first.len && nat_le first.len 13) && nat_lt first.code (2 ^ first.len)) (short_codes table) short).1
+    (and_both ((nat_lt 0 first.len && nat_le first.len 13) && nat_lt first.code (2 ^ first.len)) (short_codes_test table) short).1
     (omega arith) is
 
 -- from the computed test to the rule: the codes are short
-pub has_short_codes : {M : Type 0} (table : List (CodeEntry M)) → short_codes table ≡ true → HasShortCodes table
+pub has_short_codes : {M : Type 0} (table : List (CodeEntry M)) → short_codes_test table ≡ true → HasShortCodes table
 has_short_codes table short entry here = entry_is_short table here.0 entry short here.1 here.2

@@ -1,5 +1,6 @@
 //! The codes of runs and modes, put into a sink (ITU-T T.4, sections 4.1.1 and 4.2.1.3.2).
-ghost use Rattle.std.specs.Prelude.{◌≡◌, ◌<◌, ◌^◌, OnOk, OnErr};
+ghost use Rattle.std.specs.Prelude.{◌≡◌, ◌*◌, ◌<◌, ◌≤◌, ◌^◌, OnOk, OnErr};
+ghost use Rattle.fax_bits.specs.declared.runs.RunCode.TheVariants.{Terminating, MakeUp};
 ghost use Rattle.fax_bits.specs.Codes.{bits_at};
 ghost use Rattle.fax_bits.specs.Runs.{run_code_bits, run_bits, mode_bits, IsWritten};
 ghost use Rattle.fax_bits.specs.Sink.{Appends, AppendsPrefix};
@@ -17,13 +18,46 @@ pub fn put_run(sink: &mut BitSink, colour: Colour, n: u32) -> Result<(), Memory>
     ensures err { OnErr result (AppendsPrefix sink.old (run_bits colour n) sink.new) }
 {
     for _ in 0..n / 2560 {
-        put_run_code(sink, colour, 103)?;
+        put_make_up(sink, colour, 40)?;
     }
     let steps = n % 2560 / 64;
     if steps > 0 {
-        put_run_code(sink, colour, 63 + steps as usize)?;
+        put_make_up(sink, colour, steps)?;
     }
-    put_run_code(sink, colour, (n % 64) as usize)
+    put_terminating(sink, colour, n % 64)
+}
+
+/// Puts the make-up code of so many times 64 pels, 1 to 40 times (T.4, tables 3a and 3b). After an
+/// `Err` the sink is as it was.
+fn put_make_up(sink: &mut BitSink, colour: Colour, steps: u32) -> Result<(), Memory>
+    requires some { 0 < steps }
+    requires few { steps ≤ 40 }
+    ensures ok { OnOk result (Appends sink.old (run_code_bits colour (MakeUp (64 * steps))) sink.new) }
+    ensures err { OnErr result (sink.new ≡ sink.old) }
+{
+    put_run_code(sink, colour, 63 + steps as usize)
+}
+
+/// Puts the terminating code of `pels` pels, 0 to 63 (T.4, table 2). After an `Err` the sink is as
+/// it was.
+fn put_terminating(sink: &mut BitSink, colour: Colour, pels: u32) -> Result<(), Memory>
+    requires { pels < 64 }
+    ensures ok { OnOk result (Appends sink.old (run_code_bits colour (Terminating pels)) sink.new) }
+    ensures err { OnErr result (sink.new ≡ sink.old) }
+{
+    put_run_code(sink, colour, pels as usize)
+}
+
+/// Puts the code at a place of the run table of a colour. After an `Err` the sink is as it was.
+fn put_run_code(sink: &mut BitSink, colour: Colour, place: usize) -> Result<(), Memory>
+    requires { place < 105 }
+    ensures ok { OnOk result (Appends sink.old (run_code_bits colour (run_meaning place)) sink.new) }
+    ensures err { OnErr result (sink.new ≡ sink.old) }
+{
+    match colour {
+        Colour::White => put_code::<WhiteRuns>(sink, place),
+        Colour::Black => put_code::<BlackRuns>(sink, place),
+    }
 }
 
 /// Puts a mode: pass, horizontal, or vertical with a1 at most 3 pels from b1 (T.4, section
@@ -51,20 +85,7 @@ fn mode_place(mode: ModeCode) -> usize
     }
 }
 
-/// Puts the code at a place of the run tables: the terminating code of a run of 0 to 63 pels is at
-/// that place, the make-up code of 64 pels at place 64, of 128 pels at 65, and so on.
-fn put_run_code(sink: &mut BitSink, colour: Colour, place: usize) -> Result<(), Memory>
-    requires { place < 105 }
-    ensures ok { OnOk result (Appends sink.old (run_code_bits colour (run_meaning place)) sink.new) }
-    ensures err { OnErr result (sink.new ≡ sink.old) }
-{
-    match colour {
-        Colour::White => put_code::<WhiteRuns>(sink, place),
-        Colour::Black => put_code::<BlackRuns>(sink, place),
-    }
-}
-
-/// Puts the code at a place of the table.
+/// Puts the code at a place of the table. After an `Err` the sink is as it was.
 fn put_code<T: CodeTable>(sink: &mut BitSink, place: usize) -> Result<(), Memory>
     requires { place < T.COUNT }
     ensures ok { OnOk result (Appends sink.old (bits_at T.table place) sink.new) }

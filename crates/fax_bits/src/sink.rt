@@ -91,6 +91,7 @@ impl BitSink {
         requires whole { length self.bits % 8 ≡ 0 }
         ensures { bits self.order result.items ≡ self.bits }
     {
+        // No bits are pending.
         self.bytes
     }
 }

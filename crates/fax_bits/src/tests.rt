@@ -215,7 +215,7 @@ impl CodeTable for Trits {
     ghost use Rattle.std.specs.Prelude.{◌≡◌, map, true, refl};
     ghost use Rattle.fax_bits.specs.Bits.{code_bits};
     ghost use Rattle.fax_bits.specs.Codes.{bits_of};
-    ghost use Rattle.fax_bits.specs.TableTests.{prefix_free, has_short_codes, is_prefix_free};
+    ghost use Rattle.fax_bits.specs.TableTests.{prefix_free_test, has_short_codes, is_prefix_free};
     ghost use Rattle.fax_bits.specs.Trits.{trits};
 
     type Meaning = u8;
@@ -243,7 +243,7 @@ impl CodeTable for Trits {
 
     ghost short_codes = { has_short_codes trits refl };
 
-    ghost prefix_free = { let free : prefix_free (map bits_of trits) ≡ true = unfold code_bits in refl in is_prefix_free trits free };
+    ghost prefix_free = { let free : prefix_free_test (map bits_of trits) ≡ true = unfold code_bits in refl in is_prefix_free trits free };
 }
 
 #[test]
