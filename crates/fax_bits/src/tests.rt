@@ -6,6 +6,8 @@ use std::alloc::{AllocError, Global};
 use std::process::Abort;
 use std::test::Fail;
 
+mod caller;
+
 // The codes of T.4, tables 2, 3a and 3b, as the standard prints them, in the order of their runs.
 
 const WHITE_TERMINATING: &str = "00110101 000111 0111 1000 1011 1100 1110 1111 \
