@@ -170,6 +170,7 @@ fn put_step(reference: &Row, row: &Row, ahead: Ahead, sink: &mut BitSink) -> Res
     match mode {
         ModeCode::Pass => Ok(b2),
         ModeCode::Horizontal => put_run_pair(row, ahead, colour, sink),
+        // An extension is never chosen.
         ModeCode::Vertical(_) | ModeCode::Extension => Ok(ahead.a1),
     }
 }
