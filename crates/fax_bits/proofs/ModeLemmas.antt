@@ -1,6 +1,6 @@
 -- The codes of modes by their places in the mode table.
 use Rattle.std.proofs.Common.{◌≡◌, List, ◌++◌, Bool, lit<, ℕ, zero, suc, ◌+◌, ◌^◌, ◌<◌, ℤ, pos, negsuc, unsigned_abs, int_le, to_z, of_z, w8, true, false, refl, ap, sym, ◌∙◌, subst, arith}
-use Rattle.std.specs.Prelude.{Some, slice_get, codes}
+use Rattle.std.specs.Prelude.{Some, slice_get}
 use Rattle.std.proofs.lemmas.Int.{ints, to_z-of_z, fits_signed_from_abs}
 use Rattle.std.proofs.lemmas.Bool.Decides.{nat_tests}
 use Rattle.fax_bits.specs.declared.codes.CodeEntry.{CodeEntry}
@@ -10,7 +10,7 @@ use Rattle.fax_bits.specs.Bits.{code_bits}
 use Rattle.fax_bits.specs.Codes.{bits_at, Takes}
 use Rattle.fax_bits.specs.Runs.{mode_bits, IsWritten}
 use Rattle.fax_bits.specs.Laws.{ModeBitsAreRead}
-use Rattle.fax_bits.specs.Tables.{modes, entry}
+use Rattle.fax_bits.specs.Tables.{modes}
 use Rattle.fax_bits.proofs.RunCodeLemmas.{bits_at-found}
 use Rattle.fax_bits.proofs.TableLemmas.{listed}
 
@@ -90,8 +90,8 @@ takes_mode place listed_entry mode more found means same = record {
 
 pub mode_bits_are_read : ModeBitsAreRead
 unfolding modes
-mode_bits_are_read Pass more written = takes_mode 0 (entry (codes "0001") Pass) Pass more refl refl bits_at-pass
-mode_bits_are_read Horizontal more written = takes_mode 1 (entry (codes "001") Horizontal) Horizontal more refl refl bits_at-horizontal
+mode_bits_are_read Pass more written = takes_mode 0 _ Pass more refl refl bits_at-pass
+mode_bits_are_read Horizontal more written = takes_mode 1 _ Horizontal more refl refl bits_at-horizontal
 mode_bits_are_read (Vertical (pos zero)) more written = takes_mode 2 _ (Vertical (pos 0)) more refl refl (bits_at-right 0 (lit< tt))
 mode_bits_are_read (Vertical (pos (suc zero))) more written = takes_mode 3 _ (Vertical (pos 1)) more refl refl (bits_at-right 1 (lit< tt))
 mode_bits_are_read (Vertical (pos (suc (suc zero)))) more written = takes_mode 4 _ (Vertical (pos 2)) more refl refl (bits_at-right 2 (lit< tt))

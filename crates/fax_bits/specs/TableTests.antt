@@ -6,7 +6,7 @@ use Rattle.std.proofs.lemmas.List.{get_or-map, get_or_default, length-map}
 use Rattle.fax_bits.specs.declared.codes.CodeEntry.{CodeEntry}
 use Rattle.fax_bits.specs.Codes.{bits_of, HasShortCodes, IsPrefixFree}
 
--- the first list begins the second
+-- the first list begins the second (this project's profile)
 abbrev pub starts : List Bool → List Bool → Bool
 starts [] ys = true
 starts (x ∷ xs) [] = false
@@ -14,17 +14,17 @@ starts (true ∷ xs) (true ∷ ys) = starts xs ys
 starts (false ∷ xs) (false ∷ ys) = starts xs ys
 starts (_ ∷ xs) (_ ∷ ys) = false
 
--- the code begins none of the others, and none of them begins it
+-- the code begins none of the others, and none of them begins it (this project's profile)
 abbrev pub none_starts : List Bool → List (List Bool) → Bool
 none_starts code [] = true
 none_starts code (other ∷ others) = (not (starts code other) && not (starts other code)) && none_starts code others
 
--- no code begins another
+-- no code begins another (this project's profile)
 abbrev pub prefix_free_test : List (List Bool) → Bool
 prefix_free_test [] = true
 prefix_free_test (code ∷ codes) = none_starts code codes && prefix_free_test codes
 
--- each code has 1 to 13 bits, and its number no more than these
+-- each code has 1 to 13 bits, and its number no more than these (this project's profile)
 abbrev pub short_codes_test : {M : Type 0} → List (CodeEntry M) → Bool
 short_codes_test [] = true
 short_codes_test (entry ∷ table) = ((nat_lt 0 entry.len && nat_le entry.len 13) && nat_lt entry.code (2 ^ entry.len)) && short_codes_test table

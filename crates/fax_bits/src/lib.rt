@@ -1,4 +1,4 @@
-//! Bits of coded strips, and the code tables of ITU-T T.4.
+//! Bits of coded strips, read and written, and the code tables of ITU-T T.4.
 #![tactic(auto)]
 
 mod codes;

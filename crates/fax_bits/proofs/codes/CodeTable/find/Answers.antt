@@ -32,5 +32,5 @@ loop-i-preserved g c =
 
 pub returns : goal.returns
 returns g c =
-    let all : length g.Self.CodeTable.table ≤ c.loop-i.i = omega (arith, g.met.Self.CodeTable.counted, c.COUNT-i-end.ensures) in
+    let all : length g.Self.CodeTable.table ≤ c.loop-i.i = omega (arith, g.met.Self.CodeTable.counted) in
     each-from_below _ _ c.loop-i.i all c.loop-i.invariant
