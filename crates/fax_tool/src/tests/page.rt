@@ -1,6 +1,6 @@
 //! A page of real size, written by `put_2d` and read through `run`.
 
-ghost use Rattle.std.specs.Prelude.{◌<◌, ◌^◌};
+ghost use Rattle.std.specs.Prelude.{◌<◌, ◌^◌, length};
 
 use super::{
     BYTE_COUNTS, COMPRESSION, ONE_MH_PAGE, ROWS, ROWS_PER_STRIP, STRIP_OFFSETS, WIDTH, rows_of,
@@ -64,7 +64,9 @@ fn put_line(alloc: Global, text: &mut String, number: u32, row: &Row) -> Result<
 }
 
 /// The file of one page in this strip.
-fn file_of(alloc: Global, strip: &[u8]) -> Result<Vec<u8>, Fail> {
+fn file_of(alloc: Global, strip: &[u8]) -> Result<Vec<u8>, Fail>
+    requires { length strip.now < 2 ^ 32 }
+{
     let mut file = ONE_MH_PAGE.to_vec(alloc)?;
     let fields = [
         (WIDTH, PAGE_WIDTH),
