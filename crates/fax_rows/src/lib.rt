@@ -1,5 +1,5 @@
-//! Rows of fax pages, read in one-dimensional and two-dimensional coding (ITU-T T.4
-//! and T.6).
+//! Rows of fax pages, read and written in one-dimensional and two-dimensional coding (ITU-T T.4 and
+//! T.6).
 #![tactic(auto)]
 
 pub mod laws;
