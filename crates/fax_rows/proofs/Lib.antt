@@ -15,3 +15,4 @@ pub mod StepLaws
 pub mod AheadLemmas
 pub mod PutLemmas
 pub mod PlacedLemmas
+pub mod StepFaultLaws

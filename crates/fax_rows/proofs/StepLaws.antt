@@ -31,7 +31,7 @@ module _ (runs_read : (colour : Colour) → ReadsOneWay (run_table colour)) (mod
       (cc (run.0, behind.0, first.new_is, second.new_is), behind.1)
   same_by Extension reference old b c new another rest remaining at first second = absurd first
 
-  same_step : (reference : List Colour) (old : Position) (b c : List Bool) (new another : Position) (rest remaining : List Bool)
+  pub same_step : (reference : List Colour) (old : Position) (b c : List Bool) (new another : Position) (rest remaining : List Bool)
       → b ≡ c → IsStep reference old b new rest → IsStep reference old c another remaining → (new ≡ another) × (rest ≡ remaining)
   same_step reference old b c new another rest remaining at first second =
       let took = modes_read.takes_one b first.mode second.mode first.behind second.behind first.taken

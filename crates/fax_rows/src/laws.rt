@@ -1,6 +1,7 @@
 //! Laws of rows. The functions compute nothing: each has a law as its contract.
-ghost use Rattle.std.specs.Prelude.{ℕ};
-ghost use Rattle.fax_rows.specs.Laws.{ReadsRowsOneWay, OneDimensionalBitsAreRead, OneDimensionalBitsAreOneRow, TwoDimensionalBitsAreRead, TwoDimensionalBitsAreOneRow};
+ghost use Rattle.std.specs.Prelude.{ℕ, List};
+ghost use Rattle.fax_bits.specs.declared.Colour.{Colour};
+ghost use Rattle.fax_rows.specs.Laws.{ReadsRowsOneWay, ReadsRowsOverOneWay, OneDimensionalBitsAreRead, OneDimensionalBitsAreOneRow, TwoDimensionalBitsAreRead, TwoDimensionalBitsAreOneRow};
 ghost use Rattle.fax_rows.specs.Packed.{PackingUndoesUnpacking};
 
 /// Bits are read in one way as a row of a width in one-dimensional coding: they begin with one row
@@ -9,6 +10,16 @@ pub fn rows_are_read_in_one_way()
     ensures { (width : ℕ) → ReadsRowsOneWay width }
 {
     fax_bits::laws::run_codes_are_read_in_one_way();
+}
+
+/// Bits are read in one way as a row in two-dimensional coding over a reference row: they begin
+/// with one row and one rest follows it, or they have one fault, never both (T.4, section
+/// 4.2.1.3.3; T.6, section 2.2.3).
+pub fn rows_over_a_reference_are_read_in_one_way()
+    ensures { (reference : List Colour) → ReadsRowsOverOneWay reference }
+{
+    fax_bits::laws::run_codes_are_read_in_one_way();
+    fax_bits::laws::modes_are_read_in_one_way();
 }
 
 /// What `put_1d` appends is read as the row that was put, whatever bits follow it (T.4, section
@@ -42,8 +53,7 @@ pub fn two_dimensional_rows_are_read_as_nothing_else()
     ensures { TwoDimensionalBitsAreOneRow }
 {
     two_dimensional_rows_are_read_back();
-    fax_bits::laws::run_codes_are_read_in_one_way();
-    fax_bits::laws::modes_are_read_in_one_way();
+    rows_over_a_reference_are_read_in_one_way();
 }
 
 /// A packed row is read back, and bytes whose row is packed again are as they were but for the
