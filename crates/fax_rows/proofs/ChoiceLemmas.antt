@@ -43,7 +43,7 @@ right_passes : (from : Option ℕ) (place : ℕ) → is_right_of from place ≡ 
 right_passes None place right = omega arith
 right_passes (Some a) place right = ltb-true a place right
 
-passed_within : (from : Option ℕ) (width : ℕ) → first_of from < width → passed from ≤ width
+pub passed_within : (from : Option ℕ) (width : ℕ) → first_of from < width → passed from ≤ width
 passed_within None width h = omega arith
 passed_within (Some a) width h = omega arith
 

@@ -6,7 +6,7 @@ use Rattle.fax_bits.specs.Sink.{Sink, Appends, AppendsPrefix}
 use Rattle.fax_rows.specs.Ahead.{bits_from, place_from}
 use Rattle.fax_rows.specs.Coded.{step_bits, two_dimensional_bits}
 use Rattle.fax_rows.proofs.ChangeLemmas.{first_of}
-use Rattle.fax_rows.proofs.ChoiceLemmas.{passed, place_ahead}
+use Rattle.fax_rows.proofs.ChoiceLemmas.{passed, passed_within, place_ahead}
 use Rattle.fax_rows.proofs.PutLemmas.{IsPutUpTo, put_begins, put_goes_on, put_all, put_stops}
 use Rattle.fax_rows.proofs.WrittenLemmas.{step_bits-end, step_bits-more}
 
@@ -36,14 +36,10 @@ record IsStepLeft (reference row : List Colour) (old : Sink) (a0 : Option ℕ) (
   enough : length row ≤ passed a0 + limit
   so_far : IsPutUpTo old (two_dimensional_bits reference row) (step_bits (suc limit) reference row a0) new
 
-passed_inside : (a0 : Option ℕ) (width : ℕ) → first_of a0 < width → passed a0 ≤ width
-passed_inside None width h = omega arith
-passed_inside (Some a) width h = omega arith
-
 step_left : (reference row : List Colour) (old : Sink) (a0 : Option ℕ) (new : Sink) (limit : ℕ) → first_of a0 < length row
     → length row + 1 ≤ passed a0 + limit → IsPutUpTo old (two_dimensional_bits reference row) (step_bits limit reference row a0) new
     → IsStepLeft reference row old a0 new
-step_left reference row old a0 new zero inside enough so_far = absurd (omega (arith, passed_inside a0 (length row) inside))
+step_left reference row old a0 new zero inside enough so_far = absurd (omega (arith, passed_within a0 (length row) inside))
 step_left reference row old a0 new (suc limit) inside enough so_far = record { limit = limit; enough = omega arith; so_far = so_far }
 
 module _ (reference row : List Colour) (same_width : length reference ≡ length row) (old mid new : Sink) (a0 : Option ℕ)

@@ -1,12 +1,11 @@
 -- A row in one-dimensional coding, run by run.
-use Rattle.std.proofs.Common.{◌≡◌, ℕ, zero, suc, ◌+◌, ◌-◌, ◌<◌, ◌≤◌, List, [], ◌∷◌, ◌++◌, length, take, get_or, replicate, Bool, refl, ap, sym, ◌∙◌, subst, arith, length-append, inl, inr}
+use Rattle.std.proofs.Common.{◌≡◌, ℕ, zero, suc, ◌+◌, ◌-◌, ◌<◌, ◌≤◌, List, [], ◌∷◌, ◌++◌, length, take, get_or, replicate, Bool, refl, ap, sym, ◌∙◌, subst, arith, append_assoc, length-append, inl, inr}
 use Rattle.std.specs.Prelude.{sum, ◌⊎◌}
 use Rattle.std.proofs.lemmas.Bool.{cases_lt}
 use Rattle.std.proofs.Math.Nat.{eq-or-lt_of_le}
-use Rattle.std.proofs.lemmas.Grind.{common_steps}
 use Rattle.std.proofs.Math.ListN.{get_or-append}
 use Rattle.std.proofs.Math.Seq.{get_or-append_right, take-length}
-use Rattle.std.proofs.lemmas.List.{get_or-replicate, length-replicate, take-append-le}
+use Rattle.std.proofs.lemmas.List.{append-nil, get_or-replicate, take-append-le}
 use Rattle.fax_bits.specs.declared.Colour.{Colour}
 use Rattle.fax_bits.specs.declared.Colour.TheVariants.{White}
 use Rattle.fax_bits.specs.Runs.{IsRun}
@@ -14,6 +13,7 @@ use Rattle.fax_rows.specs.declared.RowFault.{RowFault}
 use Rattle.fax_rows.specs.Elements.{other, pels_of}
 use Rattle.fax_rows.specs.OneDimensional.{AreRuns, IsOneDimensionalRow}
 use Rattle.fax_rows.specs.Faults.{IsRunFault, IsOneDimensionalFault, colour_behind}
+use Rattle.fax_rows.proofs.RowLaws.{length-pels_of}
 use Rattle.fax_rows.proofs.RunLemmas.{sum-push}
 
 AreRuns-push : (c : Colour) (b : List Bool) (runs : List ℕ) (n : ℕ) (mid rest : List Bool)
@@ -26,27 +26,11 @@ colour_behind-push : (c : Colour) (runs : List ℕ) (n : ℕ) → colour_behind 
 colour_behind-push c [] n = refl
 colour_behind-push c (m ∷ runs) n = colour_behind-push (other c) runs n
 
-append_nil : (xs : List Colour) → xs ++ [] ≡ xs
-append_nil [] = refl
-append_nil (x ∷ xs) = ap (λ ys. x ∷ ys) (append_nil xs)
-
-append_three : (xs ys zs : List Colour) → (xs ++ ys) ++ zs ≡ xs ++ (ys ++ zs)
-append_three [] ys zs = refl
-append_three (x ∷ xs) ys zs = ap (λ ws. x ∷ ws) (append_three xs ys zs)
-
 pels_of-push : (c : Colour) (runs : List ℕ) (n : ℕ) → pels_of c (runs ++ n ∷ []) ≡ pels_of c runs ++ replicate n (colour_behind c runs)
-pels_of-push c [] n = append_nil (replicate n c)
+pels_of-push c [] n = append-nil (replicate n c)
 pels_of-push c (m ∷ runs) n =
     ap (λ ys. replicate m c ++ ys) (pels_of-push (other c) runs n)
-    ∙ sym (append_three (replicate m c) (pels_of (other c) runs) (replicate n (colour_behind (other c) runs)))
-
-sum-cons : (n : ℕ) (runs : List ℕ) → sum (n ∷ runs) ≡ n + sum runs
-sum-cons n runs = grind (arith, common_steps)
-
-length-pels_of : (c : Colour) (runs : List ℕ) → length (pels_of c runs) ≡ sum runs
-length-pels_of c [] = refl
-length-pels_of c (n ∷ runs) =
-    omega (arith, length-append (replicate n c) (pels_of (other c) runs), length-replicate n c, length-pels_of (other c) runs, sum-cons n runs)
+    ∙ sym (append_assoc (replicate m c) (pels_of (other c) runs) (replicate n (colour_behind (other c) runs)))
 
 same_pels : (xs ys : List Colour) → length xs ≡ length ys → ((k : ℕ) → k < length xs → get_or xs k White ≡ get_or ys k White) → xs ≡ ys
 same_pels [] [] len each = refl
