@@ -5,7 +5,7 @@ use Rattle.std.proofs.lemmas.List.Concat.{flat_map-append}
 use Rattle.std.proofs.lemmas.Nat.{pow-add, pow_pos, or_shifted, shl_whole, one_shl, and_mask, mul-add-lt, shr_below, shr_split, mod_below, shl_below}
 use Rattle.fax_bits.specs.declared.FillOrder.{FillOrder}
 use Rattle.fax_bits.specs.Bits.{bits, byte_bits, code_bits}
-use Rattle.fax_bits.specs.Sink.{Sink, sink_of, IsPadded}
+use Rattle.fax_bits.specs.code.Sink.{Sink, sink_of, IsPadded}
 use Rattle.fax_bits.proofs.CodeBitsLemmas.{code_bits-add, code_bits-zeros}
 use Rattle.fax_bits.proofs.MeetingLemmas.{length-code_bits}
 use Rattle.fax_bits.proofs.SourceLemmas.{length-bits}

@@ -9,7 +9,7 @@ use Rattle.std.specs.Int.{bit_at}
 use Rattle.fax_bits.specs.declared.FillOrder.{FillOrder}
 use Rattle.fax_bits.specs.declared.FillOrder.TheVariants.{MsbFirst, LsbFirst}
 use Rattle.fax_bits.specs.Bits.{code_bits, byte_bits, bits, IsZeroByteAt}
-use Rattle.fax_bits.specs.Source.{Source, source_of, bit_in_byte}
+use Rattle.fax_bits.specs.code.Source.{Source, source_of, bit_in_byte}
 
 -- a byte has eight bits
 pub length-byte_bits : (order : FillOrder) (byte : ℕ) → length (byte_bits order byte) ≡ 8

@@ -5,7 +5,7 @@ use Rattle.fax_bits.specs.declared.Colour.TheVariants.{White, Black}
 use Rattle.fax_bits.specs.Bits.{code_bits}
 use Rattle.fax_bits.specs.Codes.{bits_of, HasShortCodes, IsPrefixFree}
 use Rattle.fax_bits.specs.Tables.{run_table, modes, white_runs, white_terminating, white_make_up, black_runs, black_terminating, black_make_up, common_make_up, run_extension}
-use Rattle.fax_bits.specs.TableTests.{prefix_free_test, short_codes_test, is_prefix_free, has_short_codes}
+use Rattle.fax_bits.specs.code.TableTests.{prefix_free_test, short_codes_test, is_prefix_free, has_short_codes}
 
 prefix_free_test-run_table : (colour : Colour) → prefix_free_test (map bits_of (run_table colour)) ≡ true
 unfolding code_bits white_runs black_runs run_extension white_terminating black_terminating white_make_up black_make_up common_make_up

@@ -1,11 +1,6 @@
 pub mod Bits
-pub mod Source
-pub mod Sink
 pub mod Codes
-pub mod Meeting
 pub mod Tables
-pub mod TableSizes
-pub mod Trits
-pub mod TableTests
 pub mod Runs
 pub mod Laws
+pub mod code

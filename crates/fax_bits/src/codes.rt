@@ -2,7 +2,7 @@
 ghost use Rattle.std.specs.Prelude.{◌≡◌, ℕ, ◌+◌, ◌^◌, ◌<◌, ◌≤◌, List, length, slice_get, OnOk, OnErr, IfOk, IfErr, MatchOption, Some};
 ghost use Rattle.fax_bits.specs.Bits.{code_bits};
 ghost use Rattle.fax_bits.specs.Codes.{Takes, IsFaultOf};
-ghost use Rattle.fax_bits.specs.Meeting.{IsMeeting};
+ghost use Rattle.fax_bits.specs.code.Meeting.{IsMeeting};
 
 use crate::BitSource;
 use thiserror::Error;

@@ -78,8 +78,8 @@ impl CodeTable for Modes {
     ghost use Rattle.fax_bits.specs.Bits.{code_bits};
     ghost use Rattle.fax_bits.specs.Codes.{bits_of};
     ghost use Rattle.fax_bits.specs.Tables.{modes};
-    ghost use Rattle.fax_bits.specs.TableSizes.{length-modes};
-    ghost use Rattle.fax_bits.specs.TableTests.{short_codes_test, prefix_free_test, has_short_codes, is_prefix_free};
+    ghost use Rattle.fax_bits.specs.code.TableSizes.{length-modes};
+    ghost use Rattle.fax_bits.specs.code.TableTests.{short_codes_test, prefix_free_test, has_short_codes, is_prefix_free};
 
     type Meaning = ModeCode;
 

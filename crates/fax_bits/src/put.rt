@@ -3,7 +3,7 @@ ghost use Rattle.std.specs.Prelude.{◌≡◌, ◌*◌, ◌<◌, ◌≤◌, ◌^
 ghost use Rattle.fax_bits.specs.declared.runs.RunCode.TheVariants.{Terminating, MakeUp};
 ghost use Rattle.fax_bits.specs.Codes.{bits_at};
 ghost use Rattle.fax_bits.specs.Runs.{run_code_bits, run_bits, mode_bits, IsWritten};
-ghost use Rattle.fax_bits.specs.Sink.{Appends, AppendsPrefix};
+ghost use Rattle.fax_bits.specs.code.Sink.{Appends, AppendsPrefix};
 ghost use Rattle.fax_bits.specs.Tables.{run_meaning, modes};
 
 use crate::codes::CodeTable;

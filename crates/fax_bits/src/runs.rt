@@ -260,8 +260,8 @@ impl CodeTable for WhiteRuns {
     ghost use Rattle.fax_bits.specs.Bits.{code_bits};
     ghost use Rattle.fax_bits.specs.Codes.{bits_of};
     ghost use Rattle.fax_bits.specs.Tables.{white_runs, white_terminating, white_make_up, common_make_up, run_extension};
-    ghost use Rattle.fax_bits.specs.TableSizes.{length-white_runs};
-    ghost use Rattle.fax_bits.specs.TableTests.{short_codes_test, prefix_free_test, has_short_codes, is_prefix_free};
+    ghost use Rattle.fax_bits.specs.code.TableSizes.{length-white_runs};
+    ghost use Rattle.fax_bits.specs.code.TableTests.{short_codes_test, prefix_free_test, has_short_codes, is_prefix_free};
 
     type Meaning = RunCode;
 
@@ -294,8 +294,8 @@ impl CodeTable for BlackRuns {
     ghost use Rattle.fax_bits.specs.Bits.{code_bits};
     ghost use Rattle.fax_bits.specs.Codes.{bits_of};
     ghost use Rattle.fax_bits.specs.Tables.{black_runs, black_terminating, black_make_up, common_make_up, run_extension};
-    ghost use Rattle.fax_bits.specs.TableSizes.{length-black_runs};
-    ghost use Rattle.fax_bits.specs.TableTests.{short_codes_test, prefix_free_test, has_short_codes, is_prefix_free};
+    ghost use Rattle.fax_bits.specs.code.TableSizes.{length-black_runs};
+    ghost use Rattle.fax_bits.specs.code.TableTests.{short_codes_test, prefix_free_test, has_short_codes, is_prefix_free};
 
     type Meaning = RunCode;
 

@@ -1,7 +1,7 @@
 //! Bits that are put one behind another into bytes.
 ghost use Rattle.std.specs.Prelude.{◌≡◌, ◌<◌, ◌≤◌, ◌%◌, ◌^◌, [], length, OnOk, OnErr};
 ghost use Rattle.fax_bits.specs.Bits.{bits, byte_bits, code_bits};
-ghost use Rattle.fax_bits.specs.Sink.{Appends, IsPadded};
+ghost use Rattle.fax_bits.specs.code.Sink.{Appends, IsPadded};
 
 use crate::{FillOrder, Memory};
 use std::alloc::Global;
@@ -22,7 +22,7 @@ pub struct BitSink {
 
 impl Model for BitSink {
     ghost use Rattle.std.specs.Prelude.{vec_len, vec_capacity};
-    ghost use Rattle.fax_bits.specs.Sink.{Sink, sink_of, IsPending};
+    ghost use Rattle.fax_bits.specs.code.Sink.{Sink, sink_of, IsPending};
 
     ghost Value = { Sink };
 

@@ -1,7 +1,7 @@
 //! Bits of bytes, read from a place on.
 ghost use Rattle.std.specs.Prelude.{◌≡◌, ◌+◌, ◌≤◌, ◌<◌, length, take, drop, replicate, slice_index_or, false, ◌++◌, MatchOption, IsTrue};
 ghost use Rattle.fax_bits.specs.Bits.{bits, bits_number, IsAllZeros, HasZerosAhead, IsZeroByteAt};
-ghost use Rattle.fax_bits.specs.Source.{bit_in_byte};
+ghost use Rattle.fax_bits.specs.code.Source.{bit_in_byte};
 
 use crate::FillOrder;
 use std::marker::Model;
@@ -16,7 +16,7 @@ pub struct BitSource<'a> {
 }
 
 impl<'a> Model for BitSource<'a> {
-    ghost use Rattle.fax_bits.specs.Source.{Source, source_of, IsPlaced};
+    ghost use Rattle.fax_bits.specs.code.Source.{Source, source_of, IsPlaced};
 
     ghost Value = { Source };
 
@@ -26,7 +26,7 @@ impl<'a> Model for BitSource<'a> {
 }
 
 impl<'a> BitSource<'a> {
-    ghost use Rattle.fax_bits.specs.Source.{source_of};
+    ghost use Rattle.fax_bits.specs.code.Source.{source_of};
 
     /// The first bit of at most 4,294,967,295 bytes; `order` says which bit of a byte comes first
     /// (TIFF 6.0, FillOrder).

@@ -217,8 +217,8 @@ impl CodeTable for Trits {
     ghost use Rattle.std.specs.Prelude.{◌≡◌, map, true, refl};
     ghost use Rattle.fax_bits.specs.Bits.{code_bits};
     ghost use Rattle.fax_bits.specs.Codes.{bits_of};
-    ghost use Rattle.fax_bits.specs.TableTests.{prefix_free_test, has_short_codes, is_prefix_free};
-    ghost use Rattle.fax_bits.specs.Trits.{trits};
+    ghost use Rattle.fax_bits.specs.code.TableTests.{prefix_free_test, has_short_codes, is_prefix_free};
+    ghost use Rattle.fax_bits.specs.code.Trits.{trits};
 
     type Meaning = u8;
 

@@ -4,5 +4,5 @@ pub mod Chain
 pub mod Page
 pub mod StripBytes
 pub mod PageRows
-pub mod Tiff
 pub mod FaultNames
+pub mod code

@@ -6,7 +6,7 @@ ghost use Rattle.fax_files.specs.Numbers.{header};
 ghost use Rattle.fax_files.specs.Directory.{is_directory, next_offset as offset_of_next};
 ghost use Rattle.fax_files.specs.Page.{IsPageForm, page as page_of};
 ghost use Rattle.fax_files.specs.StripBytes.{strip_bytes};
-ghost use Rattle.fax_files.specs.Tiff.{directory_of};
+ghost use Rattle.fax_files.specs.code.Tiff.{directory_of};
 
 use crate::entries::entry_count;
 use crate::numbers::{is_inside, u16_at, u32_at};
@@ -23,7 +23,7 @@ pub struct Tiff<'a> {
 
 impl<'a> Model for Tiff<'a> {
     ghost use Rattle.fax_files.specs.Numbers.{little_endian};
-    ghost use Rattle.fax_files.specs.Tiff.{TiffFile};
+    ghost use Rattle.fax_files.specs.code.Tiff.{TiffFile};
 
     ghost Value = { TiffFile };
 
@@ -130,7 +130,7 @@ pub struct Directory<'a> {
 impl<'a> Model for Directory<'a> {
     ghost use Rattle.fax_files.specs.Numbers.{little_endian};
     ghost use Rattle.fax_files.specs.Directory.{IsWholeDirectory};
-    ghost use Rattle.fax_files.specs.Tiff.{TiffDirectory};
+    ghost use Rattle.fax_files.specs.code.Tiff.{TiffDirectory};
 
     ghost Value = { TiffDirectory };
 

@@ -1,3 +1,3 @@
 pub mod Lines
 pub mod Strip
-pub mod Reader
+pub mod code

@@ -22,7 +22,7 @@ pub struct StripReader<'a> {
 }
 
 impl<'a> Model for StripReader<'a> {
-    ghost use Rattle.fax_page.specs.Reader.{StripState, IsReading};
+    ghost use Rattle.fax_page.specs.code.Reader.{StripState, IsReading};
 
     ghost Value = { StripState };
 
@@ -33,7 +33,7 @@ impl<'a> Model for StripReader<'a> {
 
 impl<'a> StripReader<'a> {
     ghost use Rattle.fax_page.specs.Strip.{IsStripForm};
-    ghost use Rattle.fax_page.specs.Reader.{strip_beginning, IsAdvance};
+    ghost use Rattle.fax_page.specs.code.Reader.{strip_beginning, IsAdvance};
 
     /// Before the first row of an MH or MMR strip in at most 4,294,967,295 bytes. It takes all the memory that
     /// the reading needs.

@@ -3,7 +3,7 @@ use Rattle.std.proofs.Common.{◌≡◌, ℕ, ◌<◌, List, true, ap, ◌∙◌
 use Rattle.std.specs.Prelude.{Option, Some}
 use Rattle.fax_bits.specs.declared.Colour.{Colour}
 use Rattle.fax_bits.specs.declared.Colour.TheVariants.{White, Black}
-use Rattle.fax_rows.specs.Ahead.{AreB1B2, IsAhead, known}
+use Rattle.fax_rows.specs.code.Ahead.{AreB1B2, IsAhead, known}
 use Rattle.fax_rows.specs.declared.put.Ahead.{Ahead}
 use Rattle.fax_rows.specs.Elements.{is_right_of, next_change}
 use Rattle.fax_rows.proofs.ChangeLemmas.{later_change, later_of}

@@ -5,7 +5,7 @@ use Rattle.std.proofs.lemmas.List.{append-nil, drop_all}
 use Rattle.fax_bits.specs.declared.Colour.{Colour}
 use Rattle.fax_bits.specs.declared.Colour.TheVariants.{White, Black}
 use Rattle.fax_bits.specs.Runs.{run_bits}
-use Rattle.fax_bits.specs.Sink.{Sink, Appends, AppendsPrefix}
+use Rattle.fax_bits.specs.code.Sink.{Sink, Appends, AppendsPrefix}
 use Rattle.fax_rows.specs.Coded.{alternating_bits}
 use Rattle.fax_rows.specs.Elements.{other, runs_behind}
 use Rattle.fax_rows.proofs.RowRunLemmas.{goes_on, turns, runs_behind-nil}

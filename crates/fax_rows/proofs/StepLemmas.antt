@@ -8,7 +8,7 @@ use Rattle.fax_rows.specs.declared.RowFault.{RowFault}
 use Rattle.fax_rows.specs.declared.two_dimensional.Reached.{Reached}
 use Rattle.fax_rows.specs.Elements.{other}
 use Rattle.fax_rows.specs.TwoDimensional.{Position, beginning, a0_number, coloured_up_to, b1_from, IsInRow, IsVerticalStep, IsStep, IsUnfinished, AreSteps}
-use Rattle.fax_rows.specs.Reached.{position_of, reached_pel}
+use Rattle.fax_rows.specs.code.Reached.{position_of, reached_pel}
 use Rattle.fax_rows.specs.Faults.{IsHorizontalFault}
 
 -- a0 just before the first pel

@@ -1,8 +1,8 @@
 //! Rows as they are written, in T.4's own choice of codes (ITU-T T.4, sections 4.1.1 and
 //! 4.2.1.3.3; T.6, section 2.2.3).
 ghost use Rattle.std.specs.Prelude.{◌≡◌, ◌+◌, ◌-◌, ◌≤◌, ◌<◌, ◌^◌, length, true, unwrap_or, Some, None, OnOk, OnErr, IfOk};
-ghost use Rattle.fax_bits.specs.Sink.{Appends, AppendsPrefix};
-ghost use Rattle.fax_rows.specs.Ahead.{IsAhead, AreB1B2, known, bits_from, place_from, run_pair};
+ghost use Rattle.fax_bits.specs.code.Sink.{Appends, AppendsPrefix};
+ghost use Rattle.fax_rows.specs.code.Ahead.{IsAhead, AreB1B2, known, bits_from, place_from, run_pair};
 ghost use Rattle.fax_rows.specs.Coded.{chosen_mode, colour_of, one_dimensional_bits, two_dimensional_bits};
 ghost use Rattle.fax_rows.specs.Elements.{is_right_of, next_change};
 

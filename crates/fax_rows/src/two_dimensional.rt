@@ -2,7 +2,7 @@
 ghost use Rattle.std.specs.Prelude.{◌≡◌, ◌+◌, ◌≤◌, ◌<◌, negsuc, ◌≤ℤ◌, [], length, OnOk, IfOk, IfErr};
 ghost use Rattle.fax_rows.specs.Elements.{other as other_than};
 ghost use Rattle.fax_rows.specs.TwoDimensional.{a0_number as number_of_a0, coloured_up_to, b2_from, IsVerticalStep, IsInRow, IsHorizontalStep, IsStep, IsTwoDimensionalRow};
-ghost use Rattle.fax_rows.specs.Reached.{reached_pel, position_of};
+ghost use Rattle.fax_rows.specs.code.Reached.{reached_pel, position_of};
 ghost use Rattle.fax_rows.specs.Faults.{IsHorizontalFault, IsStepFault, IsTwoDimensionalFault};
 
 use crate::RowFault;

@@ -7,10 +7,10 @@ use Rattle.fax_walk.specs.declared.cursor.Cursor.{Cursor}
 use Rattle.fax_walk.specs.declared.walk.End.{End}
 use Rattle.fax_walk.specs.Cursor.{start}
 use Rattle.fax_walk.specs.Items.{Item, AreItems}
-use Rattle.fax_walk.specs.Due.{WalkState, IsDue, walk_start}
-use Rattle.fax_walk.specs.Next.{HandsOut, HasEnded}
+use Rattle.fax_walk.specs.code.Due.{WalkState, IsDue, walk_start}
+use Rattle.fax_walk.specs.code.Next.{HandsOut, HasEnded}
 use Rattle.fax_tool.specs.Text.{row_line, row_lines, last_cursor, last_line}
-use Rattle.fax_tool.specs.Printing.{PrintsAllRows}
+use Rattle.fax_tool.specs.code.Printing.{PrintsAllRows}
 
 -- some of the rows are printed, in part collected only
 pub record PrintsSome (old now : WalkState) (output new_output : Option (List ℕ)) : Type 0 where

@@ -4,7 +4,7 @@ ghost use Rattle.std.specs.Io.KnownBytes.{Appends, append_known};
 ghost use Rattle.std.specs.String.{string_bytes, string_len};
 ghost use Rattle.fax_walk.specs.Cursor.{start};
 ghost use Rattle.fax_walk.specs.Items.{AreItems, Item};
-ghost use Rattle.fax_tool.specs.Printing.{IsRowPut, PrintsAllRows};
+ghost use Rattle.fax_tool.specs.code.Printing.{IsRowPut, PrintsAllRows};
 ghost use Rattle.fax_tool.specs.Run.{HasReason};
 ghost use Rattle.fax_tool.specs.Streams.{no_faults};
 ghost use Rattle.fax_tool.specs.Text.{last_cursor, last_line, row_lines};

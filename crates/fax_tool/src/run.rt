@@ -1,6 +1,6 @@
 //! A run of the program over its streams.
 ghost use Rattle.std.specs.Prelude.{◌≡◌, ◌<◌, ◌⊎◌};
-ghost use Rattle.fax_tool.specs.Printing.{IsReport, IsSaid};
+ghost use Rattle.fax_tool.specs.code.Printing.{IsReport, IsSaid};
 ghost use Rattle.fax_tool.specs.Run.{IsStatus, PrintsRows, SaysRefusal};
 ghost use Rattle.fax_tool.specs.Streams.{no_faults};
 

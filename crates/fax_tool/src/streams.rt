@@ -2,7 +2,7 @@
 ghost use Rattle.std.specs.Prelude.{◌≡◌, ℕ, ◌<◌, ◌≤◌, length, take, Option, List, IfOk, IfErr, OnOk, Result};
 ghost use Rattle.std.specs.Io.KnownBytes.{Appends, Consumes, IsAtEnd, Keeps};
 ghost use Rattle.fax_tool.specs.Streams.{Counts, counts_after, taken_after, no_faults, TakesBytes, GivesBytes};
-ghost use Rattle.fax_tool.specs.Adapters.{reader_of, writer_of};
+ghost use Rattle.fax_tool.specs.code.Adapters.{reader_of, writer_of};
 
 use std::io;
 use thiserror::Error;

@@ -6,7 +6,7 @@ use Rattle.fax_bits.specs.declared.Colour.{Colour}
 use Rattle.fax_page.specs.declared.StripForm.{StripForm}
 use Rattle.fax_page.specs.declared.StripFault.{StripFault}
 use Rattle.fax_page.specs.Strip.{IsStrip}
-use Rattle.fax_page.specs.Reader.{strip_beginning}
+use Rattle.fax_page.specs.code.Reader.{strip_beginning}
 use Rattle.fax_files.specs.declared.FileFault.{FileFault}
 use Rattle.fax_files.specs.declared.FileFault.TheVariants.{DirectoryOutside, StripOutside}
 use Rattle.fax_files.specs.declared.Cause.{Cause}
@@ -21,7 +21,7 @@ use Rattle.fax_files.specs.PageRows.{AreStrips, joined, shown, strip_form}
 use Rattle.fax_walk.specs.declared.walk.End.{End}
 use Rattle.fax_walk.specs.declared.walk.End.TheVariants.{Fault}
 use Rattle.fax_walk.specs.Items.{Item, numbered, ArePageItems, AreItems}
-use Rattle.fax_walk.specs.Due.{IsDueOnPage, end_behind}
+use Rattle.fax_walk.specs.code.Due.{IsDueOnPage, end_behind}
 
 -- the first directory does not lie whole in the file
 pub directory_refused : (file : List ℕ) (head : Header) → header file ≡ Ok head → is_directory head.endian file head.first ≡ false

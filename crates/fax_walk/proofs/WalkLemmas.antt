@@ -3,8 +3,8 @@ use Rattle.std.proofs.Common.{◌≡◌, List, [], Option, Some, None, true, fal
 use Rattle.std.specs.Option.{is_some}
 use Rattle.fax_walk.specs.declared.walk.End.{End}
 use Rattle.fax_walk.specs.Items.{Item, AreItems}
-use Rattle.fax_walk.specs.Due.{PageState, WalkState, IsDue, IsDueOnPage, IsOpen}
-use Rattle.fax_walk.specs.Next.{IsReady, Enters}
+use Rattle.fax_walk.specs.code.Due.{PageState, WalkState, IsDue, IsDueOnPage, IsOpen}
+use Rattle.fax_walk.specs.code.Next.{IsReady, Enters}
 
 some_of : {T : Type 0} (o : Option T) → is_some o ≡ true → (x : T) × (o ≡ Some x)
 some_of None h = absurd (cc)

@@ -1,4 +1,3 @@
 pub mod Cursor
 pub mod Items
-pub mod Due
-pub mod Next
+pub mod code

@@ -3,7 +3,7 @@ ghost use Rattle.std.specs.Prelude.{◌≡◌, ℕ, ◌+◌, ◌<◌, ◌≤◌,
 ghost use Rattle.std.specs.Borrow.{sem};
 ghost use Rattle.fax_files.specs.Chain.{chain_fault};
 ghost use Rattle.fax_walk.specs.Items.{Item, AreItems, chain_end};
-ghost use Rattle.fax_walk.specs.Due.{IsDueOnPage, IsFirstPage, IsOpen, IsRefusal, ReadsPageRow};
+ghost use Rattle.fax_walk.specs.code.Due.{IsDueOnPage, IsFirstPage, IsOpen, IsRefusal, ReadsPageRow};
 
 use crate::Cursor;
 use fax_bits::Memory;
@@ -55,7 +55,7 @@ struct OpenPage<'a> {
 }
 
 impl<'a> Model for OpenPage<'a> {
-    ghost use Rattle.fax_walk.specs.Due.{PageState};
+    ghost use Rattle.fax_walk.specs.code.Due.{PageState};
 
     ghost Value = { PageState };
 
@@ -160,7 +160,7 @@ pub struct Walk<'a> {
 }
 
 impl<'a> Model for Walk<'a> {
-    ghost use Rattle.fax_walk.specs.Due.{WalkState, IsSound};
+    ghost use Rattle.fax_walk.specs.code.Due.{WalkState, IsSound};
 
     ghost Value = { WalkState };
 
@@ -170,8 +170,8 @@ impl<'a> Model for Walk<'a> {
 }
 
 impl<'a> Walk<'a> {
-    ghost use Rattle.fax_walk.specs.Due.{walk_start};
-    ghost use Rattle.fax_walk.specs.Next.{EndsAs, IsEntered, IsNext, IsReady, IsStep};
+    ghost use Rattle.fax_walk.specs.code.Due.{walk_start};
+    ghost use Rattle.fax_walk.specs.code.Next.{EndsAs, IsEntered, IsNext, IsReady, IsStep};
 
     /// A walk over all rows of a file, from any bytes. Nothing is read yet.
     pub fn start(alloc: Global, file: &'a [u8]) -> Self

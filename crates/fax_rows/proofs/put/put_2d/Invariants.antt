@@ -1,5 +1,5 @@
 use Rattle.std.proofs.Common.{◌+◌, ◌-◌, length}
-use Rattle.fax_rows.specs.Ahead.{IsAhead}
+use Rattle.fax_rows.specs.code.Ahead.{IsAhead}
 use Rattle.fax_rows.proofs.ChoiceLemmas.{passed}
 use Rattle.fax_rows.proofs.PlacedLemmas.{IsPutToPlace}
 use Rattle.fax_rows.proofs.put.put_2d.Given as goal

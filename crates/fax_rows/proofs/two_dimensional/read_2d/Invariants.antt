@@ -1,5 +1,5 @@
 use Rattle.std.proofs.Common.{◌≡◌, ◌+◌, ◌≤◌, length}
-use Rattle.fax_rows.specs.Reached.{position_of, reached_pel}
+use Rattle.fax_rows.specs.code.Reached.{position_of, reached_pel}
 use Rattle.fax_rows.proofs.StepLemmas.{AreStepsSoFar}
 use Rattle.fax_rows.proofs.two_dimensional.read_2d.Given as goal
 

@@ -1,7 +1,7 @@
 use Rattle.std.proofs.Common.{inr}
 use Rattle.std.proofs.lemmas.Result.{IfErr-weaker}
 use Rattle.fax_bits.specs.declared.modes.ModeCode.TheVariants.{Horizontal}
-use Rattle.fax_rows.specs.Reached.{position_of}
+use Rattle.fax_rows.specs.code.Reached.{position_of}
 use Rattle.fax_rows.proofs.StepLemmas.{horizontal_fault}
 use Rattle.fax_rows.proofs.two_dimensional.step.Goals as goal
 

@@ -1,7 +1,7 @@
 use Rattle.std.proofs.Common.{arith, pos, ◌+ℤ◌, to_z, of_z, w64}
 use Rattle.std.proofs.lemmas.Int.{ints}
 use Rattle.fax_rows.specs.TwoDimensional.{b1_from}
-use Rattle.fax_rows.specs.Reached.{position_of}
+use Rattle.fax_rows.specs.code.Reached.{position_of}
 use Rattle.fax_rows.proofs.StepLemmas.{abs-same, vertical_step}
 use Rattle.fax_rows.proofs.two_dimensional.vertical.Goals as goal
 

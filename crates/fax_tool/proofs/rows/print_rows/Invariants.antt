@@ -1,7 +1,7 @@
 use Rattle.std.proofs.Common.{◌≡◌}
 use Rattle.std.specs.Io.KnownBytes.{append_known}
 use Rattle.std.specs.String.{string_bytes}
-use Rattle.fax_walk.specs.Due.{rows_left}
+use Rattle.fax_walk.specs.code.Due.{rows_left}
 use Rattle.fax_tool.specs.Streams.{no_faults}
 use Rattle.fax_tool.proofs.PrintLemmas.{PrintsSome}
 use Rattle.fax_tool.proofs.rows.print_rows.Given as goal

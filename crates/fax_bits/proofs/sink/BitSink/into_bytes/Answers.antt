@@ -1,6 +1,6 @@
 use Rattle.std.proofs.Common.{◌≡◌, sym, ◌∙◌, ap, arith}
 use Rattle.fax_bits.specs.Bits.{bits}
-use Rattle.fax_bits.specs.Sink.{Sink}
+use Rattle.fax_bits.specs.code.Sink.{Sink}
 use Rattle.fax_bits.proofs.SinkLemmas.{length-sink, none_pending}
 use Rattle.fax_bits.proofs.sink.BitSink.into_bytes.Goals as goal
 

@@ -1,6 +1,6 @@
 use Rattle.std.proofs.Common.{◌≡◌, ◌+◌, ◌<◌, ◌++◌, is_ok, true, arith, ap, sym, ◌∙◌, append_assoc}
 use Rattle.fax_bits.specs.Bits.{bits, code_bits}
-use Rattle.fax_bits.specs.Sink.{Sink}
+use Rattle.fax_bits.specs.code.Sink.{Sink}
 use Rattle.fax_bits.proofs.SinkLemmas.{on_ok-holds, joined-lt, joined_bits, first_byte-lt, masked-lt, split_bits, pushed_bits}
 use Rattle.fax_bits.proofs.sink.BitSink.put.Goals as goal
 

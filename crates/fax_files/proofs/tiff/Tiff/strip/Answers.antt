@@ -1,6 +1,6 @@
 use Rattle.std.proofs.Common.{◌≡◌, ap, sym, ◌∙◌, refl}
 use Rattle.fax_files.specs.Numbers.{little_endian}
-use Rattle.fax_files.specs.Tiff.{TiffFile, TiffDirectory}
+use Rattle.fax_files.specs.code.Tiff.{TiffFile, TiffDirectory}
 use Rattle.fax_files.proofs.PageLemmas.{strip_fields, strip_place, bytes_inside, bytes_outside}
 use Rattle.fax_files.proofs.tiff.Tiff.strip.Goals as goal
 

@@ -1,6 +1,6 @@
 use Rattle.std.proofs.Common.{◌≡◌, [], arith, pos, ◌∙◌, to_z, of_z, w64}
 use Rattle.std.proofs.lemmas.Int.{ints}
-use Rattle.fax_rows.specs.Reached.{position_of}
+use Rattle.fax_rows.specs.code.Reached.{position_of}
 use Rattle.fax_rows.proofs.StepLemmas.{number-none, number-some}
 use Rattle.fax_rows.proofs.two_dimensional.Reached.a0_number.Goals as goal
 

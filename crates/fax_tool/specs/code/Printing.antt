@@ -4,8 +4,8 @@ use Rattle.std.specs.Io.KnownBytes.{Appends}
 use Rattle.fax_bits.specs.declared.Memory.{Memory as NoMemory}
 use Rattle.fax_walk.specs.declared.walk.End.{End}
 use Rattle.fax_walk.specs.Items.{Item}
-use Rattle.fax_walk.specs.Due.{WalkState, IsDue}
-use Rattle.fax_walk.specs.Next.{HandsOut, HasEnded}
+use Rattle.fax_walk.specs.code.Due.{WalkState, IsDue}
+use Rattle.fax_walk.specs.code.Next.{HandsOut, HasEnded}
 use Rattle.fax_tool.specs.declared.refusal.Refusal.{Refusal}
 use Rattle.fax_tool.specs.declared.refusal.Refusal.TheVariants.{Memory}
 use Rattle.fax_tool.specs.Streams.{Counts}

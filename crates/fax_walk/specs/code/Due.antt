@@ -5,7 +5,7 @@ use Rattle.fax_page.specs.declared.StripFault.{StripFault}
 use Rattle.fax_page.specs.declared.Coding.TheVariants.{Mr}
 use Rattle.fax_page.specs.declared.StripForm.{StripForm}
 use Rattle.fax_page.specs.Strip.{AreLines, IsStripForm}
-use Rattle.fax_page.specs.Reader.{StripState, strip_beginning}
+use Rattle.fax_page.specs.code.Reader.{StripState, strip_beginning}
 use Rattle.fax_files.specs.declared.Cause.TheVariants.{File, Strip}
 use Rattle.fax_files.specs.Chain.{chain_fault}
 use Rattle.fax_walk.specs.declared.cursor.Cursor.{Cursor}

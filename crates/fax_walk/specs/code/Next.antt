@@ -12,7 +12,7 @@ use Rattle.fax_walk.specs.declared.walk.WalkFault.{WalkFault}
 use Rattle.fax_walk.specs.declared.walk.WalkFault.TheVariants.{Memory, AtRow}
 use Rattle.fax_walk.specs.contracts.walk.Walk.{the_row}
 use Rattle.fax_walk.specs.Items.{Item}
-use Rattle.fax_walk.specs.Due.{PageState, WalkState, IsDue, rows_left}
+use Rattle.fax_walk.specs.code.Due.{PageState, WalkState, IsDue, rows_left}
 
 -- the walk, once the row that it lends is given back, is so (this project's profile)
 abbrev pub EndsAs : MutBor WalkState → (WalkState → Type 0) → Fml

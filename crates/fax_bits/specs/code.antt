@@ -1,0 +1,7 @@
+-- What speaks of this code alone: how its types are seen, and computed tests of the tables.
+pub mod Source
+pub mod Sink
+pub mod Meeting
+pub mod TableTests
+pub mod TableSizes
+pub mod Trits

@@ -1,0 +1,2 @@
+-- What speaks of this code alone: how its types are seen.
+pub mod Tiff

@@ -1,0 +1,3 @@
+-- What speaks of this code alone: how far a row is read or written.
+pub mod Ahead
+pub mod Reached

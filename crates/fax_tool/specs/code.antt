@@ -1,0 +1,3 @@
+-- What speaks of this code alone: its adapters, and steps of printing.
+pub mod Adapters
+pub mod Printing

@@ -1,0 +1,3 @@
+-- What speaks of this code alone: what a walk still hands out.
+pub mod Due
+pub mod Next
