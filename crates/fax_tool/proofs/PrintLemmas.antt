@@ -2,13 +2,13 @@
 use Rattle.std.proofs.Common.{◌≡◌, ℕ, ◌+◌, List, [], ◌∷◌, ◌++◌, refl, ap, sym, ◌∙◌, append_assoc, append-nil}
 use Rattle.std.specs.Prelude.{Option, Some, None, IfSome}
 use Rattle.std.specs.Io.KnownBytes.{Appends, append_known}
-use Rattle.std.proofs.KnownBytes.{Appends-nil}
+use Rattle.std.proofs.KnownBytes.{Appends-nil, Appends-trans}
 use Rattle.fax_walk.specs.declared.cursor.Cursor.{Cursor}
 use Rattle.fax_walk.specs.declared.walk.End.{End}
 use Rattle.fax_walk.specs.Cursor.{start}
 use Rattle.fax_walk.specs.Items.{Item, AreItems}
 use Rattle.fax_walk.specs.code.Due.{WalkState, IsDue, walk_start}
-use Rattle.fax_walk.specs.code.Next.{HandsOut, HasEnded}
+use Rattle.fax_walk.specs.code.Next.{HandsOut}
 use Rattle.fax_tool.specs.Text.{row_line, row_lines, last_cursor, last_line}
 use Rattle.fax_tool.specs.code.Printing.{PrintsAllRows}
 
@@ -66,45 +66,26 @@ emptied old now output written new_written text some moved = record {
   printed = written_out output written new_written text (row_lines some.items) some.printed moved;
 }
 
-pub all_printed : (old now new : WalkState) (end : End) (output written : Option (List ℕ)) (text new_text : List ℕ)
-    → PrintsSome old now output (append_known written text) → HasEnded now end new → new_text ≡ text
-    → PrintsAllRows old new output (append_known written new_text) end
-all_printed old now new end output written text new_text some ended same = record {
-  items = some.items;
-  due = rw (← append-nil some.items) (some.due [] end ended.due);
-  cursor = ended.cursor ∙ some.cursor;
-  printed = rw same some.printed;
-}
-
 -- nothing is collected
 collected_none : (known new : Option (List ℕ)) (lines : List ℕ) → Appends (append_known known []) new lines → Appends known new lines
 collected_none None new lines appends = tt
 collected_none (Some bytes) None lines appends = absurd appends
 collected_none (Some bytes) (Some after) lines appends = appends ∙ ap (λ xs. xs ++ lines) (append-nil bytes)
 
--- all that was collected is written
-written_all : (output written new_written : Option (List ℕ)) (text lines : List ℕ) → Appends output (append_known written text) lines
-    → Appends written new_written text → Appends output new_written lines
-written_all None written new_written text lines printed moved = tt
-written_all (Some bytes) None new_written text lines printed moved = absurd printed
-written_all (Some bytes) (Some before) None text lines printed moved = absurd moved
-written_all (Some bytes) (Some before) (Some after) text lines printed moved = moved ∙ printed
-
 -- the rows of a whole input and their last line
 pub whole_printed : (left : Option (List ℕ)) (file : List ℕ) (walk : WalkState) (end : End) (at : Cursor)
     (output written new_written : Option (List ℕ)) (text new_text : List ℕ)
     → IfSome left (λ bytes. file ≡ bytes)
-    → PrintsAllRows (walk_start file) walk (append_known output []) (append_known written text) end
-    → at ≡ walk.cursor → new_text ≡ text ++ last_line end at → Appends written new_written new_text
+    → PrintsAllRows (walk_start file) walk (append_known output []) written end
+    → at ≡ walk.cursor → text ≡ [] → new_text ≡ text ++ last_line end at → Appends written new_written new_text
     → IfSome left (λ bytes. (items : List Item) × AreItems bytes items end
     × Appends output new_written (row_lines items ++ last_line end (last_cursor start items)))
-whole_printed None file walk end at output written new_written text new_text whole prints at_is grown moved = tt
-whole_printed (Some bytes) file walk end at output written new_written text new_text whole prints at_is grown moved =
+whole_printed None file walk end at output written new_written text new_text whole prints at_is empty grown moved = tt
+whole_printed (Some bytes) file walk end at output written new_written text new_text whole prints at_is empty grown moved =
     let cursor : at ≡ last_cursor start prints.items = at_is ∙ prints.cursor in
-    let line = rw cursor at grown in (
+    let line : new_text ≡ last_line end (last_cursor start prints.items) = rw (cursor, empty) at grown in (
       prints.items,
       rw (← whole) prints.due,
-      written_all output written new_written new_text _
-          (collected output written text (last_line end (last_cursor start prints.items)) new_text (row_lines prints.items)
-          (collected_none output (append_known written text) (row_lines prints.items) prints.printed) line) moved,
+      Appends-trans output written new_written (row_lines prints.items) (last_line end (last_cursor start prints.items))
+          (collected_none output written (row_lines prints.items) prints.printed) (rw line at moved),
     )

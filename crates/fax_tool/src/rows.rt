@@ -47,6 +47,23 @@ fn put_next_row(alloc: Global, walk: &mut Walk, text: &mut String) -> Result<Opt
     }
 }
 
+/// Writes the text that is collected, and empties it; its room stays.
+fn write_out<W: Sink>(out: &mut W, text: &mut String) -> Result<(), Refusal>
+    requires counts { W.counts out.old ≡ no_faults }
+    ensures ok { OnOk result (Appends (W.written out.old) (W.written out.new) (string_bytes text.old)) }
+    ensures emptied { OnOk result (string_bytes text.new ≡ []) }
+    ensures no_fault { OnOk result (W.counts out.new ≡ no_faults) }
+    ensures reason { IfErr result (λ refusal. HasReason refusal no_faults 0 (W.counts out.new)) }
+{
+    match give_all(out, text.as_bytes()) {
+        Ok(()) => {
+            text.clear();
+            Ok(())
+        }
+        Err(_) => Err(Refusal::Write),
+    }
+}
+
 /// Writes what is collected of whole lines, and where to go on, when memory was refused.
 fn stop_for_memory<W: Sink>(out: &mut W, text: &mut String, whole: usize, cursor: Cursor) -> Refusal
     requires whole { whole ≤ string_len text.old }
@@ -63,8 +80,8 @@ fn stop_for_memory<W: Sink>(out: &mut W, text: &mut String, whole: usize, cursor
     Refusal::Memory
 }
 
-/// Prints the rows that a walk has left, and answers how they ended. The last of the text may be
-/// collected only.
+/// Prints the rows that a walk has left, behind the text that is collected, and answers how they
+/// ended. All of the text is written then.
 fn print_rows<W: Sink>(
     alloc: Global,
     walk: &mut Walk,
@@ -73,8 +90,8 @@ fn print_rows<W: Sink>(
 ) -> Result<End, Refusal>
     requires counts { W.counts out.old ≡ no_faults }
     ensures printed { IfOk result (PrintsAllRows walk.old walk.new
-        (append_known (W.written out.old) (string_bytes text.old))
-        (append_known (W.written out.new) (string_bytes text.new))) }
+        (append_known (W.written out.old) (string_bytes text.old)) (W.written out.new)) }
+    ensures emptied { OnOk result (string_bytes text.new ≡ []) }
     ensures no_fault { OnOk result (W.counts out.new ≡ no_faults) }
     ensures reason { IfErr result (λ refusal. HasReason refusal no_faults 0 (W.counts out.new)) }
 {
@@ -83,14 +100,14 @@ fn print_rows<W: Sink>(
         let whole = text.len();
         match put_next_row(alloc, walk, text) {
             Ok(None) => {}
-            Ok(Some(end)) => return Ok(end),
+            Ok(Some(end)) => {
+                write_out(out, text)?;
+                return Ok(end);
+            }
             Err(Memory) => return Err(stop_for_memory(out, text, whole, cursor)),
         }
         if text.len() >= ENOUGH_TEXT {
-            match give_all(out, text.as_bytes()) {
-                Ok(()) => text.clear(),
-                Err(_) => return Err(Refusal::Write),
-            }
+            write_out(out, text)?;
         }
     }
 }
@@ -113,8 +130,6 @@ pub fn rows<R: Source, W: Sink>(alloc: Global, input: &mut R, out: &mut W) -> Re
     let mut walk = Walk::start(alloc, &file);
     let end = print_rows(alloc, &mut walk, &mut text, out)?;
     put_last_line(&mut text, end, walk.cursor())?;
-    match give_all(out, text.as_bytes()) {
-        Ok(()) => Ok(end),
-        Err(_) => Err(Refusal::Write),
-    }
+    write_out(out, &mut text)?;
+    Ok(end)
 }

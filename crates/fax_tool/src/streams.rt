@@ -55,13 +55,50 @@ pub trait Sink {
         ensures counts { counts self.new ≡ counts_after result (counts self.old) };
 }
 
+/// How many calls on a stream were interrupted, and how many failed. Both stay at `u64::MAX`.
+#[derive(Clone, Copy)]
+struct FaultCounts {
+    interrupted: u64,
+    failed: u64,
+}
+
+impl FaultCounts {
+    ghost use Rattle.fax_tool.specs.Streams.{counts_of, counts_after};
+
+    /// No call was interrupted, and none failed.
+    const NONE: FaultCounts = FaultCounts {
+        interrupted: 0,
+        failed: 0,
+    };
+
+    /// Counts one more call with this fault, and answers the fault.
+    fn count(&mut self, fault: StreamFault) -> StreamFault
+        ensures same { result ≡ fault }
+        ensures counted { counts_of self.new.interrupted self.new.failed
+            ≡ counts_after (Err fault) (counts_of self.old.interrupted self.old.failed) }
+    {
+        match fault {
+            StreamFault::Interrupted => self.interrupted = self.interrupted.saturating_add(1),
+            StreamFault::Failed => self.failed = self.failed.saturating_add(1),
+        }
+        fault
+    }
+}
+
+/// The fault of a call on a stream of std.
+fn fault_of(error: &io::Error) -> StreamFault {
+    match error.kind() {
+        io::ErrorKind::Interrupted => StreamFault::Interrupted,
+        _ => StreamFault::Failed,
+    }
+}
+
 /// A reader of std as a source.
 #[derive(Drop)]
 pub struct FromRead<R> {
     reader: R,
     taken: u64,
-    interrupted: u64,
-    failed: u64,
+    faults: FaultCounts,
 }
 
 impl<R: io::Read> FromRead<R> {
@@ -74,8 +111,7 @@ impl<R: io::Read> FromRead<R> {
         FromRead {
             reader,
             taken: 0,
-            interrupted: 0,
-            failed: 0,
+            faults: FaultCounts::NONE,
         }
     }
 
@@ -95,7 +131,7 @@ impl<R: io::Read> Source for FromRead<R> {
 
     ghost taken = { λ s. s.taken };
 
-    ghost counts = { λ s. counts_of s.interrupted s.failed };
+    ghost counts = { λ s. counts_of s.faults.interrupted s.faults.failed };
 
     fn take(&mut self, buffer: &mut [u8]) -> Result<usize, StreamFault> {
         match self.reader.read(buffer) {
@@ -103,15 +139,7 @@ impl<R: io::Read> Source for FromRead<R> {
                 self.taken = self.taken.saturating_add(count as u64);
                 Ok(count)
             }
-            Err(error) => {
-                if error.kind() == io::ErrorKind::Interrupted {
-                    self.interrupted = self.interrupted.saturating_add(1);
-                    Err(StreamFault::Interrupted)
-                } else {
-                    self.failed = self.failed.saturating_add(1);
-                    Err(StreamFault::Failed)
-                }
-            }
+            Err(error) => Err(self.faults.count(fault_of(&error))),
         }
     }
 }
@@ -120,8 +148,7 @@ impl<R: io::Read> Source for FromRead<R> {
 #[derive(Drop)]
 pub struct ToWrite<W> {
     writer: W,
-    interrupted: u64,
-    failed: u64,
+    faults: FaultCounts,
 }
 
 impl<W: io::Write> ToWrite<W> {
@@ -132,8 +159,7 @@ impl<W: io::Write> ToWrite<W> {
     {
         ToWrite {
             writer,
-            interrupted: 0,
-            failed: 0,
+            faults: FaultCounts::NONE,
         }
     }
 
@@ -151,25 +177,14 @@ impl<W: io::Write> Sink for ToWrite<W> {
 
     ghost written = { λ s. W.contents s.writer };
 
-    ghost counts = { λ s. counts_of s.interrupted s.failed };
+    ghost counts = { λ s. counts_of s.faults.interrupted s.faults.failed };
 
     /// A write that takes 0 bytes of a slice that is not empty has failed.
     fn give(&mut self, bytes: &[u8]) -> Result<usize, StreamFault> {
         match self.writer.write(bytes) {
-            Ok(0) if !bytes.is_empty() => {
-                self.failed = self.failed.saturating_add(1);
-                Err(StreamFault::Failed)
-            }
+            Ok(0) if !bytes.is_empty() => Err(self.faults.count(StreamFault::Failed)),
             Ok(count) => Ok(count),
-            Err(error) => {
-                if error.kind() == io::ErrorKind::Interrupted {
-                    self.interrupted = self.interrupted.saturating_add(1);
-                    Err(StreamFault::Interrupted)
-                } else {
-                    self.failed = self.failed.saturating_add(1);
-                    Err(StreamFault::Failed)
-                }
-            }
+            Err(error) => Err(self.faults.count(fault_of(&error))),
         }
     }
 }

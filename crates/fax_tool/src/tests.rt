@@ -1,11 +1,12 @@
 //! Runs over streams in memory, and the words of command lines.
 
+mod caller;
 mod mmr;
 mod page;
 mod streams;
 mod words;
 
-use crate::{Command, FromRead, Job, ToWrite, run};
+use caller::rows_of;
 use std::alloc::Global;
 use std::test::Fail;
 
@@ -68,31 +69,6 @@ const BYTE_COUNTS: usize = 142;
 const T4_OPTIONS: usize = 178;
 
 const NEXT_OFFSET: usize = 206;
-
-/// What a run of `rows` printed.
-#[derive(Drop)]
-pub struct Printed {
-    output: Vec<u8>,
-    error: Vec<u8>,
-    status: u8,
-}
-
-/// Runs `rows` over these bytes.
-fn rows_of(alloc: Global, file: &[u8]) -> Printed {
-    let job = Job {
-        command: Command::Rows,
-        file: None,
-    };
-    let mut input = FromRead::new(file);
-    let mut out = ToWrite::new(Vec::new(alloc));
-    let mut err = ToWrite::new(Vec::new(alloc));
-    let status = run(alloc, &job, &mut input, &mut out, &mut err);
-    Printed {
-        output: out.into_inner(),
-        error: err.into_inner(),
-        status,
-    }
-}
 
 /// The file with these bytes in place of its own, cut to a length.
 fn changed(alloc: Global, changes: &[(usize, u8)], len: usize) -> Result<Vec<u8>, Fail> {

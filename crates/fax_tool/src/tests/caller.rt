@@ -1,0 +1,36 @@
+//! A run over bytes in memory, with all that a caller learns of it.
+
+use crate::{Command, FromRead, Job, ToWrite, run};
+use std::alloc::Global;
+
+/// What a run of `rows` printed.
+#[derive(Drop)]
+pub struct Printed {
+    pub output: Vec<u8>,
+    pub error: Vec<u8>,
+    pub status: u8,
+}
+
+ghost use Rattle.std.specs.Prelude.{◌<◌};
+ghost use Rattle.fax_tool.specs.code.Caller.{IsPrinted};
+
+/// Runs `rows` over these bytes. Where nothing was refused, what it printed is the text of the
+/// file's rows and of their end.
+pub fn rows_of(alloc: Global, file: &[u8]) -> Printed
+    ensures { result.status < 3
+        → IsPrinted file.now result.output.items result.error.items result.status }
+{
+    let job = Job {
+        command: Command::Rows,
+        file: None,
+    };
+    let mut input = FromRead::new(file);
+    let mut out = ToWrite::new(Vec::new(alloc));
+    let mut err = ToWrite::new(Vec::new(alloc));
+    let status = run(alloc, &job, &mut input, &mut out, &mut err);
+    Printed {
+        output: out.into_inner(),
+        error: err.into_inner(),
+        status,
+    }
+}
