@@ -2,13 +2,25 @@
 
 ghost use Rattle.std.specs.Prelude.{◌<◌, ◌^◌, length};
 
-use super::{
-    BYTE_COUNTS, COMPRESSION, ONE_MH_PAGE, ROWS, ROWS_PER_STRIP, STRIP_OFFSETS, WIDTH, rows_of,
-};
+use super::ONE_MH_PAGE;
+use super::caller::rows_of;
 use fax_rows::{BitSink, FillOrder, Row, put_2d};
 use std::alloc::Global;
 use std::process::Abort;
 use std::test::Fail;
+
+/// The places of some fields' values in the file of one page.
+const WIDTH: usize = 34;
+
+const ROWS: usize = 46;
+
+const COMPRESSION: usize = 70;
+
+const STRIP_OFFSETS: usize = 106;
+
+const ROWS_PER_STRIP: usize = 130;
+
+const BYTE_COUNTS: usize = 142;
 
 /// A page at the usual fax resolution: 1728 pels wide.
 const PAGE_WIDTH: u32 = 1728;
