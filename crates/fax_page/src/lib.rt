@@ -2,8 +2,6 @@
 #![tactic(auto)]
 
 mod lines;
-#[cfg(test)]
-mod plain;
 mod reader;
 #[cfg(test)]
 mod tests;
@@ -22,6 +20,15 @@ pub enum Coding {
     Mr,
     /// Two-dimensional rows with nothing between them (T.6, section 2.2.1).
     Mmr,
+}
+
+/// How a row is coded (T.4, section 4.2.2).
+#[derive(Clone, Copy, Debug, PartialEq, Eq)]
+pub enum Dimension {
+    /// One-dimensional coding (T.4, section 4.1.1).
+    OneDimensional,
+    /// Two-dimensional coding, over the row before it (T.4, section 4.2.1.3.3; T.6, section 2.2.3).
+    TwoDimensional,
 }
 
 /// The form of a strip.

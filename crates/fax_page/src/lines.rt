@@ -1,20 +1,13 @@
 //! A row of a strip: what stands before its codes, and its codes.
 ghost use Rattle.std.specs.Prelude.{◌≡◌, ◌≢◌, length, OnOk, IfOk, IfErr};
 ghost use Rattle.fax_page.specs.Lines.{IsStart, IsStartFault, BeginsBelowEleven, IsFirstCodeFault, IsLine, IsCause};
-ghost use Rattle.fax_page.specs.declared.lines.Dimension.TheVariants.{OneDimensional};
+ghost use Rattle.fax_page.specs.declared.Dimension.TheVariants.{OneDimensional};
 
-use crate::{Coding, StripFault, StripForm};
+use crate::{Coding, Dimension, StripFault, StripForm};
 use fax_rows::{BitSource, Row, read_1d, read_2d};
 
 /// How many zeros an EOL has before its 1 (T.4, section 4.1.2). More are fill.
 const EOL_ZEROS: u64 = 11;
-
-/// How a row is coded (T.4, section 4.2.2).
-#[derive(Clone, Copy)]
-pub enum Dimension {
-    OneDimensional,
-    TwoDimensional,
-}
 
 /// Reads the fill and the EOL before row `i` of an MH strip (T.4, sections 4.1.2 and 4.1.3), which
 /// the first row may lack.

@@ -9,7 +9,7 @@ use Rattle.fax_page.specs.Lines.{IsLine, IsCause}
 use Rattle.fax_page.specs.Strip.{IsStripForm, white_row}
 
 -- how far a strip is read: the bits from the row that is due on, the number of that row, the row before it,
--- and the fault that was answered (this project's profile)
+-- and the fault that was answered
 pub record StripState : Type 0 where
   pub form : StripForm
   pub left : List Bool
@@ -17,7 +17,7 @@ pub record StripState : Type 0 where
   pub reference : List Colour
   pub fault : Option StripFault
 
--- before the first row of the bytes (this project's profile)
+-- before the first row of the bytes
 abbrev pub strip_beginning : StripForm → List ℕ → StripState
 strip_beginning form bytes = record {
   form = form;
@@ -28,7 +28,7 @@ strip_beginning form bytes = record {
 }
 
 -- the strip is MH or MMR within the limits, its reference and the row to come have its width, and no row
--- behind its last is due (this project's profile)
+-- behind its last is due
 pub record IsReading (form : StripForm) (row : ℕ) (reference next : List Colour) : Type 0 where
   pub limits : IsStripForm form
   pub coding : form.coding ≢ Mr
@@ -36,7 +36,7 @@ pub record IsReading (form : StripForm) (row : ℕ) (reference next : List Colou
   pub next_width : length next ≡ form.width
   pub within : row ≤ form.rows
 
--- the row that was due is read, and the next one is due (this project's profile)
+-- the row that was due is read, and the next one is due
 pub record ReadsRow (old new : StripState) : Type 0 where
   pub no_fault : old.fault ≡ None
   pub due : old.row < old.form.rows
@@ -45,13 +45,13 @@ pub record ReadsRow (old new : StripState) : Type 0 where
   pub same_form : new.form ≡ old.form
   pub still_no_fault : new.fault ≡ None
 
--- all rows are read, and nothing changes (this project's profile)
+-- all rows are read, and nothing changes
 pub record IsAtEnd (old new : StripState) : Type 0 where
   pub no_fault : old.fault ≡ None
   pub all_read : old.row ≡ old.form.rows
   pub unchanged : new ≡ old
 
--- the row that was due is not there, for this cause (this project's profile)
+-- the row that was due is not there, for this cause
 pub record MeetsFault (old : StripState) (fault : StripFault) (new : StripState) : Type 0 where
   pub no_fault : old.fault ≡ None
   pub due : old.row < old.form.rows
@@ -60,12 +60,12 @@ pub record MeetsFault (old : StripState) (fault : StripFault) (new : StripState)
   pub same_form : new.form ≡ old.form
   pub told : new.fault ≡ Some fault
 
--- the fault was answered before, and nothing changes (this project's profile)
+-- the fault was answered before, and nothing changes
 pub record TellsAgain (old : StripState) (fault : StripFault) (new : StripState) : Type 0 where
   pub told : old.fault ≡ Some fault
   pub unchanged : new ≡ old
 
--- what a call for the next row answers: whether there was one, or the fault in its place (this project's profile)
+-- what a call for the next row answers: whether there was one, or the fault in its place
 abbrev pub IsAdvance : StripState → Result Bool StripFault → StripState → Type 0
 IsAdvance old (Ok true) new = ReadsRow old new
 IsAdvance old (Ok false) new = IsAtEnd old new
