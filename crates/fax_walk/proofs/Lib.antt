@@ -1,3 +1,4 @@
+pub mod CursorLemmas
 pub mod DueLemmas
 pub mod OpenLemmas
 pub mod WalkLemmas

@@ -5,7 +5,7 @@ use Rattle.fax_walk.specs.Cursor.{start}
 use Rattle.fax_walk.specs.Items.{Item, AreItems}
 use Rattle.fax_tool.specs.Text.{text_of}
 
--- the output, the error line and the status are the text of the file's rows and of their end (this project's profile)
+-- the output, the error line and the status are the text of the file's rows and of their end
 pub record IsPrinted (file output error : List ℕ) (status : ℕ) : Type 0 where
   pub items : List Item
   pub end : End
