@@ -206,7 +206,6 @@ fn read_by_reader(
     pels: &mut Vec<bool>,
 ) -> Result<Option<StripFault>, Fail> {
     let rows = form.rows;
-    assert!(rt; matches!(form.coding, Coding::Mh | Coding::Mmr));
     assert!(rt; form.width > 0 && form.width < 65_536);
     assert!(rt; rows > 0 && rows <= 1_000_000);
     assert!(rt; bytes.len() < 1_000_000);

@@ -22,7 +22,6 @@ fn read(
     form: StripForm,
     bytes: &[u8],
 ) -> Result<(Vec<u32>, Option<StripFault>), Fail> {
-    assert!(rt; matches!(form.coding, Coding::Mh | Coding::Mmr));
     assert!(rt; form.width > 0 && form.width < 65_536);
     assert!(rt; form.rows > 0 && form.rows <= 1_000_000);
     assert!(rt; bytes.len() < 100);
