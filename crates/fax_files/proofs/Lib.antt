@@ -1,2 +1,3 @@
 pub mod EntryLemmas
+pub mod FieldLemmas
 pub mod PageLemmas

@@ -6,11 +6,10 @@ use Rattle.fax_page.specs.declared.Coding.{Coding}
 use Rattle.fax_files.specs.declared.FileFault.{FileFault}
 use Rattle.fax_files.specs.declared.FileFault.TheVariants.{MissingField, BadField, Unsupported}
 use Rattle.fax_files.specs.declared.PageForm.{PageForm}
-use Rattle.fax_files.specs.declared.entries.Entry.{Entry}
-use Rattle.fax_files.specs.declared.page.PelFormat.{PelFormat}
-use Rattle.fax_files.specs.Numbers.{Endian, ◌>>=◌, check, is_inside}
-use Rattle.fax_files.specs.Directory.{entries, field, value_at, has_integers}
-use Rattle.fax_files.specs.Page.{page, page_size, pel_format, strip_rows, strip_count, page_coding, strip_field}
+use Rattle.fax_files.specs.declared.Endian.{Endian}
+use Rattle.fax_files.specs.Numbers.{◌>>=◌, check, is_inside}
+use Rattle.fax_files.specs.Directory.{Entry, entries, field, value_at, has_integers}
+use Rattle.fax_files.specs.Page.{PelFormat, page, page_size, pel_format, strip_rows, strip_count, page_coding, strip_field}
 use Rattle.fax_files.specs.StripBytes.{strip_bytes, placed_bytes, bytes_at}
 
 -- the value of a step that did not fail

@@ -2,11 +2,18 @@
 use Rattle.std.specs.Prelude.{ℕ, zero, suc, ◌+◌, ◌*◌, ◌≤◌, length, Bool, nat_le, ◌==◌, ◌&&◌, ◌||◌, if◌then◌else◌, List, [], ◌∷◌, find, Option, Some, None, Result, Ok, Err}
 use Rattle.fax_files.specs.declared.FileFault.{FileFault}
 use Rattle.fax_files.specs.declared.FileFault.TheVariants.{MissingField, BadField}
-use Rattle.fax_files.specs.declared.entries.Entry.{Entry}
-use Rattle.fax_files.specs.Numbers.{Endian, is_inside, number_at, ◌>>=◌}
+use Rattle.fax_files.specs.declared.Endian.{Endian}
+use Rattle.fax_files.specs.Numbers.{is_inside, number_at, ◌>>=◌}
 
--- the entry of twelve bytes at a place: its tag, its type, its count, and the place of its four bytes of value
+-- an entry of a directory: its tag, the type of its values, how many there are, and where its last four bytes stand
 -- (TIFF 6.0, section 2)
+pub record Entry : Type 0 where
+  pub tag : ℕ
+  pub kind : ℕ
+  pub count : ℕ
+  pub place : ℕ
+
+-- the entry of twelve bytes at a place (TIFF 6.0, section 2)
 abbrev pub entry_at : Endian → List ℕ → ℕ → Entry
 entry_at endian file place = record {
   tag = number_at endian 2 file place;
@@ -44,11 +51,11 @@ next_offset endian file q = number_at endian 4 file (q + 2 + 12 * entry_count en
 abbrev pub field : List Entry → ℕ → Option Entry
 field fields tag = find (λ entry. entry.tag == tag) fields
 
--- the types that are read: SHORT and LONG (TIFF 6.0, section 2)
+-- the type SHORT (TIFF 6.0, section 2)
 abbrev pub SHORT : ℕ
 SHORT = 3
 
--- the type LONG (this project's profile)
+-- the type LONG (TIFF 6.0, section 2)
 abbrev pub LONG : ℕ
 LONG = 4
 

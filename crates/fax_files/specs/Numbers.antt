@@ -1,18 +1,15 @@
 -- Numbers in a TIFF file, and its header.
 use Rattle.std.specs.Prelude.{ℕ, ◌+◌, Bool, nat_le, ◌==◌, not, if◌then◌else◌, List, length, take, drop, Result, Ok, Err, codes, bytes_eq}
 use Rattle.byteorder.specs.Endian.{little_number, big_number}
+use Rattle.fax_files.specs.declared.Endian.{Endian}
+use Rattle.fax_files.specs.declared.Endian.TheVariants.{Little, Big}
 use Rattle.fax_files.specs.declared.FileFault.{FileFault}
 use Rattle.fax_files.specs.declared.FileFault.TheVariants.{ShortHeader, ByteOrder, Magic, NoDirectory}
 
--- the order of a number's bytes in a file (TIFF 6.0, section 2)
-pub data Endian : Type 0 where
-  little_endian : Endian
-  big_endian : Endian
-
 -- the number that the first n bytes spell (TIFF 6.0, section 2)
 abbrev pub number : Endian → ℕ → List ℕ → ℕ
-number little_endian n bytes = little_number n bytes
-number big_endian n bytes = big_number n bytes
+number Little n bytes = little_number n bytes
+number Big n bytes = big_number n bytes
 
 -- the n bytes from a place on lie in the file (TIFF 6.0, section 2)
 abbrev pub is_inside : List ℕ → ℕ → ℕ → Bool
@@ -39,7 +36,7 @@ pub record Header : Type 0 where
 
 -- II is little-endian; MM, which is big-endian, is not read yet (TIFF 6.0, section 2)
 abbrev pub endian_of : List ℕ → Result Endian FileFault
-endian_of bytes = if bytes_eq bytes (codes "II") then (Ok little_endian) else (Err ByteOrder)
+endian_of bytes = if bytes_eq bytes (codes "II") then (Ok Little) else (Err ByteOrder)
 
 -- a file's header, or its first fault (TIFF 6.0, section 2)
 unfoldable pub header : List ℕ → Result Header FileFault

@@ -8,10 +8,9 @@ use Rattle.fax_page.specs.declared.Coding.TheVariants.{Mh, Mr, Mmr}
 use Rattle.fax_files.specs.declared.FileFault.{FileFault}
 use Rattle.fax_files.specs.declared.FileFault.TheVariants.{BadField, Unsupported, OutOfLimits}
 use Rattle.fax_files.specs.declared.PageForm.{PageForm}
-use Rattle.fax_files.specs.declared.entries.Entry.{Entry}
-use Rattle.fax_files.specs.declared.page.PelFormat.{PelFormat}
-use Rattle.fax_files.specs.Numbers.{Endian, check, ◌>>=◌}
-use Rattle.fax_files.specs.Directory.{entries, has_integers, needed, needed_scalar, scalar_or}
+use Rattle.fax_files.specs.declared.Endian.{Endian}
+use Rattle.fax_files.specs.Numbers.{check, ◌>>=◌}
+use Rattle.fax_files.specs.Directory.{Entry, entries, has_integers, needed, needed_scalar, scalar_or}
 
 -- the number lies between these two (this project's profile)
 abbrev pub is_between : ℕ → ℕ → ℕ → Bool
@@ -34,6 +33,11 @@ fill_order endian file fields = do
   number ← scalar_or endian file fields 266 1
   _ ← check ((number == 1) || (number == 2)) (Unsupported 266)
   Ok (if number == 2 then LsbFirst else MsbFirst)
+
+-- how pels are coded: Compression, and which bit of a byte comes first (TIFF 6.0, Compression and FillOrder)
+pub record PelFormat : Type 0 where
+  pub compression : ℕ
+  pub order : FillOrder
 
 -- how pels are coded: by Compression, one bit for each, 0 for white, in a fill order (this project's profile)
 unfoldable pub pel_format : Endian → List ℕ → List Entry → Result PelFormat FileFault

@@ -10,7 +10,7 @@ use Rattle.fax_files.specs.declared.FileFault.TheVariants.{StripOutside}
 use Rattle.fax_files.specs.declared.Cause.{Cause}
 use Rattle.fax_files.specs.declared.Cause.TheVariants.{File, Strip}
 use Rattle.fax_files.specs.declared.PageForm.{PageForm}
-use Rattle.fax_files.specs.Numbers.{Endian}
+use Rattle.fax_files.specs.declared.Endian.{Endian}
 use Rattle.fax_files.specs.StripBytes.{strip_bytes}
 
 -- the form of strip s: it holds the page's rows from s * rows_per_strip on (TIFF 6.0, RowsPerStrip)

@@ -1,8 +1,8 @@
 -- Where the bytes of a strip stand.
 use Rattle.std.specs.Prelude.{ℕ, if◌then◌else◌, List, take, drop, Option, Some, None}
-use Rattle.fax_files.specs.declared.entries.Entry.{Entry}
-use Rattle.fax_files.specs.Numbers.{Endian, is_inside}
-use Rattle.fax_files.specs.Directory.{entries, field, value_at}
+use Rattle.fax_files.specs.declared.Endian.{Endian}
+use Rattle.fax_files.specs.Numbers.{is_inside}
+use Rattle.fax_files.specs.Directory.{Entry, entries, field, value_at}
 
 -- the bytes of a length at an offset, where they lie in the file (TIFF 6.0, StripOffsets and StripByteCounts)
 abbrev pub bytes_at : List ℕ → ℕ → ℕ → Option (List ℕ)

@@ -1,2 +1,3 @@
 -- What speaks of this code alone: how its types are seen.
 pub mod Tiff
+pub mod Fields

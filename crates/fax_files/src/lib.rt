@@ -2,19 +2,31 @@
 #![tactic(auto)]
 
 ghost use Rattle.std.specs.Prelude.{◌≡◌};
-ghost use Rattle.fax_files.specs.FaultNames.{fault_name, fault_tag, file_fault_name, file_fault_tag, strip_fault_name};
+ghost use Rattle.fax_files.specs.FaultNames as Names;
 
+mod directory;
 mod entries;
+mod fields;
 mod numbers;
 mod page;
 #[cfg(test)]
 mod tests;
 mod tiff;
 
-use fax_bits::FillOrder;
-use fax_page::{Coding, StripFault};
+pub use directory::Directory;
+pub use fax_page;
+pub use fax_page::{Coding, FillOrder, StripFault};
 use thiserror::Error;
-pub use tiff::{Directory, Tiff};
+pub use tiff::Tiff;
+
+/// Which byte of a number stands first in a file (TIFF 6.0, section 2).
+#[derive(Clone, Copy, Debug, PartialEq, Eq)]
+pub enum Endian {
+    /// The lowest byte, in files that begin with `II`.
+    Little,
+    /// The highest byte, in files that begin with `MM`.
+    Big,
+}
 
 /// Why a file's header, a directory, a field or a strip's place is refused.
 #[derive(Clone, Copy, Debug, PartialEq, Eq, Error)]
@@ -57,7 +69,7 @@ pub enum FileFault {
 impl FileFault {
     /// The fault's own name.
     fn name(self) -> &'static str
-        ensures { result.now ≡ file_fault_name self }
+        ensures { result.now ≡ Names.file_fault_name self }
     {
         match self {
             FileFault::ShortHeader => "ShortHeader",
@@ -76,7 +88,7 @@ impl FileFault {
 
     /// The tag of the field at fault, where it has one.
     fn tag(self) -> Option<u16>
-        ensures { result ≡ file_fault_tag self }
+        ensures { result ≡ Names.file_fault_tag self }
     {
         match self {
             FileFault::MissingField(tag)
@@ -106,8 +118,8 @@ pub enum Cause {
 impl Cause {
     /// The fault's name, and the tag of the field at fault where it has one.
     pub fn name(&self) -> (&'static str, Option<u16>)
-        ensures name { result.0.now ≡ fault_name self.now }
-        ensures tag { result.1 ≡ fault_tag self.now }
+        ensures name { result.0.now ≡ Names.fault_name self.now }
+        ensures tag { result.1 ≡ Names.fault_tag self.now }
     {
         match self {
             Cause::File(fault) => (fault.name(), fault.tag()),
@@ -118,7 +130,7 @@ impl Cause {
 
 /// The own name of a strip's fault.
 fn strip_name(fault: StripFault) -> &'static str
-    ensures { result.now ≡ strip_fault_name fault }
+    ensures { result.now ≡ Names.strip_fault_name fault }
 {
     match fault {
         StripFault::DataEnds => "DataEnds",

@@ -1,9 +1,17 @@
-//! Numbers in a file, the lowest byte first.
+//! Numbers in a file (TIFF 6.0, section 2).
 
 ghost use Rattle.std.specs.Prelude.{◌≡◌, ◌+◌, ◌≤◌, length};
-ghost use Rattle.fax_files.specs.Numbers.{little_endian, is_inside as lies_inside, number_at};
+ghost use Rattle.fax_files.specs.Numbers.{is_inside as lies_inside, number_at};
 
-use byteorder::{ByteOrder, LittleEndian};
+use crate::Endian;
+use byteorder::{BigEndian, ByteOrder, LittleEndian};
+
+/// A file's bytes, and which byte of a number stands first in them.
+#[derive(Clone, Copy)]
+pub struct File<'a> {
+    pub bytes: &'a [u8],
+    pub endian: Endian,
+}
 
 /// Whether the `len` bytes from a place on lie in the file.
 pub fn is_inside(file: &[u8], place: usize, len: usize) -> bool
@@ -12,20 +20,30 @@ pub fn is_inside(file: &[u8], place: usize, len: usize) -> bool
     place <= file.len() && len <= file.len() - place
 }
 
-/// The number of two bytes at a place.
-#[tactic(auto, unfolding(crate::specs::Numbers::number_at))]
-pub fn u16_at(file: &[u8], place: usize) -> u16
-    requires { place + 2 ≤ length file.now }
-    ensures { result ≡ number_at little_endian 2 file.now place }
-{
-    LittleEndian::read_u16(&file[place..])
-}
+impl<'a> File<'a> {
+    /// The number of two bytes at a place.
+    #[tactic(auto, unfolding(crate::specs::Numbers::number_at))]
+    pub fn u16_at(&self, place: usize) -> u16
+        requires { place + 2 ≤ length self.now.bytes.now }
+        ensures { result ≡ number_at self.now.endian 2 self.now.bytes.now place }
+    {
+        let bytes = &self.bytes[place..];
+        match self.endian {
+            Endian::Little => LittleEndian::read_u16(bytes),
+            Endian::Big => BigEndian::read_u16(bytes),
+        }
+    }
 
-/// The number of four bytes at a place.
-#[tactic(auto, unfolding(crate::specs::Numbers::number_at))]
-pub fn u32_at(file: &[u8], place: usize) -> u32
-    requires { place + 4 ≤ length file.now }
-    ensures { result ≡ number_at little_endian 4 file.now place }
-{
-    LittleEndian::read_u32(&file[place..])
+    /// The number of four bytes at a place.
+    #[tactic(auto, unfolding(crate::specs::Numbers::number_at))]
+    pub fn u32_at(&self, place: usize) -> u32
+        requires { place + 4 ≤ length self.now.bytes.now }
+        ensures { result ≡ number_at self.now.endian 4 self.now.bytes.now place }
+    {
+        let bytes = &self.bytes[place..];
+        match self.endian {
+            Endian::Little => LittleEndian::read_u32(bytes),
+            Endian::Big => BigEndian::read_u32(bytes),
+        }
+    }
 }

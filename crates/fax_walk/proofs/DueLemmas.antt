@@ -8,7 +8,8 @@ use Rattle.fax_files.specs.Chain.{chain_fault}
 use Rattle.fax_files.specs.declared.Cause.TheVariants.{Strip}
 use Rattle.fax_walk.specs.declared.walk.End.TheVariants.{Fault}
 use Rattle.fax_walk.specs.Items.{Item, numbered, chain_end}
-use Rattle.fax_walk.specs.code.Due.{PageState, IsDueOnPage, IsOpen, ReadsPageRow, end_behind}
+use Rattle.fax_walk.specs.code.Stages.{PageState}
+use Rattle.fax_walk.specs.code.Due.{IsDueOnPage, IsOpen, ReadsPageRow, end_behind}
 
 pub row_read : (old new : PageState) (row : ℕ) → ReadsRow old.strip new.strip → new.next ≡ old.next → IsOpen old row → ReadsPageRow old new
 row_read old new row reads same_next at = record {

@@ -12,7 +12,8 @@ use Rattle.fax_files.specs.declared.FileFault.TheVariants.{DirectoryOutside, Str
 use Rattle.fax_files.specs.declared.Cause.{Cause}
 use Rattle.fax_files.specs.declared.Cause.TheVariants.{File, Strip}
 use Rattle.fax_files.specs.declared.PageForm.{PageForm}
-use Rattle.fax_files.specs.Numbers.{Endian, Header, header}
+use Rattle.fax_files.specs.declared.Endian.{Endian}
+use Rattle.fax_files.specs.Numbers.{Header, header}
 use Rattle.fax_files.specs.Directory.{is_directory, next_offset}
 use Rattle.fax_files.specs.Chain.{chain_fault}
 use Rattle.fax_files.specs.Page.{page, IsPageForm}

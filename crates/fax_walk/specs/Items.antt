@@ -5,7 +5,8 @@ use Rattle.fax_files.specs.declared.FileFault.{FileFault}
 use Rattle.fax_files.specs.declared.Cause.{Cause}
 use Rattle.fax_files.specs.declared.Cause.TheVariants.{File}
 use Rattle.fax_files.specs.declared.PageForm.{PageForm}
-use Rattle.fax_files.specs.Numbers.{Endian, Header, header}
+use Rattle.fax_files.specs.declared.Endian.{Endian}
+use Rattle.fax_files.specs.Numbers.{Header, header}
 use Rattle.fax_files.specs.Chain.{IsChain}
 use Rattle.fax_files.specs.Page.{page}
 use Rattle.fax_files.specs.PageRows.{AreStrips, joined, shown}
@@ -18,7 +19,7 @@ pub record Item : Type 0 where
   pub row : ℕ
   pub pels : List Colour
 
--- rows as items of a page, from this row number on (T.4, tables 2, 3a and 3b)
+-- rows as items of a page, from this row number on (this project's profile)
 abbrev pub numbered : ℕ → ℕ → List (List Colour) → List Item
 numbered p r [] = []
 numbered p r (row ∷ rows) = record { page = p; row = r; pels = row } ∷ numbered p (r + 1) rows

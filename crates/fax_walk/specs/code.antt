@@ -1,3 +1,4 @@
 -- What speaks of this code alone: what a walk still hands out.
+pub mod Stages
 pub mod Due
 pub mod Next

@@ -1,9 +1,9 @@
 //! The walk over a file's rows, in order of page and then of row.
-ghost use Rattle.std.specs.Prelude.{◌≡◌, ℕ, ◌+◌, ◌<◌, ◌≤◌, length, List, [], Some, None, IfOk, IfErr, OnOk};
+ghost use Rattle.std.specs.Prelude.{◌≡◌, ◌+◌, List, [], IfOk, IfErr, OnOk};
 ghost use Rattle.std.specs.Borrow.{sem};
 ghost use Rattle.fax_files.specs.Chain.{chain_fault};
 ghost use Rattle.fax_walk.specs.Items.{Item, AreItems, chain_end};
-ghost use Rattle.fax_walk.specs.code.Due.{IsDueOnPage, IsFirstPage, IsOpen, IsRefusal, ReadsPageRow};
+ghost use Rattle.fax_walk.specs.code.Due as Due;
 
 use crate::Cursor;
 use fax_bits::Memory;
@@ -12,6 +12,7 @@ use fax_page::{StripForm, StripReader};
 use fax_rows::Row;
 use std::alloc::Global;
 use std::marker::Model;
+use std::mem::replace;
 use thiserror::Error;
 
 /// The place of a row: its page and its number there, both from 0.
@@ -47,6 +48,26 @@ enum OpenFault {
     File(FileFault),
 }
 
+impl From<Memory> for OpenFault {
+    ghost use Rattle.fax_walk.specs.declared.walk.OpenFault.TheVariants.{Memory as NoMemory};
+
+    ghost from_gives = { λ _ gives. gives ≡ NoMemory };
+
+    fn from(_refused: Memory) -> Self {
+        OpenFault::Memory
+    }
+}
+
+impl From<FileFault> for OpenFault {
+    ghost use Rattle.fax_walk.specs.declared.walk.OpenFault.TheVariants.{File as Refused};
+
+    ghost from_gives = { λ fault gives. gives ≡ Refused fault };
+
+    fn from(fault: FileFault) -> Self {
+        OpenFault::File(fault)
+    }
+}
+
 /// A page whose rows are being read, with the offset of the next directory.
 #[derive(Drop)]
 struct OpenPage<'a> {
@@ -55,7 +76,7 @@ struct OpenPage<'a> {
 }
 
 impl<'a> Model for OpenPage<'a> {
-    ghost use Rattle.fax_walk.specs.code.Due.{PageState};
+    ghost use Rattle.fax_walk.specs.code.Stages.{PageState};
 
     ghost Value = { PageState };
 
@@ -72,7 +93,7 @@ struct FirstPage<'a> {
 
 /// The first page of a file, or why the file has none.
 fn first_page<'a>(file: &'a [u8]) -> Result<FirstPage<'a>, FileFault>
-    ensures found { IfOk result (λ page. IsFirstPage file.now page.form page.bytes.now page.next) }
+    ensures found { IfOk result (λ page. Due.IsFirstPage file.now page.form page.bytes.now page.next) }
     ensures refused { IfErr result (λ fault. AreItems file.now [] (End.Fault 0 0 (Cause.File fault))) }
 {
     let tiff = Tiff::read_header(file)?;
@@ -93,18 +114,17 @@ fn first_page<'a>(file: &'a [u8]) -> Result<FirstPage<'a>, FileFault>
 
 /// The first page of a file, with its first row due.
 fn open_page<'a>(alloc: Global, file: &'a [u8]) -> Result<OpenPage<'a>, OpenFault>
-    ensures ok { IfOk result (λ page. IsOpen page 0) }
+    ensures ok { IfOk result (λ page. Due.IsOpen page 0) }
     ensures items { IfOk result (λ page. (items : List Item) (end : End)
-        → IsDueOnPage page items end → AreItems file.now items end) }
-    ensures refused { IfErr result (IsRefusal file.now) }
+        → Due.IsDueOnPage page items end → AreItems file.now items end) }
+    ensures refused { IfErr result (Due.IsRefusal file.now) }
 {
-    match first_page(file) {
-        Ok(FirstPage { form, bytes, next }) => match StripReader::new(alloc, bytes, form) {
-            Ok(strip) => Ok(OpenPage { strip, next }),
-            Err(Memory) => Err(OpenFault::Memory),
-        },
-        Err(fault) => Err(OpenFault::File(fault)),
-    }
+    let page = first_page(file)?;
+    let strip = StripReader::new(alloc, page.bytes, page.form)?;
+    Ok(OpenPage {
+        strip,
+        next: page.next,
+    })
 }
 
 /// What the end of a page's last strip leads to: the end of the file, as far as it is read.
@@ -125,9 +145,9 @@ fn end_behind_page(next: u32) -> End
 impl<'a> OpenPage<'a> {
     /// Reads the row that is due, whose number this is, or answers how the rows end there.
     fn advance(&mut self, row: u32) -> Result<(), End>
-        requires { IsOpen self.old row }
-        ensures ok { OnOk result (ReadsPageRow self.old self.new) }
-        ensures err { IfErr result (IsDueOnPage self.old []) }
+        requires { Due.IsOpen self.old row }
+        ensures ok { OnOk result (Due.ReadsPageRow self.old self.new) }
+        ensures err { IfErr result (Due.IsDueOnPage self.old []) }
     {
         match self.strip.advance() {
             Ok(true) => Ok(()),
@@ -148,15 +168,25 @@ impl<'a> OpenPage<'a> {
     }
 }
 
-/// A walk over the rows of a file. Contracts see its file, the place of the row that is due, the
-/// page that is open, if one is, and how the rows ended, if they did.
+/// How far a walk has come.
+#[derive(Drop)]
+enum Stage<'a> {
+    /// No page is open yet.
+    Before,
+    /// A row of this page is due.
+    Open(OpenPage<'a>),
+    /// The rows have ended.
+    Ended(End),
+}
+
+/// A walk over the rows of a file. Contracts see its file, the place of the row that is due, and how
+/// far the walk has come: before the first page, on a page, or at the end.
 #[derive(Drop)]
 pub struct Walk<'a> {
     alloc: Global,
     file: &'a [u8],
     cursor: Cursor,
-    page: Option<OpenPage<'a>>,
-    ended: Option<End>,
+    stage: Stage<'a>,
 }
 
 impl<'a> Model for Walk<'a> {
@@ -164,14 +194,14 @@ impl<'a> Model for Walk<'a> {
 
     ghost Value = { WalkState };
 
-    ghost view = { λ w. record { file = w.file.now; cursor = w.cursor; page = w.page; ended = w.ended } };
+    ghost view = { λ w. record { file = w.file.now; cursor = w.cursor; stage = w.stage } };
 
-    ghost invariant = { λ w. IsSound w.page w.ended w.cursor };
+    ghost invariant = { λ w. IsSound w.stage w.cursor };
 }
 
 impl<'a> Walk<'a> {
     ghost use Rattle.fax_walk.specs.code.Due.{walk_start};
-    ghost use Rattle.fax_walk.specs.code.Next.{EndsAs, IsEntered, IsNext, IsReady, IsStep};
+    ghost use Rattle.fax_walk.specs.code.Next.{EndsAs, IsEntered, IsNext, IsStep};
 
     /// A walk over all rows of a file, from any bytes. Nothing is read yet.
     pub fn start(alloc: Global, file: &'a [u8]) -> Self
@@ -181,8 +211,7 @@ impl<'a> Walk<'a> {
             alloc,
             file,
             cursor: Cursor { page: 0, row: 0 },
-            page: None,
-            ended: None,
+            stage: Stage::Before,
         }
     }
 
@@ -193,48 +222,39 @@ impl<'a> Walk<'a> {
         self.cursor
     }
 
-    /// Opens the page of the row that is due, where none is open.
-    fn enter(&mut self) -> Result<(), Memory>
-        ensures { IsEntered self.old result self.new }
+    /// Opens the page of the row that is due, where none is open. Where memory is refused, none is
+    /// open then either.
+    fn enter(&mut self)
+        ensures { IsEntered self.old self.new }
     {
-        if self.ended.is_some() || self.page.is_some() {
-            return Ok(());
-        }
-        match open_page(self.alloc, self.file) {
-            Ok(page) => {
-                self.page = Some(page);
-                Ok(())
-            }
-            Err(OpenFault::Memory) => Err(Memory),
-            Err(OpenFault::File(fault)) => {
-                self.ended = Some(End::Fault {
-                    page: 0,
-                    row: 0,
-                    cause: Cause::File(fault),
-                });
-                Ok(())
+        if let Stage::Before = self.stage {
+            match open_page(self.alloc, self.file) {
+                Ok(page) => self.stage = Stage::Open(page),
+                Err(OpenFault::Memory) => {}
+                Err(OpenFault::File(fault)) => {
+                    self.stage = Stage::Ended(End::Fault {
+                        page: 0,
+                        row: 0,
+                        cause: Cause::File(fault),
+                    });
+                }
             }
         }
     }
 
-    /// Reads the row that is due on the page that is open; false where the rows have ended.
-    fn step(&mut self) -> bool
-        requires { IsReady self.old }
-        ensures { IsStep self.old result self.new }
+    /// Reads the row that is due on the page that is open, if one is.
+    fn step(&mut self)
+        ensures { IsStep self.old self.new }
     {
-        let Some(mut page) = self.page.take() else {
-            return false;
-        };
-        match page.advance(self.cursor.row) {
-            Ok(()) => {
-                self.page = Some(page);
-                self.cursor.row += 1;
-                true
-            }
-            Err(end) => {
-                self.ended = Some(end);
-                false
-            }
+        match replace(&mut self.stage, Stage::Before) {
+            Stage::Open(mut page) => match page.advance(self.cursor.row) {
+                Ok(()) => {
+                    self.stage = Stage::Open(page);
+                    self.cursor.row += 1;
+                }
+                Err(end) => self.stage = Stage::Ended(end),
+            },
+            other => self.stage = other,
         }
     }
 
@@ -248,19 +268,21 @@ impl<'a> Walk<'a> {
     pub fn next_row(&mut self) -> Result<Option<(Place, &Row)>, WalkFault>
         ensures* next { sem 𝓛 (EndsAs self.entry (IsNext self.old result)) }
     {
-        self.enter().map_err(|_| WalkFault::Memory)?;
+        self.enter();
         let place = Place {
             page: self.cursor.page,
             row: self.cursor.row,
         };
-        if self.step() {
-            let page = self.page.as_ref().unwrap();
-            return Ok(Some((place, page.row())));
-        }
-        match self.ended {
-            Some(End::Fault { page, row, cause }) => Err(WalkFault::AtRow { page, row, cause }),
-            Some(End::Proper) => Ok(None),
-            None => unreachable!(),
+        self.step();
+        match &self.stage {
+            Stage::Before => Err(WalkFault::Memory),
+            Stage::Open(page) => Ok(Some((place, page.row()))),
+            Stage::Ended(End::Proper) => Ok(None),
+            Stage::Ended(End::Fault { page, row, cause }) => Err(WalkFault::AtRow {
+                page: *page,
+                row: *row,
+                cause: *cause,
+            }),
         }
     }
 }

@@ -1,8 +1,8 @@
 use Rattle.std.proofs.Common.{◌+◌, arith}
-use Rattle.fax_files.specs.Numbers.{little_endian}
 use Rattle.fax_files.proofs.EntryLemmas.{fewer_integers}
 use Rattle.fax_files.proofs.page.strip_value.Goals as goal
 
 pub value_at-requires-clause-there : goal.value_at-requires-clause-there
 value_at-requires-clause-there c =
-    fewer_integers little_endian c.args.file.now c.in-Ok.entry (c.args.s + 1) c.args.strips (omega arith) c.in-Ok.ensures.enough
+    rw (c.file.ensures.endian, c.file.ensures.file)
+    (fewer_integers _ _ c.in-Ok.entry (c.args.s + 1) c.args.strips (omega arith) c.in-Ok.ensures.enough)

@@ -1,0 +1,24 @@
+-- The first entries of the tags that a page's form depends on.
+use Rattle.std.specs.Prelude.{◌≡◌, ℕ, ◌<◌, Bool, List, length, get_or, Option, None, ◌==◌}
+use Rattle.std.specs.List.{list_any}
+use Rattle.fax_files.specs.declared.fields.TheConstants.{TAGS}
+use Rattle.fax_files.specs.Directory.{Entry, entries, field, IsWholeDirectory}
+use Rattle.fax_files.specs.code.Tiff.{TiffDirectory}
+
+-- a tag stands among those that are looked for
+abbrev pub is_sought : ℕ → Bool
+is_sought tag = list_any (λ sought. sought == tag) TAGS
+
+-- the entries of a directory
+abbrev pub entries_of : TiffDirectory → List Entry
+entries_of directory = entries directory.endian directory.file directory.offset
+
+-- for each tag that is looked for, the first of these entries
+pub record AreFirst (fields : List Entry) (first : List (Option Entry)) : Type 0 where
+  pub count : length first ≡ 14
+  pub first_is : (i : ℕ) → i < 14 → get_or first i None ≡ field fields (get_or TAGS i 0)
+
+-- the same for the entries of a directory that lies whole in its file
+pub record AreFieldsOf (directory : TiffDirectory) (first : List (Option Entry)) : Type 0 where
+  pub whole : IsWholeDirectory directory.endian directory.file directory.offset
+  pub are_first : AreFirst (entries_of directory) first

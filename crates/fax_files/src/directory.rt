@@ -1,0 +1,99 @@
+//! The directory of a page.
+
+ghost use Rattle.std.specs.Prelude.{◌≡◌, ◌+◌, ◌*◌, ◌<◌, ◌≤◌, length, IfOk};
+ghost use Rattle.fax_files.specs.Directory as Spec;
+ghost use Rattle.fax_files.specs.Page.{IsPageForm};
+ghost use Rattle.fax_files.specs.code.Fields.{AreFieldsOf};
+ghost use Rattle.fax_files.specs.code.Tiff.{form_of};
+
+use crate::fields::{Fields, FirstEntries};
+use crate::numbers::File;
+use crate::page::page_form;
+use crate::{Endian, FileFault, PageForm};
+use std::marker::Model;
+
+/// A directory that lies whole in its file: a page.
+#[derive(Drop)]
+pub struct Directory<'a> {
+    bytes: &'a [u8],
+    endian: Endian,
+    offset: usize,
+}
+
+impl<'a> Model for Directory<'a> {
+    ghost use Rattle.fax_files.specs.Directory.{IsWholeDirectory};
+    ghost use Rattle.fax_files.specs.code.Tiff.{TiffDirectory};
+
+    ghost Value = { TiffDirectory };
+
+    ghost view = { λ d. record { endian = d.endian; file = d.bytes.now; offset = d.offset } };
+
+    ghost invariant = { λ d. IsWholeDirectory d.endian d.bytes.now d.offset };
+}
+
+/// The number of entries in the directory at an offset.
+pub fn entry_count(file: &File, offset: usize) -> u16
+    requires { offset + 2 ≤ length file.now.bytes.now }
+    ensures { result ≡ Spec.entry_count file.now.endian file.now.bytes.now offset }
+{
+    file.u16_at(offset)
+}
+
+impl<'a> Directory<'a> {
+    /// The directory at an offset.
+    pub(crate) fn new(file: File<'a>, offset: usize) -> Self
+        requires { Spec.IsWholeDirectory file.endian file.bytes.now offset }
+        ensures endian { result.endian ≡ file.entry.endian }
+        ensures file { result.file ≡ file.entry.bytes.now }
+        ensures offset { result.offset ≡ offset }
+    {
+        Directory {
+            bytes: file.bytes,
+            endian: file.endian,
+            offset,
+        }
+    }
+
+    /// The file that it stands in.
+    pub(crate) fn file(&self) -> File<'a>
+        ensures endian { result.endian ≡ self.now.endian }
+        ensures file { result.bytes.now ≡ self.now.file }
+    {
+        File {
+            bytes: self.bytes,
+            endian: self.endian,
+        }
+    }
+
+    /// The first entry of each tag of `TAGS`. It goes from the last entry to the first.
+    pub(crate) fn first_entries(&self) -> FirstEntries
+        ensures { AreFieldsOf self.now result.entries }
+    {
+        let file = self.file();
+        let mut first = FirstEntries::new();
+        let count = entry_count(&file, self.offset);
+        for k in (0..count).rev() {
+            first.see(file.entry_at(self.offset + 2 + 12 * k as usize));
+        }
+        first
+    }
+
+    /// The offset of the next directory, in bytes, or 0 at the chain's end.
+    pub fn next_offset(&self) -> u32
+        ensures { result ≡ Spec.next_offset self.now.endian self.now.file self.now.offset }
+    {
+        let file = self.file();
+        let count = entry_count(&file, self.offset) as usize;
+        file.u32_at(self.offset + 2 + 12 * count)
+    }
+
+    /// The form of the page, or its first fault, by the fields in the order of their checks: width,
+    /// rows, bits of a sample, compression, photometric interpretation, fill order, samples of a
+    /// pel, rows of a strip, T.4 options, offsets and byte counts of the strips (TIFF 6.0).
+    pub fn page(&self) -> Result<PageForm, FileFault>
+        ensures exact { result ≡ form_of self.now }
+        ensures limits { IfOk result IsPageForm }
+    {
+        page_form(&Fields::new(self))
+    }
+}

@@ -1,0 +1,136 @@
+//! The fields of a page: the first entries of the tags that its form depends on.
+
+ghost use Rattle.std.specs.Prelude.{◌≡◌, ◌+◌, ◌≤◌, length, IsTrue, IfOk, IfSome, List, [], ◌∷◌};
+ghost use Rattle.fax_files.specs.Directory as Spec;
+ghost use Rattle.fax_files.specs.code.Fields.{is_sought, entries_of};
+
+use crate::FileFault;
+use crate::directory::Directory;
+use crate::entries::Entry;
+use crate::numbers::File;
+use std::marker::Model;
+
+/// The tags that are looked for, in order.
+#[rattlefmt::skip]
+pub const TAGS: [u16; 14] = [
+    256, 257, 258, 259, 262, 266, 273, 277, 278, 279, 282, 283, 292, 296,
+];
+
+/// The first entry of each tag of `TAGS`.
+#[derive(Drop)]
+pub struct FirstEntries {
+    entries: [Option<Entry>; 14],
+}
+
+impl FirstEntries {
+    ghost use Rattle.fax_files.specs.code.Fields.{AreFirst};
+
+    /// No entries yet.
+    pub fn new() -> Self
+        ensures { AreFirst [] result.entries }
+    {
+        FirstEntries {
+            entries: [None; 14],
+        }
+    }
+
+    /// Puts an entry before those that were seen.
+    pub fn see(&mut self, entry: Entry)
+        ensures { (fields : List Spec.Entry) → AreFirst fields self.old.entries
+            → AreFirst (entry ∷ fields) self.new.entries }
+    {
+        if let Ok(slot) = TAGS.binary_search(&entry.tag()) {
+            self.entries[slot] = Some(entry);
+        }
+    }
+
+    /// The first entry of a tag of `TAGS`.
+    fn first(&self, tag: u16) -> Option<Entry>
+        requires { IsTrue (is_sought tag) }
+        ensures { (fields : List Spec.Entry) → AreFirst fields self.now.entries
+            → result ≡ Spec.field fields tag }
+    {
+        match TAGS.binary_search(&tag) {
+            Ok(slot) => self.entries[slot],
+            Err(_) => unreachable!(),
+        }
+    }
+}
+
+/// A directory with the first entry of each tag of `TAGS`.
+#[derive(Drop)]
+pub struct Fields<'d, 'a> {
+    directory: &'d Directory<'a>,
+    first: FirstEntries,
+}
+
+impl<'d, 'a> Model for Fields<'d, 'a> {
+    ghost use Rattle.fax_files.specs.code.Tiff.{TiffDirectory};
+    ghost use Rattle.fax_files.specs.code.Fields.{AreFieldsOf};
+
+    ghost Value = { TiffDirectory };
+
+    ghost view = { λ f. f.directory.now };
+
+    ghost invariant = { λ f. AreFieldsOf f.directory.now f.first.entries };
+}
+
+impl<'d, 'a> Fields<'d, 'a> {
+    /// Goes through the entries of a directory once.
+    pub fn new(directory: &'d Directory<'a>) -> Self
+        ensures { result ≡ directory.now }
+    {
+        Fields {
+            directory,
+            first: directory.first_entries(),
+        }
+    }
+
+    /// The file that the directory stands in.
+    pub fn file(&self) -> File<'a>
+        ensures endian { result.endian ≡ self.now.endian }
+        ensures file { result.bytes.now ≡ self.now.file }
+    {
+        self.directory.file()
+    }
+
+    /// The first entry of a tag of `TAGS`.
+    fn first(&self, tag: u16) -> Option<Entry>
+        requires { IsTrue (is_sought tag) }
+        ensures first { result ≡ Spec.field (entries_of self.now) tag }
+        ensures inside { IfSome result (λ entry. entry.place + 4 ≤ length self.now.file) }
+    {
+        self.first.first(tag)
+    }
+
+    /// The first entry of a tag, which has to be there.
+    pub fn needed(&self, tag: u16) -> Result<Entry, FileFault>
+        requires { IsTrue (is_sought tag) }
+        ensures exact { result ≡ Spec.needed (entries_of self.now) tag }
+        ensures inside { IfOk result (λ entry. entry.place + 4 ≤ length self.now.file) }
+    {
+        self.first(tag).ok_or(FileFault::MissingField(tag))
+    }
+
+    /// The scalar of a tag, which has to be there.
+    #[tactic(auto, unfolding(crate::specs::Directory::needed_scalar))]
+    pub fn needed_scalar(&self, tag: u16) -> Result<u32, FileFault>
+        requires { IsTrue (is_sought tag) }
+        ensures { result ≡ Spec.needed_scalar self.now.endian self.now.file (entries_of self.now) tag }
+    {
+        let entry = self.needed(tag)?;
+        self.file().scalar(&entry)
+    }
+
+    /// The scalar of a tag, or `absent` where no entry has the tag.
+    #[tactic(auto, unfolding(crate::specs::Directory::scalar_or))]
+    pub fn scalar_or(&self, tag: u16, absent: u32) -> Result<u32, FileFault>
+        requires { IsTrue (is_sought tag) }
+        ensures { result ≡ Spec.scalar_or self.now.endian self.now.file (entries_of self.now) tag absent }
+    {
+        match self.first(tag) {
+            Some(entry) => self.file().scalar(&entry),
+            None => Ok(absent),
+        }
+    }
+}
