@@ -6,10 +6,12 @@ mod lines;
 mod reader;
 #[cfg(test)]
 mod tests;
+mod writer;
 
 pub use fax_rows::{Colour, FillOrder, Memory, Row, RowFault};
 pub use reader::StripReader;
 use thiserror::Error;
+pub use writer::StripWriter;
 
 /// How the rows of a strip are coded.
 #[derive(Clone, Copy, Debug, PartialEq, Eq)]
