@@ -1,5 +1,5 @@
 -- The bits of a strip: a list of truth values, where true is the bit 1.
-use Rattle.std.specs.Prelude.{◌≡◌, ℕ, zero, suc, ◌+◌, ◌*◌, ◌<◌, ◌≤◌, Bool, true, false, if◌then◌else◌, List, [], ◌∷◌, ◌++◌, length, slice_index_or, replicate, reverse, fold, flat_map, ◌==◌}
+use Rattle.std.specs.Prelude.{◌≡◌, ℕ, zero, suc, ◌+◌, ◌-◌, ◌*◌, ◌<◌, ◌≤◌, Bool, true, false, if◌then◌else◌, List, [], ◌∷◌, ◌++◌, length, slice_index_or, replicate, reverse, fold, flat_map, ◌==◌}
 use Rattle.std.specs.Int.{bit_at}
 use Rattle.fax_bits.specs.declared.FillOrder.{FillOrder}
 use Rattle.fax_bits.specs.declared.FillOrder.TheVariants.{MsbFirst, LsbFirst}
@@ -13,6 +13,11 @@ code_bits (suc len) number = (bit_at number len == 1) ∷ code_bits len number
 unfoldable pub byte_bits : FillOrder → ℕ → List Bool
 byte_bits MsbFirst byte = code_bits 8 byte
 byte_bits LsbFirst byte = reverse (code_bits 8 byte)
+
+-- which bit of a byte, 0 the lowest, is coded at this place of its eight bits (TIFF 6.0, FillOrder)
+abbrev pub bit_in_byte : FillOrder → ℕ → ℕ
+bit_in_byte MsbFirst place = 7 - place
+bit_in_byte LsbFirst place = place
 
 -- the bits of the bytes (TIFF 6.0, FillOrder)
 unfoldable pub bits : FillOrder → List ℕ → List Bool

@@ -2,20 +2,20 @@
 ghost use Rattle.std.specs.Prelude.{◌≡◌, ◌*◌, ◌<◌, ◌≤◌, ◌^◌, OnOk, OnErr};
 ghost use Rattle.fax_bits.specs.declared.runs.RunCode.TheVariants.{Terminating, MakeUp};
 ghost use Rattle.fax_bits.specs.Codes.{bits_at};
-ghost use Rattle.fax_bits.specs.Runs.{run_code_bits, run_bits, mode_bits, IsWritten};
-ghost use Rattle.fax_bits.specs.code.Sink.{Appends, AppendsPrefix};
+ghost use Rattle.fax_bits.specs.Runs.{run_codes, run_code_bits, run_bits, mode_bits, IsWritten};
+ghost use Rattle.fax_bits.specs.code.Sink.{Appends, AppendsCodes};
 ghost use Rattle.fax_bits.specs.Tables.{run_meaning, modes};
 
 use crate::codes::CodeTable;
 use crate::{BitSink, BlackRuns, Colour, Memory, ModeCode, Modes, WhiteRuns};
 
 /// Puts a run of `n` pels, below 65,536, as codes of its colour: 2560 as often as it fits, at most
-/// one other make-up code, a terminating code (T.4, section 4.1.1). After an `Err` some of their
-/// bits may have been put, from the first on.
+/// one other make-up code, a terminating code (T.4, section 4.1.1). After an `Err` some of these codes
+/// may have been put, from the first on and each of them whole.
 pub fn put_run(sink: &mut BitSink, colour: Colour, n: u32) -> Result<(), Memory>
     requires { n < 2 ^ 16 }
     ensures ok { OnOk result (Appends sink.old (run_bits colour n) sink.new) }
-    ensures err { OnErr result (AppendsPrefix sink.old (run_bits colour n) sink.new) }
+    ensures err { OnErr result (AppendsCodes sink.old colour (run_codes n) sink.new) }
 {
     for _ in 0..n / 2560 {
         put_make_up(sink, colour, 40)?;
