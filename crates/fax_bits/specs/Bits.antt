@@ -31,11 +31,6 @@ bits_number b = fold (λ number bit. 2 * number + (if bit then 1 else 0)) 0 b
 abbrev pub IsAllZeros : List Bool → Type 0
 IsAllZeros b = (zeros : ℕ) × (b ≡ replicate zeros false)
 
--- eight zeros stand at this place of the bits (this project's profile)
-pub record IsZeroByteAt (b : List Bool) (place : ℕ) : Type 0 where
-  pub within : place + 8 ≤ length b
-  pub zeros : (k : ℕ) → k < 8 → slice_index_or b (place + k) false ≡ false
-
 -- the bits begin with this many zeros and a 1 (T.4, section 4.1.3)
 abbrev pub HasZerosAhead : List Bool → ℕ → Type 0
 HasZerosAhead b zeros = (behind : List Bool) × (b ≡ replicate zeros false ++ true ∷ behind)

@@ -1,5 +1,5 @@
 -- Bits that are read from a place on.
-use Rattle.std.specs.Prelude.{◌≡◌, ℕ, ◌+◌, ◌*◌, ◌≤◌, Bool, List, length, drop}
+use Rattle.std.specs.Prelude.{◌≡◌, ℕ, ◌+◌, ◌*◌, ◌<◌, ◌≤◌, Bool, false, List, length, slice_index_or, drop}
 use Rattle.fax_bits.specs.declared.FillOrder.{FillOrder}
 use Rattle.fax_bits.specs.Bits.{bits}
 
@@ -11,6 +11,11 @@ pub record Source : Type 0 where
 -- the bits of the bytes, from this place on (TIFF 6.0, FillOrder)
 abbrev pub source_of : FillOrder → List ℕ → ℕ → Source
 source_of order bytes place = record { left = drop place (bits order bytes); place = place }
+
+-- eight zeros stand at this place of the bits
+pub record IsZeroByteAt (b : List Bool) (place : ℕ) : Type 0 where
+  pub within : place + 8 ≤ length b
+  pub zeros : (k : ℕ) → k < 8 → slice_index_or b (place + k) false ≡ false
 
 -- the source goes on in the same bits: they end at the same place
 abbrev pub KeepsEnd : Source → Source → Type 0
