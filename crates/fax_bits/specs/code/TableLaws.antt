@@ -1,5 +1,5 @@
--- The rules that the run tables and the mode table keep, by computed tests.
-use Rattle.std.specs.Prelude.{◌≡◌, true, map, refl}
+-- The rules that the run tables and the mode table keep, by computation.
+use Rattle.std.specs.Prelude.{◌≡◌, true, map, length, refl}
 use Rattle.fax_bits.specs.declared.Colour.{Colour}
 use Rattle.fax_bits.specs.declared.Colour.TheVariants.{White, Black}
 use Rattle.fax_bits.specs.Bits.{code_bits}
@@ -36,3 +36,15 @@ modes_is_prefix_free = is_prefix_free modes prefix_free_test-modes
 
 pub modes_has_short_codes : HasShortCodes modes
 modes_has_short_codes = has_short_codes modes short_codes_test-modes
+
+pub length-white_runs : length white_runs ≡ 105
+unfolding white_runs run_extension white_terminating white_make_up common_make_up
+length-white_runs = refl
+
+pub length-black_runs : length black_runs ≡ 105
+unfolding black_runs run_extension black_terminating black_make_up common_make_up
+length-black_runs = refl
+
+pub length-modes : length modes ≡ 10
+unfolding modes
+length-modes = refl
