@@ -7,7 +7,7 @@ use Rattle.fax_bits.specs.declared.FillOrder.TheVariants.{LsbFirst}
 use Rattle.fax_bits.specs.Bits.{code_bits, byte_bits}
 
 -- the lowest bits of high * 2 ^ b + low are those of low
-code_bits-low : (m b high low : ℕ) → m ≤ b → code_bits m (high * 2 ^ b + low) ≡ code_bits m low
+pub code_bits-low : (m b high low : ℕ) → m ≤ b → code_bits m (high * 2 ^ b + low) ≡ code_bits m low
 unfolding code_bits
 code_bits-low zero b high low within = refl
 code_bits-low (suc m) b high low within =

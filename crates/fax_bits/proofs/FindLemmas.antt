@@ -18,7 +18,7 @@ same_digit (suc (suc n)) m h k e = absurd (omega arith)
 same_digit n (suc (suc m)) h k e = absurd (omega arith)
 
 -- numbers with the same bits are the same
-same_number : (len n m : ℕ) → n < 2 ^ len → m < 2 ^ len → code_bits len n ≡ code_bits len m → n ≡ m
+pub same_number : (len n m : ℕ) → n < 2 ^ len → m < 2 ^ len → code_bits len n ≡ code_bits len m → n ≡ m
 same_number len n m n_fits m_fits same =
     same_from_bits_below len n m n_fits m_fits
     (λ i within.

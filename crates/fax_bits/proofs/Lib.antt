@@ -6,7 +6,6 @@ pub mod TableLemmas
 pub mod ArrayLemmas
 pub mod ZeroLemmas
 pub mod PeekLemmas
-pub mod TableLaws
 pub mod PrefixLemmas
 pub mod ReadingLemmas
 pub mod RunCodeLemmas
@@ -14,3 +13,4 @@ pub mod ModeLemmas
 pub mod ReadBackLemmas
 pub mod PutLemmas
 pub mod FindLemmas
+pub mod NumberLemmas

@@ -1,7 +1,8 @@
 -- A table that keeps its rules is read in one way.
 use Rattle.std.proofs.Common.{◌≡◌, List, [], ◌∷◌, ◌++◌, length, length-append, Bool, refl, ap, sym, ◌∙◌, arith, inl, inr}
-use Rattle.std.specs.Prelude.{◌⊎◌}
+use Rattle.std.specs.Prelude.{◌⊎◌, Contains, Some, slice_get}
 use Rattle.std.proofs.lemmas.List.{append_cancel_left}
+use Rattle.std.proofs.lemmas.Option.{slice_get_read}
 use Rattle.fax_bits.specs.declared.codes.CodeEntry.{CodeEntry}
 use Rattle.fax_bits.specs.Codes.{bits_of, Takes, HasShortCodes, IsPrefixFree}
 use Rattle.fax_bits.specs.Laws.{TakesOne, TakesBits, ReadsOneWay}
@@ -29,15 +30,25 @@ took_same table b meaning other rest remaining first second same = (
       (sym first.spelled ∙ second.spelled ∙ ap (λ (e : CodeEntry _). bits_of e ++ remaining) (sym same)),
 )
 
+-- an entry whose code begins the code of another is that entry
+same_entry : {M : Type 0} (table : List (CodeEntry M)) (entry other : CodeEntry M) (more : List Bool) → IsPrefixFree table
+    → Contains table entry → Contains table other → bits_of other ≡ bits_of entry ++ more → entry ≡ other
+same_entry table entry other more free here there is =
+    let at : slice_get table here.0 ≡ Some entry = slice_get_read table (length table) here.0 entry refl here.1 (sym here.2) in
+    let at_other : slice_get table there.0 ≡ Some other = slice_get_read table (length table) there.0 other refl there.1 (sym there.2) in
+    let place : here.0 ≡ there.0 = free here.0 there.0 entry other more at at_other is in
+    let found : Some entry ≡ Some other = sym at ∙ ap (slice_get table) place ∙ at_other in
+    cc
+
 pub takes_one : {M : Type 0} (table : List (CodeEntry M)) → IsPrefixFree table → TakesOne table
 takes_one table free b meaning other rest remaining first second =
     elim (one_starts_the_other (bits_of first.entry) (bits_of second.entry) rest remaining (sym first.spelled ∙ second.spelled)) [
       | inl longer ↦
           took_same table b meaning other rest remaining first second
-          (free first.entry second.entry longer.0 first.listed second.listed longer.1)
+          (same_entry table first.entry second.entry longer.0 free first.listed second.listed longer.1)
       | inr shorter ↦
           took_same table b meaning other rest remaining first second
-          (sym (free second.entry first.entry shorter.0 second.listed first.listed shorter.1))
+          (sym (same_entry table second.entry first.entry shorter.0 free second.listed first.listed shorter.1))
     ]
 
 pub takes_bits : {M : Type 0} (table : List (CodeEntry M)) → HasShortCodes table → TakesBits table

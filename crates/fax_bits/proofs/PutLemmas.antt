@@ -8,7 +8,7 @@ use Rattle.fax_bits.specs.declared.Colour.{Colour}
 use Rattle.fax_bits.specs.declared.runs.RunCode.{RunCode}
 use Rattle.fax_bits.specs.declared.runs.RunCode.TheVariants.{Terminating, MakeUp}
 use Rattle.fax_bits.specs.Runs.{run_codes, one_make_up, run_code_bits, run_bits}
-use Rattle.fax_bits.specs.code.Sink.{Sink, Appends, AppendsPrefix}
+use Rattle.fax_bits.specs.code.Sink.{Sink, Appends, AppendsCodes}
 
 pub appends-then : (old mid new : Sink) (first second : List Bool) → Appends old first mid → Appends mid second new → Appends old (first ++ second) new
 appends-then old mid new first second one two =
@@ -36,16 +36,10 @@ put-step colour old mid new i one two =
     subst (λ codes. Put colour old codes new) (replicate-append-replicate i 1 (MakeUp 2560))
     (put-more colour old mid new (replicate i (MakeUp 2560)) (MakeUp 2560) one two)
 
--- codes that were put are a prefix of a run's codes
-module _ (colour : Colour) (n : ℕ) (old new : Sink) (front back : List RunCode) (put : Put colour old front new) (parts : run_codes n ≡ front ++ back) where
-  pub put-prefix : AppendsPrefix old (run_bits colour n) new
-  unfolding run_bits
-  put-prefix = record {
-    done = flat_map (run_code_bits colour) front;
-    missing = flat_map (run_code_bits colour) back;
-    appended = put;
-    parts = ap (flat_map (run_code_bits colour)) parts ∙ flat_map-append (run_code_bits colour) front back;
-  }
+-- codes that were put are the first of a run's codes
+pub put-prefix : (colour : Colour) (n : ℕ) (old new : Sink) (front back : List RunCode) → Put colour old front new
+    → run_codes n ≡ front ++ back → AppendsCodes old colour (run_codes n) new
+put-prefix colour n old new front back put parts = record { done = front; missing = back; appended = put; parts = parts }
 
 -- where the i-th make-up code of 2560 was refused
 pub first_codes : (n i : ℕ) → i ≤ n / 2560 → run_codes n

@@ -8,8 +8,8 @@ use Rattle.std.specs.Prelude.{bit_and}
 use Rattle.std.specs.Int.{bit_at}
 use Rattle.fax_bits.specs.declared.FillOrder.{FillOrder}
 use Rattle.fax_bits.specs.declared.FillOrder.TheVariants.{MsbFirst, LsbFirst}
-use Rattle.fax_bits.specs.Bits.{code_bits, byte_bits, bits, IsZeroByteAt}
-use Rattle.fax_bits.specs.code.Source.{Source, source_of, bit_in_byte}
+use Rattle.fax_bits.specs.Bits.{code_bits, byte_bits, bits, bit_in_byte}
+use Rattle.fax_bits.specs.code.Source.{Source, source_of, IsZeroByteAt}
 
 -- a byte has eight bits
 pub length-byte_bits : (order : FillOrder) (byte : ℕ) → length (byte_bits order byte) ≡ 8
@@ -59,6 +59,13 @@ get_or-bits order (byte ∷ bytes) (suc q) r in_bytes in_byte =
     ap (λ i. get_or (byte_bits order byte ++ bits order bytes) i false) place
     ∙ get_or-append-add (byte_bits order byte) (bits order bytes) (8 * q + r) false
     ∙ get_or-bits order bytes q r (omega arith) in_byte
+
+-- bit i of the bytes
+pub bit_of_bytes : (order : FillOrder) (bytes : List ℕ) (i : ℕ) → i < 8 * length bytes
+    → get_or (bits order bytes) i false ≡ nat_eq (bit_at (get_or bytes (i / 8) 0) (bit_in_byte order (i % 8))) 1
+bit_of_bytes order bytes i within =
+    let at : 8 * (i / 8) + i % 8 ≡ i = omega arith in
+    ap (λ n. get_or (bits order bytes) n false) (sym at) ∙ get_or-bits order bytes (i / 8) (i % 8) (omega arith) (omega arith)
 
 -- how many bits are left
 pub length-left : (order : FillOrder) (bytes : List ℕ) (place : ℕ) → length (source_of order bytes place).left ≡ 8 * length bytes - place

@@ -1,7 +1,8 @@
 -- Zeros that bits begin with.
 use Rattle.std.proofs.Common.{◌≡◌, ℕ, zero, suc, ◌+◌, ◌-◌, ◌<◌, List, [], ◌∷◌, length, get_or, Bool, true, false, refl, ap, sym, ◌∙◌, inl, inr, arith}
 use Rattle.std.proofs.lemmas.Bool.{cases_lt}
-use Rattle.fax_bits.specs.Bits.{IsAllZeros, HasZerosAhead, IsZeroByteAt}
+use Rattle.fax_bits.specs.Bits.{IsAllZeros, HasZerosAhead}
+use Rattle.fax_bits.specs.code.Source.{IsZeroByteAt}
 
 -- the first n bits are 0
 abbrev pub IsZeroBelow : List Bool → ℕ → Type 0

@@ -1,5 +1,5 @@
 -- The bits of a strip: a list of truth values, where true is the bit 1.
-use Rattle.std.specs.Prelude.{◌≡◌, ℕ, zero, suc, ◌+◌, ◌*◌, ◌<◌, ◌≤◌, Bool, true, false, if◌then◌else◌, List, [], ◌∷◌, ◌++◌, length, slice_index_or, replicate, reverse, fold, flat_map, ◌==◌}
+use Rattle.std.specs.Prelude.{◌≡◌, ℕ, zero, suc, ◌+◌, ◌-◌, ◌*◌, ◌<◌, ◌≤◌, Bool, true, false, if◌then◌else◌, List, [], ◌∷◌, ◌++◌, length, slice_index_or, replicate, reverse, fold, flat_map, ◌==◌}
 use Rattle.std.specs.Int.{bit_at}
 use Rattle.fax_bits.specs.declared.FillOrder.{FillOrder}
 use Rattle.fax_bits.specs.declared.FillOrder.TheVariants.{MsbFirst, LsbFirst}
@@ -14,6 +14,11 @@ unfoldable pub byte_bits : FillOrder → ℕ → List Bool
 byte_bits MsbFirst byte = code_bits 8 byte
 byte_bits LsbFirst byte = reverse (code_bits 8 byte)
 
+-- which bit of a byte, 0 the lowest, is coded at this place of its eight bits (TIFF 6.0, FillOrder)
+abbrev pub bit_in_byte : FillOrder → ℕ → ℕ
+bit_in_byte MsbFirst place = 7 - place
+bit_in_byte LsbFirst place = place
+
 -- the bits of the bytes (TIFF 6.0, FillOrder)
 unfoldable pub bits : FillOrder → List ℕ → List Bool
 bits order bytes = flat_map (byte_bits order) bytes
@@ -25,11 +30,6 @@ bits_number b = fold (λ number bit. 2 * number + (if bit then 1 else 0)) 0 b
 -- no 1 is among the bits (T.4, section 4.1.3)
 abbrev pub IsAllZeros : List Bool → Type 0
 IsAllZeros b = (zeros : ℕ) × (b ≡ replicate zeros false)
-
--- eight zeros stand at this place of the bits (this project's profile)
-pub record IsZeroByteAt (b : List Bool) (place : ℕ) : Type 0 where
-  pub within : place + 8 ≤ length b
-  pub zeros : (k : ℕ) → k < 8 → slice_index_or b (place + k) false ≡ false
 
 -- the bits begin with this many zeros and a 1 (T.4, section 4.1.3)
 abbrev pub HasZerosAhead : List Bool → ℕ → Type 0

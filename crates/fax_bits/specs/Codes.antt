@@ -1,5 +1,5 @@
 -- What it is that bits begin with a code of a table, or with none.
-use Rattle.std.specs.Prelude.{◌≡◌, ℕ, zero, suc, ◌^◌, ◌<◌, ◌≤◌, Bool, List, [], ◌∷◌, ◌++◌, Contains}
+use Rattle.std.specs.Prelude.{◌≡◌, ℕ, zero, suc, ◌^◌, ◌<◌, ◌≤◌, Bool, List, [], ◌∷◌, ◌++◌, Contains, Some, slice_get}
 use Rattle.fax_bits.specs.declared.codes.CodeEntry.{CodeEntry}
 use Rattle.fax_bits.specs.declared.codes.CodeFault.{CodeFault}
 use Rattle.fax_bits.specs.declared.codes.CodeFault.TheVariants.{DataEnds, BadCode}
@@ -20,11 +20,13 @@ abbrev pub HasShortCodes : {M : Type 0} → List (CodeEntry M) → Type 0
 HasShortCodes {M} table =
     (entry : CodeEntry M) → Contains table entry → (0 < entry.len) × (entry.len ≤ 13) × (entry.code < 2 ^ entry.len)
 
--- no entry's code begins the code of another entry (T.4, tables 2, 3a, 3b and 4)
+-- no entry's code begins the code at another place of the table, where the same entry may stand too (T.4, tables 2,
+-- 3a, 3b and 4)
 abbrev pub IsPrefixFree : {M : Type 0} → List (CodeEntry M) → Type 0
 IsPrefixFree {M} table =
-    (entry other : CodeEntry M) (more : List Bool) → Contains table entry → Contains table other
-    → bits_of other ≡ bits_of entry ++ more → entry ≡ other
+    (i j : ℕ) (entry other : CodeEntry M) (more : List Bool)
+    → slice_get table i ≡ Some entry → slice_get table j ≡ Some other
+    → bits_of other ≡ bits_of entry ++ more → i ≡ j
 
 -- the bits begin with the code of some entry that has this meaning, and the rest follows it (T.4, section 4.1.1)
 pub record Takes {M : Type 0} (table : List (CodeEntry M)) (b : List Bool) (meaning : M) (rest : List Bool) : Type 0 where

@@ -1,12 +1,32 @@
--- Laws of code tables, which the functions of the module `laws` prove.
-use Rattle.std.specs.Prelude.{◌≡◌, ℕ, ◌^◌, ◌<◌, Bool, List, ◌++◌, length, ◌⊎◌}
+-- Laws of bits and of code tables, which the functions of the module `laws` prove.
+use Rattle.std.specs.Prelude.{◌≡◌, ℕ, ◌*◌, ◌/◌, ◌%◌, ◌^◌, ◌<◌, ◌==◌, Bool, false, List, ◌++◌, length, slice_index_or, ◌⊎◌}
+use Rattle.std.specs.Int.{bit_at}
 use Rattle.fax_bits.specs.declared.codes.CodeEntry.{CodeEntry}
 use Rattle.fax_bits.specs.declared.codes.CodeFault.{CodeFault}
 use Rattle.fax_bits.specs.declared.Colour.{Colour}
+use Rattle.fax_bits.specs.declared.FillOrder.{FillOrder}
+use Rattle.fax_bits.specs.declared.FillOrder.TheVariants.{MsbFirst}
 use Rattle.fax_bits.specs.declared.modes.ModeCode.{ModeCode}
+use Rattle.fax_bits.specs.Bits.{byte_bits, bits, bits_number, bit_in_byte}
 use Rattle.fax_bits.specs.Codes.{Takes, IsFaultOf}
 use Rattle.fax_bits.specs.Runs.{IsRun, IsWritten, run_bits, mode_bits}
 use Rattle.fax_bits.specs.Tables.{modes}
+
+-- bytes have eight bits each, and each bit stands in its byte, at a place that the fill order says (TIFF 6.0,
+-- FillOrder)
+pub record AreBitsByPlace : Type 0 where
+  pub count : (order : FillOrder) (bytes : List ℕ) → length (bits order bytes) ≡ 8 * length bytes
+  pub of_byte : (order : FillOrder) (byte i : ℕ) → i < 8
+      → slice_index_or (byte_bits order byte) i false ≡ (bit_at byte (bit_in_byte order i) == 1)
+  pub of_bytes : (order : FillOrder) (bytes : List ℕ) (i : ℕ) → i < 8 * length bytes
+      → slice_index_or (bits order bytes) i false
+      ≡ (bit_at (slice_index_or bytes (i / 8) 0) (bit_in_byte order (i % 8)) == 1)
+
+-- eight bits are those of one byte: the number that they spell, the highest first (TIFF 6.0, FillOrder)
+pub record AreBitsOfOneByte : Type 0 where
+  pub fits : (b : List Bool) → length b ≡ 8 → bits_number b < 256
+  pub spelled : (b : List Bool) → length b ≡ 8 → byte_bits MsbFirst (bits_number b) ≡ b
+  pub again : (byte : ℕ) → byte < 256 → bits_number (byte_bits MsbFirst byte) ≡ byte
 
 -- at most one code of the table is taken, and one rest follows it (T.4, tables 2, 3a, 3b and 4)
 abbrev pub TakesOne : {M : Type 0} → List (CodeEntry M) → Type 0

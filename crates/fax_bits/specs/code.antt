@@ -3,5 +3,4 @@ pub mod Source
 pub mod Sink
 pub mod Meeting
 pub mod TableTests
-pub mod TableSizes
-pub mod Trits
+pub mod TableLaws

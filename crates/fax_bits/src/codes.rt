@@ -1,8 +1,10 @@
 //! Code tables, and the code that bits begin with.
-ghost use Rattle.std.specs.Prelude.{◌≡◌, ℕ, ◌+◌, ◌^◌, ◌<◌, ◌≤◌, List, length, slice_get, OnOk, OnErr, IfOk, IfErr, MatchOption, Some};
+ghost use Rattle.std.specs.Prelude.{◌≡◌, ℕ, ◌^◌, ◌<◌, ◌≤◌, List, length, slice_get};
+ghost use Rattle.std.specs.Prelude.{OnOk, OnErr, IfOk, IfErr, MatchOption, Some};
 ghost use Rattle.fax_bits.specs.Bits.{code_bits};
 ghost use Rattle.fax_bits.specs.Codes.{Takes, IsFaultOf};
 ghost use Rattle.fax_bits.specs.code.Meeting.{IsMeeting};
+ghost use Rattle.fax_bits.specs.code.Source.{KeepsEnd};
 
 use crate::BitSource;
 use thiserror::Error;
@@ -56,7 +58,8 @@ pub trait CodeTable {
     fn find(window: u32, n: u32) -> Option<(u32, Self::Meaning)>
         requires few { n ≤ 13 }
         requires fits { window < 2 ^ n }
-        ensures { MatchOption result (HasNoCode table (code_bits n window)) (λ found. BeginsWith table (code_bits n window) found.0 found.1) }
+        ensures { MatchOption result (HasNoCode table (code_bits n window))
+            (λ found. BeginsWith table (code_bits n window) found.0 found.1) }
     {
         for i in 0..Self::COUNT {
             let entry = Self::entry(i);
@@ -113,7 +116,7 @@ pub fn read_code<T: CodeTable>(source: &mut BitSource) -> Result<T::Meaning, Cod
     ensures unchanged { OnErr result (source.new ≡ source.old) }
 
     // The source goes on in the same bits, and a code takes at least one of them.
-    ensures same_end { source.new.place + length source.new.left ≡ source.old.place + length source.old.left }
+    ensures same_end { KeepsEnd source.old source.new }
     ensures shorter { OnOk result (length source.new.left < length source.old.left) }
 {
     let mut cut = false;

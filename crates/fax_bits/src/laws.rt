@@ -1,48 +1,61 @@
-//! Laws of the code tables. The functions compute nothing: each has a law as its contract.
+//! Laws of bits and of the code tables. The functions compute nothing: each has a law as its
+//! contract.
 ghost use Rattle.fax_bits.specs.declared.Colour.{Colour};
-ghost use Rattle.fax_bits.specs.Laws.{TakesOne, ReadsOneWay, RunBitsAreRead, RunBitsAreOneRun, ModeBitsAreRead};
+ghost use Rattle.fax_bits.specs.Laws as Law;
 ghost use Rattle.fax_bits.specs.Tables.{run_table, modes};
 
 use crate::codes::CodeTable;
 
+/// Bytes have eight bits each, and each bit stands in its byte, at a place that the fill order says
+/// (TIFF 6.0, FillOrder).
+pub fn bits_stand_by_place()
+    ensures { Law.AreBitsByPlace }
+{}
+
+/// Eight bits are those of one byte, and a byte is the number that its bits spell, the highest
+/// first (TIFF 6.0, FillOrder).
+pub fn eight_bits_are_a_byte()
+    ensures { Law.AreBitsOfOneByte }
+{}
+
 /// At most one code of a table is taken of any bits, with one rest behind it.
 pub fn one_code_is_taken<T: CodeTable>()
-    ensures { TakesOne T.table }
+    ensures { Law.TakesOne T.table }
 {}
 
 /// Bits are read by any table in one way: at most one code is taken, which has at least one bit; a
 /// code is taken or there is a fault, never both, and never two faults.
 pub fn codes_are_read_in_one_way<T: CodeTable>()
-    ensures { ReadsOneWay T.table }
+    ensures { Law.ReadsOneWay T.table }
 {}
 
 /// Bits are read by the run table of a colour in one way: at most one code is taken, which has at
 /// least one bit; a code is taken or there is a fault, never both, and never two faults (T.4,
 /// tables 2, 3a and 3b).
 pub fn run_codes_are_read_in_one_way()
-    ensures { (colour : Colour) → ReadsOneWay (run_table colour) }
+    ensures { (colour : Colour) → Law.ReadsOneWay (run_table colour) }
 {}
 
 /// Bits are read by the mode table in one way, as `run_codes_are_read_in_one_way` says of the run
 /// tables (T.4, table 4).
 pub fn modes_are_read_in_one_way()
-    ensures { ReadsOneWay modes }
+    ensures { Law.ReadsOneWay modes }
 {}
 
 /// A run below 65,536 pels, as `put_run` writes it, is read as that run, whatever bits follow it
 /// (T.4, section 4.1.1).
 pub fn runs_are_read_back()
-    ensures { RunBitsAreRead }
+    ensures { Law.RunBitsAreRead }
 {}
 
 /// A run below 65,536 pels, as `put_run` writes it, is read as no other run, and no other bits are
 /// left behind it (T.4, section 4.1.1).
 pub fn runs_are_read_as_nothing_else()
-    ensures { RunBitsAreOneRun }
+    ensures { Law.RunBitsAreOneRun }
 {}
 
 /// A mode, as `put_mode` writes it, is read as that mode, whatever bits follow it (T.4, section
 /// 4.2.1.3.2).
 pub fn modes_are_read_back()
-    ensures { ModeBitsAreRead }
+    ensures { Law.ModeBitsAreRead }
 {}

@@ -74,12 +74,8 @@ const MODES: [CodeEntry<ModeCode>; MODE_ENTRIES] = [
 pub struct Modes;
 
 impl CodeTable for Modes {
-    ghost use Rattle.std.specs.Prelude.{◌≡◌, map, true, refl};
-    ghost use Rattle.fax_bits.specs.Bits.{code_bits};
-    ghost use Rattle.fax_bits.specs.Codes.{bits_of};
     ghost use Rattle.fax_bits.specs.Tables.{modes};
-    ghost use Rattle.fax_bits.specs.code.TableSizes.{length-modes};
-    ghost use Rattle.fax_bits.specs.code.TableTests.{short_codes_test, prefix_free_test, has_short_codes, is_prefix_free};
+    ghost use Rattle.fax_bits.specs.code.TableLaws as Laws;
 
     type Meaning = ModeCode;
 
@@ -93,9 +89,9 @@ impl CodeTable for Modes {
         MODES[i]
     }
 
-    ghost counted = { length-modes };
+    ghost counted = { Laws.length-modes };
 
-    ghost short_codes = { let short : short_codes_test modes ≡ true = unfold modes in refl in has_short_codes modes short };
+    ghost short_codes = { Laws.modes_has_short_codes };
 
-    ghost prefix_free = { let free : prefix_free_test (map bits_of modes) ≡ true = unfold code_bits modes in refl in is_prefix_free modes free };
+    ghost prefix_free = { Laws.modes_is_prefix_free };
 }

@@ -2,20 +2,20 @@
 ghost use Rattle.std.specs.Prelude.{◌≡◌, ◌*◌, ◌<◌, ◌≤◌, ◌^◌, OnOk, OnErr};
 ghost use Rattle.fax_bits.specs.declared.runs.RunCode.TheVariants.{Terminating, MakeUp};
 ghost use Rattle.fax_bits.specs.Codes.{bits_at};
-ghost use Rattle.fax_bits.specs.Runs.{run_code_bits, run_bits, mode_bits, IsWritten};
-ghost use Rattle.fax_bits.specs.code.Sink.{Appends, AppendsPrefix};
+ghost use Rattle.fax_bits.specs.Runs.{run_codes, run_code_bits, run_bits, mode_bits, IsWritten};
+ghost use Rattle.fax_bits.specs.code.Sink.{Appends, AppendsCodes};
 ghost use Rattle.fax_bits.specs.Tables.{run_meaning, modes};
 
 use crate::codes::CodeTable;
 use crate::{BitSink, BlackRuns, Colour, Memory, ModeCode, Modes, WhiteRuns};
 
 /// Puts a run of `n` pels, below 65,536, as codes of its colour: 2560 as often as it fits, at most
-/// one other make-up code, a terminating code (T.4, section 4.1.1). After an `Err` some of their
-/// bits may have been put, from the first on.
+/// one other make-up code, a terminating code (T.4, section 4.1.1). After an `Err` some of these
+/// codes may have been put, from the first on and each of them whole.
 pub fn put_run(sink: &mut BitSink, colour: Colour, n: u32) -> Result<(), Memory>
     requires { n < 2 ^ 16 }
     ensures ok { OnOk result (Appends sink.old (run_bits colour n) sink.new) }
-    ensures err { OnErr result (AppendsPrefix sink.old (run_bits colour n) sink.new) }
+    ensures err { OnErr result (AppendsCodes sink.old colour (run_codes n) sink.new) }
 {
     for _ in 0..n / 2560 {
         put_make_up(sink, colour, 40)?;
@@ -32,7 +32,8 @@ pub fn put_run(sink: &mut BitSink, colour: Colour, n: u32) -> Result<(), Memory>
 fn put_make_up(sink: &mut BitSink, colour: Colour, steps: u32) -> Result<(), Memory>
     requires some { 0 < steps }
     requires few { steps ≤ 40 }
-    ensures ok { OnOk result (Appends sink.old (run_code_bits colour (MakeUp (64 * steps))) sink.new) }
+    ensures ok { OnOk result
+        (Appends sink.old (run_code_bits colour (MakeUp (64 * steps))) sink.new) }
     ensures err { OnErr result (sink.new ≡ sink.old) }
 {
     put_run_code(sink, colour, 63 + steps as usize)
@@ -51,7 +52,8 @@ fn put_terminating(sink: &mut BitSink, colour: Colour, pels: u32) -> Result<(), 
 /// Puts the code at a place of the run table of a colour. After an `Err` the sink is as it was.
 fn put_run_code(sink: &mut BitSink, colour: Colour, place: usize) -> Result<(), Memory>
     requires { place < 105 }
-    ensures ok { OnOk result (Appends sink.old (run_code_bits colour (run_meaning place)) sink.new) }
+    ensures ok { OnOk result
+        (Appends sink.old (run_code_bits colour (run_meaning place)) sink.new) }
     ensures err { OnErr result (sink.new ≡ sink.old) }
 {
     match colour {

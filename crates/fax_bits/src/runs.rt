@@ -256,12 +256,9 @@ const BLACK_LENS: [u8; RUN_ENTRIES] = [
 pub struct WhiteRuns;
 
 impl CodeTable for WhiteRuns {
-    ghost use Rattle.std.specs.Prelude.{◌≡◌, map, true, refl};
-    ghost use Rattle.fax_bits.specs.Bits.{code_bits};
-    ghost use Rattle.fax_bits.specs.Codes.{bits_of};
-    ghost use Rattle.fax_bits.specs.Tables.{white_runs, white_terminating, white_make_up, common_make_up, run_extension};
-    ghost use Rattle.fax_bits.specs.code.TableSizes.{length-white_runs};
-    ghost use Rattle.fax_bits.specs.code.TableTests.{short_codes_test, prefix_free_test, has_short_codes, is_prefix_free};
+    ghost use Rattle.fax_bits.specs.declared.Colour.TheVariants.{White};
+    ghost use Rattle.fax_bits.specs.Tables.{white_runs};
+    ghost use Rattle.fax_bits.specs.code.TableLaws as Laws;
 
     type Meaning = RunCode;
 
@@ -279,23 +276,20 @@ impl CodeTable for WhiteRuns {
         }
     }
 
-    ghost counted = { length-white_runs };
+    ghost counted = { Laws.length-white_runs };
 
-    ghost short_codes = { let short : short_codes_test white_runs ≡ true = unfold white_runs white_terminating white_make_up common_make_up run_extension in refl in has_short_codes white_runs short };
+    ghost short_codes = { Laws.run_table_has_short_codes White };
 
-    ghost prefix_free = { let free : prefix_free_test (map bits_of white_runs) ≡ true = unfold code_bits white_runs white_terminating white_make_up common_make_up run_extension in refl in is_prefix_free white_runs free };
+    ghost prefix_free = { Laws.run_table_is_prefix_free White };
 }
 
 /// The codes of black runs.
 pub struct BlackRuns;
 
 impl CodeTable for BlackRuns {
-    ghost use Rattle.std.specs.Prelude.{◌≡◌, map, true, refl};
-    ghost use Rattle.fax_bits.specs.Bits.{code_bits};
-    ghost use Rattle.fax_bits.specs.Codes.{bits_of};
-    ghost use Rattle.fax_bits.specs.Tables.{black_runs, black_terminating, black_make_up, common_make_up, run_extension};
-    ghost use Rattle.fax_bits.specs.code.TableSizes.{length-black_runs};
-    ghost use Rattle.fax_bits.specs.code.TableTests.{short_codes_test, prefix_free_test, has_short_codes, is_prefix_free};
+    ghost use Rattle.fax_bits.specs.declared.Colour.TheVariants.{Black};
+    ghost use Rattle.fax_bits.specs.Tables.{black_runs};
+    ghost use Rattle.fax_bits.specs.code.TableLaws as Laws;
 
     type Meaning = RunCode;
 
@@ -313,11 +307,11 @@ impl CodeTable for BlackRuns {
         }
     }
 
-    ghost counted = { length-black_runs };
+    ghost counted = { Laws.length-black_runs };
 
-    ghost short_codes = { let short : short_codes_test black_runs ≡ true = unfold black_runs black_terminating black_make_up common_make_up run_extension in refl in has_short_codes black_runs short };
+    ghost short_codes = { Laws.run_table_has_short_codes Black };
 
-    ghost prefix_free = { let free : prefix_free_test (map bits_of black_runs) ≡ true = unfold code_bits black_runs black_terminating black_make_up common_make_up run_extension in refl in is_prefix_free black_runs free };
+    ghost prefix_free = { Laws.run_table_is_prefix_free Black };
 }
 
 /// What the code at a place of a run table means.

@@ -96,7 +96,7 @@ impl BitSink {
     }
 }
 
-/// The byte whose bits are coded in this order, where those of `byte` are coded from the highest on.
+/// The byte whose bits are coded in this order, where those of `byte` are coded highest first.
 fn in_order(byte: u8, order: FillOrder) -> u8
     ensures { byte_bits order result ≡ code_bits 8 byte }
 {

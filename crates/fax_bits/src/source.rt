@@ -1,7 +1,8 @@
 //! Bits of bytes, read from a place on.
-ghost use Rattle.std.specs.Prelude.{◌≡◌, ◌+◌, ◌≤◌, ◌<◌, length, take, drop, replicate, slice_index_or, false, ◌++◌, MatchOption, IsTrue};
-ghost use Rattle.fax_bits.specs.Bits.{bits, bits_number, IsAllZeros, HasZerosAhead, IsZeroByteAt};
-ghost use Rattle.fax_bits.specs.code.Source.{bit_in_byte};
+ghost use Rattle.std.specs.Prelude.{◌≡◌, ◌+◌, ◌≤◌, ◌<◌, ◌++◌, length, take, drop, replicate};
+ghost use Rattle.std.specs.Prelude.{slice_index_or, false, MatchOption, IsTrue};
+ghost use Rattle.fax_bits.specs.Bits.{bits, bits_number, bit_in_byte, IsAllZeros, HasZerosAhead};
+ghost use Rattle.fax_bits.specs.code.Source.{IsZeroByteAt};
 
 use crate::FillOrder;
 use std::marker::Model;

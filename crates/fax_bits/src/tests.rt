@@ -1,6 +1,6 @@
 use crate::{
-    BitSink, BitSource, BlackRuns, CodeEntry, CodeFault, CodeTable, Colour, FillOrder, Memory,
-    ModeCode, Modes, RunCode, WhiteRuns, put_mode, put_run, read_code,
+    BitSink, BitSource, BlackRuns, CodeFault, CodeTable, Colour, FillOrder, Memory, ModeCode,
+    Modes, RunCode, WhiteRuns, put_mode, put_run, read_code,
 };
 use std::alloc::{AllocError, Global};
 use std::process::Abort;
@@ -19,14 +19,16 @@ const WHITE_TERMINATING: &str = "00110101 000111 0111 1000 1011 1100 1110 1111 \
     00001011 01010010 01010011 01010100 01010101 00100100 00100101 01011000 \
     01011001 01011010 01011011 01001010 01001011 00110010 00110011 00110100";
 
-const BLACK_TERMINATING: &str = "0000110111 010 11 10 011 0011 0010 00011 \
-    000101 000100 0000100 0000101 0000111 00000100 00000111 000011000 \
-    0000010111 0000011000 0000001000 00001100111 00001101000 00001101100 00000110111 00000101000 \
-    00000010111 00000011000 000011001010 000011001011 000011001100 000011001101 000001101000 000001101001 \
-    000001101010 000001101011 000011010010 000011010011 000011010100 000011010101 000011010110 000011010111 \
-    000001101100 000001101101 000011011010 000011011011 000001010100 000001010101 000001010110 000001010111 \
-    000001100100 000001100101 000001010010 000001010011 000000100100 000000110111 000000111000 000000100111 \
-    000000101000 000001011000 000001011001 000000101011 000000101100 000001011010 000001100110 000001100111";
+const BLACK_TERMINATING: &str =
+    "0000110111 010 11 10 011 0011 0010 00011 000101 000100 0000100 0000101 0000111 00000100 \
+    00000111 000011000 0000010111 0000011000 0000001000 00001100111 00001101000 00001101100 \
+    00000110111 00000101000 00000010111 00000011000 000011001010 000011001011 000011001100 \
+    000011001101 000001101000 000001101001 000001101010 000001101011 000011010010 \
+    000011010011 000011010100 000011010101 000011010110 000011010111 000001101100 \
+    000001101101 000011011010 000011011011 000001010100 000001010101 000001010110 \
+    000001010111 000001100100 000001100101 000001010010 000001010011 000000100100 \
+    000000110111 000000111000 000000100111 000000101000 000001011000 000001011001 \
+    000000101011 000000101100 000001011010 000001100110 000001100111";
 
 const WHITE_MAKE_UP: &str =
     "11011 10010 010111 0110111 00110110 00110111 01100100 01100101 01101000 \
@@ -109,93 +111,6 @@ fn reads_the_codes_of_the_standard(rt: HostRuntime) -> Result<(), Fail> {
 }
 
 #[test]
-fn tells_why_no_code_is_read(rt: HostRuntime) {
-    let rows: [(&[u8], CodeFault); 3] = [
-        (&[], CodeFault::DataEnds),
-        (&[0], CodeFault::DataEnds),
-        (&[0, 0], CodeFault::BadCode),
-    ];
-    for (bytes, fault) in rows {
-        assert!(rt; bytes.len() < 1000);
-        let mut source = BitSource::new(bytes, FillOrder::MsbFirst);
-        assert_eq!(rt; read_code::<WhiteRuns>(&mut source), Err(fault), "white");
-        assert_eq!(rt; read_code::<BlackRuns>(&mut source), Err(fault), "black");
-        assert_eq!(rt; source.place(), 0);
-        assert_eq!(rt; source.remaining(), 8 * bytes.len() as u64);
-    }
-}
-
-#[test]
-fn looks_at_bits_and_skips_them(rt: HostRuntime) {
-    let mut source = BitSource::new(&[0xA5, 0x0F], FillOrder::MsbFirst);
-    for (count, number) in [
-        (0, 0),
-        (1, 1),
-        (4, 0xA),
-        (12, 0xA50),
-        (16, 0xA50F),
-        (24, 0xA50F00),
-    ] {
-        assert_eq!(rt; source.peek(count), number, "{count} bits");
-    }
-    assert_eq!(rt; source.remaining(), 16);
-    source.skip(12);
-    assert_eq!(rt; source.place(), 12);
-    assert_eq!(rt; source.remaining(), 4);
-    assert_eq!(rt; source.peek(6), 0b111100);
-    source.skip(4);
-    assert_eq!(rt; source.remaining(), 0);
-    assert_eq!(rt; source.peek(24), 0);
-    source.skip(0);
-    assert_eq!(rt; source.place(), 16);
-}
-
-#[test]
-fn counts_zeros(rt: HostRuntime) {
-    let rows: [(&[u8], FillOrder, u64, Option<u64>); 9] = [
-        (&[], FillOrder::MsbFirst, 0, None),
-        (&[0, 0, 0], FillOrder::MsbFirst, 5, None),
-        (&[0x80], FillOrder::MsbFirst, 0, Some(0)),
-        (&[0, 0, 0x10], FillOrder::MsbFirst, 0, Some(19)),
-        (&[0, 0, 0x10], FillOrder::MsbFirst, 3, Some(16)),
-        (&[0xFF, 0, 1], FillOrder::MsbFirst, 8, Some(15)),
-        (&[0xFF, 0, 2], FillOrder::MsbFirst, 23, None),
-        (&[0, 0, 0x10], FillOrder::LsbFirst, 3, Some(17)),
-        (&[0xFF, 0, 2], FillOrder::LsbFirst, 8, Some(9)),
-    ];
-    for (bytes, order, skipped, zeros) in rows {
-        assert!(rt; bytes.len() < 1000);
-        let mut source = BitSource::new(bytes, order);
-        assert!(rt; skipped <= source.remaining());
-        source.skip(skipped);
-        assert_eq!(rt;
-            source.zeros(),
-            zeros,
-            "{skipped} skipped of {} bytes",
-            bytes.len()
-        );
-    }
-}
-
-#[test]
-fn gives_entries_by_their_place(rt: HostRuntime) {
-    assert_eq!(rt; WhiteRuns::COUNT, 105);
-    assert_eq!(rt; BlackRuns::COUNT, 105);
-    let white = CodeEntry {
-        code: 0b0110111,
-        len: 7,
-        meaning: RunCode::MakeUp(256),
-    };
-    assert_eq!(rt; WhiteRuns::entry(67), white);
-    let black = CodeEntry {
-        code: 0b10,
-        len: 2,
-        meaning: RunCode::Terminating(3),
-    };
-    assert_eq!(rt; BlackRuns::entry(3), black);
-}
-
-#[test]
 fn finds_the_code_that_begins_bits(rt: HostRuntime) {
     assert_eq!(rt;
         WhiteRuns::find(0b01110, 5),
@@ -208,54 +123,6 @@ fn finds_the_code_that_begins_bits(rt: HostRuntime) {
     assert_eq!(rt; Modes::find(0b0000001, 7), Some((7, ModeCode::Extension)));
     assert_eq!(rt; Modes::find(0, 6), None);
     assert_eq!(rt; Modes::find(0, 0), None);
-}
-
-/// A table with the codes 0, 10 and 11.
-struct Trits;
-
-impl CodeTable for Trits {
-    ghost use Rattle.std.specs.Prelude.{◌≡◌, map, true, refl};
-    ghost use Rattle.fax_bits.specs.Bits.{code_bits};
-    ghost use Rattle.fax_bits.specs.Codes.{bits_of};
-    ghost use Rattle.fax_bits.specs.code.TableTests.{prefix_free_test, has_short_codes, is_prefix_free};
-    ghost use Rattle.fax_bits.specs.code.Trits.{trits};
-
-    type Meaning = u8;
-
-    ghost COUNT = { 3 };
-
-    const COUNT: usize = 3;
-
-    ghost table = { trits };
-
-    fn entry(i: usize) -> CodeEntry<u8> {
-        let (code, len) = match i {
-            0 => (0b0, 1),
-            1 => (0b10, 2),
-            _ => (0b11, 2),
-        };
-        CodeEntry {
-            code,
-            len,
-            meaning: i as u8,
-        }
-    }
-
-    ghost counted = { refl };
-
-    ghost short_codes = { has_short_codes trits refl };
-
-    ghost prefix_free = { let free : prefix_free_test (map bits_of trits) ≡ true = unfold code_bits in refl in is_prefix_free trits free };
-}
-
-#[test]
-fn reads_any_table(rt: HostRuntime) {
-    let mut source = BitSource::new(&[0x01], FillOrder::MsbFirst);
-    assert!(rt; source.remaining() >= 6);
-    source.skip(6);
-    assert_eq!(rt; read_code::<Trits>(&mut source), Ok(0));
-    assert_eq!(rt; read_code::<Trits>(&mut source), Err(CodeFault::DataEnds));
-    assert_eq!(rt; source.place(), 7);
 }
 
 /// The bits that were put, as text.

@@ -1,14 +1,17 @@
 //! Strips of fax pages, row by row (ITU-T T.4 and T.6, and this project's profile).
 #![tactic(auto)]
 
+pub mod laws;
 mod lines;
 mod reader;
 #[cfg(test)]
 mod tests;
+mod writer;
 
 pub use fax_rows::{Colour, FillOrder, Memory, Row, RowFault};
 pub use reader::StripReader;
 use thiserror::Error;
+pub use writer::StripWriter;
 
 /// How the rows of a strip are coded.
 #[derive(Clone, Copy, Debug, PartialEq, Eq)]

@@ -22,7 +22,7 @@ module _ (row : List Colour) (from : Option ℕ) (a : ℕ) (right : is_right_of 
 pub are_ahead : (reference row : List Colour) (ahead : Ahead) → ahead.a1 ≡ next_change row ahead.a0
     → AreB1B2 reference ahead.a0 White ahead.white.0 ahead.white.1 → AreB1B2 reference ahead.a0 Black ahead.black.0 ahead.black.1
     → IsAhead reference row ahead
-are_ahead reference row ahead a1 white black = record { a1 = a1; b1_b2 = each }
+are_ahead reference row ahead a1 white black = record { a1 = a1; each_colour = each }
   where
     each : (colour : Colour) → AreB1B2 reference ahead.a0 colour (known ahead colour).0 (known ahead colour).1
     each White = white

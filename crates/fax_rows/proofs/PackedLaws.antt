@@ -9,57 +9,10 @@ use Rattle.std.proofs.lemmas.Nat.Bits.{bit_at_cat_low, bit_at_cat_high}
 use Rattle.fax_bits.specs.declared.FillOrder.TheVariants.{MsbFirst}
 use Rattle.fax_bits.specs.declared.Colour.{Colour}
 use Rattle.fax_bits.specs.declared.Colour.TheVariants.{White, Black}
-use Rattle.fax_bits.specs.Bits.{code_bits, byte_bits, bits, bits_number}
+use Rattle.fax_bits.specs.Bits.{bits, bits_number}
+use Rattle.fax_bits.specs.Laws.{AreBitsByPlace, AreBitsOfOneByte}
 use Rattle.fax_rows.specs.Packed.{packed_len, is_black, colour_of_bit, packed_byte, packed_row, unpacked_row, HasBitsOfPels, IsReadBack, IsPackedBack, PackingUndoesUnpacking}
-use Rattle.fax_rows.proofs.PackedLemmas.{length-bits, get_or-byte_bits, get_or-bits, get_or-padded, padded_bits, unpacked_at}
-
-abbrev digit_of : Bool → ℕ
-digit_of bit = if bit then 1 else 0
-
--- bits behind a number
-number-behind : (b : List Bool) (a : ℕ) → fold (λ number bit. 2 * number + digit_of bit) a b ≡ a * 2 ^ length b + bits_number b
-number-behind [] a = omega arith
-number-behind (x ∷ b) a =
-    let here = number-behind b (2 * a + digit_of x) in
-    let first = number-behind b (2 * 0 + digit_of x) in
-    rw (pow-succ' 2 (length b)) (omega (arith, here, first))
-
-number-cons : (x : Bool) (b : List Bool) → bits_number (x ∷ b) ≡ digit_of x * 2 ^ length b + bits_number b
-number-cons true b = number-behind b 1
-number-cons false b = number-behind b 0
-
-number-lt : (b : List Bool) → bits_number b < 2 ^ length b
-number-lt [] = omega arith
-number-lt (true ∷ b) = rw (pow-succ' 2 (length b)) (omega (arith, number-cons true b, number-lt b))
-number-lt (false ∷ b) = rw (pow-succ' 2 (length b)) (omega (arith, number-cons false b, number-lt b))
-
--- the lowest bits of high * 2 ^ b + low are those of low
-code_bits-low : (m b high low : ℕ) → m ≤ b → code_bits m (high * 2 ^ b + low) ≡ code_bits m low
-unfolding code_bits
-code_bits-low zero b high low within = refl
-code_bits-low (suc m) b high low within =
-    ap (λ n. nat_eq n 1 ∷ code_bits m (high * 2 ^ b + low)) (bit_at_cat_low high b low m (omega arith))
-    ∙ ap (λ more. nat_eq (bit_at low m) 1 ∷ more) (code_bits-low m b high low (omega arith))
-
-first_digit : (x : Bool) → nat_eq (bit_at (digit_of x) 0) 1 ≡ x
-first_digit true = refl
-first_digit false = refl
-
--- the bits of the number that bits spell
-code_bits-number : (b : List Bool) → code_bits (length b) (bits_number b) ≡ b
-unfolding code_bits
-code_bits-number [] = refl
-code_bits-number (x ∷ b) =
-    let place : length b - length b ≡ 0 = omega arith in
-    ap (code_bits (suc (length b))) (number-cons x b)
-    ∙ ap (λ n. nat_eq n 1 ∷ code_bits (length b) (digit_of x * 2 ^ length b + bits_number b))
-    (bit_at_cat_high (digit_of x) (length b) (bits_number b) (length b) (number-lt b) (omega arith) ∙ ap (bit_at (digit_of x)) place)
-    ∙ ap (λ first. first ∷ code_bits (length b) (digit_of x * 2 ^ length b + bits_number b)) (first_digit x)
-    ∙ ap (λ more. x ∷ more) (code_bits-low (length b) (length b) (digit_of x) (bits_number b) (omega arith) ∙ code_bits-number b)
-
-byte_bits-number : (b : List Bool) → length b ≡ 8 → byte_bits MsbFirst (bits_number b) ≡ b
-unfolding byte_bits
-byte_bits-number b eight = ap (λ n. code_bits n (bits_number b)) (sym eight) ∙ code_bits-number b
+use Rattle.fax_rows.proofs.PackedLemmas.{get_or-padded, padded_bits, unpacked_at}
 
 length-packed_row : (row : List Colour) → length (packed_row row) ≡ packed_len (length row)
 unfolding packed_row
@@ -70,77 +23,78 @@ unfolding packed_row
 get_or-packed_row row q within =
     get_or-map-range_with_len (λ k. packed_byte row (8 * k)) 0 (packed_len (length row)) q q 0 within (omega arith)
 
--- bit r of the byte that begins with the pel `from`
-bit-packed_byte : (row : List Colour) (from r : ℕ) → from < length row → r < 8
-    → nat_eq (bit_at (packed_byte row from) (7 - r)) 1 ≡ get_or (map is_black row) (from + r) false
-unfolding packed_byte
-bit-packed_byte row from r within in_byte =
-    let eight : length (take 8 (drop from (padded_bits row))) ≡ 8 =
-    length-take-le 8 (drop from (padded_bits row))
-    (omega (arith, length-drop from (padded_bits row), length-append (map is_black row) (replicate 8 false), length-map row is_black, length-replicate 8 false)) in
-    sym (get_or-byte_bits (bits_number (take 8 (drop from (padded_bits row)))) r in_byte)
-    ∙ ap (λ b. get_or b r false) (byte_bits-number (take 8 (drop from (padded_bits row))) eight)
-    ∙ get_or-take 8 (drop from (padded_bits row)) r false in_byte
-    ∙ get_or-drop from (padded_bits row) r false
-    ∙ get_or-padded (map is_black row) 8 (from + r)
+-- by the laws of the bits of bytes
+module _ (places : AreBitsByPlace) (one_byte : AreBitsOfOneByte) where
+  -- bit r of the byte that begins with the pel `from`
+  bit-packed_byte : (row : List Colour) (from r : ℕ) → from < length row → r < 8
+      → nat_eq (bit_at (packed_byte row from) (7 - r)) 1 ≡ get_or (map is_black row) (from + r) false
+  unfolding packed_byte
+  bit-packed_byte row from r within in_byte =
+      let eight : length (take 8 (drop from (padded_bits row))) ≡ 8 =
+      length-take-le 8 (drop from (padded_bits row))
+      (omega (arith, length-drop from (padded_bits row), length-append (map is_black row) (replicate 8 false), length-map row is_black, length-replicate 8 false)) in
+      sym (places.of_byte MsbFirst (bits_number (take 8 (drop from (padded_bits row)))) r in_byte)
+      ∙ ap (λ b. get_or b r false) (one_byte.spelled (take 8 (drop from (padded_bits row))) eight)
+      ∙ get_or-take 8 (drop from (padded_bits row)) r false in_byte
+      ∙ get_or-drop from (padded_bits row) r false
+      ∙ get_or-padded (map is_black row) 8 (from + r)
 
--- bit i of a packed row
-bit-packed_row : (row : List Colour) (i : ℕ) → i < 8 * packed_len (length row)
-    → get_or (bits MsbFirst (packed_row row)) i false ≡ get_or (map is_black row) i false
-bit-packed_row row i within =
-    let at : 8 * (i / 8) + i % 8 ≡ i = omega arith in
-    ap (λ n. get_or (bits MsbFirst (packed_row row)) n false) (sym at)
-    ∙ get_or-bits (packed_row row) (i / 8) (i % 8) (omega (arith, length-packed_row row)) (omega arith)
-    ∙ ap (λ byte. nat_eq (bit_at byte (7 - i % 8)) 1) (get_or-packed_row row (i / 8) (omega arith))
-    ∙ bit-packed_byte row (8 * (i / 8)) (i % 8) (omega arith) (omega arith)
-    ∙ ap (λ n. get_or (map is_black row) n false) at
+  -- bit i of a packed row
+  bit-packed_row : (row : List Colour) (i : ℕ) → i < 8 * packed_len (length row)
+      → get_or (bits MsbFirst (packed_row row)) i false ≡ get_or (map is_black row) i false
+  bit-packed_row row i within =
+      let at : 8 * (i / 8) + i % 8 ≡ i = omega arith in
+      places.of_bytes MsbFirst (packed_row row) i (omega (arith, length-packed_row row))
+      ∙ ap (λ byte. nat_eq (bit_at byte (7 - i % 8)) 1) (get_or-packed_row row (i / 8) (omega arith))
+      ∙ bit-packed_byte row (8 * (i / 8)) (i % 8) (omega arith) (omega arith)
+      ∙ ap (λ n. get_or (map is_black row) n false) at
 
-bits_of_pels : HasBitsOfPels
-bits_of_pels row =
-    ext_get_or false (bits MsbFirst (packed_row row)) (map is_black row ++ replicate zeros false) (long ∙ sym padded_long)
-    (λ k h. bit-packed_row row k (omega (arith, long)) ∙ sym (get_or-padded (map is_black row) zeros k))
-  where
-    zeros : ℕ
-    zeros = 8 * packed_len (length row) - length row
+  bits_of_pels : HasBitsOfPels
+  bits_of_pels row =
+      ext_get_or false (bits MsbFirst (packed_row row)) (map is_black row ++ replicate zeros false) (long ∙ sym padded_long)
+      (λ k h. bit-packed_row row k (omega (arith, long)) ∙ sym (get_or-padded (map is_black row) zeros k))
+    where
+      zeros : ℕ
+      zeros = 8 * packed_len (length row) - length row
 
-    long : length (bits MsbFirst (packed_row row)) ≡ 8 * packed_len (length row)
-    long = omega (arith, length-bits (packed_row row), length-packed_row row)
+      long : length (bits MsbFirst (packed_row row)) ≡ 8 * packed_len (length row)
+      long = omega (arith, places.count MsbFirst (packed_row row), length-packed_row row)
 
-    padded_long : length (map is_black row ++ replicate (8 * packed_len (length row) - length row) false) ≡ 8 * packed_len (length row)
-    padded_long =
-        omega (arith, length-append (map is_black row) (replicate (8 * packed_len (length row) - length row) false), length-map row is_black, length-replicate (8 * packed_len (length row) - length row) false)
+      padded_long : length (map is_black row ++ replicate (8 * packed_len (length row) - length row) false) ≡ 8 * packed_len (length row)
+      padded_long =
+          omega (arith, length-append (map is_black row) (replicate (8 * packed_len (length row) - length row) false), length-map row is_black, length-replicate (8 * packed_len (length row) - length row) false)
 
-colour_of_black : (colour : Colour) → colour ≡ colour_of_bit (is_black colour)
-colour_of_black White = refl
-colour_of_black Black = refl
+  colour_of_black : (colour : Colour) → colour ≡ colour_of_bit (is_black colour)
+  colour_of_black White = refl
+  colour_of_black Black = refl
 
-read_back : IsReadBack
-read_back row =
-    sym (unpacked_at row (packed_row row) (length row) refl (length-packed_row row)
-    (λ k h. colour_of_black (get_or row k White)
-    ∙ ap colour_of_bit (sym (bit-packed_row row k (omega arith) ∙ get_or-map is_black row k White false h))))
+  read_back : IsReadBack
+  read_back row =
+      sym (unpacked_at places row (packed_row row) (length row) refl (length-packed_row row)
+      (λ k h. colour_of_black (get_or row k White)
+      ∙ ap colour_of_bit (sym (bit-packed_row row k (omega arith) ∙ get_or-map is_black row k White false h))))
 
-black_of_bits : (b : List Bool) → map is_black (map colour_of_bit b) ≡ b
-black_of_bits [] = refl
-black_of_bits (true ∷ b) = ap (λ more. true ∷ more) (black_of_bits b)
-black_of_bits (false ∷ b) = ap (λ more. false ∷ more) (black_of_bits b)
+  black_of_bits : (b : List Bool) → map is_black (map colour_of_bit b) ≡ b
+  black_of_bits [] = refl
+  black_of_bits (true ∷ b) = ap (λ more. true ∷ more) (black_of_bits b)
+  black_of_bits (false ∷ b) = ap (λ more. false ∷ more) (black_of_bits b)
 
-bits_of_unpacked : (width : ℕ) (bytes : List ℕ) → map is_black (unpacked_row width bytes) ≡ take width (bits MsbFirst bytes)
-unfolding unpacked_row
-bits_of_unpacked width bytes =
-    sym (take-map is_black width (map colour_of_bit (bits MsbFirst bytes))) ∙ ap (take width) (black_of_bits (bits MsbFirst bytes))
+  bits_of_unpacked : (width : ℕ) (bytes : List ℕ) → map is_black (unpacked_row width bytes) ≡ take width (bits MsbFirst bytes)
+  unfolding unpacked_row
+  bits_of_unpacked width bytes =
+      sym (take-map is_black width (map colour_of_bit (bits MsbFirst bytes))) ∙ ap (take width) (black_of_bits (bits MsbFirst bytes))
 
-length-unpacked_row : (width : ℕ) (bytes : List ℕ) → length bytes ≡ packed_len width → length (unpacked_row width bytes) ≡ width
-unfolding unpacked_row
-length-unpacked_row width bytes whole =
-    length-take-le width (map colour_of_bit (bits MsbFirst bytes))
-    (omega (arith, length-map (bits MsbFirst bytes) colour_of_bit, length-bits bytes))
+  length-unpacked_row : (width : ℕ) (bytes : List ℕ) → length bytes ≡ packed_len width → length (unpacked_row width bytes) ≡ width
+  unfolding unpacked_row
+  length-unpacked_row width bytes whole =
+      length-take-le width (map colour_of_bit (bits MsbFirst bytes))
+      (omega (arith, length-map (bits MsbFirst bytes) colour_of_bit, places.count MsbFirst bytes))
 
-packed_back : IsPackedBack
-packed_back width bytes whole =
-    bits_of_pels (unpacked_row width bytes)
-    ∙ ap (λ b. b ++ replicate (8 * packed_len (length (unpacked_row width bytes)) - length (unpacked_row width bytes)) false) (bits_of_unpacked width bytes)
-    ∙ ap (λ n. take width (bits MsbFirst bytes) ++ replicate (8 * packed_len n - n) false) (length-unpacked_row width bytes whole)
+  packed_back : IsPackedBack
+  packed_back width bytes whole =
+      bits_of_pels (unpacked_row width bytes)
+      ∙ ap (λ b. b ++ replicate (8 * packed_len (length (unpacked_row width bytes)) - length (unpacked_row width bytes)) false) (bits_of_unpacked width bytes)
+      ∙ ap (λ n. take width (bits MsbFirst bytes) ++ replicate (8 * packed_len n - n) false) (length-unpacked_row width bytes whole)
 
-pub packing_undoes_unpacking : PackingUndoesUnpacking
-packing_undoes_unpacking = record { bits_of_pels = bits_of_pels; read_back = read_back; packed_back = packed_back }
+  pub packing_undoes_unpacking : PackingUndoesUnpacking
+  packing_undoes_unpacking = record { bits_of_pels = bits_of_pels; read_back = read_back; packed_back = packed_back }

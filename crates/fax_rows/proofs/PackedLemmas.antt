@@ -12,77 +12,35 @@ use Rattle.std.proofs.lemmas.Nat.{and_mask}
 use Rattle.fax_bits.specs.declared.FillOrder.TheVariants.{MsbFirst}
 use Rattle.fax_bits.specs.declared.Colour.{Colour}
 use Rattle.fax_bits.specs.declared.Colour.TheVariants.{White}
-use Rattle.fax_bits.specs.Bits.{code_bits, byte_bits, bits, bits_number}
+use Rattle.fax_bits.specs.Bits.{bits, bits_number}
+use Rattle.fax_bits.specs.Laws.{AreBitsByPlace}
 use Rattle.fax_rows.specs.Packed.{packed_len, is_black, colour_of_bit, packed_byte, packed_row, unpacked_row}
 
--- a byte has eight bits
-length-byte_bits : (byte : ℕ) → length (byte_bits MsbFirst byte) ≡ 8
-unfolding byte_bits code_bits
-length-byte_bits byte = refl
+-- by the law of the bits of bytes
+module _ (law : AreBitsByPlace) where
+  -- bit i of the bytes, as the program reads it
+  pub bit_read : (bytes : List ℕ) (i : ℕ) → i < 8 * length bytes
+      → nat_eq (bit_and (get_or bytes (i / 8) 0 / 2 ^ (7 - i % 8)) 1) 1 ≡ get_or (bits MsbFirst bytes) i false
+  bit_read bytes i within =
+      ap (λ n. nat_eq n 1) (and_mask (get_or bytes (i / 8) 0 / 2 ^ (7 - i % 8)) 1) ∙ sym (law.of_bytes MsbFirst bytes i within)
 
-pub length-bits : (bytes : List ℕ) → length (bits MsbFirst bytes) ≡ 8 * length bytes
-unfolding bits
-length-bits [] = refl
-length-bits (byte ∷ bytes) = simp length-append (omega (arith, length-byte_bits byte, length-bits bytes))
-
--- bit r of a byte, the highest first
-pub get_or-byte_bits : (byte r : ℕ) → r < 8 → get_or (byte_bits MsbFirst byte) r false ≡ nat_eq (bit_at byte (7 - r)) 1
-unfolding byte_bits code_bits
-get_or-byte_bits byte zero h = refl
-get_or-byte_bits byte (suc zero) h = refl
-get_or-byte_bits byte (suc (suc zero)) h = refl
-get_or-byte_bits byte (suc (suc (suc zero))) h = refl
-get_or-byte_bits byte (suc (suc (suc (suc zero)))) h = refl
-get_or-byte_bits byte (suc (suc (suc (suc (suc zero))))) h = refl
-get_or-byte_bits byte (suc (suc (suc (suc (suc (suc zero)))))) h = refl
-get_or-byte_bits byte (suc (suc (suc (suc (suc (suc (suc zero))))))) h = refl
-get_or-byte_bits byte (suc (suc (suc (suc (suc (suc (suc (suc r)))))))) h = absurd (omega arith)
-
--- bit r of byte q
-pub get_or-bits : (bytes : List ℕ) (q r : ℕ) → q < length bytes → r < 8
-    → get_or (bits MsbFirst bytes) (8 * q + r) false ≡ nat_eq (bit_at (get_or bytes q 0) (7 - r)) 1
-unfolding bits
-get_or-bits [] q r in_bytes in_byte = absurd (omega arith)
-get_or-bits (byte ∷ bytes) zero r in_bytes in_byte =
-    let short : r < length (byte_bits MsbFirst byte) = omega (arith, length-byte_bits byte) in
-    let place : 8 * zero + r ≡ r = omega arith in
-    ap (λ i. get_or (byte_bits MsbFirst byte ++ bits MsbFirst bytes) i false) place
-    ∙ get_or-append (byte_bits MsbFirst byte) (bits MsbFirst bytes) false r short ∙ get_or-byte_bits byte r in_byte
-get_or-bits (byte ∷ bytes) (suc q) r in_bytes in_byte =
-    let place : 8 * suc q + r ≡ length (byte_bits MsbFirst byte) + (8 * q + r) = omega (arith, length-byte_bits byte) in
-    ap (λ i. get_or (byte_bits MsbFirst byte ++ bits MsbFirst bytes) i false) place
-    ∙ get_or-append-add (byte_bits MsbFirst byte) (bits MsbFirst bytes) (8 * q + r) false
-    ∙ get_or-bits bytes q r (omega arith) in_byte
-
--- bit i of the bytes, as the program reads it
-pub bit_read : (bytes : List ℕ) (i : ℕ) → i < 8 * length bytes
-    → nat_eq (bit_and (get_or bytes (i / 8) 0 / 2 ^ (7 - i % 8)) 1) 1 ≡ get_or (bits MsbFirst bytes) i false
-bit_read bytes i within =
-    let at : 8 * (i / 8) + i % 8 ≡ i = omega arith in
-    ap (λ n. nat_eq n 1) (and_mask (get_or bytes (i / 8) 0 / 2 ^ (7 - i % 8)) 1)
-    ∙ sym (get_or-bits bytes (i / 8) (i % 8) (omega arith) (omega arith))
-    ∙ ap (λ n. get_or (bits MsbFirst bytes) n false) at
-
--- a row whose pels are the bits of bytes
-pub unpacked_at : (row : List Colour) (bytes : List ℕ) (width : ℕ) → length row ≡ width → length bytes ≡ packed_len width
-    → ((k : ℕ) → k < width → get_or row k White ≡ colour_of_bit (get_or (bits MsbFirst bytes) k false))
-    → row ≡ unpacked_row width bytes
-unfolding unpacked_row
-unpacked_at row bytes width len whole each =
-    ext_get_or White row (take width (map colour_of_bit (bits MsbFirst bytes))) (len ∙ sym short)
-    (λ k h. pel_at k (omega arith))
-  where
-    long : width ≤ length (map colour_of_bit (bits MsbFirst bytes))
-    long = omega (arith, length-map (bits MsbFirst bytes) colour_of_bit, length-bits bytes)
-
-    short : length (take width (map colour_of_bit (bits MsbFirst bytes))) ≡ width
-    short = length-take-le width (map colour_of_bit (bits MsbFirst bytes)) long
-
-    pel_at : (k : ℕ) → k < width → get_or row k White ≡ get_or (take width (map colour_of_bit (bits MsbFirst bytes))) k White
-    pel_at k h =
-        let within : k < length (bits MsbFirst bytes) = omega (arith, length-bits bytes) in
-        each k h ∙ sym (get_or-map colour_of_bit (bits MsbFirst bytes) k false White within)
-        ∙ sym (get_or-take width (map colour_of_bit (bits MsbFirst bytes)) k White h)
+  -- a row whose pels are the bits of bytes
+  pub unpacked_at : (row : List Colour) (bytes : List ℕ) (width : ℕ) → length row ≡ width → length bytes ≡ packed_len width
+      → ((k : ℕ) → k < width → get_or row k White ≡ colour_of_bit (get_or (bits MsbFirst bytes) k false))
+      → row ≡ unpacked_row width bytes
+  unfolding unpacked_row
+  unpacked_at row bytes width len whole each =
+      let enough : width ≤ length (bits MsbFirst bytes) = omega (arith, law.count MsbFirst bytes) in
+      let long : width ≤ length (map colour_of_bit (bits MsbFirst bytes)) =
+      omega (arith, length-map (bits MsbFirst bytes) colour_of_bit) in
+      let short : length (take width (map colour_of_bit (bits MsbFirst bytes))) ≡ width =
+      length-take-le width (map colour_of_bit (bits MsbFirst bytes)) long in
+      ext_get_or White row (take width (map colour_of_bit (bits MsbFirst bytes))) (len ∙ sym short)
+      (λ k h.
+      let inside : k < width = omega arith in
+      let within : k < length (bits MsbFirst bytes) = omega arith in
+      each k inside ∙ sym (get_or-map colour_of_bit (bits MsbFirst bytes) k false White within)
+      ∙ sym (get_or-take width (map colour_of_bit (bits MsbFirst bytes)) k White inside))
 
 -- the bits of a row, with zeros behind the last pel
 abbrev pub padded_bits : List Colour → List Bool

@@ -1,14 +1,14 @@
 -- Bits that are put part by part.
-use Rattle.std.proofs.Common.{◌≡◌, ◌≢◌, ℕ, ◌+◌, ◌<◌, ◌≤◌, List, [], ◌++◌, length, drop, get_or, Bool, refl, ap, sym, ◌∙◌, append_assoc}
-use Rattle.std.specs.Prelude.{Result, Ok, Err, OnErr}
+use Rattle.std.proofs.Common.{◌≡◌, ◌≢◌, ℕ, ◌+◌, ◌<◌, ◌≤◌, List, [], ◌∷◌, ◌++◌, length, drop, get_or, Bool, refl, ap, sym, ◌∙◌, append_assoc}
+use Rattle.std.specs.Prelude.{Result, Ok, Err, OnErr, flat_map}
+use Rattle.std.proofs.lemmas.List.Concat.{flat_map-append}
 use Rattle.std.proofs.lemmas.List.{append-nil, drop_all}
 use Rattle.fax_bits.specs.declared.Colour.{Colour}
 use Rattle.fax_bits.specs.declared.Colour.TheVariants.{White, Black}
-use Rattle.fax_bits.specs.Runs.{run_bits}
-use Rattle.fax_bits.specs.code.Sink.{Sink, Appends, AppendsPrefix}
+use Rattle.fax_bits.specs.Runs.{run_bits, run_codes, run_code_bits}
+use Rattle.fax_bits.specs.code.Sink.{Sink, Appends, AppendsPrefix, AppendsCodes}
 use Rattle.fax_rows.specs.Coded.{alternating_bits}
-use Rattle.fax_rows.specs.Elements.{other, runs_behind}
-use Rattle.fax_rows.proofs.RowRunLemmas.{goes_on, turns, runs_behind-nil}
+use Rattle.fax_rows.specs.Elements.{other}
 
 -- all but the missing bits are put
 pub record IsPutUpTo (old : Sink) (all missing : List Bool) (new : Sink) : Type 0 where
@@ -91,30 +91,24 @@ put_stopped old new all missing so_far = record {
   parts = so_far.parts;
 }
 
--- the bits of the runs that are left, where the pel at place i goes on with a run
-pub row_bits_go_on : (colour pel : Colour) (n i : ℕ) (row : List Colour) → i < length row → get_or row i White ≡ pel → pel ≡ colour
-    → alternating_bits colour (runs_behind colour n (drop i row)) ≡ alternating_bits colour (runs_behind colour (n + 1) (drop (i + 1) row))
-row_bits_go_on colour pel n i row within at same = ap (alternating_bits colour) (goes_on colour pel n i row within at same)
-
--- where it is of the other colour
-pub row_bits_turn : (colour pel : Colour) (n i : ℕ) (row : List Colour) → i < length row → get_or row i White ≡ pel → pel ≢ colour
-    → alternating_bits colour (runs_behind colour n (drop i row)) ≡ run_bits colour n ++ alternating_bits pel (runs_behind pel 1 (drop (i + 1) row))
+-- the bits of the runs that are left: those of the first, and those of the others
+pub row_bits_go_on : (colour : Colour) (n : ℕ) (left runs : List ℕ) → left ≡ n ∷ runs
+    → alternating_bits colour left ≡ run_bits colour n ++ alternating_bits (other colour) runs
 unfolding alternating_bits
-row_bits_turn colour pel n i row within at differs =
-    ap (alternating_bits colour) (turns colour pel n i row within at differs)
-    ∙ ap (λ c. run_bits colour n ++ alternating_bits c (runs_behind pel 1 (drop (i + 1) row))) (sym (differs_is colour pel differs))
-  where
-    differs_is : (colour pel : Colour) → pel ≢ colour → pel ≡ other colour
-    differs_is White Black h = refl
-    differs_is Black White h = refl
-    differs_is White White h = absurd (h refl)
-    differs_is Black Black h = absurd (h refl)
+row_bits_go_on colour n left runs is = ap (alternating_bits colour) is
 
--- behind the last pel
-pub row_bits_end : (colour : Colour) (n i : ℕ) (row : List Colour) → length row ≤ i
-    → alternating_bits colour (runs_behind colour n (drop i row)) ≡ run_bits colour n
+-- and where none is left
+pub row_bits_end : (colour : Colour) (left : List ℕ) → left ≡ [] → alternating_bits colour left ≡ []
 unfolding alternating_bits
-row_bits_end colour n i row over =
-    ap (λ pels. alternating_bits colour (runs_behind colour n pels)) (drop_all i row over)
-    ∙ ap (alternating_bits colour) (runs_behind-nil colour n)
-    ∙ append-nil (run_bits colour n)
+row_bits_end colour left none = ap (alternating_bits colour) none
+
+-- whole codes of a run are a part of its bits
+pub bits_of_codes : (colour : Colour) (n : ℕ) (old new : Sink) → AppendsCodes old colour (run_codes n) new
+    → AppendsPrefix old (run_bits colour n) new
+unfolding run_bits
+bits_of_codes colour n old new codes = record {
+  done = flat_map (run_code_bits colour) codes.done;
+  missing = flat_map (run_code_bits colour) codes.missing;
+  appended = codes.appended;
+  parts = ap (flat_map (run_code_bits colour)) codes.parts ∙ flat_map-append (run_code_bits colour) codes.done codes.missing;
+}

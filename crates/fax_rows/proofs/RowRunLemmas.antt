@@ -1,10 +1,12 @@
 -- The longest runs of a row, pel by pel.
-use Rattle.std.proofs.Common.{◌≡◌, ◌≢◌, ℕ, suc, ◌+◌, ◌<◌, List, [], ◌∷◌, ◌++◌, ◌≤◌, length, drop, get_or, refl, ap, sym, ◌∙◌, drop-cons, append_assoc}
+use Rattle.std.proofs.Common.{◌≡◌, ◌≢◌, ℕ, suc, ◌+◌, ◌-◌, ◌<◌, ◌≤◌, List, [], ◌∷◌, length, drop, get_or, Bool, true, false, not, nat_eq, refl, ap, sym, ◌∙◌, arith, drop-cons}
+use Rattle.std.proofs.lemmas.Bool.Decides.{nat_tests}
 use Rattle.std.proofs.Math.Numerals.{suc-eq-add-one}
 use Rattle.std.proofs.lemmas.List.{drop_all}
 use Rattle.fax_bits.specs.declared.Colour.{Colour}
 use Rattle.fax_bits.specs.declared.Colour.TheVariants.{White, Black}
-use Rattle.fax_rows.specs.Elements.{runs_behind}
+use Rattle.fax_rows.specs.Elements.{other, runs_behind}
+use Rattle.fax_rows.specs.code.LongestRuns.{runs_ahead}
 
 -- behind the last pel stands the run so far
 pub runs_behind-nil : (colour : Colour) (n : ℕ) → runs_behind colour n [] ≡ n ∷ []
@@ -29,6 +31,21 @@ runs_behind-other Black White n pels other = refl
 runs_behind-other White White n pels other = absurd (other refl)
 runs_behind-other Black Black n pels other = absurd (other refl)
 
+-- tests of two colours, as the program reads them
+pub not_true : (b : Bool) → not b ≡ true → b ≡ false
+not_true true h = cc
+not_true false h = refl
+
+pub not_false : (b : Bool) → not b ≡ false → b ≡ true
+not_false true h = refl
+not_false false h = cc
+
+differs_is : (colour pel : Colour) → pel ≢ colour → pel ≡ other colour
+differs_is White Black h = refl
+differs_is Black White h = refl
+differs_is White White h = absurd (h refl)
+differs_is Black Black h = absurd (h refl)
+
 -- the pel at place i is of the run's colour
 pub goes_on : (colour first : Colour) (n i : ℕ) (pels : List Colour) → i < length pels → get_or pels i White ≡ first → first ≡ colour
     → runs_behind colour n (drop i pels) ≡ runs_behind colour (n + 1) (drop (i + 1) pels)
@@ -45,23 +62,39 @@ turns colour first n i pels within at other =
     ∙ runs_behind-other colour first n (drop (suc i) pels) other
     ∙ ap (λ j. n ∷ runs_behind first 1 (drop j pels)) (suc-eq-add-one i)
 
--- the runs so far and those that are to come, where they go on behind the pel at place i
-pub runs_go_on : (all runs : List ℕ) (colour first : Colour) (n i : ℕ) (pels : List Colour) → i < length pels
-    → get_or pels i White ≡ first → first ≡ colour
-    → all ≡ runs ++ runs_behind colour n (drop i pels) → all ≡ runs ++ runs_behind colour (n + 1) (drop (i + 1) pels)
-runs_go_on all runs colour first n i pels within at same so_far =
-    so_far ∙ ap (λ more. runs ++ more) (goes_on colour first n i pels within at same)
+-- a run that begins at a place has no pels so far
+pub run_begins : (colour : Colour) (from : ℕ) (pels : List Colour)
+    → runs_behind colour 0 (drop from pels) ≡ runs_behind colour (from - from) (drop from pels)
+run_begins colour from pels =
+    let none : from - from ≡ 0 = omega arith in
+    ap (λ n. runs_behind colour n (drop from pels)) (sym none)
 
--- and where one ends there
-pub runs_turn : (all runs : List ℕ) (colour first : Colour) (n i : ℕ) (pels : List Colour) → i < length pels
-    → get_or pels i White ≡ first → first ≢ colour
-    → all ≡ runs ++ runs_behind colour n (drop i pels) → all ≡ (runs ++ n ∷ []) ++ runs_behind first 1 (drop (i + 1) pels)
-runs_turn all runs colour first n i pels within at other so_far =
-    so_far ∙ ap (λ more. runs ++ more) (turns colour first n i pels within at other)
-    ∙ sym (append_assoc runs (n ∷ []) (runs_behind first 1 (drop (i + 1) pels)))
+-- it goes on at a pel of its colour
+pub run_goes_on : (colour : Colour) (from i : ℕ) (pels : List Colour) → from ≤ i → i < length pels → get_or pels i White ≡ colour
+    → runs_behind colour 0 (drop from pels) ≡ runs_behind colour (i - from) (drop i pels)
+    → runs_behind colour 0 (drop from pels) ≡ runs_behind colour (i + 1 - from) (drop (i + 1) pels)
+run_goes_on colour from i pels right within same so_far =
+    let more : i - from + 1 ≡ i + 1 - from = omega arith in
+    so_far ∙ goes_on colour colour (i - from) i pels within same refl ∙ ap (λ n. runs_behind colour n (drop (i + 1) pels)) more
 
--- and behind the last pel
-pub runs_end : (all runs : List ℕ) (colour : Colour) (n i : ℕ) (pels : List Colour) → length pels ≤ i
-    → all ≡ runs ++ runs_behind colour n (drop i pels) → all ≡ runs ++ n ∷ []
-runs_end all runs colour n i pels over so_far =
-    so_far ∙ ap (λ xs. runs ++ runs_behind colour n xs) (drop_all i pels over) ∙ ap (λ more. runs ++ more) (runs_behind-nil colour n)
+-- and ends before a pel of the other colour, with which the next run begins
+pub run_turns : (colour : Colour) (from i : ℕ) (pels : List Colour) → i < length pels → get_or pels i White ≢ colour
+    → runs_behind colour 0 (drop from pels) ≡ runs_behind colour (i - from) (drop i pels)
+    → runs_behind colour 0 (drop from pels) ≡ (i - from) ∷ runs_ahead (nat_eq i (length pels)) (other colour) i pels
+run_turns colour from i pels within differs so_far =
+    let inside : nat_eq i (length pels) ≡ false = grind (arith, nat_tests) in
+    let next : get_or pels i White ≡ other colour = differs_is colour (get_or pels i White) differs in
+    rw inside
+    (so_far ∙ turns colour (get_or pels i White) (i - from) i pels within refl differs
+    ∙ ap (λ c. (i - from) ∷ runs_behind c 1 (drop (i + 1) pels)) next
+    ∙ ap (λ runs. (i - from) ∷ runs) (sym (goes_on (other colour) (other colour) 0 i pels within next refl)))
+
+-- or behind the last pel
+pub run_ends : (colour : Colour) (from i : ℕ) (pels : List Colour) → i ≡ length pels
+    → runs_behind colour 0 (drop from pels) ≡ runs_behind colour (i - from) (drop i pels)
+    → runs_behind colour 0 (drop from pels) ≡ (i - from) ∷ runs_ahead (nat_eq i (length pels)) (other colour) i pels
+run_ends colour from i pels over so_far =
+    let behind : nat_eq i (length pels) ≡ true = grind (arith, nat_tests) in
+    let end : length pels ≤ i = omega arith in
+    rw behind
+    (so_far ∙ ap (λ xs. runs_behind colour (i - from) xs) (drop_all i pels end) ∙ runs_behind-nil colour (i - from))

@@ -1,3 +1,4 @@
 -- What speaks of this code alone: how far a row is read or written.
 pub mod Ahead
+pub mod LongestRuns
 pub mod Reached

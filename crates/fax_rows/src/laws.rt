@@ -1,13 +1,13 @@
 //! Laws of rows. The functions compute nothing: each has a law as its contract.
 ghost use Rattle.std.specs.Prelude.{ℕ, List};
 ghost use Rattle.fax_bits.specs.declared.Colour.{Colour};
-ghost use Rattle.fax_rows.specs.Laws.{ReadsRowsOneWay, ReadsRowsOverOneWay, OneDimensionalBitsAreRead, OneDimensionalBitsAreOneRow, TwoDimensionalBitsAreRead, TwoDimensionalBitsAreOneRow};
+ghost use Rattle.fax_rows.specs.Laws as Law;
 ghost use Rattle.fax_rows.specs.Packed.{PackingUndoesUnpacking};
 
 /// Bits are read in one way as a row of a width in one-dimensional coding: they begin with one row
 /// and one rest follows it, or they have one fault, never both (T.4, section 4.1.1).
 pub fn rows_are_read_in_one_way()
-    ensures { (width : ℕ) → ReadsRowsOneWay width }
+    ensures { (width : ℕ) → Law.ReadsRowsOneWay width }
 {
     fax_bits::laws::run_codes_are_read_in_one_way();
 }
@@ -16,7 +16,7 @@ pub fn rows_are_read_in_one_way()
 /// with one row and one rest follows it, or they have one fault, never both (T.4, section
 /// 4.2.1.3.3; T.6, section 2.2.3).
 pub fn rows_over_a_reference_are_read_in_one_way()
-    ensures { (reference : List Colour) → ReadsRowsOverOneWay reference }
+    ensures { (reference : List Colour) → Law.ReadsRowsOverOneWay reference }
 {
     fax_bits::laws::run_codes_are_read_in_one_way();
     fax_bits::laws::modes_are_read_in_one_way();
@@ -25,14 +25,14 @@ pub fn rows_over_a_reference_are_read_in_one_way()
 /// What `put_1d` appends is read as the row that was put, whatever bits follow it (T.4, section
 /// 4.1.1).
 pub fn one_dimensional_rows_are_read_back()
-    ensures { OneDimensionalBitsAreRead }
+    ensures { Law.OneDimensionalBitsAreRead }
 {
     fax_bits::laws::runs_are_read_back();
 }
 
 /// What `put_1d` appends is read as no other row and with no other rest (T.4, section 4.1.1).
 pub fn one_dimensional_rows_are_read_as_nothing_else()
-    ensures { OneDimensionalBitsAreOneRow }
+    ensures { Law.OneDimensionalBitsAreOneRow }
 {
     one_dimensional_rows_are_read_back();
     rows_are_read_in_one_way();
@@ -41,7 +41,7 @@ pub fn one_dimensional_rows_are_read_as_nothing_else()
 /// What `put_2d` appends is read over the same reference row as the row that was put, whatever bits
 /// follow it (T.4, section 4.2.1.3.3; T.6, section 2.2.3).
 pub fn two_dimensional_rows_are_read_back()
-    ensures { TwoDimensionalBitsAreRead }
+    ensures { Law.TwoDimensionalBitsAreRead }
 {
     fax_bits::laws::runs_are_read_back();
     fax_bits::laws::modes_are_read_back();
@@ -50,7 +50,7 @@ pub fn two_dimensional_rows_are_read_back()
 /// What `put_2d` appends is read over the same reference row as no other row and with no other rest
 /// (T.4, section 4.2.1.3.3; T.6, section 2.2.3).
 pub fn two_dimensional_rows_are_read_as_nothing_else()
-    ensures { TwoDimensionalBitsAreOneRow }
+    ensures { Law.TwoDimensionalBitsAreOneRow }
 {
     two_dimensional_rows_are_read_back();
     rows_over_a_reference_are_read_in_one_way();
@@ -60,4 +60,7 @@ pub fn two_dimensional_rows_are_read_as_nothing_else()
 /// padding, which is zeros (the netpbm format, P4).
 pub fn packing_undoes_unpacking()
     ensures { PackingUndoesUnpacking }
-{}
+{
+    fax_bits::laws::bits_stand_by_place();
+    fax_bits::laws::eight_bits_are_a_byte();
+}

@@ -3,6 +3,7 @@
 #![tactic(auto)]
 
 pub mod laws;
+mod longest_runs;
 mod one_dimensional;
 mod packed;
 mod pels;
@@ -13,6 +14,7 @@ mod runs;
 mod tests;
 mod two_dimensional;
 
+use fax_bits::CodeFault;
 pub use fax_bits::{BitSink, BitSource, Colour, FillOrder, Memory};
 pub use one_dimensional::read_1d;
 pub use pels::Row;
@@ -39,4 +41,18 @@ pub enum RowFault {
     /// A vertical code leads out of the row (T.4, section 4.2.1.3.2).
     #[error("a vertical code leads out of the row")]
     OutOfRow,
+}
+
+impl From<CodeFault> for RowFault {
+    ghost use Rattle.std.specs.Prelude.{◌≡◌};
+    ghost use Rattle.fax_rows.specs.Faults.{row_fault};
+
+    ghost from_gives = { λ code fault. fault ≡ row_fault code };
+
+    fn from(fault: CodeFault) -> RowFault {
+        match fault {
+            CodeFault::DataEnds => RowFault::DataEnds,
+            CodeFault::BadCode => RowFault::BadCode,
+        }
+    }
 }

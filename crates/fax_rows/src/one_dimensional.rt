@@ -1,5 +1,6 @@
 //! Rows in one-dimensional coding (ITU-T T.4, section 4.1.1).
-ghost use Rattle.std.specs.Prelude.{◌≡◌, ◌+◌, length, OnOk, IfErr};
+ghost use Rattle.std.specs.Prelude.{◌≡◌, length, OnOk, IfErr};
+ghost use Rattle.fax_bits.specs.code.Source.{KeepsEnd};
 ghost use Rattle.fax_rows.specs.OneDimensional.{IsOneDimensionalRow};
 ghost use Rattle.fax_rows.specs.Faults.{IsOneDimensionalFault};
 
@@ -20,7 +21,7 @@ pub fn read_1d(source: &mut BitSource, row: &mut Row) -> Result<(), RowFault>
     ensures same_width { length row.new ≡ length row.old }
 
     // The source goes on in the same bits.
-    ensures same_end { source.new.place + length source.new.left ≡ source.old.place + length source.old.left }
+    ensures same_end { KeepsEnd source.old source.new }
 {
     let width = row.width();
     let mut total = 0;

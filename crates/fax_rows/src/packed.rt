@@ -1,11 +1,12 @@
-//! Rows as packed bytes, as in a raw PBM (the netpbm format, P4): eight pels in a byte, the leftmost
-//! in its highest bit, where 1 is black.
+//! Rows as packed bytes, as in a raw PBM (the netpbm format, P4): eight pels in a byte, the
+//! leftmost in its highest bit, where 1 is black.
 ghost use Rattle.std.specs.Prelude.{◌≡◌, ◌*◌, ◌<◌, ◌^◌, length, map, slice_index_or, false, IfOk};
 ghost use Rattle.fax_bits.specs.Bits.{bits};
 ghost use Rattle.fax_bits.specs.declared.FillOrder.TheVariants.{MsbFirst};
-ghost use Rattle.fax_rows.specs.Packed.{is_black as is_black_pel, colour_of_bit, packed_len, packed_byte as byte_from, packed_row, unpacked_row};
+ghost use Rattle.fax_rows.specs.Packed as Spec;
 
 use crate::pels::Row;
+use fax_bits::laws::bits_stand_by_place;
 use fax_bits::{Colour, Memory};
 use std::alloc::Global;
 
@@ -20,10 +21,11 @@ impl Row {
     pub fn from_packed(alloc: Global, bytes: &[u8], width: u32) -> Result<Row, Memory>
         requires some { 0 < width }
         requires short { width < 2 ^ 16 }
-        requires whole { length bytes.now ≡ packed_len width }
-        ensures pels { IfOk result (λ row. row ≡ unpacked_row width bytes.now) }
+        requires whole { length bytes.now ≡ Spec.packed_len width }
+        ensures pels { IfOk result (λ row. row ≡ Spec.unpacked_row width bytes.now) }
         ensures same_width { IfOk result (λ row. length row ≡ width) }
     {
+        bits_stand_by_place();
         let mut row = Row::white(alloc, width)?;
         for i in 0..width {
             row.paint(i, 1, colour_of(bit(bytes, i)));
@@ -34,8 +36,8 @@ impl Row {
     /// Writes the row's pels as bytes, the highest bit of each first, where 1 is black and the bits
     /// behind the last pel are 0. `out` has just as many bytes as that takes.
     pub fn to_packed(&self, out: &mut [u8])
-        requires { length out.old ≡ packed_len (length self.now) }
-        ensures { out.new ≡ packed_row self.now }
+        requires { length out.old ≡ Spec.packed_len (length self.now) }
+        ensures { out.new ≡ Spec.packed_row self.now }
     {
         for k in 0..self.width().div_ceil(8) {
             out[k as usize] = self.packed_byte(8 * k);
@@ -46,7 +48,7 @@ impl Row {
     fn packed_byte(&self, from: u32) -> u8
         requires within { from < length self.now }
         requires short { from < 2 ^ 16 }
-        ensures { result ≡ byte_from self.now from }
+        ensures { result ≡ Spec.packed_byte self.now from }
     {
         let mut byte = 0;
         for i in 0..8 {
@@ -57,7 +59,7 @@ impl Row {
 
     /// A pel stands at this place, and it is black.
     fn is_black(&self, i: u32) -> bool
-        ensures { result ≡ slice_index_or (map is_black_pel self.now) i false }
+        ensures { result ≡ slice_index_or (map Spec.is_black self.now) i false }
     {
         i < self.width() && self.pel(i) == Colour::Black
     }
@@ -68,12 +70,13 @@ fn bit(bytes: &[u8], i: u32) -> bool
     requires { i < 8 * length bytes.now }
     ensures { result ≡ slice_index_or (bits MsbFirst bytes.now) i false }
 {
+    bits_stand_by_place();
     (bytes[(i / 8) as usize] >> (7 - i % 8)) & 1 == 1
 }
 
 /// The colour of a pel whose bit this is.
 fn colour_of(bit: bool) -> Colour
-    ensures { result ≡ colour_of_bit bit }
+    ensures { result ≡ Spec.colour_of_bit bit }
 {
     if bit { Colour::Black } else { Colour::White }
 }

@@ -1,7 +1,9 @@
 //! A row of pels.
-ghost use Rattle.std.specs.Prelude.{◌≡◌, ℕ, ◌+◌, ◌≤◌, ◌<◌, ◌^◌, length, ◌++◌, take, replicate, slice_index_or, map, IfOk};
+ghost use Rattle.std.specs.Prelude.{◌≡◌, ℕ, ◌+◌, ◌≤◌, ◌<◌, ◌^◌, ◌++◌, length, take, replicate, map};
+ghost use Rattle.std.specs.Prelude.{slice_index_or, IfOk};
 ghost use Rattle.fax_rows.specs.Elements.{other as other_than, runs_of, pel as pel_of};
 
+use crate::longest_runs::LongestRuns;
 use crate::runs::other;
 use fax_bits::{Colour, Memory};
 use std::alloc::Global;
@@ -70,18 +72,10 @@ impl Row {
         ensures { IfOk result (λ runs. runs.items ≡ runs_of self.now) }
     {
         let mut runs = Vec::new(alloc);
-        let mut colour = Colour::White;
-        let mut n = 0;
-        for &pel in &self.pels {
-            if pel == colour {
-                n += 1;
-            } else {
-                runs.push(n).map_err(|_| Memory)?;
-                n = 1;
-                colour = pel;
-            }
+        let mut ahead = LongestRuns::of_row(self);
+        while let Some(n) = ahead.next_run() {
+            runs.push(n).map_err(|_| Memory)?;
         }
-        runs.push(n).map_err(|_| Memory)?;
         Ok(runs)
     }
 

@@ -3,8 +3,9 @@ ghost use Rattle.std.specs.Prelude.{◌≡◌, ◌+◌, ◌≤◌, ◌<◌, ◌^
 ghost use Rattle.fax_bits.specs.Codes.{Takes, IsFaultOf};
 ghost use Rattle.fax_bits.specs.Runs.{IsRun};
 ghost use Rattle.fax_bits.specs.Tables.{run_table};
+ghost use Rattle.fax_bits.specs.code.Source.{KeepsEnd};
 ghost use Rattle.fax_rows.specs.Elements.{other as other_than};
-ghost use Rattle.fax_rows.specs.Faults.{IsRunFault, row_fault as fault_of_code};
+ghost use Rattle.fax_rows.specs.Faults.{IsRunFault};
 
 use crate::RowFault;
 use fax_bits::{BitSource, BlackRuns, CodeFault, Colour, RunCode, WhiteRuns, read_code};
@@ -19,21 +20,11 @@ pub fn other(colour: Colour) -> Colour
     }
 }
 
-/// A row's name for the fault of a code.
-pub fn row_fault(fault: CodeFault) -> RowFault
-    ensures { result ≡ fault_of_code fault }
-{
-    match fault {
-        CodeFault::DataEnds => RowFault::DataEnds,
-        CodeFault::BadCode => RowFault::BadCode,
-    }
-}
-
 /// Reads a code for a run of the colour.
 fn read_run_code(source: &mut BitSource, colour: Colour) -> Result<RunCode, CodeFault>
     ensures ok { IfOk result (λ code. Takes (run_table colour) source.old.left code source.new.left) }
     ensures err { IfErr result (λ fault. IsFaultOf (run_table colour) source.old.left fault) }
-    ensures same_end { source.new.place + length source.new.left ≡ source.old.place + length source.old.left }
+    ensures same_end { KeepsEnd source.old source.new }
     ensures shorter { OnOk result (length source.new.left < length source.old.left) }
 {
     match colour {
@@ -54,27 +45,27 @@ pub fn read_run(
     ensures ok { IfOk result (λ n. IsRun colour source.old.left n source.new.left) }
     ensures within { IfOk result (λ n. from + n ≤ width) }
     ensures err { IfErr result (λ fault. IsRunFault colour width from source.old.left fault) }
-    ensures same_end { source.new.place + length source.new.left ≡ source.old.place + length source.old.left }
+    ensures same_end { KeepsEnd source.old source.new }
     ensures shorter { OnOk result (length source.new.left < length source.old.left) }
 {
     let mut n = 0;
     loop {
-        match read_run_code(source, colour) {
-            Ok(RunCode::Terminating(more)) => {
+        let code = read_run_code(source, colour)?;
+        match code {
+            RunCode::Terminating(more) => {
                 let run = n + u32::from(more);
                 if from + run > width {
                     return Err(RowFault::RunTooLong);
                 }
                 return Ok(run);
             }
-            Ok(RunCode::MakeUp(more)) => {
+            RunCode::MakeUp(more) => {
                 n += u32::from(more);
                 if from + n > width {
                     return Err(RowFault::RunTooLong);
                 }
             }
-            Ok(RunCode::Extension) => return Err(RowFault::Extension),
-            Err(fault) => return Err(row_fault(fault)),
+            RunCode::Extension => return Err(RowFault::Extension),
         }
     }
 }

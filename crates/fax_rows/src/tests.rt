@@ -1,5 +1,5 @@
 //! Rows whose bits were written by hand from tables 2 to 4 of T.4.
-use crate::{BitSource, Colour, FillOrder, Row, RowFault, b1_b2, read_1d, read_2d};
+use crate::{BitSource, FillOrder, Row, RowFault, read_1d, read_2d};
 use std::test::Fail;
 
 mod caller;
@@ -43,7 +43,6 @@ fn reads_rows(rt: HostRuntime) -> Result<(), Fail> {
         let mut source = BitSource::new(bytes, FillOrder::MsbFirst);
         assert_eq!(rt; read_1d(&mut source, &mut row), Ok(()), "{name}");
         assert_eq!(rt; row.runs(rt.alloc())?.as_slice(), runs, "{name}");
-        assert_eq!(rt; row.width(), width, "{name}");
     }
     Ok(())
 }
@@ -70,60 +69,6 @@ fn names_the_first_fault(rt: HostRuntime) -> Result<(), Fail> {
         let mut row = Row::white(rt.alloc(), width)?;
         let mut source = BitSource::new(bytes, FillOrder::MsbFirst);
         assert_eq!(rt; read_1d(&mut source, &mut row), Err(fault), "{name}");
-    }
-    Ok(())
-}
-
-#[test]
-fn numbers_pels_from_the_left(rt: HostRuntime) -> Result<(), Fail> {
-    let mut row = Row::white(rt.alloc(), 8)?;
-    let mut source = BitSource::new(&[0x8E, 0x00], FillOrder::MsbFirst);
-    assert_eq!(rt; read_1d(&mut source, &mut row), Ok(()));
-    for i in 0..row.width() {
-        let want = if i == 3 || i == 4 {
-            Colour::Black
-        } else {
-            Colour::White
-        };
-        assert_eq!(rt; row.pel(i), want, "at {i}");
-    }
-    assert_eq!(rt; source.place(), 10);
-    Ok(())
-}
-
-#[test]
-fn finds_b1_and_b2(rt: HostRuntime) -> Result<(), Fail> {
-    let cases = [
-        ("inside", BLACK_INSIDE, None, Colour::White, (3, 5)),
-        (
-            "at the first change",
-            BLACK_INSIDE,
-            Some(3),
-            Colour::Black,
-            (5, 8),
-        ),
-        ("at the first pel", BLACK_FIRST, None, Colour::White, (0, 2)),
-        (
-            "behind the first pel",
-            BLACK_FIRST,
-            Some(0),
-            Colour::Black,
-            (2, 8),
-        ),
-        (
-            "no black is left",
-            BLACK_FIRST,
-            Some(0),
-            Colour::White,
-            (8, 8),
-        ),
-    ];
-    for (name, bytes, a0, colour, places) in cases {
-        assert!(rt; bytes.len() < 100);
-        let mut row = Row::white(rt.alloc(), 8)?;
-        let mut source = BitSource::new(bytes, FillOrder::MsbFirst);
-        assert_eq!(rt; read_1d(&mut source, &mut row), Ok(()), "{name}");
-        assert_eq!(rt; b1_b2(&row, a0, colour), places, "{name}");
     }
     Ok(())
 }
@@ -205,20 +150,6 @@ fn names_the_first_fault_over_a_reference(rt: HostRuntime) -> Result<(), Fail> {
 }
 
 #[test]
-fn reads_on_behind_a_row(rt: HostRuntime) -> Result<(), Fail> {
-    let mut reference = Row::white(rt.alloc(), 8)?;
-    let mut row = Row::white(rt.alloc(), 8)?;
-    let mut source = BitSource::new(&[0xB0, 0xDE, 0xE0], FillOrder::MsbFirst);
-    assert_eq!(rt; read_1d(&mut source, &mut reference), Ok(()));
-    assert_eq!(rt; reference.runs(rt.alloc())?.as_slice(), [8u32].as_slice());
-    assert_eq!(rt; source.place(), 18);
-    assert_eq!(rt; read_2d(&mut source, &reference, &mut row), Ok(()));
-    assert_eq!(rt; row.runs(rt.alloc())?.as_slice(), [8u32].as_slice());
-    assert_eq!(rt; source.place(), 19);
-    Ok(())
-}
-
-#[test]
 fn packs_and_unpacks_rows(rt: HostRuntime) -> Result<(), Fail> {
     let mut row = Row::from_packed(rt.alloc(), &[0b0001_1000, 0b1011_1111], 11)?;
     assert_eq!(rt; row.width(), 11);
@@ -234,14 +165,5 @@ fn packs_and_unpacks_rows(rt: HostRuntime) -> Result<(), Fail> {
         row.runs(rt.alloc())?.as_slice(),
         [0u32, 3, 2, 3, 1, 1, 1].as_slice()
     );
-    Ok(())
-}
-
-#[test]
-fn sets_a_row_from_another(rt: HostRuntime) -> Result<(), Fail> {
-    let mut row = Row::white(rt.alloc(), 8)?;
-    let other = Row::from_packed(rt.alloc(), &[0b0001_1000], 8)?;
-    row.set_from(&other);
-    assert_eq!(rt; row.runs(rt.alloc())?.as_slice(), [3u32, 2, 3].as_slice());
     Ok(())
 }

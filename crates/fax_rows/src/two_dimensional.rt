@@ -1,14 +1,14 @@
 //! Rows in two-dimensional coding (ITU-T T.4, section 4.2.1.3, and T.6, section 2.2).
-ghost use Rattle.std.specs.Prelude.{◌≡◌, ◌+◌, ◌≤◌, ◌<◌, negsuc, ◌≤ℤ◌, [], length, OnOk, IfOk, IfErr};
-ghost use Rattle.fax_rows.specs.Elements.{other as other_than};
-ghost use Rattle.fax_rows.specs.TwoDimensional.{a0_number as number_of_a0, coloured_up_to, b2_from, IsVerticalStep, IsInRow, IsHorizontalStep, IsStep, IsTwoDimensionalRow};
+ghost use Rattle.std.specs.Prelude.{◌≡◌, ◌≤◌, ◌<◌, negsuc, ◌≤ℤ◌, [], length, OnOk, IfOk, IfErr};
+ghost use Rattle.fax_bits.specs.code.Source.{KeepsEnd};
+ghost use Rattle.fax_rows.specs.TwoDimensional as Spec;
+ghost use Rattle.fax_rows.specs.Faults as Fault;
 ghost use Rattle.fax_rows.specs.code.Reached.{reached_pel, position_of};
-ghost use Rattle.fax_rows.specs.Faults.{IsHorizontalFault, IsStepFault, IsTwoDimensionalFault};
 
 use crate::RowFault;
 use crate::pels::Row;
 use crate::places::b1_b2;
-use crate::runs::{other, read_run, row_fault};
+use crate::runs::{other, read_run};
 use fax_bits::{BitSource, Colour, ModeCode, Modes, read_code};
 
 /// How far a row is read (T.4, section 4.2.1.3.1).
@@ -30,7 +30,7 @@ impl Reached {
 
     /// a0 as a number: -1 just before the first pel (T.4, section 4.2.1.3.4).
     fn a0_number(self) -> i64
-        ensures number { result ≡ number_of_a0 (position_of self []) }
+        ensures number { result ≡ Spec.a0_number (position_of self []) }
         ensures least { negsuc 0 ≤ℤ result }
     {
         match self.a0 {
@@ -43,7 +43,7 @@ impl Reached {
     fn colour_up_to(self, row: &mut Row, to: u32) -> Reached
         requires right { reached_pel self ≤ to }
         requires within { to ≤ length row.old }
-        ensures coloured { position_of result row.new ≡ coloured_up_to (position_of self row.old) to }
+        ensures coloured { position_of result row.new ≡ Spec.coloured_up_to (position_of self row.old) to }
         ensures place { result.a0 ≡ Some to }
         ensures same_width { length row.new ≡ length row.old }
     {
@@ -60,7 +60,8 @@ impl Reached {
 fn pass(reference: &Row, row: &mut Row, at: Reached) -> Reached
     requires width { length reference.now ≡ length row.old }
     requires within { reached_pel at ≤ length row.old }
-    ensures step { position_of result row.new ≡ coloured_up_to (position_of at row.old) (b2_from reference.now (position_of at row.old)) }
+    ensures step { let from = position_of at row.old in
+        position_of result row.new ≡ Spec.coloured_up_to from (Spec.b2_from reference.now from) }
     ensures within { reached_pel result ≤ length row.new }
     ensures same_width { length row.new ≡ length row.old }
 {
@@ -73,8 +74,10 @@ fn pass(reference: &Row, row: &mut Row, at: Reached) -> Reached
 fn vertical(reference: &Row, row: &mut Row, at: Reached, d: i8) -> Result<Reached, RowFault>
     requires width { length reference.now ≡ length row.old }
     requires within { reached_pel at ≤ length row.old }
-    ensures ok { IfOk result (λ next. IsVerticalStep reference.now (position_of at row.old) d (position_of next row.new)) }
-    ensures err { IfErr result (λ fault. (IsInRow reference.now (position_of at row.old) d → ⊥) × (fault ≡ RowFault.OutOfRow)) }
+    ensures ok { IfOk result (λ next. Spec.IsVerticalStep reference.now (position_of at row.old) d
+        (position_of next row.new)) }
+    ensures err { IfErr result (λ fault. (Spec.IsInRow reference.now (position_of at row.old) d → ⊥)
+        × (fault ≡ RowFault.OutOfRow)) }
     ensures within { IfOk result (λ next. reached_pel next ≤ length row.new) }
     ensures same_width { length row.new ≡ length row.old }
 {
@@ -93,11 +96,13 @@ fn vertical(reference: &Row, row: &mut Row, at: Reached, d: i8) -> Result<Reache
 /// 4.2.1.3.2).
 fn horizontal(source: &mut BitSource, row: &mut Row, at: Reached) -> Result<Reached, RowFault>
     requires within { reached_pel at ≤ length row.old }
-    ensures ok { IfOk result (λ next. IsHorizontalStep row.old (position_of at row.old) source.old.left (position_of next row.new) source.new.left) }
-    ensures err { IfErr result (λ fault. IsHorizontalFault row.old (position_of at row.old) source.old.left fault) }
+    ensures ok { IfOk result (λ next. Spec.IsHorizontalStep row.old (position_of at row.old) source.old.left
+        (position_of next row.new) source.new.left) }
+    ensures err { IfErr result (λ fault. Fault.IsHorizontalFault row.old (position_of at row.old)
+        source.old.left fault) }
     ensures within { IfOk result (λ next. reached_pel next ≤ length row.new) }
     ensures same_width { length row.new ≡ length row.old }
-    ensures same_end { source.new.place + length source.new.left ≡ source.old.place + length source.old.left }
+    ensures same_end { KeepsEnd source.old source.new }
     ensures no_longer { OnOk result (length source.new.left ≤ length source.old.left) }
 {
     let width = row.width();
@@ -122,19 +127,21 @@ fn step(
 ) -> Result<Reached, RowFault>
     requires width { length reference.now ≡ length row.old }
     requires within { reached_pel at ≤ length row.old }
-    ensures ok { IfOk result (λ next. IsStep reference.now (position_of at row.old) source.old.left (position_of next row.new) source.new.left) }
-    ensures err { IfErr result (λ fault. IsStepFault reference.now (position_of at row.old) source.old.left fault) }
+    ensures ok { IfOk result (λ next. Spec.IsStep reference.now (position_of at row.old) source.old.left
+        (position_of next row.new) source.new.left) }
+    ensures err { IfErr result (λ fault. Fault.IsStepFault reference.now (position_of at row.old)
+        source.old.left fault) }
     ensures within { IfOk result (λ next. reached_pel next ≤ length row.new) }
     ensures same_width { length row.new ≡ length row.old }
-    ensures same_end { source.new.place + length source.new.left ≡ source.old.place + length source.old.left }
+    ensures same_end { KeepsEnd source.old source.new }
     ensures shorter { OnOk result (length source.new.left < length source.old.left) }
 {
-    match read_code::<Modes>(source) {
-        Ok(ModeCode::Pass) => Ok(pass(reference, row, at)),
-        Ok(ModeCode::Horizontal) => horizontal(source, row, at),
-        Ok(ModeCode::Vertical(d)) => vertical(reference, row, at, d),
-        Ok(ModeCode::Extension) => Err(RowFault::Extension),
-        Err(fault) => Err(row_fault(fault)),
+    let mode = read_code::<Modes>(source)?;
+    match mode {
+        ModeCode::Pass => Ok(pass(reference, row, at)),
+        ModeCode::Horizontal => horizontal(source, row, at),
+        ModeCode::Vertical(d) => vertical(reference, row, at, d),
+        ModeCode::Extension => Err(RowFault::Extension),
     }
 }
 
@@ -148,12 +155,13 @@ fn step(
 /// then.
 pub fn read_2d(source: &mut BitSource, reference: &Row, row: &mut Row) -> Result<(), RowFault>
     requires width { length reference.now ≡ length row.old }
-    ensures ok { OnOk result (IsTwoDimensionalRow reference.now source.old.left row.new source.new.left) }
-    ensures err { IfErr result (λ fault. IsTwoDimensionalFault reference.now source.old.left fault) }
+    ensures ok { OnOk result
+        (Spec.IsTwoDimensionalRow reference.now source.old.left row.new source.new.left) }
+    ensures err { IfErr result (λ fault. Fault.IsTwoDimensionalFault reference.now source.old.left fault) }
     ensures same_width { length row.new ≡ length row.old }
 
     // The source goes on in the same bits.
-    ensures same_end { source.new.place + length source.new.left ≡ source.old.place + length source.old.left }
+    ensures same_end { KeepsEnd source.old source.new }
 {
     let width = row.width();
     let mut at = Reached {

@@ -4,7 +4,7 @@ use Rattle.fax_bits.specs.declared.codes.Meeting.{Meeting}
 use Rattle.fax_bits.specs.declared.codes.Meeting.TheVariants.{Whole, Cut, Other}
 use Rattle.fax_bits.specs.Codes.{IsCodeAhead, IsCutBy}
 
--- the code begins the bits, or the bits end within the code, or neither (this project's profile)
+-- the code begins the bits, or the bits end within the code, or neither
 abbrev pub IsMeeting : Meeting → List Bool → List Bool → Type 0
 IsMeeting Whole code b = IsCodeAhead code b
 IsMeeting Cut code b = (IsCodeAhead code b → ⊥) × IsCutBy code b

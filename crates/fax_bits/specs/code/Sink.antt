@@ -1,25 +1,35 @@
 -- Bits that are appended one after another.
-use Rattle.std.specs.Prelude.{◌≡◌, ℕ, ◌<◌, ◌%◌, ◌^◌, Bool, false, List, ◌++◌, length, replicate}
+use Rattle.std.specs.Prelude.{◌≡◌, ℕ, ◌<◌, ◌%◌, ◌^◌, Bool, false, List, ◌++◌, length, replicate, flat_map}
 use Rattle.fax_bits.specs.declared.FillOrder.{FillOrder}
+use Rattle.fax_bits.specs.declared.Colour.{Colour}
+use Rattle.fax_bits.specs.declared.runs.RunCode.{RunCode}
 use Rattle.fax_bits.specs.Bits.{bits, code_bits}
+use Rattle.fax_bits.specs.Runs.{run_code_bits}
 
 -- the bits that were put, and the order in which bytes hold them (TIFF 6.0, FillOrder)
 pub record Sink : Type 0 where
   pub order : FillOrder
   pub bits : List Bool
 
--- the bits stand behind those that were there (this project's profile)
+-- the bits stand behind those that were there
 abbrev pub Appends : Sink → List Bool → Sink → Type 0
 Appends old more new = new ≡ record { order = old.order; bits = old.bits ++ more }
 
--- some of the bits, from the first on, stand behind those that were there (this project's profile)
+-- some of the bits, from the first on, stand behind those that were there
 pub record AppendsPrefix (old : Sink) (more : List Bool) (new : Sink) : Type 0 where
   pub done : List Bool
   pub missing : List Bool
   pub appended : Appends old done new
   pub parts : more ≡ done ++ missing
 
--- fewer than eight zeros stand behind the bits that were there, up to a whole byte (this project's profile)
+-- some of the codes of a run, from the first on and each of them whole, stand behind the bits that were there
+pub record AppendsCodes (old : Sink) (colour : Colour) (codes : List RunCode) (new : Sink) : Type 0 where
+  pub done : List RunCode
+  pub missing : List RunCode
+  pub appended : Appends old (flat_map (run_code_bits colour) done) new
+  pub parts : codes ≡ done ++ missing
+
+-- fewer than eight zeros stand behind the bits that were there, up to a whole byte
 pub record IsPadded (old new : Sink) : Type 0 where
   pub zeros : ℕ
   pub few : zeros < 8
@@ -30,7 +40,7 @@ pub record IsPadded (old new : Sink) : Type 0 where
 abbrev pub sink_of : FillOrder → List ℕ → ℕ → ℕ → Sink
 sink_of order bytes count pending = record { order = order; bits = bits order bytes ++ code_bits count pending }
 
--- fewer than eight bits are pending, and while some are there is room for one more byte (this project's profile)
+-- fewer than eight bits are pending, and while some are there is room for one more byte
 pub record IsPending (count pending bytes capacity : ℕ) : Type 0 where
   pub short : count < 8
   pub fits : pending < 2 ^ count

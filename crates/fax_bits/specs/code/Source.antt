@@ -1,10 +1,9 @@
 -- Bits that are read from a place on.
-use Rattle.std.specs.Prelude.{ℕ, ◌-◌, ◌*◌, ◌≤◌, Bool, List, length, drop}
+use Rattle.std.specs.Prelude.{◌≡◌, ℕ, ◌+◌, ◌*◌, ◌<◌, ◌≤◌, Bool, false, List, length, slice_index_or, drop}
 use Rattle.fax_bits.specs.declared.FillOrder.{FillOrder}
-use Rattle.fax_bits.specs.declared.FillOrder.TheVariants.{MsbFirst, LsbFirst}
 use Rattle.fax_bits.specs.Bits.{bits}
 
--- the bits that are left, and how many bits stand before them (this project's profile)
+-- the bits that are left, and how many bits stand before them
 pub record Source : Type 0 where
   pub left : List Bool
   pub place : ℕ
@@ -13,12 +12,16 @@ pub record Source : Type 0 where
 abbrev pub source_of : FillOrder → List ℕ → ℕ → Source
 source_of order bytes place = record { left = drop place (bits order bytes); place = place }
 
--- which bit of a byte, 0 the lowest, is coded at this place of its eight bits (TIFF 6.0, FillOrder)
-abbrev pub bit_in_byte : FillOrder → ℕ → ℕ
-bit_in_byte MsbFirst place = 7 - place
-bit_in_byte LsbFirst place = place
+-- eight zeros stand at this place of the bits
+pub record IsZeroByteAt (b : List Bool) (place : ℕ) : Type 0 where
+  pub within : place + 8 ≤ length b
+  pub zeros : (k : ℕ) → k < 8 → slice_index_or b (place + k) false ≡ false
 
--- the place lies in the bytes, and their bits can be counted (this project's profile)
+-- the source goes on in the same bits: they end at the same place
+abbrev pub KeepsEnd : Source → Source → Type 0
+KeepsEnd old new = new.place + length new.left ≡ old.place + length old.left
+
+-- the place lies in the bytes, and their bits can be counted
 pub record IsPlaced (bytes : List ℕ) (place : ℕ) : Type 0 where
   pub within : place ≤ 8 * length bytes
   pub counted : length bytes ≤ 4294967295

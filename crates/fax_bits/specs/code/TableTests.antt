@@ -1,12 +1,13 @@
 -- Tests of a whole table that are computed, and the rules that hold at each entry of a table that passes.
 use Rattle.std.proofs.Common.{◌≡◌, ℕ, zero, suc, ◌^◌, ◌<◌, ◌≤◌, List, [], ◌∷◌, ◌++◌, length, get_or, map, Bool, true, false, not, refl, ap, sym, ◌∙◌, subst, arith}
-use Rattle.std.specs.Prelude.{◌&&◌, nat_lt, nat_le}
+use Rattle.std.specs.Prelude.{◌&&◌, nat_lt, nat_le, Some, slice_get}
 use Rattle.std.proofs.lemmas.Bool.Decides.{nat_tests}
-use Rattle.std.proofs.lemmas.List.{get_or-map, get_or_default, length-map}
+use Rattle.std.proofs.lemmas.List.{get_or-map, length-map}
+use Rattle.std.proofs.lemmas.Option.{slice_get_within, get_or_from_slice_get}
 use Rattle.fax_bits.specs.declared.codes.CodeEntry.{CodeEntry}
 use Rattle.fax_bits.specs.Codes.{bits_of, HasShortCodes, IsPrefixFree}
 
--- the first list begins the second (this project's profile)
+-- the first list begins the second
 abbrev pub starts : List Bool → List Bool → Bool
 starts [] ys = true
 starts (x ∷ xs) [] = false
@@ -14,17 +15,17 @@ starts (true ∷ xs) (true ∷ ys) = starts xs ys
 starts (false ∷ xs) (false ∷ ys) = starts xs ys
 starts (_ ∷ xs) (_ ∷ ys) = false
 
--- the code begins none of the others, and none of them begins it (this project's profile)
+-- the code begins none of the others, and none of them begins it
 abbrev pub none_starts : List Bool → List (List Bool) → Bool
 none_starts code [] = true
 none_starts code (other ∷ others) = (not (starts code other) && not (starts other code)) && none_starts code others
 
--- no code begins another (this project's profile)
+-- no code begins another
 abbrev pub prefix_free_test : List (List Bool) → Bool
 prefix_free_test [] = true
 prefix_free_test (code ∷ codes) = none_starts code codes && prefix_free_test codes
 
--- each code has 1 to 13 bits, and its number no more than these (this project's profile)
+-- each code has 1 to 13 bits, and its number no more than these
 abbrev pub short_codes_test : {M : Type 0} → List (CodeEntry M) → Bool
 short_codes_test [] = true
 short_codes_test (entry ∷ table) = ((nat_lt 0 entry.len && nat_le entry.len 13) && nat_lt entry.code (2 ^ entry.len)) && short_codes_test table
@@ -74,17 +75,19 @@ same_place (code ∷ codes) (suc i) zero more free here there is =
 same_place (code ∷ codes) (suc i) (suc j) more free here there is =
     ap suc (same_place codes i j more (and_both (none_starts code codes) (prefix_free_test codes) free).1 (omega arith) (omega arith) is)
 
-code_at : {M : Type 0} (table : List (CodeEntry M)) (entry : CodeEntry M) (i : ℕ) → i < length table → get_or table i entry ≡ entry
+-- the code at a place, as the test lists it
+code_at : {M : Type 0} (table : List (CodeEntry M)) (i : ℕ) (entry : CodeEntry M) → slice_get table i ≡ Some entry
     → get_or (map bits_of table) i [] ≡ bits_of entry
-code_at table entry i within is = get_or-map bits_of table i entry [] within ∙ ap bits_of is
+code_at table i entry found =
+    get_or-map bits_of table i entry [] (slice_get_within table i entry found)
+    ∙ ap bits_of (get_or_from_slice_get table i entry entry found)
 
--- from the computed test to the rule: no code begins another
+-- from the computed test to the rule: no code begins the code at another place
 pub is_prefix_free : {M : Type 0} (table : List (CodeEntry M)) → prefix_free_test (map bits_of table) ≡ true → IsPrefixFree table
-is_prefix_free table free entry other more here there is =
-    let same : here.0 ≡ there.0 =
-    same_place (map bits_of table) here.0 there.0 more free (simp length-map here.1) (simp length-map there.1)
-    (code_at table other there.0 there.1 there.2 ∙ is ∙ ap (λ code. code ++ more) (sym (code_at table entry here.0 here.1 here.2))) in
-    sym here.2 ∙ ap (λ i. get_or table i entry) same ∙ get_or_default table there.0 entry other there.1 ∙ there.2
+is_prefix_free table free i j entry other more here there is =
+    same_place (map bits_of table) i j more free
+    (simp length-map (slice_get_within table i entry here)) (simp length-map (slice_get_within table j other there))
+    (code_at table j other there ∙ is ∙ ap (λ code. code ++ more) (sym (code_at table i entry here)))
 
 entry_is_short : {M : Type 0} (table : List (CodeEntry M)) (i : ℕ) (entry : CodeEntry M) → short_codes_test table ≡ true → i < length table
     → get_or table i entry ≡ entry → (0 < entry.len) × (entry.len ≤ 13) × (entry.code < 2 ^ entry.len)

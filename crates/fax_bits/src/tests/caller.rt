@@ -9,7 +9,8 @@ use crate::{BitSource, CodeFault, FillOrder, ModeCode, Modes, read_code};
 /// The mode of the first step of an MMR strip.
 pub fn first_mode(bytes: &[u8], order: FillOrder) -> Result<ModeCode, CodeFault>
     requires { length bytes.now ≤ 4294967295 }
-    ensures ok { IfOk result (λ mode. (rest : List Bool) × Takes modes (bits order bytes.now) mode rest) }
+    ensures ok { IfOk result
+        (λ mode. (rest : List Bool) × Takes modes (bits order bytes.now) mode rest) }
     ensures err { IfErr result (λ fault. IsFaultOf modes (bits order bytes.now) fault) }
 {
     let mut source = BitSource::new(bytes, order);

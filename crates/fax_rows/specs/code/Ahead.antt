@@ -21,7 +21,7 @@ known ahead Black = ahead.black
 -- the places are those of the two rows as seen from a0 (T.4, section 4.2.1.3.1)
 pub record IsAhead (reference row : List Colour) (ahead : Ahead) : Type 0 where
   pub a1 : ahead.a1 ≡ next_change row ahead.a0
-  pub b1_b2 : (colour : Colour) → AreB1B2 reference ahead.a0 colour (known ahead colour).0 (known ahead colour).1
+  pub each_colour : (colour : Colour) → AreB1B2 reference ahead.a0 colour (known ahead colour).0 (known ahead colour).1
 
 -- the mode of the step from a0 (T.4, section 4.2.1.3.3)
 abbrev pub mode_from : List Colour → List Colour → Option ℕ → ModeCode

@@ -36,7 +36,8 @@ pub fn recode_first_row(
 ) -> Result<(), RecodeFault>
     requires some { 0 < width }
     requires short { width < 2 ^ 16 }
-    ensures { OnOk result ((row : List Colour) × IsOneDimensionalRow width source.old.left row source.new.left
+    ensures { OnOk result ((row : List Colour)
+        × IsOneDimensionalRow width source.old.left row source.new.left
         × Appends sink.old (two_dimensional_bits (replicate width Colour.White) row) sink.new) }
 {
     let reference = Row::white(alloc, width)?;

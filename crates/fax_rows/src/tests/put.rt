@@ -76,10 +76,11 @@ fn writes_the_longest_runs(rt: HostRuntime) -> Result<(), Fail> {
     Ok(())
 }
 
-/// Bytes of pels: 0 all white, 1 all black, 2 pel by pel in turn, 3 thin marks, else noise.
-fn marks(alloc: Global, kind: u32, len: usize) -> Result<Vec<u8>, Fail> {
+/// Bytes of pels: 0 all white, 1 all black, 2 pel by pel in turn, 3 thin marks, else noise from this
+/// seed.
+fn marks(alloc: Global, kind: u32, seed: u32, len: usize) -> Result<Vec<u8>, Fail> {
     let mut bytes = Vec::new(alloc);
-    let mut noise: u32 = kind.wrapping_mul(40_503);
+    let mut noise = seed;
     for i in 0..len {
         noise = noise.wrapping_mul(1_664_525).wrapping_add(1_013_904_223);
         let byte = match kind {
@@ -117,8 +118,8 @@ fn reads_back(
 ) -> Result<(), Fail> {
     assert!(rt; width > 0 && width < 65_536 && over < 5 && kind < 5);
     let len = ((width + 7) / 8) as usize;
-    let below = marks(alloc, over, len)?;
-    let bytes = marks(alloc, kind + 5 * over, len)?;
+    let below = marks(alloc, over, 40_503, len)?;
+    let bytes = marks(alloc, kind, 1_664_525, len)?;
     assert!(rt; below.len() == len && bytes.len() == len);
     let reference = Row::from_packed(alloc, &below, width)?;
     let row = Row::from_packed(alloc, &bytes, width)?;

@@ -11,8 +11,8 @@ choose-mode-requires-clause-a1 c =
 pub choose-mode-requires-clause-b1 : goal.choose-mode-requires-clause-b1
 choose-mode-requires-clause-b1 c =
     let colour = c.colour_at-colour.result in
-    let is : c.b1_b2-b1.result.0 ≡ b1 c.args.reference.now c.args.ahead.a0 colour =
-    ap (λ (pair : ℕ × ℕ). pair.0) c.b1_b2-b1.ensures ∙ (c.requires.places.b1_b2 colour).b1 in
+    let is : c.known-b1.result.0 ≡ b1 c.args.reference.now c.args.ahead.a0 colour =
+    ap (λ (pair : ℕ × ℕ). pair.0) c.known-b1.ensures ∙ (c.requires.places.each_colour colour).b1 in
     omega (arith, is, next_of_within c.args.reference.now c.args.ahead.a0 colour, c.requires.same_width)
 
 pub put_run_pair-requires-clause-a0 : goal.put_run_pair-requires-clause-a0

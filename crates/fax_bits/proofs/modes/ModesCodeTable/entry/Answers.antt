@@ -1,6 +1,6 @@
 use Rattle.std.proofs.lemmas.Option.{slice_get-get_or}
 use Rattle.fax_bits.specs.Tables.{modes}
-use Rattle.fax_bits.proofs.TableLaws.{modes_has_short_codes}
+use Rattle.fax_bits.specs.code.TableLaws.{modes_has_short_codes}
 use Rattle.fax_bits.proofs.TableLemmas.{listed}
 use Rattle.fax_bits.proofs.modes.ModesCodeTable.entry.Goals as goal
 

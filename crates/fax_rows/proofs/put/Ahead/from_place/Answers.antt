@@ -11,4 +11,4 @@ returns-clause-places c =
           w.a1-is ∙ known_a1 c.args.row.now c.args.self.a0 c.args.place c.requires.right _ c.requires.places.a1 (omega arith)
       | else-self-place w ↦ w.a1-is ∙ w.next_change-a1.ensures.place
     ])
-    c.b1_b2_from.ensures c.b1_b2_from-2.ensures
+    c.seen_from.ensures c.seen_from-2.ensures

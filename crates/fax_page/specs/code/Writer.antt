@@ -1,0 +1,50 @@
+-- A strip that is written row by row.
+use Rattle.std.specs.Prelude.{◌≡◌, ℕ, ◌+◌, ◌<◌, ◌≤◌, Bool, true, false, List, [], ◌++◌, length, Result, Ok, Err}
+use Rattle.fax_bits.specs.declared.Colour.{Colour}
+use Rattle.fax_bits.specs.declared.FillOrder.{FillOrder}
+use Rattle.fax_bits.specs.declared.Memory.{Memory}
+use Rattle.fax_page.specs.declared.StripForm.{StripForm}
+use Rattle.fax_page.specs.CodedStrip.{coded_line}
+use Rattle.fax_page.specs.Strip.{IsStripForm, white_row}
+
+-- how far a strip is written: its form and k, its bits, how many rows were put, the last of them, or a white row
+-- before the first, and whether memory was refused
+pub record WriterState : Type 0 where
+  pub form : StripForm
+  pub k : ℕ
+  pub bits : List Bool
+  pub row : ℕ
+  pub last : List Colour
+  pub refused : Bool
+
+-- before the first row
+abbrev pub writer_beginning : StripForm → ℕ → WriterState
+writer_beginning form k =
+    record { form = form; k = k; bits = []; row = 0; last = white_row form.width; refused = false }
+
+-- the form is within the limits, k is not 0, the bits are put in the form's order, the last row has the form's
+-- width, and there are no more rows than the form says
+pub record IsWriting (form : StripForm) (k : ℕ) (order : FillOrder) (row : ℕ) (last : List Colour) : Type 0 where
+  pub limits : IsStripForm form
+  pub some_k : 0 < k
+  pub same_order : order ≡ form.order
+  pub width : length last ≡ form.width
+  pub within : row ≤ form.rows
+
+-- the row is written over the last one, and is the last one now
+pub record PutsRow (old : WriterState) (row : List Colour) (new : WriterState) : Type 0 where
+  pub not_refused : old.refused ≡ false
+  pub put : new ≡ record old {
+    bits = old.bits ++ coded_line old.form.coding old.k old.row old.last row;
+    row = old.row + 1;
+    last = row;
+  }
+
+-- memory is refused from now on, and nothing is said of the bits
+abbrev pub Refuses : WriterState → WriterState → Type 0
+Refuses old new = new ≡ record old { bits = new.bits; refused = true }
+
+-- what a call that puts a row answers
+abbrev pub IsPutRow : WriterState → List Colour → Result (Unit {0}) Memory → WriterState → Type 0
+IsPutRow old row (Ok done) new = PutsRow old row new
+IsPutRow old row (Err memory) new = Refuses old new

@@ -1,0 +1,170 @@
+//! A writer of strips.
+ghost use Rattle.std.specs.Prelude.{◌≡◌, ◌++◌, ◌<◌, ◌≤◌, length, false, IfOk, OnOk};
+ghost use Rattle.fax_bits.specs.code.Sink.{Appends};
+ghost use Rattle.fax_bits.specs.Bytes.{packed};
+ghost use Rattle.fax_page.specs.CodedStrip as Coded;
+
+use crate::{Coding, Dimension, StripForm};
+use fax_rows::{BitSink, Memory, Row, put_1d, put_2d};
+use std::alloc::Global;
+use std::marker::Model;
+
+/// An EOL as a number: eleven zeros and a 1 (T.4, section 4.1.2).
+const EOL: u32 = 1;
+
+/// How many bits an EOL has.
+const EOL_BITS: u32 = 12;
+
+/// How row `i` of a strip is written: in MR one-dimensional exactly where `i` is a multiple of `k`
+/// (T.4, section 4.2.1.1).
+fn written_dimension(coding: Coding, k: u32, i: u32) -> Dimension
+    requires { 0 < k }
+    ensures { result ≡ Coded.written_dimension coding k i }
+{
+    match coding {
+        Coding::Mh => Dimension::OneDimensional,
+        Coding::Mr if i % k == 0 => Dimension::OneDimensional,
+        Coding::Mr | Coding::Mmr => Dimension::TwoDimensional,
+    }
+}
+
+/// Puts what stands before a row's codes: an EOL in MH, an EOL and a tag bit in MR, nothing in MMR
+/// (T.4, sections 4.1.2 and 4.2.2; T.6, section 2.2.1).
+#[tactic(auto, unfolding(fax_bits::specs::Bits::code_bits))]
+fn put_start(sink: &mut BitSink, coding: Coding, dimension: Dimension) -> Result<(), Memory>
+    ensures ok { OnOk result (Appends sink.old (Coded.start_bits coding dimension) sink.new) }
+    ensures same_order { sink.new.order ≡ sink.old.order }
+{
+    match (coding, dimension) {
+        (Coding::Mh, _) => sink.put(EOL, EOL_BITS),
+        (Coding::Mr, Dimension::OneDimensional) => sink.put(2 * EOL + 1, EOL_BITS + 1),
+        (Coding::Mr, Dimension::TwoDimensional) => sink.put(2 * EOL, EOL_BITS + 1),
+        (Coding::Mmr, _) => Ok(()),
+    }
+}
+
+/// Puts row `i` of a strip over the row before it: what stands before its codes, and its codes in
+/// T.4's own choice.
+fn put_line(
+    sink: &mut BitSink,
+    coding: Coding,
+    k: u32,
+    i: u32,
+    reference: &Row,
+    row: &Row,
+) -> Result<(), Memory>
+    requires some_k { 0 < k }
+    requires same_width { length reference.now ≡ length row.now }
+    ensures ok { OnOk result (Appends sink.old (Coded.coded_line coding k i reference.now row.now) sink.new) }
+    ensures same_order { sink.new.order ≡ sink.old.order }
+{
+    let dimension = written_dimension(coding, k, i);
+    put_start(sink, coding, dimension)?;
+    match dimension {
+        Dimension::OneDimensional => put_1d(row, sink),
+        Dimension::TwoDimensional => put_2d(reference, row, sink),
+    }
+}
+
+/// Puts what stands behind a strip's last row: the end of the facsimile block in MMR, two EOLs
+/// (T.6, End-of-facsimile block).
+#[tactic(auto, unfolding(fax_bits::specs::Bits::code_bits))]
+fn put_end(sink: &mut BitSink, coding: Coding) -> Result<(), Memory>
+    ensures ok { OnOk result (Appends sink.old (Coded.end_bits coding) sink.new) }
+    ensures same_order { sink.new.order ≡ sink.old.order }
+{
+    match coding {
+        Coding::Mh | Coding::Mr => Ok(()),
+        Coding::Mmr => sink.put((EOL << EOL_BITS) | EOL, 2 * EOL_BITS),
+    }
+}
+
+/// Writes a strip row by row. Contracts see how far it is written: its form and k, its bits, how
+/// many rows were put, the last of them, and whether memory was refused.
+#[derive(Drop)]
+pub struct StripWriter {
+    form: StripForm,
+    k: u32,
+    sink: BitSink,
+    row: u32,
+    last: Row,
+    refused: bool,
+}
+
+impl Model for StripWriter {
+    ghost use Rattle.fax_page.specs.code.Writer.{WriterState, IsWriting};
+
+    ghost Value = { WriterState };
+
+    ghost view = { λ w. record {
+      form = w.form;
+      k = w.k;
+      bits = w.sink.bits;
+      row = w.row;
+      last = w.last;
+      refused = w.refused;
+    } };
+
+    ghost invariant = { λ w. IsWriting w.form w.k w.sink.order w.row w.last };
+}
+
+impl StripWriter {
+    ghost use Rattle.fax_page.specs.Strip.{IsStripForm};
+    ghost use Rattle.fax_page.specs.code.Writer.{writer_beginning, IsPutRow};
+
+    /// A strip of this form, before its first row. In MR every `k`-th row is one-dimensional, from
+    /// the first on (T.4, section 4.2.1.1); in MH and MMR `k` is not looked at.
+    ///
+    /// # Errors
+    ///
+    /// `Memory` where a growth was refused.
+    pub fn new(alloc: Global, form: StripForm, k: u32) -> Result<Self, Memory>
+        requires limits { IsStripForm form }
+        requires some_k { 0 < k }
+        ensures { IfOk result (λ writer. writer ≡ writer_beginning form k) }
+    {
+        let last = Row::white(alloc, form.width)?;
+        Ok(StripWriter {
+            form,
+            k,
+            sink: BitSink::new(alloc, form.order),
+            row: 0,
+            last,
+            refused: false,
+        })
+    }
+
+    /// Puts the next row: without fill, in T.4's own choice of codes, and in MR and MMR over the row
+    /// before it.
+    ///
+    /// # Errors
+    ///
+    /// `Memory` where a growth was refused, and at each later call.
+    pub fn put_row(&mut self, row: &Row) -> Result<(), Memory>
+        requires due { self.old.row < self.old.form.rows }
+        requires width { length row.now ≡ self.old.form.width }
+        ensures { IsPutRow self.old row.now result self.new }
+    {
+        if self.refused {
+            return Err(Memory);
+        }
+        match put_line(
+            &mut self.sink,
+            self.form.coding,
+            self.k,
+            self.row,
+            &self.last,
+            row,
+        ) {
+            Ok(()) => {
+                self.last.set_from(row);
+                self.row += 1;
+                Ok(())
+            }
+            Err(Memory) => {
+                self.refused = true;
+                Err(Memory)
+            }
+        }
+    }
+}
