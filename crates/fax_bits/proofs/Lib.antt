@@ -14,3 +14,8 @@ pub mod ReadBackLemmas
 pub mod PutLemmas
 pub mod FindLemmas
 pub mod NumberLemmas
+pub mod ReadLemmas
+pub mod PlaceLemmas
+pub mod IndexLemmas
+pub mod WordLemmas
+pub mod WindowLemmas

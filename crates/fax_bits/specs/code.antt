@@ -2,5 +2,8 @@
 pub mod Source
 pub mod Sink
 pub mod Meeting
+pub mod Places
 pub mod TableTests
 pub mod TableLaws
+pub mod Window
+pub mod BitsAhead

@@ -2,7 +2,7 @@
 ghost use Rattle.std.specs.Prelude.{◌≡◌, ℕ, ◌^◌, ◌<◌, ◌≤◌, List, length, slice_get};
 ghost use Rattle.std.specs.Prelude.{OnOk, OnErr, IfOk, IfErr, MatchOption, Some};
 ghost use Rattle.fax_bits.specs.Bits.{code_bits};
-ghost use Rattle.fax_bits.specs.Codes.{Takes, IsFaultOf};
+ghost use Rattle.fax_bits.specs.Codes.{Takes, IsFaultOf, HasNoCode};
 ghost use Rattle.fax_bits.specs.code.Meeting.{IsMeeting};
 ghost use Rattle.fax_bits.specs.code.Source.{KeepsEnd};
 
@@ -33,6 +33,7 @@ pub enum CodeFault {
 pub trait CodeTable {
     ghost use Rattle.fax_bits.specs.declared.codes.CodeEntry.{CodeEntry};
     ghost use Rattle.fax_bits.specs.Codes.{BeginsWith, HasNoCode, HasShortCodes, IsPrefixFree};
+    ghost use Rattle.fax_bits.specs.code.Places.{place_of};
     ghost use Rattle.fax_bits.specs.Bits.{code_bits};
 
     /// What its codes mean.
@@ -53,6 +54,11 @@ pub trait CodeTable {
         ensures not_empty { 0 < result.len }
         ensures short { result.len ≤ 13 };
 
+    /// The place of the entry whose code begins thirteen bits, or `COUNT` where none does.
+    fn place(bits: u32) -> usize
+        requires { bits < 2 ^ 13 }
+        ensures { result ≡ place_of table 13 bits };
+
     /// The length in bits and the meaning of the code that begins `n` bits, 0 to 13 of them: the
     /// lowest of `window`, the highest first. `None` where no code is the beginning of them.
     fn find(window: u32, n: u32) -> Option<(u32, Self::Meaning)>
@@ -61,14 +67,17 @@ pub trait CodeTable {
         ensures { MatchOption result (HasNoCode table (code_bits n window))
             (λ found. BeginsWith table (code_bits n window) found.0 found.1) }
     {
-        for i in 0..Self::COUNT {
-            let entry = Self::entry(i);
-            let len = u32::from(entry.len);
-            if len <= n && window >> (n - len) == u32::from(entry.code) {
-                return Some((len, entry.meaning));
-            }
+        let place = Self::place(window << (13 - n));
+        if place >= Self::COUNT {
+            return None;
         }
-        None
+        let entry = Self::entry(place);
+        let len = u32::from(entry.len);
+        if len <= n {
+            Some((len, entry.meaning))
+        } else {
+            None
+        }
     }
 
     ghost counted: { length table ≡ COUNT };
@@ -119,23 +128,30 @@ pub fn read_code<T: CodeTable>(source: &mut BitSource) -> Result<T::Meaning, Cod
     ensures same_end { KeepsEnd source.old source.new }
     ensures shorter { OnOk result (length source.new.left < length source.old.left) }
 {
-    let mut cut = false;
-    for i in 0..T::COUNT {
-        let entry = T::entry(i);
-        match source.meeting(entry.code, entry.len) {
-            Meeting::Whole => {
-                source.skip(u64::from(entry.len));
-                return Ok(entry.meaning);
-            }
-            Meeting::Cut => {
-                cut = true;
-            }
-            Meeting::Other => {}
-        }
+    let n = source.remaining().min(13) as u32;
+    if let Some(found) = T::find(source.peek(n), n) {
+        source.skip(u64::from(found.0));
+        return Ok(found.1);
     }
-    if cut {
-        Err(CodeFault::DataEnds)
+    if n < 13 {
+        Err(fault_at_end::<T>(source))
     } else {
         Err(CodeFault::BadCode)
     }
+}
+
+/// Which fault it is that no code begins the bits, by all entries: the bits may end within a code.
+#[inline(never)]
+fn fault_at_end<T: CodeTable>(source: &BitSource) -> CodeFault
+    requires { HasNoCode T.table source.now.left }
+    ensures { IsFaultOf T.table source.now.left result }
+{
+    for i in 0..T::COUNT {
+        let entry = T::entry(i);
+        match source.meeting(entry.code, entry.len) {
+            Meeting::Cut => return CodeFault::DataEnds,
+            Meeting::Whole | Meeting::Other => {}
+        }
+    }
+    CodeFault::BadCode
 }

@@ -2,6 +2,7 @@
 #![tactic(auto)]
 
 mod codes;
+mod indexes;
 pub mod laws;
 mod modes;
 mod put;
@@ -10,6 +11,7 @@ mod sink;
 mod source;
 #[cfg(test)]
 mod tests;
+mod window;
 
 pub use codes::{CodeEntry, CodeFault, CodeTable, read_code};
 pub use modes::{ModeCode, Modes};

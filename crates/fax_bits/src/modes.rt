@@ -2,6 +2,7 @@
 ghost use Rattle.std.specs.Prelude.{◌≡◌, ◌<◌};
 
 use crate::codes::{CodeEntry, CodeTable};
+use crate::indexes::MODE_PLACES;
 
 /// What a code of the mode table means (T.4, section 4.2.1.3.2).
 #[derive(Clone, Copy, Debug, PartialEq, Eq)]
@@ -87,6 +88,10 @@ impl CodeTable for Modes {
 
     fn entry(i: usize) -> CodeEntry<ModeCode> {
         MODES[i]
+    }
+
+    fn place(bits: u32) -> usize {
+        usize::from(MODE_PLACES[(bits >> 6) as usize])
     }
 
     ghost counted = { Laws.length-modes };

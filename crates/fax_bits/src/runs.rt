@@ -3,6 +3,7 @@ ghost use Rattle.std.specs.Prelude.{◌≡◌, ◌<◌};
 ghost use Rattle.fax_bits.specs.Tables.{run_meaning};
 
 use crate::codes::{CodeEntry, CodeTable};
+use crate::indexes::{BLACK_LONG, BLACK_SHORT, WHITE_LONG, WHITE_SHORT};
 
 /// What a code of a run table means (T.4, section 4.1.1).
 #[derive(Clone, Copy, Debug, PartialEq, Eq)]
@@ -276,6 +277,15 @@ impl CodeTable for WhiteRuns {
         }
     }
 
+    fn place(bits: u32) -> usize {
+        let bits = bits as usize;
+        if bits < 64 {
+            usize::from(WHITE_LONG[bits])
+        } else {
+            usize::from(WHITE_SHORT[bits >> 4])
+        }
+    }
+
     ghost counted = { Laws.length-white_runs };
 
     ghost short_codes = { Laws.run_table_has_short_codes White };
@@ -304,6 +314,15 @@ impl CodeTable for BlackRuns {
             code: BLACK_CODES[i],
             len: BLACK_LENS[i],
             meaning: meaning_at(i as u16),
+        }
+    }
+
+    fn place(bits: u32) -> usize {
+        let bits = bits as usize;
+        if bits < 512 {
+            usize::from(BLACK_LONG[bits])
+        } else {
+            usize::from(BLACK_SHORT[bits >> 7])
         }
     }
 

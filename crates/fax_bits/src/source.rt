@@ -5,6 +5,7 @@ ghost use Rattle.fax_bits.specs.Bits.{bits, bits_number, bit_in_byte, IsAllZeros
 ghost use Rattle.fax_bits.specs.code.Source.{IsZeroByteAt};
 
 use crate::FillOrder;
+use crate::window::Window;
 use std::marker::Model;
 
 /// A place in the bits of some bytes. Contracts see the bits from there on and the number of bits
@@ -76,6 +77,20 @@ impl<'a> BitSource<'a> {
     /// The number that the next `n` bits spell, 0 to 24 of them, the highest first. Past the end of
     /// the bytes it sees zeros, which are no bits: `remaining` says how many bits there are.
     pub fn peek(&self, n: u32) -> u32
+        requires { n ≤ 24 }
+        ensures { result ≡ bits_number (take n (self.now.left ++ replicate n false)) }
+    {
+        let at = (self.place / 8) as usize;
+        if n == 0 || self.bytes.len() - at < 4 {
+            return self.peek_by_bits(n);
+        }
+        let loaded = Window::new(at).refilled(self.bytes, self.order);
+        loaded.behind((self.place % 8) as u32).number(n)
+    }
+
+    /// What `peek` says, by each bit: near the end of the bytes.
+    #[inline(never)]
+    fn peek_by_bits(&self, n: u32) -> u32
         requires { n ≤ 24 }
         ensures { result ≡ bits_number (take n (self.now.left ++ replicate n false)) }
     {

@@ -1,5 +1,6 @@
 //! The longest runs of a row, one after another (ITU-T T.4, section 4.1.1).
-ghost use Rattle.std.specs.Prelude.{◌≡◌, ◌-◌, ◌<◌, ◌≤◌, ◌^◌, ◌==◌, [], ◌∷◌, length, drop, MatchOption, IfSome};
+ghost use Rattle.std.specs.Prelude.{◌≡◌, ◌-◌, ◌<◌, ◌≤◌, ◌^◌, ◌==◌, [], ◌∷◌, length, drop};
+ghost use Rattle.std.specs.Prelude.{MatchOption, IfSome};
 ghost use Rattle.fax_rows.specs.Elements.{other as other_than, runs_of, runs_behind};
 ghost use Rattle.fax_rows.specs.code.LongestRuns.{runs_ahead};
 
@@ -62,14 +63,15 @@ impl<'a> LongestRuns<'a> {
     }
 }
 
-/// Where the run of this colour ends that begins at `from`: the place of the next pel that is not of
-/// the colour, or the width.
+/// Where the run of this colour ends that begins at `from`: the place of the next pel that is not
+/// of the colour, or the width.
 fn end_of_run(row: &Row, from: u32, colour: Colour) -> u32
     requires { from ≤ length row.now }
     ensures right { from ≤ result }
     ensures within { result ≤ length row.now }
     ensures run { runs_behind colour 0 (drop from row.now)
-        ≡ (result - from) ∷ runs_ahead (result == length row.now) (other_than colour) result row.now }
+        ≡ (result - from)
+        ∷ runs_ahead (result == length row.now) (other_than colour) result row.now }
 {
     let width = row.width();
     for i in from..width {

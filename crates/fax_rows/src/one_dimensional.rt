@@ -16,8 +16,10 @@ use fax_bits::{BitSource, Colour};
 ///
 /// The fault of the first code that is no part of the row. Nothing else is said of the row then.
 pub fn read_1d(source: &mut BitSource, row: &mut Row) -> Result<(), RowFault>
-    ensures ok { OnOk result (IsOneDimensionalRow (length row.old) source.old.left row.new source.new.left) }
-    ensures err { IfErr result (λ fault. IsOneDimensionalFault (length row.old) source.old.left fault) }
+    ensures ok { OnOk result
+        (IsOneDimensionalRow (length row.old) source.old.left row.new source.new.left) }
+    ensures err { IfErr result
+        (λ fault. IsOneDimensionalFault (length row.old) source.old.left fault) }
     ensures same_width { length row.new ≡ length row.old }
 
     // The source goes on in the same bits.

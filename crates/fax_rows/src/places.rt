@@ -33,7 +33,8 @@ impl Row {
     fn first_right_of(&self, from: Option<u32>) -> u32
         ensures within { result ≤ length self.now }
         ensures left { (k : ℕ) → k < result → Spec.is_right_of from k ≡ false }
-        ensures right { (k : ℕ) → result ≤ k → k < length self.now → Spec.is_right_of from k ≡ true }
+        ensures right { (k : ℕ) → result ≤ k → k < length self.now
+            → Spec.is_right_of from k ≡ true }
     {
         match from {
             None => 0,
@@ -82,8 +83,8 @@ impl Row {
 }
 
 /// The places b1 and b2 of the reference row as seen from a0, where `None` is just before the first
-/// pel, and a0's colour. b1 is the first changing element right of a0 and of the opposite colour, b2
-/// the next changing element right of b1; each is the width where there is none (T.4, section
+/// pel, and a0's colour. b1 is the first changing element right of a0 and of the opposite colour,
+/// b2 the next changing element right of b1; each is the width where there is none (T.4, section
 /// 4.2.1.3.1).
 pub fn b1_b2(reference: &Row, a0: Option<u32>, colour: Colour) -> (u32, u32)
     ensures first { result.0 ≡ Spec.b1 reference.now a0 colour }

@@ -1,7 +1,7 @@
 //! Rows as they are written, in T.4's own choice of codes (ITU-T T.4, sections 4.1.1 and
 //! 4.2.1.3.3; T.6, section 2.2.3).
-ghost use Rattle.std.specs.Prelude.{◌≡◌, ◌+◌, ◌-◌, ◌≤◌, ◌<◌, ◌^◌, length, true, unwrap_or, Some, None};
-ghost use Rattle.std.specs.Prelude.{OnOk, OnErr, IfOk};
+ghost use Rattle.std.specs.Prelude.{◌≡◌, ◌+◌, ◌-◌, ◌≤◌, ◌<◌, ◌^◌, length, true, unwrap_or, Some};
+ghost use Rattle.std.specs.Prelude.{None, OnOk, OnErr, IfOk};
 ghost use Rattle.fax_bits.specs.code.Sink.{Appends, AppendsPrefix};
 ghost use Rattle.fax_rows.specs.code.Ahead as Spec;
 ghost use Rattle.fax_rows.specs.Coded as Coded;
@@ -21,7 +21,8 @@ use fax_bits::{BitSink, Colour, Memory, ModeCode, put_mode, put_run};
 /// `Memory` where a growth was refused. The row's bits were put up to some place then.
 pub fn put_1d(row: &Row, sink: &mut BitSink) -> Result<(), Memory>
     ensures ok { OnOk result (Appends sink.old (Coded.one_dimensional_bits row.now) sink.new) }
-    ensures err { OnErr result (AppendsPrefix sink.old (Coded.one_dimensional_bits row.now) sink.new) }
+    ensures err { OnErr result
+        (AppendsPrefix sink.old (Coded.one_dimensional_bits row.now) sink.new) }
 {
     let mut colour = Colour::White;
     let mut runs = LongestRuns::of_row(row);
@@ -139,7 +140,8 @@ fn put_run_pair(row: &Row, ahead: Ahead, colour: Colour, sink: &mut BitSink) -> 
     requires a0 { unwrap_or ahead.a0 0 ≤ ahead.a1 }
     requires a1 { ahead.a1 ≤ length row.now }
     requires short { length row.now < 2 ^ 16 }
-    ensures ok { OnOk result (Appends sink.old (Spec.run_pair row.now ahead.a0 colour ahead.a1) sink.new) }
+    ensures ok { OnOk result
+        (Appends sink.old (Spec.run_pair row.now ahead.a0 colour ahead.a1) sink.new) }
     ensures a2 { IfOk result (λ a2. a2 ≡ next_change row.now (Some ahead.a1)) }
     ensures err { OnErr result
         (AppendsPrefix sink.old (Spec.run_pair row.now ahead.a0 colour ahead.a1) sink.new) }
@@ -156,7 +158,8 @@ fn put_step(reference: &Row, row: &Row, ahead: Ahead, sink: &mut BitSink) -> Res
     requires places { Spec.IsAhead reference.now row.now ahead }
     requires unfinished { unwrap_or ahead.a0 0 < length row.now }
     requires short { length row.now < 2 ^ 16 }
-    ensures ok { OnOk result (Appends sink.old (Spec.bits_from reference.now row.now ahead.a0) sink.new) }
+    ensures ok { OnOk result
+        (Appends sink.old (Spec.bits_from reference.now row.now ahead.a0) sink.new) }
     ensures next { IfOk result (λ place. place ≡ Spec.place_from reference.now row.now ahead.a0) }
     ensures err { OnErr result
         (AppendsPrefix sink.old (Spec.bits_from reference.now row.now ahead.a0) sink.new) }

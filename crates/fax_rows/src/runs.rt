@@ -22,7 +22,8 @@ pub fn other(colour: Colour) -> Colour
 
 /// Reads a code for a run of the colour.
 fn read_run_code(source: &mut BitSource, colour: Colour) -> Result<RunCode, CodeFault>
-    ensures ok { IfOk result (λ code. Takes (run_table colour) source.old.left code source.new.left) }
+    ensures ok { IfOk result
+        (λ code. Takes (run_table colour) source.old.left code source.new.left) }
     ensures err { IfErr result (λ fault. IsFaultOf (run_table colour) source.old.left fault) }
     ensures same_end { KeepsEnd source.old source.new }
     ensures shorter { OnOk result (length source.new.left < length source.old.left) }

@@ -43,7 +43,8 @@ impl Reached {
     fn colour_up_to(self, row: &mut Row, to: u32) -> Reached
         requires right { reached_pel self ≤ to }
         requires within { to ≤ length row.old }
-        ensures coloured { position_of result row.new ≡ Spec.coloured_up_to (position_of self row.old) to }
+        ensures coloured { position_of result row.new
+            ≡ Spec.coloured_up_to (position_of self row.old) to }
         ensures place { result.a0 ≡ Some to }
         ensures same_width { length row.new ≡ length row.old }
     {
@@ -96,8 +97,8 @@ fn vertical(reference: &Row, row: &mut Row, at: Reached, d: i8) -> Result<Reache
 /// 4.2.1.3.2).
 fn horizontal(source: &mut BitSource, row: &mut Row, at: Reached) -> Result<Reached, RowFault>
     requires within { reached_pel at ≤ length row.old }
-    ensures ok { IfOk result (λ next. Spec.IsHorizontalStep row.old (position_of at row.old) source.old.left
-        (position_of next row.new) source.new.left) }
+    ensures ok { IfOk result (λ next. Spec.IsHorizontalStep row.old (position_of at row.old)
+        source.old.left (position_of next row.new) source.new.left) }
     ensures err { IfErr result (λ fault. Fault.IsHorizontalFault row.old (position_of at row.old)
         source.old.left fault) }
     ensures within { IfOk result (λ next. reached_pel next ≤ length row.new) }
@@ -127,8 +128,8 @@ fn step(
 ) -> Result<Reached, RowFault>
     requires width { length reference.now ≡ length row.old }
     requires within { reached_pel at ≤ length row.old }
-    ensures ok { IfOk result (λ next. Spec.IsStep reference.now (position_of at row.old) source.old.left
-        (position_of next row.new) source.new.left) }
+    ensures ok { IfOk result (λ next. Spec.IsStep reference.now (position_of at row.old)
+        source.old.left (position_of next row.new) source.new.left) }
     ensures err { IfErr result (λ fault. Fault.IsStepFault reference.now (position_of at row.old)
         source.old.left fault) }
     ensures within { IfOk result (λ next. reached_pel next ≤ length row.new) }
@@ -157,7 +158,8 @@ pub fn read_2d(source: &mut BitSource, reference: &Row, row: &mut Row) -> Result
     requires width { length reference.now ≡ length row.old }
     ensures ok { OnOk result
         (Spec.IsTwoDimensionalRow reference.now source.old.left row.new source.new.left) }
-    ensures err { IfErr result (λ fault. Fault.IsTwoDimensionalFault reference.now source.old.left fault) }
+    ensures err { IfErr result
+        (λ fault. Fault.IsTwoDimensionalFault reference.now source.old.left fault) }
     ensures same_width { length row.new ≡ length row.old }
 
     // The source goes on in the same bits.

@@ -76,8 +76,8 @@ fn writes_the_longest_runs(rt: HostRuntime) -> Result<(), Fail> {
     Ok(())
 }
 
-/// Bytes of pels: 0 all white, 1 all black, 2 pel by pel in turn, 3 thin marks, else noise from this
-/// seed.
+/// Bytes of pels: 0 all white, 1 all black, 2 pel by pel in turn, 3 thin marks, else noise from
+/// this seed.
 fn marks(alloc: Global, kind: u32, seed: u32, len: usize) -> Result<Vec<u8>, Fail> {
     let mut bytes = Vec::new(alloc);
     let mut noise = seed;

@@ -1,18 +1,16 @@
-use Rattle.std.proofs.Common.{arith}
-use Rattle.fax_bits.proofs.PeekLemmas.{peeked-lt, peeked-more, peeked-fits}
+use Rattle.std.proofs.Common.{◌%◌, ◌++◌, drop, take, replicate, false, ap, ◌∙◌}
+use Rattle.fax_bits.specs.Bits.{bits_number}
+use Rattle.fax_bits.specs.code.Source.{Source}
+use Rattle.fax_bits.proofs.WordLemmas.{bits-from}
 use Rattle.fax_bits.proofs.source.BitSource.peek.Goals as goal
 
-pub overflow_mul-number : goal.overflow_mul-number
-overflow_mul-number c =
-    omega (arith, peeked-lt c.args.self.now.left c.args.n c.loop-i.i (omega arith) c.requires)
-
-pub overflow_add-number : goal.overflow_add-number
-overflow_add-number c =
-    let fits = peeked-fits c.args.self.now.left c.args.n _ _ _ _ _ c.loop-i-test.true c.requires
-    c.loop-i.invariant c.from.ensures c.bit_or_zero.ensures c.from-in-loop-i.ensures in
-    omega (arith, fits)
-
-pub loop-i-preserved : goal.loop-i-preserved
-loop-i-preserved c =
-    peeked-more c.args.self.now.left c.args.n _ _ _ _ _ c.loop-i-test.true c.requires
-    c.loop-i.invariant c.from.ensures c.bit_or_zero.ensures c.from-in-loop-i.ensures
+pub returns : goal.returns
+returns c =
+    let order = c.self.inside.order in
+    let bytes = c.self.inside.bytes.now in
+    let place = c.self.inside.place in
+    c.number.ensures.number order bytes
+    ∙ ap (λ b. bits_number (take c.args.n (b ++ replicate c.args.n false)))
+    (c.behind.ensures.ahead order bytes
+    ∙ ap (drop (place % 8)) (c.refilled-loaded.ensures.ahead ∙ c.new.ensures.ahead order bytes)
+    ∙ bits-from order bytes place ∙ ap (λ (s : Source). s.left) c.self.view_is)

@@ -1,0 +1,75 @@
+-- A code that is read by the number of the next bits.
+use Rattle.std.proofs.Common.{◌≡◌, ℕ, ◌+◌, ◌-◌, ◌^◌, ◌<◌, ◌≤◌, List, ◌∷◌, ◌++◌, length, take, drop, replicate, Bool, false, ap, sym, ◌∙◌, subst, arith, inl, inr, append_assoc, length-append, length-take}
+use Rattle.std.specs.Prelude.{◌⊎◌}
+use Rattle.std.proofs.Math.Seq.{take-append-add}
+use Rattle.std.proofs.lemmas.List.{take-append-drop, take-append-le}
+use Rattle.fax_bits.specs.declared.codes.CodeEntry.{CodeEntry}
+use Rattle.fax_bits.specs.Bits.{bits_number, code_bits}
+use Rattle.fax_bits.specs.declared.codes.Meeting.{Meeting}
+use Rattle.fax_bits.specs.declared.codes.Meeting.TheVariants.{Whole, Cut, Other}
+use Rattle.fax_bits.specs.code.Meeting.{IsMeeting}
+use Rattle.fax_bits.specs.Codes.{IsCodeAhead, IsCutBy, bits_of, BeginsWith, HasNoCode, HasShortCodes, IsCutShort, Takes}
+use Rattle.fax_bits.proofs.MeetingLemmas.{length-code_bits, ahead_fits}
+use Rattle.fax_bits.proofs.NumberLemmas.{code_bits-number}
+use Rattle.fax_bits.proofs.PeekLemmas.{padded, bits_number-lt}
+use Rattle.fax_bits.proofs.TableLemmas.{left_behind}
+
+-- the next n bits, where there are so many
+module _ (left : List Bool) (n : ℕ) (all : n ≤ length left) where
+  length-next : length (take n left) ≡ n
+  length-next = length-take n left ∙ omega arith
+
+  peeked_is : take n (padded left n) ≡ take n left
+  peeked_is = take-append-le n left (replicate n false) all
+
+  pub peeked_bits : (number : ℕ) → number ≡ bits_number (take n (padded left n)) → code_bits n number ≡ take n left
+  peeked_bits number is =
+      ap (code_bits n) (is ∙ ap bits_number peeked_is) ∙ ap (λ k. code_bits k (bits_number (take n left))) (sym length-next)
+      ∙ code_bits-number (take n left)
+
+  pub peeked-below : (number : ℕ) → number ≡ bits_number (take n (padded left n)) → number < 2 ^ n
+  peeked-below number is =
+      subst (λ m. m < 2 ^ n) (sym (is ∙ ap bits_number peeked_is)) (subst (λ k. bits_number (take n left) < 2 ^ k) length-next (bits_number-lt (take n left)))
+
+-- a code that begins the next bits is taken
+pub takes_found : {M : Type 0} (table : List (CodeEntry M)) (left b : List Bool) (n len : ℕ) (meaning : M) → b ≡ take n left
+    → BeginsWith table b len meaning → Takes table left meaning (drop len left)
+takes_found table left b n len meaning next found = record {
+  entry = found.entry;
+  listed = found.listed;
+  means = found.means;
+  spelled =
+      left_behind left (bits_of found.entry) (found.ahead.0 ++ drop n left) len
+      (sym (take-append-drop n left) ∙ ap (λ xs. xs ++ drop n left) (sym next ∙ found.ahead.1)
+      ∙ append_assoc (bits_of found.entry) found.ahead.0 (drop n left))
+      (length-code_bits found.entry.len found.entry.code ∙ found.length);
+}
+
+-- and is no longer than the next bits
+pub found_is_short : {M : Type 0} (table : List (CodeEntry M)) (b : List Bool) (len : ℕ) (meaning : M) → BeginsWith table b len meaning → len ≤ length b
+found_is_short table b len meaning found =
+    omega (arith, found.length, ahead_fits found.entry.len found.entry.code b found.ahead)
+
+-- none begins the bits where none begins the next ones: 13, or all of them
+pub none_begins : {M : Type 0} (table : List (CodeEntry M)) (left b : List Bool) (n : ℕ) → HasShortCodes table → n ≤ length left
+    → ((k : ℕ) → k ≤ 13 → k ≤ length left → k ≤ n) → b ≡ take n left → HasNoCode table b → HasNoCode table left
+none_begins table left b n short within all next none entry here ahead =
+    let in_next : entry.len ≤ n = all entry.len (short entry here).1 (ahead_fits entry.len entry.code left ahead) in
+    let e : n ≡ length (bits_of entry) + (n - entry.len) = omega (arith, length-code_bits entry.len entry.code) in
+    none entry here (
+      take (n - entry.len) ahead.0,
+      next ∙ ap (take n) ahead.1 ∙ ap (λ k. take k (bits_of entry ++ ahead.0)) e ∙ take-append-add (bits_of entry) ahead.0 (n - entry.len),
+    )
+
+-- 13 bits end within no code
+pub not_cut : {M : Type 0} (table : List (CodeEntry M)) (left : List Bool) → HasShortCodes table → 13 ≤ length left → IsCutShort table left → ⊥
+not_cut table left short long cut =
+    omega (arith, long, (short cut.0 cut.1).1, length-code_bits cut.0.len cut.0.code, length-append left (cut.2.0 ∷ cut.2.1), ap length cut.2.2)
+
+-- a code that does not begin the bits, and is not cut by their end
+pub meets_uncut : (meeting : Meeting) (code b : List Bool) → IsMeeting meeting code b → (meeting ≡ Whole) ⊎ (meeting ≡ Other)
+    → (IsCodeAhead code b → ⊥) → IsCutBy code b → ⊥
+meets_uncut Whole code b met is none cut = none met
+meets_uncut Other code b met is none cut = met.1 cut
+meets_uncut Cut code b met (inl is) none cut = cc
+meets_uncut Cut code b met (inr is) none cut = cc

@@ -1,0 +1,163 @@
+-- Words of 64 bits: `count` bits, the highest first, with zeros behind them.
+use Rattle.std.proofs.Common.{◌≡◌, ℕ, zero, suc, ◌+◌, ◌-◌, ◌*◌, ◌/◌, ◌%◌, ◌^◌, ◌<◌, ◌≤◌, List, ◌++◌, length, take, drop, get_or, Bool, false, nat_eq, ap, sym, ◌∙◌, subst, arith, length-append, length-drop, add-zero}
+use Rattle.std.specs.Prelude.{bit_or}
+use Rattle.std.specs.Int.{bit_at}
+use Rattle.std.proofs.Math.Nat.{add-mul, div-div-eq-div-mul, mul_assoc, mul-mod_left}
+use Rattle.std.proofs.Math.Seq.{drop-append_seam, take-append_seam}
+use Rattle.std.proofs.lemmas.List.{take-append-le}
+use Rattle.std.proofs.lemmas.Nat.{mod-pow-add, mod_below, or_shifted, pow-add, pow_pos, shl_below, shl-shr, shl_whole, shr_below, shr_split}
+use Rattle.fax_bits.specs.declared.FillOrder.{FillOrder}
+use Rattle.fax_bits.specs.declared.window.Window.{Window}
+use Rattle.fax_bits.specs.code.BitsAhead.{bits_ahead}
+use Rattle.fax_bits.specs.Bits.{bits, bits_number, code_bits}
+use Rattle.fax_bits.specs.code.Window.{first_bits}
+use Rattle.fax_bits.proofs.CodeBitsLemmas.{code_bits-add}
+use Rattle.fax_bits.proofs.SourceLemmas.{length-bits}
+use Rattle.fax_bits.proofs.MeetingLemmas.{length-code_bits}
+use Rattle.fax_bits.proofs.NumberLemmas.{number-code_bits}
+
+-- a word whose bits are those of a number below 2 ^ count
+pub first_bits-of : (count number word : ℕ) → word ≡ number * 2 ^ (64 - count) → first_bits count word ≡ code_bits count number
+first_bits-of count number word is =
+    ap (code_bits count) (ap (λ w. w / 2 ^ (64 - count)) is ∙ shl-shr number (64 - count))
+
+pub zeros_behind-of : (count number word : ℕ) → word ≡ number * 2 ^ (64 - count) → word % 2 ^ (64 - count) ≡ 0
+zeros_behind-of count number word is = ap (λ w. w % 2 ^ (64 - count)) is ∙ mul-mod_left number (2 ^ (64 - count))
+
+word_is : (count word : ℕ) → word % 2 ^ (64 - count) ≡ 0 → word ≡ word / 2 ^ (64 - count) * 2 ^ (64 - count)
+word_is count word zeros = omega (arith, shr_split word (64 - count), zeros)
+
+top-lt : (count word : ℕ) → count ≤ 64 → word < 2 ^ 64 → word / 2 ^ (64 - count) < 2 ^ count
+top-lt count word few fits =
+    let e : count + (64 - count) ≡ 64 = omega arith in
+    shr_below word count (64 - count) (subst (λ k. word < 2 ^ k) (sym e) fits)
+
+-- a power that is moved over
+moved : (number j k m : ℕ) → j + k ≡ m → number * 2 ^ j * 2 ^ k ≡ number * 2 ^ m
+moved number j k m places =
+    mul_assoc number (2 ^ j) (2 ^ k) ∙ ap (λ p. number * p) (sym (pow-add 2 j k)) ∙ ap (λ n. number * 2 ^ n) places
+
+-- a word that is shifted by n of its bits
+module _ (count word n left : ℕ) (few : count ≤ 64) (zeros : word % 2 ^ (64 - count) ≡ 0) (parts : left + n ≡ count) where
+  pub shifted_is : word * 2 ^ n % 2 ^ 64 ≡ word / 2 ^ (64 - count) % 2 ^ left * 2 ^ (64 - left)
+  shifted_is =
+      let number = word / 2 ^ (64 - count) in
+      let places : 64 - count + n ≡ 64 - left = omega arith in
+      let all : left + (64 - left) ≡ 64 = omega arith in
+      let up : word * 2 ^ n ≡ number * 2 ^ (64 - left) =
+      ap (λ w. w * 2 ^ n) (word_is count word zeros) ∙ moved number (64 - count) n (64 - left) places in
+      ap (λ w. w % 2 ^ 64) up ∙ ap (λ k. number * 2 ^ (64 - left) % 2 ^ k) (sym all)
+      ∙ mod-pow-add (number * 2 ^ (64 - left)) left (64 - left)
+      ∙ ap (λ low. number * 2 ^ (64 - left) / 2 ^ (64 - left) % 2 ^ left * 2 ^ (64 - left) + low) (mul-mod_left number (2 ^ (64 - left)))
+      ∙ add-zero (number * 2 ^ (64 - left) / 2 ^ (64 - left) % 2 ^ left * 2 ^ (64 - left))
+      ∙ ap (λ k. k % 2 ^ left * 2 ^ (64 - left)) (shl-shr number (64 - left))
+
+  pub shifted_bits : first_bits left (word * 2 ^ n % 2 ^ 64) ≡ drop n (first_bits count word)
+  shifted_bits =
+      let number = word / 2 ^ (64 - count) in
+      let all : n + left ≡ count = omega arith in
+      let low = mod_below number (2 ^ left) (pow_pos left) in
+      let split : code_bits count number ≡ code_bits n (number / 2 ^ left) ++ code_bits left (number % 2 ^ left) =
+      sym (ap (λ k. code_bits k number) all) ∙ ap (code_bits (n + left)) (sym (shr_split number left))
+      ∙ code_bits-add n left (number / 2 ^ left) (number % 2 ^ left) low in
+      first_bits-of left (number % 2 ^ left) (word * 2 ^ n % 2 ^ 64) shifted_is
+      ∙ sym (drop-append_seam (code_bits n (number / 2 ^ left)) (code_bits left (number % 2 ^ left)))
+      ∙ ap (λ k. drop k (code_bits n (number / 2 ^ left) ++ code_bits left (number % 2 ^ left))) (length-code_bits n (number / 2 ^ left))
+      ∙ ap (drop n) (sym split)
+
+  pub shifted_zeros : word * 2 ^ n % 2 ^ 64 % 2 ^ (64 - left) ≡ 0
+  shifted_zeros = zeros_behind-of left (word / 2 ^ (64 - count) % 2 ^ left) (word * 2 ^ n % 2 ^ 64) shifted_is
+
+-- a word to which k bits are added
+module _ (k count word more : ℕ) (room : count + k ≤ 64) (zeros : word % 2 ^ (64 - count) ≡ 0) (fits : more < 2 ^ k) where
+  pub loaded_is : bit_or word (more * 2 ^ (64 - k - count) % 2 ^ 64) ≡ (word / 2 ^ (64 - count) * 2 ^ k + more) * 2 ^ (64 - (count + k))
+  loaded_is =
+      let number = word / 2 ^ (64 - count) in
+      let places : k + (64 - k - count) ≡ 64 - count = omega arith in
+      let rest : 64 - k - count ≡ 64 - (count + k) = omega arith in
+      let low : more * 2 ^ (64 - k - count) < 2 ^ (64 - count) =
+      subst (λ j. more * 2 ^ (64 - k - count) < 2 ^ j) places (shl_below more k (64 - k - count) fits) in
+      ap (bit_or word) (shl_whole more k (64 - k - count) 64 fits (omega arith))
+      ∙ ap (λ w. bit_or w (more * 2 ^ (64 - k - count))) (word_is count word zeros)
+      ∙ or_shifted number (64 - count) (more * 2 ^ (64 - k - count)) low
+      ∙ ap (λ high. high + more * 2 ^ (64 - k - count)) (sym (moved number k (64 - k - count) (64 - count) places))
+      ∙ sym (add-mul (number * 2 ^ k) more (2 ^ (64 - k - count)))
+      ∙ ap (λ j. (number * 2 ^ k + more) * 2 ^ j) rest
+
+  pub loaded_bits : first_bits (count + k) (bit_or word (more * 2 ^ (64 - k - count) % 2 ^ 64)) ≡ first_bits count word ++ code_bits k more
+  loaded_bits =
+      first_bits-of (count + k) (word / 2 ^ (64 - count) * 2 ^ k + more) _ loaded_is
+      ∙ code_bits-add count k (word / 2 ^ (64 - count)) more fits
+
+  pub loaded_zeros : bit_or word (more * 2 ^ (64 - k - count) % 2 ^ 64) % 2 ^ (64 - (count + k)) ≡ 0
+  loaded_zeros = zeros_behind-of (count + k) (word / 2 ^ (64 - count) * 2 ^ k + more) _ loaded_is
+
+pub length-first_bits : (count word : ℕ) → length (first_bits count word) ≡ count
+length-first_bits count word = length-code_bits count (word / 2 ^ (64 - count))
+
+-- the next n bits of a word that has them, whatever follows
+module _ (count word n : ℕ) (more : List Bool) (few : count ≤ 64) (within : n ≤ count) (fits : word < 2 ^ 64) where
+  next_bits : take n (first_bits count word ++ more) ≡ code_bits n (word / 2 ^ (64 - n))
+  next_bits =
+      let number = word / 2 ^ (64 - count) in
+      let short : n ≤ length (first_bits count word) = omega (arith, length-first_bits count word) in
+      let all : n + (count - n) ≡ count = omega arith in
+      let places : 64 - count + (count - n) ≡ 64 - n = omega arith in
+      let high : number / 2 ^ (count - n) ≡ word / 2 ^ (64 - n) =
+      div-div-eq-div-mul word (2 ^ (64 - count)) (2 ^ (count - n)) ∙ ap (λ m. word / m) (sym (pow-add 2 (64 - count) (count - n)))
+      ∙ ap (λ k. word / 2 ^ k) places in
+      let split : code_bits count number ≡ code_bits n (number / 2 ^ (count - n)) ++ code_bits (count - n) (number % 2 ^ (count - n)) =
+      sym (ap (λ k. code_bits k number) all) ∙ ap (code_bits (n + (count - n))) (sym (shr_split number (count - n)))
+      ∙ code_bits-add n (count - n) (number / 2 ^ (count - n)) (number % 2 ^ (count - n)) (mod_below number (2 ^ (count - n)) (pow_pos (count - n))) in
+      take-append-le n (first_bits count word) more short ∙ ap (take n) split
+      ∙ sym (ap (λ k. take k (code_bits n (number / 2 ^ (count - n)) ++ code_bits (count - n) (number % 2 ^ (count - n)))) (length-code_bits n (number / 2 ^ (count - n))))
+      ∙ take-append_seam (code_bits n (number / 2 ^ (count - n))) (code_bits (count - n) (number % 2 ^ (count - n)))
+      ∙ ap (code_bits n) high
+
+  pub next-lt : word / 2 ^ (64 - n) < 2 ^ n
+  next-lt =
+      let e : n + (64 - n) ≡ 64 = omega arith in
+      shr_below word n (64 - n) (subst (λ k. word < 2 ^ k) (sym e) fits)
+
+  pub next_number : word / 2 ^ (64 - n) ≡ bits_number (take n (first_bits count word ++ more))
+  next_number =
+      let b = code_bits n (word / 2 ^ (64 - n)) in
+      sym (ap bits_number next_bits ∙ number-code_bits n (word / 2 ^ (64 - n)) next-lt)
+
+-- the next bit
+pub first_is_one : (count word : ℕ) → count ≤ 64 → word < 2 ^ 64 → word % 2 ^ (64 - count) ≡ 0
+    → nat_eq (word / 2 ^ 63) 1 ≡ get_or (first_bits count word) 0 false
+unfolding code_bits
+first_is_one zero word few fits zeros =
+    let none : word ≡ 0 = omega (arith, zeros, fits) in
+    ap (λ w. nat_eq (w / 2 ^ 63) 1) none
+first_is_one (suc count) word few fits zeros =
+    let places : 64 - suc count + count ≡ 63 = omega arith in
+    let top : word / 2 ^ (64 - suc count) / 2 ^ count ≡ word / 2 ^ 63 =
+    div-div-eq-div-mul word (2 ^ (64 - suc count)) (2 ^ count) ∙ ap (λ m. word / m) (sym (pow-add 2 (64 - suc count) count))
+    ∙ ap (λ k. word / 2 ^ k) places in
+    let small : word / 2 ^ 63 < 2 = omega (arith, fits) in
+    let bit : bit_at (word / 2 ^ (64 - suc count)) count ≡ word / 2 ^ 63 = omega (arith, top, small) in
+    ap (λ n. nat_eq n 1) (sym bit)
+
+-- the loaded bits are ahead
+pub length-ahead : (order : FillOrder) (bytes : List ℕ) (window : Window) → window.count ≤ length (bits_ahead order bytes window)
+length-ahead order bytes window =
+    omega (
+      arith,
+      length-append (first_bits window.count window.bits) (bits order (drop window.at bytes)),
+      length-first_bits window.count window.bits,
+    )
+
+pub length-bits_ahead : (order : FillOrder) (bytes : List ℕ) (window : Window)
+    → length (bits_ahead order bytes window) ≡ window.count + 8 * (length bytes - window.at)
+length-bits_ahead order bytes window =
+    length-append (first_bits window.count window.bits) (bits order (drop window.at bytes))
+    ∙ ap (λ n. n + length (bits order (drop window.at bytes))) (length-first_bits window.count window.bits)
+    ∙ ap (λ n. window.count + n) (length-bits order (drop window.at bytes) ∙ ap (λ n. 8 * n) (length-drop window.at bytes))
+
+-- what is left behind some bits
+pub behind_front : (front rest : List Bool) → drop (length (front ++ rest) - length rest) (front ++ rest) ≡ rest
+behind_front front rest =
+    let e : length (front ++ rest) - length rest ≡ length front = omega (arith, length-append front rest) in
+    ap (λ k. drop k (front ++ rest)) e ∙ drop-append_seam front rest
