@@ -14,3 +14,4 @@ pub mod ReadBackLemmas
 pub mod PutLemmas
 pub mod FindLemmas
 pub mod NumberLemmas
+pub mod PackedLemmas

@@ -1,10 +1,11 @@
 -- A strip that is written row by row.
 use Rattle.std.specs.Prelude.{◌≡◌, ℕ, ◌+◌, ◌<◌, ◌≤◌, Bool, true, false, List, [], ◌++◌, length, Result, Ok, Err}
+use Rattle.fax_bits.specs.Bytes.{packed}
 use Rattle.fax_bits.specs.declared.Colour.{Colour}
 use Rattle.fax_bits.specs.declared.FillOrder.{FillOrder}
 use Rattle.fax_bits.specs.declared.Memory.{Memory}
 use Rattle.fax_page.specs.declared.StripForm.{StripForm}
-use Rattle.fax_page.specs.CodedStrip.{coded_line}
+use Rattle.fax_page.specs.CodedStrip.{coded_line, end_bits}
 use Rattle.fax_page.specs.Strip.{IsStripForm, white_row}
 
 -- how far a strip is written: its form and k, its bits, how many rows were put, the last of them, or a white row
@@ -48,3 +49,8 @@ Refuses old new = new ≡ record old { bits = new.bits; refused = true }
 abbrev pub IsPutRow : WriterState → List Colour → Result (Unit {0}) Memory → WriterState → Type 0
 IsPutRow old row (Ok done) new = PutsRow old row new
 IsPutRow old row (Err memory) new = Refuses old new
+
+-- all rows were put, and these are the bytes of the strip
+pub record FinishesAs (writer : WriterState) (bytes : List ℕ) : Type 0 where
+  pub not_refused : writer.refused ≡ false
+  pub bytes_are : bytes ≡ packed writer.form.order (writer.bits ++ end_bits writer.form.coding)
