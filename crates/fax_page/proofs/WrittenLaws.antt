@@ -1,5 +1,5 @@
 -- A written strip is read back, where its rows are.
-use Rattle.std.proofs.Common.{◌≡◌, ℕ, zero, suc, ◌+◌, List, [], ◌∷◌, ◌++◌, length, Bool, refl, sym, ◌∙◌, subst, arith, append_assoc, append-nil, ap, inl, None}
+use Rattle.std.proofs.Common.{◌≡◌, ℕ, zero, suc, ◌+◌, List, [], ◌∷◌, ◌++◌, length, Bool, refl, sym, ◌∙◌, subst, arith, append_assoc, inl, None}
 use Rattle.std.specs.Prelude.{All}
 use Rattle.std.proofs.lemmas.List.{length-replicate}
 use Rattle.fax_bits.specs.declared.Colour.{Colour}
@@ -14,8 +14,8 @@ use Rattle.fax_page.specs.declared.Coding.TheVariants.{Mh, Mr, Mmr}
 use Rattle.fax_page.specs.declared.StripForm.{StripForm}
 use Rattle.fax_page.specs.Lines.{IsStart, IsRowIn, IsLine}
 use Rattle.fax_page.specs.Strip.{IsStripForm, AreLines, white_row}
-use Rattle.fax_page.specs.CodedStrip.{written_dimension, row_bits, start_bits, coded_line, coded_lines, coded_bits, end_bits, last_of}
-use Rattle.fax_page.specs.Laws.{CodedBitsAreRead, CodedLinesGrow}
+use Rattle.fax_page.specs.CodedStrip.{written_dimension, row_bits, start_bits, coded_line, coded_lines, coded_bits, end_bits}
+use Rattle.fax_page.specs.Laws.{CodedBitsAreRead}
 use Rattle.fax_page.proofs.FirstCodeLemmas.{row_begins}
 
 -- a written row begins as it is to
@@ -81,17 +81,3 @@ coded_bits_back one_read two_read form k rows more limits fit =
           (lines_back one_read two_read form limits k 0 (white_row form.width) rows behind (length-replicate form.width White) fit.widths
           (omega (arith, fit.count)));
     }
-
--- rows grow at their end
-pub lines_grow : CodedLinesGrow
-unfolding coded_lines
-lines_grow coding k i reference row [] =
-    let here : i + 0 ≡ i = omega arith in
-    append-nil (coded_line coding k i reference row) ∙ sym (ap (λ n. coded_line coding k n reference row) here)
-lines_grow coding k i reference row (first ∷ rows) =
-    let there : i + 1 + length rows ≡ i + suc (length rows) = omega arith in
-    let line = coded_line coding k i reference first in
-    let last = last_of first rows in
-    ap (λ (b : List Bool). line ++ b)
-    (lines_grow coding k (i + 1) first row rows ∙ ap (λ n. coded_lines coding k (i + 1) first rows ++ coded_line coding k n last row) there)
-    ∙ sym (append_assoc line (coded_lines coding k (i + 1) first rows) (coded_line coding k (i + suc (length rows)) last row))

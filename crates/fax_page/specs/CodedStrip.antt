@@ -63,11 +63,6 @@ coded_bits form k rows = coded_lines form.coding k 0 (white_row form.width) rows
 unfoldable pub coded_strip : StripForm → ℕ → List (List Colour) → List ℕ
 coded_strip form k rows = packed form.order (coded_bits form k rows)
 
--- the last of the rows, or the reference where there is none (T.4, section 4.2.1.1)
-abbrev pub last_of : List Colour → List (List Colour) → List Colour
-last_of reference [] = reference
-last_of reference (row ∷ rows) = last_of row rows
-
 -- the rows are as many and as wide as the form says (this project's profile)
 pub record AreRowsOf (form : StripForm) (rows : List (List Colour)) : Type 0 where
   pub count : length rows ≡ form.rows

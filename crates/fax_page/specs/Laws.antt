@@ -1,13 +1,12 @@
 -- Laws of strips, which the functions of the module `laws` prove.
-use Rattle.std.specs.Prelude.{◌≡◌, ℕ, ◌+◌, ◌⊎◌, Bool, List, [], ◌∷◌, ◌++◌, length, Option, None}
+use Rattle.std.specs.Prelude.{◌≡◌, ℕ, ◌⊎◌, Bool, List, ◌++◌, Option, None}
 use Rattle.fax_bits.specs.declared.Colour.{Colour}
 use Rattle.fax_bits.specs.Bits.{bits}
-use Rattle.fax_page.specs.declared.Coding.{Coding}
 use Rattle.fax_page.specs.declared.StripForm.{StripForm}
 use Rattle.fax_page.specs.declared.StripFault.{StripFault}
 use Rattle.fax_page.specs.Lines.{IsLine, IsCause}
 use Rattle.fax_page.specs.Strip.{IsStripForm, IsStrip}
-use Rattle.fax_page.specs.CodedStrip.{coded_line, coded_lines, coded_bits, coded_strip, last_of, AreRowsOf}
+use Rattle.fax_page.specs.CodedStrip.{coded_bits, coded_strip, AreRowsOf}
 
 -- bits begin with at most one row, and one rest follows it (this project's profile)
 abbrev pub IsOneLine : StripForm → ℕ → List Colour → Type 0
@@ -78,12 +77,3 @@ CodedStripsAreOneStrip =
     (form : StripForm) (k : ℕ) (rows others : List (List Colour)) (end : Option StripFault)
     → IsStripForm form → AreRowsOf form rows
     → IsStrip form (bits form.order (coded_strip form k rows)) others end → (rows ≡ others) × (end ≡ None)
-
--- rows as they are written are all but the last of them, and then the last one over the row before it (this
--- project's profile)
-abbrev pub CodedLinesGrow : Type 0
-CodedLinesGrow =
-    (coding : Coding) (k i : ℕ) (reference row : List Colour) (rows : List (List Colour))
-    → coded_lines coding k i reference (rows ++ row ∷ [])
-    ≡ coded_lines coding k i reference rows
-    ++ coded_line coding k (i + length rows) (last_of reference rows) row

@@ -3,6 +3,7 @@ ghost use Rattle.std.specs.Prelude.{ℕ, List};
 ghost use Rattle.fax_bits.specs.declared.Colour.{Colour};
 ghost use Rattle.fax_page.specs.declared.StripForm.{StripForm};
 ghost use Rattle.fax_page.specs.Laws as Law;
+ghost use Rattle.fax_page.specs.code.Writer.{WritesRowByRow};
 
 /// Bits are read in one way as a row of a strip, in any coding: they begin with one row and one
 /// rest follows it, or one fault is in its way, never both.
@@ -47,8 +48,8 @@ pub fn coded_strips_are_read_as_nothing_else()
     strips_are_read_in_one_way();
 }
 
-/// A strip grows row by row: the bits of rows are those of all but the last, and then those of the
-/// last row over the one before it, as `StripWriter::put_row` appends them.
-pub fn coded_strips_grow_by_rows()
-    ensures { Law.CodedLinesGrow }
+/// A strip is written row by row: where `StripWriter::put_row` puts rows one behind another, the
+/// bytes that `finish` gives are the strip of these rows.
+pub fn strips_are_written_row_by_row()
+    ensures { WritesRowByRow }
 {}
