@@ -1,5 +1,5 @@
 -- Laws of bits and of code tables, which the functions of the module `laws` prove.
-use Rattle.std.specs.Prelude.{◌≡◌, ℕ, ◌*◌, ◌/◌, ◌%◌, ◌^◌, ◌<◌, ◌==◌, Bool, false, List, ◌++◌, length, slice_index_or, ◌⊎◌}
+use Rattle.std.specs.Prelude.{◌≡◌, ℕ, ◌*◌, ◌/◌, ◌%◌, ◌^◌, ◌<◌, ◌==◌, Bool, false, List, ◌++◌, length, replicate, slice_index_or, All, ◌⊎◌}
 use Rattle.std.specs.Int.{bit_at}
 use Rattle.fax_bits.specs.declared.codes.CodeEntry.{CodeEntry}
 use Rattle.fax_bits.specs.declared.codes.CodeFault.{CodeFault}
@@ -8,6 +8,7 @@ use Rattle.fax_bits.specs.declared.FillOrder.{FillOrder}
 use Rattle.fax_bits.specs.declared.FillOrder.TheVariants.{MsbFirst}
 use Rattle.fax_bits.specs.declared.modes.ModeCode.{ModeCode}
 use Rattle.fax_bits.specs.Bits.{byte_bits, bits, bits_number, bit_in_byte}
+use Rattle.fax_bits.specs.Bytes.{packed}
 use Rattle.fax_bits.specs.Codes.{Takes, IsFaultOf}
 use Rattle.fax_bits.specs.Runs.{IsRun, IsWritten, run_bits, mode_bits}
 use Rattle.fax_bits.specs.Tables.{modes}
@@ -27,6 +28,23 @@ pub record AreBitsOfOneByte : Type 0 where
   pub fits : (b : List Bool) → length b ≡ 8 → bits_number b < 256
   pub spelled : (b : List Bool) → length b ≡ 8 → byte_bits MsbFirst (bits_number b) ≡ b
   pub again : (byte : ℕ) → byte < 256 → bits_number (byte_bits MsbFirst byte) ≡ byte
+
+-- the bytes of bits hold these bits, and fewer than eight zeros up to a whole byte (TIFF 6.0, FillOrder)
+abbrev pub PackedBitsArePadded : Type 0
+PackedBitsArePadded =
+    (order : FillOrder) (b : List Bool)
+    → (zeros : ℕ) × (zeros < 8) × (bits order (packed order b) ≡ b ++ replicate zeros false)
+
+-- bytes that hold bits, and fewer than eight zeros behind them, are the bytes of these bits (TIFF 6.0, FillOrder)
+abbrev pub PaddedBytesArePacked : Type 0
+PaddedBytesArePacked =
+    (order : FillOrder) (b : List Bool) (bytes : List ℕ) (zeros : ℕ) → zeros < 8 → All (λ byte. byte < 256) bytes
+    → bits order bytes ≡ b ++ replicate zeros false → bytes ≡ packed order b
+
+-- bits are packed into bytes in one way (TIFF 6.0, FillOrder)
+pub record PacksOneWay : Type 0 where
+  pub padded : PackedBitsArePadded
+  pub only : PaddedBytesArePacked
 
 -- at most one code of the table is taken, and one rest follows it (T.4, tables 2, 3a, 3b and 4)
 abbrev pub TakesOne : {M : Type 0} → List (CodeEntry M) → Type 0

@@ -18,6 +18,12 @@ pub fn eight_bits_are_a_byte()
     ensures { Law.AreBitsOfOneByte }
 {}
 
+/// Bits are packed into bytes in one way: the bytes hold the bits, and zeros up to a whole byte
+/// (TIFF 6.0, FillOrder).
+pub fn bits_are_packed_in_one_way()
+    ensures { Law.PacksOneWay }
+{}
+
 /// At most one code of a table is taken of any bits, with one rest behind it.
 pub fn one_code_is_taken<T: CodeTable>()
     ensures { Law.TakesOne T.table }

@@ -3,11 +3,13 @@ ghost use Rattle.std.specs.Prelude.{ℕ, List};
 ghost use Rattle.fax_bits.specs.declared.Colour.{Colour};
 ghost use Rattle.fax_page.specs.declared.StripForm.{StripForm};
 ghost use Rattle.fax_page.specs.Laws as Law;
+ghost use Rattle.fax_page.specs.code.Writer.{WritesRowByRow};
 
 /// Bits are read in one way as a row of a strip, in any coding: they begin with one row and one
 /// rest follows it, or one fault is in its way, never both.
 pub fn lines_are_read_in_one_way()
-    ensures { (form : StripForm) (i : ℕ) (reference : List Colour) → Law.ReadsLinesOneWay form i reference }
+    ensures { (form : StripForm) (i : ℕ) (reference : List Colour)
+        → Law.ReadsLinesOneWay form i reference }
 {
     fax_rows::laws::rows_are_read_in_one_way();
     fax_rows::laws::rows_over_a_reference_are_read_in_one_way();
@@ -28,3 +30,26 @@ pub fn coded_bits_are_read_back()
     fax_rows::laws::one_dimensional_rows_are_read_back();
     fax_rows::laws::two_dimensional_rows_are_read_back();
 }
+
+/// A written strip is read back: its bytes are a strip with its rows and no fault, in any coding,
+/// for any k and either fill order.
+pub fn coded_strips_are_read_back()
+    ensures { Law.CodedStripsAreRead }
+{
+    coded_bits_are_read_back();
+    fax_bits::laws::bits_are_packed_in_one_way();
+}
+
+/// A written strip is read as no other rows and with no other end.
+pub fn coded_strips_are_read_as_nothing_else()
+    ensures { Law.CodedStripsAreOneStrip }
+{
+    coded_strips_are_read_back();
+    strips_are_read_in_one_way();
+}
+
+/// A strip is written row by row: where `StripWriter::put_row` puts rows one behind another, the
+/// bytes that `finish` gives are the strip of these rows.
+pub fn strips_are_written_row_by_row()
+    ensures { WritesRowByRow }
+{}

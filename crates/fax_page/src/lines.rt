@@ -1,6 +1,6 @@
 //! A row of a strip: what stands before its codes, and its codes.
-ghost use Rattle.std.specs.Prelude.{◌≡◌, ◌∷◌, ◌+◌, [], length, false, OnOk, IfOk, IfErr};
-ghost use Rattle.fax_bits.specs.Bits.{IsAllZeros};
+ghost use Rattle.std.specs.Prelude.{◌≡◌, ◌∷◌, [], length, OnOk, IfOk, IfErr};
+ghost use Rattle.fax_bits.specs.code.Source.{KeepsEnd};
 ghost use Rattle.fax_page.specs.Lines as Lines;
 ghost use Rattle.fax_page.specs.code.Starts.{HasEol, HasNoEol};
 
@@ -14,7 +14,7 @@ const EOL_ZEROS: u64 = 11;
 fn read_eol(source: &mut BitSource, may_lack: bool) -> Result<(), StripFault>
     ensures ok { OnOk result (HasEol may_lack source.old.left source.new.left) }
     ensures err { IfErr result (HasNoEol may_lack source.old.left) }
-    ensures same_end { source.new.place + length source.new.left ≡ source.old.place + length source.old.left }
+    ensures same_end { KeepsEnd source.old source.new }
 {
     match source.zeros() {
         None => Err(StripFault::DataEnds),
@@ -30,9 +30,10 @@ fn read_eol(source: &mut BitSource, may_lack: bool) -> Result<(), StripFault>
 
 /// Reads the tag bit behind an EOL of MR, which says how the row is coded (T.4, section 4.2.2).
 fn read_tag(source: &mut BitSource) -> Result<Dimension, StripFault>
-    ensures ok { IfOk result (λ dimension. source.old.left ≡ Lines.tag_bit dimension ∷ source.new.left) }
+    ensures ok { IfOk result (λ dimension.
+        source.old.left ≡ Lines.tag_bit dimension ∷ source.new.left) }
     ensures err { IfErr result (λ fault. (source.old.left ≡ []) × (fault ≡ StripFault.DataEnds)) }
-    ensures same_end { source.new.place + length source.new.left ≡ source.old.place + length source.old.left }
+    ensures same_end { KeepsEnd source.old source.new }
 {
     if source.remaining() == 0 {
         return Err(StripFault::DataEnds);
@@ -50,9 +51,10 @@ fn read_tag(source: &mut BitSource) -> Result<Dimension, StripFault>
 /// MH, an EOL and a tag bit in MR, nothing in MMR (T.4, sections 4.1.2 and 4.2.2; T.6, section
 /// 2.2.1).
 fn read_start(source: &mut BitSource, coding: Coding, i: u32) -> Result<Dimension, StripFault>
-    ensures ok { IfOk result (λ dimension. Lines.IsStart coding i source.old.left dimension source.new.left) }
+    ensures ok { IfOk result (λ dimension.
+        Lines.IsStart coding i source.old.left dimension source.new.left) }
     ensures err { IfErr result (λ fault. Lines.IsStartFault coding i source.old.left fault) }
-    ensures same_end { source.new.place + length source.new.left ≡ source.old.place + length source.old.left }
+    ensures same_end { KeepsEnd source.old source.new }
 {
     match coding {
         Coding::Mh => {
@@ -81,8 +83,8 @@ fn check_first_code(source: &BitSource) -> Result<(), StripFault>
     }
 }
 
-/// Reads row `i` of a strip into `row`, of which nothing is said after a fault. Its reference is the
-/// row before it, or white before the first.
+/// Reads row `i` of a strip into `row`, of which nothing is said after a fault. Its reference is
+/// the row before it, or white before the first.
 pub fn read_line(
     source: &mut BitSource,
     form: StripForm,
@@ -92,10 +94,11 @@ pub fn read_line(
 ) -> Result<(), StripFault>
     requires reference_width { length reference.now ≡ form.width }
     requires width { length row.old ≡ form.width }
-    ensures ok { OnOk result (Lines.IsLine form i reference.now source.old.left row.new source.new.left) }
+    ensures ok { OnOk result
+        (Lines.IsLine form i reference.now source.old.left row.new source.new.left) }
     ensures err { IfErr result (λ fault. Lines.IsCause form i reference.now source.old.left fault) }
     ensures same_width { length row.new ≡ length row.old }
-    ensures same_end { source.new.place + length source.new.left ≡ source.old.place + length source.old.left }
+    ensures same_end { KeepsEnd source.old source.new }
 {
     let dimension = read_start(source, form.coding, i)?;
     check_first_code(source)?;

@@ -42,7 +42,8 @@ impl<'a> Model for StripReader<'a> {
       fault = r.fault;
     } };
 
-    ghost invariant = { λ r. IsReading r.form r.bytes.now r.source r.place r.row r.reference r.next r.fault };
+    ghost invariant = { λ r.
+        IsReading r.form r.bytes.now r.source r.place r.row r.reference r.next r.fault };
 }
 
 impl<'a> StripReader<'a> {

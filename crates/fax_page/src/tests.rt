@@ -1,4 +1,7 @@
 //! Strips whose bits were written by hand from T.4 and T.6.
+mod caller;
+mod written;
+
 use crate::{Coding, FillOrder, StripFault, StripForm, StripReader};
 use std::alloc::Global;
 use std::process::Abort;

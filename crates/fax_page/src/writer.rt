@@ -1,5 +1,5 @@
 //! A writer of strips.
-ghost use Rattle.std.specs.Prelude.{◌≡◌, ◌++◌, ◌<◌, ◌≤◌, length, false, IfOk, OnOk};
+ghost use Rattle.std.specs.Prelude.{◌≡◌, ◌++◌, ◌<◌, ◌≤◌, length, false, All, IfOk, OnOk};
 ghost use Rattle.fax_bits.specs.code.Sink.{Appends};
 ghost use Rattle.fax_bits.specs.Bytes.{packed};
 ghost use Rattle.fax_page.specs.CodedStrip as Coded;
@@ -55,7 +55,8 @@ fn put_line(
 ) -> Result<(), Memory>
     requires some_k { 0 < k }
     requires same_width { length reference.now ≡ length row.now }
-    ensures ok { OnOk result (Appends sink.old (Coded.coded_line coding k i reference.now row.now) sink.new) }
+    ensures ok { OnOk result
+        (Appends sink.old (Coded.coded_line coding k i reference.now row.now) sink.new) }
     ensures same_order { sink.new.order ≡ sink.old.order }
 {
     let dimension = written_dimension(coding, k, i);
@@ -78,6 +79,11 @@ fn put_end(sink: &mut BitSink, coding: Coding) -> Result<(), Memory>
         Coding::Mmr => sink.put((EOL << EOL_BITS) | EOL, 2 * EOL_BITS),
     }
 }
+
+/// Each byte is below 256, which is said for the proof of `finish` and does nothing.
+fn are_bytes(bytes: &[u8])
+    ensures { All (λ byte. byte < 256) bytes.now }
+{}
 
 /// Writes a strip row by row. Contracts see how far it is written: its form and k, its bits, how
 /// many rows were put, the last of them, and whether memory was refused.
@@ -110,7 +116,7 @@ impl Model for StripWriter {
 
 impl StripWriter {
     ghost use Rattle.fax_page.specs.Strip.{IsStripForm};
-    ghost use Rattle.fax_page.specs.code.Writer.{writer_beginning, IsPutRow};
+    ghost use Rattle.fax_page.specs.code.Writer.{writer_beginning, IsPutRow, FinishesAs};
 
     /// A strip of this form, before its first row. In MR every `k`-th row is one-dimensional, from
     /// the first on (T.4, section 4.2.1.1); in MH and MMR `k` is not looked at.
@@ -134,8 +140,8 @@ impl StripWriter {
         })
     }
 
-    /// Puts the next row: without fill, in T.4's own choice of codes, and in MR and MMR over the row
-    /// before it.
+    /// Puts the next row: without fill, in T.4's own choice of codes, and in MR and MMR over the
+    /// row before it.
     ///
     /// # Errors
     ///
@@ -166,5 +172,27 @@ impl StripWriter {
                 Err(Memory)
             }
         }
+    }
+
+    /// The bytes of the strip once all its rows were put, its last byte filled with zeros. MMR has
+    /// the end of a facsimile block behind its last row (T.6, End-of-facsimile block).
+    ///
+    /// # Errors
+    ///
+    /// `Memory` where a growth was refused, here or before.
+    pub fn finish(self) -> Result<Vec<u8>, Memory>
+        requires all_put { self.refused ≡ false → self.row ≡ self.form.rows }
+        ensures { IfOk result (λ bytes. FinishesAs self bytes.items) }
+    {
+        fax_bits::laws::bits_are_packed_in_one_way();
+        if self.refused {
+            return Err(Memory);
+        }
+        let mut sink = self.sink;
+        put_end(&mut sink, self.form.coding)?;
+        sink.pad();
+        let bytes = sink.into_bytes();
+        are_bytes(&bytes);
+        Ok(bytes)
     }
 }

@@ -1,7 +1,7 @@
 use Rattle.std.proofs.Common.{◌≡◌}
 use Rattle.std.proofs.lemmas.Result.{on_ok_weaker}
 use Rattle.fax_page.specs.declared.Dimension.TheVariants.{OneDimensional, TwoDimensional}
-use Rattle.fax_page.proofs.LinePutLemmas.{line_put}
+use Rattle.fax_page.proofs.WriterLemmas.{line_put}
 use Rattle.fax_page.proofs.writer.put_line.Goals as goal
 
 pub returns-in-OneDimensional-clause-ok : goal.returns-in-OneDimensional-clause-ok

@@ -1,0 +1,92 @@
+-- A row of a strip that is put, and a strip that is finished.
+use Rattle.std.proofs.Common.{◌≡◌, ℕ, suc, ◌+◌, ◌<◌, List, [], ◌∷◌, ◌++◌, length, replicate, Bool, false, refl, sym, ap, ◌∙◌, subst, arith, append_assoc, append-nil, length-append}
+use Rattle.std.specs.Prelude.{All}
+use Rattle.fax_bits.specs.declared.Colour.{Colour}
+use Rattle.fax_bits.specs.declared.FillOrder.{FillOrder}
+use Rattle.fax_bits.specs.Bits.{bits}
+use Rattle.fax_bits.specs.Bytes.{packed}
+use Rattle.fax_bits.specs.Laws.{PacksOneWay}
+use Rattle.fax_bits.specs.code.Sink.{Sink, Appends, IsPadded}
+use Rattle.fax_page.specs.declared.Coding.{Coding}
+use Rattle.fax_page.specs.declared.Dimension.{Dimension}
+use Rattle.fax_page.specs.declared.StripForm.{StripForm}
+use Rattle.fax_page.specs.Strip.{white_row}
+use Rattle.fax_page.specs.CodedStrip.{written_dimension, start_bits, row_bits, coded_line, coded_lines, coded_bits, coded_strip, end_bits}
+use Rattle.fax_page.specs.code.Writer.{WriterState, writer_beginning, PutsRow, FinishesAs, HasPut, last_of}
+
+-- bits behind bits
+pub appended : (old middle new : Sink) (first second : List Bool) → Appends old first middle → Appends middle second new
+    → Appends old (first ++ second) new
+appended old middle new first second put more =
+    more ∙ ap (λ (s : Sink). record { order = s.order; bits = s.bits ++ second }) put
+    ∙ ap (λ (b : List Bool). record { order = old.order; bits = b }) (append_assoc old.bits first second)
+
+-- a row that is put: what stands before its codes, and then its codes
+pub line_put : (coding : Coding) (k i : ℕ) (reference row : List Colour) (dimension another : Dimension) (old middle new : Sink)
+    → dimension ≡ written_dimension coding k i → dimension ≡ another → Appends old (start_bits coding dimension) middle
+    → Appends middle (row_bits another reference row) new → Appends old (coded_line coding k i reference row) new
+unfolding coded_line
+line_put coding k i reference row dimension another old middle new written is start codes =
+    subst (λ d. Appends old (start_bits coding d ++ row_bits d reference row) new) written
+    (appended old middle new (start_bits coding dimension) (row_bits dimension reference row) start
+    (subst (λ d. Appends middle (row_bits d reference row) new) (sym is) codes))
+
+-- a strip that is finished: what stands behind its last row, and zeros
+pub finished : (order : FillOrder) (start middle padded : Sink) (end : List Bool) (bytes : List ℕ) → PacksOneWay → start.order ≡ order
+    → Appends start end middle → IsPadded middle padded → All (λ byte. byte < 256) bytes → bits padded.order bytes ≡ padded.bits
+    → bytes ≡ packed order (start.bits ++ end)
+finished order start middle padded end bytes packs same_order put pad fit holds =
+    let zeros = replicate pad.zeros false in
+    let order_is : padded.order ≡ order =
+    ap (λ (s : Sink). s.order) pad.appended ∙ ap (λ (s : Sink). s.order) put ∙ same_order in
+    packs.only order (start.bits ++ end) bytes pad.zeros pad.few fit
+    (ap (λ o. bits o bytes) (sym order_is) ∙ holds ∙ ap (λ (s : Sink). s.bits) pad.appended ∙ ap (λ (s : Sink). s.bits ++ zeros) put)
+
+lines_grow : (coding : Coding) (k i : ℕ) (reference row : List Colour) (rows : List (List Colour))
+    → coded_lines coding k i reference (rows ++ row ∷ [])
+    ≡ coded_lines coding k i reference rows ++ coded_line coding k (i + length rows) (last_of reference rows) row
+unfolding coded_lines
+lines_grow coding k i reference row [] =
+    let here : i + 0 ≡ i = omega arith in
+    append-nil (coded_line coding k i reference row) ∙ sym (ap (λ n. coded_line coding k n reference row) here)
+lines_grow coding k i reference row (first ∷ rows) =
+    let there : i + 1 + length rows ≡ i + suc (length rows) = omega arith in
+    let line = coded_line coding k i reference first in
+    let last = last_of first rows in
+    ap (λ (b : List Bool). line ++ b)
+    (lines_grow coding k (i + 1) first row rows ∙ ap (λ n. coded_lines coding k (i + 1) first rows ++ coded_line coding k n last row) there)
+    ∙ sym (append_assoc line (coded_lines coding k (i + 1) first rows) (coded_line coding k (i + suc (length rows)) last row))
+
+last_of-append : (reference row : List Colour) (rows : List (List Colour)) → last_of reference (rows ++ row ∷ []) ≡ row
+last_of-append reference row [] = refl
+last_of-append reference row (first ∷ rows) = last_of-append first row rows
+
+-- a writer before its first row
+pub begins_so : (form : StripForm) (k : ℕ) → HasPut form k [] (writer_beginning form k)
+unfolding coded_lines
+begins_so form k = refl
+
+-- a writer that put one more row
+pub row_added : (form : StripForm) (k : ℕ) (rows : List (List Colour)) (row : List Colour) (old new : WriterState)
+    → HasPut form k rows old → PutsRow old row new → HasPut form k (rows ++ row ∷ []) new
+row_added form k rows row old new is puts =
+    let white = white_row form.width in
+    let start : 0 + length rows ≡ length rows = omega arith in
+    let bits_are : coded_lines form.coding k 0 white rows ++ coded_line form.coding k (length rows) (last_of white rows) row
+    ≡ coded_lines form.coding k 0 white (rows ++ row ∷ []) =
+    ap (λ n. coded_lines form.coding k 0 white rows ++ coded_line form.coding k n (last_of white rows) row) (sym start)
+    ∙ sym (lines_grow form.coding k 0 white row rows) in
+    let count : length rows + 1 ≡ length (rows ++ row ∷ []) = sym (length-append rows (row ∷ [])) in
+    let last_is : row ≡ last_of white (rows ++ row ∷ []) = sym (last_of-append white row rows) in
+    puts.put
+    ∙ ap (λ (w : WriterState). record w { bits = w.bits ++ coded_line w.form.coding w.k w.row w.last row; row = w.row + 1; last = row }) is
+    ∙ ap (λ (b : List Bool). record { form = form; k = k; bits = b; row = length rows + 1; last = row; refused = false }) bits_are
+    ∙ ap (λ n. record { form = form; k = k; bits = coded_lines form.coding k 0 white (rows ++ row ∷ []); row = n; last = row; refused = false }) count
+    ∙ ap (λ (r : List Colour). record { form = form; k = k; bits = coded_lines form.coding k 0 white (rows ++ row ∷ []); row = length (rows ++ row ∷ []); last = r; refused = false }) last_is
+
+-- a writer that is finished
+pub finishes_so : (form : StripForm) (k : ℕ) (rows : List (List Colour)) (writer : WriterState) (bytes : List ℕ)
+    → HasPut form k rows writer → FinishesAs writer bytes → bytes ≡ coded_strip form k rows
+unfolding coded_strip coded_bits
+finishes_so form k rows writer bytes is ends =
+    ends.bytes_are ∙ ap (λ (w : WriterState). packed w.form.order (w.bits ++ end_bits w.form.coding)) is
