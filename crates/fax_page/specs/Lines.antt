@@ -3,12 +3,12 @@ use Rattle.std.specs.Prelude.{◌≡◌, ◌≢◌, ℕ, ◌<◌, ◌≤◌, ◌
 use Rattle.fax_bits.specs.Bits.{IsAllZeros, HasZerosAhead}
 use Rattle.fax_bits.specs.declared.Colour.{Colour}
 use Rattle.fax_rows.specs.declared.RowFault.{RowFault}
-use Rattle.fax_rows.specs.declared.RowFault.TheVariants.{DataEnds as RowDataEnds, BadCode as RowBadCode, Extension as RowExtension, RunTooLong as RowRunTooLong, OutOfRow as RowOutOfRow}
+use Rattle.fax_rows.specs.declared.RowFault.TheVariants as in_row
 use Rattle.fax_rows.specs.OneDimensional.{IsOneDimensionalRow}
 use Rattle.fax_rows.specs.TwoDimensional.{IsTwoDimensionalRow}
 use Rattle.fax_rows.specs.Faults.{IsOneDimensionalFault, IsTwoDimensionalFault}
-use Rattle.fax_page.specs.declared.lines.Dimension.{Dimension}
-use Rattle.fax_page.specs.declared.lines.Dimension.TheVariants.{OneDimensional, TwoDimensional}
+use Rattle.fax_page.specs.declared.Dimension.{Dimension}
+use Rattle.fax_page.specs.declared.Dimension.TheVariants.{OneDimensional, TwoDimensional}
 use Rattle.fax_page.specs.declared.Coding.{Coding}
 use Rattle.fax_page.specs.declared.Coding.TheVariants.{Mh, Mr, Mmr}
 use Rattle.fax_page.specs.declared.StripForm.{StripForm}
@@ -55,11 +55,11 @@ pub record IsLine (form : StripForm) (i : ℕ) (reference : List Colour) (b : Li
 
 -- a strip's name for the fault of a row (this project's profile)
 abbrev pub strip_fault : RowFault → StripFault
-strip_fault RowDataEnds = DataEnds
-strip_fault RowBadCode = BadCode
-strip_fault RowExtension = Extension
-strip_fault RowRunTooLong = RunTooLong
-strip_fault RowOutOfRow = OutOfRow
+strip_fault in_row.DataEnds = DataEnds
+strip_fault in_row.BadCode = BadCode
+strip_fault in_row.Extension = Extension
+strip_fault in_row.RunTooLong = RunTooLong
+strip_fault in_row.OutOfRow = OutOfRow
 
 -- no 1 is left where an EOL is due, or another row than an MH strip's first begins with none, or in MR the
 -- tag bit is missing (this project's profile)

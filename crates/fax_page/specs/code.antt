@@ -1,2 +1,4 @@
--- What speaks of this code alone: how far a strip is read.
+-- What speaks of this code alone: what stands before a row, how far a strip is read, and rows that are lent.
+pub mod Starts
 pub mod Reader
+pub mod NextRow

@@ -1,9 +1,8 @@
 //! Strips of fax pages, row by row (ITU-T T.4 and T.6, and this project's profile).
 #![tactic(auto)]
 
+pub mod laws;
 mod lines;
-#[cfg(test)]
-mod plain;
 mod reader;
 #[cfg(test)]
 mod tests;
@@ -22,6 +21,15 @@ pub enum Coding {
     Mr,
     /// Two-dimensional rows with nothing between them (T.6, section 2.2.1).
     Mmr,
+}
+
+/// How a row is coded (T.4, section 4.2.2).
+#[derive(Clone, Copy, Debug, PartialEq, Eq)]
+pub enum Dimension {
+    /// One-dimensional coding (T.4, section 4.1.1).
+    OneDimensional,
+    /// Two-dimensional coding, over the row before it (T.4, section 4.2.1.3.3; T.6, section 2.2.3).
+    TwoDimensional,
 }
 
 /// The form of a strip.

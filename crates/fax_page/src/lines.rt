@@ -1,26 +1,20 @@
 //! A row of a strip: what stands before its codes, and its codes.
-ghost use Rattle.std.specs.Prelude.{◌≡◌, ◌≢◌, length, OnOk, IfOk, IfErr};
-ghost use Rattle.fax_page.specs.Lines.{IsStart, IsStartFault, BeginsBelowEleven, IsFirstCodeFault, IsLine, IsCause};
-ghost use Rattle.fax_page.specs.declared.lines.Dimension.TheVariants.{OneDimensional};
+ghost use Rattle.std.specs.Prelude.{◌≡◌, ◌∷◌, ◌+◌, [], length, false, OnOk, IfOk, IfErr};
+ghost use Rattle.fax_bits.specs.Bits.{IsAllZeros};
+ghost use Rattle.fax_page.specs.Lines as Lines;
+ghost use Rattle.fax_page.specs.code.Starts.{HasEol, HasNoEol};
 
-use crate::{Coding, StripFault, StripForm};
+use crate::{Coding, Dimension, StripFault, StripForm};
 use fax_rows::{BitSource, Row, read_1d, read_2d};
 
 /// How many zeros an EOL has before its 1 (T.4, section 4.1.2). More are fill.
 const EOL_ZEROS: u64 = 11;
 
-/// How a row is coded (T.4, section 4.2.2).
-#[derive(Clone, Copy)]
-pub enum Dimension {
-    OneDimensional,
-    TwoDimensional,
-}
-
-/// Reads the fill and the EOL before row `i` of an MH strip (T.4, sections 4.1.2 and 4.1.3), which
-/// the first row may lack.
-fn read_eol(source: &mut BitSource, i: u32) -> Result<(), StripFault>
-    ensures ok { OnOk result (IsStart Coding.Mh i source.old.left OneDimensional source.new.left) }
-    ensures err { IfErr result (λ fault. IsStartFault Coding.Mh i source.old.left fault) }
+/// Reads fill and an EOL (T.4, sections 4.1.2 and 4.1.3), which some rows may lack.
+fn read_eol(source: &mut BitSource, may_lack: bool) -> Result<(), StripFault>
+    ensures ok { OnOk result (HasEol may_lack source.old.left source.new.left) }
+    ensures err { IfErr result (HasNoEol may_lack source.old.left) }
+    ensures same_end { source.new.place + length source.new.left ≡ source.old.place + length source.old.left }
 {
     match source.zeros() {
         None => Err(StripFault::DataEnds),
@@ -29,24 +23,47 @@ fn read_eol(source: &mut BitSource, i: u32) -> Result<(), StripFault>
             source.skip(1);
             Ok(())
         }
-        Some(_) if i == 0 => Ok(()),
+        Some(_) if may_lack => Ok(()),
         Some(_) => Err(StripFault::MissingEol),
     }
 }
 
-/// Reads what stands before the first code of row `i`, an EOL in MH and nothing in MMR (T.6,
-/// section 2.2.1), and answers how the row is coded.
+/// Reads the tag bit behind an EOL of MR, which says how the row is coded (T.4, section 4.2.2).
+fn read_tag(source: &mut BitSource) -> Result<Dimension, StripFault>
+    ensures ok { IfOk result (λ dimension. source.old.left ≡ Lines.tag_bit dimension ∷ source.new.left) }
+    ensures err { IfErr result (λ fault. (source.old.left ≡ []) × (fault ≡ StripFault.DataEnds)) }
+    ensures same_end { source.new.place + length source.new.left ≡ source.old.place + length source.old.left }
+{
+    if source.remaining() == 0 {
+        return Err(StripFault::DataEnds);
+    }
+    let tag = source.peek(1);
+    source.skip(1);
+    if tag == 1 {
+        Ok(Dimension::OneDimensional)
+    } else {
+        Ok(Dimension::TwoDimensional)
+    }
+}
+
+/// Reads what stands before the first code of row `i`, and answers how the row is coded: an EOL in
+/// MH, an EOL and a tag bit in MR, nothing in MMR (T.4, sections 4.1.2 and 4.2.2; T.6, section
+/// 2.2.1).
 fn read_start(source: &mut BitSource, coding: Coding, i: u32) -> Result<Dimension, StripFault>
-    requires { coding ≢ Coding.Mr }
-    ensures ok { IfOk result (λ dimension. IsStart coding i source.old.left dimension source.new.left) }
-    ensures err { IfErr result (λ fault. IsStartFault coding i source.old.left fault) }
+    ensures ok { IfOk result (λ dimension. Lines.IsStart coding i source.old.left dimension source.new.left) }
+    ensures err { IfErr result (λ fault. Lines.IsStartFault coding i source.old.left fault) }
+    ensures same_end { source.new.place + length source.new.left ≡ source.old.place + length source.old.left }
 {
     match coding {
         Coding::Mh => {
-            read_eol(source, i)?;
+            // The first row of a strip may lack its EOL.
+            read_eol(source, i == 0)?;
             Ok(Dimension::OneDimensional)
         }
-        Coding::Mr => unreachable!(),
+        Coding::Mr => {
+            read_eol(source, false)?;
+            read_tag(source)
+        }
         Coding::Mmr => Ok(Dimension::TwoDimensional),
     }
 }
@@ -54,8 +71,8 @@ fn read_start(source: &mut BitSource, coding: Coding, i: u32) -> Result<Dimensio
 /// Whether a row's first code may be read: an EOL in its place is the end of the page (T.4,
 /// section 4.1.4), or of the facsimile block (T.6).
 fn check_first_code(source: &BitSource) -> Result<(), StripFault>
-    ensures ok { OnOk result (BeginsBelowEleven source.now.left) }
-    ensures err { IfErr result (λ fault. IsFirstCodeFault source.now.left fault) }
+    ensures ok { OnOk result (Lines.BeginsBelowEleven source.now.left) }
+    ensures err { IfErr result (λ fault. Lines.IsFirstCodeFault source.now.left fault) }
 {
     match source.zeros() {
         Some(zeros) if zeros < EOL_ZEROS => Ok(()),
@@ -64,8 +81,8 @@ fn check_first_code(source: &BitSource) -> Result<(), StripFault>
     }
 }
 
-/// Reads row `i` of an MH or MMR strip into `row`, of which nothing is said after a fault. Its
-/// reference is the row before it, or white before the first.
+/// Reads row `i` of a strip into `row`, of which nothing is said after a fault. Its reference is the
+/// row before it, or white before the first.
 pub fn read_line(
     source: &mut BitSource,
     form: StripForm,
@@ -73,12 +90,12 @@ pub fn read_line(
     reference: &Row,
     row: &mut Row,
 ) -> Result<(), StripFault>
-    requires coding { form.coding ≢ Coding.Mr }
     requires reference_width { length reference.now ≡ form.width }
     requires width { length row.old ≡ form.width }
-    ensures ok { OnOk result (IsLine form i reference.now source.old.left row.new source.new.left) }
-    ensures err { IfErr result (λ fault. IsCause form i reference.now source.old.left fault) }
+    ensures ok { OnOk result (Lines.IsLine form i reference.now source.old.left row.new source.new.left) }
+    ensures err { IfErr result (λ fault. Lines.IsCause form i reference.now source.old.left fault) }
     ensures same_width { length row.new ≡ length row.old }
+    ensures same_end { source.new.place + length source.new.left ≡ source.old.place + length source.old.left }
 {
     let dimension = read_start(source, form.coding, i)?;
     check_first_code(source)?;

@@ -1,20 +1,26 @@
-//! A reader of a strip.
-ghost use Rattle.std.specs.Prelude.{◌≡◌, ◌≢◌, ◌≤◌, length, IfOk};
+//! A reader of strips.
+ghost use Rattle.std.specs.Prelude.{◌≡◌, ◌<◌, ◌≤◌, length, IfOk};
+ghost use Rattle.std.specs.Borrow.{sem};
 
 use crate::lines::read_line;
-use crate::{Coding, StripFault, StripForm};
+use crate::{StripFault, StripForm};
 use fax_rows::{BitSource, Memory, Row};
 use std::alloc::Global;
 use std::marker::Model;
 use std::mem::swap;
 
-/// Reads a strip row by row. Contracts see how far it is read: its form, the bits from the row that
-/// is due on, the number of that row, the row before it, and the fault that was answered.
+/// Reads strips row by row, one strip after another. Contracts see how far a strip is read: its
+/// form, its bytes, the place in bits and the number of the row that is due, how many rows the
+/// reader answered, the row before the one that is due, and the fault that was answered.
 #[derive(Drop)]
 pub struct StripReader<'a> {
+    bytes: &'a [u8],
+    /// Where the row that is due begins; after a fault, anywhere.
     source: BitSource<'a>,
     form: StripForm,
+    place: u64,
     row: u32,
+    read: u64,
     reference: Row,
     /// Where the row that is due is read to.
     next: Row,
@@ -26,17 +32,26 @@ impl<'a> Model for StripReader<'a> {
 
     ghost Value = { StripState };
 
-    ghost view = { λ reader. record { form = reader.form; left = reader.source.left; row = reader.row; reference = reader.reference; fault = reader.fault } };
+    ghost view = { λ r. record {
+      form = r.form;
+      bytes = r.bytes.now;
+      place = r.place;
+      row = r.row;
+      read = r.read;
+      reference = r.reference;
+      fault = r.fault;
+    } };
 
-    ghost invariant = { λ reader. IsReading reader.form reader.row reader.reference reader.next };
+    ghost invariant = { λ r. IsReading r.form r.bytes.now r.source r.place r.row r.reference r.next r.fault };
 }
 
 impl<'a> StripReader<'a> {
     ghost use Rattle.fax_page.specs.Strip.{IsStripForm};
-    ghost use Rattle.fax_page.specs.code.Reader.{strip_beginning, IsAdvance};
+    ghost use Rattle.fax_page.specs.code.Reader.{strip_beginning, restarted, IsAdvance};
+    ghost use Rattle.fax_page.specs.code.NextRow.{EndsAs, IsNextRow};
 
-    /// Before the first row of an MH or MMR strip in at most 4,294,967,295 bytes. It takes all the memory that
-    /// the reading needs.
+    /// Before the first row of a strip in at most 4,294,967,295 bytes. It takes all the memory that
+    /// the reading of strips of this width needs.
     ///
     /// # Errors
     ///
@@ -44,26 +59,47 @@ impl<'a> StripReader<'a> {
     pub fn new(alloc: Global, bytes: &'a [u8], form: StripForm) -> Result<Self, Memory>
         requires count { length bytes.now ≤ 4294967295 }
         requires limits { IsStripForm form }
-        requires coding { form.coding ≢ Coding.Mr }
         ensures { IfOk result (λ reader. reader ≡ strip_beginning form bytes.now) }
     {
         let reference = Row::white(alloc, form.width)?;
         let next = Row::white(alloc, form.width)?;
         Ok(StripReader {
+            bytes,
             source: BitSource::new(bytes, form.order),
             form,
+            place: 0,
             row: 0,
+            read: 0,
             reference,
             next,
             fault: None,
         })
     }
 
+    /// Goes before the first row of another strip of the same coding, order and width, with 1 to
+    /// 1,000,000 rows in at most 4,294,967,295 bytes. A fault is forgotten, and the first row's
+    /// reference is white (T.4, section 4.2.1.1; T.6, section 2.2.1). It takes no memory.
+    pub fn restart(&mut self, bytes: &'a [u8], rows: u32)
+        requires count { length bytes.now ≤ 4294967295 }
+        requires some { 0 < rows }
+        requires few { rows ≤ 1000000 }
+        ensures { self.new ≡ restarted self.old bytes.now rows }
+    {
+        self.bytes = bytes;
+        self.source = BitSource::new(bytes, self.form.order);
+        self.form.rows = rows;
+        self.place = 0;
+        self.row = 0;
+        self.reference.whiten();
+        self.fault = None;
+    }
+
     /// Reads the next row, and answers whether there was one. It takes no memory.
     ///
     /// # Errors
     ///
-    /// Why the row that is due could not be read. Every later call answers the same.
+    /// Why the row that is due could not be read. Every later call answers the same, until
+    /// `restart`.
     pub fn advance(&mut self) -> Result<bool, StripFault>
         ensures { IsAdvance self.old result self.new }
     {
@@ -82,7 +118,9 @@ impl<'a> StripReader<'a> {
         ) {
             Ok(()) => {
                 swap(&mut self.reference, &mut self.next);
+                self.place = self.source.place();
                 self.row += 1;
+                self.read = self.read.saturating_add(1);
                 Ok(true)
             }
             Err(fault) => {
@@ -97,5 +135,36 @@ impl<'a> StripReader<'a> {
         ensures { result.now ≡ self.now.reference }
     {
         &self.reference
+    }
+
+    /// Lends the next row, or answers `None` once all rows are read. It takes no memory.
+    ///
+    /// # Errors
+    ///
+    /// Why the row that is due could not be read. Every later call answers the same, until
+    /// `restart`.
+    pub fn next_row(&mut self) -> Result<Option<&Row>, StripFault>
+        ensures* next { sem 𝓛 (EndsAs self.entry (IsNextRow self.old result)) }
+    {
+        if self.advance()? {
+            Ok(Some(&self.reference))
+        } else {
+            Ok(None)
+        }
+    }
+
+    /// How many bits of the strip stand before the row that is due.
+    pub fn bit_place(&self) -> u64
+        ensures { result ≡ self.now.place }
+    {
+        self.place
+    }
+
+    /// How many rows were read since `new`, over all restarts, up to the greatest number of 64
+    /// bits.
+    pub fn rows_read(&self) -> u64
+        ensures { result ≡ self.now.read }
+    {
+        self.read
     }
 }

@@ -102,6 +102,13 @@ impl Row {
         self.pels.copy_from_slice(&row.pels);
     }
 
+    /// Turns all pels white. It takes no memory.
+    pub fn whiten(&mut self)
+        ensures { self.new ≡ replicate (length self.old) Colour.White }
+    {
+        self.pels.fill(Colour::White);
+    }
+
     /// Gives `n` pels from place `from` on this colour.
     pub(crate) fn paint(&mut self, from: u32, n: u32, colour: Colour)
         requires { from + n ≤ length self.old }

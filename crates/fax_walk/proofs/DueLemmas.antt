@@ -1,8 +1,9 @@
 -- What is due on a page, row by row.
-use Rattle.std.proofs.Common.{◌≡◌, ℕ, suc, ◌+◌, List, [], ◌∷◌, length, Some, None, Err, inl, inr, refl, ap, ◌∙◌, arith}
+use Rattle.std.proofs.Common.{◌≡◌, ℕ, suc, ◌+◌, List, [], ◌∷◌, length, drop, Some, None, Err, inl, inr, refl, ap, ◌∙◌, arith}
+use Rattle.fax_bits.specs.Bits.{bits}
 use Rattle.fax_page.specs.declared.StripFault.{StripFault}
 use Rattle.fax_page.specs.declared.StripForm.{StripForm}
-use Rattle.fax_page.specs.code.Reader.{StripState, ReadsRow, IsAtEnd, IsAdvance}
+use Rattle.fax_page.specs.code.Reader.{StripState, bits_left, ReadsRow, IsAtEnd, IsAdvance}
 use Rattle.fax_files.specs.Chain.{chain_fault}
 use Rattle.fax_files.specs.declared.Cause.TheVariants.{Strip}
 use Rattle.fax_walk.specs.declared.walk.End.TheVariants.{Fault}
@@ -16,7 +17,12 @@ row_read old new row reads same_next at = record {
     rows = new.strip.reference ∷ due.rows;
     stop = due.stop;
     left = due.left;
-    lines = (new.strip.left, reads.due, reads.line, rw (reads.same_form, reads.next_row) at due.lines);
+    lines = (
+      drop new.strip.place (bits old.strip.form.order new.strip.bytes),
+      reads.due,
+      rw reads.same_form at reads.line,
+      rw (reads.same_form, reads.next_row) at due.lines,
+    );
     items_are =
         ap (λ (xs : List Item). record { page = 0; row = old.strip.row; pels = new.strip.reference } ∷ xs)
         (due.items_are ∙ ap (λ n. numbered 0 n due.rows) reads.next_row);
@@ -38,7 +44,7 @@ pub page_read : (old : PageState) (new : StripState) → IsAtEnd old.strip new �
 page_read old new at_end = record {
   rows = [];
   stop = None;
-  left = old.strip.left;
+  left = bits_left old.strip;
   lines = (refl, at_end.all_read);
   items_are = refl;
   end_is = refl;
@@ -50,7 +56,7 @@ fault_met old new row fault at (inl again) = absurd (cc (at.no_fault, again.told
 fault_met old new row fault at (inr meets) = record {
   rows = [];
   stop = Some fault;
-  left = old.strip.left;
+  left = bits_left old.strip;
   lines = (refl, (meets.due, meets.cause));
   items_are = refl;
   end_is =

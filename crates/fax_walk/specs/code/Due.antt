@@ -5,7 +5,7 @@ use Rattle.fax_page.specs.declared.StripFault.{StripFault}
 use Rattle.fax_page.specs.declared.Coding.TheVariants.{Mr}
 use Rattle.fax_page.specs.declared.StripForm.{StripForm}
 use Rattle.fax_page.specs.Strip.{AreLines, IsStripForm}
-use Rattle.fax_page.specs.code.Reader.{strip_beginning}
+use Rattle.fax_page.specs.code.Reader.{bits_left, strip_beginning}
 use Rattle.fax_files.specs.declared.Cause.TheVariants.{File, Strip}
 use Rattle.fax_files.specs.Chain.{chain_fault}
 use Rattle.fax_walk.specs.declared.cursor.Cursor.{Cursor}
@@ -35,7 +35,7 @@ pub record IsDueOnPage (page : PageState) (items : List Item) (end : End) : Type
   pub rows : List (List Colour)
   pub stop : Option StripFault
   pub left : List Bool
-  pub lines : AreLines page.strip.form page.strip.row page.strip.reference page.strip.left rows stop left
+  pub lines : AreLines page.strip.form page.strip.row page.strip.reference (bits_left page.strip) rows stop left
   pub items_are : items ≡ numbered 0 page.strip.row rows
   pub end_is : end ≡ end_behind page.next (page.strip.row + length rows) stop
 

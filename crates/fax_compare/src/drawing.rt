@@ -1,7 +1,8 @@
 //! MH strips drawn by a generator of numbers.
-use crate::plain::reading::other;
-use crate::plain::tables::{EOL, EXTENSION, LAST_TERMINATING, codes};
-use crate::{Coding, Colour, FillOrder, StripForm};
+use crate::reading::other;
+use crate::tables::{EOL, EXTENSION, LAST_TERMINATING, codes};
+use fax_bits::{Colour, FillOrder};
+use fax_page::{Coding, StripForm};
 use std::alloc::{AllocError, Global};
 
 /// A linear congruential generator.
@@ -41,11 +42,11 @@ pub struct Strip {
 }
 
 impl Strip {
-    /// Its form, with the highest bit of a byte first.
-    pub fn form(&self) -> StripForm {
+    /// Its form, with its bits in bytes of this order.
+    pub fn form(&self, order: FillOrder) -> StripForm {
         StripForm {
             coding: self.coding,
-            order: FillOrder::MsbFirst,
+            order,
             width: self.width,
             rows: self.rows,
         }

@@ -1,18 +1,11 @@
 //! The reader of strips against a plain reading of the same bits.
-mod drawing;
-mod reading;
-mod steps;
-mod tables;
-mod two_dimensional;
-mod writing;
-
-use crate::plain::drawing::{
-    Numbers, Strip, draw, with_code, with_zeros_at_the_end, with_zeros_between,
-};
-use crate::plain::reading::{Reading, longest_runs, read};
-use crate::plain::steps::{Place, draw_mmr, with_step, with_zeros};
-use crate::plain::tables::{CODES, HORIZONTAL, MODE_CODES, MODE_EXTENSION, VERTICAL_0};
-use crate::{Coding, Colour, Row, StripFault, StripForm, StripReader};
+use crate::drawing::{Numbers, Strip, draw, with_code, with_zeros_at_the_end, with_zeros_between};
+use crate::reading::{Reading, longest_runs, read};
+use crate::steps::{Place, draw_mmr, with_step, with_zeros};
+use crate::tables::{CODES, HORIZONTAL, MODE_CODES, MODE_EXTENSION, VERTICAL_0};
+use fax_bits::{Colour, FillOrder};
+use fax_page::{Coding, StripFault, StripForm, StripReader};
+use fax_rows::Row;
 use std::alloc::{AllocError, Global};
 use std::process::Abort;
 use std::test::Fail;
@@ -137,57 +130,68 @@ fn count(tally: &mut Tally, reading: &Reading) {
     count_each(&mut tally.refused, reading.taken.refused.as_slice());
 }
 
-/// The bytes of bits, highest bit first, the last filled with zeros.
-fn packed(alloc: Global, bits: &[bool]) -> Result<Vec<u8>, AllocError> {
-    let mut bytes = Vec::new(alloc);
-    let mut byte: u8 = 0;
-    let mut place: u8 = 128;
-    for bit in bits {
-        if *bit {
-            byte |= place;
+/// The bits, and zeros up to a whole byte.
+fn padded(alloc: Global, bits: &[bool]) -> Result<Vec<bool>, AllocError> {
+    let mut all = Vec::new(alloc);
+    all.extend_from_slice(bits)?;
+    for _ in 0..7 {
+        if all.len() % 8 == 0 {
+            break;
         }
-        place /= 2;
-        if place == 0 {
-            bytes.push(byte)?;
-            byte = 0;
-            place = 128;
-        }
+        all.push(false)?;
     }
-    if place != 128 {
+    Ok(all)
+}
+
+/// The places of a byte's bits, first bit first (TIFF 6.0, FillOrder).
+fn places(order: FillOrder) -> [u8; 8] {
+    match order {
+        FillOrder::MsbFirst => [128, 64, 32, 16, 8, 4, 2, 1],
+        FillOrder::LsbFirst => [1, 2, 4, 8, 16, 32, 64, 128],
+    }
+}
+
+/// The bytes of bits, the last filled with zeros.
+fn packed(alloc: Global, order: FillOrder, bits: &[bool]) -> Result<Vec<u8>, AllocError> {
+    let mut bytes = Vec::new(alloc);
+    for eight in bits.chunks(8) {
+        let mut byte: u8 = 0;
+        for (bit, place) in eight.iter().zip(places(order).as_slice()) {
+            if *bit {
+                byte |= *place;
+            }
+        }
         bytes.push(byte)?;
     }
     Ok(bytes)
 }
 
-/// The bits of bytes, highest bit first.
-fn unpacked(alloc: Global, bytes: &[u8]) -> Result<Vec<bool>, AllocError> {
-    let mut bits = Vec::new(alloc);
-    for byte in bytes {
-        for place in [128, 64, 32, 16, 8, 4, 2, 1] {
-            bits.push(*byte & place != 0)?;
-        }
-    }
-    Ok(bits)
-}
-
-/// Reads the strip in these bytes by the reader, and by the plain reading, and compares their answers.
+/// Reads the strip with these bits by the reader, in each fill order, and by the plain reading, and
+/// compares their answers.
 fn compare(
     rt: &impl Abort,
     alloc: Global,
-    bytes: &[u8],
-    form: StripForm,
+    bits: &[bool],
+    strip: &Strip,
     tally: &mut Tally,
 ) -> Result<(), Fail> {
-    let mut pels = Vec::new(alloc);
-    let end = read_by_reader(rt, alloc, bytes, form, &mut pels)?;
-    let bits = unpacked(alloc, bytes)?;
-    let plain = read(alloc, bits.as_slice(), form)?;
-    assert_eq!(rt; end, plain.end, "{form:?} in {bytes:?}");
-    assert_eq!(rt;
-        pels.as_slice(),
-        plain.pels.as_slice(),
-        "{form:?} in {bytes:?}"
-    );
+    let plain = read(
+        alloc,
+        padded(alloc, bits)?.as_slice(),
+        strip.form(FillOrder::MsbFirst),
+    )?;
+    for order in [FillOrder::MsbFirst, FillOrder::LsbFirst] {
+        let bytes = packed(alloc, order, bits)?;
+        let form = strip.form(order);
+        let mut pels = Vec::new(alloc);
+        let end = read_by_reader(rt, alloc, bytes.as_slice(), form, &mut pels)?;
+        assert_eq!(rt; end, plain.end, "{form:?} in {bytes:?}");
+        assert_eq!(rt;
+            pels.as_slice(),
+            plain.pels.as_slice(),
+            "{form:?} in {bytes:?}"
+        );
+    }
     count(tally, &plain);
     Ok(())
 }
@@ -202,7 +206,6 @@ fn read_by_reader(
     pels: &mut Vec<bool>,
 ) -> Result<Option<StripFault>, Fail> {
     let rows = form.rows;
-    assert!(rt; matches!(form.coding, Coding::Mh | Coding::Mmr));
     assert!(rt; form.width > 0 && form.width < 65_536);
     assert!(rt; rows > 0 && rows <= 1_000_000);
     assert!(rt; bytes.len() < 1_000_000);
@@ -243,8 +246,7 @@ fn compare_whole(
     strip: &Strip,
     tally: &mut Tally,
 ) -> Result<(), Fail> {
-    let bytes = packed(alloc, strip.bits.as_slice())?;
-    compare(rt, alloc, bytes.as_slice(), strip.form(), tally)?;
+    compare(rt, alloc, strip.bits.as_slice(), strip, tally)?;
     tally.strips = tally.strips.saturating_add(1);
     Ok(())
 }
@@ -258,8 +260,7 @@ fn compare_cuts(
 ) -> Result<(), Fail> {
     let mut bits = Vec::new(alloc);
     for bit in strip.bits.as_slice() {
-        let bytes = packed(alloc, bits.as_slice())?;
-        compare(rt, alloc, bytes.as_slice(), strip.form(), tally)?;
+        compare(rt, alloc, bits.as_slice(), strip, tally)?;
         tally.cuts = tally.cuts.saturating_add(1);
         bits.push(*bit).map_err(AllocError::from)?;
     }
@@ -279,8 +280,7 @@ fn compare_flips(
         if let Some(bit) = bits.get_mut(flipped) {
             *bit = !*bit;
         }
-        let bytes = packed(alloc, bits.as_slice())?;
-        compare(rt, alloc, bytes.as_slice(), strip.form(), tally)?;
+        compare(rt, alloc, bits.as_slice(), strip, tally)?;
         tally.flips = tally.flips.saturating_add(1);
     }
     Ok(())
@@ -454,11 +454,12 @@ fn compare_zeros_in_mmr(rt: &impl Abort, alloc: Global, tally: &mut Tally) -> Re
     Ok(())
 }
 
-/// Sees that there were many comparisons, and among them each end but one that the coding has not.
-fn assert_many(rt: &impl Abort, tally: &Tally, no_end: usize) {
-    assert!(rt; tally.strips >= 500, "only {} strips", tally.strips);
-    assert!(rt; tally.cuts >= 10_000, "only {} cuts", tally.cuts);
-    assert!(rt; tally.flips >= 10_000, "only {} flips", tally.flips);
+/// Sees that there were so many whole strips, and as many cut and flipped ones, and among them each
+/// end but one that the coding has not.
+fn assert_many(rt: &impl Abort, tally: &Tally, strips: u32, bits: u32, no_end: usize) {
+    assert_eq!(rt; tally.strips, strips);
+    assert_eq!(rt; tally.cuts, bits);
+    assert_eq!(rt; tally.flips, bits);
     for (end, times) in tally.ends.as_slice().iter().enumerate() {
         let least = if end == no_end { 0 } else { 100 };
         assert!(rt; *times >= least, "only {times} readings ended in way {end}");
@@ -501,7 +502,7 @@ fn agrees_with_a_plain_reading(rt: HostRuntime) -> Result<(), Fail> {
     for draws in MH_DRAWS {
         compare_drawn(&rt, alloc, Coding::Mh, &draws, &mut tally)?;
     }
-    assert_many(&rt, &tally, OUT_OF_ROW);
+    assert_many(&rt, &tally, 664, 12_816, OUT_OF_ROW);
     assert_all_codes(&rt, &tally);
     Ok(())
 }
@@ -515,7 +516,7 @@ fn agrees_with_a_plain_reading_in_mmr(rt: HostRuntime) -> Result<(), Fail> {
     for draws in MMR_DRAWS {
         compare_drawn(&rt, alloc, Coding::Mmr, &draws, &mut tally)?;
     }
-    assert_many(&rt, &tally, MISSING_EOL);
+    assert_many(&rt, &tally, 20_628, 10_344, MISSING_EOL);
     assert_all_modes(&rt, &tally);
     assert_all_refused(&rt, &tally);
     Ok(())

@@ -1,10 +1,10 @@
 //! A plain writing of rows, by the wording of T.4 (sections 4.1.1 and 4.2.1.3.3): lists of pels, and codes
 //! as text.
-use crate::plain::drawing::{put, put_code};
-use crate::plain::tables::{HORIZONTAL, LAST_TERMINATING, MODES, PASS, VERTICAL_0};
-use crate::plain::two_dimensional::{b1, colour};
-use crate::{FillOrder, Row};
-use fax_rows::{BitSink, BitSource, put_1d, put_2d, read_1d, read_2d};
+use crate::drawing::{put, put_code};
+use crate::tables::{HORIZONTAL, LAST_TERMINATING, MODES, PASS, VERTICAL_0};
+use crate::two_dimensional::{b1, colour};
+use fax_bits::FillOrder;
+use fax_rows::{BitSink, BitSource, Row, put_1d, put_2d, read_1d, read_2d};
 use std::alloc::{AllocError, Global};
 use std::process::Abort;
 use std::test::Fail;

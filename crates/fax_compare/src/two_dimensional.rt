@@ -1,8 +1,9 @@
 //! A plain reading of two-dimensional rows, step by step, by the wording of T.4 (sections 4.2.1.3.1 to
 //! 4.2.1.3.4) and this project's profile.
-use crate::plain::reading::{Stop, Taken, find, paint, read_run};
-use crate::plain::tables::{HORIZONTAL, MODE_EXTENSION, MODES, PASS, VERTICAL_0};
-use crate::{Colour, StripFault};
+use crate::reading::{Stop, Taken, find, paint, read_run};
+use crate::tables::{HORIZONTAL, MODE_EXTENSION, MODES, PASS, VERTICAL_0};
+use fax_bits::Colour;
+use fax_page::StripFault;
 use std::alloc::{AllocError, Global};
 
 /// How far a row is read or drawn.

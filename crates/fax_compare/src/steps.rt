@@ -1,11 +1,10 @@
 //! MMR strips: a step in each place of a row, and strips drawn by a generator of numbers.
-use crate::plain::drawing::{
-    Numbers, Strip, put, put_any, put_code, put_padding, put_run, put_same,
-};
-use crate::plain::reading::{longest_runs, other};
-use crate::plain::tables::{EOL, HORIZONTAL, MODE_EXTENSION, MODES, PASS, VERTICAL_0};
-use crate::plain::two_dimensional::{Position, b1, colour};
-use crate::{Coding, Colour};
+use crate::drawing::{Numbers, Strip, put, put_any, put_code, put_padding, put_run, put_same};
+use crate::reading::{longest_runs, other};
+use crate::tables::{EOL, HORIZONTAL, MODE_EXTENSION, MODES, PASS, VERTICAL_0};
+use crate::two_dimensional::{Position, b1, colour};
+use fax_bits::Colour;
+use fax_page::Coding;
 use std::alloc::{AllocError, Global};
 
 /// How many steps a drawn row has at most, before vertical mode alone ends it.

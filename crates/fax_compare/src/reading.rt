@@ -1,8 +1,9 @@
 //! A plain reading of strips: slow searches over a list of bits, by the wording of T.4 and T.6 and this
 //! project's profile.
-use crate::plain::tables::{CODES, EXTENSION, LAST_TERMINATING, codes};
-use crate::plain::two_dimensional::read_steps;
-use crate::{Coding, Colour, StripFault, StripForm};
+use crate::tables::{CODES, EXTENSION, LAST_TERMINATING, codes};
+use crate::two_dimensional::read_steps;
+use fax_bits::Colour;
+use fax_page::{Coding, StripFault, StripForm};
 use std::alloc::{AllocError, Global};
 
 /// What a strip's bits say: the pels of the rows that could be read, one row after the other, the codes

@@ -1,6 +1,6 @@
 //! The codes of T.4 as text: runs (tables 2, 3a and 3b), one entry for each length in ascending order, and
 //! modes (table 4).
-use crate::Colour;
+use fax_bits::Colour;
 
 /// How many codes each table has.
 pub const CODES: usize = 105;

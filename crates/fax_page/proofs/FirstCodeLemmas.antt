@@ -1,0 +1,91 @@
+-- The codes of a row begin with fewer than eleven zeros and a 1.
+use Rattle.std.proofs.Common.{◌≡◌, ℕ, zero, suc, ◌<◌, List, [], ◌∷◌, ◌++◌, length, get_or, map, Bool, true, false, refl, ap, sym, subst, arith, None, Some}
+use Rattle.std.specs.Prelude.{◌&&◌}
+use Rattle.fax_bits.specs.declared.codes.CodeEntry.{CodeEntry}
+use Rattle.fax_bits.specs.declared.Colour.{Colour}
+use Rattle.fax_bits.specs.declared.Colour.TheVariants.{White}
+use Rattle.fax_bits.specs.declared.runs.RunCode.TheVariants.{Terminating, MakeUp}
+use Rattle.fax_bits.specs.Bits.{code_bits, HasZerosAhead}
+use Rattle.fax_bits.specs.Codes.{bits_of, Takes, Spells}
+use Rattle.fax_bits.specs.Tables.{run_table, modes, white_runs, white_terminating, white_make_up, common_make_up, run_extension}
+use Rattle.fax_rows.specs.Elements.{pels_of}
+use Rattle.fax_rows.specs.OneDimensional.{AreRuns}
+use Rattle.fax_rows.specs.TwoDimensional.{Position, beginning, AreSteps}
+use Rattle.fax_page.specs.declared.Dimension.{Dimension}
+use Rattle.fax_page.specs.declared.Dimension.TheVariants.{OneDimensional, TwoDimensional}
+use Rattle.fax_page.specs.Lines.{BeginsBelowEleven, IsRowIn}
+
+-- a 1 is among the first n bits
+abbrev has_one : ℕ → List Bool → Bool
+has_one zero b = false
+has_one (suc n) [] = false
+has_one (suc n) (true ∷ b) = true
+has_one (suc n) (false ∷ b) = has_one n b
+
+ahead_of : (n : ℕ) (b more : List Bool) → has_one n b ≡ true → (zeros : ℕ) × (zeros < n) × HasZerosAhead (b ++ more) zeros
+ahead_of zero b more h = cc
+ahead_of (suc n) [] more h = cc
+ahead_of (suc n) (true ∷ b) more h = (0, omega arith, (b ++ more, refl))
+ahead_of (suc n) (false ∷ b) more h =
+    let ahead = ahead_of n b more h in
+    (suc ahead.0, omega (arith, ahead.1), (ahead.2.0, ap (λ c. false ∷ c) ahead.2.1))
+
+-- each code of the table has a 1 among its first eleven bits
+abbrev all_have_one : {M : Type 0} → List (CodeEntry M) → Bool
+all_have_one [] = true
+all_have_one (entry ∷ table) = has_one 11 (bits_of entry) && all_have_one table
+
+both : (a b : Bool) → (a && b) ≡ true → (a ≡ true) × (b ≡ true)
+both true b h = (refl, h)
+both false b h = cc
+
+one_at : {M : Type 0} (table : List (CodeEntry M)) (i : ℕ) (entry : CodeEntry M) → all_have_one table ≡ true → i < length table
+    → get_or table i entry ≡ entry → has_one 11 (bits_of entry) ≡ true
+one_at [] i entry all within is = absurd (omega arith)
+one_at (first ∷ table) zero entry all within is =
+    subst (λ (e : CodeEntry _). has_one 11 (bits_of e) ≡ true) is (both (has_one 11 (bits_of first)) (all_have_one table) all).0
+one_at (first ∷ table) (suc i) entry all within is =
+    one_at table i entry (both (has_one 11 (bits_of first)) (all_have_one table) all).1 (omega arith) is
+
+all_have_one-white : all_have_one (run_table White) ≡ true
+unfolding code_bits white_runs run_extension white_terminating white_make_up common_make_up
+all_have_one-white = refl
+
+all_have_one-modes : all_have_one modes ≡ true
+unfolding code_bits modes
+all_have_one-modes = refl
+
+-- bits of which a code is taken
+taken_begins : {M : Type 0} (table : List (CodeEntry M)) (b : List Bool) (meaning : M) (rest : List Bool) → all_have_one table ≡ true
+    → Takes table b meaning rest → BeginsBelowEleven b
+taken_begins table b meaning rest all taken =
+    subst BeginsBelowEleven (sym taken.spelled)
+    (ahead_of 11 (bits_of taken.entry) rest (one_at table taken.listed.0 taken.entry all taken.listed.1 taken.listed.2))
+
+run_begins : (make_up : List ℕ) (last : ℕ) (b rest : List Bool) → Spells (run_table White) b (map MakeUp make_up ++ Terminating last ∷ []) rest
+    → BeginsBelowEleven b
+run_begins [] last b rest spelled = taken_begins (run_table White) b (Terminating last) spelled.0 all_have_one-white spelled.1
+run_begins (n ∷ make_up) last b rest spelled = taken_begins (run_table White) b (MakeUp n) spelled.0 all_have_one-white spelled.1
+
+runs_begin : (width : ℕ) (row : List Colour) (runs : List ℕ) (b rest : List Bool) → 0 < width → row ≡ pels_of White runs → length row ≡ width
+    → AreRuns White b runs rest → BeginsBelowEleven b
+runs_begin width row [] b rest some pels whole coded =
+    absurd (omega (arith, ap (λ (xs : List Colour). length xs) pels, whole, some))
+runs_begin width row (n ∷ runs) b rest some pels whole coded =
+    run_begins coded.1.make_up coded.1.last b coded.0 coded.1.spelled
+
+steps_begin : (reference : List Colour) (b : List Bool) (positions : List Position) (last : Position) (rest : List Bool)
+    → AreSteps reference beginning b positions last rest → last.a0 ≡ Some (length reference) → BeginsBelowEleven b
+steps_begin reference b [] last rest steps ends =
+    let none : last.a0 ≡ None = ap (λ (at : Position). at.a0) steps.0 in
+    cc
+steps_begin reference b (next ∷ positions) last rest steps ends =
+    taken_begins modes b steps.2.mode steps.2.behind all_have_one-modes steps.2.taken
+
+-- the codes of a row of at least one pel
+pub row_begins : (dimension : Dimension) (width : ℕ) (reference : List Colour) (b : List Bool) (row : List Colour) (rest : List Bool) → 0 < width
+    → IsRowIn dimension width reference b row rest → BeginsBelowEleven b
+row_begins OneDimensional width reference b row rest some is =
+    runs_begin width row is.runs b rest some is.pels is.whole is.coded
+row_begins TwoDimensional width reference b row rest some is =
+    steps_begin reference b is.positions is.last rest is.steps is.ends

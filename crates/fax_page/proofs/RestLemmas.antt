@@ -1,0 +1,133 @@
+-- Behind a row of a strip stands a rest of the bits that it began in.
+use Rattle.std.proofs.Common.{◌≡◌, ℕ, ◌+◌, List, [], ◌∷◌, ◌++◌, length, drop, map, replicate, Bool, true, false, refl, ap, sym, ◌∙◌, subst, arith, append_assoc, length-append, inl, inr}
+use Rattle.std.specs.Prelude.{◌⊎◌}
+use Rattle.std.proofs.Math.Seq.{drop-append_seam}
+use Rattle.std.proofs.lemmas.List.{drop-drop}
+use Rattle.fax_bits.specs.declared.codes.CodeEntry.{CodeEntry}
+use Rattle.fax_bits.specs.declared.Colour.{Colour}
+use Rattle.fax_bits.specs.declared.Colour.TheVariants.{White}
+use Rattle.fax_bits.specs.declared.FillOrder.{FillOrder}
+use Rattle.fax_bits.specs.declared.modes.ModeCode.{ModeCode}
+use Rattle.fax_bits.specs.declared.modes.ModeCode.TheVariants.{Pass, Horizontal, Vertical, Extension}
+use Rattle.fax_bits.specs.declared.runs.RunCode.TheVariants.{Terminating, MakeUp}
+use Rattle.fax_bits.specs.Bits.{bits}
+use Rattle.fax_bits.specs.Codes.{bits_of, Takes, Spells}
+use Rattle.fax_bits.specs.Runs.{IsRun}
+use Rattle.fax_bits.specs.Tables.{run_table, modes}
+use Rattle.fax_bits.specs.code.Source.{Source, source_of}
+use Rattle.fax_rows.specs.Elements.{other}
+use Rattle.fax_rows.specs.OneDimensional.{AreRuns}
+use Rattle.fax_rows.specs.TwoDimensional.{Position, beginning, IsStepBy, AreSteps}
+use Rattle.fax_page.specs.declared.Dimension.{Dimension}
+use Rattle.fax_page.specs.declared.Dimension.TheVariants.{OneDimensional, TwoDimensional}
+use Rattle.fax_page.specs.declared.Coding.{Coding}
+use Rattle.fax_page.specs.declared.Coding.TheVariants.{Mh, Mr, Mmr}
+use Rattle.fax_page.specs.declared.StripForm.{StripForm}
+use Rattle.fax_page.specs.Lines.{tag_bit, IsEndOfLine, IsStart, IsRowIn, IsLine}
+
+-- bits that end with this rest
+record EndsWith (b rest : List Bool) : Type 0 where
+  front : List Bool
+  parts : b ≡ front ++ rest
+
+same : (b rest : List Bool) → b ≡ rest → EndsWith b rest
+same b rest is = record { front = []; parts = is }
+
+onwards : (b middle rest : List Bool) → EndsWith b middle → EndsWith middle rest → EndsWith b rest
+onwards b middle rest first second = record {
+  front = first.front ++ second.front;
+  parts = first.parts ∙ ap (λ c. first.front ++ c) second.parts ∙ sym (append_assoc first.front second.front rest);
+}
+
+taken_rest : {M : Type 0} (table : List (CodeEntry M)) (b : List Bool) (meaning : M) (rest : List Bool) → Takes table b meaning rest → EndsWith b rest
+taken_rest table b meaning rest taken = record { front = bits_of taken.entry; parts = taken.spelled }
+
+spelled_rest : {M : Type 0} (table : List (CodeEntry M)) (meanings : List M) (b rest : List Bool) → Spells table b meanings rest → EndsWith b rest
+spelled_rest table [] b rest spelled = same b rest spelled
+spelled_rest table (meaning ∷ meanings) b rest spelled =
+    onwards b spelled.0 rest (taken_rest table b meaning spelled.0 spelled.1) (spelled_rest table meanings spelled.0 rest spelled.2)
+
+run_rest : (colour : Colour) (b : List Bool) (n : ℕ) (rest : List Bool) → IsRun colour b n rest → EndsWith b rest
+run_rest colour b n rest run =
+    spelled_rest (run_table colour) (map MakeUp run.make_up ++ Terminating run.last ∷ []) b rest run.spelled
+
+runs_rest : (colour : Colour) (runs : List ℕ) (b rest : List Bool) → AreRuns colour b runs rest → EndsWith b rest
+runs_rest colour [] b rest coded = same b rest coded
+runs_rest colour (n ∷ runs) b rest coded =
+    onwards b coded.0 rest (run_rest colour b n coded.0 coded.1) (runs_rest (other colour) runs coded.0 rest coded.2)
+
+step_rest : (mode : ModeCode) (reference : List Colour) (old : Position) (b : List Bool) (new : Position) (rest : List Bool)
+    → IsStepBy mode reference old b new rest → EndsWith b rest
+step_rest Pass reference old b new rest step = same b rest step.1
+step_rest (Vertical d) reference old b new rest step = same b rest step.1
+step_rest Horizontal reference old b new rest step =
+    onwards b step.middle rest (run_rest old.colour b step.first step.middle step.first_run)
+    (run_rest (other old.colour) step.middle step.second rest step.second_run)
+step_rest Extension reference old b new rest step = absurd step
+
+steps_rest : (reference : List Colour) (old : Position) (positions : List Position) (b : List Bool) (new : Position) (rest : List Bool)
+    → AreSteps reference old b positions new rest → EndsWith b rest
+steps_rest reference old [] b new rest steps = same b rest steps.1
+steps_rest reference old (next ∷ more) b new rest steps =
+    let step = steps.2 in
+    onwards b step.behind rest (taken_rest modes b step.mode step.behind step.taken)
+    (onwards step.behind steps.1 rest (step_rest step.mode reference old step.behind next steps.1 step.step)
+    (steps_rest reference next more steps.1 new rest steps.3))
+
+row_rest : (dimension : Dimension) (width : ℕ) (reference : List Colour) (b : List Bool) (row : List Colour) (rest : List Bool)
+    → IsRowIn dimension width reference b row rest → EndsWith b rest
+row_rest OneDimensional width reference b row rest is = runs_rest White is.runs b rest is.coded
+row_rest TwoDimensional width reference b row rest is = steps_rest reference beginning is.positions b is.last rest is.steps
+
+eol_rest : (b rest : List Bool) → IsEndOfLine b rest → EndsWith b rest
+eol_rest b rest eol = record {
+  front = replicate eol.0 false ++ true ∷ [];
+  parts = eol.2 ∙ sym (append_assoc (replicate eol.0 false) (true ∷ []) rest);
+}
+
+start_rest : (coding : Coding) (i : ℕ) (b : List Bool) (dimension : Dimension) (rest : List Bool) → IsStart coding i b dimension rest → EndsWith b rest
+start_rest Mh i b dimension rest start =
+    elim start.1 [ inl eol ↦ eol_rest b rest eol | inr none ↦ same b rest none.2 ]
+start_rest Mr i b dimension rest start =
+    onwards b (tag_bit dimension ∷ rest) rest (eol_rest b (tag_bit dimension ∷ rest) start)
+    (record { front = tag_bit dimension ∷ []; parts = refl })
+start_rest Mmr i b dimension rest start = same b rest start.1
+
+line_rest : (form : StripForm) (i : ℕ) (reference : List Colour) (b : List Bool) (row : List Colour) (rest : List Bool)
+    → IsLine form i reference b row rest → EndsWith b rest
+line_rest form i reference b row rest line =
+    onwards b line.codes rest (start_rest form.coding i b line.dimension line.codes line.begin.start)
+    (row_rest line.dimension form.width reference line.codes row rest line.coded)
+
+-- a source that goes on in the bits of some bytes stands there where their rest begins
+source_goes_on : (order : FillOrder) (bytes : List ℕ) (place : ℕ) (old new : Source) → old ≡ source_of order bytes place
+    → EndsWith old.left new.left → new.place + length new.left ≡ old.place + length old.left
+    → new ≡ source_of order bytes new.place
+source_goes_on order bytes place old new here rest same_end =
+    let b = bits order bytes in
+    let old_place : old.place ≡ place = ap (λ (s : Source). s.place) here in
+    let old_left : old.left ≡ drop place b = ap (λ (s : Source). s.left) here in
+    let long : length old.left ≡ length rest.front + length new.left = ap length rest.parts ∙ length-append rest.front new.left in
+    let further : place + length rest.front ≡ new.place = omega arith in
+    let left : drop (length rest.front) old.left ≡ new.left =
+    ap (λ (c : List Bool). drop (length rest.front) c) rest.parts ∙ drop-append_seam rest.front new.left in
+    let is : new.left ≡ drop new.place b =
+    sym left ∙ ap (λ (c : List Bool). drop (length rest.front) c) old_left
+    ∙ drop-drop (length rest.front) place b ∙ ap (λ n. drop n b) further in
+    ap (λ (c : List Bool). record { left = c; place = new.place }) is
+
+-- behind a row, the source stands in the bits of the bytes where the row's rest begins
+pub row_behind : (form : StripForm) (i : ℕ) (reference row : List Colour) (bytes : List ℕ) (place behind : ℕ) (old new : Source)
+    → old ≡ source_of form.order bytes place → IsLine form i reference old.left row new.left
+    → new.place + length new.left ≡ old.place + length old.left → behind ≡ new.place → new ≡ source_of form.order bytes behind
+row_behind form i reference row bytes place behind old new here line same_end behind_is =
+    source_goes_on form.order bytes place old new here (line_rest form i reference old.left row new.left line) same_end
+    ∙ ap (λ n. source_of form.order bytes n) (sym behind_is)
+
+-- a row between two places of a source
+pub line_between : (form : StripForm) (i : ℕ) (reference row : List Colour) (bytes : List ℕ) (place behind : ℕ) (old new : Source)
+    → old ≡ source_of form.order bytes place → new ≡ source_of form.order bytes behind → IsLine form i reference old.left row new.left
+    → IsLine form i reference (drop place (bits form.order bytes)) row (drop behind (bits form.order bytes))
+line_between form i reference row bytes place behind old new here there line =
+    subst (λ (s : Source). IsLine form i reference s.left row (drop behind (bits form.order bytes))) here
+    (subst (λ (s : Source). IsLine form i reference old.left row s.left) there line)

@@ -1,0 +1,83 @@
+-- A written strip is read back, where its rows are.
+use Rattle.std.proofs.Common.{◌≡◌, ℕ, zero, suc, ◌+◌, List, [], ◌∷◌, ◌++◌, length, Bool, refl, sym, ◌∙◌, subst, arith, append_assoc, inl, None}
+use Rattle.std.specs.Prelude.{All}
+use Rattle.std.proofs.lemmas.List.{length-replicate}
+use Rattle.fax_bits.specs.declared.Colour.{Colour}
+use Rattle.fax_bits.specs.declared.Colour.TheVariants.{White}
+use Rattle.fax_rows.specs.Laws.{OneDimensionalBitsAreRead, TwoDimensionalBitsAreRead}
+use Rattle.fax_rows.specs.Coded.{one_dimensional_bits}
+use Rattle.fax_rows.specs.OneDimensional.{IsOneDimensionalRow}
+use Rattle.fax_page.specs.declared.Dimension.{Dimension}
+use Rattle.fax_page.specs.declared.Dimension.TheVariants.{OneDimensional, TwoDimensional}
+use Rattle.fax_page.specs.declared.Coding.{Coding}
+use Rattle.fax_page.specs.declared.Coding.TheVariants.{Mh, Mr, Mmr}
+use Rattle.fax_page.specs.declared.StripForm.{StripForm}
+use Rattle.fax_page.specs.Lines.{IsStart, IsRowIn, IsLine}
+use Rattle.fax_page.specs.Strip.{IsStripForm, AreLines, white_row}
+use Rattle.fax_page.specs.CodedStrip.{written_dimension, row_bits, start_bits, coded_line, coded_lines, coded_bits, end_bits}
+use Rattle.fax_page.specs.Laws.{CodedBitsAreRead}
+use Rattle.fax_page.proofs.FirstCodeLemmas.{row_begins}
+
+-- a written row begins as it is to
+start_back : (coding : Coding) (k i : ℕ) (reference row : List Colour) (more : List Bool)
+    → IsStart coding i ((start_bits coding (written_dimension coding k i) ++ row_bits (written_dimension coding k i) reference row) ++ more) (written_dimension coding k i)
+    (row_bits (written_dimension coding k i) reference row ++ more)
+start_back Mh k i reference row more = (refl, inl (11, omega arith, refl))
+start_back Mr k i reference row more = (11, omega arith, refl)
+start_back Mmr k i reference row more = (refl, refl)
+
+module _ (one_read : OneDimensionalBitsAreRead) (two_read : TwoDimensionalBitsAreRead) (form : StripForm) (limits : IsStripForm form) (k : ℕ) where
+  row_back : (dimension : Dimension) (reference row : List Colour) (more : List Bool) → length reference ≡ form.width → length row ≡ form.width
+      → IsRowIn dimension form.width reference (row_bits dimension reference row ++ more) row more
+  row_back OneDimensional reference row more reference_width width =
+      subst (λ n. IsOneDimensionalRow n (one_dimensional_bits row ++ more) row more) width
+      (one_read row more record { some = omega (arith, limits.some_pels, width); short = omega (arith, limits.short_rows, width) })
+  row_back TwoDimensional reference row more reference_width width =
+      two_read reference row more record { some = omega (arith, limits.some_pels, width); short = omega (arith, limits.short_rows, width) }
+      (reference_width ∙ sym width)
+
+  line_back : (i : ℕ) (reference row : List Colour) (more : List Bool) → length reference ≡ form.width → length row ≡ form.width
+      → IsLine form i reference (coded_line form.coding k i reference row ++ more) row more
+  unfolding coded_line
+  line_back i reference row more reference_width width =
+      let dimension = written_dimension form.coding k i in
+      let codes = row_bits dimension reference row ++ more in
+      let coded = row_back dimension reference row more reference_width width in
+      record {
+        dimension = dimension;
+        codes = codes;
+        begin = record {
+          start = start_back form.coding k i reference row more;
+          first_code = row_begins dimension form.width reference codes row more limits.some_pels coded;
+        };
+        coded = coded;
+      }
+
+  lines_back : (i : ℕ) (reference : List Colour) (rows : List (List Colour)) (more : List Bool) → length reference ≡ form.width
+      → All (λ row. length row ≡ form.width) rows → i + length rows ≡ form.rows
+      → AreLines form i reference (coded_lines form.coding k i reference rows ++ more) rows None more
+  unfolding coded_lines
+  lines_back i reference [] more reference_width widths count = (refl, omega (arith, count))
+  lines_back i reference (row ∷ rows) more reference_width widths count =
+      let width : length row ≡ form.width = widths zero row (omega arith) in
+      let behind = coded_lines form.coding k (i + 1) row rows ++ more in (
+        behind,
+        omega (arith, count),
+        subst (λ b. IsLine form i reference b row behind)
+            (sym (append_assoc (coded_line form.coding k i reference row) (coded_lines form.coding k (i + 1) row rows) more))
+            (line_back i reference row behind reference_width width),
+        lines_back (i + 1) row rows more width (λ j d h. widths (suc j) d (omega (arith, h))) (omega (arith, count)),
+      )
+
+-- a written strip is read back, whatever bits follow it
+pub coded_bits_back : OneDimensionalBitsAreRead → TwoDimensionalBitsAreRead → CodedBitsAreRead
+unfolding coded_bits
+coded_bits_back one_read two_read form k rows more limits fit =
+    let behind = end_bits form.coding ++ more in
+    record {
+      left = behind;
+      lines = subst (λ b. AreLines form 0 (white_row form.width) b rows None behind)
+          (sym (append_assoc (coded_lines form.coding k 0 (white_row form.width) rows) (end_bits form.coding) more))
+          (lines_back one_read two_read form limits k 0 (white_row form.width) rows behind (length-replicate form.width White) fit.widths
+          (omega (arith, fit.count)));
+    }

@@ -1,0 +1,30 @@
+use Rattle.std.proofs.Common.{rules}
+use Rattle.fax_page.proofs.RestLemmas.{row_behind, line_between}
+use Rattle.fax_page.proofs.reader.StripReader.advance.Goals as goal
+
+pub invariant_of-self : goal.invariant_of-self
+invariant_of-self c = record {
+  limits = c.self.invariant.limits;
+  width = search rules;
+  next_width = search rules;
+  within = search rules;
+  at_row = λ none.
+      row_behind _ _ _ _ _ _ _ _ _ (c.self.invariant.at_row none) c.in-Ok.ensures.ok c.in-Ok.ensures.same_end c.place-self-inside.ensures;
+}
+
+pub returns-in-Ok : goal.returns-in-Ok
+returns-in-Ok c =
+    rw (← c.self.view_is)
+    (let here = c.self.invariant.at_row c.in_default.is in
+    let there =
+    row_behind _ _ _ _ _ _ _ _ _ here c.in-Ok.ensures.ok c.in-Ok.ensures.same_end c.place-self-inside.ensures in
+    record {
+      no_fault = search rules;
+      due = search rules;
+      line = search (rules, line_between _ _ _ _ _ _ _ _ _ here there c.in-Ok.ensures.ok);
+      next_row = search rules;
+      read = search rules;
+      same_form = search rules;
+      same_bytes = search rules;
+      still_no_fault = search rules;
+    })
