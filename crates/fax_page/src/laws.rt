@@ -7,9 +7,7 @@ ghost use Rattle.fax_page.specs.Laws as Law;
 /// Bits are read in one way as a row of a strip, in any coding: they begin with one row and one
 /// rest follows it, or one fault is in its way, never both.
 pub fn lines_are_read_in_one_way()
-    ensures {
-        (form : StripForm) (i : ℕ) (reference : List Colour) → Law.ReadsLinesOneWay form i reference
-    }
+    ensures { (form : StripForm) (i : ℕ) (reference : List Colour) → Law.ReadsLinesOneWay form i reference }
 {
     fax_rows::laws::rows_are_read_in_one_way();
     fax_rows::laws::rows_over_a_reference_are_read_in_one_way();
