@@ -1,6 +1,6 @@
 -- Entries that lie in the file, and their values.
 use Rattle.std.proofs.Common.{◌≡◌, ℕ, ◌+◌, ◌*◌, ◌≤◌, Bool, true, false, ◌&&◌, List, length, refl, arith}
-use Rattle.std.specs.Prelude.{IsTrue, nat_le}
+use Rattle.std.specs.Prelude.{IsTrue, nat_le, ◌==◌}
 use Rattle.std.proofs.lemmas.Bool.{leb-true, le-leb, eq-eqb, ne_eqb}
 use Rattle.std.proofs.Math.Nat.{add-mul, mul-le-mul_right}
 use Rattle.fax_files.specs.declared.Endian.{Endian}
@@ -46,6 +46,9 @@ fewer_integers endian file entry m n le there =
 pub short_len : (entry : Entry) → entry.kind ≡ 3 → value_len entry ≡ 2
 short_len entry short = rw (eq-eqb _ _ short) refl
 
--- another value takes four bytes
-pub other_len : (entry : Entry) → (entry.kind ≡ 3 → ⊥) → value_len entry ≡ 4
-other_len entry other = rw (ne_eqb _ _ other) refl
+-- another integer takes four bytes
+pub other_len : (entry : Entry) → is_integer entry ≡ true → (entry.kind ≡ 3 → ⊥) → value_len entry ≡ 4
+other_len entry integer other =
+    let not_short : (entry.kind == 3) ≡ false = ne_eqb _ _ other in
+    let long : (entry.kind == 4) ≡ true = rw not_short at integer in
+    rw (not_short, long) refl

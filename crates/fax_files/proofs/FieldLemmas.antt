@@ -1,19 +1,19 @@
 -- The first entries of the tags that are looked for.
 use Rattle.std.proofs.Common.{◌≡◌, ◌≢◌, ℕ, zero, suc, ◌+◌, ◌-◌, ◌*◌, ◌<◌, ◌≤◌, Bool, true, false, ◌&&◌, List, [], ◌∷◌, length, get_or, Option, Some, None, Result, Ok, Err, inl, inr, refl, sym, ap, ◌∙◌, arith, get_or-set_other, get_or-set_same}
 use Rattle.std.specs.Prelude.{IsTrue, IfSome, ◌==◌, MatchResult, nat_lt}
-use Rattle.std.specs.List.{list_any}
 use Rattle.std.specs.List.Sorted.{IsBinarySearchResult}
 use Rattle.std.specs.Ordering.{nat_cmp}
 use Rattle.std.proofs.Math.ListN.{set, length-set}
 use Rattle.std.proofs.Math.Nat.{eq-or-lt_of_le}
-use Rattle.std.proofs.lemmas.Bool.{ltb-true, eqb-true, eq-eqb, ne_eqb, and_parts, cases_eq, cases_lt}
+use Rattle.std.proofs.lemmas.Bool.{ltb-true, eqb-true, eq-eqb, ne_eqb, and_parts, cases_eq, cases_lt, lt-ltb, le-ltb}
 use Rattle.std.proofs.lemmas.List.Sorted.{searched}
 use Rattle.std.proofs.lemmas.List.{get_or_default}
 use Rattle.std.proofs.lemmas.List.Folds.{Any-from_list_any}
 use Rattle.std.proofs.lemmas.Grind.{get_or_default_zero}
 use Rattle.fax_files.specs.declared.fields.TheConstants.{TAGS}
 use Rattle.fax_files.specs.declared.Endian.{Endian}
-use Rattle.fax_files.specs.Directory.{Entry, entry_at, entries_at, field}
+use Rattle.fax_files.specs.Directory.{Entry, entry_at, entries_at, field, ascend}
+use Rattle.fax_files.specs.Numbers.{number_at}
 use Rattle.fax_files.specs.code.Fields.{is_sought, AreFirst}
 
 -- numbers that rise
@@ -152,3 +152,50 @@ one_more endian file start count k entry old new some within is so_far seen =
     let n : count - (k - 1) ≡ suc (count - k) = omega arith in
     let next : start + 12 * (k - 1) + 12 ≡ start + 12 * k = omega arith in
     rw (n, next, ← is) (seen _ so_far)
+
+-- two entries or more ascend where the first two do and all from the second on do
+two_ascend : (endian : Endian) (file : List ℕ) (place n m : ℕ) → n ≡ suc m → 0 < m
+    → ascend (entries_at endian file place n)
+    ≡ (nat_lt (number_at endian 2 file place) (number_at endian 2 file (place + 12)) && ascend (entries_at endian file (place + 12) m))
+unfolding entries_at
+two_ascend endian file place n zero is some = absurd (omega arith)
+two_ascend endian file place n (suc m) is some = rw is refl
+
+-- fewer than two always do
+few_ascend : (endian : Endian) (file : List ℕ) (place n : ℕ) → n ≤ 1 → ascend (entries_at endian file place n) ≡ true
+unfolding entries_at
+few_ascend endian file place zero few = refl
+few_ascend endian file place (suc zero) few = refl
+few_ascend endian file place (suc (suc n)) few = absurd (omega arith)
+
+-- the tags of the entries at `start`, from the one before the k-th on
+module _ (endian : Endian) (file : List ℕ) (start count k : ℕ) (total : Bool) (some : 1 ≤ k)
+    (so_far : ascend (entries_at endian file (start + 12 * (k - 1)) (count - (k - 1))) ≡ total) where
+  abbrev before : ℕ
+  before = number_at endian 2 file (start + 12 * k - 12)
+
+  abbrev here : ℕ
+  here = number_at endian 2 file (start + 12 * k)
+
+  behind : k < count → total ≡ (nat_lt before here && ascend (entries_at endian file (start + 12 * k) (count - k)))
+  behind within =
+      let place : start + 12 * k - 12 ≡ start + 12 * (k - 1) = omega arith in
+      let next : start + 12 * k ≡ start + 12 * (k - 1) + 12 = omega arith in
+      let two = two_ascend endian file (start + 12 * (k - 1)) (count - (k - 1)) (count - k) (omega arith) (omega arith) in
+      let here_is : number_at endian 2 file (start + 12 * k) ≡ number_at endian 2 file (start + 12 * (k - 1) + 12) = ap (number_at endian 2 file) next in
+      let before_is : number_at endian 2 file (start + 12 * k - 12) ≡ number_at endian 2 file (start + 12 * (k - 1)) = ap (number_at endian 2 file) place in
+      let rest_is : ascend (entries_at endian file (start + 12 * k) (count - k)) ≡ ascend (entries_at endian file (start + 12 * (k - 1) + 12) (count - k)) =
+      ap (λ (p : ℕ). ascend (entries_at endian file p (count - k))) next in
+      rw (before_is, here_is, rest_is) (sym so_far ∙ two)
+
+  pub out_of_order : k < count → here ≤ before → false ≡ total
+  out_of_order within above = sym (behind within ∙ rw (le-ltb before here above) refl)
+
+  pub still_in_order : k < count → before < here
+      → ascend (entries_at endian file (start + 12 * (k + 1 - 1)) (count - (k + 1 - 1))) ≡ total
+  still_in_order within below =
+      let next : k + 1 - 1 ≡ k = omega arith in
+      rw next (sym (behind within ∙ rw (lt-ltb before here below) refl))
+
+  pub in_order_to_the_end : count ≤ k → true ≡ total
+  in_order_to_the_end end = sym (few_ascend endian file (start + 12 * (k - 1)) (count - (k - 1)) (omega arith)) ∙ so_far

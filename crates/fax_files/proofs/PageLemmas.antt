@@ -1,16 +1,18 @@
 -- What a page's form says of the fields of its strips.
-use Rattle.std.proofs.Common.{◌≡◌, ℕ, ◌+◌, ◌-◌, Bool, true, false, List, take, drop, Option, Some, None, Result, Ok, Err, refl, sym, ap, subst, ◌∙◌, arith}
-use Rattle.std.specs.Prelude.{IfOk, ◌==◌}
-use Rattle.std.proofs.lemmas.Result.{IfOk-at_ok}
+use Rattle.std.proofs.Common.{◌≡◌, ℕ, ◌+◌, ◌-◌, ◌*◌, ◌<◌, ◌≤◌, length, Bool, true, false, List, take, drop, Option, Some, None, Result, Ok, Err, refl, sym, ap, subst, ◌∙◌, arith}
+use Rattle.std.specs.Prelude.{IsSome}
+use Rattle.std.proofs.lemmas.Grind.{div_ceil_times}
+use Rattle.std.proofs.Math.Nat.{add-mul, mul-le-mul_right}
 use Rattle.fax_page.specs.declared.Coding.{Coding}
 use Rattle.fax_files.specs.declared.FileFault.{FileFault}
-use Rattle.fax_files.specs.declared.FileFault.TheVariants.{MissingField, BadField, Unsupported}
+use Rattle.fax_files.specs.declared.FileFault.TheVariants.{MissingField, BadField}
 use Rattle.fax_files.specs.declared.PageForm.{PageForm}
 use Rattle.fax_files.specs.declared.Endian.{Endian}
 use Rattle.fax_files.specs.Numbers.{◌>>=◌, check, is_inside}
 use Rattle.fax_files.specs.Directory.{Entry, entries, field, value_at, has_integers}
-use Rattle.fax_files.specs.Page.{PelFormat, page, page_size, pel_format, strip_rows, strip_count, page_coding, strip_field}
-use Rattle.fax_files.specs.StripBytes.{strip_bytes, placed_bytes, bytes_at}
+use Rattle.fax_files.specs.Page.{PelFormat, page, page_size, pel_format, strip_rows, strip_count, page_coding, strip_field, resolution}
+use Rattle.fax_files.specs.StripBytes.{strip_bytes, bytes_at}
+use Rattle.fax_files.specs.code.Tiff.{TiffDirectory, AreStripPlaces, bytes_of}
 
 -- the value of a step that did not fail
 bind_ok : {A B : Type 0} (r : Result A FileFault) (next : A → Result B FileFault) (y : B) → (r >>= next) ≡ Ok y → (x : A) × (r ≡ Ok x) × (next x ≡ Ok y)
@@ -24,38 +26,39 @@ same_strips : (made form : PageForm) → (let r : Result PageForm FileFault = Ok
 same_strips made form e = ap (λ (f : PageForm). f.strips) (ok_injective made form e)
 
 -- What is left of a page's form after some of its steps, from the last one on.
-abbrev form_of : ℕ × ℕ → PelFormat → ℕ → Coding → PageForm
-form_of size pels rows_per_strip coding = record {
-  width = size.0;
-  rows = size.1;
-  coding = coding;
-  order = pels.order;
-  exchanged = false;
-  rows_per_strip = rows_per_strip;
-  strips = strip_count size.1 rows_per_strip;
-}
+module _ (endian : Endian) (file : List ℕ) (fields : List Entry) where
+  abbrev form_of : ℕ × ℕ → PelFormat → ℕ → Coding → PageForm
+  form_of size pels rows_per_strip coding = record {
+    width = size.0;
+    rows = size.1;
+    coding = coding;
+    order = pels.order;
+    exchanged = pels.exchanged;
+    rows_per_strip = rows_per_strip;
+    strips = strip_count size.1 rows_per_strip;
+    x = (resolution endian file fields).x;
+    y = (resolution endian file fields).y;
+    unit = (resolution endian file fields).unit;
+  }
 
-abbrev after_offsets : Endian → List ℕ → List Entry → ℕ × ℕ → PelFormat → ℕ → Coding → Result PageForm FileFault
-after_offsets endian file fields size pels rows_per_strip coding =
-    strip_field endian file fields 279 (strip_count size.1 rows_per_strip) >>= λ _. Ok (form_of size pels rows_per_strip coding)
+  abbrev after_offsets : ℕ × ℕ → PelFormat → ℕ → Coding → Result PageForm FileFault
+  after_offsets size pels rows_per_strip coding =
+      strip_field endian file fields 279 (strip_count size.1 rows_per_strip)
+      >>= λ _. Ok (form_of size pels rows_per_strip coding)
 
-abbrev after_coding : Endian → List ℕ → List Entry → ℕ × ℕ → PelFormat → ℕ → Coding → Result PageForm FileFault
-after_coding endian file fields size pels rows_per_strip coding =
-    strip_field endian file fields 273 (strip_count size.1 rows_per_strip) >>= λ _. after_offsets endian file fields size pels rows_per_strip coding
+  abbrev after_coding : ℕ × ℕ → PelFormat → ℕ → Coding → Result PageForm FileFault
+  after_coding size pels rows_per_strip coding =
+      strip_field endian file fields 273 (strip_count size.1 rows_per_strip)
+      >>= λ _. after_offsets size pels rows_per_strip coding
 
-abbrev after_count : Endian → List ℕ → List Entry → ℕ × ℕ → PelFormat → ℕ → Result PageForm FileFault
-after_count endian file fields size pels rows_per_strip =
-    page_coding endian file fields pels.compression >>= after_coding endian file fields size pels rows_per_strip
+  abbrev after_rows : ℕ × ℕ → PelFormat → ℕ → Result PageForm FileFault
+  after_rows size pels rows_per_strip = page_coding endian file fields pels.compression >>= after_coding size pels rows_per_strip
 
-abbrev after_rows : Endian → List ℕ → List Entry → ℕ × ℕ → PelFormat → ℕ → Result PageForm FileFault
-after_rows endian file fields size pels rows_per_strip =
-    check (strip_count size.1 rows_per_strip == 1) (Unsupported 278) >>= λ _. after_count endian file fields size pels rows_per_strip
+  abbrev after_pels : ℕ × ℕ → PelFormat → Result PageForm FileFault
+  after_pels size pels = strip_rows endian file fields size.1 >>= after_rows size pels
 
-abbrev after_pels : Endian → List ℕ → List Entry → ℕ × ℕ → PelFormat → Result PageForm FileFault
-after_pels endian file fields size pels = strip_rows endian file fields size.1 >>= after_rows endian file fields size pels
-
-abbrev after_size : Endian → List ℕ → List Entry → ℕ × ℕ → Result PageForm FileFault
-after_size endian file fields size = pel_format endian file fields >>= after_pels endian file fields size
+  abbrev after_size : ℕ × ℕ → Result PageForm FileFault
+  after_size size = pel_format endian file fields >>= after_pels size
 
 -- the fields of a page's strips
 pub record StripFields (endian : Endian) (file : List ℕ) (q strips : ℕ) : Type 0 where
@@ -72,11 +75,10 @@ strip_fields endian file q form e =
     let size = bind_ok (page_size endian file fields) (after_size endian file fields) form e in
     let pels = bind_ok (pel_format endian file fields) (after_pels endian file fields size.0) form size.2 in
     let rows = bind_ok (strip_rows endian file fields size.0.1) (after_rows endian file fields size.0 pels.0) form pels.2 in
-    let count = bind_ok (check (strip_count size.0.1 rows.0 == 1) (Unsupported 278)) (λ _. after_count endian file fields size.0 pels.0 rows.0) form rows.2 in
-    let coding = bind_ok (page_coding endian file fields pels.0.compression) (after_coding endian file fields size.0 pels.0 rows.0) form count.2 in
+    let coding = bind_ok (page_coding endian file fields pels.0.compression) (after_coding endian file fields size.0 pels.0 rows.0) form rows.2 in
     let offsets = bind_ok (strip_field endian file fields 273 (strip_count size.0.1 rows.0)) (λ _. after_offsets endian file fields size.0 pels.0 rows.0 coding.0) form coding.2 in
-    let counts = bind_ok (strip_field endian file fields 279 (strip_count size.0.1 rows.0)) (λ _. Ok (form_of size.0 pels.0 rows.0 coding.0)) form offsets.2 in
-    let strips : strip_count size.0.1 rows.0 ≡ form.strips = same_strips (form_of size.0 pels.0 rows.0 coding.0) form counts.2 in
+    let counts = bind_ok (strip_field endian file fields 279 (strip_count size.0.1 rows.0)) (λ _. Ok (form_of endian file fields size.0 pels.0 rows.0 coding.0)) form offsets.2 in
+    let strips : strip_count size.0.1 rows.0 ≡ form.strips = same_strips (form_of endian file fields size.0 pels.0 rows.0 coding.0) form counts.2 in
     let found : StripFields endian file q (strip_count size.0.1 rows.0) = record {
       offsets = offsets.0;
       offsets_are = offsets.1;
@@ -99,31 +101,80 @@ strip_entry : (endian : Endian) (file : List ℕ) (fields : List Entry) (tag str
 unfolding strip_field
 strip_entry endian file fields tag strips entry e = from_field (field fields tag) (λ found. has_integers endian file found strips) tag entry e
 
--- where the bytes of a strip are looked for
-pub strip_place : (endian : Endian) (file : List ℕ) (q s offset len : ℕ) (form : PageForm) → page endian file q ≡ Ok form
-    → IfOk (strip_field endian file (entries endian file q) 273 form.strips) (λ entry. offset ≡ value_at endian file entry s)
-    → IfOk (strip_field endian file (entries endian file q) 279 form.strips) (λ entry. len ≡ value_at endian file entry s)
-    → strip_bytes endian file q s ≡ bytes_at file offset len
-unfolding strip_bytes
-strip_place endian file q s offset len form e offset_is len_is =
-    let there = strip_fields endian file q form e in
-    let fields = entries endian file q in
-    let offsets = strip_entry endian file fields 273 form.strips there.offsets there.offsets_are in
-    let counts = strip_entry endian file fields 279 form.strips there.counts there.counts_are in
-    let offset_there : offset ≡ value_at endian file there.offsets s = IfOk-at_ok (λ entry. offset ≡ value_at endian file entry s) there.offsets_are offset_is in
-    let len_there : len ≡ value_at endian file there.counts s = IfOk-at_ok (λ entry. len ≡ value_at endian file entry s) there.counts_are len_is in
-    ap (λ (o : Option Entry). placed_bytes endian file o (field fields 279) s) offsets
-    ∙ ap (λ (o : Option Entry). placed_bytes endian file (Some there.offsets) o s) counts
-    ∙ ap (λ (n : ℕ). bytes_at file n (value_at endian file there.counts s)) (sym offset_there)
-    ∙ ap (λ (n : ℕ). bytes_at file offset n) (sym len_there)
+from_check : (o : Option Entry) (test : Entry → Bool) (tag : ℕ) (entry : Entry)
+    → ((let r : Result Entry FileFault = elim o [ None ↦ Err (MissingField tag) | Some found ↦ Ok found ] in r) >>= λ found. check (test found) (BadField tag) >>= λ _. Ok found) ≡ Ok entry
+    → test entry ≡ true
+from_check None test tag entry e = absurd cc
+from_check (Some found) test tag entry e = step (test found) refl e
+  where
+    step : (b : Bool) → test found ≡ b → (check b (BadField tag) >>= λ _. let r : Result Entry FileFault = Ok found in r) ≡ Ok entry → test entry ≡ true
+    step true is same = ap test (sym (ok_injective _ _ same)) ∙ is
+    step false is same = absurd cc
 
--- bytes that lie in the file, which goes by two names
-pub bytes_inside : (file same : List ℕ) (offset len : ℕ) → file ≡ same → is_inside same offset len ≡ true
-    → bytes_at file offset len ≡ Some (take (offset + len - offset) (drop offset same))
-bytes_inside file same offset len is inside =
+-- and it has a value for each strip
+strip_values : (endian : Endian) (file : List ℕ) (fields : List Entry) (tag strips : ℕ) (entry : Entry) → strip_field endian file fields tag strips ≡ Ok entry
+    → has_integers endian file entry strips ≡ true
+unfolding strip_field
+strip_values endian file fields tag strips entry e = from_check (field fields tag) (λ found. has_integers endian file found strips) tag entry e
+
+some_injective : (x y : Entry) → (let o : Option Entry = Some x in o) ≡ Some y → x ≡ y
+some_injective x y e = cc
+
+-- a page with a form has both entries
+pub strip_entries : (directory : TiffDirectory) (form : PageForm) → page directory.endian directory.file directory.offset ≡ Ok form
+    → IsSome (field (entries directory.endian directory.file directory.offset) 273)
+    × IsSome (field (entries directory.endian directory.file directory.offset) 279)
+strip_entries directory form e =
+    let there = strip_fields directory.endian directory.file directory.offset form e in (
+      rw (strip_entry directory.endian directory.file _ 273 form.strips there.offsets there.offsets_are) refl,
+      rw (strip_entry directory.endian directory.file _ 279 form.strips there.counts there.counts_are) refl,
+    )
+
+-- and they are the places of its strips
+pub strip_places : (directory : TiffDirectory) (form : PageForm) (count : ℕ) (offsets counts : Entry)
+    → page directory.endian directory.file directory.offset ≡ Ok form → form.strips ≡ count
+    → field (entries directory.endian directory.file directory.offset) 273 ≡ Some offsets
+    → field (entries directory.endian directory.file directory.offset) 279 ≡ Some counts
+    → offsets.place + 4 ≤ length directory.file → counts.place + 4 ≤ length directory.file
+    → AreStripPlaces directory count offsets counts
+strip_places directory form count offsets counts e counted offsets_are counts_are offsets_inside counts_inside =
+    let there = strip_fields directory.endian directory.file directory.offset form e in
+    let fields = entries directory.endian directory.file directory.offset in
+    let offsets_same : there.offsets ≡ offsets =
+    some_injective _ _ (sym (strip_entry directory.endian directory.file fields 273 form.strips there.offsets there.offsets_are) ∙ offsets_are) in
+    let counts_same : there.counts ≡ counts =
+    some_injective _ _ (sym (strip_entry directory.endian directory.file fields 279 form.strips there.counts there.counts_are) ∙ counts_are) in
+    record {
+      offsets_are = offsets_are;
+      counts_are = counts_are;
+      offsets_inside = offsets_inside;
+      counts_inside = counts_inside;
+      offsets_there = rw (← offsets_same, ← counted) (strip_values directory.endian directory.file fields 273 form.strips there.offsets there.offsets_are);
+      counts_there = rw (← counts_same, ← counted) (strip_values directory.endian directory.file fields 279 form.strips there.counts there.counts_are);
+    }
+
+-- a page's strip begins before the page's last row
+pub strip_begins_before : (rows rows_per_strip s : ℕ) → 1 ≤ rows_per_strip → s < strip_count rows rows_per_strip → s * rows_per_strip < rows
+strip_begins_before rows rows_per_strip s some below =
+    let bounds = div_ceil_times rows rows_per_strip some in
+    let up : s + 1 ≤ strip_count rows rows_per_strip = omega arith in
+    let all : (s + 1) * rows_per_strip ≤ strip_count rows rows_per_strip * rows_per_strip = mul-le-mul_right rows_per_strip up in
+    omega (arith, bounds, all, add-mul s 1 rows_per_strip)
+
+-- where the bytes of a strip are looked for
+pub strip_place : (directory : TiffDirectory) (count s : ℕ) (offsets counts : Entry) → AreStripPlaces directory count offsets counts
+    → bytes_of directory s
+    ≡ bytes_at directory.file (value_at directory.endian directory.file offsets s) (value_at directory.endian directory.file counts s)
+unfolding strip_bytes
+strip_place directory count s offsets counts are = rw (are.offsets_are, are.counts_are) refl
+
+-- bytes that lie in the file
+pub bytes_inside : (file : List ℕ) (offset len : ℕ) → is_inside file offset len ≡ true
+    → bytes_at file offset len ≡ Some (take (offset + len - offset) (drop offset file))
+bytes_inside file offset len inside =
     let n : offset + len - offset ≡ len = omega arith in
-    rw (is, inside, n) refl
+    rw (inside, n) refl
 
 -- bytes that do not
-pub bytes_outside : (file same : List ℕ) (offset len : ℕ) → file ≡ same → is_inside same offset len ≡ false → bytes_at file offset len ≡ None
-bytes_outside file same offset len is outside = rw (is, outside) refl
+pub bytes_outside : (file : List ℕ) (offset len : ℕ) → is_inside file offset len ≡ false → bytes_at file offset len ≡ None
+bytes_outside file offset len outside = rw outside refl

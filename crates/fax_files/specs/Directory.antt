@@ -1,5 +1,5 @@
 -- A TIFF directory and the values of its fields (TIFF 6.0, section 2).
-use Rattle.std.specs.Prelude.{ℕ, zero, suc, ◌+◌, ◌*◌, ◌≤◌, length, Bool, nat_le, ◌==◌, ◌&&◌, ◌||◌, if◌then◌else◌, List, [], ◌∷◌, find, Option, Some, None, Result, Ok, Err}
+use Rattle.std.specs.Prelude.{ℕ, zero, suc, ◌+◌, ◌*◌, ◌≤◌, length, Bool, true, nat_le, nat_lt, ◌==◌, ◌&&◌, ◌||◌, if◌then◌else◌, List, [], ◌∷◌, find, Option, Some, None, Result, Ok, Err}
 use Rattle.fax_files.specs.declared.FileFault.{FileFault}
 use Rattle.fax_files.specs.declared.FileFault.TheVariants.{MissingField, BadField}
 use Rattle.fax_files.specs.declared.Endian.{Endian}
@@ -59,24 +59,28 @@ SHORT = 3
 abbrev pub LONG : ℕ
 LONG = 4
 
+-- the type RATIONAL (TIFF 6.0, section 2)
+abbrev pub RATIONAL : ℕ
+RATIONAL = 5
+
 -- an entry's values are SHORT or LONG (this project's profile)
 abbrev pub is_integer : Entry → Bool
 is_integer entry = (entry.kind == SHORT) || (entry.kind == LONG)
 
--- how many bytes a value takes, SHORT or LONG (TIFF 6.0, section 2)
+-- how many bytes a value takes, SHORT, LONG or RATIONAL (TIFF 6.0, section 2)
 abbrev pub value_len : Entry → ℕ
-value_len entry = if entry.kind == SHORT then 2 else 4
+value_len entry = if entry.kind == SHORT then 2 else (if entry.kind == LONG then 4 else 8)
 
--- where an entry's values stand, SHORT or LONG: in the entry if they take at most four bytes, else at the offset
+-- where an entry's values stand, SHORT, LONG or RATIONAL: in the entry if they take at most four bytes, else at the offset
 -- that it gives (TIFF 6.0, section 2)
 unfoldable pub values_place : Endian → List ℕ → Entry → ℕ
 values_place endian file entry =
     if nat_le (entry.count * value_len entry) 4 then entry.place else number_at endian 4 file entry.place
 
 -- an entry's i-th value, SHORT or LONG (TIFF 6.0, section 2)
-abbrev pub value_at : Endian → List ℕ → Entry → ℕ → ℕ
+unfoldable pub value_at : Endian → List ℕ → Entry → ℕ → ℕ
 value_at endian file entry i =
-    number_at endian (value_len entry) file (values_place endian file entry + i * value_len entry)
+    number_at endian (if entry.kind == SHORT then 2 else 4) file (values_place endian file entry + i * value_len entry)
 
 -- an entry has n values at least, SHORT or LONG, and the first n lie in the file (this project's profile)
 unfoldable pub has_integers : Endian → List ℕ → Entry → ℕ → Bool
@@ -100,3 +104,9 @@ needed_scalar endian file fields tag = needed fields tag >>= scalar endian file
 unfoldable pub scalar_or : Endian → List ℕ → List Entry → ℕ → ℕ → Result ℕ FileFault
 scalar_or endian file fields tag absent =
     elim (field fields tag) [ None ↦ Ok absent | Some entry ↦ scalar endian file entry ]
+
+-- the tags of entries ascend, none standing twice (TIFF 6.0, section 2)
+abbrev pub ascend : List Entry → Bool
+ascend [] = true
+ascend (entry ∷ []) = true
+ascend (entry ∷ next ∷ entries) = nat_lt entry.tag next.tag && ascend (next ∷ entries)

@@ -34,9 +34,11 @@ pub record Header : Type 0 where
   pub endian : Endian
   pub first : ℕ
 
--- II is little-endian; MM, which is big-endian, is not read yet (TIFF 6.0, section 2)
+-- II is little-endian, MM is big-endian (TIFF 6.0, section 2)
 abbrev pub endian_of : List ℕ → Result Endian FileFault
-endian_of bytes = if bytes_eq bytes (codes "II") then (Ok Little) else (Err ByteOrder)
+endian_of bytes =
+    if bytes_eq bytes (codes "II") then (Ok Little)
+    else (if bytes_eq bytes (codes "MM") then (Ok Big) else (Err ByteOrder))
 
 -- a file's header, or its first fault (TIFF 6.0, section 2)
 unfoldable pub header : List ℕ → Result Header FileFault

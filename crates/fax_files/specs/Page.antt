@@ -1,16 +1,18 @@
 -- The form of a page, from the fields of its directory.
-use Rattle.std.specs.Prelude.{◌≡◌, ◌≢◌, ◌≤◌, ℕ, ◌-◌, ◌%◌, ◌^◌, min, Bool, false, nat_le, ◌==◌, ◌&&◌, ◌||◌, not, if◌then◌else◌, List, Result, Ok}
+use Rattle.std.specs.Prelude.{◌≡◌, ◌≤◌, ◌<◌, ℕ, ◌+◌, ◌-◌, ◌%◌, ◌^◌, min, Bool, nat_le, nat_lt, ◌==◌, ◌&&◌, ◌||◌, not}
+use Rattle.std.specs.Prelude.{if◌then◌else◌, List, Option, Some, None, Result, Ok}
 use Rattle.std.specs.Int.{div_ceil}
 use Rattle.fax_bits.specs.declared.FillOrder.{FillOrder}
 use Rattle.fax_bits.specs.declared.FillOrder.TheVariants.{MsbFirst, LsbFirst}
 use Rattle.fax_page.specs.declared.Coding.{Coding}
 use Rattle.fax_page.specs.declared.Coding.TheVariants.{Mh, Mr, Mmr}
+use Rattle.fax_files.specs.declared.Endian.{Endian}
 use Rattle.fax_files.specs.declared.FileFault.{FileFault}
 use Rattle.fax_files.specs.declared.FileFault.TheVariants.{BadField, Unsupported, OutOfLimits}
 use Rattle.fax_files.specs.declared.PageForm.{PageForm}
-use Rattle.fax_files.specs.declared.Endian.{Endian}
-use Rattle.fax_files.specs.Numbers.{check, ◌>>=◌}
-use Rattle.fax_files.specs.Directory.{Entry, entries, has_integers, needed, needed_scalar, scalar_or}
+use Rattle.fax_files.specs.Numbers.{check, is_inside, number_at, ◌>>=◌}
+use Rattle.fax_files.specs.Directory.{Entry, RATIONAL, entries, field, values_place, has_integers}
+use Rattle.fax_files.specs.Directory.{needed, needed_scalar, scalar_or}
 
 -- the number lies between these two (this project's profile)
 abbrev pub is_between : ℕ → ℕ → ℕ → Bool
@@ -27,6 +29,14 @@ page_size endian file fields = do
   _ ← check (is_between 1 1000000 rows) (OutOfLimits 257)
   Ok (width, rows)
 
+-- whether black is coded as white, and white as black: 0 where white is 0, 1 where black is
+-- (TIFF 6.0, PhotometricInterpretation)
+unfoldable pub are_exchanged : Endian → List ℕ → List Entry → Result Bool FileFault
+are_exchanged endian file fields = do
+  number ← needed_scalar endian file fields 262
+  _ ← check ((number == 0) || (number == 1)) (Unsupported 262)
+  Ok (number == 1)
+
 -- which bit of a byte comes first (TIFF 6.0, FillOrder)
 unfoldable pub fill_order : Endian → List ℕ → List Entry → Result FillOrder FileFault
 fill_order endian file fields = do
@@ -34,12 +44,13 @@ fill_order endian file fields = do
   _ ← check ((number == 1) || (number == 2)) (Unsupported 266)
   Ok (if number == 2 then LsbFirst else MsbFirst)
 
--- how pels are coded: Compression, and which bit of a byte comes first (TIFF 6.0, Compression and FillOrder)
+-- how pels are coded (TIFF 6.0, Compression, PhotometricInterpretation and FillOrder)
 pub record PelFormat : Type 0 where
   pub compression : ℕ
+  pub exchanged : Bool
   pub order : FillOrder
 
--- how pels are coded: by Compression, one bit for each, 0 for white, in a fill order (this project's profile)
+-- how pels are coded: by Compression, one bit for each, either colour as 0, in a fill order (this project's profile)
 unfoldable pub pel_format : Endian → List ℕ → List Entry → Result PelFormat FileFault
 pel_format endian file fields = do
   -- BitsPerSample
@@ -48,15 +59,14 @@ pel_format endian file fields = do
   -- Compression
   compression ← needed_scalar endian file fields 259
   _ ← check ((compression == 3) || (compression == 4)) (Unsupported 259)
-  -- PhotometricInterpretation: 1 is not read yet
-  photometric ← needed_scalar endian file fields 262
-  _ ← check (photometric == 0) (Unsupported 262)
+  -- PhotometricInterpretation
+  exchanged ← are_exchanged endian file fields
   -- FillOrder
   order ← fill_order endian file fields
   -- SamplesPerPixel
   samples_per_pixel ← scalar_or endian file fields 277 1
   _ ← check (samples_per_pixel == 1) (Unsupported 277)
-  Ok (record { compression = compression; order = order })
+  Ok (record { compression = compression; exchanged = exchanged; order = order })
 
 -- the rows of each strip but the last of a page of so many rows (TIFF 6.0, RowsPerStrip; more than the page's rows
 -- means the page's rows)
@@ -70,13 +80,12 @@ strip_rows endian file fields rows = do
 abbrev pub strip_count : ℕ → ℕ → ℕ
 strip_count rows rows_per_strip = div_ceil rows rows_per_strip
 
--- how the rows of Compression 3 are coded: in MH, since bit 0 of T4Options, which stands for MR, is not read yet; its
--- other bits are ignored (TIFF 6.0, T4Options)
+-- how the rows of Compression 3 are coded: in MR where bit 0 of T4Options is set, else in MH; its other bits are
+-- ignored (TIFF 6.0, T4Options)
 unfoldable pub t4_coding : Endian → List ℕ → List Entry → Result Coding FileFault
 t4_coding endian file fields = do
   options ← scalar_or endian file fields 292 0
-  _ ← check (options % 2 == 0) (Unsupported 292)
-  Ok Mh
+  Ok (if options % 2 == 1 then Mr else Mh)
 
 -- how the rows are coded: in MMR where Compression is 4, for which T4Options is not read (TIFF 6.0, Compression)
 unfoldable pub page_coding : Endian → List ℕ → List Entry → ℕ → Result Coding FileFault
@@ -89,6 +98,55 @@ strip_field endian file fields tag strips = do
   _ ← check (has_integers endian file entry strips) (BadField tag)
   Ok entry
 
+-- the two numbers of an entry's first value, a RATIONAL: numerator and denominator (TIFF 6.0, section 2)
+abbrev pub rational_at : Endian → List ℕ → Entry → ℕ × ℕ
+rational_at endian file entry =
+    let place = values_place endian file entry in
+    (number_at endian 4 file place, number_at endian 4 file (place + 4))
+
+-- an entry has a RATIONAL that lies in the file (this project's profile)
+unfoldable pub has_rational : Endian → List ℕ → Entry → Bool
+has_rational endian file entry =
+    (entry.kind == RATIONAL) && (nat_le 1 entry.count && is_inside file (values_place endian file entry) 8)
+
+-- both numbers are above 0 (this project's profile)
+abbrev pub are_some : ℕ × ℕ → Bool
+are_some value = nat_lt 0 value.0 && nat_lt 0 value.1
+
+-- an entry's RATIONAL, where it has a good one (this project's profile)
+unfoldable pub good_rational : Endian → List ℕ → Entry → Option (ℕ × ℕ)
+good_rational endian file entry =
+    if has_rational endian file entry && are_some (rational_at endian file entry)
+    then (Some (rational_at endian file entry)) else None
+
+-- the rational of a tag, where it is there and good (this project's profile)
+unfoldable pub rational_of : Endian → List ℕ → List Entry → ℕ → Option (ℕ × ℕ)
+rational_of endian file fields tag =
+    elim (field fields tag) [ None ↦ None | Some entry ↦ good_rational endian file entry ]
+
+-- a resolution: dots of a row and rows, in each unit, which is 1 for none, 2 for an inch, 3 for a centimetre
+-- (TIFF 6.0, XResolution, YResolution and ResolutionUnit)
+pub record Resolution : Type 0 where
+  pub x : ℕ × ℕ
+  pub y : ℕ × ℕ
+  pub unit : ℕ
+
+-- 204 by 196 dots an inch, where a page has no good resolution (this project's profile)
+abbrev pub usual_resolution : Resolution
+usual_resolution = record { x = (204, 1); y = (196, 1); unit = 2 }
+
+-- the resolution of these parts, where all of them are good (this project's profile)
+abbrev pub resolution_from : Option (ℕ × ℕ) → Option (ℕ × ℕ) → Result ℕ FileFault → Resolution
+resolution_from (Some x) (Some y) (Ok unit) =
+    if is_between 1 3 unit then (record { x = x; y = y; unit = unit }) else usual_resolution
+resolution_from _ _ _ = usual_resolution
+
+-- a page's resolution (TIFF 6.0, XResolution, YResolution and ResolutionUnit)
+unfoldable pub resolution : Endian → List ℕ → List Entry → Resolution
+resolution endian file fields =
+    resolution_from (rational_of endian file fields 282) (rational_of endian file fields 283)
+    (scalar_or endian file fields 296 2)
+
 -- the form of the page whose directory stands whole at offset q, or its first fault: the fields in the order of
 -- this project's profile, each with what stands for it where it is absent, and what is refused
 unfoldable pub page : Endian → List ℕ → ℕ → Result PageForm FileFault
@@ -98,22 +156,31 @@ page endian file q = do
   pels ← pel_format endian file fields
   rows_per_strip ← strip_rows endian file fields size.1
   let strips = strip_count size.1 rows_per_strip
-  -- more than one strip is not read yet
-  _ ← check (strips == 1) (Unsupported 278)
   coding ← page_coding endian file fields pels.compression
   -- StripOffsets
   _ ← strip_field endian file fields 273 strips
   -- StripByteCounts
   _ ← strip_field endian file fields 279 strips
+  let found = resolution endian file fields
   Ok (record {
     width = size.0;
     rows = size.1;
     coding = coding;
     order = pels.order;
-    exchanged = false;
+    exchanged = pels.exchanged;
     rows_per_strip = rows_per_strip;
     strips = strips;
+    x = found.x;
+    y = found.y;
+    unit = found.unit;
   })
+
+-- a rational with numerator and denominator above 0, of 32 bits each (TIFF 6.0, section 2)
+pub record IsGoodRational (value : ℕ × ℕ) : Type 0 where
+  pub some_top : 1 ≤ value.0
+  pub top : value.0 < 4294967296
+  pub some_bottom : 1 ≤ value.1
+  pub bottom : value.1 < 4294967296
 
 -- the limits of a page's form (this project's profile)
 pub record IsPageForm (form : PageForm) : Type 0 where
@@ -121,7 +188,10 @@ pub record IsPageForm (form : PageForm) : Type 0 where
   pub width : form.width ≤ 65535
   pub some_rows : 1 ≤ form.rows
   pub rows : form.rows ≤ 1000000
-  pub coding : form.coding ≢ Mr
-  pub exchanged : form.exchanged ≡ false
-  pub rows_per_strip : form.rows_per_strip ≡ form.rows
-  pub strips : form.strips ≡ 1
+  pub some_rows_per_strip : 1 ≤ form.rows_per_strip
+  pub rows_per_strip : form.rows_per_strip ≤ form.rows
+  pub strips : form.strips ≡ strip_count form.rows form.rows_per_strip
+  pub x : IsGoodRational form.x
+  pub y : IsGoodRational form.y
+  pub some_unit : 1 ≤ form.unit
+  pub unit : form.unit ≤ 3

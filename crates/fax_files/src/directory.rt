@@ -1,14 +1,15 @@
 //! The directory of a page.
 
-ghost use Rattle.std.specs.Prelude.{◌≡◌, ◌+◌, ◌*◌, ◌<◌, ◌≤◌, length, IfOk};
+ghost use Rattle.std.specs.Prelude.{◌≡◌, ◌+◌, ◌*◌, ◌<◌, ◌≤◌, length, Ok, IfOk};
 ghost use Rattle.fax_files.specs.Directory as Spec;
 ghost use Rattle.fax_files.specs.Page.{IsPageForm};
-ghost use Rattle.fax_files.specs.code.Fields.{AreFieldsOf};
+ghost use Rattle.fax_files.specs.code.Fields.{AreFieldsOf, entries_of};
 ghost use Rattle.fax_files.specs.code.Tiff.{form_of};
 
 use crate::fields::{Fields, FirstEntries};
 use crate::numbers::File;
-use crate::page::page_form;
+use crate::page::{page_form, page_strips};
+use crate::strips::Strips;
 use crate::{Endian, FileFault, PageForm};
 use std::marker::Model;
 
@@ -54,6 +55,17 @@ impl<'a> Directory<'a> {
         }
     }
 
+    /// The same directory once more.
+    pub(crate) fn again(&self) -> Self
+        ensures { result ≡ self.now }
+    {
+        Directory {
+            bytes: self.bytes,
+            endian: self.endian,
+            offset: self.offset,
+        }
+    }
+
     /// The file that it stands in.
     pub(crate) fn file(&self) -> File<'a>
         ensures endian { result.endian ≡ self.now.endian }
@@ -95,5 +107,29 @@ impl<'a> Directory<'a> {
         ensures limits { IfOk result IsPageForm }
     {
         page_form(&Fields::new(self))
+    }
+
+    /// The places of the page's strips, where this is the page's form.
+    pub fn strips(&self, form: &PageForm) -> Strips<'a>
+        requires { form_of self.now ≡ Ok form.now }
+        ensures directory { result.directory ≡ self.now }
+        ensures count { result.count ≡ form.now.strips }
+    {
+        page_strips(&Fields::new(self), form.strips)
+    }
+
+    /// Whether the tags of the entries ascend, none standing twice (TIFF 6.0, section 2).
+    pub fn in_order(&self) -> bool
+        ensures { result ≡ Spec.ascend (entries_of self.now) }
+    {
+        let file = self.file();
+        let count = entry_count(&file, self.offset);
+        for k in 1..count {
+            let place = self.offset + 2 + 12 * k as usize;
+            if file.u16_at(place - 12) >= file.u16_at(place) {
+                return false;
+            }
+        }
+        true
     }
 }

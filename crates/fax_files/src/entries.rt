@@ -1,7 +1,8 @@
 //! The entries of a directory and their values (TIFF 6.0, section 2).
 
-ghost use Rattle.std.specs.Prelude.{◌≡◌, ◌+◌, ◌≤◌, length, IsTrue};
+ghost use Rattle.std.specs.Prelude.{◌≡◌, ◌+◌, ◌≤◌, length, IsTrue, IfSome};
 ghost use Rattle.fax_files.specs.Directory as Spec;
+ghost use Rattle.fax_files.specs.Page.{good_rational, IsGoodRational};
 
 use crate::FileFault;
 use crate::numbers::{File, is_inside};
@@ -11,6 +12,8 @@ use std::marker::Model;
 const SHORT_TYPE: u16 = 3;
 /// The type of values of four bytes.
 const LONG_TYPE: u16 = 4;
+/// The type of fractions: two numbers of four bytes.
+const RATIONAL_TYPE: u16 = 5;
 
 /// An entry of a directory.
 #[derive(Clone, Copy)]
@@ -49,12 +52,16 @@ impl Entry {
         self.kind == SHORT_TYPE || self.kind == LONG_TYPE
     }
 
-    /// How many bytes a value takes, where it is SHORT or LONG.
+    /// How many bytes a value takes, where it is SHORT, LONG or RATIONAL.
     fn value_len(&self) -> usize
         ensures value { result ≡ Spec.value_len self.now }
-        ensures bound { result ≤ 4 }
+        ensures bound { result ≤ 8 }
     {
-        if self.kind == SHORT_TYPE { 2 } else { 4 }
+        match self.kind {
+            SHORT_TYPE => 2,
+            LONG_TYPE => 4,
+            _ => 8,
+        }
     }
 }
 
@@ -101,6 +108,7 @@ impl<'a> File<'a> {
     }
 
     /// The value of an entry at index `i`.
+    #[tactic(auto, unfolding(crate::specs::Directory::value_at))]
     pub fn value_at(&self, entry: &Entry, i: u32) -> u32
         requires place { entry.now.place + 4 ≤ length self.now.bytes.now }
         requires there { IsTrue (Spec.has_integers self.now.endian self.now.bytes.now entry.now (i + 1)) }
@@ -124,5 +132,24 @@ impl<'a> File<'a> {
             return Err(FileFault::BadField(entry.tag));
         }
         Ok(self.value_at(entry, 0))
+    }
+
+    /// An entry's fraction, where it has one whose numbers are above 0.
+    #[tactic(auto, unfolding(crate::specs::Page::has_rational, crate::specs::Page::good_rational))]
+    pub fn good_rational(&self, entry: &Entry) -> Option<(u32, u32)>
+        requires { entry.now.place + 4 ≤ length self.now.bytes.now }
+        ensures exact { result ≡ good_rational self.now.endian self.now.bytes.now entry.now }
+        ensures good { IfSome result IsGoodRational }
+    {
+        let place = self.values_place(entry);
+        if entry.kind != RATIONAL_TYPE || entry.count < 1 || !is_inside(self.bytes, place, 8) {
+            return None;
+        }
+        let value = (self.u32_at(place), self.u32_at(place + 4));
+        if value.0 > 0 && value.1 > 0 {
+            Some(value)
+        } else {
+            None
+        }
     }
 }

@@ -2,6 +2,7 @@
 
 ghost use Rattle.std.specs.Prelude.{◌≡◌, ◌+◌, ◌≤◌, length, IsTrue, IfOk, IfSome, List, [], ◌∷◌};
 ghost use Rattle.fax_files.specs.Directory as Spec;
+ghost use Rattle.fax_files.specs.Page.{rational_of, IsGoodRational};
 ghost use Rattle.fax_files.specs.code.Fields.{is_sought, entries_of};
 
 use crate::FileFault;
@@ -94,8 +95,15 @@ impl<'d, 'a> Fields<'d, 'a> {
         self.directory.file()
     }
 
+    /// The directory.
+    pub fn directory(&self) -> Directory<'a>
+        ensures { result ≡ self.now }
+    {
+        self.directory.again()
+    }
+
     /// The first entry of a tag of `TAGS`.
-    fn first(&self, tag: u16) -> Option<Entry>
+    pub fn first(&self, tag: u16) -> Option<Entry>
         requires { IsTrue (is_sought tag) }
         ensures first { result ≡ Spec.field (entries_of self.now) tag }
         ensures inside { IfSome result (λ entry. entry.place + 4 ≤ length self.now.file) }
@@ -132,5 +140,16 @@ impl<'d, 'a> Fields<'d, 'a> {
             Some(entry) => self.file().scalar(&entry),
             None => Ok(absent),
         }
+    }
+
+    /// The fraction of a tag, where it is there and good.
+    #[tactic(auto, unfolding(crate::specs::Page::rational_of))]
+    pub fn rational_of(&self, tag: u16) -> Option<(u32, u32)>
+        requires { IsTrue (is_sought tag) }
+        ensures exact { result ≡ rational_of self.now.endian self.now.file (entries_of self.now) tag }
+        ensures good { IfSome result IsGoodRational }
+    {
+        let entry = self.first(tag)?;
+        self.file().good_rational(&entry)
     }
 }

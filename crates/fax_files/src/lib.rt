@@ -9,13 +9,15 @@ mod entries;
 mod fields;
 mod numbers;
 mod page;
+mod strips;
 #[cfg(test)]
 mod tests;
 mod tiff;
 
 pub use directory::Directory;
 pub use fax_page;
-pub use fax_page::{Coding, FillOrder, StripFault};
+pub use fax_page::{Coding, FillOrder, StripFault, StripForm};
+pub use strips::Strips;
 use thiserror::Error;
 pub use tiff::Tiff;
 
@@ -158,6 +160,36 @@ pub struct PageForm {
     pub exchanged: bool,
     /// The rows of each strip but the last, which may have fewer: 1 to `rows`.
     pub rows_per_strip: u32,
-    /// The number of strips.
+    /// The number of strips: the rows divided by those of a strip, rounded up.
     pub strips: u32,
+    /// Pels of a row in each unit, as a fraction, with both numbers above 0.
+    pub x: (u32, u32),
+    /// Rows in each unit, as a fraction, with both numbers above 0.
+    pub y: (u32, u32),
+    /// The unit of the resolution: 1 for none, 2 for an inch, 3 for a centimetre.
+    pub unit: u16,
+}
+
+impl PageForm {
+    ghost use Rattle.std.specs.Prelude.{◌*◌, ◌<◌};
+    ghost use Rattle.fax_page.specs.Strip.{IsStripForm};
+    ghost use Rattle.fax_files.specs.Page.{IsPageForm};
+    ghost use Rattle.fax_files.specs.PageRows.{strip_form as form_of_strip};
+
+    /// The form of strip `s`, from 0, which holds the page's rows from `s * rows_per_strip` on
+    /// (TIFF 6.0, RowsPerStrip).
+    pub fn strip_form(&self, s: u32) -> StripForm
+        requires limits { IsPageForm self.now }
+        requires strip { s < self.now.strips }
+        ensures exact { result ≡ form_of_strip self.now s }
+        ensures limits { IsStripForm result }
+        ensures begins { s * self.now.rows_per_strip < self.now.rows }
+    {
+        StripForm {
+            coding: self.coding,
+            order: self.order,
+            width: self.width,
+            rows: self.rows_per_strip.min(self.rows - s * self.rows_per_strip),
+        }
+    }
 }

@@ -1,12 +1,15 @@
 //! The form of a page, from the fields of its directory (TIFF 6.0; RFC 2306).
 
-ghost use Rattle.std.specs.Prelude.{◌≡◌, ◌≢◌, ◌+◌, ◌≤◌, ◌<◌, length, IsTrue, IsOk, IfOk};
+ghost use Rattle.std.specs.Prelude.{◌≡◌, ◌+◌, ◌≤◌, length, Ok, IsTrue, IfOk};
 ghost use Rattle.fax_files.specs.Directory as Entries;
 ghost use Rattle.fax_files.specs.Page as Spec;
+ghost use Rattle.fax_files.specs.declared.PageForm.{PageForm};
 ghost use Rattle.fax_files.specs.code.Fields.{entries_of, is_sought};
+ghost use Rattle.fax_files.specs.code.Tiff.{form_of};
 
 use crate::entries::Entry;
 use crate::fields::Fields;
+use crate::strips::Strips;
 use crate::{FileFault, PageForm};
 use fax_bits::FillOrder;
 use fax_page::Coding;
@@ -24,15 +27,21 @@ const PHOTOMETRIC_INTERPRETATION: u16 = 262;
 
 const FILL_ORDER: u16 = 266;
 
-pub const STRIP_OFFSETS: u16 = 273;
+const STRIP_OFFSETS: u16 = 273;
 
 const SAMPLES_PER_PIXEL: u16 = 277;
 
 const ROWS_PER_STRIP: u16 = 278;
 
-pub const STRIP_BYTE_COUNTS: u16 = 279;
+const STRIP_BYTE_COUNTS: u16 = 279;
+
+const X_RESOLUTION: u16 = 282;
+
+const Y_RESOLUTION: u16 = 283;
 
 const T4_OPTIONS: u16 = 292;
+
+const RESOLUTION_UNIT: u16 = 296;
 
 /// Compression by T.4.
 const COMPRESSION_T4: u32 = 3;
@@ -47,6 +56,8 @@ const MAX_ROWS: u32 = 1_000_000;
 struct PelFormat {
     /// Compression: 3 or 4.
     compression: u32,
+    /// Whether black is coded as white, and white as black.
+    exchanged: bool,
     /// Which bit of a byte comes first.
     order: FillOrder,
 }
@@ -56,7 +67,26 @@ impl Model for PelFormat {
 
     ghost Value = { PelFormat };
 
-    ghost view = { λ p. record { compression = p.compression; order = p.order } };
+    ghost view = { λ p. record {
+      compression = p.compression;
+      exchanged = p.exchanged;
+      order = p.order;
+    } };
+}
+
+/// The resolution of a page.
+struct Resolution {
+    x: (u32, u32),
+    y: (u32, u32),
+    unit: u16,
+}
+
+impl Model for Resolution {
+    ghost use Rattle.fax_files.specs.Page.{Resolution};
+
+    ghost Value = { Resolution };
+
+    ghost view = { λ r. record { x = r.x; y = r.y; unit = r.unit } };
 }
 
 /// The form of the page whose directory stands at an offset, or its first fault.
@@ -66,23 +96,28 @@ pub fn page_form(fields: &Fields) -> Result<PageForm, FileFault>
     ensures limits { IfOk result Spec.IsPageForm }
 {
     let (width, rows) = page_size(fields)?;
-    let PelFormat { compression, order } = pel_format(fields)?;
+    let PelFormat {
+        compression,
+        exchanged,
+        order,
+    } = pel_format(fields)?;
     let rows_per_strip = strip_rows(fields, rows)?;
     let strips = rows.div_ceil(rows_per_strip);
-    if strips != 1 {
-        return Err(FileFault::Unsupported(ROWS_PER_STRIP));
-    }
     let coding = page_coding(fields, compression)?;
     strip_field(fields, STRIP_OFFSETS, strips)?;
     strip_field(fields, STRIP_BYTE_COUNTS, strips)?;
+    let Resolution { x, y, unit } = page_resolution(fields);
     Ok(PageForm {
         width,
         rows,
         coding,
         order,
-        exchanged: false,
+        exchanged,
         rows_per_strip,
         strips,
+        x,
+        y,
+        unit,
     })
 }
 
@@ -118,14 +153,28 @@ fn pel_format(fields: &Fields) -> Result<PelFormat, FileFault>
     if compression != COMPRESSION_T4 && compression != COMPRESSION_T6 {
         return Err(FileFault::Unsupported(COMPRESSION));
     }
-    if fields.needed_scalar(PHOTOMETRIC_INTERPRETATION)? != 0 {
-        return Err(FileFault::Unsupported(PHOTOMETRIC_INTERPRETATION));
-    }
+    let exchanged = are_exchanged(fields)?;
     let order = fill_order(fields)?;
     if fields.scalar_or(SAMPLES_PER_PIXEL, 1)? != 1 {
         return Err(FileFault::Unsupported(SAMPLES_PER_PIXEL));
     }
-    Ok(PelFormat { compression, order })
+    Ok(PelFormat {
+        compression,
+        exchanged,
+        order,
+    })
+}
+
+/// Whether black is coded as white, and white as black.
+#[tactic(auto, unfolding(crate::specs::Page::are_exchanged))]
+fn are_exchanged(fields: &Fields) -> Result<bool, FileFault>
+    ensures { result ≡ Spec.are_exchanged fields.now.endian fields.now.file (entries_of fields.now) }
+{
+    match fields.needed_scalar(PHOTOMETRIC_INTERPRETATION)? {
+        0 => Ok(false),
+        1 => Ok(true),
+        _ => Err(FileFault::Unsupported(PHOTOMETRIC_INTERPRETATION)),
+    }
 }
 
 /// Which bit of a byte comes first.
@@ -158,17 +207,54 @@ fn strip_rows(fields: &Fields, rows: u32) -> Result<u32, FileFault>
 /// How the rows of a page are coded. T4Options is looked at in T.4 alone.
 #[tactic(auto, unfolding(crate::specs::Page::page_coding, crate::specs::Page::t4_coding))]
 fn page_coding(fields: &Fields, compression: u32) -> Result<Coding, FileFault>
-    ensures exact { result
+    ensures { result
         ≡ Spec.page_coding fields.now.endian fields.now.file (entries_of fields.now) compression }
-    ensures read { IfOk result (λ coding. coding ≢ Coding.Mr) }
 {
     if compression == COMPRESSION_T6 {
         return Ok(Coding::Mmr);
     }
-    if fields.scalar_or(T4_OPTIONS, 0)? % 2 != 0 {
-        return Err(FileFault::Unsupported(T4_OPTIONS));
+    if fields.scalar_or(T4_OPTIONS, 0)? % 2 == 1 {
+        Ok(Coding::Mr)
+    } else {
+        Ok(Coding::Mh)
     }
-    Ok(Coding::Mh)
+}
+
+/// The resolution of a page: 204 by 196 dots an inch where its fields have no good one.
+#[tactic(auto, unfolding(crate::specs::Page::resolution))]
+fn page_resolution(fields: &Fields) -> Resolution
+    ensures exact { result ≡ Spec.resolution fields.now.endian fields.now.file (entries_of fields.now) }
+    ensures x { Spec.IsGoodRational result.x }
+    ensures y { Spec.IsGoodRational result.y }
+    ensures some_unit { 1 ≤ result.unit }
+    ensures unit { result.unit ≤ 3 }
+{
+    let x = fields.rational_of(X_RESOLUTION);
+    let y = fields.rational_of(Y_RESOLUTION);
+    let unit = fields.scalar_or(RESOLUTION_UNIT, 2);
+    match (x, y, unit) {
+        (Some(x), Some(y), Ok(unit)) if 1 <= unit && unit <= 3 => Resolution {
+            x,
+            y,
+            unit: unit as u16,
+        },
+        _ => Resolution {
+            x: (204, 1),
+            y: (196, 1),
+            unit: 2,
+        },
+    }
+}
+
+/// The strips of a page whose form this is.
+pub fn page_strips<'a>(fields: &Fields<'_, 'a>, count: u32) -> Strips<'a>
+    requires { (form : PageForm) × (form_of fields.now ≡ Ok form) × (form.strips ≡ count) }
+    ensures directory { result.directory ≡ fields.now }
+    ensures count { result.count ≡ count }
+{
+    let offsets = fields.first(STRIP_OFFSETS).unwrap();
+    let byte_counts = fields.first(STRIP_BYTE_COUNTS).unwrap();
+    Strips::new(fields.directory(), count, offsets, byte_counts)
 }
 
 /// The entry of a tag, which has to have a value for each strip.
@@ -186,18 +272,4 @@ fn strip_field(fields: &Fields, tag: u16, strips: u32) -> Result<Entry, FileFaul
         return Err(FileFault::BadField(tag));
     }
     Ok(entry)
-}
-
-/// The value for strip `s` in a field that has a value for each strip.
-pub fn strip_value(fields: &Fields, tag: u16, strips: u32, s: u32) -> u32
-    requires tag { IsTrue (is_sought tag) }
-    requires field { IsOk (Spec.strip_field fields.now.endian fields.now.file (entries_of fields.now) tag strips) }
-    requires strip { s < strips }
-    ensures { IfOk (Spec.strip_field fields.now.endian fields.now.file (entries_of fields.now) tag strips)
-        (λ entry. result ≡ Entries.value_at fields.now.endian fields.now.file entry s) }
-{
-    match strip_field(fields, tag, strips) {
-        Ok(entry) => fields.file().value_at(&entry, s),
-        Err(_) => unreachable!(),
-    }
 }

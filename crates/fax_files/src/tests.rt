@@ -64,6 +64,10 @@ fn reads_a_file_of_one_page(rt: HostRuntime) {
     assert!(rt; !form.exchanged);
     assert_eq!(rt; form.rows_per_strip, 1);
     assert_eq!(rt; form.strips, 1);
+    assert_eq!(rt; form.x, (204, 1));
+    assert_eq!(rt; form.y, (196, 1));
+    assert_eq!(rt; form.unit, 2);
+    assert!(rt; directory.in_order());
     let strip = first_strip(&ONE_PAGE).expect(&rt, "the strip");
     assert_eq!(rt; strip, [0x00, 0x18, 0xE0].as_slice());
 }
@@ -89,6 +93,80 @@ fn reads_compression_4_as_mmr(rt: HostRuntime) {
     assert_eq!(rt; form.rows, 1);
 }
 
+#[test]
+fn reads_bit_0_of_t4_options_as_mr(rt: HostRuntime) {
+    for (options, coding) in [
+        (0, Coding::Mh),
+        (1, Coding::Mr),
+        (2, Coding::Mh),
+        (5, Coding::Mr),
+    ] {
+        let form = first_page(&changed(178, &[options])).expect(&rt, "the page");
+        assert_eq!(rt; form.coding, coding, "{options}");
+    }
+}
+
+#[test]
+fn reads_both_colours_as_0(rt: HostRuntime) {
+    for (number, exchanged) in [(0, false), (1, true)] {
+        let form = first_page(&changed(82, &[number])).expect(&rt, "the page");
+        assert_eq!(rt; form.exchanged, exchanged, "{number}");
+    }
+}
+
+#[test]
+fn replaces_a_resolution_that_is_not_good(rt: HostRuntime) {
+    // 200 by 100 in each unit, in place of 204 by 196 an inch.
+    let mut file = changed(210, &[200]);
+    file[218] = 100;
+    for unit in [1, 2, 3] {
+        file[190] = unit;
+        let form = first_page(&file).expect(&rt, "the page");
+        assert_eq!(rt; form.x, (200, 1));
+        assert_eq!(rt; form.y, (100, 1));
+        assert_eq!(rt; form.unit, u16::from(unit));
+    }
+    // The tag, type and count, the place, a number of 0, and a unit that is not known.
+    let faults: [(usize, u8); 15] = [
+        (146, 0),
+        (148, 4),
+        (150, 0),
+        (156, 1),
+        (210, 0),
+        (214, 0),
+        (158, 0),
+        (160, 4),
+        (162, 0),
+        (168, 1),
+        (218, 0),
+        (222, 0),
+        (184, 5),
+        (190, 0),
+        (190, 4),
+    ];
+    for (place, byte) in faults {
+        let mut bad = file;
+        bad[place] = byte;
+        let form = first_page(&bad).expect(&rt, "the page");
+        assert_eq!(rt;
+            (form.x, form.y, form.unit),
+            ((204, 1), (196, 1), 2),
+            "the change at {place}"
+        );
+    }
+}
+
+#[test]
+fn sees_entries_out_of_order(rt: HostRuntime) {
+    // The tag behind 254: 255, 254 once more, and 253.
+    for (tag, in_order) in [(0xFF, true), (0xFE, false), (0xFD, false)] {
+        let file = changed(26, &[tag, 0]);
+        let tiff = Tiff::read_header(&file).expect(&rt, "the header");
+        let directory = tiff.directory(12).expect(&rt, "the directory");
+        assert_eq!(rt; directory.in_order(), in_order, "{tag}");
+    }
+}
+
 /// A change of the file of one page: where it begins, its bytes, and the fault that comes of it.
 #[derive(Drop)]
 struct Refused(usize, &'static [u8], FileFault);
@@ -97,7 +175,7 @@ struct Refused(usize, &'static [u8], FileFault);
 fn names_the_first_fault(rt: HostRuntime) {
     let rows = [
         Refused(0, b"XX", FileFault::ByteOrder),
-        Refused(0, b"MM", FileFault::ByteOrder),
+        Refused(0, b"MM", FileFault::Magic),
         Refused(2, &[43], FileFault::Magic),
         Refused(4, &[0], FileFault::NoDirectory),
         Refused(4, &[255], FileFault::DirectoryOutside),
@@ -121,17 +199,17 @@ fn names_the_first_fault(rt: HostRuntime) {
         Refused(70, &[5], FileFault::Unsupported(259)),
         Refused(70, &[2], FileFault::Unsupported(259)),
         // PhotometricInterpretation
-        Refused(82, &[1], FileFault::Unsupported(262)),
+        Refused(82, &[2], FileFault::Unsupported(262)),
         // FillOrder
         Refused(94, &[0], FileFault::Unsupported(266)),
         Refused(94, &[3], FileFault::Unsupported(266)),
         // SamplesPerPixel
         Refused(118, &[3], FileFault::Unsupported(277)),
-        // RowsPerStrip, and two rows in two strips
+        // RowsPerStrip, and two rows in two strips, with one offset
         Refused(130, &[0], FileFault::BadField(278)),
-        Refused(46, &[2], FileFault::Unsupported(278)),
-        // T4Options
-        Refused(178, &[1], FileFault::Unsupported(292)),
+        Refused(46, &[2], FileFault::BadField(273)),
+        // T4Options: a type that is no integer
+        Refused(172, &[5], FileFault::BadField(292)),
         // StripOffsets: its tag, and a value of 224
         Refused(98, &[0xFF], FileFault::MissingField(273)),
         Refused(106, &[224], FileFault::StripOutside),

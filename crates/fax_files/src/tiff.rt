@@ -7,9 +7,7 @@ ghost use Rattle.fax_files.specs.Numbers.{header};
 ghost use Rattle.fax_files.specs.code.Tiff.{bytes_of, directory_of, form_of, has_directory};
 
 use crate::directory::{Directory, entry_count};
-use crate::fields::Fields;
 use crate::numbers::{File, is_inside};
-use crate::page::{STRIP_BYTE_COUNTS, STRIP_OFFSETS, strip_value};
 use crate::{Endian, FileFault, PageForm};
 use std::marker::Model;
 
@@ -43,12 +41,16 @@ impl<'a> Tiff<'a> {
         if file.len() < 8 {
             return Err(FileFault::ShortHeader);
         }
-        if !file.starts_with(b"II") {
+        let endian = if file.starts_with(b"II") {
+            Endian::Little
+        } else if file.starts_with(b"MM") {
+            Endian::Big
+        } else {
             return Err(FileFault::ByteOrder);
-        }
+        };
         let file = File {
             bytes: file,
-            endian: Endian::Little,
+            endian,
         };
         if file.u16_at(2) != 42 {
             return Err(FileFault::Magic);
@@ -102,12 +104,6 @@ impl<'a> Tiff<'a> {
         ensures outside { OnErr result (bytes_of directory.now s ≡ None) }
         ensures fault { IfErr result (λ fault. fault ≡ StripOutside) }
     {
-        let fields = Fields::new(directory);
-        let offset = strip_value(&fields, STRIP_OFFSETS, form.strips, s) as usize;
-        let len = strip_value(&fields, STRIP_BYTE_COUNTS, form.strips, s) as usize;
-        if !is_inside(self.file.bytes, offset, len) {
-            return Err(FileFault::StripOutside);
-        }
-        Ok(&self.file.bytes[offset..offset + len])
+        directory.strips(form).bytes(s)
     }
 }

@@ -133,7 +133,8 @@ impl<'a> StripReader<'a> {
 
     /// The row before the one that is due: all white before the first.
     pub fn row(&self) -> &Row
-        ensures { result.now ≡ self.now.reference }
+        ensures pels { result.now ≡ self.now.reference }
+        ensures width { length result.now ≡ self.now.form.width }
     {
         &self.reference
     }

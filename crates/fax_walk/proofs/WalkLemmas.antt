@@ -14,5 +14,5 @@ pub entered : (walk : WalkState) (page : PageState) → walk.stage ≡ Before �
 entered walk page before at due = record {
   due = λ items end d. rw before (due items end d);
   cursor = refl;
-  no_more = rw before (omega (arith, at.limit));
+  no_more = rw before (omega (arith, at.limits.rows));
 }

@@ -3,12 +3,14 @@ ghost use Rattle.std.specs.Prelude.{◌≡◌, ◌+◌, List, [], IfOk, IfErr, O
 ghost use Rattle.std.specs.Borrow.{sem};
 ghost use Rattle.fax_files.specs.Chain.{chain_fault};
 ghost use Rattle.fax_walk.specs.Items.{Item, AreItems, chain_end};
+ghost use Rattle.fax_files.specs.Page.{IsPageForm};
 ghost use Rattle.fax_walk.specs.code.Due as Due;
+ghost use Rattle.fax_walk.specs.code.Stages.{IsRoomFor, row_handed_out};
 
 use crate::Cursor;
 use fax_bits::Memory;
-use fax_files::{Cause, FileFault, Tiff};
-use fax_page::{StripForm, StripReader};
+use fax_files::{Cause, FileFault, PageForm, Strips, Tiff};
+use fax_page::StripReader;
 use fax_rows::Row;
 use std::alloc::Global;
 use std::marker::Model;
@@ -68,48 +70,47 @@ impl From<FileFault> for OpenFault {
     }
 }
 
-/// A page whose rows are being read, with the offset of the next directory.
+/// A page whose rows are being read, strip by strip.
 #[derive(Drop)]
 struct OpenPage<'a> {
+    strips: Strips<'a>,
+    form: PageForm,
+    /// The number of the strip that is read.
+    number: u32,
     strip: StripReader<'a>,
+    /// Where colours are exchanged, if they are: the row that was read last, as it is handed out.
+    exchanged: Option<Row>,
+    /// The offset of the next directory.
     next: u32,
 }
 
 impl<'a> Model for OpenPage<'a> {
-    ghost use Rattle.fax_walk.specs.code.Stages.{PageState};
+    ghost use Rattle.fax_walk.specs.code.Stages.{PageState, IsReadingPage, row_shown};
 
     ghost Value = { PageState };
 
-    ghost view = { λ p. record { strip = p.strip; next = p.next } };
+    ghost view = { λ p. record {
+      directory = p.strips.directory;
+      form = p.form;
+      number = p.number;
+      strip = p.strip;
+      shown = row_shown p.strip p.exchanged;
+      next = p.next;
+    } };
+
+    ghost invariant = { λ p. IsReadingPage p.form p.strips p.number p.strip p.exchanged };
 }
 
-/// A file's first page: its one strip, and the offset of the next directory.
-#[derive(Clone, Copy)]
-struct FirstPage<'a> {
-    form: StripForm,
-    bytes: &'a [u8],
-    next: u32,
-}
-
-/// The first page of a file, or why the file has none.
-fn first_page<'a>(file: &'a [u8]) -> Result<FirstPage<'a>, FileFault>
-    ensures found { IfOk result (λ page. Due.IsFirstPage file.now page.form page.bytes.now page.next) }
-    ensures refused { IfErr result (λ fault. AreItems file.now [] (End.Fault 0 0 (Cause.File fault))) }
+/// A row for colours that are exchanged, where they are.
+fn row_for_exchange(alloc: Global, form: &PageForm) -> Result<Option<Row>, Memory>
+    requires { IsPageForm form.now }
+    ensures { IfOk result (IsRoomFor form.now) }
 {
-    let tiff = Tiff::read_header(file)?;
-    let directory = tiff.directory(tiff.first())?;
-    let form = directory.page()?;
-    let bytes = tiff.strip(&form, &directory, 0)?;
-    Ok(FirstPage {
-        form: StripForm {
-            coding: form.coding,
-            order: form.order,
-            width: form.width,
-            rows: form.rows,
-        },
-        bytes,
-        next: directory.next_offset(),
-    })
+    if form.exchanged {
+        Ok(Some(Row::white(alloc, form.width)?))
+    } else {
+        Ok(None)
+    }
 }
 
 /// The first page of a file, with its first row due.
@@ -119,11 +120,20 @@ fn open_page<'a>(alloc: Global, file: &'a [u8]) -> Result<OpenPage<'a>, OpenFaul
         → Due.IsDueOnPage page items end → AreItems file.now items end) }
     ensures refused { IfErr result (Due.IsRefusal file.now) }
 {
-    let page = first_page(file)?;
-    let strip = StripReader::new(alloc, page.bytes, page.form)?;
+    let tiff = Tiff::read_header(file)?;
+    let directory = tiff.directory(tiff.first())?;
+    let form = directory.page()?;
+    let strips = directory.strips(&form);
+    let bytes = strips.bytes(0)?;
+    let strip = StripReader::new(alloc, bytes, form.strip_form(0))?;
+    let exchanged = row_for_exchange(alloc, &form)?;
     Ok(OpenPage {
+        strips,
+        form,
+        number: 0,
         strip,
-        next: page.next,
+        exchanged,
+        next: directory.next_offset(),
     })
 }
 
@@ -143,28 +153,78 @@ fn end_behind_page(next: u32) -> End
 }
 
 impl<'a> OpenPage<'a> {
+    ghost use Rattle.fax_walk.specs.code.Stages.{row_of};
+
+    /// Goes to the next strip, or answers how the rows end behind this one, where this row is due.
+    fn next_strip(&mut self, row: u32) -> Result<(), End>
+        requires at { Due.IsOpen self.old row }
+        requires all_read { self.old.strip.row ≡ self.old.strip.form.rows }
+        ensures ok { OnOk result (Due.KeepsPage self.old self.new) }
+        ensures number { OnOk result (self.new.number ≡ self.old.number + 1) }
+        ensures err { IfErr result (Due.IsDueOnPage self.old []) }
+    {
+        let number = self.number + 1;
+        if number == self.strips.count() {
+            return Err(end_behind_page(self.next));
+        }
+        match self.strips.bytes(number) {
+            Ok(bytes) => {
+                let form = self.form.strip_form(number);
+                self.strip.restart(bytes, form.rows);
+                self.number = number;
+                Ok(())
+            }
+            Err(fault) => Err(End::Fault {
+                page: 0,
+                row,
+                cause: Cause::File(fault),
+            }),
+        }
+    }
+
+    /// Exchanges the colours of the row that was read, where they are exchanged.
+    fn exchange(&mut self)
+        ensures same { self.new ≡ record self.old { shown = self.new.shown } }
+        ensures shown { self.new.shown ≡ row_handed_out self.old.form self.old.strip.reference }
+    {
+        if let Some(row) = &mut self.exchanged {
+            row.set_from(self.strip.row());
+            row.exchange();
+        }
+    }
+
     /// Reads the row that is due, whose number this is, or answers how the rows end there.
     fn advance(&mut self, row: u32) -> Result<(), End>
         requires { Due.IsOpen self.old row }
         ensures ok { OnOk result (Due.ReadsPageRow self.old self.new) }
         ensures err { IfErr result (Due.IsDueOnPage self.old []) }
     {
-        match self.strip.advance() {
-            Ok(true) => Ok(()),
-            Ok(false) => Err(end_behind_page(self.next)),
-            Err(fault) => Err(End::Fault {
-                page: 0,
-                row,
-                cause: Cause::Strip(fault),
-            }),
+        loop {
+            match self.strip.advance() {
+                Ok(true) => {
+                    self.exchange();
+                    return Ok(());
+                }
+                Ok(false) => self.next_strip(row)?,
+                Err(fault) => {
+                    return Err(End::Fault {
+                        page: 0,
+                        row,
+                        cause: Cause::Strip(fault),
+                    });
+                }
+            }
         }
     }
 
-    /// The row that was read last.
+    /// The row that was read last, as it is handed out.
     fn row(&self) -> &Row
-        ensures { result.now ≡ self.now.strip.reference }
+        ensures { result.now ≡ self.now.shown }
     {
-        self.strip.row()
+        match &self.exchanged {
+            Some(row) => row,
+            None => self.strip.row(),
+        }
     }
 }
 

@@ -1,10 +1,10 @@
 -- A TIFF file and its directories, as the contracts see them.
-use Rattle.std.specs.Prelude.{ℕ, Bool, List, Option, Result}
+use Rattle.std.specs.Prelude.{◌≡◌, ◌≤◌, ℕ, ◌+◌, Bool, IsTrue, List, length, Option, Some, Result}
 use Rattle.fax_files.specs.declared.Endian.{Endian}
 use Rattle.fax_files.specs.Numbers.{Header}
 use Rattle.fax_files.specs.declared.FileFault.{FileFault}
 use Rattle.fax_files.specs.declared.PageForm.{PageForm}
-use Rattle.fax_files.specs.Directory.{is_directory}
+use Rattle.fax_files.specs.Directory.{Entry, entries, field, has_integers, is_directory}
 use Rattle.fax_files.specs.Page.{page}
 use Rattle.fax_files.specs.StripBytes.{strip_bytes}
 
@@ -34,3 +34,17 @@ form_of directory = page directory.endian directory.file directory.offset
 -- the bytes of strip s of the page with this directory, where they lie in the file
 abbrev pub bytes_of : TiffDirectory → ℕ → Option (List ℕ)
 bytes_of directory s = strip_bytes directory.endian directory.file directory.offset s
+
+-- the strips of a page: its directory, and how many there are
+pub record PageStrips : Type 0 where
+  pub directory : TiffDirectory
+  pub count : ℕ
+
+-- the entries of a page's strips, each with a value for each strip
+pub record AreStripPlaces (directory : TiffDirectory) (count : ℕ) (offsets counts : Entry) : Type 0 where
+  pub offsets_are : field (entries directory.endian directory.file directory.offset) 273 ≡ Some offsets
+  pub counts_are : field (entries directory.endian directory.file directory.offset) 279 ≡ Some counts
+  pub offsets_inside : offsets.place + 4 ≤ length directory.file
+  pub counts_inside : counts.place + 4 ≤ length directory.file
+  pub offsets_there : IsTrue (has_integers directory.endian directory.file offsets count)
+  pub counts_there : IsTrue (has_integers directory.endian directory.file counts count)

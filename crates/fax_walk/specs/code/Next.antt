@@ -54,7 +54,7 @@ IsEntered old new = EntersAs old new.stage new
 abbrev pub StepsAs : WalkState → Stage → WalkState → Type 0
 StepsAs old Before new = new ≡ old
 StepsAs old (Open page) new =
-    HandsOut old (record { page = old.cursor.page; row = old.cursor.row; pels = page.strip.reference }) new
+    HandsOut old (record { page = old.cursor.page; row = old.cursor.row; pels = page.shown }) new
 StepsAs old (Ended end) new = HasEnded old end new
 
 abbrev pub IsStep : WalkState → WalkState → Type 0

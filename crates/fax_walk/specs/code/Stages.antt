@@ -1,8 +1,45 @@
 -- A page that is open.
-use Rattle.std.specs.Prelude.{ℕ}
+use Rattle.std.specs.Prelude.{◌≡◌, ℕ, ◌+◌, ◌*◌, ◌<◌, true, false, List, length, map, if◌then◌else◌, Option, Some, None}
+use Rattle.fax_bits.specs.declared.Colour.{Colour}
+use Rattle.fax_rows.specs.Elements.{other}
 use Rattle.fax_page.specs.code.Reader.{StripState}
+use Rattle.fax_files.specs.declared.PageForm.{PageForm}
+use Rattle.fax_files.specs.Page.{IsPageForm}
+use Rattle.fax_files.specs.PageRows.{strip_form}
+use Rattle.fax_files.specs.code.Tiff.{TiffDirectory, PageStrips}
 
--- a page that is open: its strip, as far as it is read, and the offset of the next directory
+-- a page that is open: its directory and form, the number of the strip that is read, that strip, as far as it is read,
+-- the row that was read last as it is handed out, and the offset of the next directory
 pub record PageState : Type 0 where
+  pub directory : TiffDirectory
+  pub form : PageForm
+  pub number : ℕ
   pub strip : StripState
+  pub shown : List Colour
   pub next : ℕ
+
+-- the number of the row that is due on a page
+abbrev pub row_of : PageState → ℕ
+row_of page = page.number * page.form.rows_per_strip + page.strip.row
+
+-- the row that was read last, as it is handed out: from the row of its own that colours are exchanged in, if there is one
+abbrev pub row_shown : StripState → Option (List Colour) → List Colour
+row_shown strip None = strip.reference
+row_shown strip (Some row) = row
+
+-- a row as it is handed out: with colours exchanged where black is coded as white
+abbrev pub row_handed_out : PageForm → List Colour → List Colour
+row_handed_out form row = if form.exchanged then map other row else row
+
+-- there is a row of its own for colours that are exchanged where they are, and it has the page's width
+abbrev pub IsRoomFor : PageForm → Option (List Colour) → Type 0
+IsRoomFor form None = form.exchanged ≡ false
+IsRoomFor form (Some row) = (form.exchanged ≡ true) × (length row ≡ form.width)
+
+-- a page that is read: the strip is the one of that number, of a form within the limits
+pub record IsReadingPage (form : PageForm) (strips : PageStrips) (number : ℕ) (strip : StripState) (exchanged : Option (List Colour)) : Type 0 where
+  pub limits : IsPageForm form
+  pub counted : strips.count ≡ form.strips
+  pub within : number < form.strips
+  pub form_is : strip.form ≡ strip_form form number
+  pub room : IsRoomFor form exchanged

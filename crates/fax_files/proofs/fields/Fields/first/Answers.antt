@@ -1,5 +1,4 @@
 use Rattle.std.proofs.Common.{arith}
-use Rattle.fax_files.specs.Directory.{entry_count}
 use Rattle.fax_files.proofs.FieldLemmas.{entry_inside}
 use Rattle.fax_files.proofs.fields.Fields.first.Goals as goal
 

@@ -1,6 +1,4 @@
-use Rattle.std.proofs.Common.{◌∙◌, sym, get_or, ap}
-use Rattle.fax_files.specs.Directory.{field}
-use Rattle.fax_files.proofs.FieldLemmas.{IsSearched, tag_searched, sought_stands, found_first}
+use Rattle.fax_files.proofs.FieldLemmas.{tag_searched, sought_stands, found_first}
 use Rattle.fax_files.proofs.fields.FirstEntries.first.Goals as goal
 
 pub unreachable-requires : goal.unreachable-requires

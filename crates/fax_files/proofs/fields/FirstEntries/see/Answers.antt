@@ -1,5 +1,5 @@
 use Rattle.std.proofs.Common.{◌∙◌, sym}
-use Rattle.fax_files.proofs.FieldLemmas.{IsSearched, tag_searched, seen, passed}
+use Rattle.fax_files.proofs.FieldLemmas.{tag_searched, seen, passed}
 use Rattle.fax_files.proofs.fields.FirstEntries.see.Goals as goal
 
 pub returns-in-Ok : goal.returns-in-Ok

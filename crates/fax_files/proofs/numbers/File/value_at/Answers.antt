@@ -1,6 +1,6 @@
-use Rattle.std.proofs.Common.{◌+◌, arith, ◌∙◌, sym, ap}
+use Rattle.std.proofs.Common.{arith, ◌∙◌, sym, ap}
 use Rattle.fax_files.specs.Directory.{Entry}
-use Rattle.fax_files.proofs.EntryLemmas.{value_inside, short_len, other_len}
+use Rattle.fax_files.proofs.EntryLemmas.{holds_integers, value_inside, short_len, other_len}
 use Rattle.fax_files.proofs.numbers.File.value_at.Goals as goal
 
 pub overflow_add-place : goal.overflow_add-place
@@ -15,4 +15,5 @@ u16_at-requires c =
 pub u32_at-requires : goal.u32_at-requires
 u32_at-requires c =
     let inside = value_inside _ _ _ c.args.i c.values_place.result c.value_len.result c.values_place.ensures c.value_len.ensures.value c.requires.there in
-    omega (arith, other_len c.args.entry.now (λ e. c.if-entry-eq-SHORT_TYPE.false (ap (λ (e : Entry). e.kind) c.entry.view_is ∙ e)), inside)
+    let integer = (holds_integers _ _ _ _ c.requires.there).kind in
+    omega (arith, other_len c.args.entry.now integer (λ e. c.if-entry-eq-SHORT_TYPE.false (ap (λ (e : Entry). e.kind) c.entry.view_is ∙ e)), inside)

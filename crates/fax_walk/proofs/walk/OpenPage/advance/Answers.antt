@@ -1,24 +1,17 @@
-use Rattle.std.proofs.Common.{refl, sym}
-use Rattle.fax_walk.proofs.DueLemmas.{row_read, page_read, fault_met}
+use Rattle.std.proofs.Common.{[], sym}
+use Rattle.fax_walk.proofs.DueLemmas.{row_read, fault_met, kept_open, kept_read}
 use Rattle.fax_walk.proofs.walk.OpenPage.advance.Goals as goal
-use Rattle.fax_walk.proofs.walk.OpenPage.advance.Goals.{in-Ok-true, in-Ok-false, in-Err}
 
-pub returns-clause-ok : goal.returns-clause-ok
-returns-clause-ok c =
-    let at = rw (sym c.self.view_is) at c.requires in
-    elim c.match-advance.branch [
-      | in-Ok-true w ↦ rw (w.result-is, ← c.self.view_is)
-          (row_read _ _ c.args.row (rw w.in-Ok-true.field-0-test at w.in-Ok-true.ensures) refl at)
-      | in-Ok-false w ↦ rw w.result-is tt
-      | in-Err w ↦ rw w.result-is tt
-    ]
+pub returns-in-Ok-true-clause-ok : goal.returns-in-Ok-true-clause-ok
+returns-in-Ok-true-clause-ok c =
+    let keeps = rw (sym c.self.view_is) at c.loop-self.invariant in
+    let at = kept_open _ _ c.args.row keeps c.requires c.self.invariant.limits in
+    let reads = rw c.in-Ok-true.field-0-test at c.in-Ok-true.ensures in
+    rw c.exchange.ensures.same
+    (kept_read _ _ _ keeps (row_read _ c.advance.new.self c.exchange.new.self.shown c.args.row reads c.exchange.ensures.shown at c.self.invariant.form_is))
 
-pub returns-clause-err : goal.returns-clause-err
-returns-clause-err c =
-    let at = rw (sym c.self.view_is) at c.requires in
-    elim c.match-advance.branch [
-      | in-Ok-true w ↦ rw w.result-is tt
-      | in-Ok-false w ↦ rw (w.result-is, ← c.self.view_is, w.end_behind_page.ensures)
-          (page_read _ c.advance.new.self (rw w.in-Ok-false.field-0-test at w.in-Ok-false.ensures))
-      | in-Err w ↦ rw (w.result-is, ← c.self.view_is) (fault_met _ c.advance.new.self c.args.row _ at w.in-Err.ensures)
-    ]
+pub returns-in-Err-clause-err : goal.returns-in-Err-clause-err
+returns-in-Err-clause-err c =
+    let keeps = rw (sym c.self.view_is) at c.loop-self.invariant in
+    let at = kept_open _ _ c.args.row keeps c.requires c.self.invariant.limits in
+    keeps.due [] _ (fault_met _ c.advance.new.self c.args.row _ at c.in-Err.ensures)

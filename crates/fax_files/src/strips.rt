@@ -1,0 +1,77 @@
+//! Where the strips of a page stand in its file.
+
+ghost use Rattle.std.specs.Prelude.{◌≡◌, ◌≤◌, ◌<◌, length, Some, None, IfOk, IfErr, OnErr};
+ghost use Rattle.fax_files.specs.code.Tiff.{bytes_of};
+
+use crate::FileFault;
+use crate::directory::Directory;
+use crate::entries::Entry;
+use crate::numbers::is_inside;
+use std::marker::Model;
+
+/// The places of a page's strips: two entries of its directory, with a value for each strip.
+#[derive(Drop)]
+pub struct Strips<'a> {
+    directory: Directory<'a>,
+    count: u32,
+    offsets: Entry,
+    byte_counts: Entry,
+}
+
+impl<'a> Model for Strips<'a> {
+    ghost use Rattle.fax_files.specs.code.Tiff.{PageStrips, AreStripPlaces};
+
+    ghost Value = { PageStrips };
+
+    ghost view = { λ s. record { directory = s.directory; count = s.count } };
+
+    ghost invariant = { λ s. AreStripPlaces s.directory s.count s.offsets s.byte_counts };
+}
+
+impl<'a> Strips<'a> {
+    ghost use Rattle.fax_files.specs.code.Tiff.{AreStripPlaces};
+
+    /// The strips of the page with this directory.
+    pub(crate) fn new(
+        directory: Directory<'a>,
+        count: u32,
+        offsets: Entry,
+        byte_counts: Entry,
+    ) -> Self
+        requires { AreStripPlaces directory count offsets byte_counts }
+        ensures directory { result.directory ≡ directory.entry }
+        ensures count { result.count ≡ count }
+    {
+        Strips {
+            directory,
+            count,
+            offsets,
+            byte_counts,
+        }
+    }
+
+    /// The number of strips.
+    pub fn count(&self) -> u32
+        ensures { result ≡ self.now.count }
+    {
+        self.count
+    }
+
+    /// The bytes of strip `s`, from 0, or `StripOutside` where they do not lie in the file
+    /// (TIFF 6.0, StripOffsets and StripByteCounts).
+    pub fn bytes(&self, s: u32) -> Result<&'a [u8], FileFault>
+        requires { s < self.now.count }
+        ensures bytes { IfOk result (λ bytes. bytes_of self.now.directory s ≡ Some bytes.now) }
+        ensures len { IfOk result (λ bytes. length bytes.now ≤ 4294967295) }
+        ensures outside { OnErr result (bytes_of self.now.directory s ≡ None) }
+        ensures fault { IfErr result (λ fault. fault ≡ FileFault.StripOutside) }
+    {
+        let file = self.directory.file();
+        let offset = file.value_at(&self.offsets, s) as usize;
+        let len = file.value_at(&self.byte_counts, s) as usize;
+        if !is_inside(file.bytes, offset, len) {
+            return Err(FileFault::StripOutside);
+        }
+        Ok(&file.bytes[offset..offset + len])
+    }
+}
