@@ -2,13 +2,18 @@
 mod caller;
 mod written;
 
+ghost use Rattle.std.specs.Prelude.{◌≡◌};
+
 use crate::{Coding, FillOrder, StripFault, StripForm, StripReader};
 use std::alloc::Global;
 use std::process::Abort;
 use std::test::Fail;
 
 /// A form of rows of eight pels, with the highest bit of a byte first.
-fn form_of(coding: Coding, rows: u32) -> StripForm {
+fn form_of(coding: Coding, rows: u32) -> StripForm
+    ensures width { result.width ≡ 8 }
+    ensures rows { result.rows ≡ rows }
+{
     StripForm {
         coding,
         order: FillOrder::MsbFirst,
@@ -78,5 +83,75 @@ fn ends_at_a_fault(rt: HostRuntime) -> Result<(), Fail> {
     )?;
     assert_eq!(rt; runs.as_slice(), [0u32, 8].as_slice());
     assert_eq!(rt; end, Some(StripFault::OutOfRow));
+    Ok(())
+}
+
+#[test]
+fn reads_mr_rows(rt: HostRuntime) -> Result<(), Fail> {
+    // EOL 0, V0: the first row may be two-dimensional.
+    let (runs, end) = read(&rt, rt.alloc(), form_of(Coding::Mr, 1), &[0x00, 0x14])?;
+    assert_eq!(rt; runs.as_slice(), [8u32].as_slice());
+    assert_eq!(rt; end, None);
+    // EOL 1, 1011 0000110111 1011: white 4, black 0, white 4, which is no change; EOL 0, V0.
+    let bytes = [0x00, 0x1D, 0x86, 0xF6, 0x00, 0x28];
+    let (runs, end) = read(&rt, rt.alloc(), form_of(Coding::Mr, 2), &bytes)?;
+    assert_eq!(rt; runs.as_slice(), [8u32, 8].as_slice());
+    assert_eq!(rt; end, None);
+    let (runs, end) = read(&rt, rt.alloc(), form_of(Coding::Mr, 1), &[0x80])?;
+    assert!(rt; runs.is_empty());
+    assert_eq!(rt; end, Some(StripFault::MissingEol));
+    Ok(())
+}
+
+/// EOL 1, 1000 11 1000; EOL 0, V0 V0 V0.
+const TWO_ROWS: [u8; 5] = [0x00, 0x1C, 0x70, 0x00, 0x2E];
+
+/// EOL 0, V0: the row is the one before it.
+const SAME_ROW: [u8; 2] = [0x00, 0x14];
+
+/// Reads the next row, which has these runs, and sees how many bits of its strip were read then.
+fn expect_row(
+    rt: &impl Abort,
+    alloc: Global,
+    reader: &mut StripReader,
+    runs: &[u32],
+    place: u64,
+) -> Result<(), Fail> {
+    match reader.next_row()? {
+        Some(row) => assert_eq!(rt; row.runs(alloc)?.as_slice(), runs),
+        None => assert!(rt; runs.is_empty()),
+    }
+    assert_eq!(rt; reader.bit_place(), place);
+    Ok(())
+}
+
+#[test]
+fn restarts_within_a_strip(rt: HostRuntime) -> Result<(), Fail> {
+    let mut reader = StripReader::new(rt.alloc(), &TWO_ROWS, form_of(Coding::Mr, 2))?;
+    expect_row(&rt, rt.alloc(), &mut reader, &[3, 2, 3], 23)?;
+    reader.restart(&SAME_ROW, 1);
+    assert_eq!(rt; reader.bit_place(), 0);
+    expect_row(&rt, rt.alloc(), &mut reader, &[8], 14)?;
+    assert_eq!(rt; reader.rows_read(), 2);
+    Ok(())
+}
+
+#[test]
+fn restarts_behind_a_strip(rt: HostRuntime) -> Result<(), Fail> {
+    let mut reader = StripReader::new(rt.alloc(), &SAME_ROW, form_of(Coding::Mr, 1))?;
+    expect_row(&rt, rt.alloc(), &mut reader, &[8], 14)?;
+    expect_row(&rt, rt.alloc(), &mut reader, &[], 14)?;
+    reader.restart(&TWO_ROWS, 2);
+    expect_row(&rt, rt.alloc(), &mut reader, &[3, 2, 3], 23)?;
+    expect_row(&rt, rt.alloc(), &mut reader, &[3, 2, 3], 39)?;
+    Ok(())
+}
+
+#[test]
+fn restarts_after_a_fault(rt: HostRuntime) -> Result<(), Fail> {
+    let mut reader = StripReader::new(rt.alloc(), &[0x80], form_of(Coding::Mr, 1))?;
+    assert_eq!(rt; reader.advance(), Err(StripFault::MissingEol));
+    reader.restart(&SAME_ROW, 1);
+    expect_row(&rt, rt.alloc(), &mut reader, &[8], 14)?;
     Ok(())
 }
