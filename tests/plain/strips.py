@@ -1,0 +1,101 @@
+"""Strips by rule: each mode in each place over each short reference row, each code of runs, and a
+sample of strips cut at each bit and with each bit flipped."""
+
+import itertools
+import random
+
+from drawing import (
+    MAKE_UP,
+    MODE_CODES,
+    TERMINATING,
+    Builder,
+    code_strip,
+    code_two_dimensional,
+    draw_row,
+    to_bytes,
+)
+from reading import next_changing, other
+from tables import EOL
+
+
+def file_of(coding, order, width, rows, data):
+    """A file of one page with one strip."""
+    builder = Builder(random.Random(0))
+    place, put = builder.put(data), builder.numbers
+    entries = [put(256, [width]), put(257, [rows]), put(259, [4 if coding == "mmr" else 3]), put(262, [0])]
+    entries += [put(266, [order]), put(273, [place]), put(279, [len(data)])]
+    entries.append(put(292, [1 if coding == "mr" else 0]))
+    builder.put_directory(entries, 0)
+    return bytes(builder.data)
+
+
+def steps_at(reference, a0, colour):
+    """Each step that may be tried at a place, and whence it leads, if it does."""
+    width, s = len(reference), max(a0, 0)
+    b1 = next_changing(reference, a0, colour)
+    yield MODE_CODES["pass"], (next_changing(reference, b1), colour)
+    for d in range(-3, 4):
+        yield MODE_CODES[d], (b1 + d, other(colour)) if a0 < b1 + d <= width else None
+    for first, second in itertools.product(range(width - s + 2), repeat=2):
+        codes = TERMINATING[colour][first] + TERMINATING[other(colour)][second]
+        at = (s + first + second, colour) if s + first + second <= width else None
+        yield MODE_CODES["horizontal"] + codes, at
+    yield MODE_CODES["extension"], None
+
+
+def places_of(reference):
+    """Each place that steps lead to, with the codes of one way there."""
+    ways, due = {(-1, "W"): ""}, [(-1, "W")]
+    while due:
+        a0, colour = due.pop(0)
+        for codes, at in steps_at(reference, a0, colour):
+            if at and at not in ways and at[0] < len(reference):
+                ways[at] = ways[a0, colour] + codes
+                due.append(at)
+    return ways
+
+
+def mode_strips():
+    """Strips of MMR: a reference row, a row with each step in each place, and one more row."""
+    rng = random.Random(1)
+    for width in range(1, 6):
+        for pels in itertools.product("WB", repeat=width):
+            reference = "".join(pels)
+            first = code_two_dimensional(random.Random(2), "W" * width, reference)
+            for (a0, colour), way in places_of(reference).items():
+                for codes, at in steps_at(reference, a0, colour):
+                    rest = ""
+                    if at and at[0] < width:
+                        rest = MODE_CODES["horizontal"] + TERMINATING[at[1]][width - max(at[0], 0)]
+                        rest += TERMINATING[other(at[1])][0]
+                    bits = first + way + codes + rest + rng.choice(["1" * 8, "011", "00011", "0001"]) + "1" * 8
+                    order = rng.choice([1, 2])
+                    yield file_of("mmr", order, width, 3, to_bytes(bits, order))
+
+
+def run_strips():
+    """Strips of MH: each code of each colour."""
+    for colour, length in itertools.product("WB", [*range(64), *range(64, 2561, 64)]):
+        codes = TERMINATING["W"][0] if colour == "B" else ""
+        if length >= 64:
+            codes += MAKE_UP[colour][length]
+        codes += TERMINATING[colour][length % 64]
+        for order in (1, 2):
+            yield file_of("mh", order, max(length, 1), 1, to_bytes(EOL + codes, order))
+
+
+def damaged_strips():
+    """Strips of each coding, cut at each bit, and with each bit flipped."""
+    rng = random.Random(3)
+    for number in range(120):
+        coding, order = ("mh", "mr", "mmr")[number % 3], 1 + number // 3 % 2
+        width = rng.choice([8, 13, 32, 70])
+        rows = [draw_row(rng, width, "W" * width)]
+        for _ in range(2):
+            rows.append(draw_row(rng, width, rows[-1]))
+        bits = code_strip(rng, coding, rows)
+        for place in range(len(bits)):
+            flipped = bits[:place] + ("1" if bits[place] == "0" else "0") + bits[place + 1 :]
+            yield file_of(coding, order, width, 3, to_bytes(flipped, order))
+            if place % 8 == 0:
+                yield file_of(coding, order, width, 3, to_bytes(bits[:place], order))
