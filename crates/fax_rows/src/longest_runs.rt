@@ -73,11 +73,11 @@ fn end_of_run(row: &Row, from: u32, colour: Colour) -> u32
         ≡ (result - from)
         ∷ runs_ahead (result == length row.now) (other_than colour) result row.now }
 {
-    let width = row.width();
-    for i in from..width {
-        if row.pel(i) != colour {
-            return i;
-        }
+    if from == row.width() {
+        return from;
     }
-    width
+    if row.pel(from) != colour {
+        return from;
+    }
+    row.next_change(Some(from))
 }
