@@ -1,7 +1,6 @@
 pub mod PackedLemmas
 pub mod PackedLaws
 pub mod PlaceLemmas
-pub mod PaintLemmas
 pub mod StepLemmas
 pub mod RunLemmas
 pub mod RowLemmas
@@ -16,3 +15,10 @@ pub mod AheadLemmas
 pub mod PutLemmas
 pub mod PlacedLemmas
 pub mod StepFaultLaws
+pub mod TurnLemmas
+pub mod PlacedRowLemmas
+pub mod PlacedReadLemmas
+pub mod PlacedB1Lemmas
+pub mod PlacedStepLemmas
+pub mod PlacedExchangeLemmas
+pub mod PaintLemmas

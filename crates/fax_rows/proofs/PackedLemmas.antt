@@ -1,19 +1,20 @@
 -- Rows as packed bytes, bit by bit.
-use Rattle.std.proofs.Common.{◌≡◌, ℕ, zero, suc, ◌+◌, ◌-◌, ◌*◌, ◌/◌, ◌%◌, ◌^◌, ◌<◌, ◌≤◌, List, [], ◌∷◌, ◌++◌, map, length, take, drop, replicate, get_or, Bool, true, false, if◌then◌else◌, nat_eq, refl, ap, sym, ◌∙◌, arith, length-append, length-drop, get_or-drop, add-one}
+use Rattle.std.proofs.Common.{◌≡◌, ℕ, zero, suc, ◌+◌, ◌-◌, ◌*◌, ◌/◌, ◌%◌, ◌^◌, ◌<◌, ◌≤◌, List, [], ◌∷◌, ◌++◌, map, length, take, drop, replicate, get_or, Bool, true, false, if◌then◌else◌, nat_eq, refl, ap, sym, ◌∙◌, arith, length-append, length-drop, get_or-drop, add-one, below_more}
 use Rattle.std.specs.Prelude.{bit_and}
-use Rattle.std.specs.Int.{bit_at}
 use mir.Val.{bool_byte}
-use Rattle.std.proofs.Math.ListN.{get_or-append}
 use Rattle.std.proofs.Math.Nat.{pow-succ'}
-use Rattle.std.proofs.lemmas.List.{length-replicate, length-map, get_or-append-add, get_or-map, get_or-take, ext_get_or, length-take-le}
+use Rattle.std.proofs.lemmas.List.{length-replicate, length-map, get_or-map, get_or-take, ext_get_or, length-take-le}
 use Rattle.std.proofs.lemmas.List.FromFn.{fill_by_all}
 use Rattle.std.proofs.lemmas.List.Sums.{fold_more}
 use Rattle.std.proofs.lemmas.Nat.{and_mask}
 use Rattle.fax_bits.specs.declared.FillOrder.TheVariants.{MsbFirst}
 use Rattle.fax_bits.specs.declared.Colour.{Colour}
-use Rattle.fax_bits.specs.declared.Colour.TheVariants.{White}
+use Rattle.fax_bits.specs.declared.Colour.TheVariants.{White, Black}
 use Rattle.fax_bits.specs.Bits.{bits, bits_number}
 use Rattle.fax_bits.specs.Laws.{AreBitsByPlace}
+use Rattle.fax_rows.specs.Elements.{other}
+use Rattle.fax_rows.specs.code.Turns.{turned, IsTurnedFrom}
+use Rattle.fax_rows.proofs.PlacedRowLemmas.{turned-first}
 use Rattle.fax_rows.specs.Packed.{packed_len, is_black, colour_of_bit, packed_byte, packed_row, unpacked_row}
 
 -- by the law of the bits of bytes
@@ -41,6 +42,36 @@ module _ (law : AreBitsByPlace) where
       let within : k < length (bits MsbFirst bytes) = omega arith in
       each k inside ∙ sym (get_or-map colour_of_bit (bits MsbFirst bytes) k false White within)
       ∙ sym (get_or-take width (map colour_of_bit (bits MsbFirst bytes)) k White inside))
+
+-- the places that are put are those of the pels of the first i bits, behind which the row has this colour
+pub record IsUnpackedTo (b : List Bool) (places : List ℕ) (i : ℕ) (colour : Colour) : Type 0 where
+  pub before : (k : ℕ) → k < i → turned Black places k ≡ colour_of_bit (get_or b k false)
+  pub behind : (k : ℕ) → i ≤ k → turned Black places k ≡ colour
+
+pub unpacked_none : (b : List Bool) (places : List ℕ) → places ≡ 0 ∷ [] → IsUnpackedTo b places 0 White
+unpacked_none b places is = record {
+  before = λ k h. absurd (omega arith);
+  behind = λ k h. ap (λ ps. turned Black ps k) is ∙ turned-first k;
+}
+
+-- one pel more of the colour
+pub unpacked_on : (b : List Bool) (places : List ℕ) (i : ℕ) (colour pel : Colour) → IsUnpackedTo b places i colour → pel ≡ colour
+    → pel ≡ colour_of_bit (get_or b i false) → IsUnpackedTo b places (i + 1) colour
+unpacked_on b places i colour pel so_far same is = record {
+  before = below_more (λ k. turned Black places k ≡ colour_of_bit (get_or b k false)) i so_far.before
+      (so_far.behind i (omega arith) ∙ sym same ∙ is);
+  behind = λ k h. so_far.behind k (omega arith);
+}
+
+-- and one of the other colour, where it turns
+pub unpacked_turned : (b : List Bool) (old new : List ℕ) (i : ℕ) (colour pel : Colour) → IsUnpackedTo b old i colour → pel ≡ other colour
+    → pel ≡ colour_of_bit (get_or b i false) → IsTurnedFrom old new i → IsUnpackedTo b new (i + 1) pel
+unpacked_turned b old new i colour pel so_far turns is turn = record {
+  before = below_more (λ k. turned Black new k ≡ colour_of_bit (get_or b k false)) i
+      (λ k h. turn.left k h ∙ so_far.before k h)
+      (turn.right i (omega arith) ∙ ap other (so_far.behind i (omega arith)) ∙ sym turns ∙ is);
+  behind = λ k h. turn.right k (omega arith) ∙ ap other (so_far.behind k (omega arith)) ∙ sym turns;
+}
 
 -- the bits of a row, with zeros behind the last pel
 abbrev pub padded_bits : List Colour → List Bool

@@ -1,12 +1,13 @@
 -- The longest runs of a row, pel by pel.
-use Rattle.std.proofs.Common.{◌≡◌, ◌≢◌, ℕ, suc, ◌+◌, ◌-◌, ◌<◌, ◌≤◌, List, [], ◌∷◌, length, drop, get_or, Bool, true, false, not, nat_eq, refl, ap, sym, ◌∙◌, arith, drop-cons}
-use Rattle.std.proofs.lemmas.Bool.Decides.{nat_tests}
+use Rattle.std.proofs.Common.{◌≡◌, ◌≢◌, ℕ, zero, suc, ◌+◌, ◌-◌, ◌<◌, ◌≤◌, List, [], ◌∷◌, length, take, drop, get_or, Bool, true, false, not, nat_eq, refl, ap, sym, ◌∙◌, subst, arith, drop-cons, length-drop, get_or-drop}
 use Rattle.std.proofs.Math.Numerals.{suc-eq-add-one}
-use Rattle.std.proofs.lemmas.List.{drop_all}
+use Rattle.std.proofs.lemmas.List.{drop_all, get_or-take, length-take-le}
 use Rattle.fax_bits.specs.declared.Colour.{Colour}
 use Rattle.fax_bits.specs.declared.Colour.TheVariants.{White, Black}
-use Rattle.fax_rows.specs.Elements.{other, runs_behind}
-use Rattle.fax_rows.specs.code.LongestRuns.{runs_ahead}
+use Rattle.std.specs.List.{filter, range_with_len}
+use Rattle.fax_rows.specs.Elements.{other, same_colour, pel, pel_before, is_changing, runs_behind, runs_of}
+use Rattle.fax_rows.specs.code.LongestRuns.{gaps, AreAheadOf}
+use Rattle.fax_rows.specs.code.Turns.{ArePlaces}
 
 -- behind the last pel stands the run so far
 pub runs_behind-nil : (colour : Colour) (n : ℕ) → runs_behind colour n [] ≡ n ∷ []
@@ -40,7 +41,7 @@ pub not_false : (b : Bool) → not b ≡ false → b ≡ true
 not_false true h = refl
 not_false false h = cc
 
-differs_is : (colour pel : Colour) → pel ≢ colour → pel ≡ other colour
+pub differs_is : (colour pel : Colour) → pel ≢ colour → pel ≡ other colour
 differs_is White Black h = refl
 differs_is Black White h = refl
 differs_is White White h = absurd (h refl)
@@ -62,39 +63,110 @@ turns colour first n i pels within at other =
     ∙ runs_behind-other colour first n (drop (suc i) pels) other
     ∙ ap (λ j. n ∷ runs_behind first 1 (drop j pels)) (suc-eq-add-one i)
 
--- a run that begins at a place has no pels so far
-pub run_begins : (colour : Colour) (from : ℕ) (pels : List Colour)
-    → runs_behind colour 0 (drop from pels) ≡ runs_behind colour (from - from) (drop from pels)
-run_begins colour from pels =
-    let none : from - from ≡ 0 = omega arith in
-    ap (λ n. runs_behind colour n (drop from pels)) (sym none)
+-- the colour of a run goes on at a pel that is no changing element, and turns at one that is
+changes_not : (a b : Colour) → not (same_colour a b) ≡ false → a ≡ b
+changes_not White White h = refl
+changes_not Black Black h = refl
+changes_not White Black h = cc
+changes_not Black White h = cc
 
--- it goes on at a pel of its colour
-pub run_goes_on : (colour : Colour) (from i : ℕ) (pels : List Colour) → from ≤ i → i < length pels → get_or pels i White ≡ colour
-    → runs_behind colour 0 (drop from pels) ≡ runs_behind colour (i - from) (drop i pels)
-    → runs_behind colour 0 (drop from pels) ≡ runs_behind colour (i + 1 - from) (drop (i + 1) pels)
-run_goes_on colour from i pels right within same so_far =
-    let more : i - from + 1 ≡ i + 1 - from = omega arith in
-    so_far ∙ goes_on colour colour (i - from) i pels within same refl ∙ ap (λ n. runs_behind colour n (drop (i + 1) pels)) more
+changes_so : (a b : Colour) → not (same_colour a b) ≡ true → a ≢ b
+changes_so White White h e = cc
+changes_so Black Black h e = cc
+changes_so White Black h e = cc
+changes_so Black White h e = cc
 
--- and ends before a pel of the other colour, with which the next run begins
-pub run_turns : (colour : Colour) (from i : ℕ) (pels : List Colour) → i < length pels → get_or pels i White ≢ colour
-    → runs_behind colour 0 (drop from pels) ≡ runs_behind colour (i - from) (drop i pels)
-    → runs_behind colour 0 (drop from pels) ≡ (i - from) ∷ runs_ahead (nat_eq i (length pels)) (other colour) i pels
-run_turns colour from i pels within differs so_far =
-    let inside : nat_eq i (length pels) ≡ false = grind (arith, nat_tests) in
-    let next : get_or pels i White ≡ other colour = differs_is colour (get_or pels i White) differs in
-    rw inside
-    (so_far ∙ turns colour (get_or pels i White) (i - from) i pels within refl differs
-    ∙ ap (λ c. (i - from) ∷ runs_behind c 1 (drop (i + 1) pels)) next
-    ∙ ap (λ runs. (i - from) ∷ runs) (sym (goes_on (other colour) (other colour) 0 i pels within next refl)))
+-- the colour before the pel behind place i
+before_next : (row : List Colour) (i : ℕ) → pel_before row (i + 1) ≡ pel row i
+before_next row i = let same : i + 1 ≡ suc i = omega arith in ap (λ k. pel_before row k) same
 
--- or behind the last pel
-pub run_ends : (colour : Colour) (from i : ℕ) (pels : List Colour) → i ≡ length pels
-    → runs_behind colour 0 (drop from pels) ≡ runs_behind colour (i - from) (drop i pels)
-    → runs_behind colour 0 (drop from pels) ≡ (i - from) ∷ runs_ahead (nat_eq i (length pels)) (other colour) i pels
-run_ends colour from i pels over so_far =
-    let behind : nat_eq i (length pels) ≡ true = grind (arith, nat_tests) in
-    let end : length pels ≤ i = omega arith in
-    rw behind
-    (so_far ∙ ap (λ xs. runs_behind colour (i - from) xs) (drop_all i pels end) ∙ runs_behind-nil colour (i - from))
+-- the gaps between the changing elements behind place i
+abbrev GapsFrom : List Colour → ℕ → ℕ → ℕ → Type 0
+GapsFrom row n i from =
+    gaps from (filter (is_changing row) (range_with_len i n)) (length row) ≡ runs_behind (pel_before row i) (i - from) (drop i row)
+
+-- one place more
+gaps_more : (row : List Colour) (n i from : ℕ) (b : Bool) → is_changing row i ≡ b → i < length row → from ≤ i
+    → ((next : ℕ) → next ≤ i + 1 → GapsFrom row n (i + 1) next) → GapsFrom row (suc n) i from
+gaps_more row n i from true is inside order more =
+    let one : i + 1 - i ≡ 1 = omega arith in
+    rw is
+    (ap (λ runs. (i - from) ∷ runs)
+    (more i (omega arith) ∙ ap (λ c. runs_behind c (i + 1 - i) (drop (i + 1) row)) (before_next row i)
+    ∙ ap (λ k. runs_behind (pel row i) k (drop (i + 1) row)) one)
+    ∙ sym (turns (pel_before row i) (pel row i) (i - from) i row inside refl (changes_so (pel row i) (pel_before row i) is)))
+gaps_more row n i from false is inside order more =
+    let count : i + 1 - from ≡ i - from + 1 = omega arith in
+    let same : pel row i ≡ pel_before row i = changes_not (pel row i) (pel_before row i) is in
+    rw is
+    (more from (omega arith) ∙ ap (λ c. runs_behind c (i + 1 - from) (drop (i + 1) row)) (before_next row i ∙ same)
+    ∙ ap (λ k. runs_behind (pel_before row i) k (drop (i + 1) row)) count
+    ∙ sym (goes_on (pel_before row i) (pel row i) (i - from) i row inside refl same))
+
+-- they are the runs that are left
+gaps_from : (row : List Colour) (n i from : ℕ) → from ≤ i → i + n ≡ length row → GapsFrom row n i from
+gaps_from row zero i from order all =
+    let end : i ≡ length row = omega arith in
+    ap (λ k. (k - from) ∷ []) (sym end)
+    ∙ sym (ap (runs_behind (pel_before row i) (i - from)) (drop_all i row (omega arith)) ∙ runs_behind-nil (pel_before row i) (i - from))
+gaps_from row (suc n) i from order all =
+    gaps_more row n i from (is_changing row i) refl (omega arith) order
+    (λ next near. gaps_from row n (i + 1) next near (omega arith))
+
+-- the gaps between the changing elements of a row are its runs
+pub gaps_are_runs : (row : List Colour) (changes : List ℕ) → changes ≡ filter (is_changing row) (range_with_len 0 (length row))
+    → gaps 0 changes (length row) ≡ runs_of row
+gaps_are_runs row changes is =
+    ap (λ places. gaps 0 places (length row)) is ∙ gaps_from row (length row) 0 0 (omega arith) (omega arith)
+
+-- each place further on is no less
+ascend_on : (next : ℕ) (changes : List ℕ)
+    → ((i : ℕ) → i + 1 < length (next ∷ changes) → get_or (next ∷ changes) i 0 ≤ get_or (next ∷ changes) (i + 1) 0)
+    → (i : ℕ) → i < length changes → get_or (next ∷ changes) i 0 ≤ get_or changes i 0
+ascend_on next changes up i h =
+    let same : i + 1 ≡ suc i = omega arith in
+    subst (λ k. get_or (next ∷ changes) i 0 ≤ get_or (next ∷ changes) k 0) same (up i (omega arith))
+
+below_all : (next : ℕ) (changes : List ℕ) → ((i : ℕ) → i < length changes → get_or (next ∷ changes) i 0 ≤ get_or changes i 0)
+    → (i : ℕ) → i < length changes → next ≤ get_or changes i 0
+below_all next changes up zero h = up 0 h
+below_all next changes up (suc i) h =
+    let before = below_all next changes up i (omega arith) in
+    let step : get_or changes i 0 ≤ get_or changes (suc i) 0 = up (suc i) h in
+    omega arith
+
+-- the places behind the next one are ahead of it
+pub ahead_of_next : (from next : ℕ) (changes : List ℕ) (width : ℕ) → AreAheadOf from (next ∷ changes) width → AreAheadOf next changes width
+ahead_of_next from next changes width all =
+    let up = ascend_on next changes all.steps in
+    record {
+      short = all.short;
+      within = all.left 0 (omega arith);
+      right = below_all next changes up;
+      left = λ i h. all.left (suc i) (omega arith);
+      steps = λ i h.
+          let same : i + 1 ≡ suc i = omega arith in
+          subst (λ k. get_or changes i 0 ≤ get_or changes k 0) (sym same) (up (suc i) (omega arith));
+    }
+
+-- the changes of a row are ahead of its first pel
+pub changes_ahead : (places : List ℕ) (end width : ℕ) → ArePlaces places end width → AreAheadOf 0 (take (end - 1) (drop 1 places)) width
+changes_ahead places end width all = record {
+  short = all.short;
+  within = omega arith;
+  right = λ i h. omega arith;
+  left = λ i h. let less = all.below (suc i) (omega arith) (omega (arith, len)) in omega (arith, at i (omega (arith, len)));
+  steps = λ i h.
+      let same : suc i + 1 ≡ suc (i + 1) = omega arith in
+      let up : get_or places (suc i) 0 < get_or places (suc (i + 1)) 0 =
+      subst (λ k. get_or places (suc i) 0 < get_or places k 0) same (all.ascending.steps (suc i) (omega arith) (omega (arith, len))) in
+      omega (arith, at i (omega (arith, len)), at (i + 1) (omega (arith, len)));
+}
+  where
+    len : length (take (end - 1) (drop 1 places)) ≡ end - 1
+    len = length-take-le (end - 1) (drop 1 places) (omega (arith, length-drop 1 places, all.ascending.within))
+
+    at : (i : ℕ) → i < end - 1 → get_or (take (end - 1) (drop 1 places)) i 0 ≡ get_or places (suc i) 0
+    at i h =
+        let same : 1 + i ≡ suc i = omega arith in
+        get_or-take (end - 1) (drop 1 places) i 0 h ∙ get_or-drop 1 places i 0 ∙ ap (λ k. get_or places k 0) same

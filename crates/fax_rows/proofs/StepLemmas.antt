@@ -69,7 +69,7 @@ pub steps_begin : (reference row : List Colour) (b : List Bool)
 steps_begin reference row b = record { positions = []; steps = (refl, refl) }
 
 -- a row is unfinished while a pel is left
-unfinished_below : (reference : List Colour) (o : Option ℕ) → unwrap_or o 0 < length reference → o ≡ Some (length reference) → ⊥
+pub unfinished_below : (reference : List Colour) (o : Option ℕ) → unwrap_or o 0 < length reference → o ≡ Some (length reference) → ⊥
 unfinished_below reference None less e = cc
 unfinished_below reference (Some a) less e = let same : a ≡ length reference = cc in omega arith
 

@@ -2,3 +2,5 @@
 pub mod Ahead
 pub mod LongestRuns
 pub mod Reached
+pub mod Turns
+pub mod PlacedReached

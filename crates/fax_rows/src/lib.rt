@@ -12,6 +12,7 @@ mod put;
 mod runs;
 #[cfg(test)]
 mod tests;
+mod turns;
 mod two_dimensional;
 
 use fax_bits::CodeFault;

@@ -1,13 +1,42 @@
 //! Rows in one-dimensional coding (ITU-T T.4, section 4.1.1).
-ghost use Rattle.std.specs.Prelude.{◌≡◌, length, OnOk, IfErr};
+ghost use Rattle.std.specs.Prelude.{◌≡◌, ◌+◌, ◌-◌, ◌≤◌, ◌<◌, ◌^◌, length, slice_index};
+ghost use Rattle.std.specs.Prelude.{OnOk, IfOk, IfErr};
 ghost use Rattle.fax_bits.specs.code.Source.{KeepsEnd};
 ghost use Rattle.fax_rows.specs.OneDimensional.{IsOneDimensionalRow};
 ghost use Rattle.fax_rows.specs.Faults.{IsOneDimensionalFault};
+ghost use Rattle.fax_rows.specs.code.Turns.{row_of, IsAscending};
 
 use crate::RowFault;
 use crate::pels::Row;
 use crate::runs::{other, read_run};
+use crate::turns::{close, turn};
 use fax_bits::{BitSource, Colour};
+
+/// Reads the runs of a row in one-dimensional coding, and answers where its places end.
+fn read_places(source: &mut BitSource, places: &mut [u32], width: u32) -> Result<usize, RowFault>
+    requires some { 0 < width }
+    requires short { width < 2 ^ 16 }
+    requires room { length places.old ≡ width + 4 }
+    requires first { slice_index places.old 0 ≡ 0 }
+    ensures ok { IfOk result (λ end. IsOneDimensionalRow width source.old.left
+        (row_of places.new end width) source.new.left) }
+    ensures ascending { IfOk result (λ end. IsAscending places.new end) }
+    ensures last { IfOk result (λ end. slice_index places.new (end - 1) ≤ width) }
+    ensures err { IfErr result (λ fault. IsOneDimensionalFault width source.old.left fault) }
+    ensures first { slice_index places.new 0 ≡ 0 }
+    ensures same_len { length places.new ≡ length places.old }
+    ensures same_end { KeepsEnd source.old source.new }
+{
+    let mut end = 1;
+    let mut total = 0;
+    let mut colour = Colour::White;
+    while total < width {
+        total += read_run(source, colour, width, total)?;
+        end = turn(places, end, total);
+        colour = other(colour);
+    }
+    Ok(end)
+}
 
 /// Reads a row in one-dimensional coding: runs of white and black pels in turn, white first, up to
 /// the row's width (T.4, section 4.1.1). It takes no memory.
@@ -25,14 +54,16 @@ pub fn read_1d(source: &mut BitSource, row: &mut Row) -> Result<(), RowFault>
     // The source goes on in the same bits.
     ensures same_end { KeepsEnd source.old source.new }
 {
-    let width = row.width();
-    let mut total = 0;
-    let mut colour = Colour::White;
-    while total < width {
-        let n = read_run(source, colour, width, total)?;
-        row.paint(total, n, colour);
-        total += n;
-        colour = other(colour);
+    let width = row.width;
+    let places = row.places.as_mut_slice();
+    match read_places(source, places, width) {
+        Ok(end) => {
+            row.end = close(places, end, width);
+            Ok(())
+        }
+        Err(fault) => {
+            row.end = close(places, 1, width);
+            Err(fault)
+        }
     }
-    Ok(())
 }

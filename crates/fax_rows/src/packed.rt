@@ -1,11 +1,14 @@
 //! Rows as packed bytes, as in a raw PBM (the netpbm format, P4): eight pels in a byte, the
 //! leftmost in its highest bit, where 1 is black.
-ghost use Rattle.std.specs.Prelude.{◌≡◌, ◌*◌, ◌<◌, ◌^◌, length, map, slice_index_or, false, IfOk};
+ghost use Rattle.std.specs.Prelude.{◌≡◌, ◌+◌, ◌-◌, ◌*◌, ◌<◌, ◌≤◌, ◌^◌, length, map, false, IfOk};
+ghost use Rattle.std.specs.Prelude.{slice_index, slice_index_or};
 ghost use Rattle.fax_bits.specs.Bits.{bits};
 ghost use Rattle.fax_bits.specs.declared.FillOrder.TheVariants.{MsbFirst};
 ghost use Rattle.fax_rows.specs.Packed as Spec;
+ghost use Rattle.fax_rows.specs.code.Turns.{row_of, IsAscending};
 
 use crate::pels::Row;
+use crate::turns::{close, turn};
 use fax_bits::laws::bits_stand_by_place;
 use fax_bits::{Colour, Memory};
 use std::alloc::Global;
@@ -25,11 +28,10 @@ impl Row {
         ensures pels { IfOk result (λ row. row ≡ Spec.unpacked_row width bytes.now) }
         ensures same_width { IfOk result (λ row. length row ≡ width) }
     {
-        bits_stand_by_place();
         let mut row = Row::white(alloc, width)?;
-        for i in 0..width {
-            row.paint(i, 1, colour_of(bit(bytes, i)));
-        }
+        let places = row.places.as_mut_slice();
+        let end = places_of_bits(bytes, places, width);
+        row.end = close(places, end, width);
         Ok(row)
     }
 
@@ -63,6 +65,32 @@ impl Row {
     {
         i < self.width() && self.pel(i) == Colour::Black
     }
+}
+
+/// Puts the places of change of the row of `width` pels that these bytes hold, and answers where
+/// they end.
+fn places_of_bits(bytes: &[u8], places: &mut [u32], width: u32) -> usize
+    requires some { 0 < width }
+    requires short { width < 2 ^ 16 }
+    requires whole { length bytes.now ≡ Spec.packed_len width }
+    requires room { length places.old ≡ width + 4 }
+    requires first { slice_index places.old 0 ≡ 0 }
+    ensures ascending { IsAscending places.new result }
+    ensures last { slice_index places.new (result - 1) ≤ width }
+    ensures pels { row_of places.new result width ≡ Spec.unpacked_row width bytes.now }
+    ensures same_len { length places.new ≡ length places.old }
+{
+    bits_stand_by_place();
+    let mut end = 1;
+    let mut colour = Colour::White;
+    for i in 0..width {
+        let pel = colour_of(bit(bytes, i));
+        if pel != colour {
+            end = turn(places, end, i);
+            colour = pel;
+        }
+    }
+    end
 }
 
 /// Bit `i` of the bytes, the highest of each byte first.

@@ -1,10 +1,10 @@
 //! A row of pels.
-ghost use Rattle.std.specs.Prelude.{◌≡◌, ℕ, ◌+◌, ◌≤◌, ◌<◌, ◌^◌, ◌++◌, length, take, replicate, map};
-ghost use Rattle.std.specs.Prelude.{slice_index_or, IfOk};
-ghost use Rattle.fax_rows.specs.Elements.{other as other_than, runs_of, pel as pel_of};
+ghost use Rattle.std.specs.Prelude.{◌≡◌, ◌<◌, ◌^◌, length, replicate, map, IfOk};
+ghost use Rattle.std.specs.List.{filter, range_with_len};
+ghost use Rattle.fax_rows.specs.Elements.{other as other_than, runs_of, is_changing, pel as pel_of};
 
 use crate::longest_runs::LongestRuns;
-use crate::runs::other;
+use crate::turns::{close, places_up_to, turn_first};
 use fax_bits::{Colour, Memory};
 use std::alloc::Global;
 use std::marker::Model;
@@ -12,19 +12,23 @@ use std::marker::Model;
 /// A row of 1 to 65,535 pels. Contracts see the list of its pels, from left to right.
 #[derive(Drop)]
 pub struct Row {
-    pels: Vec<Colour>,
+    /// A 0, the places of change in ascending order, and at least three times the width.
+    pub(crate) places: Vec<u32>,
+    /// The index behind the last change.
+    pub(crate) end: usize,
+    pub(crate) width: u32,
 }
 
 impl Model for Row {
     ghost use Rattle.std.specs.Prelude.{List};
     ghost use Rattle.fax_bits.specs.declared.Colour.{Colour};
-    ghost use Rattle.fax_rows.specs.Elements.{HasWidth};
+    ghost use Rattle.fax_rows.specs.code.Turns.{row_of, ArePlaces};
 
     ghost Value = { List Colour };
 
-    ghost view = { λ row. row.pels.items };
+    ghost view = { λ row. row_of row.places.items row.end row.width };
 
-    ghost invariant = { λ row. HasWidth row.pels.items };
+    ghost invariant = { λ row. ArePlaces row.places.items row.end row.width };
 }
 
 impl Row {
@@ -39,8 +43,13 @@ impl Row {
         ensures pels { IfOk result (λ row. row ≡ replicate width Colour.White) }
         ensures same_width { IfOk result (λ row. length row ≡ width) }
     {
-        let pels = vec![in alloc; Colour::White; width as usize].map_err(|_| Memory)?;
-        Ok(Row { pels })
+        let mut places = vec![in alloc; width; width as usize + 4].map_err(|_| Memory)?;
+        places[0] = 0;
+        Ok(Row {
+            places,
+            end: 1,
+            width,
+        })
     }
 
     /// How many pels the row has.
@@ -51,7 +60,7 @@ impl Row {
         ensures some { 0 < result }
         ensures short { result < 2 ^ 16 }
     {
-        self.pels.len() as u32
+        self.width
     }
 
     /// The pel at place `i`, where 0 is the leftmost.
@@ -59,7 +68,18 @@ impl Row {
         requires { i < length self.now }
         ensures { result ≡ pel_of self.now i }
     {
-        self.pels[i as usize]
+        if places_up_to(&self.places, self.end, i) % 2 == 1 {
+            Colour::White
+        } else {
+            Colour::Black
+        }
+    }
+
+    /// The changing elements, from left to right (T.4, section 4.2.1.3.1).
+    pub fn changes(&self) -> &[u32]
+        ensures { result.now ≡ filter (is_changing self.now) (range_with_len 0 (length self.now)) }
+    {
+        &self.places[1..self.end]
     }
 
     /// The lengths in pels of the longest runs, white first: 0 where the row begins black
@@ -83,9 +103,8 @@ impl Row {
     pub fn exchange(&mut self)
         ensures { self.new ≡ map other_than self.old }
     {
-        for pel in self.pels.iter_mut() {
-            *pel = other(*pel);
-        }
+        let places = self.places.as_mut_slice();
+        self.end = turn_first(places, self.end, self.width);
     }
 
     /// Takes the pels of a row of the same width.
@@ -93,27 +112,15 @@ impl Row {
         requires { length self.old ≡ length row.now }
         ensures { self.new ≡ row.now }
     {
-        self.pels.copy_from_slice(&row.pels);
+        self.places.copy_from_slice(&row.places);
+        self.end = row.end;
     }
 
     /// Turns all pels white. It takes no memory.
     pub fn whiten(&mut self)
         ensures { self.new ≡ replicate (length self.old) Colour.White }
     {
-        self.pels.fill(Colour::White);
-    }
-
-    /// Gives `n` pels from place `from` on this colour.
-    pub(crate) fn paint(&mut self, from: u32, n: u32, colour: Colour)
-        requires { from + n ≤ length self.old }
-        ensures before { (k : ℕ) → k < from → pel_of self.new k ≡ pel_of self.old k }
-        ensures painted { (k : ℕ) → from ≤ k → k < from + n → pel_of self.new k ≡ colour }
-        ensures front { take (from + n) self.new ≡ take from self.old ++ replicate n colour }
-        ensures same_width { length self.new ≡ length self.old }
-    {
-        let first = from as usize;
-        for i in first..first + n as usize {
-            self.pels[i] = colour;
-        }
+        let places = self.places.as_mut_slice();
+        self.end = close(places, 1, self.width);
     }
 }

@@ -3,51 +3,10 @@ ghost use Rattle.std.specs.Prelude.{◌≡◌, ℕ, ◌≤◌, ◌<◌, ◌&&◌
 ghost use Rattle.fax_rows.specs.Elements as Spec;
 
 use crate::pels::Row;
+use crate::turns::places_up_to;
 use fax_bits::Colour;
 
 impl Row {
-    /// Pel `i` is a changing element: its colour differs from that of the pel before it, where an
-    /// imaginary white pel stands before the first one.
-    fn is_changing(&self, i: u32) -> bool
-        requires { i < length self.now }
-        ensures { result ≡ Spec.is_changing self.now i }
-    {
-        let before = if i == 0 {
-            Colour::White
-        } else {
-            self.pel(i - 1)
-        };
-        self.pel(i) != before
-    }
-
-    /// Pel `i` is a changing element that is not of this colour.
-    fn is_change_from(&self, i: u32, colour: Colour) -> bool
-        requires { i < length self.now }
-        ensures { result ≡ (Spec.is_changing self.now i
-            && not (Spec.same_colour (Spec.pel self.now i) colour)) }
-    {
-        self.is_changing(i) && self.pel(i) != colour
-    }
-
-    /// The leftmost place right of `from`, or the width where there is none.
-    fn first_right_of(&self, from: Option<u32>) -> u32
-        ensures within { result ≤ length self.now }
-        ensures left { (k : ℕ) → k < result → Spec.is_right_of from k ≡ false }
-        ensures right { (k : ℕ) → result ≤ k → k < length self.now
-            → Spec.is_right_of from k ≡ true }
-    {
-        match from {
-            None => 0,
-            Some(place) => {
-                if place < self.width() {
-                    place + 1
-                } else {
-                    self.width()
-                }
-            }
-        }
-    }
-
     /// The place of the next changing element right of `from`, or the width where there is none
     /// (T.4, section 4.2.1.3.1). `None` is the place just before the first pel.
     pub fn next_change(&self, from: Option<u32>) -> u32
@@ -55,13 +14,10 @@ impl Row {
         ensures within { result ≤ length self.now }
         ensures right { result < length self.now → Spec.is_right_of from result ≡ true }
     {
-        let width = self.width();
-        for i in self.first_right_of(from)..width {
-            if self.is_changing(i) {
-                return i;
-            }
+        match from {
+            None => self.places[1],
+            Some(place) => self.places[places_up_to(&self.places, self.end, place)],
         }
-        width
     }
 
     /// The place of the next changing element right of `from` that is not of this colour, or the
@@ -73,12 +29,11 @@ impl Row {
         ensures right { result < length self.now → Spec.is_right_of from result ≡ true }
     {
         let width = self.width();
-        for i in self.first_right_of(from)..width {
-            if self.is_change_from(i, colour) {
-                return i;
-            }
+        let mut place = self.next_change(from);
+        while place < width && self.pel(place) == colour {
+            place = self.next_change(Some(place));
         }
-        width
+        place
     }
 }
 

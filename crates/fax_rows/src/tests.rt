@@ -167,3 +167,24 @@ fn packs_and_unpacks_rows(rt: HostRuntime) -> Result<(), Fail> {
     );
     Ok(())
 }
+
+#[test]
+fn lends_the_changes(rt: HostRuntime) -> Result<(), Fail> {
+    let cases: [(&str, u8, &[u32]); 3] = [
+        ("black inside", 0x18, &[3, 5]),
+        ("black first", 0xC0, &[0, 2]),
+        ("black alone", 0xFF, &[0]),
+    ];
+    for (name, pels, changes) in cases {
+        let row = Row::from_packed(rt.alloc(), &[pels], 8)?;
+        assert_eq!(rt; row.changes(), changes, "{name}");
+    }
+    // White 4, black 0, white 0, black 0, white 4: no colour changes.
+    let mut row = Row::white(rt.alloc(), 8)?;
+    let bytes = [0xB0, 0xDC, 0xD4, 0x37, 0xB0];
+    let mut source = BitSource::new(&bytes, FillOrder::MsbFirst);
+    assert_eq!(rt; read_1d(&mut source, &mut row), Ok(()));
+    assert_eq!(rt; row.changes().is_empty(), true);
+    assert_eq!(rt; row.runs(rt.alloc())?.as_slice(), [8u32].as_slice());
+    Ok(())
+}

@@ -1,9 +1,20 @@
 -- The longest runs of a row that are still to come.
-use Rattle.std.specs.Prelude.{ℕ, Bool, true, false, List, [], drop}
-use Rattle.fax_bits.specs.declared.Colour.{Colour}
-use Rattle.fax_rows.specs.Elements.{runs_behind}
+use Rattle.std.specs.Prelude.{ℕ, ◌+◌, ◌-◌, ◌<◌, ◌≤◌, ◌^◌, Bool, true, false, List, [], ◌∷◌, length, slice_index}
 
--- none where the last one was given, else those from a place on, of which the first is of this colour
-abbrev pub runs_ahead : Bool → Colour → ℕ → List Colour → List ℕ
-runs_ahead true colour from row = []
-runs_ahead false colour from row = runs_behind colour 0 (drop from row)
+-- how far it is from a place to each of the next ones, and at last to the width
+abbrev pub gaps : ℕ → List ℕ → ℕ → List ℕ
+gaps from [] width = (width - from) ∷ []
+gaps from (place ∷ places) width = (place - from) ∷ gaps place places width
+
+-- none where the last one was given
+abbrev pub runs_ahead : Bool → ℕ → List ℕ → ℕ → List ℕ
+runs_ahead true from changes width = []
+runs_ahead false from changes width = gaps from changes width
+
+-- the changes ascend from a place on up to the width
+pub record AreAheadOf (from : ℕ) (changes : List ℕ) (width : ℕ) : Type 0 where
+  pub short : width < 2 ^ 16
+  pub within : from ≤ width
+  pub right : (i : ℕ) → i < length changes → from ≤ slice_index changes i
+  pub left : (i : ℕ) → i < length changes → slice_index changes i ≤ width
+  pub steps : (i : ℕ) → i + 1 < length changes → slice_index changes i ≤ slice_index changes (i + 1)

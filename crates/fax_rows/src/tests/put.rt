@@ -98,12 +98,32 @@ fn marks(alloc: Global, kind: u32, seed: u32, len: usize) -> Result<Vec<u8>, Fai
 
 #[test]
 fn reads_back_what_it_writes(rt: HostRuntime) -> Result<(), Fail> {
-    for width in [1, 2, 7, 8, 9, 64, 1728, 65_535] {
+    for width in [1, 2, 7, 8, 9, 64, 1728] {
         for over in 0..5 {
             for kind in 0..5 {
                 reads_back(&rt, rt.alloc(), width, over, kind)?;
             }
         }
+    }
+    Ok(())
+}
+
+#[test]
+fn reads_back_the_row_of_most_changes(rt: HostRuntime) -> Result<(), Fail> {
+    reads_back(&rt, rt.alloc(), 65_535, 0, 2)?;
+    let mut bytes = Vec::new(rt.alloc());
+    for _ in 0..8192 {
+        bytes.push(0xAA)?;
+    }
+    assert!(rt; bytes.len() == 8192);
+    let row = Row::from_packed(rt.alloc(), &bytes, 65_535)?;
+    let mut sink = BitSink::new(rt.alloc(), FillOrder::MsbFirst);
+    put_1d(&row, &mut sink)?;
+    assert_eq!(rt; sink.len(), 294_914);
+    let runs = row.runs(rt.alloc())?;
+    assert_eq!(rt; runs.len(), 65_536);
+    for (i, run) in runs.iter().enumerate() {
+        assert_eq!(rt; *run, u32::from(i > 0), "{i}");
     }
     Ok(())
 }

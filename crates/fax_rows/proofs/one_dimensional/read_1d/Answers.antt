@@ -1,20 +1,29 @@
-use Rattle.std.proofs.Common.{arith}
-use Rattle.fax_rows.proofs.RowLemmas.{row_goes_on, row_done}
+use Rattle.std.proofs.Common.{length, take, ap, ◌∙◌, arith}
+use Rattle.fax_rows.specs.code.Turns.{pels_by}
+use Rattle.fax_rows.proofs.TurnLemmas.{length-pels_by}
+use Rattle.fax_rows.proofs.PlacedRowLemmas.{width_is}
+use Rattle.fax_rows.proofs.PlacedReadLemmas.{one_dimensional_as, refilled}
 use Rattle.fax_rows.proofs.one_dimensional.read_1d.Goals as goal
 
-pub loop-total-preserved : goal.loop-total-preserved
-loop-total-preserved c = record {
-  so_far = rw c.other-colour.ensures
-      (row_goes_on c.width-width.result c.args.source.now.left c.loop-total.total c.in_ok-n.n c.loop-total.colour
-      c.loop-total.row c.paint.new.self c.loop-total.source.left c.read_run.new.source.left
-      c.loop-total.invariant.so_far c.loop-total-test.true c.in_ok-n.ensures.ok c.paint.ensures.before c.paint.ensures.painted);
-  within = c.in_ok-n.ensures.within;
-  same_width = omega (arith, c.paint.ensures.same_width);
-  same_end = omega (arith, c.in_ok-n.ensures.same_end);
-}
+pub returns-in-Ok-clause-ok : goal.returns-in-Ok-clause-ok
+returns-in-Ok-clause-ok c =
+    let same = width_is c.row.inside.places.items c.row.inside.end c.row.inside.width c.row.invariant c.args.row.now c.row.view_is in
+    one_dimensional_as c.row.inside.width (length c.args.row.now) _ _ _ _ c.in-Ok.ensures.ok same
+    (ap (λ places. pels_by c.row.inside.width (take c.close-row-inside.result places))
+    (refilled c.row.inside.places.len c.close-row-inside.new.places c.row.inside.places.items (omega arith))
+    ∙ c.close-row-inside.ensures.pels)
 
-pub returns-clause-ok : goal.returns-clause-ok
-returns-clause-ok c =
-    rw (← c.width-width.ensures.length)
-    (row_done c.width-width.result _ c.loop-total.total c.loop-total.colour _ _ c.loop-total.invariant.so_far
-    (omega arith) c.loop-total.invariant.same_width)
+pub returns-in-Ok-clause-same_width : goal.returns-in-Ok-clause-same_width
+returns-in-Ok-clause-same_width c =
+    length-pels_by c.row.inside.width _
+    ∙ width_is c.row.inside.places.items c.row.inside.end c.row.inside.width c.row.invariant c.args.row.now c.row.view_is
+
+pub returns-in-Err-clause-err : goal.returns-in-Err-clause-err
+returns-in-Err-clause-err c =
+    let same = width_is c.row.inside.places.items c.row.inside.end c.row.inside.width c.row.invariant c.args.row.now c.row.view_is in
+    rw (← same) c.in-Err.ensures.err
+
+pub returns-in-Err-clause-same_width : goal.returns-in-Err-clause-same_width
+returns-in-Err-clause-same_width c =
+    length-pels_by c.row.inside.width _
+    ∙ width_is c.row.inside.places.items c.row.inside.end c.row.inside.width c.row.invariant c.args.row.now c.row.view_is

@@ -1,8 +1,5 @@
-use Rattle.std.proofs.Common.{◌-◌, arith, Some, refl, ap, subst}
-use Rattle.std.specs.Prelude.{unwrap_or}
-use Rattle.fax_bits.specs.Runs.{run_bits, run_codes}
-use Rattle.fax_bits.specs.code.Sink.{Appends, AppendsCodes, AppendsPrefix}
-use Rattle.fax_rows.specs.Elements.{other, next_change}
+use Rattle.std.proofs.Common.{arith, Some, refl}
+use Rattle.fax_rows.specs.Elements.{other}
 use Rattle.fax_rows.proofs.ChangeLemmas.{next_change_is, next_is_ahead}
 use Rattle.fax_rows.proofs.PutLemmas.{on_err, put_begins, put_goes_on, put_stops, put_stops_in_last, bits_of_codes}
 use Rattle.fax_rows.proofs.put.put_run_pair.Goals as goal

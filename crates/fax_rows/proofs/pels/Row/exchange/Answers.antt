@@ -1,16 +1,15 @@
-use Rattle.std.proofs.Common.{get_or, ap, ◌∙◌, arith}
-use Rattle.std.proofs.Math.ListN.{set}
-use Rattle.std.proofs.lemmas.List.{get_or_default}
-use Rattle.std.proofs.lemmas.List.Edits.{map_over_more}
-use Rattle.fax_bits.specs.declared.Colour.TheVariants.{White}
+use Rattle.std.proofs.Common.{take, map, ap, ◌∙◌, arith}
 use Rattle.fax_rows.specs.Elements.{other}
+use Rattle.fax_rows.specs.code.Turns.{pels_by}
+use Rattle.fax_rows.proofs.PlacedExchangeLemmas.{exchanged}
+use Rattle.fax_rows.proofs.PlacedReadLemmas.{refilled}
 use Rattle.fax_rows.proofs.pels.Row.exchange.Goals as goal
 
-pub loop-pel-preserved : goal.loop-pel-preserved
-loop-pel-preserved c =
-    let pels = c.loop-pel.pel-items in
-    let i = c.loop-pel.pel-index in
-    let at = get_or pels i White in
-    ap (set pels i) c.other.ensures
-    ∙ map_over_more other c.deref_mut-pel-items.result.now pels i at (omega arith) c.loop-pel.invariant
-    (get_or_default pels i White at (omega arith))
+pub returns : goal.returns
+returns c =
+    let turned = rw c.as_mut_slice-places.ensures.value at c.turn_first-self-inside.ensures.turned in
+    ap (λ places. pels_by c.self.inside.width (take c.turn_first-self-inside.result places))
+    (refilled c.self.inside.places.len c.turn_first-self-inside.new.places c.self.inside.places.items (omega arith))
+    ∙ exchanged c.self.inside.width (take c.self.inside.end c.self.inside.places.items)
+    (take c.turn_first-self-inside.result c.turn_first-self-inside.new.places) turned
+    ∙ ap (map other) c.self.view_is

@@ -1,17 +1,25 @@
-use Rattle.std.proofs.Common.{arith, sym, ◌∙◌, below_more}
-use Rattle.std.proofs.lemmas.Bool.{and_from, and_right}
-use Rattle.fax_rows.proofs.PlaceLemmas.{next_of_at}
+use Rattle.std.proofs.Common.{◌≡◌, ◌≢◌, sym, ◌∙◌, arith, rules}
+use Rattle.fax_bits.specs.contracts.Colour.{the_type}
+use Rattle.fax_rows.proofs.ChangeLemmas.{of_search_begins, of_search_goes_on, of_search_ends}
 use Rattle.fax_rows.proofs.pels.Row.next_of.Goals as goal
+use denote.Enum.Bare.{same_true, same_false}
 
-pub returns-then-is_change_from-clause-place : goal.returns-then-is_change_from-clause-place
-returns-then-is_change_from-clause-place c =
-    next_of_at _ c.args.from _ _ (omega arith) c.loop-i.invariant
-    (λ h. and_from _ _ (c.first_right_of-i.ensures.right _ (omega arith) h) (sym c.is_change_from.ensures ∙ c.if-is_change_from.true))
+pub loop-place-init : goal.loop-place-init
+loop-place-init c = of_search_begins c.args.self.now c.args.from c.args.colour _ c.next_change-place.ensures.place
 
-pub returns-clause-place : goal.returns-clause-place
-returns-clause-place c =
-    next_of_at _ c.args.from _ _ (omega arith) (λ k h. c.loop-i.invariant k (omega arith)) (λ h. absurd (omega arith))
+pub loop-place-preserved : goal.loop-place-preserved
+loop-place-preserved c =
+    let same : c.pel.result ≡ c.args.colour = same_true the_type (search rules) _ _ (sym c.if-eq.ensures) in
+    of_search_goes_on c.args.self.now c.args.from c.args.colour c.loop-place.place _ c.loop-place.invariant (omega arith)
+    (sym c.pel.ensures ∙ same) c.next_change-place-in-loop-place.ensures.place
 
-pub loop-i-preserved : goal.loop-i-preserved
-loop-i-preserved c =
-    below_more _ _ c.loop-i.invariant (and_right _ _ (sym c.is_change_from.ensures ∙ c.if-is_change_from.false))
+pub returns-else-eq-clause-place : goal.returns-else-eq-clause-place
+returns-else-eq-clause-place c =
+    let differs : c.pel.result ≢ c.args.colour = same_false the_type _ _ (sym c.if-eq.ensures) in
+    of_search_ends c.args.self.now c.args.from c.args.colour c.loop-place.place c.loop-place.invariant
+    (λ h same. differs (c.pel.ensures ∙ same))
+
+pub returns-after-loop-place-clause-place : goal.returns-after-loop-place-clause-place
+returns-after-loop-place-clause-place c =
+    of_search_ends c.args.self.now c.args.from c.args.colour c.loop-place.place c.loop-place.invariant
+    (λ h same. absurd (omega arith))

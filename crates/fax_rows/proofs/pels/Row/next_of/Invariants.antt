@@ -1,8 +1,9 @@
-use Rattle.std.proofs.Common.{◌≡◌, ℕ, ◌<◌, false}
-use Rattle.std.specs.Prelude.{◌&&◌, not}
-use Rattle.fax_rows.specs.Elements.{is_changing, is_right_of, pel, same_colour}
+use Rattle.std.proofs.Common.{◌-◌, length}
+use Rattle.fax_rows.proofs.ChangeLemmas.{IsOfSearch}
 use Rattle.fax_rows.proofs.pels.Row.next_of.Given as goal
 
-abbrev pub invariant-loop-i : goal.invariant-loop-i
-invariant-loop-i l =
-    (k : ℕ) → k < l.i → (is_right_of l.fn.from k && (is_changing l.self k && not (same_colour (pel l.self k) l.colour))) ≡ false
+abbrev pub invariant-loop-place : goal.invariant-loop-place
+invariant-loop-place l = IsOfSearch l.self l.fn.from l.colour l.place
+
+abbrev pub decreases-loop-place : goal.decreases-loop-place
+decreases-loop-place l = length l.self - l.place

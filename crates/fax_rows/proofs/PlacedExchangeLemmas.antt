@@ -1,0 +1,202 @@
+-- A row whose colours are exchanged: it begins with one change at 0 more, or with one less.
+use Rattle.std.proofs.Common.{◌≡◌, ℕ, zero, suc, ◌+◌, ◌-◌, ◌<◌, ◌≤◌, List, [], ◌∷◌, length, take, drop, get_or, map, Bool, true, false, refl, sym, ap, ◌∙◌, subst, arith, inl, inr}
+use Rattle.std.proofs.Math.Nat.{eq-or-lt_of_le}
+use Rattle.std.specs.Prelude.{nat_le, if◌then◌else◌}
+use Rattle.std.proofs.lemmas.Bool.{le-leb}
+use Rattle.std.proofs.lemmas.List.{ext_get_or, get_or-map, get_or-take, length-map, length-take-le}
+use Rattle.fax_bits.specs.declared.Colour.{Colour}
+use Rattle.fax_bits.specs.declared.Colour.TheVariants.{White, Black}
+use Rattle.fax_rows.specs.Elements.{other}
+use Rattle.fax_rows.specs.code.Turns.{turned, pels_by, ArePlaces, IsTurnedFrom}
+use Rattle.fax_rows.proofs.TurnLemmas.{other-other, length-pels_by, pel-pels_by}
+use Rattle.fax_rows.proofs.PlacedRowLemmas.{end_within}
+
+-- places turn the opposite colour to the opposite one
+pub turned-other : (c : Colour) (places : List ℕ) (i : ℕ) → turned (other c) places i ≡ other (turned c places i)
+unfolding turned
+turned-other c [] i = refl
+turned-other c (p ∷ places) i = by (nat_le p i) (turned-other (other c) places i) (turned-other c places i)
+  where
+    by : (b : Bool) → turned (other (other c)) places i ≡ other (turned (other c) places i) → turned (other c) places i ≡ other (turned c places i)
+        → turned (if b then other (other c) else other c) places i ≡ other (turned (if b then other c else c) places i)
+    by true first second = first
+    by false first second = second
+
+-- a change at 0 turns all pels
+twice_at_first : (places : List ℕ) (i : ℕ) → turned Black (0 ∷ 0 ∷ places) i ≡ other (turned Black (0 ∷ places) i)
+unfolding turned
+twice_at_first places i = let at : nat_le 0 i ≡ true = le-leb 0 i (omega arith) in rw at (turned-other White places i)
+
+-- a 0 that is put before the first place
+pub put_first : (old new rest : List ℕ) → new ≡ 0 ∷ old → old ≡ 0 ∷ rest → IsTurnedFrom old new 0
+put_first old new rest new_is old_is = record {
+  left = λ i h. absurd (omega arith);
+  right = λ i h.
+      ap (λ places. turned Black places i) (new_is ∙ ap (λ places. 0 ∷ places) old_is) ∙ twice_at_first rest i
+      ∙ sym (ap (λ places. other (turned Black places i)) old_is);
+}
+
+-- and one that is taken away
+pub take_first : (old new rest : List ℕ) → old ≡ 0 ∷ new → new ≡ 0 ∷ rest → IsTurnedFrom old new 0
+take_first old new rest old_is new_is = record {
+  left = λ i h. absurd (omega arith);
+  right = λ i h.
+      let back = put_first new old rest old_is new_is in
+      sym (ap other (back.right i h) ∙ other-other (turned Black new i));
+}
+
+-- a list that begins with a 0
+begins_with_0 : (places : List ℕ) → 0 < length places → get_or places 0 0 ≡ 0 → places ≡ 0 ∷ drop 1 places
+begins_with_0 [] some first = absurd (omega arith)
+begins_with_0 (p ∷ places) some first = ap (λ q. q ∷ places) first
+
+-- the places of a row that begins black, and those behind the first of them
+module _ (old new : List ℕ) (end width : ℕ) (all : ArePlaces old end width) (black : get_or old 1 0 ≡ 0) (len : length new ≡ length old)
+    (each : (k : ℕ) → suc k < length old → get_or new k 0 ≡ get_or old (suc k) 0) where
+  pub some_change : 1 < end
+  some_change =
+      elim (eq-or-lt_of_le all.ascending.started) [
+        | inl one ↦
+            let at : end + 0 ≡ 1 = omega arith in
+            let wide : get_or old 1 0 ≡ width = subst (λ m. get_or old m 0 ≡ width) at (all.behind 0 (omega arith)) in
+            let some = all.some in
+            absurd (omega arith)
+        | inr more ↦ more
+      ]
+
+  pub without_first : ArePlaces new (end - 1) width
+  without_first = record {
+    some = all.some;
+    short = all.short;
+    room = len ∙ all.room;
+    ascending = record {
+      started = omega (arith, some_change);
+      within = omega (arith, all.ascending.within);
+      first = each 0 (omega (arith, all.room)) ∙ black;
+      steps = λ i h l.
+          let here : get_or new i 0 ≡ get_or old (suc i) 0 = each i (omega (arith, all.ascending.within)) in
+          let there : get_or new (i + 1) 0 ≡ get_or old (suc (i + 1)) 0 = each (i + 1) (omega (arith, all.ascending.within)) in
+          let same : suc i + 1 ≡ suc (i + 1) = omega arith in
+          let up : get_or old (suc i) 0 < get_or old (suc (i + 1)) 0 =
+          subst (λ m. get_or old (suc i) 0 < get_or old m 0) same (all.ascending.steps (suc i) (omega arith) (omega arith)) in
+          omega arith;
+    };
+    below = λ i h l.
+        let here : get_or new i 0 ≡ get_or old (suc i) 0 = each i (omega (arith, all.ascending.within)) in
+        let less = all.below (suc i) (omega arith) (omega arith) in
+        omega arith;
+    behind = λ i h.
+        let started = some_change in
+        let at : suc (end - 1 + i) ≡ end + i = omega arith in
+        each (end - 1 + i) (omega (arith, all.room, end_within old end width all)) ∙ ap (λ m. get_or old m 0) at ∙ all.behind i h;
+  }
+
+  pub turned_white : IsTurnedFrom (take end old) (take (end - 1) new) 0
+  turned_white =
+      let started = some_change in
+      let len_old : length (take end old) ≡ end = length-take-le end old all.ascending.within in
+      let len_new : length (take (end - 1) new) ≡ end - 1 = length-take-le (end - 1) new (omega (arith, all.ascending.within)) in
+      let first : get_or (take end old) 0 0 ≡ 0 = get_or-take end old 0 0 (omega arith) ∙ all.ascending.first in
+      let first_new : get_or (take (end - 1) new) 0 0 ≡ 0 =
+      get_or-take (end - 1) new 0 0 (omega arith) ∙ each 0 (omega (arith, all.room)) ∙ black in
+      take_first (take end old) (take (end - 1) new) (drop 1 (take (end - 1) new))
+      (ext_get_or 0 (take end old) (0 ∷ take (end - 1) new) (omega (arith, len_old, len_new))
+      (λ k h. same_at k (omega (arith, len_old)) first))
+      (begins_with_0 (take (end - 1) new) (omega (arith, len_new)) first_new)
+    where
+      same_at : (k : ℕ) → k < end → get_or (take end old) 0 0 ≡ 0 → get_or (take end old) k 0 ≡ get_or (0 ∷ take (end - 1) new) k 0
+      same_at zero h first = first
+      same_at (suc k) h first =
+          get_or-take end old (suc k) 0 h ∙ sym (each k (omega (arith, all.ascending.within)))
+          ∙ sym (get_or-take (end - 1) new k 0 (omega arith))
+
+-- the places of a row that begins white, and a 0 before them
+module _ (old new : List ℕ) (end width : ℕ) (all : ArePlaces old end width) (white : 0 < get_or old 1 0) (len : length new ≡ length old)
+    (first : get_or new 0 0 ≡ 0) (each : (k : ℕ) → suc k < length old → get_or new (suc k) 0 ≡ get_or old k 0) where
+  -- each place is at least as large as there are changes before it, and one more
+  above : (i : ℕ) → 0 < i → i < end → i ≤ get_or old i 0
+  above zero some h = absurd (omega arith)
+  above (suc zero) some h = white
+  above (suc (suc i)) some h =
+      let before = above (suc i) (omega arith) (omega arith) in
+      let same : suc i + 1 ≡ suc (suc i) = omega arith in
+      let up : get_or old (suc i) 0 < get_or old (suc (suc i)) 0 =
+      subst (λ m. get_or old (suc i) 0 < get_or old m 0) same (all.ascending.steps (suc i) (omega arith) (omega arith)) in
+      omega arith
+
+  few_changes : end ≤ width
+  few_changes =
+      elim (eq-or-lt_of_le all.ascending.started) [
+        | inl one ↦ let some = all.some in omega arith
+        | inr more ↦ omega (arith, above (end - 1) (omega arith) (omega arith), all.below (end - 1) (omega arith) (omega arith))
+      ]
+
+  steps_up : (i : ℕ) → 0 < i → i + 1 < end + 1 → get_or new i 0 < get_or new (i + 1) 0
+  steps_up zero some h = absurd (omega arith)
+  steps_up (suc zero) some h =
+      let here : get_or new 1 0 ≡ get_or old 0 0 = each 0 (omega (arith, all.room)) in
+      let there : get_or new 2 0 ≡ get_or old 1 0 = each 1 (omega (arith, all.room, all.some)) in
+      let start = all.ascending.first in
+      omega arith
+  steps_up (suc (suc i)) some h =
+      let same : suc (suc i) + 1 ≡ suc (suc (suc i)) = omega arith in
+      let next : suc i + 1 ≡ suc (suc i) = omega arith in
+      let here : get_or new (suc (suc i)) 0 ≡ get_or old (suc i) 0 = each (suc i) (omega (arith, all.ascending.within)) in
+      let there : get_or new (suc (suc i) + 1) 0 ≡ get_or old (suc (suc i)) 0 =
+      ap (λ m. get_or new m 0) same ∙ each (suc (suc i)) (omega (arith, few_changes, all.room)) in
+      let up : get_or old (suc i) 0 < get_or old (suc (suc i)) 0 =
+      subst (λ m. get_or old (suc i) 0 < get_or old m 0) next (all.ascending.steps (suc i) (omega arith) (omega arith)) in
+      omega arith
+
+  all_below : (i : ℕ) → 0 < i → i < end + 1 → get_or new i 0 < width
+  all_below zero some h = absurd (omega arith)
+  all_below (suc zero) some h =
+      let here : get_or new 1 0 ≡ get_or old 0 0 = each 0 (omega (arith, all.room)) in
+      omega (arith, all.ascending.first, all.some)
+  all_below (suc (suc i)) some h =
+      let here : get_or new (suc (suc i)) 0 ≡ get_or old (suc i) 0 = each (suc i) (omega (arith, all.ascending.within, few_changes, all.room)) in
+      let less = all.below (suc i) (omega arith) (omega arith) in
+      omega arith
+
+  pub with_first : ArePlaces new (end + 1) width
+  with_first = record {
+    some = all.some;
+    short = all.short;
+    room = len ∙ all.room;
+    ascending = record {
+      started = omega arith;
+      within = omega (arith, few_changes, all.room, len);
+      first = first;
+      steps = steps_up;
+    };
+    below = all_below;
+    behind = λ i h.
+        let at : end + 1 + i ≡ suc (end + i) = omega arith in
+        ap (λ m. get_or new m 0) at ∙ each (end + i) (omega (arith, few_changes, all.room)) ∙ all.behind i h;
+  }
+
+  pub turned_black : IsTurnedFrom (take end old) (take (end + 1) new) 0
+  turned_black =
+      let len_old : length (take end old) ≡ end = length-take-le end old all.ascending.within in
+      let len_new : length (take (end + 1) new) ≡ end + 1 = length-take-le (end + 1) new (omega (arith, few_changes, all.room, len)) in
+      let start : get_or (take end old) 0 0 ≡ 0 = get_or-take end old 0 0 all.ascending.started ∙ all.ascending.first in
+      put_first (take end old) (take (end + 1) new) (drop 1 (take end old))
+      (ext_get_or 0 (take (end + 1) new) (0 ∷ take end old) (omega (arith, len_old, len_new))
+      (λ k h. same_at k (omega (arith, len_new))))
+      (begins_with_0 (take end old) (omega (arith, len_old, all.ascending.started)) start)
+    where
+      same_at : (k : ℕ) → k < end + 1 → get_or (take (end + 1) new) k 0 ≡ get_or (0 ∷ take end old) k 0
+      same_at zero h = get_or-take (end + 1) new 0 0 h ∙ first
+      same_at (suc k) h =
+          get_or-take (end + 1) new (suc k) 0 h ∙ each k (omega (arith, few_changes, all.room))
+          ∙ sym (get_or-take end old k 0 (omega arith))
+
+-- a row whose places are turned from its first pel on
+pub exchanged : (width : ℕ) (old new : List ℕ) → IsTurnedFrom old new 0 → pels_by width new ≡ map other (pels_by width old)
+exchanged width old new turn =
+    ext_get_or White (pels_by width new) (map other (pels_by width old))
+    (length-pels_by width new ∙ sym (length-map (pels_by width old) other ∙ length-pels_by width old))
+    (λ k h. let inside : k < width = omega (arith, length-pels_by width new) in
+    let short : k < length (pels_by width old) = omega (arith, length-pels_by width old) in
+    pel-pels_by width new k inside ∙ turn.right k (omega arith) ∙ ap other (sym (pel-pels_by width old k inside))
+    ∙ sym (get_or-map other (pels_by width old) k White White short))

@@ -1,0 +1,181 @@
+-- Places of change that are put one behind the other while a row is read.
+use Rattle.std.proofs.Common.{◌≡◌, ℕ, zero, suc, ◌+◌, ◌-◌, ◌<◌, ◌≤◌, ◌^◌, ◌≢◌, List, [], ◌∷◌, ◌++◌, length, take, drop, get_or, Bool, ap, sym, ◌∙◌, subst, arith, inl, inr, get_or-set_other, get_or-set_same}
+use Rattle.std.specs.Prelude.{◌⊎◌}
+use Rattle.std.proofs.Math.ListN.{set}
+use Rattle.std.proofs.Math.Nat.{eq-or-lt_of_le}
+use Rattle.std.proofs.Math.Seq.{take-length}
+use Rattle.std.proofs.lemmas.List.{take-append-le, take_more, take_more_set, take-set-le, length-set, ext_get_or}
+use Rattle.fax_bits.specs.declared.Colour.{Colour}
+use Rattle.fax_bits.specs.declared.Colour.TheVariants.{White, Black}
+use Rattle.fax_bits.specs.Runs.{IsRun}
+use Rattle.fax_rows.specs.Elements.{other}
+use Rattle.fax_rows.specs.OneDimensional.{IsOneDimensionalRow}
+use Rattle.fax_rows.specs.code.Turns.{turned, pels_by, IsAscending, ArePlaces, IsTurnedFrom}
+use Rattle.fax_rows.proofs.TurnLemmas.{other-other, length-pels_by, pel-pels_by, turned-push_left, turned-push_right, at_least, below_later}
+use Rattle.fax_rows.proofs.RowLemmas.{IsRowSoFar, row_goes_on}
+
+-- a place that is put
+pub turned_on : (places : List ℕ) (end place : ℕ) → end < length places → IsTurnedFrom (take end places) (take (end + 1) (set places end place)) place
+turned_on places end place room = record {
+  left = λ i h. ap (λ ps. turned Black ps i) split ∙ turned-push_left Black (take end places) place i h;
+  right = λ i h. ap (λ ps. turned Black ps i) split ∙ turned-push_right Black (take end places) place i h;
+}
+  where
+    split : take (end + 1) (set places end place) ≡ take end places ++ place ∷ []
+    split = take_more_set places end place room
+
+-- the last place stands behind the others
+last_split : (places : List ℕ) (end place : ℕ) → 0 < end → end ≤ length places → get_or places (end - 1) 0 ≡ place
+    → take end places ≡ take (end - 1) places ++ place ∷ []
+last_split places end place some within is =
+    let inside : end - 1 < length places = omega arith in
+    let same : end ≡ end - 1 + 1 = omega arith in
+    ap (λ n. take n places) same ∙ take_more places (end - 1) 0 inside ∙ ap (λ p. take (end - 1) places ++ p ∷ []) is
+
+-- the last place that is taken away again
+pub turned_back : (places : List ℕ) (end place : ℕ) → 0 < end → end ≤ length places → get_or places (end - 1) 0 ≡ place
+    → IsTurnedFrom (take end places) (take (end - 1) places) place
+turned_back places end place some within is = record {
+  left = λ i h. sym (ap (λ ps. turned Black ps i) split ∙ turned-push_left Black (take (end - 1) places) place i h);
+  right = λ i h.
+      sym (ap (λ ps. other (turned Black ps i)) split ∙ ap other (turned-push_right Black (take (end - 1) places) place i h)
+      ∙ other-other (turned Black (take (end - 1) places) i));
+}
+  where
+    split : take end places ≡ take (end - 1) places ++ place ∷ []
+    split = last_split places end place some within is
+
+-- rows whose pels are the same
+same_pels_by : (width : ℕ) (some others : List ℕ) → ((i : ℕ) → i < width → turned Black some i ≡ turned Black others i)
+    → pels_by width some ≡ pels_by width others
+same_pels_by width some others each =
+    ext_get_or White (pels_by width some) (pels_by width others) (length-pels_by width some ∙ sym (length-pels_by width others))
+    (λ k h. let inside : k < width = omega (arith, length-pels_by width some) in
+    pel-pels_by width some k inside ∙ each k inside ∙ sym (pel-pels_by width others k inside))
+
+-- a change at the width is none of the row
+pub without_last : (width : ℕ) (places : List ℕ) (end : ℕ) → 0 < end → end ≤ length places → get_or places (end - 1) 0 ≡ width
+    → pels_by width (take (end - 1) places) ≡ pels_by width (take end places)
+without_last width places end some within is =
+    same_pels_by width (take (end - 1) places) (take end places)
+    (λ i h. (turned_back places end width some within is).left i h)
+
+-- there is room for one place more
+pub places_within : (places : List ℕ) (end total : ℕ) → IsAscending places end → get_or places (end - 1) 0 ≤ total → end ≤ total + 2
+places_within places end total up last = omega (arith, up.started, at_least places end up (end - 1) (omega (arith, up.started)))
+
+-- all places but the last are below it
+pub below_last : (places : List ℕ) (end width : ℕ) → IsAscending places end → get_or places (end - 1) 0 ≤ width
+    → (i : ℕ) → 0 < i → i < end - 1 → get_or places i 0 < width
+below_last places end width up last i some h =
+    let less = below_later places end up i (end - 1) some h (omega arith) in omega arith
+
+-- a last place that is not the width is below it
+pub below_width : (places : List ℕ) (end width : ℕ) → IsAscending places end → get_or places (end - 1) 0 ≤ width
+    → (end ≤ 1) ⊎ (get_or places (end - 1) 0 ≢ width) → (i : ℕ) → 0 < i → i < end → get_or places i 0 < width
+below_width places end width up last (inl none) i some h = absurd (omega arith)
+below_width places end width up last (inr other) i some h =
+    elim (eq-or-lt_of_le at_most) [
+      | inl same ↦ subst (λ m. get_or places m 0 < width) (sym same) (omega arith)
+      | inr less ↦ below_last places end width up last i some less
+    ]
+  where
+    at_most : i ≤ end - 1
+    at_most = omega arith
+
+-- there are no more changes than pels
+pub ends_within : (places : List ℕ) (end width : ℕ) → IsAscending places end
+    → ((i : ℕ) → 0 < i → i < end → get_or places i 0 < width) → end ≤ width + 1
+ends_within places end width up below =
+    elim (eq-or-lt_of_le up.started) [
+      | inl one ↦ omega arith
+      | inr more ↦ omega (arith, at_least places end up (end - 1) (omega arith), below (end - 1) (omega arith) (omega arith))
+    ]
+
+-- one run more
+pub run_turned : (width : ℕ) (b : List Bool) (total n : ℕ) (colour : Colour) (old new : List ℕ) (mid rest : List Bool)
+    → IsRowSoFar width b total colour (pels_by width old) mid → total < width → total + n ≤ width → IsRun colour mid n rest
+    → ((i : ℕ) → total ≤ i → turned Black old i ≡ colour) → IsTurnedFrom old new (total + n)
+    → IsRowSoFar width b (total + n) (other colour) (pels_by width new) rest
+run_turned width b total n colour old new mid rest so_far unfinished within run behind turn =
+    row_goes_on width b total n colour (pels_by width old) (pels_by width new) mid rest so_far unfinished run
+    (λ k h. pel-pels_by width new k (omega arith) ∙ turn.left k (omega arith) ∙ sym (pel-pels_by width old k (omega arith)))
+    (λ k h l. pel-pels_by width new k (omega arith) ∙ turn.left k (omega arith) ∙ behind k h)
+
+-- and behind it the other colour
+pub run_behind : (total n : ℕ) (colour : Colour) (old new : List ℕ) → ((i : ℕ) → total ≤ i → turned Black old i ≡ colour)
+    → IsTurnedFrom old new (total + n) → (i : ℕ) → total + n ≤ i → turned Black new i ≡ other colour
+run_behind total n colour old new behind turn i h = turn.right i h ∙ ap other (behind i (omega arith))
+
+-- the width that is put three times behind the places
+abbrev pub closed : List ℕ → ℕ → ℕ → List ℕ
+closed places end width = set (set (set places end width) (end + 1) width) (end + 2) width
+
+closed-before : (places : List ℕ) (end width k : ℕ) → k < end → get_or (closed places end width) k 0 ≡ get_or places k 0
+closed-before places end width k h =
+    let first : k ≢ end = omega arith in
+    let second : k ≢ end + 1 = omega arith in
+    let third : k ≢ end + 2 = omega arith in
+    get_or-set_other (set (set places end width) (end + 1) width) (end + 2) k width 0 third
+    ∙ get_or-set_other (set places end width) (end + 1) k width 0 second ∙ get_or-set_other places end k width 0 first
+
+length-closed : (places : List ℕ) (end width : ℕ) → length (closed places end width) ≡ length places
+length-closed places end width =
+    length-set (set (set places end width) (end + 1) width) (end + 2) width
+    ∙ length-set (set places end width) (end + 1) width ∙ length-set places end width
+
+pub are_closed : (places : List ℕ) (end width : ℕ) → 0 < width → width < 2 ^ 16 → length places ≡ width + 4 → end ≤ width + 1
+    → IsAscending places end → ((i : ℕ) → 0 < i → i < end → get_or places i 0 < width) → ArePlaces (closed places end width) end width
+are_closed places end width some short room within up below = record {
+  some = some;
+  short = short;
+  room = length-closed places end width ∙ room;
+  ascending = record {
+    started = up.started;
+    within = omega (arith, length-closed places end width);
+    first = closed-before places end width 0 up.started ∙ up.first;
+    steps = λ i h l.
+        let less = up.steps i h l in
+        omega (arith, closed-before places end width i (omega arith), closed-before places end width (i + 1) l);
+  };
+  below = λ i h l. let less = below i h l in omega (arith, closed-before places end width i l);
+  behind = behind;
+}
+  where
+    len_two : length (set (set places end width) (end + 1) width) ≡ length places
+    len_two = length-set (set places end width) (end + 1) width ∙ length-set places end width
+
+    behind : (i : ℕ) → i < 3 → get_or (closed places end width) (end + i) 0 ≡ width
+    behind zero h =
+        let same : end + zero ≡ end = omega arith in
+        let second : end ≢ end + 1 = omega arith in
+        let third : end ≢ end + 2 = omega arith in
+        ap (λ m. get_or (closed places end width) m 0) same
+        ∙ get_or-set_other (set (set places end width) (end + 1) width) (end + 2) end width 0 third
+        ∙ get_or-set_other (set places end width) (end + 1) end width 0 second
+        ∙ get_or-set_same places end width 0 (omega arith)
+    behind (suc zero) h =
+        let third : end + 1 ≢ end + 2 = omega arith in
+        get_or-set_other (set (set places end width) (end + 1) width) (end + 2) (end + 1) width 0 third
+        ∙ get_or-set_same (set places end width) (end + 1) width 0 (omega (arith, length-set places end width))
+    behind (suc (suc zero)) h =
+        get_or-set_same (set (set places end width) (end + 1) width) (end + 2) width 0 (omega (arith, len_two))
+    behind (suc (suc (suc i))) h = absurd (omega arith)
+
+pub pels_closed : (places : List ℕ) (end width : ℕ) → pels_by width (take end (closed places end width)) ≡ pels_by width (take end places)
+pels_closed places end width =
+    ap (λ ps. pels_by width ps)
+    (take-set-le end (set (set places end width) (end + 1) width) (end + 2) width (omega arith)
+    ∙ take-set-le end (set places end width) (end + 1) width (omega arith) ∙ take-set-le end places end width (omega arith))
+
+-- a row that is shown otherwise
+pub one_dimensional_as : (width wide : ℕ) (b : List Bool) (row shown : List Colour) (rest : List Bool)
+    → IsOneDimensionalRow width b row rest → width ≡ wide → shown ≡ row → IsOneDimensionalRow wide b shown rest
+one_dimensional_as width wide b row shown rest is same shows =
+    subst (λ n. IsOneDimensionalRow n b shown rest) same (subst (λ r. IsOneDimensionalRow width b r rest) (sym shows) is)
+
+-- elements that are all written over
+pub refilled : (len : ℕ) (new old : List ℕ) → length new ≡ len → take len (new ++ drop (length new) old) ≡ new
+refilled len new old same =
+    ap (λ n. take n (new ++ drop (length new) old)) (sym same) ∙ take-append-le (length new) new (drop (length new) old) (omega arith)
+    ∙ take-length new

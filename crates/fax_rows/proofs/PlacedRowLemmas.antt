@@ -1,0 +1,248 @@
+-- What a row of places of change shows: its pels, its changing elements, and the next of them.
+use Rattle.std.proofs.Common.{◌≡◌, ◌≢◌, ℕ, zero, suc, ◌+◌, ◌-◌, ◌%◌, ◌<◌, ◌≤◌, List, [], ◌∷◌, length, take, drop, get_or, replicate, true, false, refl, ap, sym, ◌∙◌, subst, arith, inl, inr, drop-cons}
+use Rattle.std.specs.Prelude.{◌⊎◌, Option, Some, None}
+use Rattle.std.specs.List.{filter, range_with_len}
+use Rattle.std.proofs.lemmas.Bool.{cases_lt, ltb-true, lt-ltb, le-leb}
+use Rattle.std.proofs.Math.Nat.{eq-or-lt_of_le}
+use Rattle.std.proofs.Math.ListN.{set}
+use Rattle.std.proofs.Math.Seq.{take-nil}
+use Rattle.std.proofs.lemmas.List.{get_or-take, length-take-le, get_or_default, ext_get_or, get_or-replicate, length-replicate, drop_all}
+use Rattle.fax_bits.specs.declared.Colour.{Colour}
+use Rattle.fax_bits.specs.declared.Colour.TheVariants.{White, Black}
+use Rattle.fax_rows.specs.Elements.{pel, is_changing, is_right_of, next_change}
+use Rattle.fax_rows.specs.code.Turns.{turned, pels_by, alternate, ArePlaces, IsBehind}
+use Rattle.fax_rows.proofs.ChangeLemmas.{still_left, both}
+use Rattle.fax_rows.proofs.PlaceLemmas.{next_change_at}
+use Rattle.fax_rows.proofs.TurnLemmas.{length-pels_by, pel-pels_by, alternate-odd, alternate-even, at_least, below_later, pel_behind, changing_at, unchanging}
+
+-- behind the first place alone all is white
+pub turned-first : (i : ℕ) → turned Black (0 ∷ []) i ≡ White
+unfolding turned
+turned-first i = rw (le-leb 0 i (omega arith)) refl
+
+pub take-first : (places : List ℕ) → 0 < length places → get_or places 0 0 ≡ 0 → take 1 places ≡ 0 ∷ []
+take-first [] some first = absurd (omega arith)
+take-first (p ∷ places) some first = ap (λ q. q ∷ []) first
+
+pub white_row : (width : ℕ) → pels_by width (0 ∷ []) ≡ replicate width White
+white_row width =
+    ext_get_or White (pels_by width (0 ∷ [])) (replicate width White)
+    (length-pels_by width (0 ∷ []) ∙ sym (length-replicate width White))
+    (λ k h. pel-pels_by width (0 ∷ []) k (omega (arith, length-pels_by width (0 ∷ []))) ∙ turned-first k
+    ∙ sym (get_or-replicate width k White White (omega (arith, length-pels_by width (0 ∷ [])))))
+
+-- a first place alone is a white row
+pub white_by : (width : ℕ) (places : List ℕ) → 0 < length places → pels_by width (take 1 (set places 0 0)) ≡ replicate width White
+white_by width [] some = absurd (omega arith)
+white_by width (p ∷ places) some = white_row width
+
+-- a place that is read
+pub read_place : (places : List ℕ) (k r : ℕ) → k < length places → r ≡ get_or places k r → r ≡ get_or places k 0
+read_place places k r within is = is ∙ get_or_default places k r 0 within
+
+take-drop_first : (places : List ℕ) (end : ℕ) → take (end - 1) (drop 1 places) ≡ drop 1 (take end places)
+take-drop_first [] zero = refl
+take-drop_first [] (suc end) = let same : suc end - 1 ≡ end = omega arith in rw same (take-nil end)
+take-drop_first (p ∷ places) zero = refl
+take-drop_first (p ∷ places) (suc end) = let same : suc end - 1 ≡ end = omega arith in rw same refl
+
+-- where the changes right of `from` begin
+abbrev pub IsFrom : List ℕ → ℕ → Option ℕ → ℕ → Type 0
+IsFrom places end None k = k ≡ 1
+IsFrom places end (Some a) k = IsBehind places end a k
+
+-- the next changing element, as `next_change` answers it
+pub record IsNext (row : List Colour) (from : Option ℕ) (r : ℕ) : Type 0 where
+  pub place : r ≡ next_change row from
+  pub within : r ≤ length row
+  pub right : r < length row → is_right_of from r ≡ true
+
+module _ (places : List ℕ) (end width : ℕ) (all : ArePlaces places end width) where
+  -- behind the changes stands the width
+  pub at_end : get_or places end 0 ≡ width
+  at_end = subst (λ m. get_or places m 0 ≡ width) same (all.behind 0 (omega arith))
+    where
+      same : end + 0 ≡ end
+      same = omega arith
+
+  -- there are no more changes than pels
+  pub end_within : end ≤ width + 1
+  end_within =
+      elim (eq-or-lt_of_le all.ascending.started) [
+        | inl one ↦ omega arith
+        | inr more ↦
+            omega (arith, at_least places end all.ascending (end - 1) (omega arith), all.below (end - 1) (omega arith) (omega arith))
+      ]
+
+  pub place_or_width : (k : ℕ) → 0 < k → k ≤ end → ((k < end) × (get_or places k 0 < width)) ⊎ ((k ≡ end) × (get_or places k 0 ≡ width))
+  place_or_width k some within =
+      elim (eq-or-lt_of_le within) [
+        | inl same ↦ inr (same, ap (λ m. get_or places m 0) same ∙ at_end)
+        | inr less ↦ inl (less, all.below k some less)
+      ]
+
+  place_within : (k : ℕ) → 0 < k → k ≤ end → get_or places k 0 ≤ width
+  place_within k some within =
+      elim (place_or_width k some within) [
+        | inl less ↦ omega (arith, less.1)
+        | inr same ↦ omega (arith, same.1)
+      ]
+
+  -- the place that is read for the next change right of `from`
+  at_from : (from : Option ℕ) (k : ℕ) → IsFrom places end from k → (0 < k) × (k ≤ end)
+  at_from None k at = (omega arith, omega (arith, all.ascending.started))
+  at_from (Some a) k at = (at.some, at.within)
+
+  none_between : (from : Option ℕ) (k : ℕ) → IsFrom places end from k → (i : ℕ) → i < get_or places k 0 → i < width
+      → is_right_of from i ≡ true → is_changing (pels_by width (take end places)) i ≡ false
+  none_between None k at i before inside right =
+      unchanging places end all.ascending width i k
+      (record {
+        some = omega arith;
+        within = omega (arith, all.ascending.started);
+        left = subst (λ m. get_or places (m - 1) 0 ≤ i) (sym at) (omega (arith, all.ascending.first));
+        right = λ h. before;
+      })
+      (inl at) inside
+  none_between (Some a) k at i before inside right =
+      unchanging places end all.ascending width i k
+      (record {
+        some = at.some;
+        within = at.within;
+        left = omega (arith, at.left, ltb-true a i right);
+        right = λ h. before;
+      })
+      (inr (omega (arith, at.left, ltb-true a i right))) inside
+
+  right_of : (from : Option ℕ) (k : ℕ) → IsFrom places end from k → k < end → is_right_of from (get_or places k 0) ≡ true
+  right_of None k at h = refl
+  right_of (Some a) k at h = lt-ltb a (get_or places k 0) (at.right h)
+
+  pub next_here : (from : Option ℕ) (k : ℕ) → IsFrom places end from k → IsNext (pels_by width (take end places)) from (get_or places k 0)
+  next_here from k at = record {
+    place = next_change_at (pels_by width (take end places)) from (get_or places k 0) (omega (arith, len, within))
+        (λ i h. still_left (is_right_of from i) (is_changing (pels_by width (take end places)) i) (none_between from k at i h (omega (arith, within))))
+        (λ h. both (is_right_of from (get_or places k 0)) (is_changing (pels_by width (take end places)) (get_or places k 0)) (right h)
+        (changing_at places end all.ascending width (get_or places k 0) k bounds.0 (less h) refl (omega (arith, len))));
+    within = omega (arith, len, within);
+    right = right;
+  }
+    where
+      bounds : (0 < k) × (k ≤ end)
+      bounds = at_from from k at
+
+      len : length (pels_by width (take end places)) ≡ width
+      len = length-pels_by width (take end places)
+
+      within : get_or places k 0 ≤ width
+      within = place_within k bounds.0 bounds.1
+
+      less : get_or places k 0 < length (pels_by width (take end places)) → k < end
+      less h =
+          elim (place_or_width k bounds.0 bounds.1) [
+            | inl inside ↦ inside.0
+            | inr same ↦ absurd (omega (arith, len, same.1))
+          ]
+
+      right : get_or places k 0 < length (pels_by width (take end places)) → is_right_of from (get_or places k 0) ≡ true
+      right h = right_of from k at (less h)
+
+  pub next_place : (row : List Colour) → pels_by width (take end places) ≡ row → (from : Option ℕ) (k r : ℕ) → IsFrom places end from k
+      → r ≡ get_or places k r → IsNext row from r
+  next_place row is from k r at read =
+      let same = read_place places k r (omega (arith, all.room, all.ascending.within, (at_from from k at).1, in_room)) read in
+      subst (λ x. IsNext x from r) is (subst (λ p. IsNext (pels_by width (take end places)) from p) (sym same) (next_here from k at))
+    where
+      in_room : end < length places
+      in_room = omega (arith, all.room, end_within)
+
+  -- the changing elements among n places from a on are those behind k places
+  abbrev AreChangesFrom : ℕ → ℕ → ℕ → Type 0
+  AreChangesFrom a n k =
+      0 < k → k ≤ end → (k < end → a ≤ get_or places k 0) → (k ≡ 1) ⊎ (get_or places (k - 1) 0 < a)
+      → filter (is_changing (pels_by width (take end places))) (range_with_len a n) ≡ drop k (take end places)
+
+  -- no change stands at a
+  goes_on : (a n k : ℕ) → AreChangesFrom (a + 1) n k → a < width → (k < end → a < get_or places k 0) → AreChangesFrom a (suc n) k
+  goes_on a n k more inside before some within next last =
+      let at : IsBehind places end a k = record { some = some; within = within; left = left last; right = before } in
+      rw (unchanging places end all.ascending width a k at last inside)
+      (more some within (λ h. omega (arith, before h)) (later last))
+    where
+      left : (k ≡ 1) ⊎ (get_or places (k - 1) 0 < a) → get_or places (k - 1) 0 ≤ a
+      left (inl one) = subst (λ m. get_or places (m - 1) 0 ≤ a) (sym one) (omega (arith, all.ascending.first))
+      left (inr further) = omega arith
+
+      later : (k ≡ 1) ⊎ (get_or places (k - 1) 0 < a) → (k ≡ 1) ⊎ (get_or places (k - 1) 0 < a + 1)
+      later (inl one) = inl one
+      later (inr further) = inr (omega arith)
+
+  -- a change stands there
+  stops : (a n k : ℕ) → AreChangesFrom (a + 1) n (suc k) → a < width → k < end → get_or places k 0 ≡ a → AreChangesFrom a (suc n) k
+  stops a n k more inside short is some within next last =
+      let in_front : k < length (take end places) = omega (arith, length-take-le end places all.ascending.within) in
+      rw (changing_at places end all.ascending width a k some short is inside)
+      (ap (λ xs. a ∷ xs) (more (omega arith) (omega arith) after (inr behind))
+      ∙ ap (λ x. x ∷ drop (suc k) (take end places)) (sym (get_or-take end places k 0 short ∙ is))
+      ∙ sym (drop-cons (take end places) k 0 in_front))
+    where
+      after : suc k < end → a + 1 ≤ get_or places (suc k) 0
+      after h = let l = below_later places end all.ascending k (suc k) some (omega arith) h in omega arith
+
+      same : k ≡ suc k - 1
+      same = omega arith
+
+      behind : get_or places (suc k - 1) 0 < a + 1
+      behind = subst (λ m. get_or places m 0 < a + 1) same (omega arith)
+
+  filter_from : (a n k : ℕ) → a + n ≡ width → AreChangesFrom a n k
+  filter_from a zero k sum some within next last =
+      sym (drop_all k (take end places) (omega (arith, length-take-le end places all.ascending.within, over)))
+    where
+      over : end ≤ k
+      over =
+          elim (cases_lt k end) [
+            | inl inside ↦ let less = all.below k some inside in absurd (omega (arith, next inside))
+            | inr more ↦ more
+          ]
+  filter_from a (suc n) k sum some within next last =
+      elim (cases_lt k end) [
+        | inr more ↦ goes_on a n k (filter_from (a + 1) n k (omega arith)) (omega arith) (λ h. absurd (omega arith)) some within next last
+        | inl short ↦
+            elim (eq-or-lt_of_le (next short)) [
+              | inl same ↦ stops a n k (filter_from (a + 1) n (suc k) (omega arith)) (omega arith) short (sym same) some within next last
+              | inr before ↦ goes_on a n k (filter_from (a + 1) n k (omega arith)) (omega arith) (λ h. before) some within next last
+            ]
+      ]
+
+  -- the changing elements are the places behind the first
+  pub changes_are : (row : List Colour) → pels_by width (take end places) ≡ row
+      → take (end - 1) (drop 1 places) ≡ filter (is_changing row) (range_with_len 0 (length row))
+  changes_are row is =
+      subst (λ r. take (end - 1) (drop 1 places) ≡ filter (is_changing r) (range_with_len 0 (length r))) is
+      (take-drop_first places end ∙ sym (filter_from 0 width 1 (omega arith) (omega arith) (omega (arith, all.ascending.started)) (λ h. omega arith) (inl refl))
+      ∙ ap (λ n. filter (is_changing (pels_by width (take end places))) (range_with_len 0 n)) (sym (length-pels_by width (take end places))))
+
+  -- the width is that of the row
+  pub width_is : (row : List Colour) → pels_by width (take end places) ≡ row → width ≡ length row
+  width_is row is = subst (λ r. width ≡ length r) is (sym (length-pels_by width (take end places)))
+
+  -- the pel at a place is white behind an odd number of the places, and black behind an even one
+  pel_here : (row : List Colour) → pels_by width (take end places) ≡ row → (i k : ℕ) → i < length row → IsBehind places end i k
+      → pel row i ≡ alternate Black k
+  pel_here row is i k inside at =
+      subst (λ r. pel r i ≡ alternate Black k) is (pel_behind places end all.ascending width i k (omega (arith, width_is row is)) at)
+
+  pub pel_odd : (row : List Colour) → pels_by width (take end places) ≡ row → (i k : ℕ) → i < length row → IsBehind places end i k
+      → k % 2 ≡ 1 → White ≡ pel row i
+  pel_odd row is i k inside at odd = sym (pel_here row is i k inside at ∙ alternate-odd k odd)
+
+  pub pel_even : (row : List Colour) → pels_by width (take end places) ≡ row → (i k : ℕ) → i < length row → IsBehind places end i k
+      → k % 2 ≢ 1 → Black ≡ pel row i
+  pel_even row is i k inside at even =
+      let none : k % 2 ≡ 0 = omega arith in
+      sym (pel_here row is i k inside at ∙ alternate-even k none)
+
+-- rows of one width by the same places
+pub same_row : (width wide : ℕ) (places : List ℕ) (row : List Colour) → width ≡ wide → pels_by wide places ≡ row → pels_by width places ≡ row
+same_row width wide places row same is = ap (λ n. pels_by n places) same ∙ is

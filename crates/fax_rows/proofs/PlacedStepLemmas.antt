@@ -1,0 +1,255 @@
+-- Steps of two-dimensional coding over places of change.
+use Rattle.std.proofs.Common.{◌≡◌, ℕ, ◌+◌, ◌-◌, ℤ, negsuc, ◌+ℤ◌, ◌≤ℤ◌, ◌<◌, ◌≤◌, List, [], ◌++◌, length, take, get_or, replicate, Bool, true, refl, ap, sym, ◌∙◌, subst, arith, pos}
+use Rattle.std.specs.Prelude.{Option, Some, None, unwrap_or, ◌<ℤ◌, nat_abs}
+use Rattle.std.proofs.lemmas.Bool.{lt-ltb, ltb-true}
+use Rattle.std.proofs.lemmas.Int.{ints}
+use Rattle.fax_bits.specs.declared.Colour.{Colour}
+use Rattle.fax_bits.specs.declared.Colour.TheVariants.{White, Black}
+use Rattle.fax_rows.specs.declared.two_dimensional.Reached.{Reached}
+use Rattle.fax_rows.specs.declared.two_dimensional.PlacedReached.{PlacedReached}
+use Rattle.fax_rows.specs.Elements.{other, is_right_of, b2}
+use Rattle.fax_rows.specs.declared.RowFault.{RowFault}
+use Rattle.fax_rows.specs.Faults.{IsStepFault, IsTwoDimensionalFault}
+use Rattle.fax_rows.specs.code.Reached.{reached_pel, position_of}
+use Rattle.fax_rows.specs.TwoDimensional.{Position, a0_number, coloured_up_to, IsVerticalStep, IsHorizontalStep, IsTwoDimensionalRow}
+use Rattle.fax_rows.specs.code.Turns.{turned, pels_by, IsAscending, ArePlaces, IsTurnedFrom, IsB1At}
+use Rattle.fax_rows.specs.code.PlacedReached.{placed_position, IsReadTo}
+use Rattle.fax_bits.specs.Runs.{IsRun}
+use Rattle.fax_rows.proofs.StepLemmas.{AreStepsSoFar, unfinished_below, abs-same, vertical_step}
+use Rattle.std.proofs.Math.Seq.{take-length}
+use Rattle.fax_rows.proofs.PaintLemmas.{painted_front}
+use Rattle.fax_rows.proofs.TurnLemmas.{other-other, length-pels_by, pel-pels_by}
+use Rattle.fax_rows.proofs.PlacedRowLemmas.{end_within, take-first, turned-first}
+use Rattle.fax_rows.proofs.PlacedReadLemmas.{places_within}
+use Rattle.fax_rows.proofs.PlacedB1Lemmas.{b1_is, b1_ahead, b2_ahead, b2_at_most, b2_is, b1_passed}
+
+-- the pels up to `to` where those from `from` on have one colour
+pub front_to : (width from to : ℕ) (old new : List ℕ) (colour : Colour) → from ≤ to → to ≤ width
+    → ((i : ℕ) → i < to → turned Black new i ≡ turned Black old i) → ((i : ℕ) → from ≤ i → turned Black old i ≡ colour)
+    → take to (pels_by width new) ≡ take from (pels_by width old) ++ replicate (to - from) colour
+front_to width from to old new colour order within same behind =
+    let sum : to ≡ from + (to - from) = omega arith in
+    ap (λ n. take n (pels_by width new)) sum
+    ∙ painted_front (pels_by width old) (pels_by width new) from (to - from) colour
+    (omega (arith, length-pels_by width old)) (length-pels_by width new ∙ sym (length-pels_by width old))
+    (λ k h. pel-pels_by width new k (omega arith) ∙ same k (omega arith) ∙ sym (pel-pels_by width old k (omega arith)))
+    (λ k h l. pel-pels_by width new k (omega arith) ∙ same k (omega arith) ∙ behind k h)
+
+-- the position at a pel up to which the row has a0's colour
+pub coloured : (width : ℕ) (old new : List ℕ) (at : Reached) (to : ℕ) → reached_pel at ≤ to → to ≤ width
+    → ((i : ℕ) → i < to → turned Black new i ≡ turned Black old i) → ((i : ℕ) → reached_pel at ≤ i → turned Black old i ≡ at.colour)
+    → position_of (record { a0 = Some to; colour = at.colour }) (pels_by width new) ≡ coloured_up_to (position_of at (pels_by width old)) to
+coloured width old new at to order within same behind =
+    let position : List Colour → Position = λ pels. record { a0 = Some to; colour = at.colour; pels = pels } in
+    ap position (front_to width (reached_pel at) to old new at.colour order within same behind)
+
+-- a place right of a0's number is right of a0
+pub number_right : (at : Reached) (a1 : ℕ) → a0_number (position_of at []) <ℤ pos a1 → is_right_of at.a0 a1 ≡ true
+number_right at a1 h = by at.a0 h
+  where
+    by : (a0 : Option ℕ) → a0_number (record { a0 = a0; colour = at.colour; pels = [] }) <ℤ pos a1 → is_right_of a0 a1 ≡ true
+    by None l = refl
+    by (Some a) l = lt-ltb a a1 (omega (arith, ints))
+
+pub right_behind_first : (a0 : Option ℕ) (a1 : ℕ) → is_right_of a0 a1 ≡ true → unwrap_or a0 0 ≤ a1
+right_behind_first None a1 h = omega arith
+right_behind_first (Some a) a1 h = omega (arith, ltb-true a a1 h)
+
+module _ (reference : List ℕ) (end width : ℕ) (all : ArePlaces reference end width)
+    (places : List ℕ) (at : PlacedReached) (so_far : IsReadTo reference end width places at) (unfinished : reached_pel at.reached < width) where
+  b2_order : reached_pel at.reached ≤ get_or reference (at.b1 + 1) 0
+  b2_order =
+      let b1 = so_far.b1 unfinished in
+      let first = b1_ahead reference end width all at.reached.a0 at.reached.colour at.b1 b1 unfinished in
+      let second = b2_ahead reference end width all at.b1 b1.some b1.within in
+      omega arith
+
+  b2_within : get_or reference (at.b1 + 1) 0 ≤ width
+  b2_within = let b1 = so_far.b1 unfinished in b2_at_most reference end width all at.b1 b1.some b1.within
+
+  pub pass_step : position_of (record { a0 = Some (get_or reference (at.b1 + 1) 0); colour = at.reached.colour }) (pels_by width (take at.end places))
+      ≡ coloured_up_to (placed_position width places at) (b2 (pels_by width (take end reference)) at.reached.a0 at.reached.colour)
+  pass_step =
+      coloured width (take at.end places) (take at.end places) at.reached (get_or reference (at.b1 + 1) 0) b2_order b2_within
+      (λ i h. refl) so_far.behind
+      ∙ ap (coloured_up_to (placed_position width places at)) (b2_is reference end width all at.reached.a0 at.reached.colour at.b1 (so_far.b1 unfinished))
+
+  pub pass_so_far : IsReadTo reference end width places
+      (record { reached = record { a0 = Some (get_or reference (at.b1 + 1) 0); colour = at.reached.colour }; end = at.end; b1 = at.b1 + 2 })
+  pass_so_far = record {
+    room = so_far.room;
+    within = b2_within;
+    ascending = so_far.ascending;
+    last = let order = b2_order in omega (arith, so_far.last);
+    behind = λ i h. so_far.behind i (let order = b2_order in omega arith);
+    b1 = λ h. b1_passed reference end width all at.reached.a0 at.reached.colour at.b1 (so_far.b1 unfinished) h;
+  }
+
+  pub b1_in_room : at.b1 + 1 < length reference
+  b1_in_room = let b1 = so_far.b1 unfinished in omega (arith, b1.within, all.room, end_within reference end width all)
+
+  -- a place is put where the colour turns
+  pub turned_so_far : (new : List ℕ) (next_end a1 next_b1 : ℕ) → reached_pel at.reached ≤ a1 → a1 ≤ width → length new ≡ length places
+      → IsAscending new next_end → get_or new (next_end - 1) 0 ≤ a1 → IsTurnedFrom (take at.end places) (take next_end new) a1
+      → (a1 < width → IsB1At reference end (Some a1) (other at.reached.colour) next_b1) → (colour : Colour) → colour ≡ other at.reached.colour
+      → IsReadTo reference end width new (record { reached = record { a0 = Some a1; colour = colour }; end = next_end; b1 = next_b1 })
+  turned_so_far new next_end a1 next_b1 order within len up last turn b1 colour is = record {
+    room = len ∙ so_far.room;
+    within = within;
+    ascending = up;
+    last = last;
+    behind = λ i h. turn.right i h ∙ ap other (so_far.behind i (omega arith)) ∙ sym is;
+    b1 = λ h. subst (λ c. IsB1At reference end (Some a1) c next_b1) (sym is) (b1 h);
+  }
+
+  -- and up to it the pels have a0's colour
+  pub turned_position : (new : List ℕ) (next_end a1 : ℕ) → reached_pel at.reached ≤ a1 → a1 ≤ width
+      → IsTurnedFrom (take at.end places) (take next_end new) a1
+      → position_of (record { a0 = Some a1; colour = at.reached.colour }) (pels_by width (take next_end new)) ≡ coloured_up_to (placed_position width places at) a1
+  turned_position new next_end a1 order within turn =
+      coloured width (take at.end places) (take next_end new) at.reached a1 order within turn.left so_far.behind
+
+  -- there is room for a place
+  pub room_left : at.end + 1 < length places
+  room_left =
+      omega (arith, so_far.room, places_within places at.end (reached_pel at.reached) so_far.ascending so_far.last)
+
+  -- a step in vertical mode to a1, which is z as a signed number
+  module _ (d z : ℤ) (z_is : z ≡ pos (get_or reference at.b1 0) +ℤ d) (least : negsuc 0 ≤ℤ a0_number (position_of at.reached []))
+      (right : a0_number (position_of at.reached []) <ℤ z) (inside : z ≤ℤ pos width) where
+    pub a1_is : pos (nat_abs z) ≡ z
+    a1_is = abs-same z z (omega (arith, ints)) refl
+
+    pub a1_right : is_right_of at.reached.a0 (nat_abs z) ≡ true
+    a1_right = number_right at.reached (nat_abs z) (omega (arith, ints, a1_is))
+
+    pub a1_ahead : reached_pel at.reached ≤ nat_abs z
+    a1_ahead = right_behind_first at.reached.a0 (nat_abs z) a1_right
+
+    pub a1_within : nat_abs z ≤ width
+    a1_within = omega (arith, ints, a1_is)
+
+    pub vertical_placed : (new : List ℕ) (next_end next_b1 : ℕ) (colour : Colour)
+        → IsTurnedFrom (take at.end places) (take next_end new) (nat_abs z) → colour ≡ other at.reached.colour
+        → IsVerticalStep (pels_by width (take end reference)) (placed_position width places at) d
+        (placed_position width new (record { reached = record { a0 = Some (nat_abs z); colour = colour }; end = next_end; b1 = next_b1 }))
+    vertical_placed new next_end next_b1 colour turn is =
+        let same = b1_is reference end width all at.reached.a0 at.reached.colour at.b1 (so_far.b1 unfinished) in
+        let len = length-pels_by width (take end reference) in
+        vertical_step (pels_by width (take end reference)) (pels_by width (take at.end places)) (pels_by width (take next_end new)) at.reached
+        (record { a0 = Some (nat_abs z); colour = at.reached.colour }) d (nat_abs z) colour
+        (record { right_of_a0 = omega (arith, ints, same); within = omega (arith, ints, same, len) })
+        (a1_is ∙ z_is ∙ ap (λ n. pos n +ℤ d) same)
+        (turned_position new next_end (nat_abs z) a1_ahead a1_within turn) is
+
+  -- two places are put where two runs end
+  pub horizontal_placed : (b mid rest : List Bool) (first second : ℕ) (turned_colour : Colour) (between new : List ℕ) (middle_end next_end next_b1 : ℕ)
+      → IsRun at.reached.colour b first mid → IsRun turned_colour mid second rest → turned_colour ≡ other at.reached.colour
+      → reached_pel at.reached + first + second ≤ width
+      → IsTurnedFrom (take at.end places) (take middle_end between) (reached_pel at.reached + first)
+      → IsTurnedFrom (take middle_end between) (take next_end new) (reached_pel at.reached + first + second)
+      → IsHorizontalStep (pels_by width (take end reference)) (placed_position width places at) b
+      (placed_position width new (record { reached = record { a0 = Some (reached_pel at.reached + first + second); colour = at.reached.colour }; end = next_end; b1 = next_b1 })) rest
+  horizontal_placed b mid rest first second turned_colour between new middle_end next_end next_b1 run another is within turn again = record {
+    first = first;
+    second = second;
+    middle = mid;
+    first_run = run;
+    second_run = subst (λ c. IsRun c mid second rest) is another;
+    within = omega (arith, length-pels_by width (take end reference));
+    new_is = ap position pels;
+  }
+    where
+      position : List Colour → Position
+      position pels = record { a0 = Some (reached_pel at.reached + first + second); colour = at.reached.colour; pels = pels }
+
+      one : reached_pel at.reached + first - reached_pel at.reached ≡ first
+      one = omega arith
+
+      two : reached_pel at.reached + first + second - (reached_pel at.reached + first) ≡ second
+      two = omega arith
+
+      pels : take (reached_pel at.reached + first + second) (pels_by width (take next_end new))
+          ≡ take (reached_pel at.reached) (pels_by width (take at.end places)) ++ replicate first at.reached.colour ++ replicate second (other at.reached.colour)
+      pels =
+          front_to width (reached_pel at.reached + first) (reached_pel at.reached + first + second) (take middle_end between) (take next_end new)
+          (other at.reached.colour) (omega arith) within again.left
+          (λ i h. turn.right i h ∙ ap other (so_far.behind i (omega arith)))
+          ∙ ap (λ n. take (reached_pel at.reached + first) (pels_by width (take middle_end between)) ++ replicate n (other at.reached.colour)) two
+          ∙ ap (λ xs. xs ++ replicate second (other at.reached.colour))
+          (front_to width (reached_pel at.reached) (reached_pel at.reached + first) (take at.end places) (take middle_end between)
+          at.reached.colour (omega arith) (omega arith) turn.left so_far.behind
+          ∙ ap (λ n. take (reached_pel at.reached) (pels_by width (take at.end places)) ++ replicate n at.reached.colour) one)
+
+  pub horizontal_so_far : (first second : ℕ) (between new : List ℕ) (middle_end next_end next_b1 : ℕ)
+      → reached_pel at.reached + first + second ≤ width → length new ≡ length places → IsAscending new next_end
+      → get_or new (next_end - 1) 0 ≤ reached_pel at.reached + first + second
+      → IsTurnedFrom (take at.end places) (take middle_end between) (reached_pel at.reached + first)
+      → IsTurnedFrom (take middle_end between) (take next_end new) (reached_pel at.reached + first + second)
+      → (reached_pel at.reached + first + second < width
+      → IsB1At reference end (Some (reached_pel at.reached + first + second)) at.reached.colour next_b1)
+      → IsReadTo reference end width new
+      (record { reached = record { a0 = Some (reached_pel at.reached + first + second); colour = at.reached.colour }; end = next_end; b1 = next_b1 })
+  horizontal_so_far first second between new middle_end next_end next_b1 within len up last turn again b1 = record {
+    room = len ∙ so_far.room;
+    within = within;
+    ascending = up;
+    last = last;
+    behind = λ i h.
+        again.right i h ∙ ap other (turn.right i (omega arith) ∙ ap other (so_far.behind i (omega arith))) ∙ other-other at.reached.colour;
+    b1 = b1;
+  }
+
+-- before the first pel
+pub nothing_read : (reference : List ℕ) (end width : ℕ) → ArePlaces reference end width → (places : List ℕ) → length places ≡ width + 4
+    → get_or places 0 0 ≡ 0
+    → IsReadTo reference end width places (record { reached = record { a0 = None; colour = White }; end = 1; b1 = 1 })
+nothing_read reference end width all places room first = record {
+  room = room;
+  within = omega arith;
+  ascending = record { started = omega arith; within = omega arith; first = first; steps = λ i h l. absurd (omega arith) };
+  last = omega (arith, first);
+  behind = λ i h. ap (λ ps. turned Black ps i) (take-first places (omega arith) first) ∙ turned-first i;
+  b1 = λ h. record {
+    some = omega arith;
+    within = omega (arith, all.ascending.started);
+    colour_is = refl;
+    passed = λ l. absurd (omega arith);
+    ahead = λ l. refl;
+  };
+}
+
+-- the row is read to its end
+pub steps_done : (reference : List Colour) (b : List Bool) (at : Reached) (row : List Colour) (rest : List Bool) (width : ℕ)
+    → AreStepsSoFar reference b (position_of at row) rest → 0 < width → reached_pel at ≡ width → length row ≡ width → length reference ≡ width
+    → IsTwoDimensionalRow reference b row rest
+steps_done reference b at row rest width so_far some done len same = record {
+  positions = so_far.positions;
+  last = position_of at row;
+  steps = so_far.steps;
+  ends = by at.a0 done;
+  pels = sym (ap (λ n. take n row) (done ∙ sym len) ∙ take-length row);
+}
+  where
+    by : (a0 : Option ℕ) → unwrap_or a0 0 ≡ width → a0 ≡ Some (length reference)
+    by None h = absurd (omega arith)
+    by (Some a) h = ap Some (h ∙ sym same)
+
+-- a row that is shown otherwise
+pub two_dimensional_as : (reference shown_reference : List Colour) (b : List Bool) (row shown : List Colour) (rest : List Bool)
+    → IsTwoDimensionalRow reference b row rest → reference ≡ shown_reference → shown ≡ row → IsTwoDimensionalRow shown_reference b shown rest
+two_dimensional_as reference shown_reference b row shown rest is same shows =
+    subst (λ r. IsTwoDimensionalRow r b shown rest) same (subst (λ r. IsTwoDimensionalRow reference b r rest) (sym shows) is)
+
+-- a step that is no part of the row
+pub fault_here : (reference : List Colour) (b : List Bool) (at : Reached) (row : List Colour) (mid : List Bool)
+    → AreStepsSoFar reference b (position_of at row) mid → reached_pel at < length reference
+    → (fault : RowFault) → IsStepFault reference (position_of at row) mid fault → IsTwoDimensionalFault reference b fault
+fault_here reference b at row mid so_far less fault step = record {
+  positions = so_far.positions;
+  last = position_of at row;
+  left = mid;
+  steps = so_far.steps;
+  unfinished = unfinished_below reference at.a0 less;
+  at_step = step;
+}

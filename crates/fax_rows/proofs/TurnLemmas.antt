@@ -1,0 +1,196 @@
+-- Rows by their places of change: the pel at a place, and where it changes.
+use Rattle.std.proofs.Common.{◌≡◌, ℕ, zero, suc, ◌+◌, ◌-◌, ◌%◌, ◌<◌, ◌≤◌, List, [], ◌∷◌, ◌++◌, length, take, get_or, true, false, not, refl, ap, sym, ◌∙◌, subst, arith, inl, inr}
+use Rattle.std.specs.Prelude.{◌⊎◌, nat_le, if◌then◌else◌}
+use Rattle.std.proofs.lemmas.Bool.{cases_lt, le-leb, lt-leb}
+use Rattle.std.proofs.Math.Nat.{eq-or-lt_of_le}
+use Rattle.std.proofs.lemmas.List.{get_or-take, length-take-le}
+use Rattle.std.proofs.lemmas.List.FromFn.{get_or-map-range_with_len, length-map-range_with_len}
+use Rattle.fax_bits.specs.declared.Colour.{Colour}
+use Rattle.fax_bits.specs.declared.Colour.TheVariants.{White, Black}
+use Rattle.fax_rows.specs.Elements.{other, same_colour, pel, is_changing}
+use Rattle.fax_rows.specs.code.Turns.{turned, pels_by, alternate, IsAscending, IsBehind}
+
+pub other-other : (c : Colour) → other (other c) ≡ c
+other-other White = refl
+other-other Black = refl
+
+-- a row has its width
+pub length-pels_by : (width : ℕ) (places : List ℕ) → length (pels_by width places) ≡ width
+unfolding pels_by
+length-pels_by width places = length-map-range_with_len (turned Black places) 0 width
+
+-- the pel at a place is black turned by each change that is not right of it
+pub pel-pels_by : (width : ℕ) (places : List ℕ) (i : ℕ) → i < width → pel (pels_by width places) i ≡ turned Black places i
+unfolding pels_by
+pel-pels_by width places i h = get_or-map-range_with_len (turned Black places) 0 width i i White h (omega arith)
+
+-- a place more turns the pels from there on, and no others
+pub turned-push_left : (c : Colour) (places : List ℕ) (q i : ℕ) → i < q → turned c (places ++ q ∷ []) i ≡ turned c places i
+unfolding turned
+turned-push_left c [] q i h = rw (lt-leb q i h) refl
+turned-push_left c (p ∷ places) q i h = turned-push_left (if nat_le p i then other c else c) places q i h
+
+pub turned-push_right : (c : Colour) (places : List ℕ) (q i : ℕ) → q ≤ i → turned c (places ++ q ∷ []) i ≡ other (turned c places i)
+unfolding turned
+turned-push_right c [] q i h = rw (le-leb q i h) refl
+turned-push_right c (p ∷ places) q i h = turned-push_right (if nat_le p i then other c else c) places q i h
+
+pub alternate-suc : (c : Colour) (k : ℕ) → alternate c (suc k) ≡ other (alternate c k)
+alternate-suc c zero = refl
+alternate-suc c (suc k) = alternate-suc (other c) k
+
+-- white behind an odd number of turns from black
+pub alternate-odd : (k : ℕ) → k % 2 ≡ 1 → alternate Black k ≡ White
+alternate-odd zero h = absurd (omega arith)
+alternate-odd (suc zero) h = refl
+alternate-odd (suc (suc k)) h = alternate-odd k (omega arith)
+
+pub alternate-even : (k : ℕ) → k % 2 ≡ 0 → alternate Black k ≡ Black
+alternate-even zero h = refl
+alternate-even (suc zero) h = absurd (omega arith)
+alternate-even (suc (suc k)) h = alternate-even k (omega arith)
+
+-- the first k places are not right of i, and the others are
+turned-rank : (c : Colour) (places : List ℕ) (i k : ℕ) → k ≤ length places
+    → ((j : ℕ) → j < k → get_or places j 0 ≤ i) → ((j : ℕ) → k ≤ j → j < length places → i < get_or places j 0)
+    → turned c places i ≡ alternate c k
+unfolding turned
+turned-rank c [] i zero within left right = refl
+turned-rank c [] i (suc k) within left right = absurd (omega arith)
+turned-rank c (p ∷ places) i zero within left right =
+    rw (lt-leb p i (right zero (omega arith) (omega arith)))
+    (turned-rank c places i zero (omega arith) (λ j h. absurd (omega arith)) (λ j h l. right (suc j) (omega arith) (omega arith)))
+turned-rank c (p ∷ places) i (suc k) within left right =
+    rw (le-leb p i (left zero (omega arith)))
+    (turned-rank (other c) places i k (omega arith) (λ j h. left (suc j) (omega arith)) (λ j h l. right (suc j) (omega arith) (omega arith)))
+
+module _ (places : List ℕ) (end : ℕ) (up : IsAscending places end) where
+  -- places ascend also over several steps
+  pub ascends : (i n : ℕ) → 0 < i → i + suc n < end → get_or places i 0 < get_or places (i + suc n) 0
+  ascends i zero some h = subst (λ m. get_or places i 0 < get_or places m 0) (omega arith) (up.steps i some (omega arith))
+  ascends i (suc n) some h =
+      let here = ascends i n some (omega arith) in
+      let next = subst (λ m. get_or places (i + suc n) 0 < get_or places m 0) same (up.steps (i + suc n) (omega arith) (omega arith)) in
+      omega arith
+    where
+      same : i + suc n + 1 ≡ i + suc (suc n)
+      same = omega arith
+
+  pub below_later : (i j : ℕ) → 0 < i → i < j → j < end → get_or places i 0 < get_or places j 0
+  below_later i j some less h =
+      subst (λ m. get_or places i 0 < get_or places m 0) same (ascends i (j - suc i) some (omega arith))
+    where
+      same : i + suc (j - suc i) ≡ j
+      same = omega arith
+
+  -- each place is at least as large as there are changes before it
+  pub at_least : (i : ℕ) → i < end → i ≤ get_or places i 0 + 1
+  at_least zero h = omega arith
+  at_least (suc zero) h = omega arith
+  at_least (suc (suc i)) h =
+      let before = at_least (suc i) (omega arith) in
+      let next = below_later (suc i) (suc (suc i)) (omega arith) (omega arith) h in
+      omega arith
+
+  pub not_later : (i j : ℕ) → i ≤ j → j < end → get_or places i 0 ≤ get_or places j 0
+  not_later zero j order h = omega (arith, up.first)
+  not_later (suc i) j order h =
+      elim (eq-or-lt_of_le order) [
+        | inl same ↦ subst (λ m. get_or places (suc i) 0 ≤ get_or places m 0) same (omega arith)
+        | inr less ↦ let l = below_later (suc i) j (omega arith) less h in omega arith
+      ]
+
+  -- the colour behind k places
+  pub colour_behind_places : (i k : ℕ) → IsBehind places end i k → turned Black (take end places) i ≡ alternate Black k
+  colour_behind_places i k at =
+      turned-rank Black (take end places) i k (omega (arith, len, at.within)) left right
+    where
+      len : length (take end places) ≡ end
+      len = length-take-le end places up.within
+
+      left : (j : ℕ) → j < k → get_or (take end places) j 0 ≤ i
+      left j h =
+          let l = not_later j (k - 1) (omega arith) (omega (arith, at.within)) in
+          rw (get_or-take end places j 0 (omega (arith, at.within))) (omega (arith, at.left))
+
+      right : (j : ℕ) → k ≤ j → j < length (take end places) → i < get_or (take end places) j 0
+      right j h l =
+          let first = at.right (omega (arith, len)) in
+          let later = not_later k j h (omega (arith, len)) in
+          rw (get_or-take end places j 0 (omega (arith, len))) (omega arith)
+
+  -- the pel behind k places
+  pub pel_behind : (width i k : ℕ) → i < width → IsBehind places end i k → pel (pels_by width (take end places)) i ≡ alternate Black k
+  pel_behind width i k h at = pel-pels_by width (take end places) i h ∙ colour_behind_places i k at
+
+  -- a row changes at each of its places
+  pub changing_at : (width i j : ℕ) → 0 < j → j < end → get_or places j 0 ≡ i → i < width
+      → is_changing (pels_by width (take end places)) i ≡ true
+  changing_at width zero j some h is inside =
+      let one : j ≡ 1 = omega (arith, at_least j h, up.first, few) in
+      let two = pel_behind width zero 2 inside (record {
+        some = omega arith;
+        within = omega (arith, one);
+        left = subst (λ m. get_or places m 0 ≤ 0) one (omega (arith, is));
+        right = λ l. omega (arith, later l);
+      }) in
+      rw two refl
+    where
+      few : j < 2
+      few = elim (cases_lt j 2) [
+        | inl less ↦ less
+        | inr more ↦ let l = below_later 1 j (omega arith) (omega arith) h in absurd (omega (arith, is))
+      ]
+
+      later : 2 < end → 0 < get_or places 2 0
+      later l = let m = below_later 1 2 (omega arith) (omega arith) l in omega arith
+  changing_at width (suc i) j some h is inside =
+      let here = pel_behind width (suc i) (suc j) inside (record {
+        some = omega arith;
+        within = omega arith;
+        left = rw same (omega (arith, is));
+        right = λ l. let next = below_later j (suc j) some (omega arith) l in omega (arith, is);
+      }) in
+      let before = pel_behind width i j (omega arith) (record {
+        some = some;
+        within = omega arith;
+        left = last (eq-or-lt_of_le some);
+        right = λ l. omega (arith, is);
+      }) in
+      rw (here, before, alternate-suc Black j) (turns (alternate Black j))
+    where
+      same : suc j - 1 ≡ j
+      same = omega arith
+
+      last : (1 ≡ j) ⊎ (1 < j) → get_or places (j - 1) 0 ≤ i
+      last (inl one) = subst (λ m. get_or places (m - 1) 0 ≤ i) one (omega (arith, up.first))
+      last (inr more) = let l = below_later (j - 1) j (omega arith) (omega arith) h in omega (arith, is)
+
+      turns : (c : Colour) → not (same_colour (other c) c) ≡ true
+      turns White = refl
+      turns Black = refl
+
+  -- and nowhere else
+  pub unchanging : (width i k : ℕ) → IsBehind places end i k → (k ≡ 1) ⊎ (get_or places (k - 1) 0 < i) → i < width
+      → is_changing (pels_by width (take end places)) i ≡ false
+  unchanging width zero k at (inr less) inside = absurd (omega arith)
+  unchanging width zero k at (inl one) inside =
+      let here : pel (pels_by width (take end places)) 0 ≡ alternate Black 1 = pel_behind width zero k inside at ∙ ap (alternate Black) one in
+      rw here refl
+  unchanging width (suc i) k at from inside =
+      let here = pel_behind width (suc i) k inside at in
+      let before = pel_behind width i k (omega arith) (record {
+        some = at.some;
+        within = at.within;
+        left = left from;
+        right = λ l. omega (arith, at.right l);
+      }) in
+      rw (here, before) (same (alternate Black k))
+    where
+      left : (k ≡ 1) ⊎ (get_or places (k - 1) 0 < suc i) → get_or places (k - 1) 0 ≤ i
+      left (inl one) = subst (λ m. get_or places (m - 1) 0 ≤ i) (sym one) (omega (arith, up.first))
+      left (inr less) = omega arith
+
+      same : (c : Colour) → not (same_colour c c) ≡ false
+      same White = refl
+      same Black = refl

@@ -1,0 +1,14 @@
+use Rattle.std.proofs.Common.{◌-◌, take, drop, ap, ◌∙◌}
+use Rattle.fax_rows.specs.code.LongestRuns.{gaps}
+use Rattle.fax_rows.proofs.PlacedRowLemmas.{changes_are, width_is}
+use Rattle.fax_rows.proofs.RowRunLemmas.{gaps_are_runs}
+use Rattle.fax_rows.proofs.longest_runs.LongestRuns.of_row.Goals as goal
+
+pub returns : goal.returns
+returns c =
+    let places = c.row.inside.places.items in
+    let end = c.row.inside.end in
+    let width = c.row.inside.width in
+    rw c.deref.ensures.value
+    (ap (gaps 0 (take (end - 1) (drop 1 places))) (width_is places end width c.row.invariant c.args.row.now c.row.view_is)
+    ∙ gaps_are_runs c.args.row.now (take (end - 1) (drop 1 places)) (changes_are places end width c.row.invariant c.args.row.now c.row.view_is))

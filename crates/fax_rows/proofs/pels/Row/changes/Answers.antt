@@ -1,0 +1,7 @@
+use Rattle.fax_rows.proofs.PlacedRowLemmas.{changes_are}
+use Rattle.fax_rows.proofs.pels.Row.changes.Goals as goal
+
+pub returns : goal.returns
+returns c =
+    rw c.deref.ensures.value
+    (changes_are c.self.inside.places.items c.self.inside.end c.self.inside.width c.self.invariant c.args.self.now c.self.view_is)

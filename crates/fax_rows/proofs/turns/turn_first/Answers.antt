@@ -1,0 +1,48 @@
+use Rattle.std.proofs.Common.{◌≡◌, ◌≢◌, ℕ, suc, ◌+◌, ◌-◌, ◌<◌, length, get_or, ap, ◌∙◌, arith, get_or-set_other, get_or-set_same}
+use Rattle.std.proofs.Math.ListN.{set}
+use Rattle.std.proofs.lemmas.List.{length-set}
+use Rattle.fax_rows.proofs.PlacedExchangeLemmas.{without_first, turned_white, with_first, turned_black}
+use Rattle.fax_rows.proofs.turns.turn_first.Goals as goal
+use Rattle.fax_rows.proofs.turns.turn_first.Goals.{After-slice_known-then-places-eq0-1, After-slice_known-3-1}
+
+-- each place went one to the left
+left_by_one : (c : After-slice_known-then-places-eq0-1) → (k : ℕ) → suc k < length c.args.places.now
+    → get_or c.rotate_left.new.self k 0 ≡ get_or c.args.places.now (suc k) 0
+left_by_one c k h =
+    let same : k + 1 ≡ suc k = omega arith in
+    c.rotate_left.ensures.by_index.0 k 0 (omega arith) ∙ ap (λ m. get_or c.args.places.now m 0) same
+
+pub returns-then-places-eq0-clause-placed : goal.returns-then-places-eq0-clause-placed
+returns-then-places-eq0-clause-placed c =
+    without_first c.args.places.now c.rotate_left.new.self c.args.end c.args.width c.requires c.if-places-eq0.true
+    c.rotate_left.ensures.len (left_by_one c)
+
+pub returns-then-places-eq0-clause-turned : goal.returns-then-places-eq0-clause-turned
+returns-then-places-eq0-clause-turned c =
+    turned_white c.args.places.now c.rotate_left.new.self c.args.end c.args.width c.requires c.if-places-eq0.true
+    c.rotate_left.ensures.len (left_by_one c)
+
+-- each place went one to the right
+right_by_one : (c : After-slice_known-3-1) → (k : ℕ) → suc k < length c.args.places.now
+    → get_or (set c.rotate_right.new.self 0 0) (suc k) 0 ≡ get_or c.args.places.now k 0
+right_by_one c k h =
+    let other : suc k ≢ 0 = omega arith in
+    let same : suc k - 1 ≡ k = omega arith in
+    get_or-set_other c.rotate_right.new.self 0 (suc k) 0 0 other
+    ∙ c.rotate_right.ensures.by_index.1 (suc k) 0 (omega arith) (omega arith) ∙ ap (λ m. get_or c.args.places.now m 0) same
+
+len : (c : After-slice_known-3-1) → length (set c.rotate_right.new.self 0 0) ≡ length c.args.places.now
+len c = length-set c.rotate_right.new.self 0 0 ∙ c.rotate_right.ensures.len
+
+first : (c : After-slice_known-3-1) → get_or (set c.rotate_right.new.self 0 0) 0 0 ≡ 0
+first c = get_or-set_same c.rotate_right.new.self 0 0 0 (omega (arith, c.rotate_right.ensures.len, c.requires.room))
+
+pub returns-clause-placed : goal.returns-clause-placed
+returns-clause-placed c =
+    with_first c.args.places.now (set c.rotate_right.new.self 0 0) c.args.end c.args.width c.requires (omega (arith, c.if-places-eq0.false))
+    (len c) (first c) (right_by_one c)
+
+pub returns-clause-turned : goal.returns-clause-turned
+returns-clause-turned c =
+    turned_black c.args.places.now (set c.rotate_right.new.self 0 0) c.args.end c.args.width c.requires (omega (arith, c.if-places-eq0.false))
+    (len c) (first c) (right_by_one c)

@@ -1,0 +1,15 @@
+use Rattle.std.proofs.Common.{◌≡◌, ◌+◌, length, take}
+use Rattle.fax_rows.specs.code.Turns.{pels_by}
+use Rattle.fax_rows.specs.code.PlacedReached.{placed_position, IsReadTo}
+use Rattle.fax_rows.proofs.StepLemmas.{AreStepsSoFar}
+use Rattle.fax_rows.proofs.two_dimensional.read_places_2d.Given as goal
+
+abbrev pub invariant-loop-source : goal.invariant-loop-source
+invariant-loop-source l = record {
+  steps : AreStepsSoFar (pels_by l.width (take l.reference_end l.reference)) l.initial.source.left (placed_position l.width l.places l.at) l.source.left;
+  so_far : IsReadTo l.reference l.reference_end l.width l.places l.at;
+  same_end : l.source.place + length l.source.left ≡ l.initial.source.place + length l.initial.source.left;
+}
+
+abbrev pub decreases-loop-source : goal.decreases-loop-source
+decreases-loop-source l = length l.source.left

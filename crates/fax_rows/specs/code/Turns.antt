@@ -1,0 +1,67 @@
+-- A row as its places of change: each of them turns the colour of the pels from there on.
+use Rattle.std.specs.Prelude.{◌≡◌, ℕ, zero, suc, true, false, Option, ◌+◌, ◌-◌, ◌≤◌, ◌<◌, ◌^◌, nat_le, if◌then◌else◌, List, [], ◌∷◌, map, length, take, slice_index}
+use Rattle.std.specs.List.{range_with_len}
+use Rattle.fax_bits.specs.declared.Colour.{Colour}
+use Rattle.fax_bits.specs.declared.Colour.TheVariants.{Black}
+use Rattle.fax_rows.specs.Elements.{other, is_right_of}
+
+-- a colour, turned by each of the places that is not right of place i
+unfoldable pub turned : Colour → List ℕ → ℕ → Colour
+turned colour [] i = colour
+turned colour (place ∷ places) i = turned (if nat_le place i then other colour else colour) places i
+
+-- a colour, turned so many times
+abbrev pub alternate : Colour → ℕ → Colour
+alternate c zero = c
+alternate c (suc k) = alternate (other c) k
+
+-- the pels of a row of this width; the first place is 0, where black turns to the imaginary white pel's colour
+unfoldable pub pels_by : ℕ → List ℕ → List Colour
+pels_by width places = map (turned Black places) (range_with_len 0 width)
+
+-- the row of the first `end` places
+abbrev pub row_of : List ℕ → ℕ → ℕ → List Colour
+row_of places end width = pels_by width (take end places)
+
+-- the first `end` places ascend from a 0 on, which the first change may repeat
+pub record IsAscending (places : List ℕ) (end : ℕ) : Type 0 where
+  pub started : 0 < end
+  pub within : end ≤ length places
+  pub first : slice_index places 0 ≡ 0
+  pub steps : (i : ℕ) → 0 < i → i + 1 < end → slice_index places i < slice_index places (i + 1)
+
+-- the changes of a row stand behind the first place and before `end`, and the width three times behind them
+pub record ArePlaces (places : List ℕ) (end width : ℕ) : Type 0 where
+  pub some : 0 < width
+  pub short : width < 2 ^ 16
+  pub room : length places ≡ width + 4
+  pub ascending : IsAscending places end
+  pub below : (i : ℕ) → 0 < i → i < end → slice_index places i < width
+  pub behind : (i : ℕ) → i < 3 → slice_index places (end + i) ≡ width
+
+-- place i lies behind k of the first `end` places and before the others
+pub record IsBehind (places : List ℕ) (end i k : ℕ) : Type 0 where
+  pub some : 0 < k
+  pub within : k ≤ end
+  pub left : slice_index places (k - 1) ≤ i
+  pub right : k < end → i < slice_index places k
+
+-- the new places give the colours of the old ones, turned from a place on
+pub record IsTurnedFrom (old new : List ℕ) (place : ℕ) : Type 0 where
+  pub left : (i : ℕ) → i < place → turned Black new i ≡ turned Black old i
+  pub right : (i : ℕ) → place ≤ i → turned Black new i ≡ other (turned Black old i)
+
+-- where the search for b1 right of the pel a begins: no change of the other colour left of place b is right of a
+-- (T.4, section 4.2.1.3.1)
+pub record IsBeforeB1 (places : List ℕ) (end a : ℕ) (colour : Colour) (b : ℕ) : Type 0 where
+  pub within : b ≤ end + 1
+  pub colour_is : alternate Black b ≡ colour
+  pub passed : 2 < b → slice_index places (b - 2) ≤ a
+
+-- b1 stands at place b of the reference row, as seen from a0 of this colour (T.4, section 4.2.1.3.1)
+pub record IsB1At (places : List ℕ) (end : ℕ) (a0 : Option ℕ) (colour : Colour) (b : ℕ) : Type 0 where
+  pub some : 0 < b
+  pub within : b ≤ end + 1
+  pub colour_is : alternate Black b ≡ colour
+  pub passed : 2 < b → is_right_of a0 (slice_index places (b - 2)) ≡ false
+  pub ahead : b < end → is_right_of a0 (slice_index places b) ≡ true

@@ -1,0 +1,91 @@
+//! Places of change: each of them turns the colour of the pels from there on (ITU-T T.4, section
+//! 4.2.1.3.1).
+ghost use Rattle.std.specs.Prelude.{◌≡◌, ℕ, ◌+◌, ◌-◌, ◌≤◌, ◌<◌, ◌^◌, length, take, slice_index};
+ghost use Rattle.fax_rows.specs.code.Turns as Spec;
+
+/// How many of the places before `end` are not right of `i`.
+pub fn places_up_to(places: &[u32], end: usize, i: u32) -> usize
+    requires started { 0 < end }
+    requires within { end ≤ length places.now }
+    requires first { slice_index places.now 0 ≡ 0 }
+    ensures { Spec.IsBehind places.now end i result }
+{
+    let mut low = 1;
+    let mut high = end;
+    while low < high {
+        let middle = low + (high - low) / 2;
+        if places[middle] <= i {
+            low = middle + 1;
+        } else {
+            high = middle;
+        }
+    }
+    low
+}
+
+/// Turns the colour from a place on, and answers where the places end: it puts the place behind the
+/// last one, or takes the last one away where it is the same.
+pub fn turn(places: &mut [u32], end: usize, place: u32) -> usize
+    requires ascending { Spec.IsAscending places.old end }
+    requires last { slice_index places.old (end - 1) ≤ place }
+    requires room { end < length places.old }
+    ensures ascending { Spec.IsAscending places.new result }
+    ensures last { slice_index places.new (result - 1) ≤ place }
+    ensures turned { Spec.IsTurnedFrom (take end places.old) (take result places.new) place }
+    ensures same_len { length places.new ≡ length places.old }
+{
+    if end > 1 && places[end - 1] == place {
+        return end - 1;
+    }
+    places[end] = place;
+    end + 1
+}
+
+/// Where the places below the width end: the last of them may be the width, where no row changes.
+fn end_below(places: &[u32], end: usize, width: u32) -> usize
+    requires ascending { Spec.IsAscending places.now end }
+    requires last { slice_index places.now (end - 1) ≤ width }
+    ensures ascending { Spec.IsAscending places.now result }
+    ensures below { (i : ℕ) → 0 < i → i < result → slice_index places.now i < width }
+    ensures within { result ≤ width + 1 }
+    ensures pels { Spec.row_of places.now result width ≡ Spec.row_of places.now end width }
+{
+    if end > 1 && places[end - 1] == width {
+        end - 1
+    } else {
+        end
+    }
+}
+
+/// Puts the width behind the places of a row, and answers where its changes end.
+pub fn close(places: &mut [u32], end: usize, width: u32) -> usize
+    requires some { 0 < width }
+    requires short { width < 2 ^ 16 }
+    requires room { length places.old ≡ width + 4 }
+    requires ascending { Spec.IsAscending places.old end }
+    requires last { slice_index places.old (end - 1) ≤ width }
+    ensures placed { Spec.ArePlaces places.new result width }
+    ensures pels { Spec.row_of places.new result width ≡ Spec.row_of places.old end width }
+{
+    let end = end_below(places, end, width);
+    places[end] = width;
+    places[end + 1] = width;
+    places[end + 2] = width;
+    end
+}
+
+/// Turns the colours of all pels, and answers where the places end then: a change at the first pel
+/// is put, or taken away.
+pub fn turn_first(places: &mut [u32], end: usize, width: u32) -> usize
+    requires { Spec.ArePlaces places.old end width }
+    ensures placed { Spec.ArePlaces places.new result width }
+    ensures turned { Spec.IsTurnedFrom (take end places.old) (take result places.new) 0 }
+{
+    if places[1] == 0 {
+        places.rotate_left(1);
+        return end - 1;
+    }
+    places.rotate_right(1);
+    places[0] = 0;
+    end + 1
+}
