@@ -1,3 +1,10 @@
 pub mod EntryLemmas
 pub mod FieldLemmas
 pub mod PageLemmas
+pub mod PlaceLemmas
+pub mod WrittenFieldLemmas
+pub mod WrittenStripLemmas
+pub mod WrittenPageLemmas
+pub mod WrittenFileLemmas
+pub mod WrittenRowLemmas
+pub mod ChainLemmas

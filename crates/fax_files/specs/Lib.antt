@@ -1,8 +1,11 @@
 pub mod Numbers
 pub mod Directory
 pub mod Chain
+pub mod ChainRead
 pub mod Page
 pub mod StripBytes
 pub mod PageRows
 pub mod FaultNames
+pub mod Written
+pub mod Laws
 pub mod code

@@ -7,6 +7,7 @@ ghost use Rattle.fax_files.specs.FaultNames as Names;
 mod directory;
 mod entries;
 mod fields;
+pub mod laws;
 mod numbers;
 mod page;
 mod strips;

@@ -11,7 +11,7 @@ use Rattle.fax_files.specs.declared.Cause.TheVariants.{File}
 use Rattle.fax_files.specs.declared.PageForm.{PageForm}
 use Rattle.fax_files.specs.Numbers.{Header, header}
 use Rattle.fax_files.specs.Directory.{is_directory, next_offset}
-use Rattle.fax_files.specs.Chain.{chain_fault}
+use Rattle.fax_files.specs.ChainRead.{chain_fault}
 use Rattle.fax_files.specs.Page.{page, IsPageForm}
 use Rattle.fax_files.specs.StripBytes.{strip_bytes}
 use Rattle.fax_files.specs.PageRows.{AreStrips, joined, shown, strip_form}

@@ -7,7 +7,7 @@ use Rattle.fax_files.specs.declared.Cause.TheVariants.{File}
 use Rattle.fax_files.specs.declared.PageForm.{PageForm}
 use Rattle.fax_files.specs.declared.Endian.{Endian}
 use Rattle.fax_files.specs.Numbers.{Header, header}
-use Rattle.fax_files.specs.Chain.{IsChain}
+use Rattle.fax_files.specs.ChainRead.{IsChainRead}
 use Rattle.fax_files.specs.Page.{page}
 use Rattle.fax_files.specs.PageRows.{AreStrips, joined, shown}
 use Rattle.fax_walk.specs.declared.walk.End.{End}
@@ -59,5 +59,5 @@ abbrev pub AreItems : List ℕ → List Item → End → Type 0
 AreItems file items end =
     ((fault : FileFault) × (header file ≡ Err fault) × (items ≡ []) × (end ≡ Fault 0 0 (File fault)))
     ⊎ ((head : Header) × (offsets : List ℕ) × (fault : Option FileFault)
-    × (header file ≡ Ok head) × IsChain head file offsets fault
+    × (header file ≡ Ok head) × IsChainRead head file offsets fault
     × ArePagesItems head.endian file fault 0 offsets items end)

@@ -1,7 +1,7 @@
 //! The walk over a file's rows, in order of page and then of row.
 ghost use Rattle.std.specs.Prelude.{◌≡◌, ◌+◌, List, [], IfOk, IfErr, OnOk};
 ghost use Rattle.std.specs.Borrow.{sem};
-ghost use Rattle.fax_files.specs.Chain.{chain_fault};
+ghost use Rattle.fax_files.specs.ChainRead.{chain_fault};
 ghost use Rattle.fax_walk.specs.Items.{Item, AreItems, chain_end};
 ghost use Rattle.fax_files.specs.Page.{IsPageForm};
 ghost use Rattle.fax_walk.specs.code.Due as Due;

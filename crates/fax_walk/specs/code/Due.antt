@@ -7,7 +7,7 @@ use Rattle.fax_page.specs.code.Reader.{bits_left}
 use Rattle.fax_files.specs.declared.Cause.{Cause}
 use Rattle.fax_files.specs.declared.Cause.TheVariants.{File, Strip}
 use Rattle.fax_files.specs.declared.PageForm.{PageForm}
-use Rattle.fax_files.specs.Chain.{chain_fault}
+use Rattle.fax_files.specs.ChainRead.{chain_fault}
 use Rattle.fax_files.specs.Page.{IsPageForm}
 use Rattle.fax_files.specs.PageRows.{AreStrips, joined, shown}
 use Rattle.fax_files.specs.code.Tiff.{TiffDirectory}

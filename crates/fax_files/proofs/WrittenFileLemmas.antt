@@ -1,0 +1,310 @@
+-- A written file is read as the pages that were written.
+use Rattle.std.proofs.Common.{◌≡◌, ℕ, suc, ◌+◌, ◌%◌, ◌<◌, ◌≤◌, ◌⊎◌, inl, inr, true, false, List, [], ◌∷◌, ◌++◌, length, take, drop, None, Ok, refl, sym, ap, ◌∙◌, arith, ◌*◌}
+use Rattle.std.proofs.lemmas.List.{length-append, length-replicate}
+use Rattle.std.proofs.lemmas.Bool.{le-leb, lt-leb, ne_eqb}
+use Rattle.std.proofs.lemmas.List.Elements.{All-nil, All-push, All-weaker, All-contains}
+use Rattle.std.specs.List.{All, AllZip}
+use Rattle.std.specs.Prelude.{Contains, ◌==◌, replicate, codes, nat_le, if◌then◌else◌}
+use Rattle.fax_files.specs.declared.Endian.TheVariants.{Little}
+use Rattle.fax_files.specs.Numbers.{is_inside, number_at}
+use Rattle.fax_files.specs.Directory.{next_offset}
+use Rattle.fax_files.specs.Numbers.{endian_of, header}
+use Rattle.fax_files.specs.Chain.{IsChainFrom}
+use Rattle.fax_files.specs.Written.{two, four, offsets_from, lengths_of, fields_bytes, values_bytes, joined_strips, directory_place, page_bytes, with_four_at, Written, with_page, with_pages, WrittenPage, empty_file, file_of, longs, array_bytes, rational_bytes}
+use Rattle.fax_files.specs.Laws.{IsWritable, AreWritable, IsReadAt, AppendedPagesAreRead, WrittenFilesAreRead}
+use Rattle.fax_files.proofs.PlaceLemmas.{HasBytesAt, at_place, at_left, at_right, at_inside, at_drop, at_start, at_slice, length-slice, slice_there, at_end, at_grown, at_patch, at_before_patch, at_behind_patch, length-patched, number_there}
+use Rattle.fax_files.proofs.WrittenStripLemmas.{length-offsets_from, length-lengths_of, length-longs}
+use Rattle.fax_files.proofs.WrittenPageLemmas.{page_fields, IsPageAt, length-page_fields, page_back, directory_whole, next_there}
+
+-- a file whose last link is still 0
+abbrev pub HasOpenLink : Written → Type 0
+HasOpenLink old = HasBytesAt old.bytes old.link (four 0)
+
+-- a file with one more page
+abbrev with_written : Written → ℕ → ℕ → WrittenPage → Written
+with_written old total k written = with_page old total k written.form written.strips
+
+-- where its directory stands
+abbrev place_of : Written → WrittenPage → ℕ
+place_of old written = directory_place (length old.bytes) written.strips
+
+-- what is written of a page stands behind what stood there
+appended : (old : Written) (total k : ℕ) (written : WrittenPage) → HasOpenLink old
+    → HasBytesAt (with_written old total k written).bytes (length old.bytes) (page_bytes (length old.bytes) total k written.form written.strips)
+unfolding with_page
+appended old total k written open' =
+    at_place (length-patched old.bytes old.link (place_of old written) (at_inside (four 0) open'))
+    (at_end (with_four_at old.bytes old.link (place_of old written)) (page_bytes (length old.bytes) total k written.form written.strips))
+
+-- the parts of a page that was appended
+record Appended (old new : Written) (total k : ℕ) (written : WrittenPage) : Type 0 where
+  page_is : IsPageAt new.bytes (place_of old written) (length old.bytes) total k written
+  new_link : new.link ≡ place_of old written + 194
+  is_open : HasOpenLink new
+  old_link : HasBytesAt new.bytes old.link (four (place_of old written))
+  kept : (p : ℕ) (bytes : List ℕ) → (p + length bytes ≤ old.link) ⊎ (old.link + 4 ≤ p) → HasBytesAt old.bytes p bytes → HasBytesAt new.bytes p bytes
+
+stays : (old : Written) (total k : ℕ) (written : WrittenPage) (p : ℕ) (bytes : List ℕ) → (p + length bytes ≤ old.link) ⊎ (old.link + 4 ≤ p)
+    → HasBytesAt old.bytes p bytes → HasBytesAt (with_written old total k written).bytes p bytes
+unfolding with_page
+stays old total k written p bytes (inl before) h =
+    at_grown bytes (page_bytes (length old.bytes) total k written.form written.strips) (at_before_patch bytes old.link (place_of old written) before h)
+stays old total k written p bytes (inr behind) h =
+    at_grown bytes (page_bytes (length old.bytes) total k written.form written.strips) (at_behind_patch bytes old.link (place_of old written) behind h)
+
+linked : (old : Written) (total k : ℕ) (written : WrittenPage) → HasOpenLink old
+    → HasBytesAt (with_written old total k written).bytes old.link (four (place_of old written))
+unfolding with_page
+linked old total k written open' =
+    at_grown (four (place_of old written)) (page_bytes (length old.bytes) total k written.form written.strips)
+    (at_patch old.bytes old.link (place_of old written) (at_inside (four 0) open'))
+
+link_of : (old : Written) (total k : ℕ) (written : WrittenPage) → (with_written old total k written).link ≡ place_of old written + 194
+unfolding with_page
+link_of old total k written = refl
+
+-- one page appended
+is_appended : (old : Written) (total k : ℕ) (written : WrittenPage) → HasOpenLink old → IsWritable written
+    → Appended old (with_written old total k written) total k written
+unfolding page_bytes
+is_appended old total k written open' w =
+    let start = length old.bytes in
+    let q = place_of old written in
+    let strips = joined_strips written.strips in
+    let pad : List ℕ = replicate ((start + length strips) % 2) 0 in
+    let fields = fields_bytes (page_fields q start total k written) in
+    let values = values_bytes written.form (offsets_from start written.strips) (lengths_of written.strips) in
+    let pad_len : length pad ≡ (start + length strips) % 2 = length-replicate _ 0 in
+    let place : start + length (strips ++ pad) ≡ q = omega (arith, length-append strips pad, pad_len) in
+    let fields_len = length-page_fields q start total k written w in
+    let all = appended old total k written open' in
+    let with_zero = at_left (strips ++ pad ++ fields ++ four 0) values all in
+    let with_fields = at_left (strips ++ pad ++ fields) (four 0) with_zero in
+    let zero_place : start + length (strips ++ pad ++ fields) ≡ q + 194 = omega (arith, place, fields_len, length-append (strips ++ pad) fields) in
+    let values_place : start + length (strips ++ pad ++ fields ++ four 0) ≡ q + 198 =
+    omega (arith, zero_place, length-append (strips ++ pad ++ fields) (four 0)) in
+    record {
+      page_is = record {
+        fields = at_place place (at_right (strips ++ pad) fields with_fields);
+        values = at_place values_place (at_right (strips ++ pad ++ fields ++ four 0) values all);
+        strips = at_left strips pad (at_left (strips ++ pad) fields with_fields);
+      };
+      new_link = link_of old total k written;
+      is_open = at_place (zero_place ∙ sym (link_of old total k written)) (at_right (strips ++ pad ++ fields) (four 0) with_zero);
+      old_link = linked old total k written open';
+      kept = stays old total k written;
+    }
+
+-- how long a file with one more page is
+length-array : (numbers : List ℕ) → length (array_bytes numbers) ≡ (if nat_le (length numbers) 1 then 0 else 4 * length numbers)
+length-array [] = refl
+length-array (n ∷ []) = refl
+length-array (m ∷ n ∷ numbers) =
+    let many : nat_le (length (m ∷ n ∷ numbers)) 1 ≡ false = lt-leb _ _ (omega arith) in
+    let len : length (longs (m ∷ n ∷ numbers)) ≡ 4 * length (m ∷ n ∷ numbers) = omega (arith, length-longs (m ∷ n ∷ numbers)) in
+    rw many len
+
+pub length-with_page : (old : Written) (total k : ℕ) (written : WrittenPage) → old.link + 4 ≤ length old.bytes → IsWritable written
+    → length (with_written old total k written).bytes
+    ≡ place_of old written + 214 + 2 * (if nat_le (length written.strips) 1 then 0 else 4 * length written.strips)
+unfolding with_page page_bytes
+length-with_page old total k written inside w =
+    let start = length old.bytes in
+    let q = place_of old written in
+    let strips = joined_strips written.strips in
+    let pad : List ℕ = replicate ((start + length strips) % 2) 0 in
+    let pad_len : length pad ≡ (start + length strips) % 2 = length-replicate _ 0 in
+    let fields = fields_bytes (page_fields q start total k written) in
+    let offsets = offsets_from start written.strips in
+    let lengths = lengths_of written.strips in
+    let x = rational_bytes written.form.x in
+    let y = rational_bytes written.form.y in
+    let values = values_bytes written.form offsets lengths in
+    let patched = with_four_at old.bytes old.link q in
+    let array = if nat_le (length written.strips) 1 then 0 else 4 * length written.strips in
+    let offsets_len : length (array_bytes offsets) ≡ array = length-array offsets ∙ ap (λ (n : ℕ). if nat_le n 1 then 0 else 4 * n) (length-offsets_from start written.strips) in
+    let lengths_len : length (array_bytes lengths) ≡ array = length-array lengths ∙ ap (λ (n : ℕ). if nat_le n 1 then 0 else 4 * n) (length-lengths_of written.strips) in
+    let values_len : length values ≡ 16 + array + array =
+    omega (arith, length-append (x ++ y ++ array_bytes offsets) (array_bytes lengths), length-append (x ++ y) (array_bytes offsets), offsets_len, lengths_len) in
+    omega (
+      arith,
+      length-append patched (strips ++ pad ++ fields ++ four 0 ++ values),
+      length-patched old.bytes old.link q inside,
+      length-append (strips ++ pad ++ fields ++ four 0) values,
+      length-append (strips ++ pad ++ fields) (four 0),
+      length-append (strips ++ pad) fields,
+      length-append strips pad,
+      pad_len,
+      length-page_fields q start total k written w,
+      values_len,
+    )
+
+-- the law of one page appended
+pub appended_pages_are_read : AppendedPagesAreRead
+appended_pages_are_read old total k written open' w short =
+    let new = with_written old total k written in
+    let q = place_of old written in
+    let has_link : HasOpenLink old = rw open'.zero at (at_slice old.bytes old.link 4 open'.inside) in
+    let one = is_appended old total k written has_link w in
+    let behind = at_inside _ one.page_is.values in
+    record {
+      link = number_there 4 one.old_link (omega (arith, behind, short));
+      kept = λ place n inside apart.
+          let bytes = take n (drop place old.bytes) in
+          let len = length-slice old.bytes place n inside in
+          let stands = one.kept place bytes (rw len apart) (at_slice old.bytes place n inside) in
+          rw len at (slice_there bytes stands);
+      whole = directory_whole new.bytes q (length old.bytes) total k written one.page_is;
+      last =
+          next_there new.bytes q (length old.bytes) total k written one.page_is
+          ∙ number_there 4 (at_place one.new_link one.is_open) (omega arith);
+      read = page_back new.bytes q (length old.bytes) total k written (record { small = omega (arith, short); writable = w; here = one.page_is });
+      is_open = record { inside = at_inside (four 0) one.is_open; zero = slice_there (four 0) one.is_open };
+    }
+
+-- a page behind other pages is the last one that is appended
+pub with_pages-push : (old : Written) (total k : ℕ) (pages : List WrittenPage) (written : WrittenPage)
+    → with_pages old total k (pages ++ written ∷ []) ≡ with_written (with_pages old total k pages) total (k + length pages) written
+unfolding with_pages
+with_pages-push old total k [] written = ap (λ (n : ℕ). with_written old total n written) (omega arith)
+with_pages-push old total k (first ∷ pages) written =
+    let n : k + 1 + length pages ≡ k + suc (length pages) = omega arith in
+    with_pages-push (with_written old total k first) total (k + 1) pages written
+    ∙ ap (λ (m : ℕ). with_written (with_pages (with_written old total k first) total (k + 1) pages) total m written) n
+
+-- where the directories of pages that are appended stand
+abbrev pub offsets_of : Written → ℕ → ℕ → List WrittenPage → List ℕ
+offsets_of old total k [] = []
+offsets_of old total k (written ∷ pages) = place_of old written ∷ offsets_of (with_written old total k written) total (k + 1) pages
+
+-- they ascend
+abbrev pub AscendFrom : ℕ → List ℕ → Type 0
+AscendFrom low [] = Unit {0}
+AscendFrom low (q ∷ offsets) = low ≤ q × AscendFrom (q + 1) offsets
+
+ascend_lower : (low high : ℕ) (offsets : List ℕ) → low ≤ high → AscendFrom high offsets → AscendFrom low offsets
+ascend_lower low high [] le a = tt
+ascend_lower low high (q ∷ offsets) le a = (omega (arith, le, a.0), a.1)
+
+pub offsets_ascend : (old : Written) (total k : ℕ) (pages : List WrittenPage) → HasOpenLink old → AreWritable pages
+    → AscendFrom (length old.bytes) (offsets_of old total k pages)
+offsets_ascend old total k [] open' w = tt
+offsets_ascend old total k (written ∷ pages) open' w =
+    let one = is_appended old total k written open' w.0 in
+    let new = with_written old total k written in
+    let longer : place_of old written + 1 ≤ length new.bytes = omega (arith, at_inside (four 0) one.is_open, one.new_link) in
+    (omega arith, ascend_lower _ _ (offsets_of new total (k + 1) pages) longer (offsets_ascend new total (k + 1) pages one.is_open w.1))
+
+-- the file with them
+abbrev with_all : Written → ℕ → ℕ → List WrittenPage → List ℕ
+with_all old total k pages = (with_pages old total k pages).bytes
+
+-- what stood in a file stays, but for its link
+stays_through : (old : Written) (total k : ℕ) (pages : List WrittenPage) → HasOpenLink old → AreWritable pages → (p : ℕ) (bytes : List ℕ)
+    → (p + length bytes ≤ old.link) ⊎ (old.link + 4 ≤ p) → HasBytesAt old.bytes p bytes → HasBytesAt (with_all old total k pages) p bytes
+unfolding with_pages
+stays_through old total k [] open' w p bytes apart h = h
+stays_through old total k (written ∷ pages) open' w p bytes apart h =
+    let one = is_appended old total k written open' w.0 in
+    let before : p + length bytes ≤ (with_written old total k written).link = omega (arith, one.new_link, at_inside bytes h) in
+    stays_through (with_written old total k written) total (k + 1) pages one.is_open w.1 p bytes (inl before) (one.kept p bytes apart h)
+
+-- so does what was written of a page, whose link is behind all but its values
+page_stays : (old : Written) (total k : ℕ) (written : WrittenPage) (pages : List WrittenPage) → HasOpenLink old → IsWritable written → AreWritable pages
+    → IsPageAt (with_all (with_written old total k written) total (k + 1) pages) (place_of old written) (length old.bytes) total k written
+page_stays old total k written pages open' w rest =
+    let one = is_appended old total k written open' w in
+    let new = with_written old total k written in
+    let q = place_of old written in
+    let keep = stays_through new total (k + 1) pages one.is_open rest in
+    let fields = fields_bytes (page_fields q (length old.bytes) total k written) in
+    let fields_len = length-page_fields q (length old.bytes) total k written w in
+    record {
+      fields = keep q fields (inl (omega (arith, one.new_link, fields_len))) one.page_is.fields;
+      values = keep (q + 198) _ (inr (omega (arith, one.new_link))) one.page_is.values;
+      strips = keep (length old.bytes) (joined_strips written.strips) (inl (omega (arith, one.new_link))) one.page_is.strips;
+    }
+
+-- the file is read as these pages from its link on, behind these directories
+chain_through : (old : Written) (total k : ℕ) (pages : List WrittenPage) → HasOpenLink old → AreWritable pages → length (with_all old total k pages) < 4294967296
+    → (before : List ℕ) → All (λ o. o < length old.bytes) before
+    → IsChainFrom Little (with_all old total k pages) before (number_at Little 4 (with_all old total k pages) old.link)
+    (offsets_of old total k pages) None
+unfolding with_pages
+chain_through old total k [] open' w small before below = inl (number_there 4 open' (omega arith), refl)
+chain_through old total k (written ∷ pages) open' w small before below =
+    let one = is_appended old total k written open' w.0 in
+    let new = with_written old total k written in
+    let q = place_of old written in
+    let file = with_all new total (k + 1) pages in
+    let inside = at_inside (four 0) open' in
+    let here = page_stays old total k written pages open' w.0 w.1 in
+    let behind = at_inside _ here.values in
+    let link = stays_through new total (k + 1) pages one.is_open w.1 old.link (four q) (inl (omega (arith, one.new_link, inside))) one.old_link in
+    let due : number_at Little 4 file old.link ≡ q = number_there 4 link (omega (arith, behind, small)) in
+    let new_place : Contains before q → ⊥ = λ c. absurd (omega (arith, All-contains (λ o. o < length old.bytes) before q below c)) in
+    let next : next_offset Little file q ≡ number_at Little 4 file new.link =
+    next_there file q (length old.bytes) total k written here ∙ ap (number_at Little 4 file) (sym one.new_link) in
+    let longer : q < length new.bytes = omega (arith, at_inside (four 0) one.is_open, one.new_link) in
+    let all_below : All (λ o. o < length new.bytes) (before ++ q ∷ []) =
+    All-push (λ o. o < length new.bytes) before q (All-weaker (λ o. o < length old.bytes) (λ o. o < length new.bytes) (λ o lt. omega (arith, lt, longer)) before below) longer in
+    let rest = chain_through new total (k + 1) pages one.is_open w.1 small (before ++ q ∷ []) all_below in
+    rw (due, next) (refl, λ e. absurd (omega (arith, e, inside)), new_place, directory_whole file q (length old.bytes) total k written here, rest)
+
+-- and each page as it was written
+pages_through : (old : Written) (total k : ℕ) (pages : List WrittenPage) → HasOpenLink old → AreWritable pages
+    → length (with_all old total k pages) < 4294967296
+    → AllZip (IsReadAt (with_all old total k pages)) (offsets_of old total k pages) pages
+unfolding with_pages
+pages_through old total k [] open' w small = tt
+pages_through old total k (written ∷ pages) open' w small =
+    let one = is_appended old total k written open' w.0 in
+    let new = with_written old total k written in
+    let here = page_stays old total k written pages open' w.0 w.1 in (
+      page_back (with_all new total (k + 1) pages) (place_of old written) (length old.bytes) total k written (record { small = small; writable = w.0; here = here }),
+      pages_through new total (k + 1) pages one.is_open w.1 small,
+    )
+
+-- a file that begins with II and 42 and has its first directory somewhere has a good header
+header_there : (file : List ℕ) → 8 ≤ length file → HasBytesAt file 0 (codes "II" ++ two 42) → (number_at Little 4 file 4 ≡ 0 → ⊥)
+    → header file ≡ Ok (record { endian = Little; first = number_at Little 4 file 4 })
+unfolding header
+header_there file long h some =
+    let whole : is_inside file 0 8 ≡ true = le-leb _ _ long in
+    let letters : endian_of (take 2 file) ≡ Ok Little = ap (λ (l : List ℕ). endian_of (take 2 l)) (at_drop (codes "II" ++ two 42) h) in
+    let magic : number_at Little 2 file 2 ≡ 42 = number_there 2 (at_right (codes "II") (two 42) h) (omega arith) in
+    let first : (number_at Little 4 file 4 == 0) ≡ false = ne_eqb _ _ some in
+    rw (whole, letters, magic, first) refl
+
+-- a file with pages behind a header
+first_there : (written : WrittenPage) (total k : ℕ) (pages : List WrittenPage) → AreWritable (written ∷ pages)
+    → length (with_all empty_file total k (written ∷ pages)) < 4294967296
+    → (number_at Little 4 (with_all empty_file total k (written ∷ pages)) 4 ≡ 0 → ⊥) × (8 ≤ length (with_all empty_file total k (written ∷ pages)))
+unfolding with_pages
+first_there written total k pages w small =
+    let one = is_appended empty_file total k written (at_end (codes "II" ++ two 42) (four 0)) w.0 in
+    let q = place_of empty_file written in
+    let link = stays_through (with_written empty_file total k written) total (k + 1) pages one.is_open w.1 4 (four q) (inl (omega (arith, one.new_link))) one.old_link in
+    let here = page_stays empty_file total k written pages (at_end (codes "II" ++ two 42) (four 0)) w.0 w.1 in
+    let behind = at_inside _ here.values in
+    let due = number_there 4 link (omega (arith, behind, small)) in
+    (λ e. absurd (omega (arith, e, due)), omega (arith, behind))
+
+-- the law of written files
+pub written_files_are_read : WrittenFilesAreRead
+written_files_are_read [] some many w short = absurd (omega arith)
+written_files_are_read (written ∷ pages) some many w short =
+    let total = length (written ∷ pages) in
+    let file = file_of (written ∷ pages) in
+    let small : length file < 4294967296 = omega (arith, short) in
+    let open' : HasOpenLink empty_file = at_end (codes "II" ++ two 42) (four 0) in
+    let start = stays_through empty_file total 0 (written ∷ pages) open' w 0 (codes "II" ++ two 42) (inl (omega arith)) (at_start (codes "II" ++ two 42) (four 0)) in
+    let first = first_there written total 0 pages w small in
+    record {
+      head = record { endian = Little; first = number_at Little 4 file 4 };
+      offsets = offsets_of empty_file total 0 (written ∷ pages);
+      head_is = header_there file first.1 start first.0;
+      little = refl;
+      chain = chain_through empty_file total 0 (written ∷ pages) open' w small [] (All-nil (λ o. o < length empty_file.bytes));
+      read = pages_through empty_file total 0 (written ∷ pages) open' w small;
+    }

@@ -1,0 +1,294 @@
+-- A page that stands written in a file is read as it was written.
+use Rattle.std.proofs.Common.{◌≡◌, ℕ, zero, suc, ◌+◌, ◌-◌, ◌*◌, ◌^◌, ◌<◌, ◌≤◌, true, false, List, [], ◌∷◌, ◌++◌, length, get_or, Some, Result, Ok, Err, refl, sym, ap, ◌∙◌, arith}
+use Rattle.std.proofs.lemmas.List.{length-append}
+use Rattle.std.proofs.lemmas.Bool.{le-leb, lt-ltb, ne_eqb, false≢true}
+use Rattle.std.proofs.lemmas.Grind.{div_ceil_times}
+use Rattle.std.proofs.Math.Nat.{div-le_self}
+use Rattle.std.specs.List.{list_all}
+use Rattle.std.specs.Prelude.{flat_map, nat_le, nat_lt, IsOk, ◌==◌, ◌||◌, min, if◌then◌else◌}
+use Rattle.fax_bits.specs.declared.FillOrder.{FillOrder}
+use Rattle.fax_bits.specs.declared.FillOrder.TheVariants.{MsbFirst, LsbFirst}
+use Rattle.fax_page.specs.declared.Coding.{Coding}
+use Rattle.fax_page.specs.declared.Coding.TheVariants.{Mh, Mr, Mmr}
+use Rattle.fax_files.specs.declared.FileFault.{FileFault}
+use Rattle.fax_files.specs.Directory.{Entry}
+use Rattle.fax_files.specs.declared.Endian.TheVariants.{Little}
+use Rattle.fax_files.specs.Numbers.{is_inside, number_at, ◌>>=◌}
+use Rattle.fax_files.specs.Directory.{SHORT, entry_count, entries, is_directory, next_offset}
+use Rattle.fax_files.specs.declared.PageForm.{PageForm}
+use Rattle.fax_files.specs.Page.{page_size, pel_format, strip_rows, strip_count, are_exchanged, fill_order, t4_coding, page_coding, resolution, page}
+use Rattle.fax_files.specs.StripBytes.{strip_bytes}
+use Rattle.fax_files.specs.Written.{two, WrittenField, short_field, field_bytes, compression_of, fill_order_of, options_field, offsets_from, lengths_of, array_bytes, rational_bytes, fields_of, fields_bytes, values_bytes, joined_strips, WrittenPage}
+use Rattle.fax_files.specs.Laws.{IsWritable, IsReadAt}
+use Rattle.fax_files.proofs.PlaceLemmas.{HasBytesAt, at_place, at_left, at_right, at_inside, number_there}
+use Rattle.fax_files.proofs.WrittenFieldLemmas.{AllFit, fits, all_fit, length-fields, read_fields, HasValues, written_field, entries_there, needed_long, needed_short, long_or, short_or, rational_back}
+use Rattle.fax_files.proofs.WrittenStripLemmas.{ArrayThere, array_back, array_checked, array_is_longs, length-longs, length-offsets_from, length-lengths_of, strip_there}
+
+-- the fields of page k of `total`, of which the strips begin at `start` and the directory stands at q
+abbrev pub page_fields : ℕ → ℕ → ℕ → ℕ → WrittenPage → List WrittenField
+page_fields q start total k written = fields_of q total k written.form (offsets_from start written.strips) (lengths_of written.strips)
+
+-- what stands in a file of a page that was written: all of it but the offset of the next directory
+pub record IsPageAt (file : List ℕ) (q start total k : ℕ) (written : WrittenPage) : Type 0 where
+  pub fields : HasBytesAt file q (fields_bytes (page_fields q start total k written))
+  pub values : HasBytesAt file (q + 198) (values_bytes written.form (offsets_from start written.strips) (lengths_of written.strips))
+  pub strips : HasBytesAt file start (joined_strips written.strips)
+
+-- the fields fit their bytes, where the strips can be counted
+fields_fit : (coding : Coding) (q total k : ℕ) (form : PageForm) (offsets lengths : List ℕ)
+    → nat_lt (length offsets) 4294967296 ≡ true → nat_lt (length lengths) 4294967296 ≡ true
+    → list_all fits (fields_of q total k (record form { coding = coding }) offsets lengths) ≡ true
+fields_fit Mh q total k form offsets lengths o l = rw (o, l) refl
+fields_fit Mr q total k form offsets lengths o l = rw (o, l) refl
+fields_fit Mmr q total k form offsets lengths o l = rw (o, l) refl
+
+-- the last two fields
+abbrev last_fields : ℕ → ℕ → PageForm → List WrittenField
+last_fields total k form = short_field 296 form.unit ∷ record { tag = 297; kind = SHORT; count = 2; value = two k ++ two total } ∷ []
+
+-- T4Options among fields, of which the one for options is the only one with its tag
+coding_from : (coding : Coding) (file : List ℕ) (place : ℕ) (fields : List WrittenField) → HasValues file place fields
+    → written_field fields 292 ≡ written_field (options_field coding ∷ []) 292
+    → page_coding Little file (read_fields place fields) (compression_of coding) ≡ Ok coding
+unfolding page_coding t4_coding
+coding_from Mh file place fields values found = rw (long_or file place 292 0 0 fields values found (omega arith)) refl
+coding_from Mr file place fields values found = rw (long_or file place 292 1 0 fields values found (omega arith)) refl
+coding_from Mmr file place fields values found = refl
+
+-- which it is
+options_found : (coding : Coding) (total k : ℕ) (form : PageForm)
+    → written_field (options_field coding ∷ last_fields total k form) 292 ≡ written_field (options_field coding ∷ []) 292
+options_found Mh total k form = refl
+options_found Mr total k form = refl
+options_found Mmr total k form = refl
+
+unit_found : (coding : Coding) (total k : ℕ) (form : PageForm)
+    → written_field (options_field coding ∷ last_fields total k form) 296 ≡ Some (short_field 296 form.unit)
+unit_found Mh total k form = refl
+unit_found Mr total k form = refl
+unit_found Mmr total k form = refl
+
+compression_small : (coding : Coding) → compression_of coding < 65536
+compression_small Mh = omega arith
+compression_small Mr = omega arith
+compression_small Mmr = omega arith
+
+compression_known : (coding : Coding) → ((compression_of coding == 3) || (compression_of coding == 4)) ≡ true
+compression_known Mh = refl
+compression_known Mr = refl
+compression_known Mmr = refl
+
+order_small : (order : FillOrder) → fill_order_of order < 65536
+order_small MsbFirst = omega arith
+order_small LsbFirst = omega arith
+
+order_known : (order : FillOrder) → ((fill_order_of order == 1) || (fill_order_of order == 2)) ≡ true
+order_known MsbFirst = refl
+order_known LsbFirst = refl
+
+order_back : (order : FillOrder) → (if fill_order_of order == 2 then LsbFirst else MsbFirst) ≡ order
+order_back MsbFirst = refl
+order_back LsbFirst = refl
+
+-- there are no more strips than rows, and one more
+strips_small : (written : WrittenPage) → IsWritable written → length written.strips < 1000002
+strips_small written w =
+    let fewer : strip_count written.form.rows written.form.rows_per_strip ≤ written.form.rows + 1 =
+    omega (arith, div-le_self written.form.rows written.form.rows_per_strip) in
+    omega (arith, fewer, w.limits.strips, w.strips, w.limits.rows)
+
+pub page_fits : (q start total k : ℕ) (written : WrittenPage) → IsWritable written → AllFit (page_fields q start total k written)
+page_fits q start total k written w =
+    let many = strips_small written w in
+    all_fit (page_fields q start total k written)
+    (fields_fit written.form.coding q total k written.form (offsets_from start written.strips) (lengths_of written.strips)
+    (lt-ltb _ _ (omega (arith, many, length-offsets_from start written.strips))) (lt-ltb _ _ (omega (arith, many, length-lengths_of written.strips))))
+
+pub length-page_fields : (q start total k : ℕ) (written : WrittenPage) → IsWritable written → length (fields_bytes (page_fields q start total k written)) ≡ 194
+length-page_fields q start total k written w =
+    let fields = page_fields q start total k written in
+    omega (arith, length-append (two 16) (flat_map field_bytes fields), length-fields fields (page_fits q start total k written w))
+
+-- the number of entries, which is always sixteen
+count_there : (file : List ℕ) (q start total k : ℕ) (written : WrittenPage) → IsPageAt file q start total k written
+    → entry_count Little file q ≡ 16
+count_there file q start total k written here =
+    number_there 2 (at_left (two 16) (flat_map field_bytes (page_fields q start total k written)) here.fields) (omega arith)
+
+-- the parts of what stands behind a directory
+record ValuesThere (file : List ℕ) (q : ℕ) (form : PageForm) (offsets lengths : List ℕ) : Type 0 where
+  x : HasBytesAt file (q + 198) (rational_bytes form.x)
+  y : HasBytesAt file (q + 206) (rational_bytes form.y)
+  offsets_there : HasBytesAt file (q + 214) (array_bytes offsets)
+  lengths_there : HasBytesAt file (q + 214 + length (array_bytes offsets)) (array_bytes lengths)
+
+values_there : (file : List ℕ) (q : ℕ) (form : PageForm) (offsets lengths : List ℕ) → HasBytesAt file (q + 198) (values_bytes form offsets lengths)
+    → ValuesThere file q form offsets lengths
+values_there file q form offsets lengths h =
+    let x = rational_bytes form.x in
+    let y = rational_bytes form.y in
+    let front = at_left (x ++ y ++ array_bytes offsets) (array_bytes lengths) h in
+    record {
+      x = at_left x y (at_left (x ++ y) (array_bytes offsets) front);
+      y = at_place (omega arith) (at_right x y (at_left (x ++ y) (array_bytes offsets) front));
+      offsets_there = at_place (omega arith) (at_right (x ++ y) (array_bytes offsets) front);
+      lengths_there = at_place (omega (arith, length-append (x ++ y) (array_bytes offsets))) (at_right (x ++ y ++ array_bytes offsets) (array_bytes lengths) h);
+    }
+
+some_from_product : (n a b : ℕ) → 1 ≤ a → a ≤ n * b → 1 ≤ n
+some_from_product zero a b some le = absurd (omega arith)
+some_from_product (suc n) a b some le = omega arith
+
+some_strips : (written : WrittenPage) → IsWritable written → 1 ≤ length written.strips
+some_strips written w =
+    let all_rows = div_ceil_times written.form.rows written.form.rows_per_strip w.limits.some_rows_per_strip in
+    let some : 1 ≤ strip_count written.form.rows written.form.rows_per_strip =
+    some_from_product _ written.form.rows written.form.rows_per_strip w.limits.some_rows all_rows.0 in
+    omega (arith, some, w.limits.strips, w.strips)
+
+-- the step that checks an entry goes on
+checked_on : {B : Type 0} (r : Result Entry FileFault) (next : Result B FileFault) → IsOk r → (r >>= λ _. next) ≡ next
+checked_on (Ok entry) next ok = refl
+checked_on (Err fault) next ok = absurd (false≢true ok)
+
+-- what is known of a page that stands in a file
+pub record Standing (file : List ℕ) (q start total k : ℕ) (written : WrittenPage) : Type 0 where
+  pub small : length file < 4294967296
+  pub writable : IsWritable written
+  pub here : IsPageAt file q start total k written
+
+module _ (file : List ℕ) (q start total k : ℕ) (written : WrittenPage) (known : Standing file q start total k written) where
+  -- its fields as they were written, and its entries as they are read
+  abbrev fields : List WrittenField
+  fields = page_fields q start total k written
+
+  abbrev entries_read : List Entry
+  entries_read = read_fields (q + 2) fields
+
+  what_is_read : (entries Little file q ≡ entries_read) × HasValues file (q + 2) fields
+  what_is_read =
+      let behind = at_right (two 16) (flat_map field_bytes fields) known.here.fields in
+      let read = entries_there file (q + 2) fields (page_fits q start total k written known.writable) behind in
+      (rw (count_there file q start total k written known.here) read.0, read.1)
+
+  values : HasValues file (q + 2) fields
+  values = what_is_read.1
+
+  size_there : page_size Little file entries_read ≡ Ok (written.form.width, written.form.rows)
+  unfolding page_size
+  size_there =
+      let w = known.writable in
+      let width = needed_long file (q + 2) 256 written.form.width fields values refl (omega (arith, w.limits.width)) in
+      let rows = needed_long file (q + 2) 257 written.form.rows fields values refl (omega (arith, w.limits.rows)) in
+      let width_low : nat_le 1 written.form.width ≡ true = le-leb _ _ w.limits.some_width in
+      let width_high : nat_le written.form.width 65535 ≡ true = le-leb _ _ w.limits.width in
+      let rows_low : nat_le 1 written.form.rows ≡ true = le-leb _ _ w.limits.some_rows in
+      let rows_high : nat_le written.form.rows 1000000 ≡ true = le-leb _ _ w.limits.rows in
+      rw (width, width_low, width_high, rows, rows_low, rows_high) refl
+
+  exchanged_there : are_exchanged Little file entries_read ≡ Ok false
+  unfolding are_exchanged
+  exchanged_there = rw (needed_short file (q + 2) 262 0 fields values refl (omega arith)) refl
+
+  order_there : fill_order Little file entries_read ≡ Ok written.form.order
+  unfolding fill_order
+  order_there =
+      let order = written.form.order in
+      let number = short_or file (q + 2) 266 (fill_order_of order) 1 fields values refl (order_small order) in
+      rw (number, order_known order, order_back order) refl
+
+  format_there : pel_format Little file entries_read
+      ≡ Ok (record { compression = compression_of written.form.coding; exchanged = false; order = written.form.order })
+  unfolding pel_format
+  format_there =
+      let coding = written.form.coding in
+      let bits = short_or file (q + 2) 258 1 1 fields values refl (omega arith) in
+      let compression = needed_short file (q + 2) 259 (compression_of coding) fields values refl (compression_small coding) in
+      let samples = short_or file (q + 2) 277 1 1 fields values refl (omega arith) in
+      rw (bits, compression, compression_known coding, exchanged_there, order_there, samples) refl
+
+  rows_there : strip_rows Little file entries_read written.form.rows ≡ Ok written.form.rows_per_strip
+  unfolding strip_rows
+  rows_there =
+      let w = known.writable in
+      let rows = long_or file (q + 2) 278 written.form.rows_per_strip (2 ^ 32 - 1) fields values refl (omega (arith, w.limits.rows_per_strip, w.limits.rows)) in
+      let above : (written.form.rows_per_strip == 0) ≡ false = ne_eqb _ _ (λ e. absurd (omega (arith, e, w.limits.some_rows_per_strip))) in
+      let least : min written.form.rows_per_strip written.form.rows ≡ written.form.rows_per_strip = omega (arith, w.limits.rows_per_strip) in
+      rw (rows, above, least) refl
+
+  coding_there : page_coding Little file entries_read (compression_of written.form.coding) ≡ Ok written.form.coding
+  coding_there = coding_from written.form.coding file (q + 2) fields values (options_found written.form.coding total k written.form)
+
+  parts : ValuesThere file q written.form (offsets_from start written.strips) (lengths_of written.strips)
+  parts = values_there file q written.form (offsets_from start written.strips) (lengths_of written.strips) known.here.values
+
+  resolution_there : resolution Little file entries_read ≡ record { x = written.form.x; y = written.form.y; unit = written.form.unit }
+  unfolding resolution
+  resolution_there =
+      let w = known.writable in
+      let inside = at_inside (rational_bytes written.form.y) parts.y in
+      let x = rational_back file (q + 2) 282 (q + 198) written.form.x fields values refl (omega (arith, inside, known.small)) w.limits.x parts.x in
+      let y = rational_back file (q + 2) 283 (q + 206) written.form.y fields values refl (omega (arith, inside, known.small)) w.limits.y parts.y in
+      let unit = short_or file (q + 2) 296 written.form.unit 2 fields values (unit_found written.form.coding total k written.form) (omega (arith, w.limits.unit)) in
+      let unit_low : nat_le 1 written.form.unit ≡ true = le-leb _ _ w.limits.some_unit in
+      let unit_high : nat_le written.form.unit 3 ≡ true = le-leb _ _ w.limits.unit in
+      rw (x, y, unit, unit_low, unit_high) refl
+
+  offsets_there : ArrayThere file entries_read 273 (offsets_from start written.strips)
+  offsets_there =
+      let some = some_strips written known.writable in
+      array_back file (q + 2) 273 (q + 214) (offsets_from start written.strips) fields values refl
+      (omega (arith, some, length-offsets_from start written.strips)) known.small (λ _. parts.offsets_there)
+
+  lengths_there : ArrayThere file entries_read 279 (lengths_of written.strips)
+  lengths_there =
+      let offsets = offsets_from start written.strips in
+      let lengths = lengths_of written.strips in
+      let offsets_len = length-offsets_from start written.strips in
+      let lengths_len = length-lengths_of written.strips in
+      let some = some_strips written known.writable in
+      let place : 2 ≤ length lengths → q + 214 + length (array_bytes offsets) ≡ q + 214 + 4 * length lengths =
+      λ many. omega (arith, many, ap length (array_is_longs offsets (omega (arith, many, offsets_len, lengths_len))), length-longs offsets, offsets_len, lengths_len) in
+      array_back file (q + 2) 279 (q + 214 + 4 * length lengths) lengths fields values refl
+      (omega (arith, some, lengths_len)) known.small (λ many. at_place (place many) parts.lengths_there)
+
+  -- so the page has the form that was written
+  form_there : page Little file q ≡ Ok written.form
+  unfolding page
+  form_there =
+      let w = known.writable in
+      let strips = strip_count written.form.rows written.form.rows_per_strip in
+      let counted : strips ≡ length written.strips = sym w.limits.strips ∙ sym w.strips in
+      let offsets = array_checked file entries_read 273 strips _ offsets_there (counted ∙ sym (length-offsets_from start written.strips)) in
+      let lengths = array_checked file entries_read 279 strips _ lengths_there (counted ∙ sym (length-lengths_of written.strips)) in
+      let exchanged : false ≡ written.form.exchanged = sym w.exchanged in
+      rw (what_is_read.0, size_there, format_there, rows_there, coding_there)
+      (checked_on _ _ offsets ∙ checked_on _ _ lengths
+      ∙ rw (resolution_there, sym w.limits.strips, exchanged) refl)
+
+  -- and each strip the bytes that were written
+  strip_back : (s : ℕ) → s < written.form.strips → strip_bytes Little file q s ≡ Some (get_or written.strips s [])
+  unfolding strip_bytes
+  strip_back s lt =
+      rw what_is_read.0
+      (strip_there file start entries_read written.strips s (omega (arith, lt, known.writable.strips)) known.small known.here.strips offsets_there lengths_there)
+
+  -- a page that stands in a file is read as it was written
+  pub page_back : IsReadAt file q written
+  page_back = record { form = form_there; strips = strip_back }
+
+-- its directory is whole
+pub directory_whole : (file : List ℕ) (q start total k : ℕ) (written : WrittenPage) → IsPageAt file q start total k written
+    → is_directory Little file q ≡ true
+directory_whole file q start total k written here =
+    let behind = at_inside (values_bytes written.form (offsets_from start written.strips) (lengths_of written.strips)) here.values in
+    let count : is_inside file q 2 ≡ true = le-leb _ _ (omega (arith, behind)) in
+    let all : is_inside file q 198 ≡ true = le-leb _ _ (omega (arith, behind)) in
+    rw (count_there file q start total k written here, count, all) refl
+
+-- and its next offset is the number at its last four bytes
+pub next_there : (file : List ℕ) (q start total k : ℕ) (written : WrittenPage) → IsPageAt file q start total k written
+    → next_offset Little file q ≡ number_at Little 4 file (q + 194)
+next_there file q start total k written here =
+    let place : q + 2 + 192 ≡ q + 194 = omega arith in
+    rw (count_there file q start total k written here, place) refl

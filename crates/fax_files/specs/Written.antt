@@ -1,0 +1,177 @@
+-- TIFF files as they are written (TIFF 6.0, RFC 2306's profile F, and this project's profile).
+use Rattle.std.specs.Prelude.{ℕ, ◌+◌, ◌*◌, ◌%◌, List, [], ◌∷◌, ◌++◌, length, take, drop, replicate, flat_map, codes}
+use Rattle.byteorder.specs.Endian.{little_bytes}
+use Rattle.fax_bits.specs.declared.FillOrder.{FillOrder}
+use Rattle.fax_bits.specs.declared.FillOrder.TheVariants.{MsbFirst, LsbFirst}
+use Rattle.fax_page.specs.declared.Coding.{Coding}
+use Rattle.fax_page.specs.declared.Coding.TheVariants.{Mh, Mr, Mmr}
+use Rattle.fax_files.specs.Directory.{SHORT, LONG}
+use Rattle.fax_files.specs.Directory.{RATIONAL}
+use Rattle.fax_files.specs.declared.PageForm.{PageForm}
+
+-- numbers of two and of four bytes, all little-endian
+abbrev pub two : ℕ → List ℕ
+two n = little_bytes 2 n
+
+abbrev pub four : ℕ → List ℕ
+four n = little_bytes 4 n
+
+-- a field of a directory as it is written: its tag, its type, its count, and its four bytes of value
+pub record WrittenField : Type 0 where
+  pub tag : ℕ
+  pub kind : ℕ
+  pub count : ℕ
+  pub value : List ℕ
+
+-- its entry of twelve bytes
+unfoldable pub field_bytes : WrittenField → List ℕ
+field_bytes written = two written.tag ++ two written.kind ++ four written.count ++ written.value
+
+-- one SHORT, which stands left in the value's four bytes
+abbrev pub short_field : ℕ → ℕ → WrittenField
+short_field tag n = record { tag = tag; kind = SHORT; count = 1; value = two n ++ two 0 }
+
+-- LONGs: the one that there is, or the place of the first
+abbrev pub long_field : ℕ → ℕ → ℕ → WrittenField
+long_field tag count n = record { tag = tag; kind = LONG; count = count; value = four n }
+
+-- the place of a RATIONAL
+abbrev pub rational_field : ℕ → ℕ → WrittenField
+rational_field tag place = record { tag = tag; kind = RATIONAL; count = 1; value = four place }
+
+abbrev pub compression_of : Coding → ℕ
+compression_of Mh = 3
+compression_of Mr = 3
+compression_of Mmr = 4
+
+abbrev pub fill_order_of : FillOrder → ℕ
+fill_order_of MsbFirst = 1
+fill_order_of LsbFirst = 2
+
+-- T4Options for MH and MR, T6Options for MMR
+abbrev pub options_field : Coding → WrittenField
+options_field Mh = long_field 292 1 0
+options_field Mr = long_field 292 1 1
+options_field Mmr = long_field 293 1 0
+
+-- the strips' offsets, the first of which is `start`
+abbrev pub offsets_from : ℕ → List (List ℕ) → List ℕ
+offsets_from start [] = []
+offsets_from start (strip ∷ strips) = start ∷ offsets_from (start + length strip) strips
+
+abbrev pub lengths_of : List (List ℕ) → List ℕ
+lengths_of [] = []
+lengths_of (strip ∷ strips) = length strip ∷ lengths_of strips
+
+-- numbers one after the other, each a LONG
+abbrev pub longs : List ℕ → List ℕ
+longs numbers = flat_map four numbers
+
+-- what an entry of strip numbers has for its value: the number itself where there is one, else where they stand
+abbrev pub one_or_place : List ℕ → ℕ → ℕ
+one_or_place (n ∷ []) place = n
+one_or_place _ place = place
+
+-- numbers that do not fit their entry: more than one
+abbrev pub array_bytes : List ℕ → List ℕ
+array_bytes (n ∷ []) = []
+array_bytes numbers = longs numbers
+
+-- the fields of the directory at q of page k of `total`, of which the strips have these offsets and lengths
+abbrev pub fields_of : ℕ → ℕ → ℕ → PageForm → List ℕ → List ℕ → List WrittenField
+fields_of q total k form offsets lengths =
+    -- NewSubfileType: one page of several
+    long_field 254 1 2
+    -- ImageWidth, ImageLength
+    ∷ long_field 256 1 form.width
+    ∷ long_field 257 1 form.rows
+    -- BitsPerSample, Compression, PhotometricInterpretation, FillOrder
+    ∷ short_field 258 1
+    ∷ short_field 259 (compression_of form.coding)
+    ∷ short_field 262 0
+    ∷ short_field 266 (fill_order_of form.order)
+    -- StripOffsets
+    ∷ long_field 273 (length offsets) (one_or_place offsets (q + 214))
+    -- SamplesPerPixel, RowsPerStrip
+    ∷ short_field 277 1
+    ∷ long_field 278 1 form.rows_per_strip
+    -- StripByteCounts
+    ∷ long_field 279 (length lengths) (one_or_place lengths (q + 214 + 4 * length lengths))
+    -- XResolution, YResolution
+    ∷ rational_field 282 (q + 198)
+    ∷ rational_field 283 (q + 206)
+    -- T4Options or T6Options
+    ∷ options_field form.coding
+    -- ResolutionUnit
+    ∷ short_field 296 form.unit
+    -- PageNumber
+    ∷ record { tag = 297; kind = SHORT; count = 2; value = two k ++ two total }
+    ∷ []
+
+-- a directory of these fields without its last four bytes, the next offset
+abbrev pub fields_bytes : List WrittenField → List ℕ
+fields_bytes fields = two (length fields) ++ flat_map field_bytes fields
+
+-- a RATIONAL: numerator and denominator
+abbrev pub rational_bytes : ℕ × ℕ → List ℕ
+rational_bytes value = four value.0 ++ four value.1
+
+-- the values that stand behind the directory: resolutions, and offsets and byte counts of more than one strip
+abbrev pub values_bytes : PageForm → List ℕ → List ℕ → List ℕ
+values_bytes form offsets lengths =
+    rational_bytes form.x ++ rational_bytes form.y ++ array_bytes offsets ++ array_bytes lengths
+
+-- a file that is being written, and the place of the offset that the next page's directory goes into
+pub record Written : Type 0 where
+  pub bytes : List ℕ
+  pub link : ℕ
+
+-- a file with its four bytes at a place set to a number
+abbrev pub with_four_at : List ℕ → ℕ → ℕ → List ℕ
+with_four_at file place n = take place file ++ four n ++ drop (place + 4) file
+
+-- the strips' bytes, one strip after the other
+abbrev pub joined_strips : List (List ℕ) → List ℕ
+joined_strips strips = flat_map (λ strip. strip) strips
+
+-- the place of the directory of a page whose strips begin at `start`: behind the strips, at an even place
+abbrev pub directory_place : ℕ → List (List ℕ) → ℕ
+directory_place start strips =
+    let end = start + length (joined_strips strips) in end + end % 2
+
+-- what is written of page k of `total` from `start` on: its strips, a zero byte if the place is odd, its directory,
+-- of which the next offset is 0, its resolutions, and the offsets and byte counts if it has more than one strip
+unfoldable pub page_bytes : ℕ → ℕ → ℕ → PageForm → List (List ℕ) → List ℕ
+page_bytes start total k form strips =
+    joined_strips strips
+    ++ replicate ((start + length (joined_strips strips)) % 2) 0
+    ++ fields_bytes (fields_of (directory_place start strips) total k form (offsets_from start strips) (lengths_of strips))
+    ++ four 0
+    ++ values_bytes form (offsets_from start strips) (lengths_of strips)
+
+-- a file with page k of `total` at its end
+unfoldable pub with_page : Written → ℕ → ℕ → PageForm → List (List ℕ) → Written
+with_page old total k form strips = record {
+  bytes = with_four_at old.bytes old.link (directory_place (length old.bytes) strips)
+      ++ page_bytes (length old.bytes) total k form strips;
+  link = directory_place (length old.bytes) strips + 194;
+}
+
+-- a page to be written: its form and the bytes of its strips
+pub record WrittenPage : Type 0 where
+  pub form : PageForm
+  pub strips : List (List ℕ)
+
+-- a file with the pages from page k on at its end
+unfoldable pub with_pages : Written → ℕ → ℕ → List WrittenPage → Written
+with_pages old total k [] = old
+with_pages old total k (page ∷ pages) =
+    with_pages (with_page old total k page.form page.strips) total (k + 1) pages
+
+-- the eight bytes of a little-endian header whose first offset is still 0
+abbrev pub empty_file : Written
+empty_file = record { bytes = codes "II" ++ two 42 ++ four 0; link = 4 }
+
+-- the file of these pages
+abbrev pub file_of : List WrittenPage → List ℕ
+file_of pages = (with_pages empty_file (length pages) 0 pages).bytes

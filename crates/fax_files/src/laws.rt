@@ -1,0 +1,24 @@
+//! Laws of written files. The functions compute nothing: each has a law as its contract.
+ghost use Rattle.fax_files.specs.Laws as Laws;
+
+/// A file with one more page at its end keeps what stood in it, but for the link to the page, and
+/// the page is read as it was written (TIFF 6.0).
+pub fn appended_pages_are_read()
+    ensures { Laws.AppendedPagesAreRead }
+{}
+
+/// A written file is read as its pages, in their order, with a proper end (TIFF 6.0).
+pub fn written_files_are_read()
+    ensures { Laws.WrittenFilesAreRead }
+{}
+
+/// A file has one chain of directories, with one end (TIFF 6.0, section 2). So that of a written
+/// file is that of its pages, and no other.
+pub fn files_have_one_chain()
+    ensures { Laws.FilesHaveOneChain }
+{}
+
+/// A page that is read as it was written has the rows of its strips (TIFF 6.0, RowsPerStrip).
+pub fn written_rows_are_read()
+    ensures { Laws.WrittenRowsAreRead }
+{}
