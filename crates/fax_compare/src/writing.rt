@@ -54,7 +54,7 @@ fn put_mode(bits: &mut Vec<bool>, mode: usize) -> Result<(), AllocError> {
 }
 
 /// Appends a row in one-dimensional coding.
-fn write_runs(bits: &mut Vec<bool>, row: &[bool]) -> Result<(), AllocError> {
+pub fn write_runs(bits: &mut Vec<bool>, row: &[bool]) -> Result<(), AllocError> {
     let mut black = false;
     let mut run: usize = 0;
     for pel in row {
@@ -97,7 +97,11 @@ fn write_step(
 }
 
 /// Appends a row in two-dimensional coding over its reference row.
-fn write_steps(bits: &mut Vec<bool>, reference: &[bool], row: &[bool]) -> Result<(), AllocError> {
+pub fn write_steps(
+    bits: &mut Vec<bool>,
+    reference: &[bool],
+    row: &[bool],
+) -> Result<(), AllocError> {
     let mut a0 = None;
     for _ in 0..row.len().saturating_add(1) {
         if a0 == Some(row.len()) {
@@ -126,9 +130,9 @@ struct Sample {
 }
 
 /// The row of these pels.
-fn row_of(rt: &impl Abort, alloc: Global, pels: &[bool]) -> Result<Row, Fail> {
+pub fn row_of(rt: &impl Abort, alloc: Global, pels: &[bool]) -> Result<Row, Fail> {
     let width = pels.len();
-    assert!(rt; width > 0 && width < 17);
+    assert!(rt; width > 0 && width < 65_536);
     let mut bytes = Vec::new(alloc);
     for at in 0..(width + 7) / 8 {
         let mut byte: u8 = 0;
