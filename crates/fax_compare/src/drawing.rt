@@ -1,5 +1,5 @@
-//! MH strips drawn by a generator of numbers.
-use crate::reading::other;
+//! MH strips, drawn by a generator of numbers.
+use crate::reading::{other, paint};
 use crate::tables::{EOL, EXTENSION, LAST_TERMINATING, codes};
 use fax_bits::{Colour, FillOrder};
 use fax_page::{Coding, StripForm};
@@ -27,7 +27,7 @@ impl Numbers {
     }
 
     /// True once in `n` times.
-    fn once_in(&mut self, n: u32) -> bool {
+    pub fn once_in(&mut self, n: u32) -> bool {
         self.below(n) == 0
     }
 }
@@ -54,7 +54,7 @@ impl Strip {
 }
 
 /// How many runs a drawn row has at most.
-const MOST_RUNS: u32 = 24;
+pub const MOST_RUNS: u32 = 24;
 
 /// Appends bits that are written as text.
 pub fn put(bits: &mut Vec<bool>, text: &str) -> Result<(), AllocError> {
@@ -140,12 +140,14 @@ fn put_return_to_control(bits: &mut Vec<bool>) -> Result<(), AllocError> {
     Ok(())
 }
 
-/// Appends the codes of a row: runs of any lengths, 0 too. The run of number `wrong` is none.
-fn put_row(
+/// Appends the codes of a row: runs of any lengths, 0 too. The run of number `wrong` is none. Appends
+/// the pels of the runs to a row.
+pub fn put_row(
     bits: &mut Vec<bool>,
     numbers: &mut Numbers,
     width: u32,
     wrong: u32,
+    row: &mut Vec<bool>,
 ) -> Result<(), AllocError> {
     let mut left = width;
     let mut colour = Colour::White;
@@ -164,6 +166,7 @@ fn put_row(
             numbers.below(left).saturating_add(1)
         };
         put_run(bits, numbers, colour, run)?;
+        paint(row, run as usize, colour == Colour::Black)?;
         left = left.saturating_sub(run);
         colour = other(colour);
     }
@@ -171,7 +174,7 @@ fn put_row(
 }
 
 /// Appends fill and an EOL, which some rows lack.
-fn put_start(bits: &mut Vec<bool>, numbers: &mut Numbers, i: u32) -> Result<(), AllocError> {
+pub fn put_start(bits: &mut Vec<bool>, numbers: &mut Numbers, i: u32) -> Result<(), AllocError> {
     let lacks = if i == 0 { 3 } else { 12 };
     if numbers.once_in(lacks) {
         return Ok(());
@@ -202,7 +205,7 @@ pub fn draw(alloc: Global, numbers: &mut Numbers, width: u32) -> Result<Strip, A
     for i in 0..rows {
         put_start(&mut bits, numbers, i)?;
         let wrong = if i == wrong_row { wrong_run } else { MOST_RUNS };
-        put_row(&mut bits, numbers, width, wrong)?;
+        put_row(&mut bits, numbers, width, wrong, &mut Vec::new(alloc))?;
     }
     put_padding(&mut bits, numbers)?;
     Ok(Strip {

@@ -6,6 +6,10 @@
 #[cfg(test)]
 mod drawing;
 #[cfg(test)]
+mod mixed;
+#[cfg(test)]
+mod page;
+#[cfg(test)]
 mod reading;
 #[cfg(test)]
 mod steps;
@@ -17,3 +21,5 @@ mod tables;
 mod two_dimensional;
 #[cfg(test)]
 mod writing;
+#[cfg(test)]
+mod written;

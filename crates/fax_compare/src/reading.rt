@@ -104,17 +104,29 @@ fn zeros(bits: &[bool], at: usize) -> Option<usize> {
     None
 }
 
-/// The place where the codes of row `i` are due: behind fill and EOL, which the first row may lack, and at
-/// once in MMR.
-fn begin(bits: &[bool], at: usize, coding: Coding, i: u32) -> Result<usize, StripFault> {
-    if coding == Coding::Mmr {
-        return Ok(at);
-    }
+/// The place behind fill and an EOL, which some rows may lack.
+fn behind_eol(bits: &[bool], at: usize, may_lack: bool) -> Result<usize, StripFault> {
     match zeros(bits, at) {
         None => Err(StripFault::DataEnds),
         Some(count) if count >= 11 => Ok(at.saturating_add(count).saturating_add(1)),
-        Some(_) if i == 0 => Ok(at),
+        Some(_) if may_lack => Ok(at),
         Some(_) => Err(StripFault::MissingEol),
+    }
+}
+
+/// The place where the codes of row `i` are due, and whether they are two-dimensional: behind an EOL
+/// in MH, which the first row may lack, behind an EOL and a tag in MR, and at once in MMR.
+fn begin(bits: &[bool], at: usize, coding: Coding, i: u32) -> Result<(usize, bool), StripFault> {
+    match coding {
+        Coding::Mh => Ok((behind_eol(bits, at, i == 0)?, false)),
+        Coding::Mr => {
+            let tag = behind_eol(bits, at, false)?;
+            match bits.get(tag) {
+                None => Err(StripFault::DataEnds),
+                Some(one_dimensional) => Ok((tag.saturating_add(1), !*one_dimensional)),
+            }
+        }
+        Coding::Mmr => Ok((at, true)),
     }
 }
 
@@ -214,15 +226,15 @@ fn read_line(
     reference: &[bool],
     taken: &mut Taken,
 ) -> Result<(Vec<bool>, usize), Stop> {
-    let first = begin(bits, at, coding, i)?;
+    let (first, two_dimensional) = begin(bits, at, coding, i)?;
     check_first(bits, first)?;
-    if coding == Coding::Mmr {
+    if two_dimensional {
         return read_steps(alloc, bits, first, reference, taken);
     }
     read_row(alloc, bits, first, reference.len(), taken)
 }
 
-/// Reads an MH or MMR strip of this form.
+/// Reads a strip of this form.
 pub fn read(alloc: Global, bits: &[bool], form: StripForm) -> Result<Reading, AllocError> {
     let mut pels = Vec::new(alloc);
     let mut taken = Taken {

@@ -8,7 +8,7 @@ use fax_page::Coding;
 use std::alloc::{AllocError, Global};
 
 /// How many steps a drawn row has at most, before vertical mode alone ends it.
-const MOST_STEPS: u32 = 40;
+pub const MOST_STEPS: u32 = 40;
 
 /// A place in a row, where a step is tried.
 #[derive(Drop)]
@@ -259,7 +259,7 @@ fn draw_steps(
 }
 
 /// Draws a row over its reference, and answers its pels.
-fn draw_row(
+pub fn draw_row(
     alloc: Global,
     bits: &mut Vec<bool>,
     numbers: &mut Numbers,

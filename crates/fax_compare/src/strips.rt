@@ -1,5 +1,6 @@
 //! The reader of strips against a plain reading of the same bits.
 use crate::drawing::{Numbers, Strip, draw, with_code, with_zeros_at_the_end, with_zeros_between};
+use crate::mixed::{draw_mr, with_tag};
 use crate::reading::{Reading, longest_runs, read};
 use crate::steps::{Place, draw_mmr, with_step, with_zeros};
 use crate::tables::{CODES, HORIZONTAL, MODE_CODES, MODE_EXTENSION, VERTICAL_0};
@@ -63,11 +64,39 @@ const MMR_DRAWS: [Draws; 3] = [
     },
 ];
 
+/// MR strips, in the same kinds.
+const MR_DRAWS: [Draws; 3] = [
+    Draws {
+        seed: 7,
+        strips: 10_000,
+        first: 1,
+        widths: 20,
+        cut: 200,
+    },
+    Draws {
+        seed: 8,
+        strips: 40,
+        first: 64,
+        widths: 7,
+        cut: 8,
+    },
+    Draws {
+        seed: 9,
+        strips: 10,
+        first: 1_700,
+        widths: 3_000,
+        cut: 0,
+    },
+];
+
 /// The number in the tally of the end that MMR does not have.
 const MISSING_EOL: usize = 6;
 
 /// The number in the tally of the end that MH does not have.
 const OUT_OF_ROW: usize = 7;
+
+/// No end that MR does not have.
+const EACH_END: usize = 8;
 
 /// What the comparisons met.
 #[derive(Drop)]
@@ -152,7 +181,7 @@ fn places(order: FillOrder) -> [u8; 8] {
 }
 
 /// The bytes of bits, the last filled with zeros.
-fn packed(alloc: Global, order: FillOrder, bits: &[bool]) -> Result<Vec<u8>, AllocError> {
+pub fn packed(alloc: Global, order: FillOrder, bits: &[bool]) -> Result<Vec<u8>, AllocError> {
     let mut bytes = Vec::new(alloc);
     for eight in bits.chunks(8) {
         let mut byte: u8 = 0;
@@ -336,8 +365,9 @@ fn draw_in(
     width: u32,
 ) -> Result<Strip, AllocError> {
     match coding {
+        Coding::Mh => draw(alloc, numbers, width),
+        Coding::Mr => draw_mr(alloc, numbers, width),
         Coding::Mmr => draw_mmr(alloc, numbers, width),
-        _ => draw(alloc, numbers, width),
     }
 }
 
@@ -454,6 +484,29 @@ fn compare_zeros_in_mmr(rt: &impl Abort, alloc: Global, tally: &mut Tally) -> Re
     Ok(())
 }
 
+/// Compares MR strips whose tag is missing, or has 0 to 15 zeros behind it, each behind fill of 0 to 7
+/// zeros.
+fn compare_tags(rt: &impl Abort, alloc: Global, tally: &mut Tally) -> Result<(), Fail> {
+    for k in 0..128 {
+        compare_whole(
+            rt,
+            alloc,
+            &with_tag(alloc, k / 16, Some(true), k % 16)?,
+            tally,
+        )?;
+        compare_whole(
+            rt,
+            alloc,
+            &with_tag(alloc, k / 16, Some(false), k % 16)?,
+            tally,
+        )?;
+        if k < 8 {
+            compare_whole(rt, alloc, &with_tag(alloc, k, None, 0)?, tally)?;
+        }
+    }
+    Ok(())
+}
+
 /// Sees that there were so many whole strips, and as many cut and flipped ones, and among them each
 /// end but one that the coding has not.
 fn assert_many(rt: &impl Abort, tally: &Tally, strips: u32, bits: u32, no_end: usize) {
@@ -519,5 +572,18 @@ fn agrees_with_a_plain_reading_in_mmr(rt: HostRuntime) -> Result<(), Fail> {
     assert_many(&rt, &tally, 20_628, 10_344, MISSING_EOL);
     assert_all_modes(&rt, &tally);
     assert_all_refused(&rt, &tally);
+    Ok(())
+}
+
+#[test]
+fn agrees_with_a_plain_reading_in_mr(rt: HostRuntime) -> Result<(), Fail> {
+    let alloc = rt.alloc();
+    let mut tally = Tally::new();
+    compare_tags(&rt, alloc, &mut tally)?;
+    for draws in MR_DRAWS {
+        compare_drawn(&rt, alloc, Coding::Mr, &draws, &mut tally)?;
+    }
+    assert_many(&rt, &tally, 10_314, 17_988, EACH_END);
+    assert_all_modes(&rt, &tally);
     Ok(())
 }

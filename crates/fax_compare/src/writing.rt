@@ -1,9 +1,7 @@
 //! A plain writing of rows, by the wording of T.4 (sections 4.1.1 and 4.2.1.3.3): lists of pels, and codes
 //! as text.
-use crate::drawing::{put, put_code};
-use crate::tables::{HORIZONTAL, LAST_TERMINATING, MODES, PASS, VERTICAL_0};
-use crate::two_dimensional::{b1, colour};
-use fax_bits::FillOrder;
+use crate::tables::{HORIZONTAL, LAST_TERMINATING, MODES, PASS, VERTICAL_0, codes};
+use fax_bits::{Colour, FillOrder};
 use fax_rows::{BitSink, BitSource, Row, put_1d, put_2d, read_1d, read_2d};
 use std::alloc::{AllocError, Global};
 use std::process::Abort;
@@ -14,6 +12,44 @@ const MOST_PELS: u32 = 10;
 
 /// The longest make-up code's run.
 const MOST_IN_A_CODE: usize = 2560;
+
+/// Appends bits that are written as text.
+fn put(bits: &mut Vec<bool>, text: &str) -> Result<(), AllocError> {
+    for digit in text.as_bytes() {
+        bits.push(*digit == b'1')?;
+    }
+    Ok(())
+}
+
+/// Appends the code of an entry.
+fn put_code(bits: &mut Vec<bool>, colour: Colour, entry: usize) -> Result<(), AllocError> {
+    match codes(colour).get(entry) {
+        Some(code) => put(bits, code),
+        None => Ok(()),
+    }
+}
+
+/// The colour of pels that are black or not.
+fn colour(black: bool) -> Colour {
+    if black { Colour::Black } else { Colour::White }
+}
+
+/// The first changing element of the reference row right of a0 that is not of a0's colour, or the
+/// width.
+fn b1(reference: &[bool], a0: Option<usize>, black: bool) -> usize {
+    let mut before = false;
+    for (i, pel) in reference.iter().enumerate() {
+        let is_right = match a0 {
+            None => true,
+            Some(place) => i > place,
+        };
+        if is_right && *pel != before && *pel != black {
+            return i;
+        }
+        before = *pel;
+    }
+    reference.len()
+}
 
 /// The next changing element right of a place, or the width.
 fn change_right_of(row: &[bool], from: Option<usize>) -> usize {
@@ -54,7 +90,7 @@ fn put_mode(bits: &mut Vec<bool>, mode: usize) -> Result<(), AllocError> {
 }
 
 /// Appends a row in one-dimensional coding.
-fn write_runs(bits: &mut Vec<bool>, row: &[bool]) -> Result<(), AllocError> {
+pub fn write_runs(bits: &mut Vec<bool>, row: &[bool]) -> Result<(), AllocError> {
     let mut black = false;
     let mut run: usize = 0;
     for pel in row {
@@ -97,7 +133,11 @@ fn write_step(
 }
 
 /// Appends a row in two-dimensional coding over its reference row.
-fn write_steps(bits: &mut Vec<bool>, reference: &[bool], row: &[bool]) -> Result<(), AllocError> {
+pub fn write_steps(
+    bits: &mut Vec<bool>,
+    reference: &[bool],
+    row: &[bool],
+) -> Result<(), AllocError> {
     let mut a0 = None;
     for _ in 0..row.len().saturating_add(1) {
         if a0 == Some(row.len()) {
@@ -126,9 +166,9 @@ struct Sample {
 }
 
 /// The row of these pels.
-fn row_of(rt: &impl Abort, alloc: Global, pels: &[bool]) -> Result<Row, Fail> {
+pub fn row_of(rt: &impl Abort, alloc: Global, pels: &[bool]) -> Result<Row, Fail> {
     let width = pels.len();
-    assert!(rt; width > 0 && width < 17);
+    assert!(rt; width > 0 && width < 65_536);
     let mut bytes = Vec::new(alloc);
     for at in 0..(width + 7) / 8 {
         let mut byte: u8 = 0;

@@ -3,6 +3,7 @@ ghost use Rattle.std.specs.Prelude.{ℕ, List};
 ghost use Rattle.fax_bits.specs.declared.Colour.{Colour};
 ghost use Rattle.fax_page.specs.declared.StripForm.{StripForm};
 ghost use Rattle.fax_page.specs.Laws as Law;
+ghost use Rattle.fax_page.specs.code.Reader.{ReadsRowByRow};
 ghost use Rattle.fax_page.specs.code.Writer.{WritesRowByRow};
 
 /// Bits are read in one way as a row of a strip, in any coding: they begin with one row and one
@@ -47,6 +48,12 @@ pub fn coded_strips_are_read_as_nothing_else()
     coded_strips_are_read_back();
     strips_are_read_in_one_way();
 }
+
+/// A strip is read row by row: where `StripReader::advance` reads rows one behind another, from a
+/// strip's beginning on, they are the rows of the strip, up to its end.
+pub fn strips_are_read_row_by_row()
+    ensures { ReadsRowByRow }
+{}
 
 /// A strip is written row by row: where `StripWriter::put_row` puts rows one behind another, the
 /// bytes that `finish` gives are the strip of these rows.

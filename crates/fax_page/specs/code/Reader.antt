@@ -1,12 +1,12 @@
 -- A strip that is read row by row.
-use Rattle.std.specs.Prelude.{◌≡◌, ◌≢◌, ℕ, ◌+◌, ◌<◌, ◌≤◌, ◌⊎◌, min, Bool, true, false, List, length, drop, Option, Some, None, Result, Ok, Err}
+use Rattle.std.specs.Prelude.{◌≡◌, ◌≢◌, ℕ, ◌+◌, ◌<◌, ◌≤◌, ◌⊎◌, min, Bool, true, false, List, [], ◌∷◌, ◌++◌, length, drop, Option, Some, None, Result, Ok, Err}
 use Rattle.fax_bits.specs.declared.Colour.{Colour}
 use Rattle.fax_bits.specs.Bits.{bits}
 use Rattle.fax_bits.specs.code.Source.{Source, source_of}
 use Rattle.fax_page.specs.declared.StripForm.{StripForm}
 use Rattle.fax_page.specs.declared.StripFault.{StripFault}
 use Rattle.fax_page.specs.Lines.{IsLine, IsCause}
-use Rattle.fax_page.specs.Strip.{IsStripForm, white_row}
+use Rattle.fax_page.specs.Strip.{IsStripForm, AreLines, IsStrip, white_row}
 
 -- how far a strip is read: its form and its bytes, the place in bits and the number of the row that is due, how
 -- many rows the reader answered, over all its strips, the row before the one that is due, and the fault that
@@ -91,3 +91,23 @@ abbrev pub IsAdvance : StripState → Result Bool StripFault → StripState → 
 IsAdvance old (Ok true) new = ReadsRow old new
 IsAdvance old (Ok false) new = IsAtEnd old new
 IsAdvance old (Err fault) new = TellsAgain old fault new ⊎ MeetsFault old fault new
+
+-- these rows of the bytes were read, one behind another from the first on, and no more: whatever lines follow, they
+-- follow these rows
+pub record HasRead (form : StripForm) (bytes : List ℕ) (rows : List (List Colour)) (state : StripState) : Type 0 where
+  pub same_form : state.form ≡ form
+  pub same_bytes : state.bytes ≡ bytes
+  pub followed : (more : List (List Colour)) (end : Option StripFault) (left : List Bool)
+      → AreLines form state.row state.reference (bits_left state) more end left
+      → AreLines form 0 (white_row form.width) (bits form.order bytes) (rows ++ more) end left
+
+-- a reader that reads rows one behind another, from a strip's beginning on, reads the rows of the strip, up to its
+-- end
+pub record ReadsRowByRow : Type 0 where
+  pub begins : (read : ℕ) (form : StripForm) (bytes : List ℕ) → HasRead form bytes [] (strip_behind read form bytes)
+  pub goes_on : (form : StripForm) (bytes : List ℕ) (rows : List (List Colour)) (old new : StripState)
+      → HasRead form bytes rows old → ReadsRow old new → HasRead form bytes (rows ++ new.reference ∷ []) new
+  pub ends : (form : StripForm) (bytes : List ℕ) (rows : List (List Colour)) (old new : StripState)
+      → HasRead form bytes rows old → IsAtEnd old new → IsStrip form (bits form.order bytes) rows None
+  pub stops : (form : StripForm) (bytes : List ℕ) (rows : List (List Colour)) (old new : StripState) (fault : StripFault)
+      → HasRead form bytes rows old → MeetsFault old fault new → IsStrip form (bits form.order bytes) rows (Some fault)
