@@ -9,8 +9,6 @@ mod put;
 mod runs;
 mod sink;
 mod source;
-#[cfg(test)]
-mod tests;
 mod window;
 
 pub use codes::{CodeEntry, CodeFault, CodeTable, read_code};

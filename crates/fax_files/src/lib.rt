@@ -11,8 +11,6 @@ pub mod laws;
 mod numbers;
 mod page;
 mod strips;
-#[cfg(test)]
-mod tests;
 mod tiff;
 
 pub use directory::Directory;

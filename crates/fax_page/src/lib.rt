@@ -4,8 +4,6 @@
 pub mod laws;
 mod lines;
 mod reader;
-#[cfg(test)]
-mod tests;
 mod writer;
 
 pub use fax_rows::{Colour, FillOrder, Memory, Row, RowFault};

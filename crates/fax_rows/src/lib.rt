@@ -10,8 +10,6 @@ mod pels;
 mod places;
 mod put;
 mod runs;
-#[cfg(test)]
-mod tests;
 mod turns;
 mod two_dimensional;
 

@@ -2,8 +2,6 @@
 #![tactic(auto)]
 
 mod cursor;
-#[cfg(test)]
-mod tests;
 mod walk;
 
 pub use cursor::Cursor;

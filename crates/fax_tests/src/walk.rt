@@ -1,0 +1,89 @@
+//! Walks over small files.
+
+use fax_walk::{Cause, Cursor, FileFault, Place, StripFault, Walk, WalkFault};
+use std::test::Fail;
+
+/// A file of one MH page of 8 pels by 2 rows, with the fields that a page has to have: the first
+/// row is WWWBBWWW, without an EOL; behind it stand an EOL, and the same row up to its black run.
+#[rattlefmt::skip]
+const TWO_ROWS: [u8; 90] = [
+    // Header: II, 42, the directory at 12.
+    0x49, 0x49, 42, 0, 12, 0, 0, 0,
+    // Strip: 1000 11 1000, thirteen zeros and a 1, 1000 11, and two zeros.
+    0x8e, 0x00, 0x01, 0x8c,
+    // Six entries: ImageWidth, ImageLength, Compression, PhotometricInterpretation, StripOffsets,
+    // StripByteCounts.
+    6, 0,
+    0x00, 0x01, 3, 0, 1, 0, 0, 0, 8, 0, 0, 0,
+    0x01, 0x01, 3, 0, 1, 0, 0, 0, 2, 0, 0, 0,
+    0x03, 0x01, 3, 0, 1, 0, 0, 0, 3, 0, 0, 0,
+    0x06, 0x01, 3, 0, 1, 0, 0, 0, 0, 0, 0, 0,
+    0x11, 0x01, 3, 0, 1, 0, 0, 0, 8, 0, 0, 0,
+    0x17, 0x01, 3, 0, 1, 0, 0, 0, 4, 0, 0, 0,
+    // No next directory.
+    0, 0, 0, 0,
+];
+
+/// The place of the number of rows in that file.
+const ROWS: usize = 34;
+
+#[test]
+fn hands_out_each_row_once(rt: HostRuntime) -> Result<(), Fail> {
+    let mut file = TWO_ROWS;
+    file[ROWS] = 1;
+    let mut walk = Walk::start(rt.alloc(), &file);
+    assert_eq!(rt; walk.cursor(), Cursor { page: 0, row: 0 });
+    match walk.next_row() {
+        Ok(Some((place, row))) => {
+            assert_eq!(rt; place, Place { page: 0, row: 0 });
+            assert_eq!(rt; row.runs(rt.alloc())?.as_slice(), [3, 2, 3].as_slice());
+        }
+        _ => assert!(rt; false, "the first row is there"),
+    }
+    for _ in 0..2 {
+        assert!(rt; matches!(walk.next_row(), Ok(None)), "one row was all");
+        assert_eq!(rt; walk.cursor(), Cursor { page: 0, row: 1 });
+    }
+    Ok(())
+}
+
+#[test]
+fn answers_a_fault_again(rt: HostRuntime) {
+    let mut walk = Walk::start(rt.alloc(), &TWO_ROWS);
+    assert!(rt;
+        matches!(walk.next_row(), Ok(Some(_))),
+        "the first row is there"
+    );
+    for _ in 0..2 {
+        match walk.next_row() {
+            Err(WalkFault::AtRow { page, row, cause }) => {
+                assert_eq!(rt; (page, row), (0, 1));
+                assert!(rt; matches!(cause, Cause::Strip(StripFault::DataEnds)));
+            }
+            _ => assert!(rt; false, "the second row is cut"),
+        }
+        assert_eq!(rt; walk.cursor(), Cursor { page: 0, row: 1 });
+    }
+    let mut empty = Walk::start(rt.alloc(), &[]);
+    match empty.next_row() {
+        Err(WalkFault::AtRow { page, row, cause }) => {
+            assert_eq!(rt; (page, row), (0, 0));
+            assert!(rt; matches!(cause, Cause::File(FileFault::ShortHeader)));
+        }
+        _ => assert!(rt; false, "an empty file has no header"),
+    }
+}
+
+#[test]
+fn prints_cursors(rt: HostRuntime) -> Result<(), Fail> {
+    let mut text = String::from_str(rt.alloc(), "next ")?;
+    Cursor { page: 0, row: 17 }.put_text(&mut text)?;
+    assert_eq!(rt; text.as_str(), "next 1:0:17");
+    Cursor {
+        page: u32::MAX,
+        row: 0,
+    }
+    .put_text(&mut text)?;
+    assert_eq!(rt; text.as_str(), "next 1:0:171:4294967295:0");
+    Ok(())
+}
