@@ -6,6 +6,7 @@ use std::alloc::{AllocError, Global};
 use std::process::Abort;
 use std::test::Fail;
 
+mod any_table;
 mod caller;
 
 // The codes of T.4, tables 2, 3a and 3b, as the standard prints them, in the order of their runs.
