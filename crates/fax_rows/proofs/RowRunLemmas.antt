@@ -1,5 +1,5 @@
 -- The longest runs of a row, pel by pel.
-use Rattle.std.proofs.Common.{◌≡◌, ◌≢◌, ℕ, zero, suc, ◌+◌, ◌-◌, ◌<◌, ◌≤◌, List, [], ◌∷◌, length, take, drop, get_or, Bool, true, false, not, nat_eq, refl, ap, sym, ◌∙◌, subst, arith, drop-cons, length-drop, get_or-drop}
+use Rattle.std.proofs.Common.{◌≡◌, ◌≢◌, ℕ, zero, suc, ◌+◌, ◌-◌, ◌<◌, ◌≤◌, List, [], ◌∷◌, length, take, drop, get_or, Bool, true, false, not, refl, ap, sym, ◌∙◌, subst, arith, drop-cons, length-drop, get_or-drop}
 use Rattle.std.proofs.Math.Numerals.{suc-eq-add-one}
 use Rattle.std.proofs.lemmas.List.{drop_all, get_or-take, length-take-le}
 use Rattle.fax_bits.specs.declared.Colour.{Colour}

@@ -190,12 +190,12 @@ module _ (page : PageState) (row : ℕ) (bytes : List ℕ) (handed : List Colour
   next_begins = record { due = still; row = same_row; same_form = refl; no_fault = refl }
 
 -- a page that was kept is still open
-pub kept_open : (old new : PageState) (row : ℕ) → KeepsPage old new → IsOpen old row → IsPageForm new.form → IsOpen new row
-kept_open old new row keeps at limits = record { no_fault = keeps.no_fault; row_is = keeps.row ∙ at.row_is; limits = limits }
+pub kept_open : (old now : PageState) (row : ℕ) → KeepsPage old now → IsOpen old row → IsPageForm now.form → IsOpen now row
+kept_open old now row keeps at limits = record { no_fault = keeps.no_fault; row_is = keeps.row ∙ at.row_is; limits = limits }
 
 -- a row is read from a page that was kept
-pub kept_read : (old now new : PageState) → KeepsPage old now → ReadsPageRow now new → ReadsPageRow old new
-kept_read old now new keeps reads = record {
+pub kept_read : (old now later : PageState) → KeepsPage old now → ReadsPageRow now later → ReadsPageRow old later
+kept_read old now later keeps reads = record {
   due = λ items end due. rw keeps.row at (keeps.due _ end (reads.due items end due));
   still_open = rw (ap (λ n. n + 1) keeps.row) at reads.still_open;
   same_form = reads.same_form ∙ keeps.same_form;
