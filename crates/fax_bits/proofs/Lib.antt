@@ -19,3 +19,4 @@ pub mod PlaceLemmas
 pub mod IndexLemmas
 pub mod WordLemmas
 pub mod WindowLemmas
+pub mod LaneLemmas
