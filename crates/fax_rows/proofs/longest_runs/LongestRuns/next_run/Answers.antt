@@ -1,4 +1,4 @@
-use Rattle.std.proofs.Common.{◌≡◌, ◌∷◌, subst, arith}
+use Rattle.std.proofs.Common.{◌≡◌, ◌∷◌, subst}
 use Rattle.fax_rows.specs.code.LongestRuns.{AreAheadOf}
 use Rattle.fax_rows.proofs.RowRunLemmas.{ahead_of_next}
 use Rattle.fax_rows.proofs.longest_runs.LongestRuns.next_run.Goals as goal
