@@ -20,3 +20,4 @@ pub mod IndexLemmas
 pub mod WordLemmas
 pub mod WindowLemmas
 pub mod PackedLemmas
+pub mod LaneLemmas

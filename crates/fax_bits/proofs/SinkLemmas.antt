@@ -1,12 +1,16 @@
 -- Bits that are put behind others: into the pending bits, and from there into bytes.
-use Rattle.std.proofs.Common.{◌≡◌, ℕ, ◌+◌, ◌-◌, ◌*◌, ◌/◌, ◌%◌, ◌^◌, ◌<◌, ◌≤◌, List, [], ◌∷◌, ◌++◌, length, replicate, Bool, true, false, refl, ap, sym, ◌∙◌, subst, arith, append_assoc, append-nil, add-zero, length-append}
+use Rattle.std.proofs.Common.{◌≡◌, ℕ, ◌+◌, ◌-◌, ◌*◌, ◌/◌, ◌%◌, ◌^◌, ◌<◌, ◌≤◌, List, [], ◌∷◌, ◌++◌, length, map, take, drop, replicate, Bool, true, false, refl, ap, sym, ◌∙◌, subst, arith, append_assoc, append-nil, add-zero, length-append}
 use Rattle.std.specs.Prelude.{bit_and, bit_or, Result, Ok, Err, OnOk, is_ok}
+use Rattle.std.proofs.Math.Seq.{take-length}
+use Rattle.std.proofs.lemmas.List.{take-append-le}
 use Rattle.std.proofs.lemmas.List.Concat.{flat_map-append}
 use Rattle.std.proofs.lemmas.Nat.{pow-add, pow_pos, or_shifted, shl_whole, one_shl, and_mask, mul-add-lt, shr_below, shr_split, mod_below, shl_below}
+use Rattle.std.specs.Int.{reverse_bits, w8}
 use Rattle.fax_bits.specs.declared.FillOrder.{FillOrder}
+use Rattle.fax_bits.specs.declared.FillOrder.TheVariants.{MsbFirst, LsbFirst}
 use Rattle.fax_bits.specs.Bits.{bits, byte_bits, code_bits}
 use Rattle.fax_bits.specs.code.Sink.{Sink, sink_of, IsPadded}
-use Rattle.fax_bits.proofs.CodeBitsLemmas.{code_bits-add, code_bits-zeros}
+use Rattle.fax_bits.proofs.CodeBitsLemmas.{code_bits-add, code_bits-zeros, byte_bits-reversed}
 use Rattle.fax_bits.proofs.MeetingLemmas.{length-code_bits}
 use Rattle.fax_bits.proofs.SourceLemmas.{length-bits}
 
@@ -57,6 +61,25 @@ module _ (count pending : ℕ) (whole : 8 ≤ count) (short : count < 32) (fits 
       ∙ code_bits-add 8 (count - 8) (pending / 2 ^ (count - 8)) (pending % 2 ^ (count - 8)) (mod_below pending (2 ^ (count - 8)) (pow_pos (count - 8)))
       ∙ ap (λ n. code_bits 8 (pending / 2 ^ (count - 8)) ++ code_bits (count - 8) n) (sym masked)
 
+-- a byte whose highest bit is first
+pub byte_bits-msb : (byte : ℕ) → byte_bits MsbFirst byte ≡ code_bits 8 byte
+unfolding byte_bits
+byte_bits-msb byte = refl
+
+-- bytes that are turned round hold the same bits in the other order
+pub bits-reversed : (bytes : List ℕ) → bits LsbFirst (map (reverse_bits w8) bytes) ≡ bits MsbFirst bytes
+unfolding bits
+bits-reversed [] = refl
+bits-reversed (byte ∷ bytes) =
+    ap (λ b. b ++ bits LsbFirst (map (reverse_bits w8) bytes)) (byte_bits-reversed byte ∙ sym (byte_bits-msb byte))
+    ∙ ap (λ b. byte_bits MsbFirst byte ++ b) (bits-reversed bytes)
+
+-- bytes that are all written over
+pub written_over : (len : ℕ) (new old : List ℕ) → length new ≡ len → take len (new ++ drop (length new) old) ≡ new
+written_over len new old same =
+    ap (λ n. take n (new ++ drop (length new) old)) (sym same) ∙ take-append-le (length new) new (drop (length new) old) (omega arith)
+    ∙ take-length new
+
 -- a byte that became whole is pushed
 pub pushed_bits : (order : FillOrder) (bytes pushed : List ℕ) (byte n : ℕ) (all rest : List Bool) → pushed ≡ bytes ++ byte ∷ [] → byte_bits order byte ≡ code_bits 8 n
     → all ≡ code_bits 8 n ++ rest → bits order pushed ++ rest ≡ bits order bytes ++ all
@@ -69,8 +92,8 @@ pushed_bits order bytes pushed byte n all rest pushed_is byte_is all_is =
 pub length-sink : (order : FillOrder) (bytes : List ℕ) (count pending : ℕ) (sink : Sink) → sink_of order bytes count pending ≡ sink
     → length sink.bits ≡ 8 * length bytes + count
 length-sink order bytes count pending sink is =
-    let parts : length (bits order bytes ++ code_bits count pending) ≡ 8 * length bytes + count =
-    omega (arith, length-append (bits order bytes) (code_bits count pending), length-bits order bytes, length-code_bits count pending) in
+    let parts : length (bits MsbFirst bytes ++ code_bits count pending) ≡ 8 * length bytes + count =
+    omega (arith, length-append (bits MsbFirst bytes) (code_bits count pending), length-bits MsbFirst bytes, length-code_bits count pending) in
     ap (λ (s : Sink). length s.bits) (sym is) ∙ parts
 
 -- a sink with no pending bits
@@ -78,6 +101,13 @@ pub none_pending : (order : FillOrder) (bytes : List ℕ) (count pending : ℕ) 
 unfolding code_bits
 none_pending order bytes count pending none =
     ap (λ n. bits order bytes ++ code_bits n pending) none ∙ append-nil (bits order bytes)
+
+-- whole bytes hold all bits of a sink that has a multiple of eight
+pub all_whole : (order : FillOrder) (bytes : List ℕ) (count pending : ℕ) (sink : Sink) → sink_of order bytes count pending ≡ sink
+    → length sink.bits % 8 ≡ 0 → count < 8 → bits MsbFirst bytes ≡ sink.bits
+all_whole order bytes count pending sink is whole short =
+    let none : count ≡ 0 = omega (arith, length-sink order bytes count pending sink is) in
+    sym (none_pending MsbFirst bytes count pending none) ∙ ap (λ (s : Sink). s.bits) is
 
 -- the last byte, filled with zeros
 module _ (count pending : ℕ) (some : 0 < count) (short : count < 8) (fits : pending < 2 ^ count) where
@@ -99,15 +129,15 @@ module _ (count pending : ℕ) (some : 0 < count) (short : count < 8) (fits : pe
 
 pub pads : (order : FillOrder) (bytes pushed : List ℕ) (count pending byte : ℕ) (old : Sink) → 0 < count → count < 8 → pending < 2 ^ count
     → sink_of order bytes count pending ≡ old → pushed ≡ bytes ++ byte ∷ []
-    → byte_bits order byte ≡ code_bits 8 (pending * 2 ^ (8 - count) % 4294967296) → IsPadded old (sink_of order pushed 0 0)
+    → byte_bits MsbFirst byte ≡ code_bits 8 (pending * 2 ^ (8 - count) % 4294967296) → IsPadded old (sink_of order pushed 0 0)
 unfolding code_bits
 pads order bytes pushed count pending byte old some short fits old_is pushed_is byte_is =
     let zeros = replicate (8 - count) false in
     let eight : code_bits count pending ++ zeros ≡ code_bits 8 (pending * 2 ^ (8 - count) % 4294967296) ++ code_bits 0 0 =
     sym (append-nil (code_bits 8 (pending * 2 ^ (8 - count) % 4294967296)) ∙ padded_bits count pending some short fits) in
-    let bits_are : bits order pushed ++ code_bits 0 0 ≡ bits order bytes ++ code_bits count pending ++ zeros =
-    pushed_bits order bytes pushed byte _ _ (code_bits 0 0) pushed_is byte_is eight
-    ∙ sym (append_assoc (bits order bytes) (code_bits count pending) zeros) in
+    let bits_are : bits MsbFirst pushed ++ code_bits 0 0 ≡ bits MsbFirst bytes ++ code_bits count pending ++ zeros =
+    pushed_bits MsbFirst bytes pushed byte _ _ (code_bits 0 0) pushed_is byte_is eight
+    ∙ sym (append_assoc (bits MsbFirst bytes) (code_bits count pending) zeros) in
     record {
       zeros = 8 - count;
       few = omega arith;

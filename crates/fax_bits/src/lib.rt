@@ -3,6 +3,7 @@
 
 mod codes;
 mod indexes;
+mod lanes;
 pub mod laws;
 mod modes;
 mod put;
@@ -12,6 +13,7 @@ mod source;
 mod window;
 
 pub use codes::{CodeEntry, CodeFault, CodeTable, read_code};
+pub use lanes::reverse_bits;
 pub use modes::{ModeCode, Modes};
 pub use put::{put_mode, put_run};
 pub use runs::{BlackRuns, RunCode, WhiteRuns};

@@ -1,8 +1,9 @@
 //! Bits that are put one behind another into bytes.
 ghost use Rattle.std.specs.Prelude.{◌≡◌, ◌<◌, ◌≤◌, ◌%◌, ◌^◌, [], length, OnOk, OnErr};
-ghost use Rattle.fax_bits.specs.Bits.{bits, byte_bits, code_bits};
+ghost use Rattle.fax_bits.specs.Bits.{bits, code_bits};
 ghost use Rattle.fax_bits.specs.code.Sink.{Appends, IsPadded};
 
+use crate::lanes::reverse_bits;
 use crate::{FillOrder, Memory};
 use std::alloc::Global;
 use std::marker::Model;
@@ -12,7 +13,8 @@ use std::marker::Model;
 #[derive(Drop)]
 pub struct BitSink {
     order: FillOrder,
-    /// The whole bytes. While bits are pending there is room for one more.
+    /// The whole bytes, the highest bit of each first. While bits are pending there is room for one
+    /// more.
     bytes: Vec<u8>,
     /// The bits behind the whole bytes, as a number: the highest was put first.
     pending: u32,
@@ -65,7 +67,7 @@ impl BitSink {
         let mut count = self.count + len;
         while count >= 8 {
             count -= 8;
-            let byte = in_order((pending >> count) as u8, self.order);
+            let byte = (pending >> count) as u8;
             self.bytes.push_reserved(byte);
             pending &= (1 << count) - 1;
         }
@@ -79,7 +81,7 @@ impl BitSink {
         ensures { IsPadded self.old self.new }
     {
         if self.count > 0 {
-            let byte = in_order((self.pending << (8 - self.count)) as u8, self.order);
+            let byte = (self.pending << (8 - self.count)) as u8;
             self.bytes.push_reserved(byte);
             self.pending = 0;
             self.count = 0;
@@ -92,16 +94,11 @@ impl BitSink {
         ensures { bits self.order result.items ≡ self.bits }
     {
         // No bits are pending.
-        self.bytes
-    }
-}
-
-/// The byte whose bits are coded in this order, where those of `byte` are coded highest first.
-fn in_order(byte: u8, order: FillOrder) -> u8
-    ensures { byte_bits order result ≡ code_bits 8 byte }
-{
-    match order {
-        FillOrder::MsbFirst => byte,
-        FillOrder::LsbFirst => byte.reverse_bits(),
+        let mut bytes = self.bytes;
+        match self.order {
+            FillOrder::MsbFirst => {}
+            FillOrder::LsbFirst => reverse_bits(&mut bytes),
+        }
+        bytes
     }
 }

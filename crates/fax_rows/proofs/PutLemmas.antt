@@ -35,26 +35,10 @@ put_goes_on old mid new all left first missing so_far parts more = record {
   parts = so_far.parts ∙ ap (λ b. so_far.done ++ b) parts ∙ sym (append_assoc so_far.done first missing);
 }
 
--- the missing bits in other words
-pub put_same : (old new : Sink) (all left missing : List Bool) → IsPutUpTo old all left new → left ≡ missing → IsPutUpTo old all missing new
-put_same old new all left missing so_far is = record {
-  done = so_far.done;
-  appended = so_far.appended;
-  parts = so_far.parts ∙ ap (λ b. so_far.done ++ b) is;
-}
-
 -- a fact holds also where it is asked for after an error alone
 pub on_err : {T E P : Type 0} (r : Result T E) → P → OnErr r P
 on_err (Ok x) fact = tt
 on_err (Err x) fact = fact
-
--- the last bits are put
-pub put_ends : (old mid new : Sink) (all left last : List Bool) → IsPutUpTo old all left mid → left ≡ last → Appends mid last new
-    → Appends old all new
-put_ends old mid new all left last so_far is more =
-    let bits = appends_two old mid new so_far.done last so_far.appended more in
-    let parts = so_far.parts in
-    cc
 
 -- no bits are missing
 pub put_all : (old new : Sink) (all left : List Bool) → IsPutUpTo old all left new → left ≡ [] → Appends old all new
@@ -80,15 +64,6 @@ pub put_stops_in_last : (old mid new : Sink) (all left last : List Bool) → IsP
     → AppendsPrefix mid last new → AppendsPrefix old all new
 put_stops_in_last old mid new all left last so_far is more =
     put_stops old mid new all left last [] so_far (is ∙ sym (append-nil last)) more
-
--- nothing more was put
-pub put_stopped : (old new : Sink) (all missing : List Bool) → IsPutUpTo old all missing new → AppendsPrefix old all new
-put_stopped old new all missing so_far = record {
-  done = so_far.done;
-  missing = missing;
-  appended = so_far.appended;
-  parts = so_far.parts;
-}
 
 -- the bits of the runs that are left: those of the first, and those of the others
 pub row_bits_go_on : (colour : Colour) (n : ℕ) (left runs : List ℕ) → left ≡ n ∷ runs

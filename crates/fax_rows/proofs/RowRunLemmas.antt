@@ -1,13 +1,12 @@
 -- The longest runs of a row, pel by pel.
-use Rattle.std.proofs.Common.{◌≡◌, ◌≢◌, ℕ, zero, suc, ◌+◌, ◌-◌, ◌<◌, ◌≤◌, List, [], ◌∷◌, length, take, drop, get_or, Bool, true, false, not, refl, ap, sym, ◌∙◌, subst, arith, drop-cons, length-drop, get_or-drop}
+use Rattle.std.proofs.Common.{◌≡◌, ◌≢◌, ℕ, zero, suc, ◌+◌, ◌-◌, ◌<◌, ◌≤◌, List, [], ◌∷◌, length, drop, get_or, Bool, true, false, not, refl, ap, sym, ◌∙◌, subst, arith, drop-cons}
 use Rattle.std.proofs.Math.Numerals.{suc-eq-add-one}
-use Rattle.std.proofs.lemmas.List.{drop_all, get_or-take, length-take-le}
+use Rattle.std.proofs.lemmas.List.{drop_all}
 use Rattle.fax_bits.specs.declared.Colour.{Colour}
 use Rattle.fax_bits.specs.declared.Colour.TheVariants.{White, Black}
 use Rattle.std.specs.List.{filter, range_with_len}
 use Rattle.fax_rows.specs.Elements.{other, same_colour, pel, pel_before, is_changing, runs_behind, runs_of}
 use Rattle.fax_rows.specs.code.LongestRuns.{gaps, AreAheadOf}
-use Rattle.fax_rows.specs.code.Turns.{ArePlaces}
 
 -- behind the last pel stands the run so far
 pub runs_behind-nil : (colour : Colour) (n : ℕ) → runs_behind colour n [] ≡ n ∷ []
@@ -148,25 +147,3 @@ ahead_of_next from next changes width all =
           let same : i + 1 ≡ suc i = omega arith in
           subst (λ k. get_or changes i 0 ≤ get_or changes k 0) (sym same) (up (suc i) (omega arith));
     }
-
--- the changes of a row are ahead of its first pel
-pub changes_ahead : (places : List ℕ) (end width : ℕ) → ArePlaces places end width → AreAheadOf 0 (take (end - 1) (drop 1 places)) width
-changes_ahead places end width all = record {
-  short = all.short;
-  within = omega arith;
-  right = λ i h. omega arith;
-  left = λ i h. let less = all.below (suc i) (omega arith) (omega (arith, len)) in omega (arith, at i (omega (arith, len)));
-  steps = λ i h.
-      let same : suc i + 1 ≡ suc (i + 1) = omega arith in
-      let up : get_or places (suc i) 0 < get_or places (suc (i + 1)) 0 =
-      subst (λ k. get_or places (suc i) 0 < get_or places k 0) same (all.ascending.steps (suc i) (omega arith) (omega (arith, len))) in
-      omega (arith, at i (omega (arith, len)), at (i + 1) (omega (arith, len)));
-}
-  where
-    len : length (take (end - 1) (drop 1 places)) ≡ end - 1
-    len = length-take-le (end - 1) (drop 1 places) (omega (arith, length-drop 1 places, all.ascending.within))
-
-    at : (i : ℕ) → i < end - 1 → get_or (take (end - 1) (drop 1 places)) i 0 ≡ get_or places (suc i) 0
-    at i h =
-        let same : 1 + i ≡ suc i = omega arith in
-        get_or-take (end - 1) (drop 1 places) i 0 h ∙ get_or-drop 1 places i 0 ∙ ap (λ k. get_or places k 0) same

@@ -1,6 +1,6 @@
 use fax_bits::{
     BitSink, BitSource, BlackRuns, CodeFault, CodeTable, Colour, FillOrder, Memory, ModeCode,
-    Modes, RunCode, WhiteRuns, put_mode, put_run, read_code,
+    Modes, RunCode, WhiteRuns, put_mode, put_run, read_code, reverse_bits,
 };
 use std::alloc::{AllocError, Global};
 use std::process::Abort;
@@ -206,6 +206,25 @@ fn fills_bytes_in_both_orders(rt: HostRuntime) -> Result<(), Fail> {
         assert!(rt; put.len() < 1000);
         let source = BitSource::new(&put, order);
         assert_eq!(rt; source.peek(12), 0b101110000001);
+    }
+    Ok(())
+}
+
+#[test]
+fn turns_bytes_round(rt: HostRuntime) -> Result<(), Fail> {
+    let mut bytes = [0x00, 0x18, 0xE0];
+    reverse_bits(&mut bytes);
+    assert_eq!(rt; bytes, [0x00, 0x18, 0x07]);
+    for len in 0..68u8 {
+        let mut bytes = Vec::new(rt.alloc());
+        let mut want = Vec::new(rt.alloc());
+        for i in 0..len {
+            let byte = i.wrapping_mul(37).wrapping_add(len);
+            bytes.push(byte)?;
+            want.push(byte.reverse_bits())?;
+        }
+        reverse_bits(&mut bytes);
+        assert_eq!(rt; bytes.as_slice(), want.as_slice(), "{len} bytes");
     }
     Ok(())
 }

@@ -1,6 +1,7 @@
 -- Bits that are appended one after another.
 use Rattle.std.specs.Prelude.{◌≡◌, ℕ, ◌<◌, ◌%◌, ◌^◌, Bool, false, List, ◌++◌, length, replicate, flat_map}
 use Rattle.fax_bits.specs.declared.FillOrder.{FillOrder}
+use Rattle.fax_bits.specs.declared.FillOrder.TheVariants.{MsbFirst}
 use Rattle.fax_bits.specs.declared.Colour.{Colour}
 use Rattle.fax_bits.specs.declared.runs.RunCode.{RunCode}
 use Rattle.fax_bits.specs.Bits.{bits, code_bits}
@@ -36,9 +37,9 @@ pub record IsPadded (old new : Sink) : Type 0 where
   pub appended : Appends old (replicate zeros false) new
   pub whole : length new.bits % 8 ≡ 0
 
--- the bits of whole bytes, and behind them `count` pending bits, which spell a number (TIFF 6.0, FillOrder)
+-- the bits of whole bytes, the highest of each first, and behind them `count` pending bits, which spell a number
 abbrev pub sink_of : FillOrder → List ℕ → ℕ → ℕ → Sink
-sink_of order bytes count pending = record { order = order; bits = bits order bytes ++ code_bits count pending }
+sink_of order bytes count pending = record { order = order; bits = bits MsbFirst bytes ++ code_bits count pending }
 
 -- fewer than eight bits are pending, and while some are there is room for one more byte
 pub record IsPending (count pending bytes capacity : ℕ) : Type 0 where

@@ -1,0 +1,22 @@
+use Rattle.std.proofs.Common.{arith}
+use Rattle.std.specs.Int.{reverse_bits, w8}
+use Rattle.fax_bits.proofs.LaneLemmas.{turned_none, turned_group, turned_one, turned_all}
+use Rattle.fax_bits.proofs.lanes.reverse_bits.Goals as goal
+
+pub loop-at-init : goal.loop-at-init
+loop-at-init c = record { within = omega arith; turned = turned_none (reverse_bits w8) c.args.bytes.now }
+
+pub loop-at-preserved : goal.loop-at-preserved
+loop-at-preserved c = record {
+  within = omega arith;
+  turned = turned_group (reverse_bits w8) c.args.bytes.now c.loop-at.bytes c.turned-lanes.result c.loop-at.at c.loop-at.invariant.turned
+      c.turned-lanes.ensures (omega arith);
+}
+
+pub loop-i-preserved : goal.loop-i-preserved
+loop-i-preserved c =
+    turned_one (reverse_bits w8) c.args.bytes.now c.loop-i.bytes c.loop-i.i c.reverse_bits.result c.loop-i.invariant c.reverse_bits.ensures
+    (omega arith)
+
+pub returns : goal.returns
+returns c = turned_all (reverse_bits w8) c.args.bytes.now c.loop-i.bytes c.loop-i.i c.loop-i.invariant (omega arith)
