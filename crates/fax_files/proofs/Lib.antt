@@ -8,3 +8,5 @@ pub mod WrittenPageLemmas
 pub mod WrittenFileLemmas
 pub mod WrittenRowLemmas
 pub mod ChainLemmas
+pub mod WritingLemmas
+pub mod WriterLemmas

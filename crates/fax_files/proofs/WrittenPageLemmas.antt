@@ -139,7 +139,7 @@ some_from_product : (n a b : ℕ) → 1 ≤ a → a ≤ n * b → 1 ≤ n
 some_from_product zero a b some le = absurd (omega arith)
 some_from_product (suc n) a b some le = omega arith
 
-some_strips : (written : WrittenPage) → IsWritable written → 1 ≤ length written.strips
+pub some_strips : (written : WrittenPage) → IsWritable written → 1 ≤ length written.strips
 some_strips written w =
     let all_rows = div_ceil_times written.form.rows written.form.rows_per_strip w.limits.some_rows_per_strip in
     let some : 1 ≤ strip_count written.form.rows written.form.rows_per_strip =

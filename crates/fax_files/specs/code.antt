@@ -1,3 +1,4 @@
 -- What speaks of this code alone: how its types are seen.
 pub mod Tiff
 pub mod Fields
+pub mod Writing

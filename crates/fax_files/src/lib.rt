@@ -12,6 +12,8 @@ mod numbers;
 mod page;
 mod strips;
 mod tiff;
+mod writer;
+mod written;
 
 pub use directory::Directory;
 pub use fax_page;
@@ -19,6 +21,7 @@ pub use fax_page::{Coding, FillOrder, StripFault, StripForm};
 pub use strips::Strips;
 use thiserror::Error;
 pub use tiff::Tiff;
+pub use writer::{TiffWriter, WriteFault};
 
 /// Which byte of a number stands first in a file (TIFF 6.0, section 2).
 #[derive(Clone, Copy, Debug, PartialEq, Eq)]

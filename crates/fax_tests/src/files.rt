@@ -1,3 +1,5 @@
+mod writing;
+
 use fax_files::*;
 
 /// A file of one page, 8 pels by 1 row, as the standards lay it out: header, a strip of three bytes, a zero byte, a

@@ -1,6 +1,8 @@
 //! Walks over small files.
 
 use fax_walk::{Cause, Cursor, FileFault, Place, StripFault, Walk, WalkFault};
+use std::alloc::Global;
+use std::process::Abort;
 use std::test::Fail;
 
 /// A file of one MH page of 8 pels by 2 rows, with the fields that a page has to have: the first
@@ -86,4 +88,74 @@ fn prints_cursors(rt: HostRuntime) -> Result<(), Fail> {
     .put_text(&mut text)?;
     assert_eq!(rt; text.as_str(), "next 1:0:171:4294967295:0");
     Ok(())
+}
+
+/// A page of 8 pels by 2 rows in MMR, with one strip of each row, or one of both.
+#[rattlefmt::skip]
+const MMR: [u8; 126] = [
+    // Header: II, 42, the directory at 18.
+    0x49, 0x49, 42, 0, 18, 0, 0, 0,
+    // WWWBBWWW and an end of block; a white row and an end of block; a zero byte.
+    0x31, 0xc0, 0x04, 0x00, 0x40, 0x80, 0x08, 0x00, 0x80, 0,
+    // Seven entries: ImageWidth, ImageLength, Compression, PhotometricInterpretation,
+    // StripOffsets (at 108), RowsPerStrip, StripByteCounts (at 116).
+    7, 0,
+    0x00, 0x01, 3, 0, 1, 0, 0, 0, 8, 0, 0, 0,
+    0x01, 0x01, 3, 0, 1, 0, 0, 0, 2, 0, 0, 0,
+    0x03, 0x01, 3, 0, 1, 0, 0, 0, 4, 0, 0, 0,
+    0x06, 0x01, 3, 0, 1, 0, 0, 0, 0, 0, 0, 0,
+    0x11, 0x01, 4, 0, 2, 0, 0, 0, 108, 0, 0, 0,
+    0x16, 0x01, 3, 0, 1, 0, 0, 0, 1, 0, 0, 0,
+    0x17, 0x01, 4, 0, 2, 0, 0, 0, 116, 0, 0, 0,
+    0, 0, 0, 0,
+    // The offsets and the byte counts, and two bytes of nothing.
+    8, 0, 0, 0, 13, 0, 0, 0,
+    5, 0, 0, 0, 4, 0, 0, 0,
+    0, 0,
+];
+
+/// The walk over a file hands out these rows, by their runs, and then ends.
+fn hands_out(rt: &impl Abort, alloc: Global, file: &[u8], rows: &[&[u32]]) -> Result<(), Fail> {
+    let mut walk = Walk::start(alloc, file);
+    for runs in rows {
+        match walk.next_row() {
+            Ok(Some((_, row))) => assert_eq!(rt; row.runs(alloc)?.as_slice(), *runs),
+            _ => assert!(rt; false, "a row is there"),
+        }
+    }
+    assert!(rt; matches!(walk.next_row(), Ok(None)), "these were all rows");
+    Ok(())
+}
+
+#[test]
+fn reads_strip_by_strip(rt: HostRuntime) -> Result<(), Fail> {
+    hands_out(&rt, rt.alloc(), &MMR, &[&[3, 2, 3], &[8]])
+}
+
+#[test]
+fn stops_at_a_strip_outside(rt: HostRuntime) {
+    let mut file = MMR;
+    file[112] = 123;
+    let mut walk = Walk::start(rt.alloc(), &file);
+    assert!(rt;
+        matches!(walk.next_row(), Ok(Some(_))),
+        "the first strip is there"
+    );
+    match walk.next_row() {
+        Err(WalkFault::AtRow { page, row, cause }) => {
+            assert_eq!(rt; (page, row), (0, 1));
+            assert!(rt; matches!(cause, Cause::File(FileFault::StripOutside)));
+        }
+        _ => assert!(rt; false, "the second strip is not"),
+    }
+}
+
+#[test]
+fn exchanges_colours_behind_the_reference(rt: HostRuntime) -> Result<(), Fail> {
+    let mut file = MMR;
+    // PhotometricInterpretation 1, one strip of two rows: 001 1000 11 1, and 1 1 1.
+    file[64] = 1;
+    file[88] = 2;
+    file[9] = 0xf8;
+    hands_out(&rt, rt.alloc(), &file, &[&[0, 3, 2, 3], &[0, 3, 2, 3]])
 }

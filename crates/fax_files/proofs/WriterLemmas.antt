@@ -1,0 +1,133 @@
+-- A page that is added to a file.
+use Rattle.std.proofs.Common.{◌≡◌, ℕ, ◌+◌, ◌-◌, ◌*◌, ◌%◌, ◌<◌, ◌≤◌, true, false, List, [], ◌∷◌, ◌++◌, length, take, drop, Vec, inl, inr, refl, sym, ap, ◌∙◌, arith, append_assoc}
+use Rattle.std.specs.Prelude.{◌==◌, nat_le, if◌then◌else◌, replicate}
+use Rattle.std.specs.declared.alloc.Global.{Global}
+use Rattle.std.proofs.lemmas.Bool.{cases_eq, eq-eqb, ne_eqb, le-leb, lt-leb}
+use Rattle.std.proofs.lemmas.List.{length-append, take-append-le, drop-append-le}
+use Rattle.fax_files.specs.declared.PageForm.{PageForm}
+use Rattle.fax_files.specs.declared.written.Layout.{Layout}
+use Rattle.fax_files.specs.Page.{IsPageForm}
+use Rattle.fax_files.specs.Written.{four, offsets_from, lengths_of, one_or_place, joined_strips, directory_place, fields_of, fields_bytes, values_bytes, with_four_at, page_bytes, Written, with_page}
+use Rattle.fax_files.specs.Laws.{IsWritable}
+use Rattle.fax_files.specs.code.Writing.{contents, IsWriting, IsLayout, laid_out_fields, tail_bytes, page_end}
+use Rattle.fax_files.proofs.WritingLemmas.{length-contents}
+use Rattle.fax_files.proofs.WrittenStripLemmas.{length-offsets_from, length-lengths_of}
+use Rattle.fax_files.proofs.WrittenPageLemmas.{some_strips}
+use Rattle.fax_files.proofs.WrittenFileLemmas.{length-with_page}
+
+-- the values of the entries of strips
+offsets_value : (start place n : ℕ) (strips : List (List ℕ)) → length strips ≡ n
+    → (if n == 1 then start else place) ≡ one_or_place (offsets_from start strips) place
+offsets_value start place n [] count =
+    let many : (n == 1) ≡ false = ne_eqb _ _ (λ e. absurd (omega arith)) in
+    rw many refl
+offsets_value start place n (strip ∷ []) count =
+    let one : (n == 1) ≡ true = eq-eqb _ _ (omega arith) in
+    rw one refl
+offsets_value start place n (strip ∷ next ∷ strips) count =
+    let many : (n == 1) ≡ false = ne_eqb _ _ (λ e. absurd (omega arith)) in
+    rw many refl
+
+lengths_value : (start end place n : ℕ) (strips : List (List ℕ)) → length strips ≡ n → end ≡ start + length (joined_strips strips)
+    → (if n == 1 then (end - start) else place) ≡ one_or_place (lengths_of strips) place
+lengths_value start end place n [] count end_is =
+    let many : (n == 1) ≡ false = ne_eqb _ _ (λ e. absurd (omega arith)) in
+    rw many refl
+lengths_value start end place n (strip ∷ []) count end_is =
+    let one : (n == 1) ≡ true = eq-eqb _ _ (omega arith) in
+    let len : end - start ≡ length strip = omega (arith, end_is, length-append strip (joined_strips [])) in
+    rw one len
+lengths_value start end place n (strip ∷ next ∷ strips) count end_is =
+    let many : (n == 1) ≡ false = ne_eqb _ _ (λ e. absurd (omega arith)) in
+    rw many refl
+
+-- a file that was patched grows as it would have before
+patched : (bytes more : List ℕ) (link n : ℕ) → link + 4 ≤ length bytes
+    → with_four_at (bytes ++ more) link n ≡ with_four_at bytes link n ++ more
+patched bytes more link n inside =
+    let front : take link (bytes ++ more) ≡ take link bytes = take-append-le link bytes more (omega arith) in
+    let back : drop (link + 4) (bytes ++ more) ≡ drop (link + 4) bytes ++ more = drop-append-le (link + 4) bytes more inside in
+    rw (front, back) (sym (append_assoc (take link bytes ++ four n) (drop (link + 4) bytes) more))
+
+regrouped : (j r f z v : List ℕ) → j ++ (r ++ (f ++ z ++ v)) ≡ j ++ r ++ f ++ z ++ v
+regrouped j r f z v = simp append_assoc
+
+-- a file, and a page that is added to it
+module _ (bytes : List ℕ) (link total added end : ℕ) (form : PageForm) (strips : List (Vec ℕ Global)) (inside : link + 4 ≤ length bytes)
+    (limits : IsPageForm form) (exchanged : form.exchanged ≡ false) (counted : length strips ≡ form.strips) where
+  abbrev old : Written
+  old = record { bytes = bytes; link = link }
+
+  abbrev new : Written
+  new = with_page old total added form (contents strips)
+
+  writable : IsWritable (record { form = form; strips = contents strips })
+  writable = record { limits = limits; exchanged = exchanged; strips = length-contents strips ∙ counted }
+
+  count : length (contents strips) ≡ form.strips
+  count = length-contents strips ∙ counted
+
+  new_length : length new.bytes ≡ directory_place (length bytes) (contents strips) + 214
+      + 2 * (if nat_le (length (contents strips)) 1 then 0 else (4 * length (contents strips)))
+  new_length = length-with_page old total added (record { form = form; strips = contents strips }) inside writable
+
+  pub too_long : 268435456 < length bytes + length (joined_strips (contents strips)) → 268435456 < length new.bytes
+  too_long long = omega (arith, new_length)
+
+  -- its strips end there
+  module _ (end_is : end ≡ length bytes + length (joined_strips (contents strips))) where
+    pub size : length new.bytes ≡ page_end (end + end % 2) form.strips
+    size = elim (cases_eq form.strips 1) [
+      | inl one ↦
+          (let single : (form.strips == 1) ≡ true = eq-eqb _ _ one in
+          let few : nat_le (length (contents strips)) 1 ≡ true = le-leb _ _ (omega (arith, count)) in
+          let sum = rw few at new_length in
+          rw (single, end_is) sum)
+      | inr many ↦
+          (let several : (form.strips == 1) ≡ false = ne_eqb _ _ many in
+          let some = some_strips (record { form = form; strips = contents strips }) writable in
+          let more : nat_le (length (contents strips)) 1 ≡ false = lt-leb _ _ (omega (arith, count, some, many)) in
+          let sum = rw more at new_length in
+          rw (several, end_is) (omega (arith, sum, count)))
+    ]
+
+    module _ (at : Layout) (laid : IsLayout at form.strips (length bytes) end added total) where
+      place : at.directory ≡ directory_place (length bytes) (contents strips)
+      place = laid.directory_is ∙ ap (λ (e : ℕ). e + e % 2) end_is
+
+      fields_are : laid_out_fields at form
+          ≡ fields_of (directory_place (length bytes) (contents strips)) total added form (offsets_from (length bytes) (contents strips)) (lengths_of (contents strips))
+      fields_are =
+          let offsets = laid.offsets_are ∙ offsets_value (length bytes) (at.directory + 214) form.strips (contents strips) count in
+          let counts = laid.byte_counts_are ∙ lengths_value (length bytes) end (at.directory + 214 + 4 * form.strips) form.strips (contents strips) count end_is in
+          let offsets_len : length (offsets_from (length bytes) (contents strips)) ≡ form.strips = length-offsets_from (length bytes) (contents strips) ∙ count in
+          let counts_len : length (lengths_of (contents strips)) ≡ form.strips = length-lengths_of (contents strips) ∙ count in
+          rw (laid.total_is, laid.number_is, offsets, counts, laid.strips_are, place, offsets_len, counts_len) refl
+
+      pub added_bytes : (tail now : List ℕ) → tail ≡ tail_bytes end (laid_out_fields at form) form (length bytes) (contents strips)
+          → now ≡ bytes ++ (joined_strips (contents strips) ++ tail) → with_four_at now link at.directory ≡ new.bytes
+      unfolding with_page page_bytes
+      added_bytes tail now tail_is now_is =
+          let q = directory_place (length bytes) (contents strips) in
+          let all = joined_strips (contents strips) in
+          let fields = fields_of q total added form (offsets_from (length bytes) (contents strips)) (lengths_of (contents strips)) in
+          let values = values_bytes form (offsets_from (length bytes) (contents strips)) (lengths_of (contents strips)) in
+          let pad : List ℕ = replicate ((length bytes + length all) % 2) 0 in
+          let tail_same : tail ≡ pad ++ (fields_bytes fields ++ four 0 ++ values) =
+          tail_is ∙ ap (λ fs. tail_bytes end fs form (length bytes) (contents strips)) fields_are
+          ∙ ap (λ (e : ℕ). tail_bytes e fields form (length bytes) (contents strips)) end_is in
+          ap (λ (l : List ℕ). with_four_at l link at.directory) now_is
+          ∙ patched bytes (all ++ tail) link at.directory inside
+          ∙ ap (λ (t : List ℕ). with_four_at bytes link at.directory ++ (all ++ t)) tail_same
+          ∙ ap (λ (n : ℕ). with_four_at bytes link n ++ (all ++ (pad ++ (fields_bytes fields ++ four 0 ++ values)))) place
+          ∙ ap (λ (l : List ℕ). with_four_at bytes link q ++ l) (regrouped all pad (fields_bytes fields) (four 0) values)
+
+      pub new_link : at.directory + 194 ≡ new.link
+      unfolding with_page
+      new_link = ap (λ n. n + 194) place
+
+      pub still_writing : (now : List ℕ) → now ≡ new.bytes → page_end (end + end % 2) form.strips ≤ 268435456 → IsWriting now (at.directory + 194)
+      still_writing now now_is short = record {
+        link_inside = rw now_is (omega (arith, size, laid.directory_is));
+        limit = rw now_is (omega (arith, size, short));
+      }

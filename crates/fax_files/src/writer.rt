@@ -1,0 +1,126 @@
+//! TIFF files, written page by page.
+
+ghost use Rattle.std.specs.Prelude.{◌≡◌, ◌+◌, ◌<◌, ◌≤◌, length, false, IfOk, OnOk, OnErr, Err, ◌↔◌};
+ghost use Rattle.fax_files.specs.Page.{IsPageForm};
+ghost use Rattle.fax_files.specs.code.Writing as Spec;
+
+use crate::PageForm;
+use crate::written::{MAX_FILE, append, laid_out, page_end, page_tail, set_link, strips_end};
+use fax_bits::Memory;
+use std::alloc::Global;
+use std::marker::Model;
+use thiserror::Error;
+
+/// Why a page was not added to a file.
+#[derive(Clone, Copy, Debug, PartialEq, Eq, Error)]
+pub enum WriteFault {
+    /// A growth was refused.
+    #[error("out of memory")]
+    Memory,
+    /// The file would have more than 268,435,456 bytes.
+    #[error("the output is too large")]
+    OutputTooLarge,
+}
+
+/// Writes a TIFF file page by page. Contracts see its bytes, the place of its last link, of how
+/// many pages it is to be, and how many were added.
+#[derive(Drop)]
+pub struct TiffWriter {
+    alloc: Global,
+    bytes: Vec<u8>,
+    /// Where the offset of the next page's directory goes.
+    link: u32,
+    total: u16,
+    added: u16,
+}
+
+impl Model for TiffWriter {
+    ghost use Rattle.fax_files.specs.code.Writing.{Writing, IsWriting};
+
+    ghost Value = { Writing };
+
+    ghost view = { λ w. record {
+      written = record { bytes = w.bytes.items; link = w.link };
+      total = w.total;
+      added = w.added;
+    } };
+
+    ghost invariant = { λ w. IsWriting w.bytes.items w.link };
+}
+
+impl TiffWriter {
+    ghost use Rattle.fax_files.specs.Written.{empty_file};
+
+    /// A file of this many pages, before the first is added.
+    ///
+    /// # Errors
+    ///
+    /// `Memory` where a growth was refused.
+    pub fn new(alloc: Global, pages: u16) -> Result<Self, Memory>
+        requires { 1 ≤ pages }
+        ensures { IfOk result (λ w. w ≡ record { written = empty_file; total = pages; added = 0 }) }
+    {
+        let head = [b'I', b'I', 42, 0, 0, 0, 0, 0];
+        let bytes = Vec::from_slice(alloc, &head).map_err(|_| Memory)?;
+        Ok(TiffWriter {
+            alloc,
+            bytes,
+            link: 4,
+            total: pages,
+            added: 0,
+        })
+    }
+
+    /// Adds a page of this form, of which these are the bytes of each strip.
+    ///
+    /// # Errors
+    ///
+    /// `OutputTooLarge` where the file would have more than 268,435,456 bytes, `Memory` where a
+    /// growth was refused. The file is then as it was.
+    pub fn add_page(&mut self, form: &PageForm, strips: &[Vec<u8>]) -> Result<(), WriteFault>
+        requires fewer { self.old.added < self.old.total }
+        requires limits { IsPageForm form.now }
+        requires exchanged { form.now.exchanged ≡ false }
+        requires strips { length strips.now ≡ form.now.strips }
+        ensures ok { OnOk result (self.new ≡ Spec.with_one_more self.old form.now strips.now) }
+        ensures err { OnErr result (self.new ≡ self.old) }
+        ensures too_large { (result ≡ Err WriteFault.OutputTooLarge)
+            ↔ (268435456 < Spec.length_with self.old form.now strips.now) }
+    {
+        let start = self.bytes.len() as u32;
+        let Some(end) = strips_end(start, strips) else {
+            return Err(WriteFault::OutputTooLarge);
+        };
+        let page_end = page_end(end + end % 2, form.strips);
+        if page_end > u64::from(MAX_FILE) {
+            return Err(WriteFault::OutputTooLarge);
+        }
+        let at = laid_out(form.strips, start, end, self.added, self.total);
+        let Ok(tail) = page_tail(self.alloc, form, strips, start, end, &at) else {
+            return Err(WriteFault::Memory);
+        };
+        if self
+            .bytes
+            .reserve((page_end as usize) - (start as usize))
+            .is_err()
+        {
+            return Err(WriteFault::Memory);
+        }
+        if append(&mut self.bytes, strips, &tail).is_err() {
+            self.bytes.truncate(start as usize);
+            return Err(WriteFault::Memory);
+        }
+        set_link(&mut self.bytes, self.link as usize, at.directory);
+        self.link = at.directory + 194;
+        self.added += 1;
+        Ok(())
+    }
+
+    /// The bytes of the file, to which all pages were added.
+    pub fn finish(self) -> Vec<u8>
+        requires { self.added ≡ self.total }
+        ensures { result.items ≡ self.written.bytes }
+    {
+        self.bytes
+    }
+}

@@ -1,0 +1,366 @@
+//! The parts of a written page (TIFF 6.0; RFC 2306), all numbers with their lowest byte first.
+
+ghost use Rattle.std.specs.Prelude.{◌≡◌, ◌+◌, ◌%◌, ◌<◌, ◌≤◌, ◌++◌, length, take, IfOk, OnOk, OnErr, IfSome};
+ghost use Rattle.std.specs.Option.{IfNone};
+ghost use Rattle.fax_files.specs.Written as Spec;
+ghost use Rattle.fax_files.specs.code.Writing.{IsLayout, contents, laid_out_fields, tail_bytes};
+ghost use Rattle.fax_files.specs.code.Writing.{page_end as end_of_page};
+
+use crate::PageForm;
+use byteorder::{ByteOrder, LittleEndian};
+use fax_bits::FillOrder;
+use fax_page::Coding;
+use std::alloc::{AllocError, Global};
+use std::marker::Model;
+
+/// The most bytes of a file that is written.
+pub const MAX_FILE: u32 = 268_435_456;
+
+const SHORT_TYPE: u16 = 3;
+
+const LONG_TYPE: u16 = 4;
+
+const RATIONAL_TYPE: u16 = 5;
+
+/// The four bytes of a number.
+pub fn four_bytes(n: u32) -> [u8; 4]
+    ensures { result ≡ Spec.four n }
+{
+    let mut bytes = [0; 4];
+    LittleEndian::write_u32(&mut bytes, n);
+    bytes
+}
+
+/// The two bytes of one number, and then those of another.
+fn two_and_two(first: u16, second: u16) -> [u8; 4]
+    ensures { result ≡ Spec.two first ++ Spec.two second }
+{
+    let mut bytes = [0; 4];
+    LittleEndian::write_u16(&mut bytes, first);
+    LittleEndian::write_u16(&mut bytes[2..], second);
+    bytes
+}
+
+/// Appends a number of two bytes.
+fn put_two(out: &mut Vec<u8>, n: u16) -> Result<(), AllocError>
+    ensures { OnOk result (out.new.items ≡ out.old.items ++ Spec.two n) }
+{
+    let mut bytes = [0; 2];
+    LittleEndian::write_u16(&mut bytes, n);
+    out.extend_from_slice(&bytes)
+}
+
+/// Appends a number of four bytes.
+fn put_four(out: &mut Vec<u8>, n: u32) -> Result<(), AllocError>
+    ensures { OnOk result (out.new.items ≡ out.old.items ++ Spec.four n) }
+{
+    out.extend_from_slice(&four_bytes(n))
+}
+
+/// A field as it is written.
+#[derive(Drop)]
+struct Field {
+    tag: u16,
+    kind: u16,
+    count: u32,
+    value: [u8; 4],
+}
+
+impl Model for Field {
+    ghost use Rattle.fax_files.specs.Written.{WrittenField};
+
+    ghost Value = { WrittenField };
+
+    ghost view = { λ f. record { tag = f.tag; kind = f.kind; count = f.count; value = f.value } };
+}
+
+/// A field of one SHORT.
+fn short_field(tag: u16, n: u16) -> Field
+    ensures { result ≡ Spec.short_field tag n }
+{
+    Field {
+        tag,
+        kind: SHORT_TYPE,
+        count: 1,
+        value: two_and_two(n, 0),
+    }
+}
+
+/// A field of LONGs: the one that there is, or the place of the first.
+fn long_field(tag: u16, count: u32, n: u32) -> Field
+    ensures { result ≡ Spec.long_field tag count n }
+{
+    Field {
+        tag,
+        kind: LONG_TYPE,
+        count,
+        value: four_bytes(n),
+    }
+}
+
+/// A field of one fraction, which stands at a place.
+fn rational_field(tag: u16, place: u32) -> Field
+    ensures { result ≡ Spec.rational_field tag place }
+{
+    Field {
+        tag,
+        kind: RATIONAL_TYPE,
+        count: 1,
+        value: four_bytes(place),
+    }
+}
+
+/// T4Options for MH and MR, T6Options for MMR.
+fn options_field(coding: Coding) -> Field
+    ensures { result ≡ Spec.options_field coding }
+{
+    match coding {
+        Coding::Mh => long_field(292, 1, 0),
+        Coding::Mr => long_field(292, 1, 1),
+        Coding::Mmr => long_field(293, 1, 0),
+    }
+}
+
+/// The number of a coding in Compression.
+fn compression(coding: Coding) -> u16
+    ensures { result ≡ Spec.compression_of coding }
+{
+    match coding {
+        Coding::Mh | Coding::Mr => 3,
+        Coding::Mmr => 4,
+    }
+}
+
+/// The number of a fill order in FillOrder.
+fn fill_order(order: FillOrder) -> u16
+    ensures { result ≡ Spec.fill_order_of order }
+{
+    match order {
+        FillOrder::MsbFirst => 1,
+        FillOrder::LsbFirst => 2,
+    }
+}
+
+/// Where a page is written: its number of how many, the place of its directory, and its strips.
+#[derive(Clone, Copy)]
+pub struct Layout {
+    /// The number of pages.
+    pub total: u16,
+    /// The number of this page, from 0.
+    pub number: u16,
+    /// The place of the directory.
+    pub directory: u32,
+    /// The number of strips.
+    pub strips: u32,
+    /// The value of StripOffsets: the one offset, or the place of the first.
+    pub offsets: u32,
+    /// The value of StripByteCounts: the one byte count, or the place of the first.
+    pub byte_counts: u32,
+}
+
+/// Appends the entry of a field.
+#[tactic(auto, unfolding(crate::specs::Written::field_bytes))]
+fn put_field(out: &mut Vec<u8>, field: &Field) -> Result<(), AllocError>
+    ensures { OnOk result (out.new.items ≡ out.old.items ++ Spec.field_bytes field.now) }
+{
+    put_two(out, field.tag)?;
+    put_two(out, field.kind)?;
+    put_four(out, field.count)?;
+    out.extend_from_slice(&field.value)
+}
+
+/// Appends a fraction.
+fn put_rational(out: &mut Vec<u8>, value: (u32, u32)) -> Result<(), AllocError>
+    ensures { OnOk result (out.new.items ≡ out.old.items ++ Spec.rational_bytes value) }
+{
+    put_four(out, value.0)?;
+    put_four(out, value.1)
+}
+
+/// The fields of a page.
+fn page_fields(form: &PageForm, at: &Layout) -> [Field; 16]
+    requires { at.now.directory ≤ 268435456 }
+    ensures { result ≡ laid_out_fields at.now form.now }
+{
+    [
+        long_field(254, 1, 2),
+        long_field(256, 1, form.width),
+        long_field(257, 1, form.rows),
+        short_field(258, 1),
+        short_field(259, compression(form.coding)),
+        short_field(262, 0),
+        short_field(266, fill_order(form.order)),
+        long_field(273, at.strips, at.offsets),
+        short_field(277, 1),
+        long_field(278, 1, form.rows_per_strip),
+        long_field(279, at.strips, at.byte_counts),
+        rational_field(282, at.directory + 198),
+        rational_field(283, at.directory + 206),
+        options_field(form.coding),
+        short_field(296, form.unit),
+        Field {
+            tag: 297,
+            kind: SHORT_TYPE,
+            count: 2,
+            value: two_and_two(at.number, at.total),
+        },
+    ]
+}
+
+/// Appends a directory of these fields, with the next offset 0.
+fn put_directory(out: &mut Vec<u8>, fields: &[Field]) -> Result<(), AllocError>
+    requires { length fields.now < 65536 }
+    ensures { OnOk result (out.new.items ≡ out.old.items ++ Spec.fields_bytes fields.now ++ Spec.four 0) }
+{
+    put_two(out, fields.len() as u16)?;
+    for field in fields {
+        put_field(out, field)?;
+    }
+    put_four(out, 0)
+}
+
+/// Appends the offsets of strips that begin at a place.
+fn put_offsets(out: &mut Vec<u8>, start: u32, strips: &[Vec<u8>]) -> Result<(), AllocError>
+    requires { start + length (Spec.joined_strips (contents strips.now)) < 4294967296 }
+    ensures { OnOk result (out.new.items
+        ≡ out.old.items ++ Spec.longs (Spec.offsets_from start (contents strips.now))) }
+{
+    let mut place = start;
+    for strip in strips {
+        put_four(out, place)?;
+        place += strip.len() as u32;
+    }
+    Ok(())
+}
+
+/// Appends the byte counts of strips.
+fn put_byte_counts(out: &mut Vec<u8>, strips: &[Vec<u8>]) -> Result<(), AllocError>
+    requires { length (Spec.joined_strips (contents strips.now)) < 4294967296 }
+    ensures { OnOk result (out.new.items
+        ≡ out.old.items ++ Spec.longs (Spec.lengths_of (contents strips.now))) }
+{
+    for strip in strips {
+        put_four(out, strip.len() as u32)?;
+    }
+    Ok(())
+}
+
+/// Appends the bytes of strips. Where a growth is refused, what stood there stays in front.
+fn put_strips(out: &mut Vec<u8>, strips: &[Vec<u8>]) -> Result<(), AllocError>
+    ensures ok { OnOk result (out.new.items
+        ≡ out.old.items ++ Spec.joined_strips (contents strips.now)) }
+    ensures err { OnErr result (take (length out.old.items) out.new.items ≡ out.old.items) }
+{
+    for strip in strips {
+        out.extend_from_slice(strip)?;
+    }
+    Ok(())
+}
+
+/// The bytes of a page that stand behind its strips, which begin at `start` and end at `end`: a
+/// zero byte to an even place, the directory, and the values that do not fit it.
+pub fn page_tail(
+    alloc: Global,
+    form: &PageForm,
+    strips: &[Vec<u8>],
+    start: u32,
+    end: u32,
+    at: &Layout,
+) -> Result<Vec<u8>, AllocError>
+    requires end { end ≡ start + length (Spec.joined_strips (contents strips.now)) }
+    requires limit { at.now.directory ≤ 268435456 }
+    requires strips { at.now.strips ≡ length strips.now }
+    ensures { IfOk result (λ tail. tail.items
+        ≡ tail_bytes end (laid_out_fields at.now form.now) form.now start (contents strips.now)) }
+{
+    let mut tail = Vec::new(alloc);
+    if end % 2 == 1 {
+        tail.extend_from_slice(&[0])?;
+    }
+    put_directory(&mut tail, &page_fields(form, at))?;
+    put_rational(&mut tail, form.x)?;
+    put_rational(&mut tail, form.y)?;
+    if at.strips != 1 {
+        put_offsets(&mut tail, start, strips)?;
+        put_byte_counts(&mut tail, strips)?;
+    }
+    Ok(tail)
+}
+
+/// How many bytes a file has whose last page has its directory at this place, and so many strips.
+pub fn page_end(directory: u32, strips: u32) -> u64
+    ensures { result ≡ end_of_page directory strips }
+{
+    let arrays = if strips == 1 {
+        0
+    } else {
+        8 * u64::from(strips)
+    };
+    u64::from(directory) + 214 + arrays
+}
+
+/// How a page is laid out whose strips begin at `start` and end at `end`.
+pub fn laid_out(strips: u32, start: u32, end: u32, number: u16, total: u16) -> Layout
+    requires order { start ≤ end }
+    requires limit { end_of_page (end + end % 2) strips ≤ 268435456 }
+    ensures { IsLayout result strips start end number total }
+{
+    let directory = end + end % 2;
+    let (offsets, byte_counts) = if strips == 1 {
+        (start, end - start)
+    } else {
+        (directory + 214, directory + 214 + 4 * strips)
+    };
+    Layout {
+        total,
+        number,
+        directory,
+        strips,
+        offsets,
+        byte_counts,
+    }
+}
+
+/// Appends strips and what stands behind them, for which memory is reserved at once. Where it is
+/// refused, what stood there stays in front.
+pub fn append(bytes: &mut Vec<u8>, strips: &[Vec<u8>], tail: &[u8]) -> Result<(), AllocError>
+    ensures ok { OnOk result (bytes.new.items
+        ≡ bytes.old.items ++ (Spec.joined_strips (contents strips.now) ++ tail.now)) }
+    ensures err { OnErr result (take (length bytes.old.items) bytes.new.items ≡ bytes.old.items) }
+{
+    put_strips(bytes, strips)?;
+    bytes.extend_from_slice(tail)
+}
+
+/// Sets the four bytes at a place.
+fn set_four(bytes: &mut [u8], place: usize, n: u32)
+    requires { place + 4 ≤ length bytes.old }
+    ensures { bytes.new ≡ Spec.with_four_at bytes.old place n }
+{
+    bytes[place..place + 4].copy_from_slice(&four_bytes(n));
+}
+
+/// The place behind strips that begin at a place, if it is within the limit of a file.
+pub fn strips_end(start: u32, strips: &[Vec<u8>]) -> Option<u32>
+    requires { start ≤ 268435456 }
+    ensures found { IfSome result (λ end. end ≡ start + length (Spec.joined_strips (contents strips.now))) }
+    ensures limit { IfSome result (λ end. end ≤ 268435456) }
+    ensures none { IfNone result (268435456 < start + length (Spec.joined_strips (contents strips.now))) }
+{
+    let mut end = start;
+    for strip in strips {
+        if strip.len() > (MAX_FILE - end) as usize {
+            return None;
+        }
+        end += strip.len() as u32;
+    }
+    Some(end)
+}
+
+/// Sets the four bytes at a place of a file.
+pub fn set_link(bytes: &mut Vec<u8>, place: usize, n: u32)
+    requires { place + 4 ≤ length bytes.old.items }
+    ensures { bytes.new.items ≡ Spec.with_four_at bytes.old.items place n }
+{
+    set_four(bytes, place, n);
+}
