@@ -70,7 +70,7 @@ fn put_start(
         Coding::Mh => put(bits, EOL),
         Coding::Mr => {
             put(bits, EOL)?;
-            bits.push(one_dimensional)
+            put(bits, if one_dimensional { "1" } else { "0" })
         }
         Coding::Mmr => Ok(()),
     }
