@@ -68,8 +68,7 @@ fn put_start(
         Coding::Mh => put(bits, EOL),
         Coding::Mr => {
             put(bits, EOL)?;
-            bits.push(one_dimensional)?;
-            Ok(())
+            put(bits, if one_dimensional { "1" } else { "0" })
         }
         Coding::Mmr => Ok(()),
     }

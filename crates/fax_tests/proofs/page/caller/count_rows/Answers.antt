@@ -1,4 +1,4 @@
-use Rattle.std.proofs.Common.{◌≡◌, ◌+◌, ◌<◌, ◌≤◌, List, [], ◌∷◌, ◌++◌, length, ap, inl, inr, Some, arith, length-append}
+use Rattle.std.proofs.Common.{[], ◌∷◌, ◌++◌, ap, inl, inr, arith, length-append}
 use Rattle.fax_page.specs.declared.StripForm.{StripForm}
 use Rattle.fax_page.specs.code.Reader.{ReadsRow, IsAtEnd}
 use Rattle.fax_tests.proofs.page.caller.count_rows.Goals as goal
