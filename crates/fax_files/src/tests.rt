@@ -299,13 +299,17 @@ fn names_the_first_fault(rt: HostRuntime) {
             assert_eq!(rt; fault, Some(row.2), "the change at {}", row.0);
         }
     }
+}
+
+#[test]
+fn names_the_fault_of_a_cut_file(rt: HostRuntime) {
     for (len, want) in [
         (0, FileFault::ShortHeader),
         (7, FileFault::ShortHeader),
         (8, FileFault::DirectoryOutside),
         (209, FileFault::DirectoryOutside),
     ] {
-        let fault = first_strip(&ONE_PAGE[..len]).err();
+        let fault = first_strip(&ONE_PAGE[..len.min(226)]).err();
         assert_eq!(rt; fault, Some(want), "cut to {len} bytes");
     }
 }
