@@ -1,5 +1,7 @@
 mod writing;
 
+ghost use Rattle.std.specs.Prelude.{◌+◌, ◌≤◌};
+
 use fax_files::*;
 
 /// A file of one page, 8 pels by 1 row, as the standards lay it out: header, a strip of three bytes, a zero byte, a
@@ -50,6 +52,53 @@ fn changed(place: usize, bytes: &[u8]) -> [u8; 226] {
         *old = *new;
     }
     file
+}
+
+/// Turns the bytes of a number round.
+fn turn(file: &mut [u8; 226], place: usize, len: usize)
+    requires { place + len ≤ 226 }
+{
+    file[place..place + len].reverse();
+}
+
+/// A file of this layout with the highest byte of each number first, where its lowest was.
+fn big_endian(file: &[u8; 226]) -> [u8; 226] {
+    let mut big = *file;
+    if !file.starts_with(b"II") {
+        return big;
+    }
+    big[0] = b'M';
+    big[1] = b'M';
+    turn(&mut big, 2, 2);
+    turn(&mut big, 4, 4);
+    turn(&mut big, 12, 2);
+    for k in 0..16 {
+        let place: usize = 14 + 12 * k;
+        turn(&mut big, place, 2);
+        turn(&mut big, place + 2, 2);
+        turn(&mut big, place + 4, 4);
+        // One SHORT or two stand in the entry; all else is a LONG or a place.
+        if file[place + 2] == 3 && file[place + 4] <= 2 {
+            turn(&mut big, place + 8, 2);
+            turn(&mut big, place + 10, 2);
+        } else {
+            turn(&mut big, place + 8, 4);
+        }
+    }
+    for place in [206, 210, 214, 218, 222] {
+        turn(&mut big, place, 4);
+    }
+    big
+}
+
+#[test]
+fn reads_a_big_endian_file(rt: HostRuntime) {
+    let file = big_endian(&ONE_PAGE);
+    assert_eq!(rt; &file[0..8], [77, 77, 0, 42, 0, 0, 0, 12].as_slice());
+    let form = first_page(&file).expect(&rt, "the page");
+    assert_eq!(rt; form, first_page(&ONE_PAGE).expect(&rt, "the same page"));
+    let strip = first_strip(&file).expect(&rt, "the strip");
+    assert_eq!(rt; strip, [0x00, 0x18, 0xE0].as_slice());
 }
 
 #[test]
@@ -148,7 +197,9 @@ fn replaces_a_resolution_that_is_not_good(rt: HostRuntime) {
     ];
     for (place, byte) in faults {
         let mut bad = file;
-        bad[place] = byte;
+        if let Some(old) = bad.get_mut(place) {
+            *old = byte;
+        }
         let form = first_page(&bad).expect(&rt, "the page");
         assert_eq!(rt;
             (form.x, form.y, form.unit),
@@ -194,44 +245,71 @@ fn names_the_first_fault(rt: HostRuntime) {
         // ImageLength: 0 and 1,000,001
         Refused(46, &[0], FileFault::OutOfLimits(257)),
         Refused(46, &[0x41, 0x42, 0x0F], FileFault::OutOfLimits(257)),
+        // ImageLength: its tag, type and count
+        Refused(38, &[0xFF], FileFault::MissingField(257)),
+        Refused(40, &[2], FileFault::BadField(257)),
+        Refused(42, &[0], FileFault::BadField(257)),
         // BitsPerSample
+        Refused(52, &[5], FileFault::BadField(258)),
+        Refused(54, &[0], FileFault::BadField(258)),
         Refused(58, &[2], FileFault::Unsupported(258)),
         // Compression
         Refused(62, &[0xFF], FileFault::MissingField(259)),
+        Refused(64, &[5], FileFault::BadField(259)),
+        Refused(66, &[0], FileFault::BadField(259)),
         Refused(70, &[5], FileFault::Unsupported(259)),
         Refused(70, &[2], FileFault::Unsupported(259)),
         // PhotometricInterpretation
+        Refused(74, &[0xFF], FileFault::MissingField(262)),
+        Refused(76, &[5], FileFault::BadField(262)),
+        Refused(78, &[0], FileFault::BadField(262)),
         Refused(82, &[2], FileFault::Unsupported(262)),
         // FillOrder
+        Refused(88, &[5], FileFault::BadField(266)),
+        Refused(90, &[0], FileFault::BadField(266)),
         Refused(94, &[0], FileFault::Unsupported(266)),
         Refused(94, &[3], FileFault::Unsupported(266)),
         // SamplesPerPixel
+        Refused(112, &[5], FileFault::BadField(277)),
+        Refused(114, &[0], FileFault::BadField(277)),
         Refused(118, &[3], FileFault::Unsupported(277)),
         // RowsPerStrip, and two rows in two strips, with one offset
+        Refused(124, &[5], FileFault::BadField(278)),
+        Refused(126, &[0], FileFault::BadField(278)),
         Refused(130, &[0], FileFault::BadField(278)),
         Refused(46, &[2], FileFault::BadField(273)),
         // T4Options: a type that is no integer
         Refused(172, &[5], FileFault::BadField(292)),
         // StripOffsets: its tag, and a value of 224
+        Refused(174, &[0], FileFault::BadField(292)),
         Refused(98, &[0xFF], FileFault::MissingField(273)),
+        Refused(100, &[5], FileFault::BadField(273)),
+        Refused(102, &[0], FileFault::BadField(273)),
         Refused(106, &[224], FileFault::StripOutside),
         // StripByteCounts: tag 280 for 279, count 0, and a value of 219
         Refused(134, &[0x18], FileFault::MissingField(279)),
+        Refused(136, &[5], FileFault::BadField(279)),
         Refused(138, &[0], FileFault::BadField(279)),
         Refused(142, &[219], FileFault::StripOutside),
     ];
     for row in rows.iter() {
         let file = changed(row.0, row.1);
-        let fault = first_strip(&file).err();
-        assert_eq!(rt; fault, Some(row.2), "the change at {}", row.0);
+        for either in [file, big_endian(&file)] {
+            let fault = first_strip(&either).err();
+            assert_eq!(rt; fault, Some(row.2), "the change at {}", row.0);
+        }
     }
+}
+
+#[test]
+fn names_the_fault_of_a_cut_file(rt: HostRuntime) {
     for (len, want) in [
         (0, FileFault::ShortHeader),
         (7, FileFault::ShortHeader),
         (8, FileFault::DirectoryOutside),
         (209, FileFault::DirectoryOutside),
     ] {
-        let fault = first_strip(&ONE_PAGE[..len]).err();
+        let fault = first_strip(&ONE_PAGE[..len.min(226)]).err();
         assert_eq!(rt; fault, Some(want), "cut to {len} bytes");
     }
 }
