@@ -91,8 +91,8 @@ def code_two_dimensional(rng, reference, row):
     return codes
 
 
-def code_strip(rng, coding, rows):
-    """The bits of a strip, and what stands behind its last row."""
+def code_rows(rng, coding, rows):
+    """The bits of a strip up to its last row."""
     bits, reference = "", "W" * len(rows[0])
     for number, row in enumerate(rows):
         if rng.random() < 0.02:
@@ -103,10 +103,23 @@ def code_strip(rng, coding, rows):
             bits += "0" * rng.choice([0, 0, 0, 1, 5, 13]) + EOL
         if coding == "mr":
             bits += "1" if one_dimensional else "0"
-        bits += code_one_dimensional(rng, row) if one_dimensional else code_two_dimensional(rng, reference, row)
+        if one_dimensional:
+            bits += code_one_dimensional(rng, row)
+        else:
+            bits += code_two_dimensional(rng, reference, row)
         reference = row
-    mark = EOL + ("1" if coding == "mr" else "")
-    return bits + rng.choice(["", "", EOL * 2, mark * 6, mark, "0" * 11, "1"])
+    return bits
+
+
+def end_mark(coding):
+    """A return to control (T.4), or the end of the facsimile block (T.6)."""
+    return EOL * 2 if coding == "mmr" else (EOL + ("1" if coding == "mr" else "")) * 6
+
+
+def code_strip(rng, coding, rows):
+    """The bits of a strip, and what stands behind its last row."""
+    tail = rng.choice(["", "", EOL * 2, end_mark(coding), EOL, "0" * 11, "1"])
+    return code_rows(rng, coding, rows) + tail
 
 
 def to_bytes(bits, order):

@@ -9,9 +9,11 @@ from drawing import (
     MODE_CODES,
     TERMINATING,
     Builder,
+    code_rows,
     code_strip,
     code_two_dimensional,
     draw_row,
+    end_mark,
     to_bytes,
 )
 from reading import next_changing, other
@@ -84,12 +86,11 @@ def run_strips():
             yield file_of("mh", order, max(length, 1), 1, to_bytes(EOL + codes, order))
 
 
-def damaged_strips():
-    """Strips of each coding, cut at each bit, and with each bit flipped."""
-    rng = random.Random(3)
-    for number in range(120):
-        coding, order = ("mh", "mr", "mmr")[number % 3], 1 + number // 3 % 2
-        width = rng.choice([8, 13, 32, 70])
+def damaged_strips(coding):
+    """Strips of a coding, cut at each bit, and with each bit flipped."""
+    rng = random.Random(coding)
+    for number in range(60):
+        order, width = 1 + number % 2, rng.choice([8, 13, 32, 70])
         rows = [draw_row(rng, width, "W" * width)]
         for _ in range(2):
             rows.append(draw_row(rng, width, rows[-1]))
@@ -97,5 +98,14 @@ def damaged_strips():
         for place in range(len(bits)):
             flipped = bits[:place] + ("1" if bits[place] == "0" else "0") + bits[place + 1 :]
             yield file_of(coding, order, width, 3, to_bytes(flipped, order))
-            if place % 8 == 0:
-                yield file_of(coding, order, width, 3, to_bytes(bits[:place], order))
+            yield file_of(coding, order, width, 3, to_bytes(bits[:place], order))
+
+
+def marked_strips(coding):
+    """Strips of a coding that end where a row is due: with the mark of an end, or cut."""
+    rng = random.Random(coding)
+    for number in range(240):
+        width = rng.choice([8, 13, 32])
+        rows = [draw_row(rng, width, "W" * width) for _ in range(1 + number % 3)]
+        bits = code_rows(rng, coding, rows) + (end_mark(coding) if number % 4 else "")
+        yield file_of(coding, 1 + number % 2, width, len(rows) + 1, to_bytes(bits, 1 + number % 2))
