@@ -15,11 +15,11 @@ use Rattle.fax_files.specs.StripBytes.{strip_bytes, bytes_at}
 use Rattle.fax_files.specs.code.Tiff.{TiffDirectory, AreStripPlaces, bytes_of}
 
 -- the value of a step that did not fail
-bind_ok : {A B : Type 0} (r : Result A FileFault) (next : A → Result B FileFault) (y : B) → (r >>= next) ≡ Ok y → (x : A) × (r ≡ Ok x) × (next x ≡ Ok y)
+pub bind_ok : {A B : Type 0} (r : Result A FileFault) (next : A → Result B FileFault) (y : B) → (r >>= next) ≡ Ok y → (x : A) × (r ≡ Ok x) × (next x ≡ Ok y)
 bind_ok (Ok x) next y e = (x, refl, e)
 bind_ok (Err fault) next y e = absurd cc
 
-ok_injective : {A : Type 0} (x y : A) → (let r : Result A FileFault = Ok x in r) ≡ Ok y → x ≡ y
+pub ok_injective : {A : Type 0} (x y : A) → (let r : Result A FileFault = Ok x in r) ≡ Ok y → x ≡ y
 ok_injective x y e = cc
 
 same_strips : (made form : PageForm) → (let r : Result PageForm FileFault = Ok made in r) ≡ Ok form → made.strips ≡ form.strips
@@ -27,7 +27,7 @@ same_strips made form e = ap (λ (f : PageForm). f.strips) (ok_injective made fo
 
 -- What is left of a page's form after some of its steps, from the last one on.
 module _ (endian : Endian) (file : List ℕ) (fields : List Entry) where
-  abbrev form_of : ℕ × ℕ → PelFormat → ℕ → Coding → PageForm
+  abbrev pub form_of : ℕ × ℕ → PelFormat → ℕ → Coding → PageForm
   form_of size pels rows_per_strip coding = record {
     width = size.0;
     rows = size.1;
@@ -41,23 +41,23 @@ module _ (endian : Endian) (file : List ℕ) (fields : List Entry) where
     unit = (resolution endian file fields).unit;
   }
 
-  abbrev after_offsets : ℕ × ℕ → PelFormat → ℕ → Coding → Result PageForm FileFault
+  abbrev pub after_offsets : ℕ × ℕ → PelFormat → ℕ → Coding → Result PageForm FileFault
   after_offsets size pels rows_per_strip coding =
       strip_field endian file fields 279 (strip_count size.1 rows_per_strip)
       >>= λ _. Ok (form_of size pels rows_per_strip coding)
 
-  abbrev after_coding : ℕ × ℕ → PelFormat → ℕ → Coding → Result PageForm FileFault
+  abbrev pub after_coding : ℕ × ℕ → PelFormat → ℕ → Coding → Result PageForm FileFault
   after_coding size pels rows_per_strip coding =
       strip_field endian file fields 273 (strip_count size.1 rows_per_strip)
       >>= λ _. after_offsets size pels rows_per_strip coding
 
-  abbrev after_rows : ℕ × ℕ → PelFormat → ℕ → Result PageForm FileFault
+  abbrev pub after_rows : ℕ × ℕ → PelFormat → ℕ → Result PageForm FileFault
   after_rows size pels rows_per_strip = page_coding endian file fields pels.compression >>= after_coding size pels rows_per_strip
 
-  abbrev after_pels : ℕ × ℕ → PelFormat → Result PageForm FileFault
+  abbrev pub after_pels : ℕ × ℕ → PelFormat → Result PageForm FileFault
   after_pels size pels = strip_rows endian file fields size.1 >>= after_rows size pels
 
-  abbrev after_size : ℕ × ℕ → Result PageForm FileFault
+  abbrev pub after_size : ℕ × ℕ → Result PageForm FileFault
   after_size size = pel_format endian file fields >>= after_pels size
 
 -- the fields of a page's strips

@@ -2,12 +2,13 @@
 use Rattle.std.proofs.Common.{◌≡◌, ℕ, suc, ◌+◌, ◌%◌, ◌<◌, ◌≤◌, ◌⊎◌, inl, inr, true, false, List, [], ◌∷◌, ◌++◌, length, take, drop, None, Ok, refl, sym, ap, ◌∙◌, arith, ◌*◌}
 use Rattle.std.proofs.lemmas.List.{length-append, length-replicate}
 use Rattle.std.proofs.lemmas.Bool.{le-leb, lt-leb, ne_eqb}
-use Rattle.std.proofs.lemmas.List.Elements.{All-nil, All-push, All-weaker, All-contains}
-use Rattle.std.specs.List.{All, AllZip}
-use Rattle.std.specs.Prelude.{Contains, ◌==◌, replicate, codes, nat_le, if◌then◌else◌}
+use Rattle.std.proofs.lemmas.List.Elements.{All-nil, All-cons, All-weaker}
+use Rattle.std.specs.List.{All, AllZip, list_any}
+use Rattle.std.proofs.lemmas.List.Folds.{list_any_none}
+use Rattle.std.specs.Prelude.{◌==◌, replicate, codes, nat_le, if◌then◌else◌}
 use Rattle.fax_files.specs.declared.Endian.TheVariants.{Little}
 use Rattle.fax_files.specs.Numbers.{is_inside, number_at}
-use Rattle.fax_files.specs.Directory.{next_offset}
+use Rattle.fax_files.specs.Directory.{is_directory, next_offset}
 use Rattle.fax_files.specs.Numbers.{endian_of, header}
 use Rattle.fax_files.specs.Chain.{IsChainFrom}
 use Rattle.fax_files.specs.Written.{two, four, offsets_from, lengths_of, fields_bytes, values_bytes, joined_strips, directory_place, page_bytes, with_four_at, Written, with_page, with_pages, WrittenPage, empty_file, file_of, longs, array_bytes, rational_bytes}
@@ -231,7 +232,9 @@ chain_through : (old : Written) (total k : ℕ) (pages : List WrittenPage) → H
     → IsChainFrom Little (with_all old total k pages) before (number_at Little 4 (with_all old total k pages) old.link)
     (offsets_of old total k pages) None
 unfolding with_pages
-chain_through old total k [] open' w small before below = inl (number_there 4 open' (omega arith), refl)
+chain_through old total k [] open' w small before below =
+    let due : number_at Little 4 old.bytes old.link ≡ 0 = number_there 4 open' (omega arith) in
+    rw due refl
 chain_through old total k (written ∷ pages) open' w small before below =
     let one = is_appended old total k written open' w.0 in
     let new = with_written old total k written in
@@ -242,14 +245,17 @@ chain_through old total k (written ∷ pages) open' w small before below =
     let behind = at_inside _ here.values in
     let link = stays_through new total (k + 1) pages one.is_open w.1 old.link (four q) (inl (omega (arith, one.new_link, inside))) one.old_link in
     let due : number_at Little 4 file old.link ≡ q = number_there 4 link (omega (arith, behind, small)) in
-    let new_place : Contains before q → ⊥ = λ c. absurd (omega (arith, All-contains (λ o. o < length old.bytes) before q below c)) in
+    let new_place : list_any (λ o. q == o) before ≡ false =
+    list_any_none (λ o. q == o) before (All-weaker (λ o. o < length old.bytes) (λ o. (q == o) ≡ false) (λ o lt. ne_eqb _ _ (λ e. absurd (omega (arith, e, lt)))) before below) in
+    let some : (q == 0) ≡ false = ne_eqb _ _ (λ e. absurd (omega (arith, e, inside))) in
+    let whole : is_directory Little file q ≡ true = directory_whole file q (length old.bytes) total k written here in
     let next : next_offset Little file q ≡ number_at Little 4 file new.link =
     next_there file q (length old.bytes) total k written here ∙ ap (number_at Little 4 file) (sym one.new_link) in
     let longer : q < length new.bytes = omega (arith, at_inside (four 0) one.is_open, one.new_link) in
-    let all_below : All (λ o. o < length new.bytes) (before ++ q ∷ []) =
-    All-push (λ o. o < length new.bytes) before q (All-weaker (λ o. o < length old.bytes) (λ o. o < length new.bytes) (λ o lt. omega (arith, lt, longer)) before below) longer in
-    let rest = chain_through new total (k + 1) pages one.is_open w.1 small (before ++ q ∷ []) all_below in
-    rw (due, next) (refl, λ e. absurd (omega (arith, e, inside)), new_place, directory_whole file q (length old.bytes) total k written here, rest)
+    let all_below : All (λ o. o < length new.bytes) (q ∷ before) =
+    All-cons (λ o. o < length new.bytes) q before longer (All-weaker (λ o. o < length old.bytes) (λ o. o < length new.bytes) (λ o lt. omega (arith, lt, longer)) before below) in
+    let rest = chain_through new total (k + 1) pages one.is_open w.1 small (q ∷ before) all_below in
+    rw (due, next) (refl, rw (some, new_place, whole) refl, rest)
 
 -- and each page as it was written
 pages_through : (old : Written) (total k : ℕ) (pages : List WrittenPage) → HasOpenLink old → AreWritable pages

@@ -1,27 +1,28 @@
--- The chain of directories (TIFF 6.0, section 2), of any length.
-use Rattle.std.specs.Prelude.{◌≡◌, ◌≢◌, ℕ, ◌⊎◌, List, [], ◌∷◌, ◌++◌, Contains, Option, Some, None, IsTrue}
+-- The chain of directories (TIFF 6.0, section 2).
+use Rattle.std.specs.Prelude.{◌≡◌, ℕ, ◌==◌, if◌then◌else◌, List, [], ◌∷◌, Option, Some, None}
+use Rattle.std.specs.List.{list_any}
+use Rattle.fax_files.specs.declared.Endian.{Endian}
 use Rattle.fax_files.specs.declared.FileFault.{FileFault}
 use Rattle.fax_files.specs.declared.FileFault.TheVariants.{DirectoryOutside, DirectoryLoop}
-use Rattle.fax_files.specs.declared.Endian.{Endian}
 use Rattle.fax_files.specs.Numbers.{Header}
 use Rattle.fax_files.specs.Directory.{is_directory, next_offset}
 
--- why no directory stands at the offset that is due, behind these: the last next offset is 0, the offset stands
--- among them already, or no whole directory is there (TIFF 6.0, section 2)
-abbrev pub IsChainEnd : Endian → List ℕ → List ℕ → ℕ → Option FileFault → Type 0
-IsChainEnd endian file before due end =
-    ((due ≡ 0) × (end ≡ None))
-    ⊎ ((due ≢ 0) × Contains before due × (end ≡ Some DirectoryLoop))
-    ⊎ ((due ≢ 0) × (Contains before due → ⊥) × (IsTrue (is_directory endian file due) → ⊥)
-    × (end ≡ Some DirectoryOutside))
-
--- from the offset that is due on, behind these directories, the chain goes over these offsets to this end
+-- How the chain ends at the offset that is due, behind these directories: properly where it is 0, else with the
+-- fault of an offset that stands among them already, or at which no whole directory stands. None where it goes on
 -- (TIFF 6.0, section 2)
+abbrev pub chain_stop : Endian → List ℕ → List ℕ → ℕ → Option (Option FileFault)
+chain_stop endian file before due =
+    if due == 0 then (Some None)
+    else (if list_any (λ q. due == q) before then (Some (Some DirectoryLoop))
+    else (if is_directory endian file due then None else (Some (Some DirectoryOutside))))
+
+-- from the offset that is due on, behind these directories, the last one first, the chain goes over these offsets to
+-- this end (TIFF 6.0, section 2)
 abbrev pub IsChainFrom : Endian → List ℕ → List ℕ → ℕ → List ℕ → Option FileFault → Type 0
-IsChainFrom endian file before due [] end = IsChainEnd endian file before due end
+IsChainFrom endian file before due [] end = chain_stop endian file before due ≡ Some end
 IsChainFrom endian file before due (q ∷ offsets) end =
-    (q ≡ due) × (due ≢ 0) × (Contains before due → ⊥) × IsTrue (is_directory endian file due)
-    × IsChainFrom endian file (before ++ due ∷ []) (next_offset endian file due) offsets end
+    (q ≡ due) × (chain_stop endian file before due ≡ None)
+    × IsChainFrom endian file (due ∷ before) (next_offset endian file due) offsets end
 
 -- the offsets of a file's directories, each one a page, and the fault that ends them, if there is one
 -- (TIFF 6.0, section 2)

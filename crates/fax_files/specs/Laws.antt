@@ -1,10 +1,11 @@
--- The law of written TIFF files.
-use Rattle.std.specs.Prelude.{◌≡◌, ℕ, ◌+◌, ◌≤◌, ◌<◌, ◌⊎◌, false, List, [], ◌∷◌, length, take, drop, slice_index_or, Option, Some, None, Ok, IsTrue}
+-- The laws of TIFF files: their chain, their forms, and what is written and read back.
+use Rattle.std.specs.Prelude.{◌≡◌, ℕ, ◌+◌, ◌*◌, ◌≤◌, ◌<◌, ◌⊎◌, false, List, [], ◌∷◌, length, take, drop, slice_index_or, Option, Some, None, Ok, IsTrue}
 use Rattle.std.specs.List.{AllZip}
 use Rattle.fax_bits.specs.declared.Colour.{Colour}
 use Rattle.fax_bits.specs.Bits.{bits}
 use Rattle.fax_page.specs.Strip.{IsStrip}
 use Rattle.fax_files.specs.declared.FileFault.{FileFault}
+use Rattle.fax_files.specs.declared.Endian.{Endian}
 use Rattle.fax_files.specs.declared.Endian.TheVariants.{Little}
 use Rattle.fax_files.specs.Numbers.{Header, number_at}
 use Rattle.fax_files.specs.Directory.{is_directory, next_offset}
@@ -82,7 +83,25 @@ abbrev pub WrittenFilesAreRead : Type 0
 WrittenFilesAreRead = (pages : List WrittenPage) → 1 ≤ length pages → length pages ≤ 65535 → AreWritable pages
     → length (file_of pages) ≤ 268435456 → IsReadAs (file_of pages) pages
 
--- a file has one chain of directories with one end (TIFF 6.0, section 2)
+-- a file has one chain of directories, which has one end (TIFF 6.0, section 2)
+pub record HasOneChain (head : Header) (file : List ℕ) : Type 0 where
+  pub offsets : List ℕ
+  pub end : Option FileFault
+  pub is : IsChain head file offsets end
+  pub one : (others : List ℕ) (other : Option FileFault) → IsChain head file others other → (others ≡ offsets) × (other ≡ end)
+
+-- each file has (TIFF 6.0, section 2)
 abbrev pub FilesHaveOneChain : Type 0
-FilesHaveOneChain = (head : Header) (file offsets others : List ℕ) (end stop : Option FileFault)
-    → IsChain head file offsets end → IsChain head file others stop → (offsets ≡ others) × (end ≡ stop)
+FilesHaveOneChain = (head : Header) (file : List ℕ) → HasOneChain head file
+
+-- the rows of a page lie in its strips, each of which holds some, and each but the last as many as the others
+-- (TIFF 6.0, RowsPerStrip)
+pub record IsWholeForm (form : PageForm) : Type 0 where
+  pub some_rows : 1 ≤ form.rows
+  pub some_in_strip : 1 ≤ form.rows_per_strip
+  pub enough : form.rows ≤ form.strips * form.rows_per_strip
+  pub needed : (s : ℕ) → s < form.strips → s * form.rows_per_strip < form.rows
+
+-- a page that is not refused has such a form (TIFF 6.0, RowsPerStrip)
+abbrev pub FormsAreWhole : Type 0
+FormsAreWhole = (endian : Endian) (file : List ℕ) (q : ℕ) (form : PageForm) → page endian file q ≡ Ok form → IsWholeForm form

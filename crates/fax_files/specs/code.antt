@@ -1,4 +1,5 @@
 -- What speaks of this code alone: how its types are seen.
 pub mod Tiff
 pub mod Fields
+pub mod Chain
 pub mod Writing

@@ -1,5 +1,17 @@
-//! Laws of written files. The functions compute nothing: each has a law as its contract.
+//! Laws of files. The functions compute nothing: each has a law as its contract.
 ghost use Rattle.fax_files.specs.Laws as Laws;
+
+/// Each file has one chain of directories, which has one end (TIFF 6.0, section 2). So that of a
+/// written file is that of its pages, and no other.
+pub fn files_have_one_chain()
+    ensures { Laws.FilesHaveOneChain }
+{}
+
+/// The rows of a page that is not refused lie in its strips, each of which holds some (TIFF 6.0,
+/// RowsPerStrip).
+pub fn forms_are_whole()
+    ensures { Laws.FormsAreWhole }
+{}
 
 /// A file with one more page at its end keeps what stood in it, but for the link to the page, and
 /// the page is read as it was written (TIFF 6.0).
@@ -10,12 +22,6 @@ pub fn appended_pages_are_read()
 /// A written file is read as its pages, in their order, with a proper end (TIFF 6.0).
 pub fn written_files_are_read()
     ensures { Laws.WrittenFilesAreRead }
-{}
-
-/// A file has one chain of directories, with one end (TIFF 6.0, section 2). So that of a written
-/// file is that of its pages, and no other.
-pub fn files_have_one_chain()
-    ensures { Laws.FilesHaveOneChain }
 {}
 
 /// A page that is read as it was written has the rows of its strips (TIFF 6.0, RowsPerStrip).

@@ -4,6 +4,7 @@
 ghost use Rattle.std.specs.Prelude.{◌≡◌};
 ghost use Rattle.fax_files.specs.FaultNames as Names;
 
+mod chain;
 mod directory;
 mod entries;
 mod fields;
@@ -15,6 +16,7 @@ mod tiff;
 mod writer;
 mod written;
 
+pub use chain::Chain;
 pub use directory::Directory;
 pub use fax_page;
 pub use fax_page::{Coding, FillOrder, StripFault, StripForm};

@@ -62,6 +62,13 @@ impl<'a> Tiff<'a> {
         Ok(Tiff { file, first })
     }
 
+    /// The bytes of the file.
+    pub(crate) fn bytes(&self) -> &'a [u8]
+        ensures { result.now ≡ self.now.file }
+    {
+        self.file.bytes
+    }
+
     /// The offset of the first directory, in bytes.
     pub fn first(&self) -> u32
         ensures { result ≡ self.now.head.first }

@@ -1,0 +1,169 @@
+-- The offsets of a chain by their places in it.
+use Rattle.std.proofs.Common.{◌≡◌, ℕ, zero, suc, ◌+◌, ◌^◌, ◌<◌, ◌≤◌, ◌≢◌, ◌⊎◌, inl, inr, Bool, true, false, ◌||◌, List, [], ◌∷◌, length, get_or, Option, Some, None, refl, sym, ap, ◌∙◌, arith}
+use Rattle.std.specs.Prelude.{◌==◌, slice_get}
+use Rattle.std.specs.List.{list_any}
+use Rattle.std.proofs.lemmas.Bool.Decides.{nat_tests}
+use Rattle.std.proofs.lemmas.List.{get_or-drop}
+use Rattle.fax_files.specs.declared.FileFault.{FileFault}
+use Rattle.fax_files.specs.declared.FileFault.TheVariants.{DirectoryOutside, DirectoryLoop}
+use Rattle.fax_files.specs.declared.Endian.{Endian}
+use Rattle.fax_files.specs.declared.Endian.TheVariants.{Little, Big}
+use Rattle.fax_files.specs.Numbers.{number_at}
+use Rattle.fax_files.specs.Directory.{is_directory, next_offset}
+use Rattle.fax_files.specs.Chain.{IsChainFrom}
+use Rattle.fax_files.specs.code.Chain.{link, onward}
+use Rattle.fax_files.proofs.ChainLaws.{IsApart, AreBelow, GoesOn, going_on, still_below, few, either, stop_of}
+
+module _ (endian : Endian) (file : List ℕ) where
+  abbrev pub next : ℕ → ℕ
+  next q = next_offset endian file q
+
+  pub link_next : (due i : ℕ) → link endian file due (suc i) ≡ next (link endian file due i)
+  link_next due zero = refl
+  link_next due (suc i) = link_next (next due) i
+
+  link_at : (due i k m : ℕ) → m ≡ i + k → link endian file due m ≡ link endian file (link endian file due i) k
+  link_at due zero k m e = let same : m ≡ k = omega arith in ap (link endian file due) same
+  link_at due (suc i) k zero e = absurd (omega arith)
+  link_at due (suc i) k (suc m) e = link_at (next due) i k m (omega arith)
+
+  -- from two places with one offset the chain goes on alike
+  pub along : (due i j k a b : ℕ) → a ≡ i + k → b ≡ j + k → link endian file due i ≡ link endian file due j → link endian file due a ≡ link endian file due b
+  along due i j k a b at bt same =
+      link_at due i k a at ∙ ap (λ (q : ℕ). link endian file q k) same ∙ sym (link_at due j k b bt)
+
+  pub onward_on : (before : List ℕ) (q : ℕ) → GoesOn endian file before q → onward endian file q ≡ Some (next q)
+  onward_on before q on = rw (on.not_last, on.there) refl
+
+  -- how the chain ends at its n-th offset
+  abbrev pub EndsSo : ℕ → ℕ → Option FileFault → Type 0
+  EndsSo due n end =
+      (((link endian file due n == 0) ≡ true) × (end ≡ None))
+      ⊎ (((link endian file due n == 0) ≡ false) × (is_directory endian file (link endian file due n) ≡ false) × (end ≡ Some DirectoryOutside))
+      ⊎ ((j : ℕ) × (j < n) × (link endian file due n ≡ link endian file due j) × (end ≡ Some DirectoryLoop))
+
+  -- the offsets of a chain and its end, by places
+  pub record IsByPlaces (due : ℕ) (offsets : List ℕ) (end : Option FileFault) : Type 0 where
+    pub at : (i : ℕ) → i < length offsets → slice_get offsets i ≡ Some (link endian file due i)
+    pub on : (i : ℕ) → i < length offsets → (before : List ℕ) × GoesOn endian file before (link endian file due i)
+    pub apart : (i j : ℕ) → i < j → j < length offsets → link endian file due i ≢ link endian file due j
+    pub ends : EndsSo due (length offsets) end
+
+  at : (before : List ℕ) (due : ℕ) (offsets : List ℕ) (end : Option FileFault) → IsChainFrom endian file before due offsets end
+      → (i : ℕ) → i < length offsets → slice_get offsets i ≡ Some (link endian file due i)
+  at before due [] end is i h = absurd (omega arith)
+  at before due (q ∷ offsets) end is zero h = ap (λ (n : ℕ). Some n) is.0
+  at before due (q ∷ offsets) end is (suc i) h = at (due ∷ before) (next due) offsets end is.2 i (omega arith)
+
+  on : (before : List ℕ) (due : ℕ) (offsets : List ℕ) (end : Option FileFault) → IsChainFrom endian file before due offsets end
+      → (i : ℕ) → i < length offsets → (some : List ℕ) × GoesOn endian file some (link endian file due i)
+  on before due [] end is i h = absurd (omega arith)
+  on before due (q ∷ offsets) end is zero h = (before, going_on endian file before due is.1)
+  on before due (q ∷ offsets) end is (suc i) h = on (due ∷ before) (next due) offsets end is.2 i (omega arith)
+
+  or_right : (a b : Bool) → b ≡ true → (a || b) ≡ true
+  or_right true b e = refl
+  or_right false b e = e
+
+  here : (x : ℕ) (xs : List ℕ) → list_any (λ q. x == q) (x ∷ xs) ≡ true
+  here x xs = let e : (x == x) ≡ true = grind (arith, nat_tests) in rw e refl
+
+  -- no offset is one of those before
+  not_before : (before : List ℕ) (due : ℕ) (offsets : List ℕ) (end : Option FileFault) → IsChainFrom endian file before due offsets end
+      → (x : ℕ) → list_any (λ q. x == q) before ≡ true → (j : ℕ) → j < length offsets → x ≢ link endian file due j
+  not_before before due [] end is x there j h = absurd (omega arith)
+  not_before before due (q ∷ offsets) end is x there zero h = λ same.
+      let on : GoesOn endian file before due = going_on endian file before due is.1 in
+      let fresh : list_any (λ y. x == y) before ≡ false = rw (← same) at on.fresh in
+      absurd (cc)
+  not_before before due (q ∷ offsets) end is x there (suc j) h =
+      not_before (due ∷ before) (next due) offsets end is.2 x (or_right (x == due) (list_any (λ y. x == y) before) there) j (omega arith)
+
+  apart : (before : List ℕ) (due : ℕ) (offsets : List ℕ) (end : Option FileFault) → IsChainFrom endian file before due offsets end
+      → (i j : ℕ) → i < j → j < length offsets → link endian file due i ≢ link endian file due j
+  apart before due [] end is i j lower h = absurd (omega arith)
+  apart before due (q ∷ offsets) end is i zero lower h = absurd (omega arith)
+  apart before due (q ∷ offsets) end is zero (suc j) lower h =
+      not_before (due ∷ before) (next due) offsets end is.2 due (here due before) j (omega arith)
+  apart before due (q ∷ offsets) end is (suc i) (suc j) lower h = apart (due ∷ before) (next due) offsets end is.2 i j (omega arith) (omega arith)
+
+  some_injective : (x y : Option FileFault) → (let o : Option (Option FileFault) = Some x in o) ≡ Some y → x ≡ y
+  some_injective x y e = cc
+
+  -- how it ends by the three tests
+  by_tests : (last again there : Bool) (end : Option FileFault) → stop_of last again there ≡ Some end
+      → ((last ≡ true) × (end ≡ None)) ⊎ ((last ≡ false) × (there ≡ false) × (end ≡ Some DirectoryOutside)) ⊎ ((again ≡ true) × (end ≡ Some DirectoryLoop))
+  by_tests true again there end e = inl (refl, cc)
+  by_tests false true there end e = inr (inr (refl, cc))
+  by_tests false false true end e = absurd cc
+  by_tests false false false end e = inr (inl (refl, refl, cc))
+
+  -- an offset that is met again is one of those before or stands in the chain
+  IsMet : List ℕ → ℕ → ℕ → Type 0
+  IsMet before due n = (list_any (λ q. link endian file due n == q) before ≡ true) ⊎ ((j : ℕ) × (j < n) × (link endian file due n ≡ link endian file due j))
+
+  abbrev EndsBehind : List ℕ → ℕ → ℕ → Option FileFault → Type 0
+  EndsBehind before due n end =
+      (((link endian file due n == 0) ≡ true) × (end ≡ None))
+      ⊎ (((link endian file due n == 0) ≡ false) × (is_directory endian file (link endian file due n) ≡ false) × (end ≡ Some DirectoryOutside))
+      ⊎ (((list_any (λ q. link endian file due n == q) before ≡ true) ⊎ ((j : ℕ) × (j < n) × (link endian file due n ≡ link endian file due j))) × (end ≡ Some DirectoryLoop))
+
+  met_one_on : (before : List ℕ) (due n : ℕ)
+      → ((list_any (λ q. link endian file (next due) n == q) (due ∷ before) ≡ true) ⊎ ((j : ℕ) × (j < n) × (link endian file (next due) n ≡ link endian file (next due) j)))
+      → (list_any (λ q. link endian file due (suc n) == q) before ≡ true) ⊎ ((j : ℕ) × (j < suc n) × (link endian file due (suc n) ≡ link endian file due j))
+  met_one_on before due n (inl there) = elim (either (link endian file (next due) n == due) (list_any (λ q. link endian file (next due) n == q) before) there) [
+    | inl same ↦ let e : link endian file (next due) n ≡ due = grind (arith, nat_tests) in inr (0, omega arith, e)
+    | inr earlier ↦ inl earlier
+  ]
+  met_one_on before due n (inr p) = inr (suc p.0, omega arith, p.2)
+
+  ends : (before : List ℕ) (due : ℕ) (offsets : List ℕ) (end : Option FileFault) → IsChainFrom endian file before due offsets end
+      → EndsBehind before due (length offsets) end
+  ends before due [] end is = elim (by_tests (due == 0) (list_any (λ q. due == q) before) (is_directory endian file due) end is) [
+    | inl p ↦ inl p
+    | inr (inl p) ↦ inr (inl p)
+    | inr (inr p) ↦ inr (inr (inl p.0, p.1))
+  ]
+  ends before due (q ∷ offsets) end is = elim (ends (due ∷ before) (next due) offsets end is.2) [
+    | inl p ↦ inl p
+    | inr (inl p) ↦ inr (inl p)
+    | inr (inr p) ↦ inr (inr (met_one_on before due (length offsets) p.0, p.1))
+  ]
+
+  at_first : (due n : ℕ) (end : Option FileFault) → EndsBehind [] due n end → EndsSo due n end
+  at_first due n end (inl p) = inl p
+  at_first due n end (inr (inl p)) = inr (inl p)
+  at_first due n end (inr (inr (inl there, e))) = absurd cc
+  at_first due n end (inr (inr (inr p, e))) = inr (inr (p.0, p.1, p.2, e))
+
+  pub by_places : (due : ℕ) (offsets : List ℕ) (end : Option FileFault) → IsChainFrom endian file [] due offsets end → IsByPlaces due offsets end
+  by_places due offsets end is = record {
+    at = at [] due offsets end is;
+    on = on [] due offsets end is;
+    apart = apart [] due offsets end is;
+    ends = at_first due (length offsets) end (ends [] due offsets end is);
+  }
+
+  -- numbers of four bytes
+  module _ (bytes : (k : ℕ) → get_or file k 0 < 256) where
+    number_below : (order : Endian) (place : ℕ) → number_at order 4 file place < 2 ^ 32
+    unfolding number_at
+    number_below Little place = simp get_or-drop (omega (arith, bytes (place + 0), bytes (place + 1), bytes (place + 2), bytes (place + 3)))
+    number_below Big place = simp get_or-drop (omega (arith, bytes (place + 0), bytes (place + 1), bytes (place + 2), bytes (place + 3)))
+
+    short : (before : List ℕ) (due : ℕ) (offsets : List ℕ) (end : Option FileFault) → IsChainFrom endian file before due offsets end
+        → IsApart before → AreBelow before (2 ^ 32) → list_any (λ q. 0 == q) before ≡ false → due < 2 ^ 32 → length before + length offsets < 2 ^ 32
+    short before due [] end is apart all none within =
+        let n : length (0 ∷ before) ≤ 2 ^ 32 = few (0 ∷ before) (2 ^ 32) (none, apart) (still_below before (2 ^ 32) 0 (omega arith) all) in
+        omega arith
+    short before due (q ∷ offsets) end is apart all none within =
+        let on : GoesOn endian file before due = going_on endian file before due is.1 in
+        let not_first : (0 == due) ≡ false = grind (arith, nat_tests, on.not_last) in
+        let rest = short (due ∷ before) (next due) offsets end is.2 (on.fresh, apart) (still_below before (2 ^ 32) due within all)
+        (rw not_first none) (number_below endian _) in
+        omega (arith, rest)
+
+    -- a chain has fewer than 2^32 offsets
+    pub few_places : (due : ℕ) (offsets : List ℕ) (end : Option FileFault) → IsChainFrom endian file [] due offsets end → due < 2 ^ 32 → length offsets < 2 ^ 32
+    few_places due offsets end is within =
+        let n = short [] due offsets end is tt (λ q e. absurd cc) refl within in omega (arith, n)

@@ -1,0 +1,136 @@
+-- A search that goes along with a reader of a chain.
+use Rattle.std.proofs.Common.{◌≡◌, ◌≢◌, ℕ, zero, suc, ◌+◌, ◌-◌, ◌*◌, ◌/◌, ◌%◌, ◌<◌, ◌≤◌, inl, inr, true, false, List, length, Option, Some, None, refl, sym, ap, ◌∙◌, subst, arith}
+use Rattle.std.proofs.lemmas.Bool.{cases_lt}
+use Rattle.std.proofs.lemmas.Bool.Decides.{nat_tests}
+use Rattle.fax_files.specs.declared.FileFault.{FileFault}
+use Rattle.fax_files.specs.declared.FileFault.TheVariants.{DirectoryLoop}
+use Rattle.fax_files.specs.declared.chain.Search.{Search}
+use Rattle.fax_files.specs.declared.chain.Search.TheVariants.{Running, Known}
+use Rattle.fax_files.specs.code.Tiff.{TiffFile}
+use Rattle.fax_files.specs.Chain.{IsChain}
+use Rattle.fax_files.specs.code.Chain.{onward, place, LeadsOn, IsTurningPage, turning_page, IsChainPlace}
+use Rattle.fax_files.specs.code.Chain.{IsSearch, IsSearchPlace, turns_at}
+use Rattle.fax_files.proofs.ChainLaws.{has_one_chain}
+use Rattle.fax_files.proofs.ChainPlaces.{IsByPlaces, by_places}
+use Rattle.fax_files.proofs.LoopLemmas.{along_places, leads, stops, no_turning_page}
+
+module _ (tiff : TiffFile) where
+  -- so many rounds on, a place has the same offset
+  rounds : (j p i m : ℕ) → place tiff (j + p) ≡ place tiff j → j ≤ i → place tiff (i + m * p) ≡ place tiff i
+  rounds j p i zero back from = let n : i + zero * p ≡ i = omega arith in ap (place tiff) n
+  rounds j p i (suc m) back from =
+      let one : place tiff (i + suc m * p) ≡ place tiff (i + m * p) =
+      along_places tiff (j + p) j (i + m * p - j) (i + suc m * p) (i + m * p) (omega arith) (omega arith) back in
+      one ∙ rounds j p i m back from
+
+  -- a chain that turns back has a place that is met again after as many steps, at its end at the latest
+  module _ (offsets : List ℕ) (end : Option FileFault) (is : IsChain tiff.head tiff.file offsets end) (loop : end ≡ Some DirectoryLoop) where
+    the_places : IsByPlaces tiff.head.endian tiff.file tiff.head.first offsets end
+    the_places = by_places tiff.head.endian tiff.file tiff.head.first offsets end is
+
+    pub met : (k : ℕ) × (0 < k) × (k ≤ length offsets) × (place tiff k ≡ place tiff (k + k))
+    met = elim the_places.ends [
+      | inl e ↦ absurd (cc (e.1, loop))
+      | inr (inl e) ↦ absurd (cc (e.2, loop))
+      | inr (inr (j, earlier, again, is_loop)) ↦
+          let n = length offsets in
+          let p = n - j in
+          let some : 0 < p = omega arith in
+          let m = j / p + 1 in
+          let count : p * (j / p) + j % p ≡ j = omega arith in
+          let low : j % p < p = omega arith in
+          let whole : m * p ≡ p * (j / p) + p = omega arith in
+          let split : j + p ≡ n = omega arith in
+          let back : place tiff (j + p) ≡ place tiff j = ap (place tiff) split ∙ again in
+          (m * p, omega arith, omega arith, sym (rounds j p (m * p) m back (omega arith)))
+    ]
+
+  -- the page at which the chain turns back
+  pub true_turn : (turn : Option ℕ) × IsTurningPage tiff turn
+  true_turn =
+      let one = has_one_chain tiff.head tiff.file in (
+        turning_page one.end (length one.offsets),
+        λ offsets end is.
+            let same = one.one offsets end is in
+            ap (λ (e : Option FileFault). turning_page e (length one.offsets)) (sym same.1)
+            ∙ ap (λ (l : List ℕ). turning_page end (length l)) (sym same.0),
+      )
+
+  turning : (end : Option FileFault) (pages given : ℕ) → Some given ≡ turning_page end pages → (end ≡ Some DirectoryLoop) × (given ≡ pages)
+  turning None pages given e = absurd cc
+  turning (Some DirectoryLoop) pages given e = (refl, cc)
+  turning (Some _) pages given e = absurd cc
+
+  -- while a search runs, the chain does not turn back at the reader's place
+  pub running : (given fast : ℕ) → IsSearch tiff given (Running fast) → true_turn.0 ≢ Some given
+  running given fast search = λ here.
+      let one = has_one_chain tiff.head tiff.file in
+      let p = turning one.end (length one.offsets) given (sym here ∙ true_turn.1 one.offsets one.end one.is) in
+      let found = met one.offsets one.end one.is p.0 in
+      search.2 found.0 found.1 (omega (arith, found.2, p.1)) found.3
+
+  -- the turn that a search has found, or the true one
+  pub turn_of : Search → Option ℕ
+  turn_of (Running fast) = true_turn.0
+  turn_of (Known turn) = turn
+
+  pub place_of : (due given : ℕ) (search : Search) → IsSearchPlace tiff due given search → IsChainPlace tiff due given (turn_of search)
+  unfolding turn_of
+  place_of due given (Running fast) sound = record { due_is = sound.due_is; within = sound.within; turn_is = true_turn.1; few = sound.few }
+  place_of due given (Known turn) sound = record { due_is = sound.due_is; within = sound.within; turn_is = sound.search_is; few = sound.few }
+
+  pub turned_here : (search : Search) (given : ℕ) → turns_at search given ≡ true → turn_of search ≡ Some given
+  unfolding turn_of
+  turned_here (Running fast) given e = absurd cc
+  turned_here (Known None) given e = absurd cc
+  turned_here (Known (Some turn)) given e = let same : turn ≡ given = grind (arith, nat_tests) in ap (λ (n : ℕ). Some n) same
+
+  pub not_here : (search : Search) (given : ℕ) → IsSearch tiff given search → turns_at search given ≡ false → turn_of search ≢ Some given
+  unfolding turn_of
+  not_here (Running fast) given is e = running given fast is
+  not_here (Known None) given is e = λ same. cc
+  not_here (Known (Some turn)) given is e = λ same. let equal : turn ≡ given = cc in absurd (grind (arith, nat_tests))
+
+  -- one directory on
+  pub one_further : (due given : ℕ) (search later : Search) (next : ℕ) → IsSearchPlace tiff due given search
+      → IsChainPlace tiff next (given + 1) (turn_of search) → IsSearch tiff (given + 1) later → IsSearchPlace tiff next (given + 1) later
+  one_further due given search later next sound on found = record { due_is = on.due_is; within = on.within; search_is = found; few = sound.few }
+
+  -- A step of the search.
+  module _ (given fast between : ℕ) (search : IsSearch tiff given (Running fast)) (first : onward tiff.head.endian tiff.file fast ≡ Some between) where
+    first_lead : (between ≡ place tiff (given + given + 1)) × LeadsOn tiff (given + given)
+    first_lead = leads tiff (given + given) between (rw search.0 at first)
+
+    pub stopped : onward tiff.head.endian tiff.file between ≡ None → IsTurningPage tiff None
+    stopped none = no_turning_page tiff (λ offsets end is. stops tiff offsets end is (given + given + 1) (rw first_lead.0 at none))
+
+    module _ (next : ℕ) (second : onward tiff.head.endian tiff.file between ≡ Some next) where
+      second_lead : (next ≡ place tiff (given + given + 1 + 1)) × LeadsOn tiff (given + given + 1)
+      second_lead = leads tiff (given + given + 1) next (rw first_lead.0 at second)
+
+      pub next_is : next ≡ place tiff (given + 1 + (given + 1))
+      next_is = let n : given + given + 1 + 1 ≡ given + 1 + (given + 1) = omega arith in second_lead.0 ∙ ap (place tiff) n
+
+      pub on_two : (i : ℕ) → i < given + 1 + (given + 1) → LeadsOn tiff i
+      on_two i h = elim (cases_lt i (given + given)) [
+        | inl low ↦ search.1 i low
+        | inr high ↦ elim (cases_lt (given + given) i) [
+          | inl last ↦ let same : given + given + 1 ≡ i = omega arith in subst (λ (k : ℕ). LeadsOn tiff k) same second_lead.1
+          | inr not_last ↦ let same : given + given ≡ i = omega arith in subst (λ (k : ℕ). LeadsOn tiff k) same first_lead.1
+        ]
+      ]
+
+      pub still_running : next ≢ place tiff (given + 1) → IsSearch tiff (given + 1) (Running next)
+      still_running differs = (
+        next_is,
+        on_two,
+        λ k some within. elim (cases_lt given k) [
+          | inl last ↦
+              let same : k ≡ given + 1 = omega arith in
+              λ e. differs (next_is ∙ ap (λ (i : ℕ). place tiff (i + i)) (sym same) ∙ sym e ∙ ap (place tiff) same)
+          | inr before ↦ search.2 k some before
+        ],
+      )
+
+  pub stopped_first : (given fast : ℕ) → IsSearch tiff given (Running fast) → onward tiff.head.endian tiff.file fast ≡ None → IsTurningPage tiff None
+  stopped_first given fast search none = no_turning_page tiff (λ offsets end is. stops tiff offsets end is (given + given) (rw search.0 at none))

@@ -1,0 +1,256 @@
+-- Where a chain turns back.
+use Rattle.std.proofs.Common.{◌≡◌, ℕ, zero, suc, ◌+◌, ◌-◌, ◌^◌, ◌<◌, ◌≤◌, ◌≢◌, inl, inr, Bool, true, false, List, length, Option, Some, None, refl, sym, ap, ◌∙◌, subst, arith}
+use Rattle.std.specs.Prelude.{◌==◌, if◌then◌else◌}
+use Rattle.std.proofs.lemmas.Bool.{cases_lt}
+use Rattle.fax_files.specs.declared.FileFault.{FileFault}
+use Rattle.fax_files.specs.declared.FileFault.TheVariants.{DirectoryLoop}
+use Rattle.fax_files.specs.Directory.{is_directory, next_offset}
+use Rattle.fax_files.specs.code.Tiff.{TiffFile}
+use Rattle.fax_files.specs.Chain.{IsChain}
+use Rattle.fax_files.specs.code.Chain.{onward, place, LeadsOn, IsRound, IsTurn, HasNoLoop, HasFewPages, IsTurningPage, turning_page}
+use Rattle.fax_files.proofs.ChainLaws.{has_one_chain}
+use Rattle.fax_files.proofs.ChainPlaces.{IsByPlaces, by_places, along, link_next, onward_on}
+
+module _ (tiff : TiffFile) where
+  -- the next offset, one place on
+  pub place_next : (i : ℕ) → place tiff (i + 1) ≡ next_offset tiff.head.endian tiff.file (place tiff i)
+  place_next i =
+      let n : i + 1 ≡ suc i = omega arith in
+      ap (place tiff) n ∙ link_next tiff.head.endian tiff.file tiff.head.first i
+
+  pub along_places : (i j k a b : ℕ) → a ≡ i + k → b ≡ j + k → place tiff i ≡ place tiff j → place tiff a ≡ place tiff b
+  along_places = along tiff.head.endian tiff.file tiff.head.first
+
+  tested : (last there : Bool) (next x : ℕ) → (if last then None else (if there then (Some next) else None)) ≡ Some x → (last ≡ false) × (there ≡ true) × (next ≡ x)
+  tested true there next x e = absurd cc
+  tested false true next x e = (refl, refl, cc)
+  tested false false next x e = absurd cc
+
+  -- what is known where a place leads on
+  pub led : (i x : ℕ) → onward tiff.head.endian tiff.file (place tiff i) ≡ Some x
+      → ((place tiff i == 0) ≡ false) × (is_directory tiff.head.endian tiff.file (place tiff i) ≡ true) × (next_offset tiff.head.endian tiff.file (place tiff i) ≡ x)
+  led i x e = tested (place tiff i == 0) (is_directory tiff.head.endian tiff.file (place tiff i)) (next_offset tiff.head.endian tiff.file (place tiff i)) x e
+
+  -- a place leads on to the next one
+  pub leads : (i x : ℕ) → onward tiff.head.endian tiff.file (place tiff i) ≡ Some x → (x ≡ place tiff (i + 1)) × LeadsOn tiff i
+  leads i x e =
+      let same : x ≡ place tiff (i + 1) = sym ((led i x e).2) ∙ sym (place_next i) in
+      (same, e ∙ ap (λ (n : ℕ). Some n) same)
+
+  alike : (i j : ℕ) → place tiff i ≡ place tiff j → LeadsOn tiff j → (x : ℕ) × (onward tiff.head.endian tiff.file (place tiff i) ≡ Some x)
+  alike i j same on = (place tiff (j + 1), ap (onward tiff.head.endian tiff.file) same ∙ on)
+
+  pub leads_alike : (i j : ℕ) → place tiff i ≡ place tiff j → LeadsOn tiff j → LeadsOn tiff i
+  leads_alike i j same on = let p = alike i j same on in (leads i p.0 p.1).1
+
+  -- every place of a chain with a round leads on
+  always_by : (start len : ℕ) → IsRound tiff start len → (fuel i : ℕ) → i ≤ fuel → LeadsOn tiff i
+  always_by start len round zero i within = round.on i (omega (arith, round.some))
+  always_by start len round (suc fuel) i within = elim (cases_lt i (start + len)) [
+    | inl early ↦ round.on i early
+    | inr late ↦
+        let same : place tiff i ≡ place tiff (i - len) =
+        along_places (start + len) start (i - (start + len)) i (i - len) (omega arith) (omega arith) round.back in
+        leads_alike i (i - len) same (always_by start len round fuel (i - len) (omega (arith, round.some)))
+  ]
+
+  pub always : (start len : ℕ) → IsRound tiff start len → (i : ℕ) → LeadsOn tiff i
+  always start len round i = always_by start len round i i (omega arith)
+
+  module _ (offsets : List ℕ) (end : Option FileFault) (is : IsChain tiff.head tiff.file offsets end) where
+    abbrev n : ℕ
+    n = length offsets
+
+    the_places : IsByPlaces tiff.head.endian tiff.file tiff.head.first offsets end
+    the_places = by_places tiff.head.endian tiff.file tiff.head.first offsets end is
+
+    pub before_end : (i : ℕ) → i < n → LeadsOn tiff i
+    before_end i h =
+        let p = the_places.on i h in
+        (leads i (next_offset tiff.head.endian tiff.file (place tiff i)) (onward_on tiff.head.endian tiff.file p.0 (place tiff i) p.1)).1
+
+    abbrev Turns : Type 0
+    Turns = (j : ℕ) × (j < n) × (place tiff n ≡ place tiff j) × (end ≡ Some DirectoryLoop)
+
+    -- a chain whose end leads on turns back there
+    pub turns : LeadsOn tiff n → Turns
+    turns on =
+        let p = led n (place tiff (n + 1)) on in
+        elim the_places.ends [
+          | inl e ↦ absurd (cc (e.0, p.0))
+          | inr (inl e) ↦ absurd (cc (e.1, p.1))
+          | inr (inr e) ↦ e
+        ]
+
+    module _ (j : ℕ) (earlier : j < n) (back : place tiff n ≡ place tiff j) where
+      -- each place on the loop has the offset of one of the chain
+      pub canonical : (i : ℕ) → j ≤ i → (k : ℕ) × (j ≤ k) × (k < n) × (place tiff i ≡ place tiff k)
+      canonical zero h = let none : j ≡ 0 = omega arith in (0, omega arith, omega arith, refl)
+      canonical (suc i) h = elim (cases_lt i j) [
+        | inl low ↦ let same : suc i ≡ j = omega arith in (j, omega arith, earlier, ap (place tiff) same)
+        | inr high ↦
+            let before = canonical i high in
+            let k = before.0 in
+            let moved : place tiff (suc i) ≡ place tiff (k + 1) = along_places i k 1 (suc i) (k + 1) (omega arith) refl before.3 in
+            let _kept = before.1 in
+            let below : k < n = before.2 in
+            elim (cases_lt (k + 1) n) [
+              | inl inside ↦ (k + 1, omega (arith, before.1), inside, moved)
+              | inr outside ↦ let whole : k + 1 ≡ n = omega arith in (j, omega arith, earlier, moved ∙ ap (place tiff) whole ∙ back)
+            ]
+      ]
+
+      leads_everywhere : (i : ℕ) → LeadsOn tiff i
+      leads_everywhere i = elim (cases_lt i j) [
+        | inl low ↦ before_end i (omega (arith, earlier))
+        | inr high ↦ let p = canonical i high in leads_alike i p.0 p.3 (before_end p.0 p.2)
+      ]
+
+    -- a chain that stops does not turn back
+    pub stops : (t : ℕ) → onward tiff.head.endian tiff.file (place tiff t) ≡ None → end ≢ Some DirectoryLoop
+    stops t none = λ loop. elim the_places.ends [
+      | inl e ↦ cc (e.1, loop)
+      | inr (inl e) ↦ cc (e.2, loop)
+      | inr (inr e) ↦ cc (leads_everywhere e.0 e.1 e.2 t, none)
+    ]
+
+    -- a place past whose double nothing came again is on no loop
+    pub still_early : (start : ℕ) → ((i : ℕ) → i < start + (start + 1) → LeadsOn tiff i)
+        → ((i : ℕ) → 0 < i → i ≤ start + 1 → place tiff (start + i) ≢ place tiff start) → start < n
+    still_early start on fresh = elim (cases_lt start n) [
+      | inl early ↦ early
+      | inr late ↦
+          let turn = turns (on n (omega arith)) in
+          let j = turn.0 in
+          let earlier : j < n = turn.1 in
+          absurd (fresh (n - j) (omega arith) (omega arith)
+          (along_places n j (start - j) (start + (n - j)) start (omega arith) (omega arith) turn.2))
+    ]
+
+    module _ (start len page : ℕ) (round : IsRound tiff start len) (turn : IsTurn tiff len page) where
+      some : 0 < len
+      some = round.some
+
+      the_turn : Turns
+      the_turn = turns (always start len round n)
+
+      -- the round is on the loop
+      on_loop : the_turn.0 ≤ start
+      on_loop =
+          let j = the_turn.0 in
+          let earlier : j < n = the_turn.1 in
+          elim (cases_lt start j) [
+            | inl low ↦ elim (cases_lt (start + len) n) [
+              | inl inside ↦ absurd (the_places.apart start (start + len) (omega (arith, some)) inside (sym round.back))
+              | inr outside ↦
+                  let p = canonical j earlier the_turn.2 (start + len) (omega arith) in
+                  absurd (the_places.apart start p.0 (omega (arith, p.1)) p.2 (sym round.back ∙ p.3))
+            ]
+            | inr high ↦ high
+          ]
+
+      -- its length is the loop's
+      length_is : len ≡ n - the_turn.0
+      length_is =
+          let j = the_turn.0 in
+          let earlier : j < n = the_turn.1 in
+          let reached : j ≤ start = on_loop in
+          let around : place tiff (start + (n - j)) ≡ place tiff start =
+          along_places n j (start - j) (start + (n - j)) start (omega arith) (omega arith) the_turn.2 in
+          let at_most : len ≤ n - j = elim (cases_lt (n - j) len) [
+            | inl fewer ↦ absurd (round.first (n - j) (omega arith) fewer around)
+            | inr more ↦ more
+          ] in
+          let p = canonical j earlier the_turn.2 start reached in
+          let k = p.0 in
+          let low : j ≤ k = p.1 in
+          let high : k < n = p.2 in
+          let moved : place tiff (k + len) ≡ place tiff k =
+          sym (along_places start k len (start + len) (k + len) refl refl p.3) ∙ round.back ∙ p.3 in
+          elim (cases_lt len (n - j)) [
+            | inl fewer ↦ elim (cases_lt (k + len) n) [
+              | inl inside ↦ absurd (the_places.apart k (k + len) (omega (arith, some)) inside (sym moved))
+              | inr outside ↦
+                  let wrapped : place tiff (k + len) ≡ place tiff (k + len - (n - j)) =
+                  along_places n j (k + len - n) (k + len) (k + len - (n - j)) (omega arith) (omega arith) the_turn.2 in
+                  absurd (the_places.apart (k + len - (n - j)) k (omega arith) high (sym wrapped ∙ moved))
+            ]
+            | inr more ↦ omega arith
+          ]
+
+      page_is : page ≡ the_turn.0
+      page_is =
+          let j = the_turn.0 in
+          let earlier : j < n = the_turn.1 in
+          let whole : len ≡ n - j = length_is in
+          let count : j + len ≡ n = omega arith in
+          elim (cases_lt page j) [
+            | inl low ↦ absurd (the_places.apart page (page + len) (omega (arith, some)) (omega arith) turn.again)
+            | inr high ↦ elim (cases_lt j page) [
+              | inl below ↦ absurd (turn.first j below (sym (ap (place tiff) count ∙ the_turn.2)))
+              | inr equal ↦ omega arith
+            ]
+          ]
+
+      pub turning : (end ≡ Some DirectoryLoop) × (page + len ≡ n)
+      turning =
+          let earlier : the_turn.0 < n = the_turn.1 in
+          let whole = length_is in
+          let same = page_is in
+          (the_turn.3, omega arith)
+
+  pub is_turning_page : (start len page : ℕ) → IsRound tiff start len → IsTurn tiff len page → IsTurningPage tiff (Some (page + len))
+  is_turning_page start len page round turn = λ offsets end is.
+      let p = turning offsets end is start len page round turn in
+      rw (p.0, p.1) refl
+
+  not_turning : (end : Option FileFault) (pages : ℕ) → end ≢ Some DirectoryLoop → None ≡ turning_page end pages
+  not_turning None pages h = refl
+  not_turning (Some DirectoryLoop) pages h = absurd (h refl)
+  not_turning (Some _) pages h = refl
+
+  pub no_turning_page : HasNoLoop tiff → IsTurningPage tiff None
+  no_turning_page none = λ offsets end is. not_turning end (length offsets) (none offsets end is)
+
+  -- a step of the search
+  pub start_below : HasFewPages tiff → (start : ℕ) → ((i : ℕ) → i < start + (start + 1) → LeadsOn tiff i)
+      → ((i : ℕ) → 0 < i → i ≤ start + 1 → place tiff (start + i) ≢ place tiff start) → start < 2 ^ 32
+  start_below few start on fresh =
+      let one = has_one_chain tiff.head tiff.file in
+      let early : start < length one.offsets = still_early one.offsets one.end one.is start on fresh in
+      let count : length one.offsets < 2 ^ 32 = few one.offsets one.end one.is in
+      omega arith
+
+  module _ (start steps due next : ℕ) (on : (i : ℕ) → i < start + steps → LeadsOn tiff i) (due_is : due ≡ place tiff (start + steps))
+      (led_to : onward tiff.head.endian tiff.file due ≡ Some next) where
+    here : (next ≡ place tiff (start + steps + 1)) × LeadsOn tiff (start + steps)
+    here = leads (start + steps) next (rw due_is at led_to)
+
+    pub next_is : next ≡ place tiff (start + (steps + 1))
+    next_is =
+        let n : start + steps + 1 ≡ start + (steps + 1) = omega arith in
+        here.0 ∙ ap (place tiff) n
+
+    pub on_more : (i : ℕ) → i < start + (steps + 1) → LeadsOn tiff i
+    on_more i h = elim (cases_lt i (start + steps)) [
+      | inl low ↦ on i low
+      | inr high ↦
+          let same : start + steps ≡ i = omega arith in
+          subst (λ (k : ℕ). LeadsOn tiff k) same here.1
+    ]
+
+    pub fresh_more : ((i : ℕ) → 0 < i → i ≤ steps → place tiff (start + i) ≢ place tiff start) → next ≢ place tiff start
+        → (i : ℕ) → 0 < i → i ≤ steps + 1 → place tiff (start + i) ≢ place tiff start
+    fresh_more fresh differs i some within = elim (cases_lt steps i) [
+      | inl high ↦
+          let same : steps + 1 ≡ i = omega arith in
+          λ e. differs (next_is ∙ ap (λ (k : ℕ). place tiff (start + k)) same ∙ e)
+      | inr low ↦ fresh i some low
+    ]
+
+  pub turning_below : HasFewPages tiff → (start len page : ℕ) → IsRound tiff start len → IsTurn tiff len page → page + len < 2 ^ 32
+  turning_below few start len page round turn =
+      let one = has_one_chain tiff.head tiff.file in
+      let p = turning one.offsets one.end one.is start len page round turn in
+      let count : length one.offsets < 2 ^ 32 = few one.offsets one.end one.is in
+      omega (arith, p.1)

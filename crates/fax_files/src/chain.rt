@@ -1,0 +1,220 @@
+//! The chain of a file's directories, read with a search for a loop that goes along.
+//!
+//! The search takes two steps for each directory that is handed out (Floyd's algorithm), so that
+//! it meets the reader before the chain turns back. It takes no memory.
+
+ghost use Rattle.std.specs.Prelude.{◌≡◌, ℕ, ◌+◌, ◌^◌, ◌<◌, ◌≤◌, Some};
+ghost use Rattle.fax_files.specs.code.Chain as Spec;
+ghost use Rattle.fax_files.specs.code.Chain.{LeadsOn, place};
+
+use crate::FileFault;
+use crate::directory::Directory;
+use crate::tiff::Tiff;
+use std::marker::Model;
+
+/// A place on the loop of a chain, and the loop's length.
+#[derive(Clone, Copy)]
+struct Round {
+    start: u64,
+    len: u64,
+}
+
+/// The offset behind the directory at an offset, or none where no directory stands.
+fn onward(tiff: &Tiff, offset: u32) -> Option<u32>
+    ensures { result ≡ Spec.onward tiff.now.head.endian tiff.now.file offset }
+{
+    if offset == 0 {
+        return None;
+    }
+    match tiff.directory(offset) {
+        Ok(directory) => Some(directory.next_offset()),
+        Err(_) => None,
+    }
+}
+
+/// Computes nothing: the offsets of a chain differ, and each is a number of four bytes, not 0.
+fn has_few_pages(tiff: &Tiff, file: &[u8])
+    requires { file.now ≡ tiff.now.file }
+    ensures { Spec.HasFewPages tiff.now }
+{
+    let _first = tiff.first();
+}
+
+/// The offset due behind the first directories of a chain.
+fn place_behind(tiff: &Tiff, pages: u64) -> u32
+    requires { (i : ℕ) → i < pages → LeadsOn tiff.now i }
+    ensures { result ≡ place tiff.now pages }
+{
+    let mut due = tiff.first();
+    for _page in 0..pages {
+        due = onward(tiff, due).unwrap();
+    }
+    due
+}
+
+/// The first page of which the offset comes again after the length of the loop.
+fn first_turn(tiff: &Tiff, round: Round) -> u64
+    requires { Spec.IsRound tiff.now round.start round.len }
+    ensures turn { Spec.IsTurn tiff.now round.len result }
+    ensures early { result ≤ round.start }
+{
+    let mut ahead = place_behind(tiff, round.len);
+    let mut behind = tiff.first();
+    let mut page: u64 = 0;
+    while behind != ahead {
+        behind = onward(tiff, behind).unwrap();
+        ahead = onward(tiff, ahead).unwrap();
+        page += 1;
+    }
+    page
+}
+
+/// What is known of the page at which a chain turns back: a search is at an offset, or it has
+/// ended.
+#[derive(Clone, Copy)]
+enum Search {
+    Running(u32),
+    Known(Option<u32>),
+}
+
+/// The length of the loop on which a place lies, which is met again after as many steps.
+fn round_from(tiff: &Tiff, start: u64, kept: u32) -> Round
+    requires kept { kept ≡ place tiff.now start }
+    requires some { 0 < start }
+    requires limit { start < 2 ^ 32 }
+    requires back { place tiff.now (start + start) ≡ place tiff.now start }
+    requires on { (i : ℕ) → i < start + start → LeadsOn tiff.now i }
+    ensures { Spec.IsRound tiff.now result.start result.len }
+{
+    let mut due = onward(tiff, kept).unwrap();
+    let mut len: u64 = 1;
+    while due != kept {
+        due = onward(tiff, due).unwrap();
+        len += 1;
+    }
+    Round { start, len }
+}
+
+/// The page at which the chain turns back, where a place is met again after as many steps.
+fn turning_from(tiff: &Tiff, start: u64, kept: u32) -> u32
+    requires kept { kept ≡ place tiff.now start }
+    requires some { 0 < start }
+    requires limit { start < 2 ^ 32 }
+    requires back { place tiff.now (start + start) ≡ place tiff.now start }
+    requires on { (i : ℕ) → i < start + start → LeadsOn tiff.now i }
+    ensures { Spec.IsTurningPage tiff.now (Some result) }
+{
+    has_few_pages(tiff, tiff.bytes());
+    let round = round_from(tiff, start, kept);
+    let page = first_turn(tiff, round);
+    (page + round.len) as u32
+}
+
+/// The search behind one more directory, behind which this offset is due.
+fn search_on(tiff: &Tiff, search: Search, given: u32, due: u32) -> Search
+    requires search { Spec.IsSearch tiff.now given search }
+    requires due { due ≡ place tiff.now (given + 1) }
+    requires few { given + 1 < 2 ^ 32 }
+    ensures { Spec.IsSearch tiff.now (given + 1) result }
+{
+    let Search::Running(fast) = search else {
+        return search;
+    };
+    let Some(between) = onward(tiff, fast) else {
+        return Search::Known(None);
+    };
+    let Some(fast) = onward(tiff, between) else {
+        return Search::Known(None);
+    };
+    if fast == due {
+        let turn = turning_from(tiff, given as u64 + 1, due);
+        return Search::Known(Some(turn));
+    }
+    Search::Running(fast)
+}
+
+/// Whether it is known that the chain turns back behind so many directories.
+fn turns_at(search: Search, given: u32) -> bool
+    ensures { result ≡ Spec.turns_at search given }
+{
+    match search {
+        Search::Known(Some(turn)) => turn == given,
+        Search::Known(None) | Search::Running(_) => false,
+    }
+}
+
+/// A reader of a file's directories, in the order of their chain. Contracts see its file and how
+/// many directories were handed out.
+#[derive(Drop)]
+pub struct Chain<'a> {
+    tiff: Tiff<'a>,
+    due: u32,
+    given: u32,
+    search: Search,
+}
+
+impl<'a> Model for Chain<'a> {
+    ghost use Rattle.fax_files.specs.code.Chain.{ChainState};
+    ghost use Rattle.fax_files.specs.code.Chain.{IsSearchPlace};
+
+    ghost Value = { ChainState };
+
+    ghost view = { λ c. record { tiff = c.tiff; given = c.given } };
+
+    ghost invariant = { λ c. IsSearchPlace c.tiff c.due c.given c.search };
+}
+
+impl<'a> Chain<'a> {
+    ghost use Rattle.fax_files.specs.code.Chain.{IsDueAnswer, behind_answer};
+
+    /// A reader of the directories of a file, before the first one. Nothing is read yet.
+    pub fn new(tiff: Tiff<'a>) -> Self
+        ensures { result ≡ record { tiff = tiff.entry; given = 0 } }
+    {
+        has_few_pages(&tiff, tiff.bytes());
+        let due = tiff.first();
+        Chain {
+            tiff,
+            due,
+            given: 0,
+            search: Search::Running(due),
+        }
+    }
+
+    /// The directory that is due, or none behind the last one.
+    ///
+    /// # Errors
+    ///
+    /// `DirectoryLoop` where the offset that is due was handed out before, `DirectoryOutside`
+    /// where no whole directory stands there.
+    pub fn due(&self) -> Result<Option<Directory<'a>>, FileFault>
+        ensures { IsDueAnswer self.now result }
+    {
+        if self.due == 0 {
+            return Ok(None);
+        }
+        if turns_at(self.search, self.given) {
+            return Err(FileFault::DirectoryLoop);
+        }
+        Ok(Some(self.tiff.directory(self.due)?))
+    }
+
+    /// Hands out the next directory, or none behind the last one, from then on.
+    ///
+    /// # Errors
+    ///
+    /// As `due`, from then on.
+    pub fn next(&mut self) -> Result<Option<Directory<'a>>, FileFault>
+        ensures answer { IsDueAnswer self.old result }
+        ensures counted { self.new ≡ behind_answer self.old result }
+    {
+        let answer = self.due()?;
+        if let Some(directory) = &answer {
+            let due = directory.next_offset();
+            self.search = search_on(&self.tiff, self.search, self.given, due);
+            self.due = due;
+            self.given += 1;
+        }
+        Ok(answer)
+    }
+}
