@@ -1,1 +1,5 @@
 pub mod CursorLemmas
+pub mod DueLemmas
+pub mod EndingLemmas
+pub mod OpeningLemmas
+pub mod PageAtLemmas
