@@ -165,7 +165,8 @@ impl<'a> Model for Chain<'a> {
 }
 
 impl<'a> Chain<'a> {
-    ghost use Rattle.fax_files.specs.code.Chain.{IsDueAnswer, behind_answer};
+    ghost use Rattle.std.specs.Prelude.{IfOk, IfSome};
+    ghost use Rattle.fax_files.specs.code.Chain.{IsDirectoryOf, IsDueAnswer, behind_answer};
 
     /// A reader of the directories of a file, before the first one. Nothing is read yet.
     pub fn new(tiff: Tiff<'a>) -> Self
@@ -188,7 +189,8 @@ impl<'a> Chain<'a> {
     /// `DirectoryLoop` where the offset that is due was handed out before, `DirectoryOutside`
     /// where no whole directory stands there.
     pub fn due(&self) -> Result<Option<Directory<'a>>, FileFault>
-        ensures { IsDueAnswer self.now result }
+        ensures answer { IsDueAnswer self.now result }
+        ensures file { IfOk result (λ found. IfSome found (IsDirectoryOf self.now.tiff)) }
     {
         if self.due == 0 {
             return Ok(None);
@@ -206,6 +208,7 @@ impl<'a> Chain<'a> {
     /// As `due`, from then on.
     pub fn next(&mut self) -> Result<Option<Directory<'a>>, FileFault>
         ensures answer { IsDueAnswer self.old result }
+        ensures file { IfOk result (λ found. IfSome found (IsDirectoryOf self.old.tiff)) }
         ensures counted { self.new ≡ behind_answer self.old result }
     {
         let answer = self.due()?;
