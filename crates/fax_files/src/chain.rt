@@ -182,6 +182,25 @@ impl<'a> Chain<'a> {
         }
     }
 
+    /// The same reader once more.
+    pub fn again(&self) -> Self
+        ensures { result ≡ self.now }
+    {
+        Chain {
+            tiff: self.tiff.again(),
+            due: self.due,
+            given: self.given,
+            search: self.search,
+        }
+    }
+
+    /// How many directories were handed out.
+    pub fn given(&self) -> u32
+        ensures { result ≡ self.now.given }
+    {
+        self.given
+    }
+
     /// The directory that is due, or none behind the last one.
     ///
     /// # Errors

@@ -69,6 +69,16 @@ impl<'a> Tiff<'a> {
         self.file.bytes
     }
 
+    /// The same file once more.
+    pub(crate) fn again(&self) -> Self
+        ensures { result ≡ self.now }
+    {
+        Tiff {
+            file: self.file,
+            first: self.first,
+        }
+    }
+
     /// The offset of the first directory, in bytes.
     pub fn first(&self) -> u32
         ensures { result ≡ self.now.head.first }

@@ -1,4 +1,1 @@
 pub mod CursorLemmas
-pub mod DueLemmas
-pub mod OpenLemmas
-pub mod WalkLemmas

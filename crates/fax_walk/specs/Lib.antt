@@ -1,3 +1,5 @@
 pub mod Cursor
 pub mod Items
+pub mod Tail
+pub mod Forms
 pub mod code

@@ -1,4 +1,6 @@
 -- What speaks of this code alone: what a walk still hands out.
 pub mod Stages
 pub mod Due
+pub mod Opening
 pub mod Next
+pub mod Pages

@@ -2,11 +2,17 @@
 #![tactic(auto)]
 
 mod cursor;
+mod end;
+mod opening;
+mod page;
+mod pages;
 mod walk;
 
-pub use cursor::Cursor;
+pub use cursor::{Cursor, NotACursor};
+pub use end::{End, WalkFault};
 pub use fax_bits::Memory;
 pub use fax_files::{Cause, FileFault};
 pub use fax_page::StripFault;
 pub use fax_rows::Row;
-pub use walk::{End, Place, Walk, WalkFault};
+pub use pages::Pages;
+pub use walk::{Place, Walk};

@@ -1,43 +1,45 @@
 -- What a walk still hands out.
-use Rattle.std.specs.Prelude.{◌≡◌, ℕ, ◌+◌, ◌-◌, ◌<◌, Bool, List, [], ◌∷◌, ◌++◌, length, Option, Some, None}
+use Rattle.std.specs.Prelude.{◌≡◌, ◌≢◌, ℕ, ◌+◌, ◌-◌, ◌*◌, ◌^◌, ◌<◌, ◌≤◌, Bool, List, [], ◌∷◌, ◌++◌, length, drop, Option, Some, None, ⊤}
 use Rattle.fax_bits.specs.declared.Colour.{Colour}
 use Rattle.fax_page.specs.declared.StripFault.{StripFault}
 use Rattle.fax_page.specs.Strip.{AreLines}
 use Rattle.fax_page.specs.code.Reader.{bits_left}
+use Rattle.fax_files.specs.declared.FileFault.{FileFault}
 use Rattle.fax_files.specs.declared.Cause.{Cause}
-use Rattle.fax_files.specs.declared.Cause.TheVariants.{File, Strip}
+use Rattle.fax_files.specs.declared.Cause.TheVariants.{Strip}
 use Rattle.fax_files.specs.declared.PageForm.{PageForm}
-use Rattle.fax_files.specs.ChainRead.{chain_fault}
+use Rattle.fax_files.specs.Chain.{IsChain}
 use Rattle.fax_files.specs.Page.{IsPageForm}
 use Rattle.fax_files.specs.PageRows.{AreStrips, joined, shown}
+use Rattle.fax_files.specs.code.Chain.{ChainState}
 use Rattle.fax_files.specs.code.Tiff.{TiffDirectory}
 use Rattle.fax_walk.specs.declared.cursor.Cursor.{Cursor}
-use Rattle.fax_walk.specs.Cursor.{start}
-use Rattle.fax_walk.specs.declared.walk.End.{End}
-use Rattle.fax_walk.specs.declared.walk.End.TheVariants.{Fault}
+use Rattle.fax_walk.specs.declared.end.End.{End}
 use Rattle.fax_walk.specs.declared.walk.Stage.{Stage}
 use Rattle.fax_walk.specs.declared.walk.Stage.TheVariants.{Before, Open, Ended}
-use Rattle.fax_walk.specs.declared.walk.OpenFault.{OpenFault}
-use Rattle.fax_walk.specs.declared.walk.OpenFault.TheVariants.{Memory, File as FileRefused}
-use Rattle.fax_walk.specs.Items.{Item, numbered, chain_end, AreItems}
-use Rattle.fax_walk.specs.code.Stages.{PageState, row_of}
+use Rattle.fax_walk.specs.Cursor.{start}
+use Rattle.fax_walk.specs.Items.{Item, numbered, stop_at, Follows, ArePagesItems}
+use Rattle.fax_walk.specs.Tail.{IsTail}
+use Rattle.fax_walk.specs.code.Stages.{PageState, row_of, skipped}
 
--- a walk: its file, the place of the row that is due, and how far it has come
+-- a walk: its file, the place behind the last row that was handed out, or the one that it began with, and how far it
+-- has come
 pub record WalkState : Type 0 where
   pub file : List ℕ
   pub cursor : Cursor
   pub stage : Stage
 
--- how the rows end behind a page: at the cause at this row of it, or as the chain does
-abbrev pub end_behind : ℕ → ℕ → Option Cause → End
-end_behind next row (Some cause) = Fault 0 row cause
-end_behind next row None = chain_end 1 (chain_fault next)
+-- how many rows a walk has read where it has come this far
+abbrev pub rows_read_at : Stage → ℕ
+rows_read_at Before = 0
+rows_read_at (Open page) = page.read
+rows_read_at (Ended end read) = read
 
 -- what comes behind the strip that is read, which ends so: these strips, and then this cause, if not all are there
-abbrev pub IsBehind : TiffDirectory → PageForm → ℕ → Option StripFault → List (List (List Colour)) → Option Cause → Type 0
-IsBehind directory form number None others cause =
+abbrev pub AreStripsBehind : TiffDirectory → PageForm → ℕ → Option StripFault → List (List (List Colour)) → Option Cause → Type 0
+AreStripsBehind directory form number None others cause =
     AreStrips directory.endian directory.file directory.offset form (number + 1) others cause
-IsBehind directory form number (Some fault) others cause = (others ≡ []) × (cause ≡ Some (Strip fault))
+AreStripsBehind directory form number (Some fault) others cause = (others ≡ []) × (cause ≡ Some (Strip fault))
 
 -- what is left of a page: these rows, of the strip that is read and of those behind it, as they are coded, and then
 -- this cause, if not all are there
@@ -48,69 +50,95 @@ pub record IsLeftOnPage (page : PageState) (rows : List (List Colour)) (cause : 
   pub lines : AreLines page.strip.form page.strip.row page.strip.reference (bits_left page.strip) own stop left
   pub others : List (List (List Colour))
   pub rows_are : rows ≡ own ++ joined others
-  pub behind : IsBehind page.directory page.form page.number stop others cause
+  pub behind : AreStripsBehind page.directory page.form page.number stop others cause
 
--- an open page still has these items, and then the rows end so
+-- the items of the pages behind the directories that a chain has handed out
+abbrev pub ArePagesBehind : ChainState → List Item → End → Type 0
+ArePagesBehind chain items end =
+    (offsets : List ℕ) × (fault : Option FileFault) × IsChain chain.tiff.head chain.tiff.file offsets fault
+    × ArePagesItems chain.tiff.head.endian chain.tiff.file fault chain.given (drop chain.given offsets) items end
+
+-- an open page and those behind it still have these items, and then the rows end so
 pub record IsDueOnPage (page : PageState) (items : List Item) (end : End) : Type 0 where
   pub rows : List (List Colour)
   pub cause : Option Cause
   pub read : IsLeftOnPage page rows cause
-  pub items_are : items ≡ numbered 0 (row_of page) (shown page.form rows)
-  pub end_is : end ≡ end_behind page.next (row_of page + length rows) cause
+  pub others : List Item
+  pub items_are : items ≡ numbered page.page (row_of page + skipped page) (drop (skipped page) (shown page.form rows)) ++ others
+  pub follows : Follows page.page (ArePagesBehind page.chain) (stop_at (row_of page + length rows) cause) others end
 
--- what is due of a file where the walk has come this far: these items in order, and then this end
-abbrev pub IsDueAt : List ℕ → Stage → List Item → End → Type 0
-IsDueAt file Before items end = AreItems file items end
-IsDueAt file (Open page) items end = IsDueOnPage page items end
-IsDueAt file (Ended ended) items end = (items ≡ []) × (end ≡ ended)
+-- what is due of a file where a walk with this cursor has come this far: these items in order, and then this end
+abbrev pub IsDueAt : List ℕ → Cursor → Stage → List Item → End → Type 0
+IsDueAt file cursor Before items end = IsTail file cursor items end
+IsDueAt file cursor (Open page) items end = IsDueOnPage page items end
+IsDueAt file cursor (Ended ended read) items end = (items ≡ []) × (end ≡ ended)
 
 -- what a walk still hands out: these items in order, and then this end
 abbrev pub IsDue : WalkState → List Item → End → Type 0
-IsDue walk items end = IsDueAt walk.file walk.stage items end
+IsDue walk items end = IsDueAt walk.file walk.cursor walk.stage items end
+
+-- a walk from a cursor, before its first item
+abbrev pub walk_from : List ℕ → Cursor → WalkState
+walk_from file cursor = record { file = file; cursor = cursor; stage = Before }
 
 -- a walk before the first item of its file
 abbrev pub walk_start : List ℕ → WalkState
-walk_start file = record { file = file; cursor = start; stage = Before }
+walk_start file = walk_from file start
 
--- a page is open, with this row due
-pub record IsOpen (page : PageState) (row : ℕ) : Type 0 where
+-- a page whose rows can be read
+pub record IsOpen (page : PageState) : Type 0 where
   pub no_fault : page.strip.fault ≡ None
-  pub row_is : row_of page ≡ row
   pub limits : IsPageForm page.form
+  pub first : page.first < page.form.rows
 
--- before the first page is opened the first row is due; a page that is open has the row due that the cursor names
+-- the places of rows, numbered by page and then by row
+abbrev pub place_number : ℕ → ℕ → ℕ
+place_number page row = page * 2 ^ 32 + row
+
+-- a page that is open can be read, and the first row that it hands out stands at the cursor or behind it
 abbrev pub IsSound : Stage → Cursor → Type 0
-IsSound Before cursor = cursor ≡ start
-IsSound (Open page) cursor = (cursor.page ≡ 0) × IsOpen page cursor.row
-IsSound (Ended end) cursor = Unit {0}
+IsSound Before cursor = ⊤
+IsSound (Open page) cursor =
+    IsOpen page × (place_number cursor.page cursor.row ≤ place_number page.page (row_of page + skipped page))
+IsSound (Ended end read) cursor = ⊤
 
--- a row was read from a page: what was due is that row, and then what is due now
+-- a page is open for a cursor: no row is read yet, and the first one that is handed out stands at the cursor or behind it
+--
+abbrev pub IsOpenedFor : Cursor → PageState → Type 0
+IsOpenedFor cursor page = IsSound (Open page) cursor × (page.read ≡ 0)
+
+-- a row was read from a page: it was the first that is handed out, and what was due is that row, and then what is due
+-- now; or it was one before that, and what was due is due
 pub record ReadsPageRow (old new : PageState) : Type 0 where
+  pub due : (items : List Item) (end : End) → skipped old ≡ 0 → IsDueOnPage new items end
+      → IsDueOnPage old (record { page = old.page; row = row_of old; pels = new.shown } ∷ items) end
+  pub due_before : (items : List Item) (end : End) → 0 < skipped old → IsDueOnPage new items end → IsDueOnPage old items end
+  pub next_row : row_of new ≡ row_of old + 1
+  pub same_page : new.page ≡ old.page
+  pub same_first : new.first ≡ old.first
+  pub still_open : IsOpen new
+  pub one_more : new.read ≡ old.read + 1
+
+-- the next row that is handed out was read: what was due is that row, and then what is due now
+pub record GivesRow (old new : PageState) : Type 0 where
   pub due : (items : List Item) (end : End) → IsDueOnPage new items end
-      → IsDueOnPage old (record { page = 0; row = row_of old; pels = new.shown } ∷ items) end
-  pub still_open : IsOpen new (row_of old + 1)
-  pub same_form : new.form ≡ old.form
-  pub within : row_of old < old.form.rows
+      → IsDueOnPage old (record { page = old.page; row = row_of old + skipped old; pels = new.shown } ∷ items) end
+  pub next_row : row_of new ≡ row_of old + skipped old + 1
+  pub none_skipped : skipped new ≡ 0
+  pub same_page : new.page ≡ old.page
+  pub still_open : IsOpen new
+  pub read : new.read ≡ old.read + skipped old + 1
 
 -- the same page, with the same rows due, at this strip or a later one
 pub record KeepsPage (old new : PageState) : Type 0 where
   pub due : (items : List Item) (end : End) → IsDueOnPage new items end → IsDueOnPage old items end
   pub row : row_of new ≡ row_of old
   pub same_form : new.form ≡ old.form
+  pub same_page : new.page ≡ old.page
+  pub same_first : new.first ≡ old.first
+  pub same_read : new.read ≡ old.read
   pub no_fault : new.strip.fault ≡ None
 
--- the first page cannot be read for this fault of the file; nothing is said where memory was refused
---
-abbrev pub IsRefusal : List ℕ → OpenFault → Type 0
-IsRefusal file Memory = Unit {0}
-IsRefusal file (FileRefused fault) = AreItems file [] (Fault 0 0 (File fault))
-
--- at most so many rows are still handed out where the walk has come this far
-abbrev pub rows_left_at : Stage → ℕ
-rows_left_at Before = 1000000
-rows_left_at (Open page) = page.form.rows - row_of page
-rows_left_at (Ended ended) = 0
-
--- at most so many rows are still handed out by a walk
-abbrev pub rows_left : WalkState → ℕ
-rows_left walk = rows_left_at walk.stage
+-- no more places of rows than these are left behind a cursor
+abbrev pub places_left : WalkState → ℕ
+places_left walk = 2 ^ 64 - place_number walk.cursor.page walk.cursor.row

@@ -1,19 +1,22 @@
 -- What a call for the next row of a walk answers.
-use Rattle.std.specs.Prelude.{◌≡◌, ◌+◌, ◌<◌, ◌≤◌, List, [], ◌∷◌, Option, Some, None, Result, Ok, Err, ⊤}
+use Rattle.std.specs.Prelude.{◌≡◌, ◌+◌, ◌-◌, ◌<◌, ◌≤◌, List, [], ◌∷◌, Option, Some, None, Result, Ok, Err, ⊤}
 use Rattle.std.specs.Borrow.{Bor, MutBor, Fml, follows_so}
 use mathlib.Core.Option.{none}
 use mir.Syntax.{named}
 use Rattle.fax_bits.specs.declared.Colour.{Colour}
-use Rattle.fax_walk.specs.declared.walk.End.{End}
-use Rattle.fax_walk.specs.declared.walk.End.TheVariants.{Proper, Fault}
+use Rattle.fax_bits.specs.declared.Memory.{Memory as NoMemory}
+use Rattle.fax_walk.specs.declared.end.End.{End}
+use Rattle.fax_walk.specs.declared.end.End.TheVariants.{Proper, Fault, Outside}
+use Rattle.fax_walk.specs.declared.end.WalkFault.{WalkFault}
+use Rattle.fax_walk.specs.declared.end.WalkFault.TheVariants.{Memory, AtRow, CursorOutside}
 use Rattle.fax_walk.specs.declared.walk.Place.{Place}
-use Rattle.fax_walk.specs.declared.walk.WalkFault.{WalkFault}
-use Rattle.fax_walk.specs.declared.walk.WalkFault.TheVariants.{Memory, AtRow}
-use Rattle.fax_walk.specs.contracts.walk.Walk.{the_row}
-use Rattle.fax_walk.specs.Items.{Item}
 use Rattle.fax_walk.specs.declared.walk.Stage.{Stage}
 use Rattle.fax_walk.specs.declared.walk.Stage.TheVariants.{Before, Open, Ended}
-use Rattle.fax_walk.specs.code.Due.{WalkState, IsDue, rows_left}
+use Rattle.fax_walk.specs.contracts.walk.Walk.{the_row}
+use Rattle.fax_walk.specs.Items.{Item}
+use Rattle.fax_walk.specs.Tail.{behind_item}
+use Rattle.fax_walk.specs.code.Stages.{row_of, skipped}
+use Rattle.fax_walk.specs.code.Due.{WalkState, IsDue, places_left}
 
 -- the walk, once the row that it lends is given back, is so
 abbrev pub EndsAs : MutBor WalkState → (WalkState → Type 0) → Fml
@@ -21,41 +24,53 @@ EndsAs walk P =
     follows_so (the_row (record { mir = named 1; lft = [] })) (the_row (record { mir = named 1; lft = [] }))
     walk.ghost_name none (λ _ _. ⊤) P
 
--- this item is handed out: it stands at the walk's cursor, and is the first of what was due
+-- this item is handed out: it is the first of what was due, and what is due then is the rest
 pub record HandsOut (old : WalkState) (item : Item) (new : WalkState) : Type 0 where
   pub due : (items : List Item) (end : End) → IsDue new items end → IsDue old (item ∷ items) end
-  pub page : item.page ≡ old.cursor.page
-  pub row : item.row ≡ old.cursor.row
-  pub cursor : new.cursor ≡ record { page = item.page; row = item.row + 1 }
-  pub fewer : rows_left new < rows_left old
+  pub cursor : new.cursor ≡ behind_item item
+  pub fewer : places_left new < places_left old
+
+-- the rows have ended so
+abbrev pub HasTold : Stage → End → Type 0
+HasTold Before end = ⊥
+HasTold (Open page) end = ⊥
+HasTold (Ended ended read) end = ended ≡ end
 
 -- nothing more is due, and the rows have ended so for good
 pub record HasEnded (old : WalkState) (end : End) (new : WalkState) : Type 0 where
   pub due : IsDue old [] end
-  pub told : new.stage ≡ Ended end
+  pub told : HasTold new.stage end
   pub cursor : new.cursor ≡ old.cursor
 
--- the same items are due, and no more rows than before
-pub record KeepsDue (old new : WalkState) : Type 0 where
+-- a page is entered with the next row: none is open, or all rows of the one that is are read
+abbrev pub IsEntering : Stage → Type 0
+IsEntering Before = ⊤
+IsEntering (Open page) = row_of page ≡ page.form.rows
+IsEntering (Ended end read) = ⊥
+
+-- a page of which a row is due is open, or the rows have ended
+abbrev pub IsAtRow : Stage → Type 0
+IsAtRow Before = ⊥
+IsAtRow (Open page) = row_of page < page.form.rows
+IsAtRow (Ended end read) = ⊤
+
+-- the page of the row that is due is open, and the same items are due
+pub record IsEntered (old new : WalkState) : Type 0 where
   pub due : (items : List Item) (end : End) → IsDue new items end → IsDue old items end
   pub cursor : new.cursor ≡ old.cursor
-  pub no_more : rows_left new ≤ rows_left old
+  pub at_row : IsAtRow new.stage
 
--- what it leaves to open the page of the row that is due: where none is open, memory was refused
-abbrev pub EntersAs : WalkState → Stage → WalkState → Type 0
-EntersAs old Before new = new ≡ old
-EntersAs old (Open page) new = KeepsDue old new
-EntersAs old (Ended end) new = KeepsDue old new
+-- what it leaves to open the page of the row that is due: memory is refused only where one is to be opened
+abbrev pub EntersAs : WalkState → Result Unit NoMemory → WalkState → Type 0
+EntersAs old (Ok tt) new = IsEntered old new
+EntersAs old (Err refused) new = (new ≡ old) × IsEntering old.stage
 
-abbrev pub IsEntered : WalkState → WalkState → Type 0
-IsEntered old new = EntersAs old new.stage new
-
--- what it leaves to read the row that is due: the row was read, or the rows have ended; without a page nothing changes
+-- what it leaves to read the row that is due: the row was read, or the rows have ended
 abbrev pub StepsAs : WalkState → Stage → WalkState → Type 0
-StepsAs old Before new = new ≡ old
+StepsAs old Before new = ⊥
 StepsAs old (Open page) new =
-    HandsOut old (record { page = old.cursor.page; row = old.cursor.row; pels = page.shown }) new
-StepsAs old (Ended end) new = HasEnded old end new
+    HandsOut old (record { page = page.page; row = row_of page - 1; pels = page.shown }) new × (0 < row_of page)
+StepsAs old (Ended end read) new = HasEnded old end new
 
 abbrev pub IsStep : WalkState → WalkState → Type 0
 IsStep old new = StepsAs old new.stage new
@@ -64,9 +79,10 @@ IsStep old new = StepsAs old new.stage new
 abbrev pub item_of : Place × Bor (List Colour) → Item
 item_of found = record { page = found.0.page; row = found.0.row; pels = found.1.now }
 
--- what a call for the next row answers, and what it leaves
+-- what a call for the next row answers, and what it leaves: memory is refused only where a page is entered
 abbrev pub IsNext : WalkState → Result (Option (Place × Bor (List Colour))) WalkFault → WalkState → Type 0
 IsNext old (Ok (Some found)) new = HandsOut old (item_of found) new
 IsNext old (Ok None) new = HasEnded old Proper new
 IsNext old (Err (AtRow page row cause)) new = HasEnded old (Fault page row cause) new
-IsNext old (Err Memory) new = new ≡ old
+IsNext old (Err CursorOutside) new = HasEnded old Outside new
+IsNext old (Err Memory) new = (new ≡ old) × IsEntering old.stage

@@ -1,0 +1,130 @@
+-- Pages as they become due.
+use Rattle.std.specs.Prelude.{◌≡◌, ℕ, ◌+◌, ◌<◌, ◌≤◌, ◌⊎◌, List, [], length, drop, Option, Some, None, Result, Ok, Err, slice_get, ⊤}
+use Rattle.fax_files.specs.declared.FileFault.{FileFault}
+use Rattle.fax_files.specs.declared.Cause.TheVariants.{File}
+use Rattle.fax_files.specs.declared.PageForm.{PageForm}
+use Rattle.fax_files.specs.Numbers.{header}
+use Rattle.fax_files.specs.Chain.{IsChain}
+use Rattle.fax_files.specs.Page.{IsPageForm, page}
+use Rattle.fax_files.specs.code.Chain.{ChainState}
+use Rattle.fax_files.specs.code.Tiff.{TiffDirectory, directory_of, form_of}
+use Rattle.fax_walk.specs.declared.cursor.Cursor.{Cursor}
+use Rattle.fax_walk.specs.declared.end.End.{End}
+use Rattle.fax_walk.specs.declared.end.End.TheVariants.{Proper, Fault, Outside}
+use Rattle.fax_walk.specs.declared.opening.OpenFault.{OpenFault}
+use Rattle.fax_walk.specs.declared.opening.OpenFault.TheVariants.{Memory, Ended}
+use Rattle.fax_walk.specs.Items.{Item, AreFromRow}
+use Rattle.fax_walk.specs.Tail.{IsTail}
+use Rattle.fax_walk.specs.Forms.{FormItem, ArePagesForms, IsFormThen, IsFormTail}
+use Rattle.fax_walk.specs.code.Stages.{PageState, row_of, skipped}
+use Rattle.fax_walk.specs.code.Due.{ArePagesBehind, IsOpen, place_number}
+
+-- a page that is due: its number, the chain behind its directory, its directory and its form
+pub record PageDue : Type 0 where
+  pub page : ℕ
+  pub chain : ChainState
+  pub directory : TiffDirectory
+  pub form : PageForm
+
+-- the directory is the last one that the chain has handed out, and it has this form
+pub record IsPageDue (number : ℕ) (chain : ChainState) (directory : TiffDirectory) (form : PageForm) : Type 0 where
+  pub behind : chain.given ≡ number + 1
+  pub directory_is : directory ≡ directory_of chain.tiff directory.offset
+  pub form_is : form_of directory ≡ Ok form
+  pub limits : IsPageForm form
+
+-- the forms of the pages behind the directories that a chain has handed out
+abbrev pub AreFormsBehind : ChainState → List FormItem → End → Type 0
+AreFormsBehind chain forms end =
+    (offsets : List ℕ) × (fault : Option FileFault) × IsChain chain.tiff.head chain.tiff.file offsets fault
+    × ArePagesForms chain.tiff.head.endian chain.tiff.file fault chain.given (drop chain.given offsets) forms end
+
+-- the items of a page that is due, from this row on, and of those behind it
+abbrev pub AreDueFrom : PageDue → ℕ → List Item → End → Type 0
+AreDueFrom due first items end =
+    AreFromRow due.directory.endian due.directory.file due.directory.offset due.form due.page first (ArePagesBehind due.chain)
+    items end
+
+-- no page was opened: where memory was not refused, nothing was due but this end
+abbrev pub IsRefusal : (List Item → End → Type 0) → OpenFault → Type 0
+IsRefusal due Memory = ⊤
+IsRefusal due (Ended end) = due [] end
+
+-- the page is open with this row as the first that is handed out, and so many rows were read before
+pub record IsOpenedAt (due : PageDue) (first read : ℕ) (page : PageState) : Type 0 where
+  pub is_open : IsOpen page
+  pub same_page : page.page ≡ due.page
+  pub first_is : row_of page + skipped page ≡ first
+  pub read_is : page.read ≡ read
+
+-- the page behind the directories that a chain has handed out is open at its first row, and so many rows were read before
+--
+pub record IsOpenedBehind (chain : ChainState) (read : ℕ) (page : PageState) : Type 0 where
+  pub is_open : IsOpen page
+  pub same_page : page.page ≡ chain.given
+  pub first_is : row_of page + skipped page ≡ 0
+  pub read_is : page.read ≡ read
+
+-- what a chain's next page is, in a file with these directories: a page, none behind the last one, or the fault in its
+-- place
+abbrev pub IsAnswerOver : ChainState → List ℕ → Option FileFault → Result (Option PageDue) End → Type 0
+IsAnswerOver chain offsets fault (Ok (Some due)) = slice_get offsets chain.given ≡ Some due.directory.offset
+IsAnswerOver chain offsets fault (Ok None) = (slice_get offsets chain.given ≡ None) × (fault ≡ None)
+IsAnswerOver chain offsets fault (Err end) =
+    ((met : FileFault) × (slice_get offsets chain.given ≡ None) × (fault ≡ Some met) × (end ≡ Fault chain.given 0 (File met)))
+    ⊎ ((q : ℕ) × (refused : FileFault) × (slice_get offsets chain.given ≡ Some q)
+    × (page chain.tiff.head.endian chain.tiff.file q ≡ Err refused) × (end ≡ Fault chain.given 0 (File refused)))
+
+-- a page that is due is the next one of the chain
+abbrev pub IsNextOf : ChainState → Result (Option PageDue) End → Type 0
+IsNextOf chain (Ok (Some due)) = (due.page ≡ chain.given) × (due.chain ≡ record chain { given = chain.given + 1 })
+IsNextOf chain _ = ⊤
+
+-- what a chain's next page is
+pub record IsPageAnswer (chain : ChainState) (answer : Result (Option PageDue) End) : Type 0 where
+  pub next : IsNextOf chain answer
+  pub over : (offsets : List ℕ) (fault : Option FileFault) → IsChain chain.tiff.head chain.tiff.file offsets fault
+      → IsAnswerOver chain offsets fault answer
+
+-- a file's chain, before the directory of this number
+pub record IsChainBefore (file : List ℕ) (number : ℕ) (chain : ChainState) : Type 0 where
+  pub head : header file ≡ Ok chain.tiff.head
+  pub file_is : chain.tiff.file ≡ file
+  pub given : chain.given ≡ number
+  pub within : (offsets : List ℕ) (fault : Option FileFault) → IsChain chain.tiff.head chain.tiff.file offsets fault
+      → number ≤ length offsets
+
+-- from a cursor on there are no rows and no pages, and they end so
+abbrev pub EndsAt : List ℕ → Cursor → End → Type 0
+EndsAt file at end = IsTail file at [] end × IsFormTail file at [] end
+
+-- there is no page of this number, and from any row of it on there is nothing but this end
+abbrev pub IsEndBefore : List ℕ → ℕ → End → Type 0
+IsEndBefore file number end = (row : ℕ) → EndsAt file (record { page = number; row = row }) end
+
+-- a page is the one that a cursor names
+pub record IsPageOf (file : List ℕ) (at : Cursor) (due : PageDue) : Type 0 where
+  pub same_page : due.page ≡ at.page
+  pub within : at.row ≤ due.form.rows
+  pub from_row : (items : List Item) (end : End) → at.row < due.form.rows → AreDueFrom due at.row items end → IsTail file at items end
+  pub from_next : (items : List Item) (end : End) → at.row ≡ due.form.rows → ArePagesBehind due.chain items end → IsTail file at items end
+  pub form_first : (forms : List FormItem) (end : End) → at.row ≡ 0 → IsFormThen due.page due.form (AreFormsBehind due.chain) forms end
+      → IsFormTail file at forms end
+  pub form_next : (forms : List FormItem) (end : End) → 0 < at.row → AreFormsBehind due.chain forms end → IsFormTail file at forms end
+
+-- what a cursor names: a page, or the place behind the last one
+abbrev pub IsPageAt : List ℕ → Cursor → Option PageDue → Type 0
+IsPageAt file at (Some due) = IsPageOf file at due
+IsPageAt file at None = EndsAt file at Proper
+
+-- a reader of pages from a cursor begins with this page
+pub record BeginsWith (file : List ℕ) (at : Cursor) (due : PageDue) : Type 0 where
+  pub forms : (forms : List FormItem) (end : End) → IsFormThen due.page due.form (AreFormsBehind due.chain) forms end
+      → IsFormTail file at forms end
+  pub behind : place_number at.page at.row ≤ place_number due.page 0
+
+-- what a reader of pages from a cursor begins with: a page, or the end of the pages
+abbrev pub IsFirstPage : List ℕ → Cursor → Result (Option PageDue) End → Type 0
+IsFirstPage file at (Ok (Some due)) = BeginsWith file at due
+IsFirstPage file at (Ok None) = IsFormTail file at [] Proper
+IsFirstPage file at (Err end) = IsFormTail file at [] end

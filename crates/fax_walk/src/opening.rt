@@ -1,0 +1,118 @@
+//! The pages of a file, from its header and its chain of directories on.
+ghost use Rattle.std.specs.Prelude.{◌≡◌, ◌+◌, ◌<◌, ◌≤◌, List, [], IfErr, IfOk, OnErr, OnOk};
+ghost use Rattle.fax_files.specs.Numbers.{header};
+ghost use Rattle.fax_walk.specs.code.Opening as Spec;
+
+use crate::{Cursor, End};
+use fax_bits::Memory;
+use fax_files::{Chain, Directory, FileFault, PageForm, Tiff};
+use std::marker::Model;
+
+/// Why a page could not be opened.
+#[derive(Clone, Copy)]
+pub(crate) enum OpenFault {
+    /// A growth was refused.
+    Memory,
+    /// There is no such page: the rows end so.
+    Ended(End),
+}
+
+impl From<Memory> for OpenFault {
+    ghost use Rattle.fax_walk.specs.declared.opening.OpenFault.TheVariants.{Memory as NoMemory};
+
+    ghost from_gives = { λ _ gives. gives ≡ NoMemory };
+
+    fn from(_refused: Memory) -> Self {
+        OpenFault::Memory
+    }
+}
+
+impl From<End> for OpenFault {
+    ghost use Rattle.fax_walk.specs.declared.opening.OpenFault.TheVariants.{Ended};
+
+    ghost from_gives = { λ end gives. gives ≡ Ended end };
+
+    fn from(end: End) -> Self {
+        OpenFault::Ended(end)
+    }
+}
+
+/// A page that is due, and whose strips are not looked at yet.
+#[derive(Drop)]
+pub(crate) struct DuePage<'a> {
+    pub(crate) page: u32,
+    /// The chain behind the page's directory.
+    pub(crate) chain: Chain<'a>,
+    pub(crate) directory: Directory<'a>,
+    pub(crate) form: PageForm,
+}
+
+impl<'a> Model for DuePage<'a> {
+    ghost use Rattle.fax_walk.specs.code.Opening.{PageDue, IsPageDue};
+
+    ghost Value = { PageDue };
+
+    ghost view = { λ p. record {
+      page = p.page;
+      chain = p.chain;
+      directory = p.directory;
+      form = p.form;
+    } };
+
+    ghost invariant = { λ p. IsPageDue p.page p.chain p.directory p.form };
+}
+
+/// The chain of a file's directories, before the one of this number, or how the rows end where
+/// there are fewer before it.
+pub(crate) fn chain_before<'a>(file: &'a [u8], page: u32) -> Result<Chain<'a>, End>
+    ensures ok { IfOk result (λ chain. Spec.IsChainBefore file.now page chain) }
+    ensures err { IfErr result (λ end. Spec.IsEndBefore file.now page end) }
+{
+    let tiff = match Tiff::read_header(file) {
+        Ok(tiff) => tiff,
+        Err(fault) => return Err(End::of_file(0, 0, fault)),
+    };
+    fax_files::laws::files_have_one_chain();
+    let mut chain = Chain::new(tiff);
+    for number in 0..page {
+        match chain.next() {
+            Ok(Some(_)) => {}
+            Ok(None) => return Err(End::Outside),
+            Err(fault) => return Err(End::of_file(number, 0, fault)),
+        }
+    }
+    Ok(chain)
+}
+
+impl<'a> DuePage<'a> {
+    /// The page that is due behind the directories that a chain has handed out, or none behind the
+    /// last one, or the fault in its place.
+    pub(crate) fn behind(mut chain: Chain<'a>) -> Result<Option<Self>, End>
+        ensures { Spec.IsPageAnswer chain.entry result }
+    {
+        let page = chain.given();
+        let directory = match chain.next() {
+            Ok(Some(directory)) => directory,
+            Ok(None) => return Ok(None),
+            Err(fault) => return Err(End::of_file(page, 0, fault)),
+        };
+        match directory.page() {
+            Ok(form) => Ok(Some(DuePage { page, chain, directory, form })),
+            Err(fault) => Err(End::of_file(page, 0, fault)),
+        }
+    }
+
+    /// The page that a cursor names, or none behind the last page, or how the rows end where the
+    /// cursor names no place of the file.
+    pub(crate) fn at(file: &'a [u8], cursor: Cursor) -> Result<Option<Self>, End>
+        ensures ok { IfOk result (Spec.IsPageAt file.now cursor) }
+        ensures err { IfErr result (Spec.EndsAt file.now cursor) }
+    {
+        let chain = chain_before(file, cursor.page)?;
+        match DuePage::behind(chain)? {
+            Some(page) if cursor.row > page.form.rows => Err(End::Outside),
+            None if cursor.row > 0 => Err(End::Outside),
+            answer => Ok(answer),
+        }
+    }
+}
