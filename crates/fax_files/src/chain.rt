@@ -19,6 +19,14 @@ struct Round {
     len: u64,
 }
 
+/// What is known of the page at which a chain turns back: a search is at an offset, or it has
+/// ended.
+#[derive(Clone, Copy)]
+enum Search {
+    Running(u32),
+    Known(Option<u32>),
+}
+
 /// The offset behind the directory at an offset, or none where no directory stands.
 fn onward(tiff: &Tiff, offset: u32) -> Option<u32>
     ensures { result ≡ Spec.onward tiff.now.head.endian tiff.now.file offset }
@@ -67,14 +75,6 @@ fn first_turn(tiff: &Tiff, round: Round) -> u64
         page += 1;
     }
     page
-}
-
-/// What is known of the page at which a chain turns back: a search is at an offset, or it has
-/// ended.
-#[derive(Clone, Copy)]
-enum Search {
-    Running(u32),
-    Known(Option<u32>),
 }
 
 /// The length of the loop on which a place lies, which is met again after as many steps.
