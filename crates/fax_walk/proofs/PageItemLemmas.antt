@@ -68,9 +68,6 @@ module _ (endian : Endian) (file : List ℕ) (q : ℕ) (form : PageForm) (limits
   first_strip s rows strips end (due, bytes, Some stop, there, strip, inr (fault, some, none, end_is)) =
       (limits.needed s due, inr (_, strip_count (strip_form form s) _ rows (Some stop) strip, none, end_is))
 
-  step : (s more : ℕ) → (s + 1) * in_strip ≡ s * in_strip + in_strip
-  step s more = omega arith
-
   -- how many rows of the page come before the end of its strips
   pub total : (s : ℕ) (strips : List (List (List Colour))) (end : Option Cause) → AreStrips endian file q form s strips end
       → IsCount end (min (s * in_strip) form.rows + length (joined strips)) form.rows
