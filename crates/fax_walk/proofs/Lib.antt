@@ -5,8 +5,10 @@ pub mod TailLemmas
 pub mod FormLemmas
 pub mod OneFormLemmas
 pub mod PrintedLemmas
+pub mod BehindLemmas
 pub mod CursorLemmas
 pub mod DueLemmas
 pub mod EndingLemmas
+pub mod OpenLemmas
 pub mod OpeningLemmas
 pub mod PageAtLemmas

@@ -39,7 +39,7 @@ from_row_so endian file q form p r behind behind' same items end from = record {
   follows = follows_so p behind behind' same from.stop from.others end from.follows;
 }
 
-form_then_so : (p : ℕ) (form : PageForm) (behind behind' : List FormItem → End → Type 0)
+pub form_then_so : (p : ℕ) (form : PageForm) (behind behind' : List FormItem → End → Type 0)
     → ((forms : List FormItem) (end : End) → behind forms end → behind' forms end)
     → (forms : List FormItem) (end : End) → IsFormThen p form behind forms end → IsFormThen p form behind' forms end
 form_then_so p form behind behind' same forms end first =

@@ -77,7 +77,9 @@ IsAnswerOver chain offsets fault (Err end) =
 
 -- a page that is due is the next one of the chain
 abbrev pub IsNextOf : ChainState → Result (Option PageDue) End → Type 0
-IsNextOf chain (Ok (Some due)) = (due.page ≡ chain.given) × (due.chain ≡ record chain { given = chain.given + 1 })
+IsNextOf chain (Ok (Some due)) =
+    (due.page ≡ chain.given) × (due.chain ≡ record chain { given = chain.given + 1 })
+    × IsPageDue due.page due.chain due.directory due.form
 IsNextOf chain _ = ⊤
 
 -- what a chain's next page is
