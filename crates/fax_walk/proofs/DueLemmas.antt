@@ -344,6 +344,7 @@ row_given old now new skips reads behind =
     record {
       due = λ items end due. rw (row, skips.same_page) at (skips.due _ end (reads.due items end none due));
       next_row = omega (arith, reads.next_row, row);
+      within = let due = skips.row_due in omega (arith, due, reads.next_row, ap (λ (f : PageForm). f.rows) reads.same_form);
       none_skipped = omega (arith, behind);
       same_page = reads.same_page ∙ skips.same_page;
       still_open = reads.still_open;

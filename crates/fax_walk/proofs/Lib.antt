@@ -12,3 +12,4 @@ pub mod EndingLemmas
 pub mod OpenLemmas
 pub mod OpeningLemmas
 pub mod PageAtLemmas
+pub mod WalkLemmas

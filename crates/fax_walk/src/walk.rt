@@ -126,7 +126,8 @@ impl<'a> Walk<'a> {
         let opened = match &self.stage {
             Stage::Before => open_at(self.alloc, self.file, self.cursor),
             Stage::Open(page) if page.is_read() => page.open_next(self.alloc),
-            Stage::Open(_) | Stage::Ended(..) => return Ok(()),
+            Stage::Open(_) => return Ok(()),
+            Stage::Ended(..) => return Ok(()),
         };
         match opened {
             Ok(page) => self.stage = Stage::Open(page),

@@ -53,6 +53,7 @@ IsRefusal due (Ended end) = due [] end
 -- the page is open with this row as the first that is handed out, and so many rows were read before
 pub record IsOpenedAt (due : PageDue) (first read : ℕ) (page : PageState) : Type 0 where
   pub is_open : IsOpen page
+  pub row_due : row_of page < page.form.rows
   pub same_page : page.page ≡ due.page
   pub first_is : row_of page + skipped page ≡ first
   pub read_is : page.read ≡ read
@@ -61,6 +62,7 @@ pub record IsOpenedAt (due : PageDue) (first read : ℕ) (page : PageState) : Ty
 --
 pub record IsOpenedBehind (chain : ChainState) (read : ℕ) (page : PageState) : Type 0 where
   pub is_open : IsOpen page
+  pub row_due : row_of page < page.form.rows
   pub same_page : page.page ≡ chain.given
   pub first_is : row_of page + skipped page ≡ 0
   pub read_is : page.read ≡ read
