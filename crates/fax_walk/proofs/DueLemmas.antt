@@ -118,7 +118,7 @@ module _ (old : PageState) (strip : StripState) (handed : List Colour) (reads : 
     same_page = refl;
     same_first = refl;
     same_form = refl;
-    still_open = record { no_fault = reads.still_no_fault; limits = at.limits; first = at.first };
+    still_open = record { no_fault = reads.still_no_fault; limits = at.limits; first = at.first; page_number = at.page_number };
     one_more = refl;
   }
 
@@ -293,6 +293,7 @@ kept_open old now keeps at = record {
   no_fault = keeps.no_fault;
   limits = rw keeps.same_form at.limits;
   first = rw (keeps.same_form, keeps.same_first) at.first;
+  page_number = rw keeps.same_page at.page_number;
 }
 
 -- a row is read from a page that was kept

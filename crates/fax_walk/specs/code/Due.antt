@@ -90,6 +90,7 @@ pub record IsOpen (page : PageState) : Type 0 where
   pub no_fault : page.strip.fault ≡ None
   pub limits : IsPageForm page.form
   pub first : page.first < page.form.rows
+  pub page_number : page.page < 2 ^ 32
 
 -- the places of rows, numbered by page and then by row
 abbrev pub place_number : ℕ → ℕ → ℕ
