@@ -206,6 +206,7 @@ module _ (page : PageState) (limits : IsPageForm page.form) (form_is : page.stri
       all_rows : (page.form.rows ≤ page.form.strips * page.form.rows_per_strip)
           × (page.form.strips * page.form.rows_per_strip < page.form.rows + page.form.rows_per_strip)
       all_rows = rw limits.strips (div_ceil_times page.form.rows page.form.rows_per_strip limits.some_rows_per_strip)
+
       by_order : (page.number + 1 < page.form.strips) ⊎ (page.form.strips ≤ page.number + 1) → page.number + 1 ≡ page.form.strips
       by_order (inl more) =
           let above : page.number + 2 ≤ page.form.strips = omega (arith, more) in

@@ -12,4 +12,5 @@ pub mod EndingLemmas
 pub mod OpenLemmas
 pub mod OpeningLemmas
 pub mod PageAtLemmas
+pub mod PagesLemmas
 pub mod WalkLemmas

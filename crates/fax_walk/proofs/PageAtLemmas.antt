@@ -116,14 +116,14 @@ module _ (chain : ChainState) (good : header chain.tiff.file ≡ Ok chain.tiff.h
     same_page = same_page ∙ given;
     within = within;
     from_row = λ items end below from.
-    let own = rw (directory_is, same_page, given) at from in
-    rw good (one.offsets, one.end, one.is, rw (some, form_is) (inr (inr (below, from_row_so _ _ _ _ _ _ _ _ behind items end own))));
+        let own = rw (directory_is, same_page, given) at from in
+        rw good (one.offsets, one.end, one.is, rw (some, form_is) (inr (inr (below, from_row_so _ _ _ _ _ _ _ _ behind items end own))));
     from_next = λ items end last are. rw good (one.offsets, one.end, one.is, rw (some, form_is) (inr (inl (last, behind items end are))));
     form_first = λ forms end first then.
-    let own = rw (same_page, given) at then in
-    rw good (one.offsets, one.end, one.is, rw (some, form_is) (inr (inr (first, form_then_so _ _ _ _ forms_behind forms end own))));
+        let own = rw (same_page, given) at then in
+        rw good (one.offsets, one.end, one.is, rw (some, form_is) (inr (inr (first, form_then_so _ _ _ _ forms_behind forms end own))));
     form_next = λ forms end later are.
-    rw good (one.offsets, one.end, one.is, rw (some, form_is) (inr (inl (later, within, forms_behind forms end are))));
+        rw good (one.offsets, one.end, one.is, rw (some, form_is) (inr (inl (later, within, forms_behind forms end are))));
   }
 
 -- the chain of a file, before the directory of a cursor's page, and what its next page is

@@ -55,11 +55,7 @@ impl<'a> Model for Walk<'a> {
 }
 
 /// Opens the page of a cursor's row, or the next one where it stands behind a page's last row.
-fn open_at<'a>(
-    alloc: Global,
-    file: &'a [u8],
-    cursor: Cursor,
-) -> Result<OpenPage<'a>, OpenFault>
+fn open_at<'a>(alloc: Global, file: &'a [u8], cursor: Cursor) -> Result<OpenPage<'a>, OpenFault>
     ensures opened { IfOk result (Due.IsOpenedFor cursor) }
     ensures items { IfOk result (λ page. (items : List Item) (end : End)
         → Due.IsDueOnPage page items end → IsTail file.now cursor items end) }

@@ -17,7 +17,7 @@ use Rattle.fax_walk.specs.Items.{Item, AreFromRow}
 use Rattle.fax_walk.specs.Tail.{IsTail}
 use Rattle.fax_walk.specs.Forms.{FormItem, ArePagesForms, IsFormThen, IsFormTail}
 use Rattle.fax_walk.specs.code.Stages.{PageState, row_of, skipped}
-use Rattle.fax_walk.specs.code.Due.{ArePagesBehind, IsOpen, place_number}
+use Rattle.fax_walk.specs.code.Due.{ArePagesBehind, IsOpen}
 
 -- a page that is due: its number, the chain behind its directory, its directory and its form
 pub record PageDue : Type 0 where
@@ -120,15 +120,3 @@ pub record IsPageOf (file : List ℕ) (at : Cursor) (due : PageDue) : Type 0 whe
 abbrev pub IsPageAt : List ℕ → Cursor → Option PageDue → Type 0
 IsPageAt file at (Some due) = IsPageOf file at due
 IsPageAt file at None = EndsAt file at Proper
-
--- a reader of pages from a cursor begins with this page
-pub record BeginsWith (file : List ℕ) (at : Cursor) (due : PageDue) : Type 0 where
-  pub forms : (forms : List FormItem) (end : End) → IsFormThen due.page due.form (AreFormsBehind due.chain) forms end
-      → IsFormTail file at forms end
-  pub behind : place_number at.page at.row ≤ place_number due.page 0
-
--- what a reader of pages from a cursor begins with: a page, or the end of the pages
-abbrev pub IsFirstPage : List ℕ → Cursor → Result (Option PageDue) End → Type 0
-IsFirstPage file at (Ok (Some due)) = BeginsWith file at due
-IsFirstPage file at (Ok None) = IsFormTail file at [] Proper
-IsFirstPage file at (Err end) = IsFormTail file at [] end
