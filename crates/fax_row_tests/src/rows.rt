@@ -5,6 +5,7 @@ use std::process::Abort;
 use std::test::Fail;
 
 mod caller;
+mod first_other;
 mod put;
 
 /// 25 times 2,560 white pels, then 1,472 and 63.

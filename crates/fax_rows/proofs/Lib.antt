@@ -1,3 +1,4 @@
+pub mod FirstOtherLemmas
 pub mod PackedLemmas
 pub mod PackedLaws
 pub mod PlaceLemmas

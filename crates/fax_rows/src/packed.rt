@@ -7,7 +7,9 @@ ghost use Rattle.fax_bits.specs.declared.FillOrder.TheVariants.{MsbFirst};
 ghost use Rattle.fax_rows.specs.Packed as Spec;
 ghost use Rattle.fax_rows.specs.code.Turns.{row_of, IsAscending};
 
+use crate::lanes::first_other;
 use crate::pels::Row;
+use crate::runs::other;
 use crate::turns::{close, turn};
 use fax_bits::laws::bits_stand_by_place;
 use fax_bits::{Colour, Memory};
@@ -83,28 +85,11 @@ fn places_of_bits(bytes: &[u8], places: &mut [u32], width: u32) -> usize
     bits_stand_by_place();
     let mut end = 1;
     let mut colour = Colour::White;
-    for i in 0..width {
-        let pel = colour_of(bit(bytes, i));
-        if pel != colour {
-            end = turn(places, end, i);
-            colour = pel;
-        }
+    let mut at = first_other(bytes, 0, colour);
+    while at < u64::from(width) {
+        end = turn(places, end, at as u32);
+        colour = other(colour);
+        at = first_other(bytes, at + 1, colour);
     }
     end
-}
-
-/// Bit `i` of the bytes, the highest of each byte first.
-fn bit(bytes: &[u8], i: u32) -> bool
-    requires { i < 8 * length bytes.now }
-    ensures { result ≡ slice_index_or (bits MsbFirst bytes.now) i false }
-{
-    bits_stand_by_place();
-    (bytes[(i / 8) as usize] >> (7 - i % 8)) & 1 == 1
-}
-
-/// The colour of a pel whose bit this is.
-fn colour_of(bit: bool) -> Colour
-    ensures { result ≡ Spec.colour_of_bit bit }
-{
-    if bit { Colour::Black } else { Colour::White }
 }
