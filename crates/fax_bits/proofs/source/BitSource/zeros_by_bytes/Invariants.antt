@@ -1,6 +1,6 @@
 use Rattle.std.proofs.Common.{◌≤◌, ◌-◌}
 use Rattle.fax_bits.proofs.ZeroLemmas.{IsZeroBelow}
-use Rattle.fax_bits.proofs.source.BitSource.zeros.Given as goal
+use Rattle.fax_bits.proofs.source.BitSource.zeros_by_bytes.Given as goal
 
 abbrev pub invariant-loop-zeros : goal.invariant-loop-zeros
 invariant-loop-zeros l = record {
