@@ -1,9 +1,15 @@
 //! A run over bytes in memory, with all that a caller learns of it.
 
-use crate::{Command, FromRead, Job, ToWrite, run};
+use crate::{Command, Cursor, FromRead, Job, Part, ToWrite, run};
 use std::alloc::Global;
 
-/// What a run of `rows` printed.
+/// All of a file.
+pub const WHOLE: Part = Part {
+    cursor: Cursor { page: 0, row: 0 },
+    max: None,
+};
+
+/// What a run printed.
 #[derive(Drop)]
 pub struct Printed {
     pub output: Vec<u8>,
@@ -21,7 +27,7 @@ pub fn rows_of(alloc: Global, file: &[u8]) -> Printed
         → IsPrinted file.now result.output.items result.error.items result.status }
 {
     let job = Job {
-        command: Command::Rows,
+        command: Command::Rows(WHOLE),
         file: None,
     };
     let mut input = FromRead::new(file);
