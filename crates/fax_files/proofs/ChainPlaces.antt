@@ -98,10 +98,7 @@ module _ (endian : Endian) (file : List ℕ) where
   by_tests false false true end e = absurd cc
   by_tests false false false end e = inr (inl (refl, refl, cc))
 
-  -- an offset that is met again is one of those before or stands in the chain
-  IsMet : List ℕ → ℕ → ℕ → Type 0
-  IsMet before due n = (list_any (λ q. link endian file due n == q) before ≡ true) ⊎ ((j : ℕ) × (j < n) × (link endian file due n ≡ link endian file due j))
-
+  -- the same behind offsets that stood before: one that is met again is one of those or stands in the chain
   abbrev EndsBehind : List ℕ → ℕ → ℕ → Option FileFault → Type 0
   EndsBehind before due n end =
       (((link endian file due n == 0) ≡ true) × (end ≡ None))

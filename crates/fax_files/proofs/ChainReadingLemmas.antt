@@ -1,7 +1,6 @@
 -- What a reader of a chain answers.
-use Rattle.std.proofs.Common.{◌≡◌, ℕ, zero, suc, ◌+◌, ◌^◌, ◌<◌, ◌≤◌, ◌≢◌, inl, inr, true, false, eqb, List, [], ◌∷◌, length, Option, Some, None, Result, Ok, Err, refl, sym, ap, ◌∙◌, arith}
+use Rattle.std.proofs.Common.{◌≡◌, ℕ, zero, suc, ◌+◌, ◌^◌, ◌<◌, ◌≤◌, ◌≢◌, inl, inr, true, false, List, [], ◌∷◌, length, Option, Some, None, Result, Ok, Err, refl, sym, ap, ◌∙◌, arith}
 use Rattle.std.specs.Prelude.{◌==◌, slice_get}
-use Rattle.std.specs.Option.{option_eq}
 use Rattle.std.proofs.lemmas.Bool.{cases_lt}
 use Rattle.std.proofs.lemmas.Bool.Decides.{nat_tests}
 use Rattle.fax_files.specs.declared.FileFault.{FileFault}
@@ -23,14 +22,6 @@ turning : (end : Option FileFault) (pages given : ℕ) → Some given ≡ turnin
 turning None pages given e = absurd cc
 turning (Some DirectoryLoop) pages given e = (refl, cc)
 turning (Some _) pages given e = absurd cc
-
-pub is_turn : (turn : Option ℕ) (given : ℕ) → option_eq eqb turn (Some given) ≡ true → turn ≡ Some given
-is_turn None given e = absurd cc
-is_turn (Some page) given e = let same : page ≡ given = grind (arith, nat_tests) in ap (λ (n : ℕ). Some n) same
-
-pub is_no_turn : (turn : Option ℕ) (given : ℕ) → option_eq eqb turn (Some given) ≡ false → turn ≢ Some given
-is_no_turn None given e = λ same. cc
-is_no_turn (Some page) given e = λ same. let equal : page ≡ given = cc in absurd (grind (arith, nat_tests))
 
 no_directory : (tiff : TiffFile) (directory : TiffDirectory) (end : Option FileFault)
     → (let r : Result (Option TiffDirectory) FileFault = Ok (Some directory) in r) ≡ answer_at tiff None end → ⊥

@@ -1,5 +1,5 @@
 -- The form of a page that is not refused.
-use Rattle.std.proofs.Common.{◌≡◌, ◌≢◌, ℕ, ◌+◌, ◌*◌, ◌^◌, ◌-◌, ◌<◌, ◌≤◌, min, Bool, true, false, ◌&&◌, not, List, Result, Ok, refl, ap, subst, arith}
+use Rattle.std.proofs.Common.{◌≡◌, ◌≢◌, ℕ, ◌^◌, ◌-◌, ◌≤◌, min, Bool, true, false, ◌&&◌, not, List, Result, Ok, refl, subst, arith}
 use Rattle.std.specs.Prelude.{◌==◌, nat_le}
 use Rattle.std.proofs.lemmas.Bool.Decides.{nat_tests}
 use Rattle.std.proofs.lemmas.Grind.{div_ceil_times}
@@ -49,6 +49,9 @@ some_in_strip endian file fields rows in_strip some e =
     let same : min found.0 rows ≡ in_strip = ok_injective (min found.0 rows) in_strip test.1 in
     omega arith
 
+same_form : (made form : PageForm) → (let r : Result PageForm FileFault = Ok made in r) ≡ Ok form → IsWholeForm made → IsWholeForm form
+same_form made form e whole = subst (λ (f : PageForm). IsWholeForm f) (ok_injective made form e) whole
+
 -- a form within the limits
 pub forms_are_whole : FormsAreWhole
 unfolding page
@@ -68,4 +71,4 @@ forms_are_whole endian file q form e =
       enough = (div_ceil_times size.0.1 rows.0 some).0;
       needed = λ s below. strip_begins_before size.0.1 rows.0 s some below;
     } in
-    subst (λ (f : PageForm). IsWholeForm f) (ok_injective _ _ counts.2) found
+    same_form (form_of endian file fields size.0 pels.0 rows.0 coding.0) form counts.2 found

@@ -1,5 +1,5 @@
 -- Where a chain turns back.
-use Rattle.std.proofs.Common.{◌≡◌, ℕ, zero, suc, ◌+◌, ◌-◌, ◌^◌, ◌<◌, ◌≤◌, ◌≢◌, inl, inr, Bool, true, false, List, length, Option, Some, None, refl, sym, ap, ◌∙◌, subst, arith}
+use Rattle.std.proofs.Common.{◌≡◌, ℕ, zero, suc, ◌+◌, ◌-◌, ◌^◌, ◌<◌, ◌≤◌, ◌≢◌, inl, inr, Bool, true, false, List, length, Option, Some, None, refl, sym, ap, ◌∙◌, arith}
 use Rattle.std.specs.Prelude.{◌==◌, if◌then◌else◌}
 use Rattle.std.proofs.lemmas.Bool.{cases_lt}
 use Rattle.fax_files.specs.declared.FileFault.{FileFault}
@@ -114,19 +114,6 @@ module _ (tiff : TiffFile) where
       | inr (inr e) ↦ cc (leads_everywhere e.0 e.1 e.2 t, none)
     ]
 
-    -- a place past whose double nothing came again is on no loop
-    pub still_early : (start : ℕ) → ((i : ℕ) → i < start + (start + 1) → LeadsOn tiff i)
-        → ((i : ℕ) → 0 < i → i ≤ start + 1 → place tiff (start + i) ≢ place tiff start) → start < n
-    still_early start on fresh = elim (cases_lt start n) [
-      | inl early ↦ early
-      | inr late ↦
-          let turn = turns (on n (omega arith)) in
-          let j = turn.0 in
-          let earlier : j < n = turn.1 in
-          absurd (fresh (n - j) (omega arith) (omega arith)
-          (along_places n j (start - j) (start + (n - j)) start (omega arith) (omega arith) turn.2))
-    ]
-
     module _ (start len page : ℕ) (round : IsRound tiff start len) (turn : IsTurn tiff len page) where
       some : 0 < len
       some = round.some
@@ -211,42 +198,6 @@ module _ (tiff : TiffFile) where
 
   pub no_turning_page : HasNoLoop tiff → IsTurningPage tiff None
   no_turning_page none = λ offsets end is. not_turning end (length offsets) (none offsets end is)
-
-  -- a step of the search
-  pub start_below : HasFewPages tiff → (start : ℕ) → ((i : ℕ) → i < start + (start + 1) → LeadsOn tiff i)
-      → ((i : ℕ) → 0 < i → i ≤ start + 1 → place tiff (start + i) ≢ place tiff start) → start < 2 ^ 32
-  start_below few start on fresh =
-      let one = has_one_chain tiff.head tiff.file in
-      let early : start < length one.offsets = still_early one.offsets one.end one.is start on fresh in
-      let count : length one.offsets < 2 ^ 32 = few one.offsets one.end one.is in
-      omega arith
-
-  module _ (start steps due next : ℕ) (on : (i : ℕ) → i < start + steps → LeadsOn tiff i) (due_is : due ≡ place tiff (start + steps))
-      (led_to : onward tiff.head.endian tiff.file due ≡ Some next) where
-    here : (next ≡ place tiff (start + steps + 1)) × LeadsOn tiff (start + steps)
-    here = leads (start + steps) next (rw due_is at led_to)
-
-    pub next_is : next ≡ place tiff (start + (steps + 1))
-    next_is =
-        let n : start + steps + 1 ≡ start + (steps + 1) = omega arith in
-        here.0 ∙ ap (place tiff) n
-
-    pub on_more : (i : ℕ) → i < start + (steps + 1) → LeadsOn tiff i
-    on_more i h = elim (cases_lt i (start + steps)) [
-      | inl low ↦ on i low
-      | inr high ↦
-          let same : start + steps ≡ i = omega arith in
-          subst (λ (k : ℕ). LeadsOn tiff k) same here.1
-    ]
-
-    pub fresh_more : ((i : ℕ) → 0 < i → i ≤ steps → place tiff (start + i) ≢ place tiff start) → next ≢ place tiff start
-        → (i : ℕ) → 0 < i → i ≤ steps + 1 → place tiff (start + i) ≢ place tiff start
-    fresh_more fresh differs i some within = elim (cases_lt steps i) [
-      | inl high ↦
-          let same : steps + 1 ≡ i = omega arith in
-          λ e. differs (next_is ∙ ap (λ (k : ℕ). place tiff (start + k)) same ∙ e)
-      | inr low ↦ fresh i some low
-    ]
 
   pub turning_below : HasFewPages tiff → (start len page : ℕ) → IsRound tiff start len → IsTurn tiff len page → page + len < 2 ^ 32
   turning_below few start len page round turn =

@@ -19,6 +19,14 @@ struct Round {
     len: u64,
 }
 
+/// What is known of the page at which a chain turns back: a search is at an offset, or it has
+/// ended.
+#[derive(Clone, Copy)]
+enum Search {
+    Running(u32),
+    Known(Option<u32>),
+}
+
 /// The offset behind the directory at an offset, or none where no directory stands.
 fn onward(tiff: &Tiff, offset: u32) -> Option<u32>
     ensures { result ≡ Spec.onward tiff.now.head.endian tiff.now.file offset }
@@ -67,14 +75,6 @@ fn first_turn(tiff: &Tiff, round: Round) -> u64
         page += 1;
     }
     page
-}
-
-/// What is known of the page at which a chain turns back: a search is at an offset, or it has
-/// ended.
-#[derive(Clone, Copy)]
-enum Search {
-    Running(u32),
-    Known(Option<u32>),
 }
 
 /// The length of the loop on which a place lies, which is met again after as many steps.
@@ -165,7 +165,8 @@ impl<'a> Model for Chain<'a> {
 }
 
 impl<'a> Chain<'a> {
-    ghost use Rattle.fax_files.specs.code.Chain.{IsDueAnswer, behind_answer};
+    ghost use Rattle.std.specs.Prelude.{IfOk, IfSome};
+    ghost use Rattle.fax_files.specs.code.Chain.{IsDirectoryOf, IsDueAnswer, behind_answer};
 
     /// A reader of the directories of a file, before the first one. Nothing is read yet.
     pub fn new(tiff: Tiff<'a>) -> Self
@@ -207,7 +208,8 @@ impl<'a> Chain<'a> {
     /// `DirectoryLoop` where the offset that is due was handed out before, `DirectoryOutside`
     /// where no whole directory stands there.
     pub fn due(&self) -> Result<Option<Directory<'a>>, FileFault>
-        ensures { IsDueAnswer self.now result }
+        ensures answer { IsDueAnswer self.now result }
+        ensures file { IfOk result (λ found. IfSome found (IsDirectoryOf self.now.tiff)) }
     {
         if self.due == 0 {
             return Ok(None);
@@ -225,6 +227,7 @@ impl<'a> Chain<'a> {
     /// As `due`, from then on.
     pub fn next(&mut self) -> Result<Option<Directory<'a>>, FileFault>
         ensures answer { IsDueAnswer self.old result }
+        ensures file { IfOk result (λ found. IfSome found (IsDirectoryOf self.old.tiff)) }
         ensures counted { self.new ≡ behind_answer self.old result }
     {
         let answer = self.due()?;

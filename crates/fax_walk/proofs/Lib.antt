@@ -1,1 +1,12 @@
+pub mod PageItemLemmas
+pub mod StartLemmas
+pub mod OneTailLemmas
+pub mod TailLemmas
+pub mod FormLemmas
+pub mod OneFormLemmas
+pub mod PrintedLemmas
 pub mod CursorLemmas
+pub mod DueLemmas
+pub mod EndingLemmas
+pub mod OpeningLemmas
+pub mod PageAtLemmas

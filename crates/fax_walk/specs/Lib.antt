@@ -2,4 +2,5 @@ pub mod Cursor
 pub mod Items
 pub mod Tail
 pub mod Forms
+pub mod Laws
 pub mod code

@@ -3,6 +3,7 @@
 
 mod cursor;
 mod end;
+pub mod laws;
 mod opening;
 mod page;
 mod pages;

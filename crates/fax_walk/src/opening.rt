@@ -90,6 +90,7 @@ impl<'a> DuePage<'a> {
     pub(crate) fn behind(mut chain: Chain<'a>) -> Result<Option<Self>, End>
         ensures { Spec.IsPageAnswer chain.entry result }
     {
+        fax_files::laws::files_have_one_chain();
         let page = chain.given();
         let directory = match chain.next() {
             Ok(Some(directory)) => directory,
@@ -109,10 +110,17 @@ impl<'a> DuePage<'a> {
         ensures err { IfErr result (Spec.EndsAt file.now cursor) }
     {
         let chain = chain_before(file, cursor.page)?;
-        match DuePage::behind(chain)? {
-            Some(page) if cursor.row > page.form.rows => Err(End::Outside),
-            None if cursor.row > 0 => Err(End::Outside),
-            answer => Ok(answer),
+        fax_files::laws::files_have_one_chain();
+        let Some(page) = DuePage::behind(chain)? else {
+            return if cursor.row == 0 {
+                Ok(None)
+            } else {
+                Err(End::Outside)
+            };
+        };
+        if cursor.row > page.form.rows {
+            return Err(End::Outside);
         }
+        Ok(Some(page))
     }
 }

@@ -77,6 +77,10 @@ pub record IsChainPlace (tiff : TiffFile) (due given : ℕ) (turn : Option ℕ) 
   pub turn_is : IsTurningPage tiff turn
   pub few : HasFewPages tiff
 
+-- a directory of this file
+abbrev pub IsDirectoryOf : TiffFile → TiffDirectory → Type 0
+IsDirectoryOf tiff directory = directory ≡ directory_of tiff directory.offset
+
 -- what a chain has at a place: a directory, or its end
 abbrev pub answer_at : TiffFile → Option ℕ → Option FileFault → Result (Option TiffDirectory) FileFault
 answer_at tiff (Some q) end = Ok (Some (directory_of tiff q))

@@ -116,6 +116,7 @@ pub record ReadsPageRow (old new : PageState) : Type 0 where
   pub next_row : row_of new ≡ row_of old + 1
   pub same_page : new.page ≡ old.page
   pub same_first : new.first ≡ old.first
+  pub same_form : new.form ≡ old.form
   pub still_open : IsOpen new
   pub one_more : new.read ≡ old.read + 1
 

@@ -1,0 +1,72 @@
+-- Laws of items and tails, and of forms, which the functions of the module `laws` prove.
+use Rattle.std.specs.Prelude.{◌≡◌, ℕ, nat_le, Bool, ◌↔◌, List, ◌∷◌, ◌++◌}
+use Rattle.std.specs.List.{filter}
+use Rattle.fax_walk.specs.declared.cursor.Cursor.{Cursor}
+use Rattle.fax_walk.specs.declared.end.End.{End}
+use Rattle.fax_walk.specs.Cursor.{start}
+use Rattle.fax_walk.specs.Items.{Item, AreItems}
+use Rattle.fax_walk.specs.Tail.{behind_item, IsPrinted, IsRest, IsTail}
+use Rattle.fax_walk.specs.Forms.{FormItem, AreForms, IsFormTail, behind_page, IsPrintedPage}
+
+-- there is one list of which this holds, with one end (this project's profile)
+pub record IsOne {A : Type 0} (holds : List A → End → Type 0) : Type 0 where
+  pub items : List A
+  pub end : End
+  pub is : holds items end
+  pub one : (others : List A) (other : End) → holds others other → (others ≡ items) × (other ≡ end)
+
+-- each file has items and an end, and one list of them only (this project's profile)
+abbrev pub FilesHaveOneItems : Type 0
+FilesHaveOneItems = (file : List ℕ) → IsOne (AreItems file)
+
+-- each cursor has a tail and an end, and one only (this project's profile)
+abbrev pub CursorsHaveOneTail : Type 0
+CursorsHaveOneTail = (file : List ℕ) (at : Cursor) → IsOne (IsTail file at)
+
+-- the tail from the first cursor is all items of the file (this project's profile)
+abbrev pub TailOfStart : Type 0
+TailOfStart = (file : List ℕ) (items : List Item) (end : End) → IsTail file start items end ↔ AreItems file items end
+
+-- what follows an item is the tail from the cursor behind it, with the same end (this project's profile)
+abbrev pub TailBehindItem : Type 0
+TailBehindItem =
+    (file : List ℕ) (at : Cursor) (before after : List Item) (item : Item) (end : End)
+    → IsTail file at (before ++ item ∷ after) end → IsTail file (behind_item item) after end
+
+-- the tail from a printed cursor is the rest of the file (this project's profile)
+abbrev pub TailOfPrinted : Type 0
+TailOfPrinted =
+    (file : List ℕ) (at : Cursor) (items : List Item) (end : End)
+    → IsPrinted file at → IsTail file at items end ↔ IsRest file at items end
+
+-- each file has forms and an end, and one list of them only (this project's profile)
+abbrev pub FilesHaveOneForms : Type 0
+FilesHaveOneForms = (file : List ℕ) → IsOne (AreForms file)
+
+-- each cursor has a tail of forms and an end, and one only (this project's profile)
+abbrev pub CursorsHaveOneFormTail : Type 0
+CursorsHaveOneFormTail = (file : List ℕ) (at : Cursor) → IsOne (IsFormTail file at)
+
+-- the forms from the first cursor on are all forms of the file (this project's profile)
+abbrev pub FormTailOfStart : Type 0
+FormTailOfStart = (file : List ℕ) (forms : List FormItem) (end : End) → IsFormTail file start forms end ↔ AreForms file forms end
+
+-- what follows a page is the forms from the cursor behind it on, with the same end (this project's profile)
+abbrev pub FormTailBehindPage : Type 0
+FormTailBehindPage =
+    (file : List ℕ) (at : Cursor) (before after : List FormItem) (item : FormItem) (end : End)
+    → IsFormTail file at (before ++ item ∷ after) end → IsFormTail file (behind_page item) after end
+
+-- the page is the cursor's or a later one (this project's profile)
+abbrev pub is_page_from : Cursor → FormItem → Bool
+is_page_from at item = nat_le at.page item.page
+
+-- the forms of a file from the cursor's page on, and the same end (this project's profile)
+abbrev pub IsFormRest : List ℕ → Cursor → List FormItem → End → Type 0
+IsFormRest file at rest end = (forms : List FormItem) × AreForms file forms end × (rest ≡ filter (is_page_from at) forms)
+
+-- the forms from a printed cursor on are the rest of the file (this project's profile)
+abbrev pub FormTailOfPrinted : Type 0
+FormTailOfPrinted =
+    (file : List ℕ) (at : Cursor) (forms : List FormItem) (end : End)
+    → IsPrintedPage file at → IsFormTail file at forms end ↔ IsFormRest file at forms end

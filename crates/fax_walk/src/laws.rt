@@ -1,0 +1,74 @@
+//! Laws of a file's rows and of its forms. The functions compute nothing: each has a law as its
+//! contract.
+ghost use Rattle.fax_walk.specs.Laws as Laws;
+
+/// Each file has rows and an end, and one list of them only.
+pub fn files_have_one_items()
+    ensures { Laws.FilesHaveOneItems }
+{
+    fax_page::laws::strips_are_read_in_one_way();
+    fax_files::laws::files_have_one_chain();
+    fax_files::laws::forms_are_whole();
+}
+
+/// Each cursor has a tail and an end, and one only.
+pub fn cursors_have_one_tail()
+    ensures { Laws.CursorsHaveOneTail }
+{
+    fax_page::laws::strips_are_read_in_one_way();
+    fax_files::laws::files_have_one_chain();
+    fax_files::laws::forms_are_whole();
+}
+
+/// The tail from the first cursor is all rows of the file.
+pub fn tail_of_start()
+    ensures { Laws.TailOfStart }
+{}
+
+/// What follows a row is the tail from the cursor behind it, with the same end.
+pub fn tails_behind_items()
+    ensures { Laws.TailBehindItem }
+{
+    fax_files::laws::forms_are_whole();
+}
+
+/// The tail from a cursor that a walk prints is the rest of the file.
+pub fn tails_of_printed()
+    ensures { Laws.TailOfPrinted }
+{
+    fax_files::laws::forms_are_whole();
+    files_have_one_items();
+    cursors_have_one_tail();
+}
+
+/// Each file has forms and an end, and one list of them only.
+pub fn files_have_one_forms()
+    ensures { Laws.FilesHaveOneForms }
+{
+    fax_files::laws::files_have_one_chain();
+}
+
+/// Each cursor has a tail of forms and an end, and one only.
+pub fn cursors_have_one_form_tail()
+    ensures { Laws.CursorsHaveOneFormTail }
+{
+    fax_files::laws::files_have_one_chain();
+}
+
+/// The forms from the first cursor on are all forms of the file.
+pub fn form_tail_of_start()
+    ensures { Laws.FormTailOfStart }
+{}
+
+/// What follows a page is the forms from the cursor behind it on, with the same end.
+pub fn form_tails_behind_pages()
+    ensures { Laws.FormTailBehindPage }
+{}
+
+/// The forms from a cursor that a reader of pages prints are the rest of the file.
+pub fn form_tails_of_printed()
+    ensures { Laws.FormTailOfPrinted }
+{
+    files_have_one_forms();
+    cursors_have_one_form_tail();
+}
