@@ -1,2 +1,5 @@
 pub mod TransferLemmas
 pub mod PrintLemmas
+pub mod LineLemmas
+pub mod OutsideLemmas
+pub mod TextLemmas

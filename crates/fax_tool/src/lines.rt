@@ -1,9 +1,10 @@
 //! What is printed line by line: the rows of a file, or its pages.
-ghost use Rattle.std.specs.Prelude.{◌≡◌, ◌≤◌, ℕ, List, map};
+ghost use Rattle.std.specs.Prelude.{◌≡◌, ◌≤◌, ℕ, List, IfOk};
 ghost use Rattle.std.specs.String.{string_bytes, string_len};
 ghost use Rattle.fax_walk.specs.declared.cursor.Cursor.{Cursor as At};
 ghost use Rattle.fax_walk.specs.declared.end.End.{End as TheEnd};
 ghost use Rattle.fax_tool.specs.Text.{Line};
+ghost use Rattle.fax_tool.specs.code.Printing as Spec;
 ghost use Rattle.fax_tool.specs.code.Printing.{IsLinePut};
 
 use crate::text::{put_page_line, put_row_line};
@@ -36,7 +37,9 @@ pub trait Lines {
 }
 
 /// How lines end where a walk or a reader of pages answers so; want of memory is no end.
-fn end_of(fault: WalkFault) -> Result<End, Memory> {
+fn end_of(fault: WalkFault) -> Result<End, Memory>
+    ensures { IfOk result (λ end. Spec.end_of fault ≡ Some end) }
+{
     match fault {
         WalkFault::AtRow { page, row, cause } => Ok(End::Fault { page, row, cause }),
         WalkFault::CursorOutside => Ok(End::Outside),

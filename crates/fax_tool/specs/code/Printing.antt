@@ -5,6 +5,8 @@ use Rattle.fax_bits.specs.declared.Memory.{Memory as NoMemory}
 use Rattle.fax_walk.specs.declared.cursor.Cursor.{Cursor}
 use Rattle.fax_walk.specs.declared.end.End.{End}
 use Rattle.fax_walk.specs.declared.end.End.TheVariants.{Proper, Fault, Outside}
+use Rattle.fax_walk.specs.declared.end.WalkFault.{WalkFault}
+use Rattle.fax_walk.specs.declared.end.WalkFault.TheVariants.{AtRow, CursorOutside, Memory as NoRoom}
 use Rattle.fax_walk.specs.Items.{Item}
 use Rattle.fax_walk.specs.Forms.{FormItem}
 use Rattle.fax_walk.specs.code.Due.{WalkState, IsDue}
@@ -27,6 +29,12 @@ pub record ArePagesDue (pages : PagesState) (lines : List Line) (end : End) : Ty
   pub items : List FormItem
   pub due : AreFormsDue pages items end
   pub lines_are : lines ≡ map line_of_page items
+
+-- how lines end where a walk or a reader of pages answers so; want of memory is no end
+abbrev pub end_of : WalkFault → Option End
+end_of (AtRow page row cause) = Some (Fault page row cause)
+end_of CursorOutside = Some Outside
+end_of NoRoom = None
 
 -- this line is put: it is the first of those that were due, and those due then are the rest
 pub record PutsLine (old new : List Line → End → Type 0) (line : Line) (place : Cursor) (old_left new_left : ℕ) : Type 0 where
@@ -56,21 +64,21 @@ last_line (Some Outside) at = []
 
 -- these lines were printed, the first of those that were due from a cursor on, and printing ended so; behind them the
 -- place is this, and the text is appended to the output, whose last part is collected
-pub record PrintsLines (due : List Line → End → Type 0) (at : Cursor) (max : Option ℕ) (ending : Option End) (place : Cursor) (output new_output : Option (List ℕ)) : Type 0 where
+pub record PrintsLines (are_due : List Line → End → Type 0) (at : Cursor) (max : Option ℕ) (ending : Option End) (place : Cursor) (output new_output : Option (List ℕ)) : Type 0 where
   pub lines : List Line
   pub others : List Line
   pub end : End
-  pub due : due (lines ++ others) end
+  pub due : are_due (lines ++ others) end
   pub ends : EndsWith lines others end max ending
   pub place_is : place ≡ last_cursor at lines
   pub printed : Appends output new_output (texts_of lines)
 
 -- the same with the last line
-pub record PrintsAll (due : List Line → End → Type 0) (at : Cursor) (max : Option ℕ) (ending : Option End) (output new_output : Option (List ℕ)) : Type 0 where
+pub record PrintsAll (are_due : List Line → End → Type 0) (at : Cursor) (max : Option ℕ) (ending : Option End) (output new_output : Option (List ℕ)) : Type 0 where
   pub lines : List Line
   pub others : List Line
   pub end : End
-  pub due : due (lines ++ others) end
+  pub due : are_due (lines ++ others) end
   pub ends : EndsWith lines others end max ending
   pub printed : Appends output new_output (texts_of lines ++ last_line ending (last_cursor at lines))
 

@@ -20,14 +20,14 @@ pub struct Printed {
 ghost use Rattle.std.specs.Prelude.{◌<◌};
 ghost use Rattle.fax_tool.specs.code.Caller.{IsPrinted};
 
-/// Runs `rows` over these bytes. Where nothing was refused, what it printed is the text of the
-/// file's rows and of their end.
-pub fn rows_of(alloc: Global, file: &[u8]) -> Printed
+/// Runs a command over these bytes. Where nothing was refused, what it printed is the text of what
+/// follows the command's cursor in the file, up to its limit.
+pub fn printed_by(alloc: Global, command: Command, file: &[u8]) -> Printed
     ensures { result.status < 3
-        → IsPrinted file.now result.output.items result.error.items result.status }
+        → IsPrinted command file.now result.output.items result.error.items result.status }
 {
     let job = Job {
-        command: Command::Rows(WHOLE),
+        command,
         file: None,
     };
     let mut input = FromRead::new(file);
@@ -39,4 +39,9 @@ pub fn rows_of(alloc: Global, file: &[u8]) -> Printed
         error: err.into_inner(),
         status,
     }
+}
+
+/// Runs `rows` over all of a file.
+pub fn rows_of(alloc: Global, file: &[u8]) -> Printed {
+    printed_by(alloc, Command::Rows(WHOLE), file)
 }
