@@ -1,6 +1,9 @@
 -- What is due on a page, row by row and strip by strip.
 use Rattle.std.proofs.Common.{◌≡◌, ℕ, zero, suc, ◌+◌, ◌-◌, ◌*◌, ◌<◌, ◌≤◌, min, Bool, true, false, List, [], ◌∷◌, ◌++◌, length, drop, map, Option, Some, None, Err, inl, inr, refl, ap, sym, ◌∙◌, arith, add-mul}
 use Rattle.std.specs.Prelude.{if◌then◌else◌, ◌⊎◌}
+use Rattle.std.proofs.Math.Nat.{mul-le-mul_right}
+use Rattle.std.proofs.lemmas.Bool.{cases_lt}
+use Rattle.std.proofs.lemmas.Grind.{div_ceil_times}
 use Rattle.fax_bits.specs.Bits.{bits}
 use Rattle.fax_bits.specs.declared.Colour.{Colour}
 use Rattle.fax_rows.specs.Elements.{other}
@@ -86,7 +89,8 @@ module _ (old : PageState) (strip : StripState) (handed : List Colour) (reads : 
         read = still_left due.rows due.cause due.read;
         others = due.others;
         items_are =
-            rw (none, ← rows_shown due.rows)
+            let same : row_of old + 0 ≡ row_of old = omega arith in
+            rw (none, same, ← rows_shown due.rows)
             (ap (λ (l : List Item). record { page = old.page; row = row_of old; pels = handed } ∷ l) items_are);
         follows = still_follows due.rows due.cause due.others end due.follows;
       }
@@ -114,11 +118,11 @@ module _ (old : PageState) (strip : StripState) (handed : List Colour) (reads : 
     same_page = refl;
     same_first = refl;
     same_form = refl;
-    still_open = record { no_fault = reads.still_no_fault; limits = at.limits; first = at.first };
+    still_open = record { no_fault = reads.still_no_fault; limits = at.limits; first = at.first; page_number = at.page_number };
     one_more = refl;
   }
 
-drop_none : (n : ℕ) → drop n (let rows : List (List Colour) = [] in rows) ≡ []
+pub drop_none : (n : ℕ) → drop n (let rows : List (List Colour) = [] in rows) ≡ []
 drop_none zero = refl
 drop_none (suc n) = refl
 
@@ -149,6 +153,24 @@ fault_met page new fault at (inr meets) = due_now page (Strip fault) (record {
   behind = (refl, refl);
 })
 
+-- a smaller product with the same number has a smaller factor
+smaller_factor : (a b n : ℕ) → a * n < b * n → a < b
+smaller_factor a b n less = by_order (cases_lt a b)
+  where
+    by_order : (a < b) ⊎ (b ≤ a) → a < b
+    by_order (inl below) = below
+    by_order (inr above) = absurd (omega (arith, less, mul-le-mul_right n above))
+
+-- where a row is due behind the end of a strip, there is another strip
+pub more_strips : (form : PageForm) (number : ℕ) (strip : StripState) → IsPageForm form → strip.form ≡ strip_form form number
+    → strip.row ≡ strip.form.rows → number * form.rows_per_strip + strip.row < form.rows → number + 1 < form.strips
+more_strips form number strip limits form_is all_read due =
+    let count : strip.form.rows ≡ min form.rows_per_strip (form.rows - number * form.rows_per_strip) = ap (λ (f : StripForm). f.rows) form_is in
+    let all_rows = div_ceil_times form.rows form.rows_per_strip limits.some_rows_per_strip in
+    let enough : form.rows ≤ form.strips * form.rows_per_strip = rw limits.strips all_rows.0 in
+    smaller_factor (number + 1) form.strips form.rows_per_strip
+    (omega (arith, count, all_read, due, enough, add-mul number 1 form.rows_per_strip))
+
 -- a page whose strip is read to its end
 module _ (page : PageState) (all_read : page.strip.row ≡ page.strip.form.rows) where
   -- what is left is what stands in the strips behind it
@@ -168,6 +190,40 @@ module _ (page : PageState) (all_read : page.strip.row ≡ page.strip.form.rows)
   pub strip_outside : page.number + 1 < page.form.strips → bytes_of page.directory (page.number + 1) ≡ None
       → IsDueOnPage page [] (Fault page.page (row_of page) (File StripOutside))
   strip_outside more outside = due_now page (File StripOutside) (left_behind [] (Some (File StripOutside)) (inr (more, outside, refl)))
+
+-- a page that is read to its end
+module _ (page : PageState) (limits : IsPageForm page.form) (form_is : page.strip.form ≡ strip_form page.form page.number)
+    (within : page.number < page.form.strips) (within_strip : page.strip.row ≤ page.strip.form.rows) (all_read : row_of page ≡ page.form.rows) where
+  strip_rows : page.strip.form.rows ≡ min page.form.rows_per_strip (page.form.rows - page.number * page.form.rows_per_strip)
+  strip_rows = ap (λ (f : StripForm). f.rows) form_is
+
+  strip_read : page.strip.row ≡ page.strip.form.rows
+  strip_read = omega (arith, strip_rows, within_strip, all_read)
+
+  last_strip : page.number + 1 ≡ page.form.strips
+  last_strip = by_order (cases_lt (page.number + 1) page.form.strips)
+    where
+      all_rows : (page.form.rows ≤ page.form.strips * page.form.rows_per_strip)
+          × (page.form.strips * page.form.rows_per_strip < page.form.rows + page.form.rows_per_strip)
+      all_rows = rw limits.strips (div_ceil_times page.form.rows page.form.rows_per_strip limits.some_rows_per_strip)
+
+      by_order : (page.number + 1 < page.form.strips) ⊎ (page.form.strips ≤ page.number + 1) → page.number + 1 ≡ page.form.strips
+      by_order (inl more) =
+          let above : page.number + 2 ≤ page.form.strips = omega (arith, more) in
+          let product = mul-le-mul_right page.form.rows_per_strip above in
+          absurd (omega (arith, product, all_rows, strip_rows, within_strip, all_read, add-mul page.number 2 page.form.rows_per_strip))
+      by_order (inr last) = omega (arith, last, within)
+
+  -- what is due is what the pages behind it have
+  pub pages_due : (items : List Item) (end : End) → ArePagesBehind page.chain items end → IsDueOnPage page items end
+  pages_due items end behind = record {
+    rows = [];
+    cause = None;
+    read = left_behind page strip_read [] None (inl (last_strip, refl));
+    others = items;
+    items_are = rw (shown_none page.form, drop_none (skipped page)) refl;
+    follows = behind;
+  }
 
 -- what comes behind a strip, by how it ends
 behind_strip : (directory : TiffDirectory) (form : PageForm) (number : ℕ) (stop : Option StripFault) (others : List (List (List Colour))) (cause : Option Cause)
@@ -238,6 +294,7 @@ kept_open old now keeps at = record {
   no_fault = keeps.no_fault;
   limits = rw keeps.same_form at.limits;
   first = rw (keeps.same_form, keeps.same_first) at.first;
+  page_number = rw keeps.same_page at.page_number;
 }
 
 -- a row is read from a page that was kept
@@ -253,4 +310,45 @@ kept_read old now later keeps reads =
       same_form = reads.same_form ∙ keeps.same_form;
       still_open = reads.still_open;
       one_more = reads.one_more ∙ ap (λ n. n + 1) keeps.same_read;
+    }
+
+-- rows were read that are not handed out: the same items are due, and their first row comes nearer
+pub record Skips (old now : PageState) : Type 0 where
+  pub due : (items : List Item) (end : End) → IsDueOnPage now items end → IsDueOnPage old items end
+  pub to_go : row_of now + skipped now ≡ row_of old + skipped old
+  pub read : now.read + skipped now ≡ old.read + skipped old
+  pub same_page : now.page ≡ old.page
+  pub is_open : IsOpen now
+  pub row_due : row_of now < now.form.rows
+
+pub none_skipped : (page : PageState) → IsOpen page → row_of page < page.form.rows → Skips page page
+none_skipped page at due =
+    record { due = λ items end d. d; to_go = refl; read = refl; same_page = refl; is_open = at; row_due = due }
+
+-- one more row before the first that is handed out
+pub one_skipped : (old now new : PageState) → Skips old now → ReadsPageRow now new → row_of new ≤ new.first → Skips old new
+one_skipped old now new skips reads before =
+    let some : 0 < skipped now = omega (arith, reads.next_row, reads.same_first, before) in
+    record {
+      due = λ items end due. skips.due items end (reads.due_before items end some due);
+      to_go = omega (arith, skips.to_go, reads.next_row, reads.same_first, before);
+      read = omega (arith, skips.read, reads.one_more, reads.next_row, reads.same_first, before);
+      same_page = reads.same_page ∙ skips.same_page;
+      is_open = reads.still_open;
+      row_due = omega (arith, before, reads.still_open.first);
+    }
+
+-- the first row that is handed out
+pub row_given : (old now new : PageState) → Skips old now → ReadsPageRow now new → new.first < row_of new → GivesRow old new
+row_given old now new skips reads behind =
+    let none : skipped now ≡ 0 = omega (arith, reads.next_row, reads.same_first, behind) in
+    let row : row_of now ≡ row_of old + skipped old = omega (arith, skips.to_go, none) in
+    record {
+      due = λ items end due. rw (row, skips.same_page) at (skips.due _ end (reads.due items end none due));
+      next_row = omega (arith, reads.next_row, row);
+      within = let due = skips.row_due in omega (arith, due, reads.next_row, ap (λ (f : PageForm). f.rows) reads.same_form);
+      none_skipped = omega (arith, behind);
+      same_page = reads.same_page ∙ skips.same_page;
+      still_open = reads.still_open;
+      read = omega (arith, skips.read, reads.one_more, none);
     }

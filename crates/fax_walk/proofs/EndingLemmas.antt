@@ -35,6 +35,7 @@ outside_row pages at some = by_test (at.page == pages)
   where
     e : (at.row == 0) ≡ false
     e = grind (arith, nat_tests, some)
+
     by_test : (b : Bool) → (if b && (at.row == 0) then Proper else Outside) ≡ Outside
     by_test true = rw e refl
     by_test false = refl
@@ -121,9 +122,9 @@ goes_on file number chain new answer directory before due is counted =
       file_is = before.file_is;
       given = omega (arith, before.given);
       within = λ offsets fault chained.
-      let there = due_some chain answer due directory is offsets fault chained in
-      let inside = slice_get_within offsets chain.given directory.offset there.0 in
-      omega (arith, inside, before.given);
+          let there = due_some chain answer due directory is offsets fault chained in
+          let inside = slice_get_within offsets chain.given directory.offset there.0 in
+          omega (arith, inside, before.given);
     })
 
 -- the chain ends before a cursor's page

@@ -39,7 +39,7 @@ from_row_so endian file q form p r behind behind' same items end from = record {
   follows = follows_so p behind behind' same from.stop from.others end from.follows;
 }
 
-form_then_so : (p : ℕ) (form : PageForm) (behind behind' : List FormItem → End → Type 0)
+pub form_then_so : (p : ℕ) (form : PageForm) (behind behind' : List FormItem → End → Type 0)
     → ((forms : List FormItem) (end : End) → behind forms end → behind' forms end)
     → (forms : List FormItem) (end : End) → IsFormThen p form behind forms end → IsFormThen p form behind' forms end
 form_then_so p form behind behind' same forms end first =
@@ -116,14 +116,14 @@ module _ (chain : ChainState) (good : header chain.tiff.file ≡ Ok chain.tiff.h
     same_page = same_page ∙ given;
     within = within;
     from_row = λ items end below from.
-    let own = rw (directory_is, same_page, given) at from in
-    rw good (one.offsets, one.end, one.is, rw (some, form_is) (inr (inr (below, from_row_so _ _ _ _ _ _ _ _ behind items end own))));
+        let own = rw (directory_is, same_page, given) at from in
+        rw good (one.offsets, one.end, one.is, rw (some, form_is) (inr (inr (below, from_row_so _ _ _ _ _ _ _ _ behind items end own))));
     from_next = λ items end last are. rw good (one.offsets, one.end, one.is, rw (some, form_is) (inr (inl (last, behind items end are))));
     form_first = λ forms end first then.
-    let own = rw (same_page, given) at then in
-    rw good (one.offsets, one.end, one.is, rw (some, form_is) (inr (inr (first, form_then_so _ _ _ _ forms_behind forms end own))));
+        let own = rw (same_page, given) at then in
+        rw good (one.offsets, one.end, one.is, rw (some, form_is) (inr (inr (first, form_then_so _ _ _ _ forms_behind forms end own))));
     form_next = λ forms end later are.
-    rw good (one.offsets, one.end, one.is, rw (some, form_is) (inr (inl (later, within, forms_behind forms end are))));
+        rw good (one.offsets, one.end, one.is, rw (some, form_is) (inr (inl (later, within, forms_behind forms end are))));
   }
 
 -- the chain of a file, before the directory of a cursor's page, and what its next page is

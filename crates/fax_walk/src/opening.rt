@@ -98,7 +98,12 @@ impl<'a> DuePage<'a> {
             Err(fault) => return Err(End::of_file(page, 0, fault)),
         };
         match directory.page() {
-            Ok(form) => Ok(Some(DuePage { page, chain, directory, form })),
+            Ok(form) => Ok(Some(DuePage {
+                page,
+                chain,
+                directory,
+                form,
+            })),
             Err(fault) => Err(End::of_file(page, 0, fault)),
         }
     }

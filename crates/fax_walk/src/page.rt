@@ -133,9 +133,10 @@ impl<'a> OpenPage<'a> {
     pub(crate) fn open_next(&self, alloc: Global) -> Result<OpenPage<'a>, OpenFault>
         requires { row_of self.now ≡ self.now.form.rows }
         ensures opened { IfOk result (Opening.IsOpenedBehind self.now.chain self.now.read) }
+        ensures number { self.now.chain.given ≡ self.now.page + 1 }
         ensures items { IfOk result (λ page. (items : List Item) (end : End)
-            → Due.IsDueOnPage page items end → Due.ArePagesBehind self.now.chain items end) }
-        ensures refused { IfErr result (Opening.IsRefusal (Due.ArePagesBehind self.now.chain)) }
+            → Due.IsDueOnPage page items end → Due.IsDueOnPage self.now items end) }
+        ensures refused { IfErr result (Opening.IsRefusal (Due.IsDueOnPage self.now)) }
     {
         open_behind(alloc, &self.chain, self.read)
     }

@@ -55,11 +55,7 @@ impl<'a> Model for Walk<'a> {
 }
 
 /// Opens the page of a cursor's row, or the next one where it stands behind a page's last row.
-fn open_at<'a>(
-    alloc: Global,
-    file: &'a [u8],
-    cursor: Cursor,
-) -> Result<OpenPage<'a>, OpenFault>
+fn open_at<'a>(alloc: Global, file: &'a [u8], cursor: Cursor) -> Result<OpenPage<'a>, OpenFault>
     ensures opened { IfOk result (Due.IsOpenedFor cursor) }
     ensures items { IfOk result (λ page. (items : List Item) (end : End)
         → Due.IsDueOnPage page items end → IsTail file.now cursor items end) }
@@ -126,7 +122,8 @@ impl<'a> Walk<'a> {
         let opened = match &self.stage {
             Stage::Before => open_at(self.alloc, self.file, self.cursor),
             Stage::Open(page) if page.is_read() => page.open_next(self.alloc),
-            Stage::Open(_) | Stage::Ended(..) => return Ok(()),
+            Stage::Open(_) => return Ok(()),
+            Stage::Ended(..) => return Ok(()),
         };
         match opened {
             Ok(page) => self.stage = Stage::Open(page),

@@ -90,22 +90,27 @@ pub record IsOpen (page : PageState) : Type 0 where
   pub no_fault : page.strip.fault ≡ None
   pub limits : IsPageForm page.form
   pub first : page.first < page.form.rows
+  pub page_number : page.page < 2 ^ 32
 
 -- the places of rows, numbered by page and then by row
 abbrev pub place_number : ℕ → ℕ → ℕ
 place_number page row = page * 2 ^ 32 + row
 
--- a page that is open can be read, and the first row that it hands out stands at the cursor or behind it
+-- a page can be read, and the first row that it hands out stands at the cursor or behind it
+pub record IsOpenFrom (cursor : Cursor) (page : PageState) : Type 0 where
+  pub is_open : IsOpen page
+  pub within : row_of page ≤ page.form.rows
+  pub behind : place_number cursor.page cursor.row ≤ place_number page.page (row_of page + skipped page)
+
 abbrev pub IsSound : Stage → Cursor → Type 0
 IsSound Before cursor = ⊤
-IsSound (Open page) cursor =
-    IsOpen page × (place_number cursor.page cursor.row ≤ place_number page.page (row_of page + skipped page))
+IsSound (Open page) cursor = IsOpenFrom cursor page
 IsSound (Ended end read) cursor = ⊤
 
 -- a page is open for a cursor: no row is read yet, and the first one that is handed out stands at the cursor or behind it
 --
 abbrev pub IsOpenedFor : Cursor → PageState → Type 0
-IsOpenedFor cursor page = IsSound (Open page) cursor × (page.read ≡ 0)
+IsOpenedFor cursor page = IsOpenFrom cursor page × (row_of page < page.form.rows) × (page.read ≡ 0)
 
 -- a row was read from a page: it was the first that is handed out, and what was due is that row, and then what is due
 -- now; or it was one before that, and what was due is due
@@ -125,6 +130,7 @@ pub record GivesRow (old new : PageState) : Type 0 where
   pub due : (items : List Item) (end : End) → IsDueOnPage new items end
       → IsDueOnPage old (record { page = old.page; row = row_of old + skipped old; pels = new.shown } ∷ items) end
   pub next_row : row_of new ≡ row_of old + skipped old + 1
+  pub within : row_of new ≤ new.form.rows
   pub none_skipped : skipped new ≡ 0
   pub same_page : new.page ≡ old.page
   pub still_open : IsOpen new
