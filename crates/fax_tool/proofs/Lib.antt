@@ -3,3 +3,4 @@ pub mod PrintLemmas
 pub mod LineLemmas
 pub mod OutsideLemmas
 pub mod TextLemmas
+pub mod RunLemmas
