@@ -109,9 +109,9 @@ module _ (one_tail : CursorsHaveOneTail) (behind : TailBehindItem) (file : List 
   behind_lines at next limit first others rows cut last lines end first_is next_is are all =
       let left = lines_left lines limit in
       let none : end ≡ Outside → printed_lines lines limit ++ left ≡ [] =
-          λ out. parts lines limit ∙ row_lines_outside file at lines (rw out at are) in
+      λ out. parts lines limit ∙ row_lines_outside file at lines (rw out at are) in
       let whole : first ++ output_of left end next ≡ output_of lines end at =
-          rw (first_is, next_is) (output_behind (printed_lines lines limit) left end at none ∙ ap (λ xs. output_of xs end at) (parts lines limit)) in
+      rw (first_is, next_is) (output_behind (printed_lines lines limit) left end at none ∙ ap (λ xs. output_of xs end at) (parts lines limit)) in
       record {
         more = all.more;
         beginning = ap texts_of (sym (parts lines limit)) ∙ texts_of-append (printed_lines lines limit) left
@@ -141,7 +141,7 @@ module _ (one_tail : CursorsHaveOneTail) (behind : TailBehindItem) (file : List 
       rw before_is (one_run at max rows last next cut lines end run are)
   all_runs (limit ∷ limits) at max before rows last cut lines end (text, first, next, was_cut, others, run, prints, runs, before_is) are =
       rw before_is (behind_run at limit text first others rows next was_cut cut last lines end run are
-          (λ left left_are. all_runs limits next max others rows last cut left end runs left_are))
+      (λ left left_are. all_runs limits next max others rows last cut left end runs left_are))
 
 pub runs_go_on : CursorsHaveOneTail → TailBehindItem → RunsGoOn
 runs_go_on one_tail behind file at limits max before rows last cut lines end runs are =
