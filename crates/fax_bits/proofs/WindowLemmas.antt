@@ -1,15 +1,16 @@
 -- Words of 64 bits: `count` bits, the highest first, with zeros behind them.
-use Rattle.std.proofs.Common.{◌≡◌, ℕ, zero, suc, ◌+◌, ◌-◌, ◌*◌, ◌/◌, ◌%◌, ◌^◌, ◌<◌, ◌≤◌, List, ◌++◌, length, take, drop, get_or, Bool, false, nat_eq, ap, sym, ◌∙◌, subst, arith, length-append, length-drop, add-zero}
+use Rattle.std.proofs.Common.{◌≡◌, ℕ, zero, suc, ◌+◌, ◌-◌, ◌*◌, ◌/◌, ◌%◌, ◌^◌, ◌<◌, ◌≤◌, List, [], ◌∷◌, ◌++◌, length, take, drop, replicate, get_or, Bool, true, false, nat_eq, refl, append_assoc, ap, sym, ◌∙◌, subst, arith, length-append, length-drop, add-zero}
 use Rattle.std.specs.Prelude.{bit_or}
 use Rattle.std.specs.Int.{bit_at}
-use Rattle.std.proofs.Math.Nat.{add-mul, div-div-eq-div-mul, mul_assoc, mul-mod_left}
+use Rattle.std.proofs.Math.Nat.{add-mul, pow-succ', div-div-eq-div-mul, mul_assoc, mul-mod_left}
 use Rattle.std.proofs.Math.Seq.{drop-append_seam, take-append_seam}
-use Rattle.std.proofs.lemmas.List.{take-append-le}
-use Rattle.std.proofs.lemmas.Nat.{mod-pow-add, mod_below, or_shifted, pow-add, pow_pos, shl_below, shl-shr, shl_whole, shr_below, shr_split}
+use Rattle.std.proofs.lemmas.List.{take-append-le, take-append-drop}
+use lib.Count.{count_leading_zeros}
+use Rattle.std.proofs.lemmas.Nat.{leading_length, shr_high, mod-pow-add, mod_below, or_shifted, pow-add, pow_pos, shl_below, shl-shr, shl_whole, shr_below, shr_split}
 use Rattle.fax_bits.specs.declared.FillOrder.{FillOrder}
 use Rattle.fax_bits.specs.declared.window.Window.{Window}
 use Rattle.fax_bits.specs.code.BitsAhead.{bits_ahead}
-use Rattle.fax_bits.specs.Bits.{bits, bits_number, code_bits}
+use Rattle.fax_bits.specs.Bits.{bits, bits_number, code_bits, HasZerosAhead}
 use Rattle.fax_bits.specs.code.Window.{first_bits}
 use Rattle.fax_bits.proofs.CodeBitsLemmas.{code_bits-add}
 use Rattle.fax_bits.proofs.SourceLemmas.{length-bits}
@@ -123,6 +124,48 @@ module _ (count word n : ℕ) (more : List Bool) (few : count ≤ 64) (within : 
   next_number =
       let b = code_bits n (word / 2 ^ (64 - n)) in
       sym (ap bits_number next_bits ∙ number-code_bits n (word / 2 ^ (64 - n)) next-lt)
+
+-- a 1 behind n zeros
+one_bit : (n : ℕ) → code_bits (suc n) 1 ≡ replicate n false ++ true ∷ []
+unfolding code_bits
+one_bit zero = refl
+one_bit (suc n) =
+    let small : 1 < 2 ^ suc n = omega (arith, pow-succ' 2 n, pow_pos n) in
+    let is : 1 ≡ 0 * 2 ^ suc n + 1 = omega arith in
+    let none : bit_at 1 (suc n) ≡ 0 = ap (λ d. d % 2) (ap (λ w. w / 2 ^ suc n) is ∙ shr_high 0 (suc n) 1 small) in
+    ap (λ d. nat_eq d 1 ∷ code_bits (suc n) 1) none ∙ ap (λ b. false ∷ b) (one_bit n)
+
+-- the highest bit of a word, which stands behind its leading zeros
+top_bit : (word n m : ℕ) → n + suc m ≡ 64 → word < 2 ^ suc m → 2 ^ suc m ≤ 2 * word + 1 → word / 2 ^ (64 - suc n) ≡ 1
+top_bit word n m parts below most =
+    let place : 64 - suc n ≡ m = omega arith in
+    let double : 2 ^ suc m ≡ 2 * 2 ^ m = pow-succ' 2 m in
+    let low : word - 2 ^ m < 2 ^ m = omega (arith, pow_pos m) in
+    let is : word ≡ 1 * 2 ^ m + (word - 2 ^ m) = omega arith in
+    ap (λ k. word / 2 ^ k) place ∙ ap (λ w. w / 2 ^ m) is ∙ shr_high 1 m (word - 2 ^ m) low
+
+leading_one : (word n m : ℕ) → n + m ≡ 64 → n < 64 → word < 2 ^ m → 2 ^ m ≤ 2 * word + 1 → word / 2 ^ (64 - suc n) ≡ 1
+leading_one word n zero parts within below most = absurd (omega arith)
+leading_one word n (suc m) parts within below most = top_bit word n m parts below most
+
+pub zeros_before : (count word n : ℕ) (more : List Bool) → count ≤ 64 → word < 2 ^ 64
+    → n ≡ count_leading_zeros 64 word → n < count → HasZerosAhead (first_bits count word ++ more) n
+zeros_before count word n more few fits is within = (
+  drop (suc n) ahead,
+  sym (take-append-drop (suc n) ahead) ∙ ap (λ b. b ++ drop (suc n) ahead) front
+      ∙ append_assoc (replicate n false) (true ∷ []) (drop (suc n) ahead),
+)
+  where
+    ahead : List Bool
+    ahead = first_bits count word ++ more
+
+    one : word / 2 ^ (64 - suc n) ≡ 1
+    one =
+        let size = leading_length 64 word fits in
+        leading_one word n size.0 (omega (arith, is, size.1)) (omega arith) size.2 size.3
+
+    front : take (suc n) (first_bits count word ++ more) ≡ replicate n false ++ true ∷ []
+    front = next_bits count word (suc n) more few (omega arith) fits ∙ ap (code_bits (suc n)) one ∙ one_bit n
 
 -- the next bit
 pub first_is_one : (count word : ℕ) → count ≤ 64 → word < 2 ^ 64 → word % 2 ^ (64 - count) ≡ 0

@@ -115,6 +115,23 @@ impl<'a> BitSource<'a> {
     pub fn zeros(&self) -> Option<u64>
         ensures { MatchOption result (IsAllZeros self.now.left) (HasZerosAhead self.now.left) }
     {
+        let at = (self.place / 8) as usize;
+        if self.bytes.len() - at >= 4 {
+            let loaded = Window::new(at).refilled(self.bytes, self.order);
+            let ahead = loaded.behind((self.place % 8) as u32);
+            let zeros = ahead.zeros();
+            if zeros < ahead.count {
+                return Some(u64::from(zeros));
+            }
+        }
+        self.zeros_by_bytes()
+    }
+
+    /// What `zeros` says, by bytes and bits: in fill, and near the end of the bytes.
+    #[inline(never)]
+    fn zeros_by_bytes(&self) -> Option<u64>
+        ensures { MatchOption result (IsAllZeros self.now.left) (HasZerosAhead self.now.left) }
+    {
         let left = self.remaining();
         let mut zeros = 0;
         while zeros < left {

@@ -1,7 +1,7 @@
 //! The next bits of some bytes, by value: what a fast reader keeps in registers.
 ghost use Rattle.std.specs.Prelude.{◌≡◌, ◌+◌, ◌-◌, ◌%◌, ◌^◌, ◌<◌, ◌≤◌, ◌++◌, ℕ, List, length, take, drop};
 ghost use Rattle.std.specs.Prelude.{replicate, false};
-ghost use Rattle.fax_bits.specs.Bits.{bits, bits_number, code_bits};
+ghost use Rattle.fax_bits.specs.Bits.{bits, bits_number, code_bits, HasZerosAhead};
 ghost use Rattle.fax_bits.specs.declared.FillOrder.{FillOrder};
 
 use crate::FillOrder;
@@ -68,6 +68,15 @@ impl Window {
             count: self.count + 32,
             at: self.at + 4,
         }
+    }
+
+    /// How many zeros stand before the first 1, where it is loaded; else no fewer than are loaded.
+    #[inline(always)]
+    pub fn zeros(self) -> u32
+        ensures ahead { (order : FillOrder) (bytes : List ℕ) → result < self.count
+            → HasZerosAhead (bits_ahead order bytes self) result }
+    {
+        self.bits.leading_zeros()
     }
 
     /// The number that the next `n` bits spell, which are loaded: what `BitSource::peek` says.

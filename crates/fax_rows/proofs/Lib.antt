@@ -1,5 +1,7 @@
+pub mod FirstOtherLemmas
 pub mod PackedLemmas
 pub mod PackedLaws
+pub mod PackingLemmas
 pub mod PlaceLemmas
 pub mod StepLemmas
 pub mod RunLemmas

@@ -1,12 +1,11 @@
 -- Rows as packed bytes, bit by bit.
-use Rattle.std.proofs.Common.{◌≡◌, ℕ, zero, suc, ◌+◌, ◌-◌, ◌*◌, ◌/◌, ◌%◌, ◌^◌, ◌<◌, ◌≤◌, List, [], ◌∷◌, ◌++◌, map, length, take, drop, replicate, get_or, Bool, true, false, if◌then◌else◌, nat_eq, refl, ap, sym, ◌∙◌, arith, length-append, length-drop, get_or-drop, add-one, below_more}
-use Rattle.std.specs.Prelude.{bit_and}
+use Rattle.std.proofs.Common.{◌≡◌, ℕ, zero, suc, ◌+◌, ◌*◌, ◌^◌, ◌<◌, ◌≤◌, List, [], ◌∷◌, ◌++◌, map, length, take, drop, replicate, get_or, Bool, true, false, if◌then◌else◌, refl, ap, sym, ◌∙◌, arith, inl, inr, length-append, length-drop, get_or-drop, add-one, below_more}
 use mir.Val.{bool_byte}
+use Rattle.std.proofs.lemmas.Bool.{cases_lt}
 use Rattle.std.proofs.Math.Nat.{pow-succ'}
 use Rattle.std.proofs.lemmas.List.{length-replicate, length-map, get_or-map, get_or-take, ext_get_or, length-take-le}
 use Rattle.std.proofs.lemmas.List.FromFn.{fill_by_all}
 use Rattle.std.proofs.lemmas.List.Sums.{fold_more}
-use Rattle.std.proofs.lemmas.Nat.{and_mask}
 use Rattle.fax_bits.specs.declared.FillOrder.TheVariants.{MsbFirst}
 use Rattle.fax_bits.specs.declared.Colour.{Colour}
 use Rattle.fax_bits.specs.declared.Colour.TheVariants.{White, Black}
@@ -19,12 +18,6 @@ use Rattle.fax_rows.specs.Packed.{packed_len, is_black, colour_of_bit, packed_by
 
 -- by the law of the bits of bytes
 module _ (law : AreBitsByPlace) where
-  -- bit i of the bytes, as the program reads it
-  pub bit_read : (bytes : List ℕ) (i : ℕ) → i < 8 * length bytes
-      → nat_eq (bit_and (get_or bytes (i / 8) 0 / 2 ^ (7 - i % 8)) 1) 1 ≡ get_or (bits MsbFirst bytes) i false
-  bit_read bytes i within =
-      ap (λ n. nat_eq n 1) (and_mask (get_or bytes (i / 8) 0 / 2 ^ (7 - i % 8)) 1) ∙ sym (law.of_bytes MsbFirst bytes i within)
-
   -- a row whose pels are the bits of bytes
   pub unpacked_at : (row : List Colour) (bytes : List ℕ) (width : ℕ) → length row ≡ width → length bytes ≡ packed_len width
       → ((k : ℕ) → k < width → get_or row k White ≡ colour_of_bit (get_or (bits MsbFirst bytes) k false))
@@ -54,12 +47,14 @@ unpacked_none b places is = record {
   behind = λ k h. ap (λ ps. turned Black ps k) is ∙ turned-first k;
 }
 
--- one pel more of the colour
-pub unpacked_on : (b : List Bool) (places : List ℕ) (i : ℕ) (colour pel : Colour) → IsUnpackedTo b places i colour → pel ≡ colour
-    → pel ≡ colour_of_bit (get_or b i false) → IsUnpackedTo b places (i + 1) colour
-unpacked_on b places i colour pel so_far same is = record {
-  before = below_more (λ k. turned Black places k ≡ colour_of_bit (get_or b k false)) i so_far.before
-      (so_far.behind i (omega arith) ∙ sym same ∙ is);
+-- pels more of the colour
+pub unpacked_run : (b : List Bool) (places : List ℕ) (i j : ℕ) (colour : Colour) → IsUnpackedTo b places i colour → i ≤ j
+    → ((k : ℕ) → i ≤ k → k < j → colour_of_bit (get_or b k false) ≡ colour) → IsUnpackedTo b places j colour
+unpacked_run b places i j colour so_far further same = record {
+  before = λ k h. elim (cases_lt k i) [
+    | inl near ↦ so_far.before k near
+    | inr far ↦ so_far.behind k far ∙ sym (same k far h)
+  ];
   behind = λ k h. so_far.behind k (omega arith);
 }
 

@@ -12,7 +12,7 @@ first_place_by true i more r pass fail = pass refl
 first_place_by false i more r pass fail = fail refl
 
 -- the first place that passes a test, or the place behind them all
-first_place_at : (test : ℕ → Bool) (i n r : ℕ) → i ≤ r → r ≤ i + n
+pub first_place_at : (test : ℕ → Bool) (i n r : ℕ) → i ≤ r → r ≤ i + n
     → ((k : ℕ) → i ≤ k → k < r → test k ≡ false) → (r < i + n → test r ≡ true) → first_place test i n ≡ r
 unfolding first_place
 first_place_at test i zero r low high left at = omega arith

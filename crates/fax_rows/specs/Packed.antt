@@ -1,10 +1,11 @@
 -- Rows as packed bytes, as in a raw PBM (the netpbm format, P4): eight pels in a byte, and 1 is black.
-use Rattle.std.specs.Prelude.{◌≡◌, ℕ, ◌+◌, ◌-◌, ◌*◌, ◌/◌, Bool, true, false, List, ◌++◌, map, length, take, drop, replicate}
+use Rattle.std.specs.Prelude.{◌≡◌, ℕ, ◌+◌, ◌-◌, ◌*◌, ◌/◌, Bool, true, false, List, ◌++◌, map, length, take, drop, replicate, not, slice_index_or}
 use Rattle.std.specs.List.{range_with_len}
 use Rattle.fax_bits.specs.declared.FillOrder.TheVariants.{MsbFirst}
 use Rattle.fax_bits.specs.declared.Colour.{Colour}
 use Rattle.fax_bits.specs.declared.Colour.TheVariants.{White, Black}
 use Rattle.fax_bits.specs.Bits.{bits, bits_number}
+use Rattle.fax_rows.specs.Elements.{same_colour, first_place}
 
 -- how many bytes hold the pels of a row (the netpbm format, P4)
 abbrev pub packed_len : ℕ → ℕ
@@ -32,6 +33,12 @@ packed_row row = map (λ k. packed_byte row (8 * k)) (range_with_len 0 (packed_l
 -- the row of some bytes, of which the padding behind the last pel is ignored (the netpbm format, P4)
 unfoldable pub unpacked_row : ℕ → List ℕ → List Colour
 unpacked_row width bytes = take width (map colour_of_bit (bits MsbFirst bytes))
+
+-- the least place from this one on whose bit, the highest of each byte first, is not of the colour, or the place
+-- behind the last bit (the netpbm format, P4)
+unfoldable pub first_other : List ℕ → ℕ → Colour → ℕ
+first_other bytes from colour =
+    first_place (λ i. not (same_colour (colour_of_bit (slice_index_or (bits MsbFirst bytes) i false)) colour)) from (8 * length bytes - from)
 
 -- the bits of a packed row are its pels, and zeros up to a whole byte (the netpbm format, P4)
 abbrev pub HasBitsOfPels : Type 0

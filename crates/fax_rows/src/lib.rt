@@ -2,6 +2,7 @@
 //! T.6).
 #![tactic(auto)]
 
+mod lanes;
 pub mod laws;
 mod longest_runs;
 mod one_dimensional;
@@ -15,6 +16,7 @@ mod two_dimensional;
 
 use fax_bits::CodeFault;
 pub use fax_bits::{BitSink, BitSource, Colour, FillOrder, Memory};
+pub use lanes::first_other;
 pub use one_dimensional::read_1d;
 pub use pels::Row;
 pub use places::b1_b2;

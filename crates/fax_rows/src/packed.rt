@@ -5,9 +5,11 @@ ghost use Rattle.std.specs.Prelude.{slice_index, slice_index_or};
 ghost use Rattle.fax_bits.specs.Bits.{bits};
 ghost use Rattle.fax_bits.specs.declared.FillOrder.TheVariants.{MsbFirst};
 ghost use Rattle.fax_rows.specs.Packed as Spec;
-ghost use Rattle.fax_rows.specs.code.Turns.{row_of, IsAscending};
+ghost use Rattle.fax_rows.specs.code.Turns.{row_of, ArePlaces, HasPassed, IsAscending, IsBehind};
 
+use crate::lanes::first_other;
 use crate::pels::Row;
+use crate::runs::other;
 use crate::turns::{close, turn};
 use fax_bits::laws::bits_stand_by_place;
 use fax_bits::{Colour, Memory};
@@ -41,30 +43,79 @@ impl Row {
         requires { length out.old ≡ Spec.packed_len (length self.now) }
         ensures { out.new ≡ Spec.packed_row self.now }
     {
-        for k in 0..self.width().div_ceil(8) {
-            out[k as usize] = self.packed_byte(8 * k);
-        }
+        pack_places(&self.places, self.end, self.width, out);
     }
+}
 
-    /// The byte of the eight pels from this place on, with zeros behind the last pel.
-    fn packed_byte(&self, from: u32) -> u8
-        requires within { from < length self.now }
-        requires short { from < 2 ^ 16 }
-        ensures { result ≡ Spec.packed_byte self.now from }
-    {
-        let mut byte = 0;
-        for i in 0..8 {
-            byte = 2 * byte + u8::from(self.is_black(from + i));
-        }
-        byte
+/// Writes the pels of a row as bytes, by its places of change.
+fn pack_places(places: &[u32], end: usize, width: u32, out: &mut [u8])
+    requires row { ArePlaces places.now end width }
+    requires whole { length out.old ≡ Spec.packed_len width }
+    ensures { out.new ≡ Spec.packed_row (row_of places.now end width) }
+{
+    let mut passed = 1;
+    for k in 0..width.div_ceil(8) {
+        let (byte, behind) = packed_byte(places, end, width, 8 * k, passed);
+        out[k as usize] = byte;
+        passed = behind;
     }
+}
 
-    /// A pel stands at this place, and it is black.
-    fn is_black(&self, i: u32) -> bool
-        ensures { result ≡ slice_index_or (map Spec.is_black self.now) i false }
-    {
-        i < self.width() && self.pel(i) == Colour::Black
+/// The byte of the eight pels from a place on, with zeros behind the last pel, where so many places of
+/// change are passed; and how many are passed behind it.
+fn packed_byte(places: &[u32], end: usize, width: u32, from: u32, passed: usize) -> (u8, usize)
+    requires row { ArePlaces places.now end width }
+    requires within { from < width }
+    requires so_far { HasPassed places.now end from passed }
+    ensures byte { result.0 ≡ Spec.packed_byte (row_of places.now end width) from }
+    ensures so_far { HasPassed places.now end (from + 8) result.1 }
+{
+    if places[passed] < from + 8 {
+        return packed_by_pels(places, end, width, from, passed);
     }
+    // No colour changes within the byte.
+    let byte = if passed % 2 == 1 { 0x00 } else { 0xFF };
+    (byte, passed)
+}
+
+/// What `packed_byte` says, by each pel.
+fn packed_by_pels(places: &[u32], end: usize, width: u32, from: u32, passed: usize) -> (u8, usize)
+    requires row { ArePlaces places.now end width }
+    requires within { from < width }
+    requires so_far { HasPassed places.now end from passed }
+    ensures byte { result.0 ≡ Spec.packed_byte (row_of places.now end width) from }
+    ensures so_far { HasPassed places.now end (from + 8) result.1 }
+{
+    let mut byte = 0;
+    let mut behind = passed;
+    for j in 0..8 {
+        behind = passed_behind(places, end, width, from + j, behind);
+        byte = 2 * byte + u8::from(is_black(places, end, width, from + j, behind));
+    }
+    (byte, behind)
+}
+
+/// How many places of change are passed behind a pel, where so many are passed before it.
+fn passed_behind(places: &[u32], end: usize, width: u32, i: u32, passed: usize) -> usize
+    requires row { ArePlaces places.now end width }
+    requires so_far { HasPassed places.now end i passed }
+    ensures so_far { HasPassed places.now end (i + 1) result }
+    ensures pel { i < width → IsBehind places.now end i result }
+{
+    if i < width && places[passed] == i {
+        passed + 1
+    } else {
+        passed
+    }
+}
+
+/// A pel stands at this place, behind so many places of change, and it is black.
+fn is_black(places: &[u32], end: usize, width: u32, i: u32, passed: usize) -> bool
+    requires row { ArePlaces places.now end width }
+    requires pel { i < width → IsBehind places.now end i passed }
+    ensures { result ≡ slice_index_or (map Spec.is_black (row_of places.now end width)) i false }
+{
+    i < width && passed % 2 == 0
 }
 
 /// Puts the places of change of the row of `width` pels that these bytes hold, and answers where
@@ -83,28 +134,11 @@ fn places_of_bits(bytes: &[u8], places: &mut [u32], width: u32) -> usize
     bits_stand_by_place();
     let mut end = 1;
     let mut colour = Colour::White;
-    for i in 0..width {
-        let pel = colour_of(bit(bytes, i));
-        if pel != colour {
-            end = turn(places, end, i);
-            colour = pel;
-        }
+    let mut at = first_other(bytes, 0, colour);
+    while at < u64::from(width) {
+        end = turn(places, end, at as u32);
+        colour = other(colour);
+        at = first_other(bytes, at + 1, colour);
     }
     end
-}
-
-/// Bit `i` of the bytes, the highest of each byte first.
-fn bit(bytes: &[u8], i: u32) -> bool
-    requires { i < 8 * length bytes.now }
-    ensures { result ≡ slice_index_or (bits MsbFirst bytes.now) i false }
-{
-    bits_stand_by_place();
-    (bytes[(i / 8) as usize] >> (7 - i % 8)) & 1 == 1
-}
-
-/// The colour of a pel whose bit this is.
-fn colour_of(bit: bool) -> Colour
-    ensures { result ≡ Spec.colour_of_bit bit }
-{
-    if bit { Colour::Black } else { Colour::White }
 }

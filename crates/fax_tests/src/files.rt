@@ -3,6 +3,7 @@ mod writing;
 ghost use Rattle.std.specs.Prelude.{◌+◌, ◌≤◌};
 
 use fax_files::*;
+use std::process::Abort;
 
 /// A file of one page, 8 pels by 1 row, as the standards lay it out: header, a strip of three bytes, a zero byte, a
 /// directory of sixteen entries, and two resolutions.
@@ -107,17 +108,19 @@ fn reads_a_file_of_one_page(rt: HostRuntime) {
     assert_eq!(rt; tiff.first(), 12);
     let directory = tiff.directory(12).expect(&rt, "the directory");
     assert_eq!(rt; directory.next_offset(), 0);
-    let form = directory.page().expect(&rt, "the page");
-    assert_eq!(rt; form.width, 8);
-    assert_eq!(rt; form.rows, 1);
-    assert!(rt; matches!(form.coding, Coding::Mh));
-    assert!(rt; matches!(form.order, FillOrder::MsbFirst));
-    assert!(rt; !form.exchanged);
-    assert_eq!(rt; form.rows_per_strip, 1);
-    assert_eq!(rt; form.strips, 1);
-    assert_eq!(rt; form.x, (204, 1));
-    assert_eq!(rt; form.y, (196, 1));
-    assert_eq!(rt; form.unit, 2);
+    let form = PageForm {
+        width: 8,
+        rows: 1,
+        coding: Coding::Mh,
+        order: FillOrder::MsbFirst,
+        exchanged: false,
+        rows_per_strip: 1,
+        strips: 1,
+        x: (204, 1),
+        y: (196, 1),
+        unit: 2,
+    };
+    assert_eq!(rt; directory.page(), Ok(form));
     assert!(rt; directory.in_order());
     let strip = first_strip(&ONE_PAGE).expect(&rt, "the strip");
     assert_eq!(rt; strip, [0x00, 0x18, 0xE0].as_slice());
@@ -224,80 +227,94 @@ fn sees_entries_out_of_order(rt: HostRuntime) {
 #[derive(Drop)]
 struct Refused(usize, &'static [u8], FileFault);
 
+static REFUSED: [Refused; 52] = [
+    Refused(0, b"XX", FileFault::ByteOrder),
+    Refused(0, b"MM", FileFault::Magic),
+    Refused(2, &[43], FileFault::Magic),
+    Refused(4, &[0], FileFault::NoDirectory),
+    Refused(4, &[255], FileFault::DirectoryOutside),
+    Refused(4, &[225], FileFault::DirectoryOutside),
+    Refused(12, &[18], FileFault::DirectoryOutside),
+    // ImageWidth: its tag, type, count and value
+    Refused(26, &[0xFF], FileFault::MissingField(256)),
+    Refused(28, &[2], FileFault::BadField(256)),
+    Refused(28, &[5], FileFault::BadField(256)),
+    Refused(30, &[0], FileFault::BadField(256)),
+    Refused(28, &[3, 0, 3, 0, 0, 0, 225], FileFault::BadField(256)),
+    Refused(34, &[0], FileFault::OutOfLimits(256)),
+    Refused(34, &[0, 0, 1], FileFault::OutOfLimits(256)),
+    // ImageLength: 0 and 1,000,001
+    Refused(46, &[0], FileFault::OutOfLimits(257)),
+    Refused(46, &[0x41, 0x42, 0x0F], FileFault::OutOfLimits(257)),
+    // ImageLength: its tag, type and count
+    Refused(38, &[0xFF], FileFault::MissingField(257)),
+    Refused(40, &[2], FileFault::BadField(257)),
+    Refused(42, &[0], FileFault::BadField(257)),
+    // BitsPerSample
+    Refused(52, &[5], FileFault::BadField(258)),
+    Refused(54, &[0], FileFault::BadField(258)),
+    Refused(58, &[2], FileFault::Unsupported(258)),
+    // Compression
+    Refused(62, &[0xFF], FileFault::MissingField(259)),
+    Refused(64, &[5], FileFault::BadField(259)),
+    Refused(66, &[0], FileFault::BadField(259)),
+    Refused(70, &[5], FileFault::Unsupported(259)),
+    Refused(70, &[2], FileFault::Unsupported(259)),
+    // PhotometricInterpretation
+    Refused(74, &[0xFF], FileFault::MissingField(262)),
+    Refused(76, &[5], FileFault::BadField(262)),
+    Refused(78, &[0], FileFault::BadField(262)),
+    Refused(82, &[2], FileFault::Unsupported(262)),
+    // FillOrder
+    Refused(88, &[5], FileFault::BadField(266)),
+    Refused(90, &[0], FileFault::BadField(266)),
+    Refused(94, &[0], FileFault::Unsupported(266)),
+    Refused(94, &[3], FileFault::Unsupported(266)),
+    // SamplesPerPixel
+    Refused(112, &[5], FileFault::BadField(277)),
+    Refused(114, &[0], FileFault::BadField(277)),
+    Refused(118, &[3], FileFault::Unsupported(277)),
+    // RowsPerStrip, and two rows in two strips, with one offset
+    Refused(124, &[5], FileFault::BadField(278)),
+    Refused(126, &[0], FileFault::BadField(278)),
+    Refused(130, &[0], FileFault::BadField(278)),
+    Refused(46, &[2], FileFault::BadField(273)),
+    // T4Options: a type that is no integer
+    Refused(172, &[5], FileFault::BadField(292)),
+    // StripOffsets: its tag, and a value of 224
+    Refused(174, &[0], FileFault::BadField(292)),
+    Refused(98, &[0xFF], FileFault::MissingField(273)),
+    Refused(100, &[5], FileFault::BadField(273)),
+    Refused(102, &[0], FileFault::BadField(273)),
+    Refused(106, &[224], FileFault::StripOutside),
+    // StripByteCounts: tag 280 for 279, count 0, and a value of 219
+    Refused(134, &[0x18], FileFault::MissingField(279)),
+    Refused(136, &[5], FileFault::BadField(279)),
+    Refused(138, &[0], FileFault::BadField(279)),
+    Refused(142, &[219], FileFault::StripOutside),
+];
+
+/// The file with this change is refused with its fault, in either order of bytes.
+fn assert_refused(rt: &impl Abort, change: &Refused) {
+    let file = changed(change.0, change.1);
+    let fault = Some(change.2);
+    assert!(rt;
+        first_strip(&file).err() == fault,
+        "the change at {}",
+        change.0
+    );
+    let big = big_endian(&file);
+    assert!(rt;
+        first_strip(&big).err() == fault,
+        "the change at {}",
+        change.0
+    );
+}
+
 #[test]
 fn names_the_first_fault(rt: HostRuntime) {
-    let rows = [
-        Refused(0, b"XX", FileFault::ByteOrder),
-        Refused(0, b"MM", FileFault::Magic),
-        Refused(2, &[43], FileFault::Magic),
-        Refused(4, &[0], FileFault::NoDirectory),
-        Refused(4, &[255], FileFault::DirectoryOutside),
-        Refused(4, &[225], FileFault::DirectoryOutside),
-        Refused(12, &[18], FileFault::DirectoryOutside),
-        // ImageWidth: its tag, type, count and value
-        Refused(26, &[0xFF], FileFault::MissingField(256)),
-        Refused(28, &[2], FileFault::BadField(256)),
-        Refused(28, &[5], FileFault::BadField(256)),
-        Refused(30, &[0], FileFault::BadField(256)),
-        Refused(28, &[3, 0, 3, 0, 0, 0, 225], FileFault::BadField(256)),
-        Refused(34, &[0], FileFault::OutOfLimits(256)),
-        Refused(34, &[0, 0, 1], FileFault::OutOfLimits(256)),
-        // ImageLength: 0 and 1,000,001
-        Refused(46, &[0], FileFault::OutOfLimits(257)),
-        Refused(46, &[0x41, 0x42, 0x0F], FileFault::OutOfLimits(257)),
-        // ImageLength: its tag, type and count
-        Refused(38, &[0xFF], FileFault::MissingField(257)),
-        Refused(40, &[2], FileFault::BadField(257)),
-        Refused(42, &[0], FileFault::BadField(257)),
-        // BitsPerSample
-        Refused(52, &[5], FileFault::BadField(258)),
-        Refused(54, &[0], FileFault::BadField(258)),
-        Refused(58, &[2], FileFault::Unsupported(258)),
-        // Compression
-        Refused(62, &[0xFF], FileFault::MissingField(259)),
-        Refused(64, &[5], FileFault::BadField(259)),
-        Refused(66, &[0], FileFault::BadField(259)),
-        Refused(70, &[5], FileFault::Unsupported(259)),
-        Refused(70, &[2], FileFault::Unsupported(259)),
-        // PhotometricInterpretation
-        Refused(74, &[0xFF], FileFault::MissingField(262)),
-        Refused(76, &[5], FileFault::BadField(262)),
-        Refused(78, &[0], FileFault::BadField(262)),
-        Refused(82, &[2], FileFault::Unsupported(262)),
-        // FillOrder
-        Refused(88, &[5], FileFault::BadField(266)),
-        Refused(90, &[0], FileFault::BadField(266)),
-        Refused(94, &[0], FileFault::Unsupported(266)),
-        Refused(94, &[3], FileFault::Unsupported(266)),
-        // SamplesPerPixel
-        Refused(112, &[5], FileFault::BadField(277)),
-        Refused(114, &[0], FileFault::BadField(277)),
-        Refused(118, &[3], FileFault::Unsupported(277)),
-        // RowsPerStrip, and two rows in two strips, with one offset
-        Refused(124, &[5], FileFault::BadField(278)),
-        Refused(126, &[0], FileFault::BadField(278)),
-        Refused(130, &[0], FileFault::BadField(278)),
-        Refused(46, &[2], FileFault::BadField(273)),
-        // T4Options: a type that is no integer
-        Refused(172, &[5], FileFault::BadField(292)),
-        // StripOffsets: its tag, and a value of 224
-        Refused(174, &[0], FileFault::BadField(292)),
-        Refused(98, &[0xFF], FileFault::MissingField(273)),
-        Refused(100, &[5], FileFault::BadField(273)),
-        Refused(102, &[0], FileFault::BadField(273)),
-        Refused(106, &[224], FileFault::StripOutside),
-        // StripByteCounts: tag 280 for 279, count 0, and a value of 219
-        Refused(134, &[0x18], FileFault::MissingField(279)),
-        Refused(136, &[5], FileFault::BadField(279)),
-        Refused(138, &[0], FileFault::BadField(279)),
-        Refused(142, &[219], FileFault::StripOutside),
-    ];
-    for row in rows.iter() {
-        let file = changed(row.0, row.1);
-        for either in [file, big_endian(&file)] {
-            let fault = first_strip(&either).err();
-            assert_eq!(rt; fault, Some(row.2), "the change at {}", row.0);
-        }
+    for change in REFUSED.iter() {
+        assert_refused(&rt, change);
     }
 }
 
@@ -319,44 +336,53 @@ fn names_the_fault_of_a_cut_file(rt: HostRuntime) {
 #[derive(Drop)]
 struct Read(usize, &'static [u8], u32, u32, usize);
 
+static READ: [Read; 18] = [
+    // an unknown tag in place of one that is not needed
+    Read(14, &[0xFF, 0xFF], 8, 1, 3),
+    Read(50, &[0xFF, 0xFF], 8, 1, 3),
+    Read(86, &[0xFF, 0xFF], 8, 1, 3),
+    Read(110, &[0xFF, 0xFF], 8, 1, 3),
+    Read(122, &[0xFF, 0xFF], 8, 1, 3),
+    Read(170, &[0xFF, 0xFF], 8, 1, 3),
+    // the first of two entries of ImageWidth: 2, then 8; 8, then 0
+    Read(14, &[0x00, 0x01], 2, 1, 3),
+    Read(194, &[0x00, 0x01], 8, 1, 3),
+    // ImageWidth as one SHORT in the entry, as two there, and as three at offset 2
+    Read(28, &[3], 8, 1, 3),
+    Read(28, &[3, 0, 2], 8, 1, 3),
+    Read(28, &[3, 0, 3, 0, 0, 0, 2], 42, 1, 3),
+    // ImageWidth as two LONGs at offset 4: 12, then the strip
+    Read(30, &[2, 0, 0, 0, 4], 12, 1, 3),
+    // the limits of ImageWidth
+    Read(34, &[0xFF, 0xFF], 65_535, 1, 3),
+    Read(34, &[1], 1, 1, 3),
+    // other bits of T4Options
+    Read(178, &[4], 8, 1, 3),
+    // RowsPerStrip above the rows
+    Read(130, &[9], 8, 1, 3),
+    // StripByteCounts of 218 and of 0
+    Read(142, &[218], 8, 1, 218),
+    Read(142, &[0], 8, 1, 0),
+];
+
+/// The file with this change has what comes of it.
+fn assert_reads(rt: &impl Abort, change: &Read) {
+    let file = changed(change.0, change.1);
+    let form = first_page(&file).expect(rt, "the page");
+    let rows = (form.width, form.rows, form.rows_per_strip);
+    assert!(rt;
+        rows == (change.2, change.3, change.3),
+        "the change at {}",
+        change.0
+    );
+    let strip = first_strip(&file).expect(rt, "the strip");
+    assert!(rt; strip.len() == change.4, "the change at {}", change.0);
+}
+
 #[test]
 fn reads_other_layouts_of_a_field(rt: HostRuntime) {
-    let rows = [
-        // an unknown tag in place of one that is not needed
-        Read(14, &[0xFF, 0xFF], 8, 1, 3),
-        Read(50, &[0xFF, 0xFF], 8, 1, 3),
-        Read(86, &[0xFF, 0xFF], 8, 1, 3),
-        Read(110, &[0xFF, 0xFF], 8, 1, 3),
-        Read(122, &[0xFF, 0xFF], 8, 1, 3),
-        Read(170, &[0xFF, 0xFF], 8, 1, 3),
-        // the first of two entries of ImageWidth: 2, then 8; 8, then 0
-        Read(14, &[0x00, 0x01], 2, 1, 3),
-        Read(194, &[0x00, 0x01], 8, 1, 3),
-        // ImageWidth as one SHORT in the entry, as two there, and as three at offset 2
-        Read(28, &[3], 8, 1, 3),
-        Read(28, &[3, 0, 2], 8, 1, 3),
-        Read(28, &[3, 0, 3, 0, 0, 0, 2], 42, 1, 3),
-        // ImageWidth as two LONGs at offset 4: 12, then the strip
-        Read(30, &[2, 0, 0, 0, 4], 12, 1, 3),
-        // the limits of ImageWidth
-        Read(34, &[0xFF, 0xFF], 65_535, 1, 3),
-        Read(34, &[1], 1, 1, 3),
-        // other bits of T4Options
-        Read(178, &[4], 8, 1, 3),
-        // RowsPerStrip above the rows
-        Read(130, &[9], 8, 1, 3),
-        // StripByteCounts of 218 and of 0
-        Read(142, &[218], 8, 1, 218),
-        Read(142, &[0], 8, 1, 0),
-    ];
-    for row in rows.iter() {
-        let file = changed(row.0, row.1);
-        let form = first_page(&file).expect(&rt, "the page");
-        assert_eq!(rt; form.width, row.2, "the change at {}", row.0);
-        assert_eq!(rt; form.rows, row.3, "the change at {}", row.0);
-        assert_eq!(rt; form.rows_per_strip, row.3, "the change at {}", row.0);
-        let strip = first_strip(&file).expect(&rt, "the strip");
-        assert_eq!(rt; strip.len(), row.4, "the change at {}", row.0);
+    for change in READ.iter() {
+        assert_reads(&rt, change);
     }
 }
 

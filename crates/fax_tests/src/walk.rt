@@ -29,51 +29,69 @@ const TWO_ROWS: [u8; 90] = [
 /// The place of the number of rows in that file.
 const ROWS: usize = 34;
 
+/// The next row has this place and these runs.
+fn assert_row(
+    rt: &impl Abort,
+    alloc: Global,
+    walk: &mut Walk,
+    place: Place,
+    runs: &[u32],
+) -> Result<(), Fail> {
+    match walk.next_row() {
+        Ok(Some((at, row))) => {
+            assert_eq!(rt; at, place);
+            assert!(rt; row.runs(alloc)?.as_slice() == runs);
+        }
+        _ => assert!(rt; false, "a row is there"),
+    }
+    Ok(())
+}
+
+/// The walk has ended, with nothing due but this.
+fn assert_end(rt: &impl Abort, walk: &mut Walk, due: Cursor) {
+    assert!(rt; matches!(walk.next_row(), Ok(None)), "these were all rows");
+    assert_eq!(rt; walk.cursor(), due);
+}
+
+/// The row that is due cannot be read, for this cause.
+fn assert_fault(rt: &impl Abort, walk: &mut Walk, due: Cursor, cause: Cause) {
+    let Cursor { page, row } = due;
+    let fault = WalkFault::AtRow { page, row, cause };
+    assert_eq!(rt; walk.next_row().err(), Some(fault));
+    assert_eq!(rt; walk.cursor(), due);
+}
+
 #[test]
 fn hands_out_each_row_once(rt: HostRuntime) -> Result<(), Fail> {
     let mut file = TWO_ROWS;
     file[ROWS] = 1;
     let mut walk = Walk::start(rt.alloc(), &file);
     assert_eq!(rt; walk.cursor(), Cursor { page: 0, row: 0 });
-    match walk.next_row() {
-        Ok(Some((place, row))) => {
-            assert_eq!(rt; place, Place { page: 0, row: 0 });
-            assert_eq!(rt; row.runs(rt.alloc())?.as_slice(), [3, 2, 3].as_slice());
-        }
-        _ => assert!(rt; false, "the first row is there"),
-    }
+    let first = Place { page: 0, row: 0 };
+    assert_row(&rt, rt.alloc(), &mut walk, first, &[3, 2, 3])?;
     for _ in 0..2 {
-        assert!(rt; matches!(walk.next_row(), Ok(None)), "one row was all");
-        assert_eq!(rt; walk.cursor(), Cursor { page: 0, row: 1 });
+        assert_end(&rt, &mut walk, Cursor { page: 0, row: 1 });
     }
     Ok(())
 }
 
 #[test]
-fn answers_a_fault_again(rt: HostRuntime) {
+fn answers_a_fault_again(rt: HostRuntime) -> Result<(), Fail> {
     let mut walk = Walk::start(rt.alloc(), &TWO_ROWS);
-    assert!(rt;
-        matches!(walk.next_row(), Ok(Some(_))),
-        "the first row is there"
-    );
+    let first = Place { page: 0, row: 0 };
+    assert_row(&rt, rt.alloc(), &mut walk, first, &[3, 2, 3])?;
+    let second = Cursor { page: 0, row: 1 };
     for _ in 0..2 {
-        match walk.next_row() {
-            Err(WalkFault::AtRow { page, row, cause }) => {
-                assert_eq!(rt; (page, row), (0, 1));
-                assert!(rt; matches!(cause, Cause::Strip(StripFault::DataEnds)));
-            }
-            _ => assert!(rt; false, "the second row is cut"),
-        }
-        assert_eq!(rt; walk.cursor(), Cursor { page: 0, row: 1 });
+        assert_fault(&rt, &mut walk, second, Cause::Strip(StripFault::DataEnds));
     }
-    let mut empty = Walk::start(rt.alloc(), &[]);
-    match empty.next_row() {
-        Err(WalkFault::AtRow { page, row, cause }) => {
-            assert_eq!(rt; (page, row), (0, 0));
-            assert!(rt; matches!(cause, Cause::File(FileFault::ShortHeader)));
-        }
-        _ => assert!(rt; false, "an empty file has no header"),
-    }
+    Ok(())
+}
+
+#[test]
+fn needs_a_header(rt: HostRuntime) {
+    let mut walk = Walk::start(rt.alloc(), &[]);
+    let due = Cursor { page: 0, row: 0 };
+    assert_fault(&rt, &mut walk, due, Cause::File(FileFault::ShortHeader));
 }
 
 #[test]
@@ -114,40 +132,30 @@ const MMR: [u8; 126] = [
     0, 0,
 ];
 
-/// The walk over a file hands out these rows, by their runs, and then ends.
-fn hands_out(rt: &impl Abort, alloc: Global, file: &[u8], rows: &[&[u32]]) -> Result<(), Fail> {
+/// The walk over a file hands out these two rows, by their runs, and then ends.
+fn hands_out(rt: &impl Abort, alloc: Global, file: &[u8], rows: [&[u32]; 2]) -> Result<(), Fail> {
     let mut walk = Walk::start(alloc, file);
-    for runs in rows {
-        match walk.next_row() {
-            Ok(Some((_, row))) => assert_eq!(rt; row.runs(alloc)?.as_slice(), *runs),
-            _ => assert!(rt; false, "a row is there"),
-        }
-    }
-    assert!(rt; matches!(walk.next_row(), Ok(None)), "these were all rows");
+    assert_row(rt, alloc, &mut walk, Place { page: 0, row: 0 }, rows[0])?;
+    assert_row(rt, alloc, &mut walk, Place { page: 0, row: 1 }, rows[1])?;
+    assert_end(rt, &mut walk, Cursor { page: 0, row: 2 });
     Ok(())
 }
 
 #[test]
 fn reads_strip_by_strip(rt: HostRuntime) -> Result<(), Fail> {
-    hands_out(&rt, rt.alloc(), &MMR, &[&[3, 2, 3], &[8]])
+    hands_out(&rt, rt.alloc(), &MMR, [&[3, 2, 3], &[8]])
 }
 
 #[test]
-fn stops_at_a_strip_outside(rt: HostRuntime) {
+fn stops_at_a_strip_outside(rt: HostRuntime) -> Result<(), Fail> {
     let mut file = MMR;
     file[112] = 123;
     let mut walk = Walk::start(rt.alloc(), &file);
-    assert!(rt;
-        matches!(walk.next_row(), Ok(Some(_))),
-        "the first strip is there"
-    );
-    match walk.next_row() {
-        Err(WalkFault::AtRow { page, row, cause }) => {
-            assert_eq!(rt; (page, row), (0, 1));
-            assert!(rt; matches!(cause, Cause::File(FileFault::StripOutside)));
-        }
-        _ => assert!(rt; false, "the second strip is not"),
-    }
+    let first = Place { page: 0, row: 0 };
+    assert_row(&rt, rt.alloc(), &mut walk, first, &[3, 2, 3])?;
+    let second = Cursor { page: 0, row: 1 };
+    assert_fault(&rt, &mut walk, second, Cause::File(FileFault::StripOutside));
+    Ok(())
 }
 
 #[test]
@@ -157,5 +165,5 @@ fn exchanges_colours_behind_the_reference(rt: HostRuntime) -> Result<(), Fail> {
     file[64] = 1;
     file[88] = 2;
     file[9] = 0xf8;
-    hands_out(&rt, rt.alloc(), &file, &[&[0, 3, 2, 3], &[0, 3, 2, 3]])
+    hands_out(&rt, rt.alloc(), &file, [&[0, 3, 2, 3], &[0, 3, 2, 3]])
 }

@@ -1,5 +1,5 @@
 -- What is due on a page, row by row and strip by strip.
-use Rattle.std.proofs.Common.{◌≡◌, ℕ, zero, suc, ◌+◌, ◌-◌, ◌*◌, ◌<◌, ◌≤◌, min, Bool, true, false, List, [], ◌∷◌, ◌++◌, length, drop, map, Option, Some, None, Err, inl, inr, refl, ap, sym, ◌∙◌, arith, add-mul}
+use Rattle.std.proofs.Common.{◌≡◌, ℕ, zero, suc, ◌+◌, ◌-◌, ◌*◌, ◌^◌, ◌<◌, ◌≤◌, min, Bool, true, false, List, [], ◌∷◌, ◌++◌, length, drop, map, Option, Some, None, Err, inl, inr, refl, ap, sym, ◌∙◌, arith, add-mul}
 use Rattle.std.specs.Prelude.{if◌then◌else◌, ◌⊎◌}
 use Rattle.std.proofs.Math.Nat.{mul-le-mul_right}
 use Rattle.std.proofs.lemmas.Bool.{cases_lt}
@@ -22,7 +22,7 @@ use Rattle.fax_walk.specs.declared.end.End.{End}
 use Rattle.fax_walk.specs.declared.end.End.TheVariants.{Fault}
 use Rattle.fax_walk.specs.Items.{Item, numbered, stop_at, Follows}
 use Rattle.fax_walk.specs.code.Stages.{PageState, row_of, skipped, row_handed_out}
-use Rattle.fax_walk.specs.code.Due.{AreStripsBehind, IsLeftOnPage, IsDueOnPage, ArePagesBehind, IsOpen, ReadsPageRow, GivesRow, KeepsPage}
+use Rattle.fax_walk.specs.code.Due.{AreStripsBehind, IsLeftOnPage, IsDueOnPage, ArePagesBehind, IsOpen, ReadsPageRow, GivesRow, GivesNone, KeepsPage}
 
 -- rows as they are handed out, one after the other
 pub shown_none : (form : PageForm) → shown form [] ≡ []
@@ -317,13 +317,14 @@ pub record Skips (old now : PageState) : Type 0 where
   pub due : (items : List Item) (end : End) → IsDueOnPage now items end → IsDueOnPage old items end
   pub to_go : row_of now + skipped now ≡ row_of old + skipped old
   pub read : now.read + skipped now ≡ old.read + skipped old
+  pub some : old.read ≤ now.read
   pub same_page : now.page ≡ old.page
   pub is_open : IsOpen now
   pub row_due : row_of now < now.form.rows
 
 pub none_skipped : (page : PageState) → IsOpen page → row_of page < page.form.rows → Skips page page
 none_skipped page at due =
-    record { due = λ items end d. d; to_go = refl; read = refl; same_page = refl; is_open = at; row_due = due }
+    record { due = λ items end d. d; to_go = refl; read = refl; some = omega arith; same_page = refl; is_open = at; row_due = due }
 
 -- one more row before the first that is handed out
 pub one_skipped : (old now new : PageState) → Skips old now → ReadsPageRow now new → row_of new ≤ new.first → Skips old new
@@ -333,14 +334,15 @@ one_skipped old now new skips reads before =
       due = λ items end due. skips.due items end (reads.due_before items end some due);
       to_go = omega (arith, skips.to_go, reads.next_row, reads.same_first, before);
       read = omega (arith, skips.read, reads.one_more, reads.next_row, reads.same_first, before);
+      some = omega (arith, skips.some, reads.one_more);
       same_page = reads.same_page ∙ skips.same_page;
       is_open = reads.still_open;
       row_due = omega (arith, before, reads.still_open.first);
     }
 
 -- the first row that is handed out
-pub row_given : (old now new : PageState) → Skips old now → ReadsPageRow now new → new.first < row_of new → GivesRow old new
-row_given old now new skips reads behind =
+pub row_given : (old now new : PageState) → Skips old now → ReadsPageRow now new → new.first < row_of new → new.read < 2 ^ 64 → GivesRow old new
+row_given old now new skips reads behind few =
     let none : skipped now ≡ 0 = omega (arith, reads.next_row, reads.same_first, behind) in
     let row : row_of now ≡ row_of old + skipped old = omega (arith, skips.to_go, none) in
     record {
@@ -351,4 +353,9 @@ row_given old now new skips reads behind =
       same_page = reads.same_page ∙ skips.same_page;
       still_open = reads.still_open;
       read = omega (arith, skips.read, reads.one_more, none);
+      few = few;
     }
+
+-- the rows end before the first that is handed out
+pub none_given : (old now new : PageState) → Skips old now → new.read ≡ now.read → GivesNone old new
+none_given old now new skips same = record { some = omega (arith, same, skips.some); most = omega (arith, same, skips.read) }

@@ -5,6 +5,7 @@ pub mod TailLemmas
 pub mod FormLemmas
 pub mod OneFormLemmas
 pub mod PrintedLemmas
+pub mod BeforeLemmas
 pub mod BehindLemmas
 pub mod CursorLemmas
 pub mod DueLemmas

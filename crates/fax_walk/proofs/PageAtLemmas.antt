@@ -115,6 +115,7 @@ module _ (chain : ChainState) (good : header chain.tiff.file ≡ Ok chain.tiff.h
   row_there within = record {
     same_page = same_page ∙ given;
     within = within;
+    before = rw good (one.offsets, one.end, one.is, rw (some, form_is) refl);
     from_row = λ items end below from.
         let own = rw (directory_is, same_page, given) at from in
         rw good (one.offsets, one.end, one.is, rw (some, form_is) (inr (inr (below, from_row_so _ _ _ _ _ _ _ _ behind items end own))));

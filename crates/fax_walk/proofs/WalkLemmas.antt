@@ -18,7 +18,7 @@ pub record TakesPlace (walk : WalkState) (page : PageState) : Type 0 where
   pub row : row_of page < page.form.rows
 
 pub entered : (walk : WalkState) (page : PageState) → TakesPlace walk page → IsEntered walk (record walk { stage = Open page })
-entered walk page takes = record { due = takes.due; cursor = refl; at_row = takes.row }
+entered walk page takes = record { due = takes.due; same = refl; at_row = takes.row }
 
 -- before the first page
 pub takes_first : (walk : WalkState) (page : PageState) (opened result : Result PageState OpenFault) → walk.stage ≡ Before → opened ≡ result
@@ -63,13 +63,16 @@ module _ (walk : WalkState) (old new : PageState) (cursor : Cursor) (stage_is : 
       let limits = gives.still_open.limits.rows in
       omega (arith, from.behind, from.is_open.page_number, gives.next_row, within, limits)
 
-  pub stepped : StepsAs walk (Open new) (record walk { cursor = cursor; stage = Open new })
+  pub stepped : StepsAs walk (Open new) (record walk { given = walk.given + 1; cursor = cursor; stage = Open new })
   stepped = (
     record {
       due = λ items end due. rw (stage_is, ← item_is) (gives.due items end due);
       cursor =
           let behind : row_of new ≡ row_of new - 1 + 1 = omega (arith, gives.next_row) in
           cursor_is ∙ ap (λ n. record { page = new.page; row = n }) behind;
+      file = refl;
+      begun = refl;
+      one_more = refl;
       fewer = omega (arith, later, within);
     },
     omega (arith, gives.next_row),

@@ -1,5 +1,5 @@
 //! A page whose rows are read, strip by strip.
-ghost use Rattle.std.specs.Prelude.{◌≡◌, ◌+◌, ◌*◌, ◌<◌, ◌≤◌, ◌==◌, List, [], IfErr, IfOk, OnOk};
+ghost use Rattle.std.specs.Prelude.{◌≡◌, ◌+◌, ◌*◌, ◌<◌, ◌≤◌, ◌==◌, List, [], IfErr, IfOk, OnErr, OnOk};
 ghost use Rattle.fax_files.specs.Page.{IsPageForm};
 ghost use Rattle.fax_walk.specs.Items.{Item, AreFromRow};
 ghost use Rattle.fax_walk.specs.code.Due as Due;
@@ -184,6 +184,7 @@ impl<'a> OpenPage<'a> {
         requires due { row_of self.old < self.old.form.rows }
         ensures ok { OnOk result (Due.KeepsPage self.old self.new) }
         ensures number { OnOk result (self.new.number ≡ self.old.number + 1) }
+        ensures same_read { self.new.read ≡ self.old.read }
         ensures err { IfErr result (Due.IsDueOnPage self.old []) }
     {
         let number = self.number + 1;
@@ -215,6 +216,7 @@ impl<'a> OpenPage<'a> {
         requires due { row_of self.old < self.old.form.rows }
         ensures ok { OnOk result (Due.ReadsPageRow self.old self.new) }
         ensures err { IfErr result (Due.IsDueOnPage self.old []) }
+        ensures same_read { OnErr result (self.new.read ≡ self.old.read) }
     {
         loop {
             match self.strip.advance() {
@@ -242,6 +244,7 @@ impl<'a> OpenPage<'a> {
         requires due { row_of self.old < self.old.form.rows }
         ensures ok { OnOk result (Due.GivesRow self.old self.new) }
         ensures err { IfErr result (Due.IsDueOnPage self.old []) }
+        ensures none { OnErr result (Due.GivesNone self.old self.new) }
     {
         loop {
             self.advance()?;

@@ -46,6 +46,13 @@ pub record IsBehind (places : List ℕ) (end i k : ℕ) : Type 0 where
   pub left : slice_index places (k - 1) ≤ i
   pub right : k < end → i < slice_index places k
 
+-- the first k of the places are not right of pel i, and the others not left of it
+pub record HasPassed (places : List ℕ) (end i k : ℕ) : Type 0 where
+  pub some : 0 < k
+  pub within : k ≤ end
+  pub left : slice_index places (k - 1) ≤ i
+  pub right : k < end → i ≤ slice_index places k
+
 -- the new places give the colours of the old ones, turned from a place on
 pub record IsTurnedFrom (old new : List ℕ) (place : ℕ) : Type 0 where
   pub left : (i : ℕ) → i < place → turned Black new i ≡ turned Black old i

@@ -4,7 +4,7 @@ ghost use Rattle.fax_files.specs.Page.{IsPageForm};
 
 use super::ONE_PAGE;
 use fax_files::{Coding, FillOrder, PageForm, Tiff, TiffWriter, WriteFault};
-use fax_page::StripReader;
+use fax_page::{Row, StripReader};
 use std::alloc::Global;
 use std::process::Abort;
 use std::test::Fail;
@@ -129,11 +129,21 @@ const ROWS: [&[&[u32]]; 3] = [
 
 /// A file of three pages, one of each coding.
 fn three_pages(alloc: Global) -> Result<Vec<u8>, Fail> {
+    let [mh, mr, mmr] = STRIPS;
     let mut writer = TiffWriter::new(alloc, 3)?;
-    writer.add_page(&form_of_page(Coding::Mh, 1), &[STRIPS[0].to_vec(alloc)?])?;
-    writer.add_page(&form_of_page(Coding::Mr, 2), &[STRIPS[1].to_vec(alloc)?])?;
-    writer.add_page(&form_of_page(Coding::Mmr, 2), &[STRIPS[2].to_vec(alloc)?])?;
+    let mh = mh.to_vec(alloc)?;
+    writer.add_page(&form_of_page(Coding::Mh, 1), &[mh])?;
+    let mr = mr.to_vec(alloc)?;
+    writer.add_page(&form_of_page(Coding::Mr, 2), &[mr])?;
+    let mmr = mmr.to_vec(alloc)?;
+    writer.add_page(&form_of_page(Coding::Mmr, 2), &[mmr])?;
     Ok(writer.finish())
+}
+
+/// A row has these runs.
+fn assert_runs(rt: &impl Abort, alloc: Global, row: &Row, runs: &[u32]) -> Result<(), Fail> {
+    assert!(rt; row.runs(alloc)?.as_slice() == runs);
+    Ok(())
 }
 
 /// A strip has these rows and no more.
@@ -144,12 +154,10 @@ fn assert_rows(
     wanted: &[&[u32]],
 ) -> Result<(), Fail> {
     for runs in wanted {
-        let is_there = reader.advance()?;
-        assert!(rt; is_there);
-        assert_eq!(rt; reader.row().runs(alloc)?.as_slice(), *runs);
+        assert!(rt; reader.advance() == Ok(true));
+        assert_runs(rt, alloc, reader.row(), *runs)?;
     }
-    let is_there = reader.advance()?;
-    assert!(rt; !is_there);
+    assert!(rt; reader.advance() == Ok(false));
     Ok(())
 }
 

@@ -20,12 +20,15 @@ use Rattle.fax_walk.specs.declared.walk.Stage.TheVariants.{Before, Open, Ended}
 use Rattle.fax_walk.specs.Cursor.{start}
 use Rattle.fax_walk.specs.Items.{Item, numbered, stop_at, Follows, ArePagesItems}
 use Rattle.fax_walk.specs.Tail.{IsTail}
+use Rattle.fax_walk.specs.Before.{AreRowsBefore}
 use Rattle.fax_walk.specs.code.Stages.{PageState, row_of, skipped}
 
--- a walk: its file, the place behind the last row that was handed out, or the one that it began with, and how far it
--- has come
+-- a walk: its file, the cursor that it began with, how many rows it handed out, the place behind the last of them, or
+-- the one that it began with, and how far it has come
 pub record WalkState : Type 0 where
   pub file : List ℕ
+  pub begun : Cursor
+  pub given : ℕ
   pub cursor : Cursor
   pub stage : Stage
 
@@ -79,7 +82,7 @@ IsDue walk items end = IsDueAt walk.file walk.cursor walk.stage items end
 
 -- a walk from a cursor, before its first item
 abbrev pub walk_from : List ℕ → Cursor → WalkState
-walk_from file cursor = record { file = file; cursor = cursor; stage = Before }
+walk_from file cursor = record { file = file; begun = cursor; given = 0; cursor = cursor; stage = Before }
 
 -- a walk before the first item of its file
 abbrev pub walk_start : List ℕ → WalkState
@@ -102,10 +105,28 @@ pub record IsOpenFrom (cursor : Cursor) (page : PageState) : Type 0 where
   pub within : row_of page ≤ page.form.rows
   pub behind : place_number cursor.page cursor.row ≤ place_number page.page (row_of page + skipped page)
 
-abbrev pub IsSound : Stage → Cursor → Type 0
-IsSound Before cursor = ⊤
-IsSound (Open page) cursor = IsOpenFrom cursor page
-IsSound (Ended end read) cursor = ⊤
+-- a walk that began with this cursor, handed out so many rows and has so many to read before the next one has read so
+-- many: those that it handed out, and those before the first of them in its strip
+pub record HasCounted (file : List ℕ) (begun : Cursor) (given left read : ℕ) : Type 0 where
+  pub before : ℕ
+  pub are_before : AreRowsBefore file begun before
+  pub count : read + left ≡ given + before
+  pub none_left : 0 < given → left ≡ 0
+
+-- a walk that has ended has read the rows that it handed out, and those before the first of them in its strip; where it
+-- handed out none, at most these
+pub record HasReadAll (file : List ℕ) (begun : Cursor) (given read : ℕ) : Type 0 where
+  pub before : ℕ
+  pub are_before : AreRowsBefore file begun before
+  pub all : 0 < given → read ≡ given + before
+  pub most : read ≤ given + before
+
+-- before its first row a walk stands where it began, on a page its first row to hand out stands at the cursor or behind
+-- it, and its rows are counted
+abbrev pub IsSound : List ℕ → Cursor → ℕ → Cursor → Stage → Type 0
+IsSound file begun given cursor Before = (cursor ≡ begun) × (given ≡ 0)
+IsSound file begun given cursor (Open page) = IsOpenFrom cursor page × HasCounted file begun given (skipped page) page.read
+IsSound file begun given cursor (Ended end read) = HasReadAll file begun given read
 
 -- a page is open for a cursor: no row is read yet, and the first one that is handed out stands at the cursor or behind it
 --
@@ -135,6 +156,12 @@ pub record GivesRow (old new : PageState) : Type 0 where
   pub same_page : new.page ≡ old.page
   pub still_open : IsOpen new
   pub read : new.read ≡ old.read + skipped old + 1
+  pub few : new.read < 2 ^ 64
+
+-- the rows end before the next one that is handed out: at most the rows before it were read
+pub record GivesNone (old new : PageState) : Type 0 where
+  pub some : old.read ≤ new.read
+  pub most : new.read ≤ old.read + skipped old
 
 -- the same page, with the same rows due, at this strip or a later one
 pub record KeepsPage (old new : PageState) : Type 0 where

@@ -1,5 +1,5 @@
 -- Pages as they become due.
-use Rattle.std.specs.Prelude.{◌≡◌, ℕ, ◌+◌, ◌<◌, ◌≤◌, ◌⊎◌, List, [], length, drop, Option, Some, None, Result, Ok, Err, slice_get, ⊤}
+use Rattle.std.specs.Prelude.{◌≡◌, ℕ, ◌+◌, ◌%◌, ◌<◌, ◌≤◌, ◌⊎◌, List, [], length, drop, Option, Some, None, Result, Ok, Err, slice_get, ⊤}
 use Rattle.fax_files.specs.declared.FileFault.{FileFault}
 use Rattle.fax_files.specs.declared.Cause.TheVariants.{File}
 use Rattle.fax_files.specs.declared.PageForm.{PageForm}
@@ -15,6 +15,7 @@ use Rattle.fax_walk.specs.declared.opening.OpenFault.{OpenFault}
 use Rattle.fax_walk.specs.declared.opening.OpenFault.TheVariants.{Memory, Ended}
 use Rattle.fax_walk.specs.Items.{Item, AreFromRow}
 use Rattle.fax_walk.specs.Tail.{IsTail}
+use Rattle.fax_walk.specs.Before.{AreRowsBefore, rows_before}
 use Rattle.fax_walk.specs.Forms.{FormItem, ArePagesForms, IsFormThen, IsFormTail}
 use Rattle.fax_walk.specs.code.Stages.{PageState, row_of, skipped}
 use Rattle.fax_walk.specs.code.Due.{ArePagesBehind, IsOpen}
@@ -56,6 +57,7 @@ pub record IsOpenedAt (due : PageDue) (first read : ℕ) (page : PageState) : Ty
   pub row_due : row_of page < page.form.rows
   pub same_page : page.page ≡ due.page
   pub first_is : row_of page + skipped page ≡ first
+  pub skipped_is : skipped page ≡ first % due.form.rows_per_strip
   pub read_is : page.read ≡ read
 
 -- the page behind the directories that a chain has handed out is open at its first row, and so many rows were read before
@@ -110,6 +112,7 @@ IsEndBefore file number end = (row : ℕ) → EndsAt file (record { page = numbe
 pub record IsPageOf (file : List ℕ) (at : Cursor) (due : PageDue) : Type 0 where
   pub same_page : due.page ≡ at.page
   pub within : at.row ≤ due.form.rows
+  pub before : AreRowsBefore file at (rows_before (Ok due.form) at.row)
   pub from_row : (items : List Item) (end : End) → at.row < due.form.rows → AreDueFrom due at.row items end → IsTail file at items end
   pub from_next : (items : List Item) (end : End) → at.row ≡ due.form.rows → ArePagesBehind due.chain items end → IsTail file at items end
   pub form_first : (forms : List FormItem) (end : End) → at.row ≡ 0 → IsFormThen due.page due.form (AreFormsBehind due.chain) forms end

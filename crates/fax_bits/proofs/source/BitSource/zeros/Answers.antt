@@ -1,12 +1,18 @@
-use Rattle.std.proofs.Common.{◌≡◌, length, arith, sym, ◌∙◌, subst}
-use Rattle.fax_bits.proofs.ZeroLemmas.{IsZeroBelow, zeros_ahead, all_zeros}
+use Rattle.std.proofs.Common.{◌≡◌, ◌%◌, drop, ap, sym, ◌∙◌, subst, arith}
+use Rattle.fax_bits.specs.Bits.{HasZerosAhead}
+use Rattle.fax_bits.specs.code.BitsAhead.{bits_ahead}
+use Rattle.fax_bits.specs.code.Source.{Source}
+use Rattle.fax_bits.proofs.WordLemmas.{bits-from}
 use Rattle.fax_bits.proofs.source.BitSource.zeros.Goals as goal
 
-pub returns-then-bit : goal.returns-then-bit
-returns-then-bit c =
-    zeros_ahead c.args.self.now.left c.loop-zeros.zeros (omega arith) c.loop-zeros.invariant.below (sym c.bit.ensures ∙ c.if-bit.true)
-
-pub returns : goal.returns
-returns c =
-    let all : c.loop-zeros.zeros ≡ length c.args.self.now.left = omega arith in
-    all_zeros c.args.self.now.left (subst (λ n. IsZeroBelow c.args.self.now.left n) all c.loop-zeros.invariant.below)
+pub returns-then-zeros-ahead : goal.returns-then-zeros-ahead
+returns-then-zeros-ahead c =
+    let order = c.self.inside.order in
+    let bytes = c.self.inside.bytes.now in
+    let place = c.self.inside.place in
+    let left : bits_ahead order bytes c.behind-ahead.result ≡ c.args.self.now.left =
+    c.behind-ahead.ensures.ahead order bytes
+    ∙ ap (drop (place % 8)) (c.refilled-loaded.ensures.ahead ∙ c.new.ensures.ahead order bytes)
+    ∙ bits-from order bytes place ∙ ap (λ (s : Source). s.left) c.self.view_is in
+    let stands = subst (λ b. HasZerosAhead b c.zeros-zeros.result) left (c.zeros-zeros.ensures.ahead order bytes (omega arith)) in
+    subst (HasZerosAhead c.args.self.now.left) (sym c.from.ensures) stands

@@ -1,0 +1,264 @@
+-- The first bit that is not of a colour, found by bytes.
+use Rattle.std.proofs.Common.{◌≡◌, ◌≢◌, ℕ, zero, suc, ◌+◌, ◌-◌, ◌*◌, ◌/◌, ◌%◌, ◌^◌, ◌<◌, ◌≤◌, List, [], ◌∷◌, map, length, get_or, Bool, true, false, if◌then◌else◌, nat_eq, nat_lt, refl, ap, sym, ◌∙◌, subst, arith, inl, inr}
+use Rattle.std.specs.Prelude.{◌&&◌, ◌||◌, not, slice_index_or}
+use Rattle.std.proofs.lemmas.Bool.{cases_lt, eqb-true, eqb-false, ltb-true, true≢false}
+use Rattle.std.proofs.Math.Nat.{eq-or-lt_of_le}
+use Rattle.std.proofs.lemmas.Simd.{length-chunk, get_or-chunk, trailing_mask_l, run_in_chunk_le, run_in_chunk_fails, run_in_chunk_stops, none_from_empty_mask}
+use Rattle.std.specs.List.{prefix_len}
+use lib.Count.{count_leading_zeros, count_trailing_zeros}
+use lib.Lanes.{chunk, mask_l}
+use Rattle.fax_bits.specs.declared.FillOrder.TheVariants.{MsbFirst}
+use Rattle.fax_bits.specs.declared.Colour.{Colour}
+use Rattle.fax_bits.specs.declared.Colour.TheVariants.{White, Black}
+use Rattle.fax_bits.specs.Bits.{bits}
+use Rattle.fax_bits.specs.Laws.{AreBitsByPlace}
+use Rattle.fax_rows.specs.Elements.{same_colour, first_place, other}
+use Rattle.fax_rows.specs.Packed.{colour_of_bit, first_other}
+use Rattle.fax_rows.specs.code.FirstOther.{is_other_bit, first_other_in_byte, plain_byte, others, IsFirstOtherByte}
+use Rattle.fax_rows.proofs.ChangeLemmas.{IsFirstPlace, first_place_is}
+use Rattle.fax_rows.proofs.PlaceLemmas.{first_place_at}
+
+-- each number below n passes the test
+abbrev all_below : (ℕ → Bool) → ℕ → Bool
+all_below test zero = true
+all_below test (suc n) = test n && all_below test n
+
+both_true : (a b : Bool) → (a && b) ≡ true → (a ≡ true) × (b ≡ true)
+both_true true b h = (refl, h)
+both_true false b h = cc
+
+omega_le : (x n : ℕ) → x < suc n → x ≤ n
+omega_le x n h = omega arith
+
+at_below : (test : ℕ → Bool) (n x : ℕ) → all_below test n ≡ true → x < n → test x ≡ true
+at_below test zero x all within = absurd (omega arith)
+at_below test (suc n) x all within =
+    let parts = both_true (test n) (all_below test n) all in
+    elim (eq-or-lt_of_le (omega_le x n within)) [
+      | inl same ↦ subst (λ k. test k ≡ true) (sym same) parts.0
+      | inr less ↦ at_below test n x parts.1 less
+    ]
+
+-- by leading zeros
+abbrev by_zeros : ℕ → ℕ → Colour → ℕ
+by_zeros byte from colour =
+    if nat_eq (others byte colour * 2 ^ from % 256) 0 then 8 else from + count_leading_zeros 8 (others byte colour * 2 ^ from % 256)
+
+abbrev is_by_zeros : Colour → ℕ → ℕ → Bool
+is_by_zeros colour from byte = nat_eq (by_zeros byte from colour) (first_other_in_byte byte from colour)
+
+each_by_zeros : (colour : Colour) → all_below (λ from. all_below (is_by_zeros colour from) 256) 8 ≡ true
+unfolding first_other_in_byte first_place count_leading_zeros
+each_by_zeros White = refl
+each_by_zeros Black = refl
+
+in_byte_is : (byte from : ℕ) (colour : Colour) → byte < 256 → from < 8 → by_zeros byte from colour ≡ first_other_in_byte byte from colour
+in_byte_is byte from colour fits within =
+    eqb-true _ _
+    (at_below (is_by_zeros colour from) 256 byte
+    (at_below (λ f. all_below (is_by_zeros colour f) 256) 8 from (each_by_zeros colour) within) fits)
+
+by_branch : (ahead more from r : ℕ) → (if nat_eq ahead 0 then 8 else from + more) ≡ r → (ahead ≡ 0 → 8 ≡ r) × (ahead ≢ 0 → from + more ≡ r)
+by_branch ahead more from r is = by (nat_eq ahead 0) refl is
+  where
+    by : (b : Bool) → nat_eq ahead 0 ≡ b → (if b then 8 else from + more) ≡ r → (ahead ≡ 0 → 8 ≡ r) × (ahead ≢ 0 → from + more ≡ r)
+    by true same h = (λ none. h, λ some. absurd (some (eqb-true ahead 0 same)))
+    by false same h = (λ none. absurd (true≢false (sym (ap (λ n. nat_eq n 0) none) ∙ same)), λ some. h)
+
+pub none_ahead : (byte from : ℕ) (colour : Colour) (bits : ℕ) → byte < 256 → from < 8 → bits ≡ others byte colour → bits * 2 ^ from % 256 ≡ 0
+    → 8 ≡ first_other_in_byte byte from colour
+none_ahead byte from colour bits fits within is none =
+    (by_branch (others byte colour * 2 ^ from % 256) _ from _ (in_byte_is byte from colour fits within)).0
+    (ap (λ b. b * 2 ^ from % 256) (sym is) ∙ none)
+
+pub some_ahead : (byte from : ℕ) (colour : Colour) (bits : ℕ) → byte < 256 → from < 8 → bits ≡ others byte colour → bits * 2 ^ from % 256 ≢ 0
+    → from + count_leading_zeros 8 (bits * 2 ^ from % 256) ≡ first_other_in_byte byte from colour
+some_ahead byte from colour bits fits within is some =
+    ap (λ b. from + count_leading_zeros 8 (b * 2 ^ from % 256)) is
+    ∙ (by_branch (others byte colour * 2 ^ from % 256) _ from _ (in_byte_is byte from colour fits within)).1
+    (λ none. some (ap (λ b. b * 2 ^ from % 256) is ∙ none))
+
+-- a byte of pels of the colour has no other
+plain_has_none : (colour : Colour) → all_below (λ i. not (is_other_bit (plain_byte colour) colour i)) 8 ≡ true
+plain_has_none White = refl
+plain_has_none Black = refl
+
+not_true : (b : Bool) → not b ≡ true → b ≡ false
+not_true true h = cc
+not_true false h = refl
+
+plain_bit : (colour : Colour) (i : ℕ) → i < 8 → is_other_bit (plain_byte colour) colour i ≡ false
+plain_bit colour i within = not_true _ (at_below (λ k. not (is_other_bit (plain_byte colour) colour k)) 8 i (plain_has_none colour) within)
+
+-- and each other byte has one
+abbrev is_plain_or_less : Colour → ℕ → Bool
+is_plain_or_less colour byte = nat_eq byte (plain_byte colour) || nat_lt (first_other_in_byte byte 0 colour) 8
+
+other_has_one : (colour : Colour) → all_below (is_plain_or_less colour) 256 ≡ true
+unfolding first_other_in_byte first_place
+other_has_one White = refl
+other_has_one Black = refl
+
+one_of_two : (byte plain found : ℕ) → (nat_eq byte plain || nat_lt found 8) ≡ true → byte ≢ plain → found < 8
+one_of_two byte plain found either differs = by (nat_eq byte plain) refl either
+  where
+    by : (b : Bool) → nat_eq byte plain ≡ b → (b || nat_lt found 8) ≡ true → found < 8
+    by true same h = absurd (differs (eqb-true byte plain same))
+    by false same h = ltb-true found 8 h
+
+pub found_in_byte : (byte : ℕ) (colour : Colour) → byte < 256 → byte ≢ plain_byte colour → first_other_in_byte byte 0 colour < 8
+found_in_byte byte colour fits differs =
+    one_of_two byte (plain_byte colour) (first_other_in_byte byte 0 colour) (at_below (is_plain_or_less colour) 256 byte (other_has_one colour) fits) differs
+
+pub in_byte-le : (byte from : ℕ) (colour : Colour) → from < 8 → first_other_in_byte byte from colour ≤ 8
+unfolding first_other_in_byte
+in_byte-le byte from colour within = omega (arith, (first_place_is (is_other_bit byte colour) from (8 - from)).within)
+
+pub in_byte-ge : (byte from : ℕ) (colour : Colour) → from ≤ first_other_in_byte byte from colour
+unfolding first_other_in_byte
+in_byte-ge byte from colour = (first_place_is (is_other_bit byte colour) from (8 - from)).from
+
+-- where no lane passes a test, none is set
+none_set : (p : ℕ → Bool) (xs : List ℕ) → ((k : ℕ) → k < length xs → p (get_or xs k 0) ≡ false) → mask_l (map p xs) ≡ 0
+none_set p [] fails = refl
+none_set p (x ∷ xs) fails =
+    omega (arith, ap {B = ℕ} (λ (b : Bool). if b then 1 else 0) (fails 0 (omega arith)), none_set p xs (λ k h. fails (suc k) (omega arith)))
+
+abbrev pub differs : ℕ → ℕ → Bool
+differs plain byte = not (nat_eq byte plain)
+
+differs_false : (plain byte : ℕ) → differs plain byte ≡ false → byte ≡ plain
+differs_false plain byte h = eqb-true byte plain (by (nat_eq byte plain) h)
+  where
+    by : (b : Bool) → not b ≡ false → b ≡ true
+    by true h = refl
+    by false h = cc
+
+differs_true : (plain byte : ℕ) → differs plain byte ≡ true → byte ≢ plain
+differs_true plain byte h same = eqb-false byte plain (not_true (nat_eq byte plain) h) same
+
+-- the lanes of sixteen bytes, where those that differ are set
+module _ (bytes : List ℕ) (from at plain : ℕ) (right : from ≤ at) (room : at + 16 ≤ length bytes)
+    (same : (k : ℕ) → from ≤ k → k < at → get_or bytes k 0 ≡ plain) where
+  pub sixteen_more : mask_l (map (differs plain) (chunk at 16 bytes)) ≡ 0 → (k : ℕ) → from ≤ k → k < at + 16 → get_or bytes k 0 ≡ plain
+  sixteen_more none k l h =
+      elim (cases_lt k at) [
+        | inl before ↦ same k l before
+        | inr behind ↦ differs_false plain (get_or bytes k 0) (none_from_empty_mask (differs plain) bytes at 16 0 room none k behind h)
+      ]
+
+  pub found_in_lanes : (r : ℕ) → 0 < mask_l (map (differs plain) (chunk at 16 bytes))
+      → r ≡ count_trailing_zeros 64 (mask_l (map (differs plain) (chunk at 16 bytes))) → IsFirstOtherByte bytes from plain (at + r)
+  found_in_lanes r some is = record {
+    right = omega arith;
+    within = omega (arith, run_in_chunk_le (differs plain) bytes at 16 r 0 room counted);
+    same = λ k l h. elim (cases_lt k at) [
+      | inl before ↦ same k l before
+      | inr behind ↦ differs_false plain (get_or bytes k 0) (run_in_chunk_fails (differs plain) bytes at 16 r 0 room counted k behind h)
+    ];
+    other = λ h. differs_true plain (get_or bytes (at + r) 0) (run_in_chunk_stops (differs plain) bytes at 16 r 0 room counted near);
+  }
+    where
+      long : length (chunk at 16 bytes) ≡ 16
+      long = length-chunk at 16 bytes room
+
+      counted : r ≡ prefix_len (λ x. not (differs plain x)) (chunk at 16 bytes)
+      counted = is ∙ trailing_mask_l (differs plain) 64 (chunk at 16 bytes) (omega (arith, long)) some
+
+      none : 16 ≤ r → mask_l (map (differs plain) (chunk at 16 bytes)) ≡ 0
+      none far =
+          none_set (differs plain) (chunk at 16 bytes)
+          (λ k h. ap (differs plain) (get_or-chunk at 16 bytes k 0 (omega (arith, long)))
+          ∙ run_in_chunk_fails (differs plain) bytes at 16 r 0 room counted (at + k) (omega arith) (omega (arith, long)))
+
+      near : r < 16
+      near = elim (cases_lt r 16) [
+        | inl less ↦ less
+        | inr far ↦ absurd (omega (arith, none far, some))
+      ]
+
+-- bit i of the bytes is not of the colour
+abbrev pub is_other : List ℕ → Colour → ℕ → Bool
+is_other bytes colour i = not (same_colour (colour_of_bit (slice_index_or (bits MsbFirst bytes) i false)) colour)
+
+-- the bits from a place to another are of the colour
+abbrev pub IsPlain : List ℕ → Colour → ℕ → ℕ → Type 0
+IsPlain bytes colour from to = (k : ℕ) → from ≤ k → k < to → is_other bytes colour k ≡ false
+
+-- the first bit, where those before it are of the colour
+pub first_other_is : (bytes : List ℕ) (from r : ℕ) (colour : Colour) → from ≤ r → r ≤ 8 * length bytes
+    → IsPlain bytes colour from r → (r < 8 * length bytes → is_other bytes colour r ≡ true) → r ≡ first_other bytes from colour
+unfolding first_other
+first_other_is bytes from r colour right within plain other =
+    sym (first_place_at (is_other bytes colour) from (8 * length bytes - from) r right (omega arith) plain (λ h. other (omega arith)))
+
+pub plain_on : (bytes : List ℕ) (colour : Colour) (from middle to : ℕ) → IsPlain bytes colour from middle → IsPlain bytes colour middle to
+    → IsPlain bytes colour from to
+plain_on bytes colour from middle to before behind k l h =
+    elim (cases_lt k middle) [
+      | inl near ↦ before k l near
+      | inr far ↦ behind k far h
+    ]
+
+-- by the law of the bits of bytes
+module _ (law : AreBitsByPlace) where
+  -- bit i of the byte q
+  bit_of : (bytes : List ℕ) (colour : Colour) (q i k : ℕ) → q < length bytes → i < 8 → 8 * q + i ≡ k
+      → is_other bytes colour k ≡ is_other_bit (get_or bytes q 0) colour i
+  bit_of bytes colour q i k inside within at =
+      let byte : k / 8 ≡ q = omega arith in
+      let place : k % 8 ≡ i = omega arith in
+      ap (λ bit. not (same_colour (colour_of_bit bit) colour)) (law.of_bytes MsbFirst bytes k (omega arith))
+      ∙ ap (λ m. is_other_bit (get_or bytes m 0) colour (k % 8)) byte ∙ ap (is_other_bit (get_or bytes q 0) colour) place
+
+  pub plain_in_byte : (bytes : List ℕ) (colour : Colour) (q from to : ℕ) → q < length bytes → from < 8
+      → to ≤ first_other_in_byte (get_or bytes q 0) from colour → IsPlain bytes colour (8 * q + from) (8 * q + to)
+  unfolding first_other_in_byte
+  plain_in_byte bytes colour q from to inside within below k l h =
+      let first = first_place_is (is_other_bit (get_or bytes q 0) colour) from (8 - from) in
+      let near : k - 8 * q < 8 = omega (arith, first.within) in
+      bit_of bytes colour q (k - 8 * q) k inside near (omega arith) ∙ first.before (k - 8 * q) (omega arith) (omega arith)
+
+  pub other_in_byte : (bytes : List ℕ) (colour : Colour) (q from found k : ℕ) → q < length bytes → from < 8
+      → found ≡ first_other_in_byte (get_or bytes q 0) from colour → found < 8 → 8 * q + found ≡ k → is_other bytes colour k ≡ true
+  unfolding first_other_in_byte
+  other_in_byte bytes colour q from found k inside within is near at =
+      let first = first_place_is (is_other_bit (get_or bytes q 0) colour) from (8 - from) in
+      bit_of bytes colour q found k inside near at ∙ ap (is_other_bit (get_or bytes q 0) colour) is ∙ first.there (omega arith)
+
+  -- bytes of pels of the colour
+  pub plain_bytes : (bytes : List ℕ) (colour : Colour) (from to : ℕ) → to ≤ length bytes
+      → ((k : ℕ) → from ≤ k → k < to → get_or bytes k 0 ≡ plain_byte colour) → IsPlain bytes colour (8 * from) (8 * to)
+  plain_bytes bytes colour from to within same k l h =
+      bit_of bytes colour (k / 8) (k % 8) k (omega arith) (omega arith) (omega arith)
+      ∙ ap (λ byte. is_other_bit byte colour (k % 8)) (same (k / 8) (omega arith) (omega arith)) ∙ plain_bit colour (k % 8) (omega arith)
+
+  -- from a bit of a byte that has no other bit behind it, up to the first byte that has one
+  pub plain_before : (bytes : List ℕ) (colour : Colour) (from here plain behind : ℕ) → from / 8 < length bytes
+      → here ≡ first_other_in_byte (get_or bytes (from / 8) 0) (from % 8) colour → 8 ≤ here
+      → plain ≡ plain_byte colour → IsFirstOtherByte bytes (from / 8 + 1) plain behind → IsPlain bytes colour from (8 * behind)
+  plain_before bytes colour from here plain behind inside is none plain_is first =
+      let below : from % 8 < 8 = omega arith in
+      plain_on bytes colour from (8 * (from / 8 + 1)) (8 * behind)
+      (λ k l h. plain_in_byte bytes colour (from / 8) (from % 8) 8 inside below (omega (arith, is)) k (omega arith) (omega arith))
+      (plain_bytes bytes colour (from / 8 + 1) behind first.within (λ k l h. first.same k l h ∙ plain_is))
+
+-- what stands from a place to the first other bit, and there
+pub first_other_stands : (bytes : List ℕ) (from r : ℕ) (colour : Colour) → r ≡ first_other bytes from colour
+    → IsFirstPlace (is_other bytes colour) from (8 * length bytes - from) r
+unfolding first_other
+first_other_stands bytes from r colour is =
+    subst (λ place. IsFirstPlace (is_other bytes colour) from (8 * length bytes - from) place) (sym is)
+    (first_place_is (is_other bytes colour) from (8 * length bytes - from))
+
+pub plain_pel : (pel colour : Colour) → not (same_colour pel colour) ≡ false → pel ≡ colour
+plain_pel White White h = refl
+plain_pel Black Black h = refl
+plain_pel White Black h = cc
+plain_pel Black White h = cc
+
+pub other_pel : (pel colour : Colour) → not (same_colour pel colour) ≡ true → other colour ≡ pel
+other_pel White White h = cc
+other_pel Black Black h = cc
+other_pel White Black h = refl
+other_pel Black White h = refl

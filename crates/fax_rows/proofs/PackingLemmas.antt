@@ -1,0 +1,155 @@
+-- A row packed by its places of change.
+use Rattle.std.proofs.Common.{◌≡◌, ◌≢◌, ℕ, ◌+◌, ◌-◌, ◌*◌, ◌%◌, ◌<◌, ◌≤◌, List, map, length, take, drop, replicate, get_or, Bool, true, false, if◌then◌else◌, nat_eq, refl, ap, sym, ◌∙◌, arith, inl, inr, length-append, length-drop, get_or-drop, get_or-set_other, get_or-set_same, below_more}
+use Rattle.std.proofs.lemmas.Bool.{cases_lt}
+use Rattle.std.proofs.Math.ListN.{set}
+use Rattle.std.proofs.lemmas.List.{length-replicate, length-map, get_or-map, get_or-take, get_or_past, length-take-le, ext_get_or}
+use Rattle.std.proofs.lemmas.Simd.{get_or-replicate}
+use Rattle.fax_bits.specs.declared.Colour.{Colour}
+use Rattle.fax_bits.specs.declared.Colour.TheVariants.{White, Black}
+use Rattle.fax_bits.specs.Bits.{bits_number}
+use Rattle.fax_rows.specs.Packed.{is_black, packed_byte}
+use Rattle.fax_rows.specs.code.Turns.{row_of, alternate, ArePlaces, HasPassed, IsBehind}
+use Rattle.fax_rows.proofs.PackedLemmas.{padded_bits, get_or-padded}
+use Rattle.fax_rows.proofs.PlacedRowLemmas.{end_within}
+use Rattle.fax_rows.proofs.TurnLemmas.{length-pels_by, pel-pels_by, alternate-odd, alternate-even, colour_behind_places}
+
+-- a byte more is put
+pub byte_put : (byte_at : ℕ → ℕ) (out : List ℕ) (k byte : ℕ) → k < length out → ((i : ℕ) → i < k → get_or out i 0 ≡ byte_at (8 * i))
+    → byte ≡ byte_at (8 * k) → (i : ℕ) → i < k + 1 → get_or (set out k byte) i 0 ≡ byte_at (8 * i)
+byte_put byte_at out k byte within done is =
+    below_more (λ i. get_or (set out k byte) i 0 ≡ byte_at (8 * i)) k
+    (λ i h. let other : i ≢ k = omega arith in get_or-set_other out k i byte 0 other ∙ done i h)
+    (get_or-set_same out k byte 0 within ∙ is)
+
+-- the byte of eight pels of one colour
+pub whole_byte : (row : List Colour) (from : ℕ) (b : Bool) → from < length row → ((j : ℕ) → j < 8 → get_or (map is_black row) (from + j) false ≡ b)
+    → packed_byte row from ≡ (if b then 255 else 0)
+unfolding packed_byte
+whole_byte row from b within each = ap bits_number same ∙ number b
+  where
+    eight : length (take 8 (drop from (padded_bits row))) ≡ 8
+    eight =
+        length-take-le 8 (drop from (padded_bits row))
+        (omega (arith, length-drop from (padded_bits row), length-append (map is_black row) (replicate 8 false), length-map row is_black, length-replicate 8 false))
+
+    same : take 8 (drop from (padded_bits row)) ≡ replicate 8 b
+    same =
+        ext_get_or false (take 8 (drop from (padded_bits row))) (replicate 8 b) (eight ∙ sym (length-replicate 8 b))
+        (λ j h. get_or-take 8 (drop from (padded_bits row)) j false (omega (arith, eight)) ∙ get_or-drop from (padded_bits row) j false
+        ∙ get_or-padded (map is_black row) 8 (from + j) ∙ each j (omega (arith, eight)) ∙ sym (get_or-replicate 8 j b false (omega (arith, eight))))
+
+    number : (bit : Bool) → bits_number (replicate 8 bit) ≡ (if bit then 255 else 0)
+    number true = refl
+    number false = refl
+
+black_behind : (k : ℕ) → is_black (alternate Black k) ≡ nat_eq (k % 2) 0
+black_behind k =
+    elim (cases_lt (k % 2) 1) [
+      | inl even ↦
+          let none : k % 2 ≡ 0 = omega arith in
+          ap is_black (alternate-even k none) ∙ ap (λ n. nat_eq n 0) (sym none)
+      | inr odd ↦
+          let one : k % 2 ≡ 1 = omega arith in
+          ap is_black (alternate-odd k one) ∙ ap (λ n. nat_eq n 0) (sym one)
+    ]
+
+module _ (places : List ℕ) (end width : ℕ) (all : ArePlaces places end width) where
+  -- no pel stands behind the last one
+  pub none_behind : (i : ℕ) → width ≤ i → get_or (map is_black (row_of places end width)) i false ≡ false
+  none_behind i over =
+      get_or_past (map is_black (row_of places end width)) i false
+      (omega (arith, length-map (row_of places end width) is_black, length-pels_by width (take end places)))
+
+  pub bit_behind : (i k : ℕ) → i < width → IsBehind places end i k → get_or (map is_black (row_of places end width)) i false ≡ nat_eq (k % 2) 0
+  bit_behind i k within at =
+      get_or-map is_black (row_of places end width) i White false (omega (arith, length-pels_by width (take end places)))
+      ∙ ap is_black (pel-pels_by width (take end places) i within ∙ colour_behind_places places end all.ascending i k at) ∙ black_behind k
+
+  -- no place is passed before the first pel but the first
+  pub passed_none : HasPassed places end 0 1
+  passed_none = record {
+    some = omega arith;
+    within = all.ascending.started;
+    left = omega (arith, all.ascending.first);
+    right = λ h. omega arith;
+  }
+
+  pub passed-lt : (i k : ℕ) → HasPassed places end i k → k < length places
+  passed-lt i k passed = omega (arith, passed.within, all.room, end_within places end width all)
+
+  last_is : get_or places end 0 ≡ width
+  last_is = ap (λ m. get_or places m 0) (omega arith) ∙ all.behind 0 (omega arith)
+
+  -- one more is passed at its own pel
+  inside : (i k : ℕ) → HasPassed places end i k → i < width → get_or places k 0 ≡ i → k < end
+  inside i k passed within at =
+      elim (cases_lt k end) [
+        | inl less ↦ less
+        | inr far ↦
+            let same : k ≡ end = omega (arith, passed.within) in
+            absurd (omega (arith, last_is, ap (λ m. get_or places m 0) same))
+      ]
+
+  pub passed_more : (i k : ℕ) → HasPassed places end i k → i < width → get_or places k 0 ≡ i → IsBehind places end i (k + 1)
+  passed_more i k passed within at = record {
+    some = omega arith;
+    within = omega (arith, inside i k passed within at);
+    left = let same : k + 1 - 1 ≡ k = omega arith in omega (arith, at, ap (λ m. get_or places m 0) same);
+    right = λ h. omega (arith, at, all.ascending.steps k passed.some h);
+  }
+
+  pub passed_same : (i k : ℕ) → HasPassed places end i k → get_or places k 0 ≢ i → IsBehind places end i k
+  passed_same i k passed differs = record {
+    some = passed.some;
+    within = passed.within;
+    left = passed.left;
+    right = λ h. omega (arith, passed.right h, differs);
+  }
+
+  pub passed_pel : (i k : ℕ) → IsBehind places end i k → HasPassed places end (i + 1) k
+  passed_pel i k at = record { some = at.some; within = at.within; left = omega (arith, at.left); right = λ h. omega (arith, at.right h) }
+
+  pub passed_over : (i k : ℕ) → HasPassed places end i k → width ≤ i → HasPassed places end (i + 1) k
+  passed_over i k passed over = record {
+    some = passed.some;
+    within = passed.within;
+    left = omega (arith, passed.left);
+    right = λ h. absurd (omega (arith, passed.right h, all.below k passed.some h));
+  }
+
+  -- a byte in which no colour changes
+  whole_behind : (from k : ℕ) → HasPassed places end from k → from < width → from + 8 ≤ get_or places k 0
+      → packed_byte (row_of places end width) from ≡ (if nat_eq (k % 2) 0 then 255 else 0)
+  whole_behind from k passed within whole =
+      whole_byte (row_of places end width) from (nat_eq (k % 2) 0) (omega (arith, length-pels_by width (take end places)))
+      (λ j h. bit_behind (from + j) k (omega (arith, wide)) record {
+        some = passed.some;
+        within = passed.within;
+        left = omega (arith, passed.left);
+        right = λ l. omega arith;
+      })
+    where
+      wide : get_or places k 0 ≤ width
+      wide = elim (cases_lt k end) [
+        | inl less ↦ omega (arith, all.below k passed.some less)
+        | inr far ↦ let same : k ≡ end = omega (arith, passed.within) in omega (arith, last_is, ap (λ m. get_or places m 0) same)
+      ]
+
+  pub whole_white : (from k : ℕ) → HasPassed places end from k → from < width → from + 8 ≤ get_or places k 0 → k % 2 ≡ 1
+      → 0 ≡ packed_byte (row_of places end width) from
+  whole_white from k passed within whole odd =
+      sym (whole_behind from k passed within whole ∙ ap {B = ℕ} (λ n. if nat_eq n 0 then 255 else 0) odd)
+
+  pub whole_black : (from k : ℕ) → HasPassed places end from k → from < width → from + 8 ≤ get_or places k 0 → k % 2 ≢ 1
+      → 255 ≡ packed_byte (row_of places end width) from
+  whole_black from k passed within whole even =
+      let none : k % 2 ≡ 0 = omega arith in
+      sym (whole_behind from k passed within whole ∙ ap {B = ℕ} (λ n. if nat_eq n 0 then 255 else 0) none)
+
+  pub passed_byte : (from k : ℕ) → HasPassed places end from k → from + 8 ≤ get_or places k 0 → HasPassed places end (from + 8) k
+  passed_byte from k passed whole = record {
+    some = passed.some;
+    within = passed.within;
+    left = omega (arith, passed.left);
+    right = λ h. whole;
+  }

@@ -1,0 +1,10 @@
+use Rattle.std.proofs.Common.{◌≡◌, ℕ, ◌*◌, ◌<◌, get_or}
+use Rattle.fax_rows.specs.Packed.{packed_byte}
+use Rattle.fax_rows.specs.code.Turns.{row_of, HasPassed}
+use Rattle.fax_rows.proofs.packed.pack_places.Given as goal
+
+abbrev pub invariant-loop-k : goal.invariant-loop-k
+invariant-loop-k l = record {
+  done : (i : ℕ) → i < l.k → get_or l.out i 0 ≡ packed_byte (row_of l.places l.end l.width) (8 * i);
+  so_far : HasPassed l.places l.end (8 * l.k) l.passed;
+}
