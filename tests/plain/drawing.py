@@ -262,3 +262,26 @@ def draw_file(rng, most_pages):
     for _ in range(rng.randrange(1, most_pages + 1)):
         draw_page(rng, builder)
     return damage_file(rng, builder) if rng.random() < 0.5 else bytes(builder.data)
+
+
+def draw_cursor(rng, lines, pages):
+    """A cursor: one that a run over these lines prints, or a forged one near the pages of a file, which
+    are as many rows each, or far from all."""
+    kind = rng.randrange(4)
+    if kind == 0 and lines:
+        return rng.choice(lines)[1]
+    if kind == 1:
+        return rng.randrange(len(pages) + 2), rng.choice([0, 0, 1, 2**32 - 1])
+    if kind == 2 and rng.random() < 0.1:
+        return rng.choice([2**16, 2**32 - 1]), rng.choice([0, 1, 2**32 - 1])
+    if pages:
+        page = rng.randrange(len(pages))
+        return page, rng.randrange(pages[page] + 2)
+    return rng.randrange(3), rng.randrange(3)
+
+
+def draw_limit(rng, lines):
+    """None, or a limit on the number of lines, where there are so many."""
+    if rng.random() < 0.3:
+        return None
+    return rng.choice([1, max(lines, 1), lines + 1, rng.randrange(1, lines + 2), 2**32 - 1])

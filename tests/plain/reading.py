@@ -263,16 +263,10 @@ def read_page(file, form, first_strip):
     return done, None
 
 
-# How many pages of a file are read yet; a further one is refused.
-PAGES_READ = 1
-
-
 def chain(file):
     """The directories of a file in order, and the fault that ends them, if one does."""
     offset, seen, done = file.first, set(), []
     while offset != 0:
-        if len(done) == PAGES_READ:
-            return done, Fault("DirectoryOutside")
         if offset in seen:
             return done, Fault("DirectoryLoop")
         seen.add(offset)
@@ -282,6 +276,57 @@ def chain(file):
             return done, fault
         done.append(entries)
     return done, None
+
+
+# What follows a cursor. An end is none behind the last page, a fault with the place that was due, or
+# that the cursor names no place of the file.
+
+OUTSIDE = "CursorOutside"
+
+
+def pages_from(data, page, row):
+    """The pages from the one that a cursor names, as (file, number, form), and the end behind them. A
+    page whose fields are refused is such an end, and so is a cursor that names no place."""
+    try:
+        file = File(data)
+    except Fault as fault:
+        return [], (0, 0, fault)
+    directories, fault = chain(file)
+    count, found = len(directories), []
+    if page > count and not fault or page == count and row > 0 and not fault:
+        return [], OUTSIDE
+    for number in range(page, count):
+        try:
+            form = read_form(file, directories[number])
+        except Fault as refused:
+            return found, (number, 0, refused)
+        if number == page and row > form["rows"]:
+            return [], OUTSIDE
+        found.append((file, number, form))
+    return found, (count, 0, fault) if fault else None
+
+
+def rows_from(data, page, row):
+    """The rows from a cursor on, as (page, row, row's text), and their end."""
+    pages, end = pages_from(data, page, row)
+    done = []
+    for file, number, form in pages:
+        due = row if number == page else 0
+        if due == form["rows"]:
+            continue
+        strip = due // form["height"]
+        first = strip * form["height"]
+        rows, stop = read_page(file, form, strip)
+        done += [(number, first + i, pels) for i, pels in enumerate(rows) if first + i >= due]
+        if stop:
+            return done, (number, first + len(rows), stop)
+    return done, end
+
+
+def forms_from(data, page, row):
+    """The pages from a cursor on, as (page, form), and their end."""
+    pages, end = pages_from(data, page, row)
+    return [(number, form) for _, number, form in pages if number > page or row == 0], end
 
 
 # What is printed.
@@ -302,34 +347,36 @@ def row_line(page, number, row):
     return " ".join(["row", str(page), str(number), *map(str, runs_of(row))])
 
 
+def page_line(page, form):
+    numbers = [form[name] for name in ("photometric", "strips")]
+    over, under, unit = form["resolution"]
+    words = ["page", page, form["width"], form["rows"], form["coding"], form["order"], *numbers]
+    return " ".join(map(str, [*words, f"{over[0]}/{over[1]}", f"{under[0]}/{under[1]}", unit]))
+
+
+def lines_from(command, data, page, row):
+    """The lines of a command from a cursor on, each with the cursor behind it, and their end."""
+    if command == "rows":
+        rows, end = rows_from(data, page, row)
+        return [(row_line(*item), (item[0], item[1] + 1)) for item in rows], end
+    forms, end = forms_from(data, page, row)
+    return [(page_line(*item), (item[0] + 1, 0)) for item in forms], end
+
+
 def fault_line(page, row, fault):
-    return f"fault page {page} row {row}: {' '.join(map(str, fault.args))}"
+    return f"fault page {page} row {row}: {' '.join(map(str, fault.args))}\n"
 
 
-def items(data):
-    """The rows of a file as (page, row, row's text), and the end: none, or a fault with its place."""
-    try:
-        file = File(data)
-    except Fault as fault:
-        return [], (0, 0, fault)
-    done, (pages, fault) = [], chain(file)
-    for number, entries in enumerate(pages):
-        try:
-            form = read_form(file, entries)
-        except Fault as refused:
-            return done, (number, 0, refused)
-        rows, stop = read_page(file, form, 0)
-        done += [(number, row, pels) for row, pels in enumerate(rows)]
-        if stop:
-            return done, (number, len(rows), stop)
-    return done, (len(pages), 0, fault) if fault else None
-
-
-def rows_text(data):
-    """What `rows` writes of a file: its output, its error line and its status."""
-    done, end = items(data)
-    lines = [row_line(*item) for item in done]
-    if end is None:
-        return "\n".join([*lines, "end", ""]), "", 0
-    page, row = (done[-1][0], done[-1][1] + 1) if done else (0, 0)
-    return "\n".join([*lines, f"next 1:{page}:{row}", ""]), fault_line(*end) + "\n", 1
+def text_of(lines, end, cursor, limit):
+    """What is written of these lines and their end: the output, the error line and the status."""
+    is_cut = limit is not None and len(lines) >= limit
+    if is_cut:
+        lines = lines[:limit]
+    elif end == OUTSIDE:
+        return "", "fault cursor: CursorOutside\n", 1
+    page, row = lines[-1][1] if lines else cursor
+    last = "end" if end is None and not is_cut else f"next 1:{page}:{row}"
+    output = "\n".join([*(text for text, _ in lines), last, ""])
+    if is_cut or end is None:
+        return output, "", 0
+    return output, fault_line(*end), 1

@@ -1,38 +1,53 @@
--- Rows that are printed, one after another.
-use Rattle.std.proofs.Common.{◌≡◌, ℕ, ◌+◌, List, [], ◌∷◌, ◌++◌, refl, ap, sym, ◌∙◌, append_assoc, append-nil}
-use Rattle.std.specs.Prelude.{Option, Some, None, IfSome}
+-- Lines that are printed, one after another.
+use Rattle.std.proofs.Common.{◌≡◌, ℕ, ◌+◌, ◌-◌, ◌<◌, List, [], ◌∷◌, ◌++◌, length, refl, ap, sym, ◌∙◌, append_assoc, append-nil, arith, length-append}
+use Rattle.std.specs.Prelude.{Option, Some, None, IfSome, option_map}
 use Rattle.std.specs.Io.KnownBytes.{Appends, append_known}
 use Rattle.std.proofs.KnownBytes.{Appends-nil, Appends-trans}
 use Rattle.fax_walk.specs.declared.cursor.Cursor.{Cursor}
-use Rattle.fax_walk.specs.declared.walk.End.{End}
-use Rattle.fax_walk.specs.Cursor.{start}
-use Rattle.fax_walk.specs.Items.{Item, AreItems}
-use Rattle.fax_walk.specs.code.Due.{WalkState, IsDue, walk_start}
-use Rattle.fax_walk.specs.code.Next.{HandsOut}
-use Rattle.fax_tool.specs.Text.{row_line, row_lines, last_cursor, last_line}
-use Rattle.fax_tool.specs.code.Printing.{PrintsAllRows}
+use Rattle.fax_walk.specs.declared.end.End.{End}
+use Rattle.fax_tool.specs.Text.{Line, texts_of, last_cursor}
+use Rattle.fax_tool.specs.code.Printing.{PutsLine, PrintsLines, PrintsAll, EndsWith, last_line}
 
--- some of the rows are printed, in part collected only
-pub record PrintsSome (old now : WalkState) (output new_output : Option (List ℕ)) : Type 0 where
-  pub items : List Item
-  pub due : (rest : List Item) (end : End) → IsDue now rest end → IsDue old (items ++ rest) end
-  pub cursor : now.cursor ≡ last_cursor old.cursor items
-  pub printed : Appends output new_output (row_lines items)
+-- the limit is so much above what is left of it, where there is one
+abbrev pub IsLeftOf : Option ℕ → Option ℕ → ℕ → Type 0
+IsLeftOf None None count = Unit {0}
+IsLeftOf (Some limit) (Some left) count = left + count ≡ limit
+IsLeftOf None (Some left) count = ⊥
+IsLeftOf (Some limit) None count = ⊥
 
-pub none_printed : (walk : WalkState) (output : Option (List ℕ)) → PrintsSome walk walk output output
-none_printed walk output = record { items = []; due = λ rest end due. due; cursor = refl; printed = Appends-nil output }
+-- some of the lines are printed, in part collected only, and so much of the limit is left
+pub record PrintsSome (old now : List Line → End → Type 0) (at place : Cursor) (max left : Option ℕ) (output new_output : Option (List ℕ)) : Type 0 where
+  pub lines : List Line
+  pub due : (rest : List Line) (end : End) → now rest end → old (lines ++ rest) end
+  pub place_is : place ≡ last_cursor at lines
+  pub limit : IsLeftOf max left (length lines)
+  pub printed : Appends output new_output (texts_of lines)
 
-row_lines-push : (items : List Item) (item : Item) → row_lines (items ++ item ∷ []) ≡ row_lines items ++ row_line item
-row_lines-push [] item = append-nil (row_line item)
-row_lines-push (first ∷ items) item =
-    ap (λ text. row_line first ++ text) (row_lines-push items item) ∙ sym (append_assoc (row_line first) (row_lines items) (row_line item))
+all_left : (max : Option ℕ) → IsLeftOf max max 0
+all_left None = tt
+all_left (Some limit) = omega arith
 
-last_cursor-push : (at : Cursor) (items : List Item) (item : Item) → last_cursor at (items ++ item ∷ []) ≡ record { page = item.page; row = item.row + 1 }
-last_cursor-push at [] item = refl
-last_cursor-push at (first ∷ items) item = last_cursor-push (record { page = first.page; row = first.row + 1 }) items item
+pub none_printed : (due : List Line → End → Type 0) (at : Cursor) (max : Option ℕ) (output : Option (List ℕ))
+    → PrintsSome due due at at max max output output
+none_printed due at max output = record {
+  lines = [];
+  due = λ rest end due. due;
+  place_is = refl;
+  limit = all_left max;
+  printed = Appends-nil output;
+}
+
+texts_of-push : (lines : List Line) (line : Line) → texts_of (lines ++ line ∷ []) ≡ texts_of lines ++ line.text
+texts_of-push [] line = append-nil line.text
+texts_of-push (first ∷ lines) line =
+    ap (λ text. first.text ++ text) (texts_of-push lines line) ∙ sym (append_assoc first.text (texts_of lines) line.text)
+
+last_cursor-push : (at : Cursor) (lines : List Line) (line : Line) → last_cursor at (lines ++ line ∷ []) ≡ line.cursor
+last_cursor-push at [] line = refl
+last_cursor-push at (first ∷ lines) line = last_cursor-push first.cursor lines line
 
 -- text is collected behind what was
-pub collected : (output written : Option (List ℕ)) (text more new_text lines : List ℕ) → Appends output (append_known written text) lines
+collected : (output written : Option (List ℕ)) (text more new_text lines : List ℕ) → Appends output (append_known written text) lines
     → new_text ≡ text ++ more → Appends output (append_known written new_text) (lines ++ more)
 collected None written text more new_text lines printed grown = tt
 collected (Some bytes) None text more new_text lines printed grown = absurd printed
@@ -40,52 +55,113 @@ collected (Some bytes) (Some before) text more new_text lines printed grown =
     ap (λ xs. before ++ xs) grown ∙ sym (append_assoc before text more) ∙ ap (λ xs. xs ++ more) printed ∙ append_assoc bytes lines more
 
 -- what was collected is written
-pub written_out : (output written new_written : Option (List ℕ)) (text lines : List ℕ) → Appends output (append_known written text) lines
+written_out : (output written new_written : Option (List ℕ)) (text lines : List ℕ) → Appends output (append_known written text) lines
     → Appends written new_written text → Appends output (append_known new_written []) lines
 written_out None written new_written text lines printed moved = tt
 written_out (Some bytes) None new_written text lines printed moved = absurd printed
 written_out (Some bytes) (Some before) None text lines printed moved = absurd moved
 written_out (Some bytes) (Some before) (Some after) text lines printed moved = append-nil after ∙ moved ∙ printed
 
-pub one_more : (old now new : WalkState) (item : Item) (output written : Option (List ℕ)) (text new_text : List ℕ)
-    → PrintsSome old now output (append_known written text) → HandsOut now item new → new_text ≡ text ++ row_line item
-    → PrintsSome old new output (append_known written new_text)
-one_more old now new item output written text new_text some hands grown = record {
-  items = some.items ++ item ∷ [];
-  due = λ rest end due. rw (append_assoc some.items (item ∷ []) rest) (some.due (item ∷ rest) end (hands.due rest end due));
-  cursor = hands.cursor ∙ sym (last_cursor-push old.cursor some.items item);
-  printed = rw (row_lines-push some.items item) (collected output written text (row_line item) new_text (row_lines some.items) some.printed grown);
-}
-
-pub emptied : (old now : WalkState) (output written new_written : Option (List ℕ)) (text : List ℕ)
-    → PrintsSome old now output (append_known written text) → Appends written new_written text → PrintsSome old now output (append_known new_written [])
-emptied old now output written new_written text some moved = record {
-  items = some.items;
-  due = some.due;
-  cursor = some.cursor;
-  printed = written_out output written new_written text (row_lines some.items) some.printed moved;
-}
-
 -- nothing is collected
-collected_none : (known new : Option (List ℕ)) (lines : List ℕ) → Appends (append_known known []) new lines → Appends known new lines
+pub collected_none : (known new : Option (List ℕ)) (lines : List ℕ) → Appends (append_known known []) new lines → Appends known new lines
 collected_none None new lines appends = tt
 collected_none (Some bytes) None lines appends = absurd appends
 collected_none (Some bytes) (Some after) lines appends = appends ∙ ap (λ xs. xs ++ lines) (append-nil bytes)
 
--- the rows of a whole input and their last line
-pub whole_printed : (left : Option (List ℕ)) (file : List ℕ) (walk : WalkState) (end : End) (at : Cursor)
+-- nothing is collected any more
+pub collected_no_more : (known new : Option (List ℕ)) (lines : List ℕ) → Appends known (append_known new []) lines → Appends known new lines
+collected_no_more None new lines appends = tt
+collected_no_more (Some bytes) None lines appends = absurd appends
+collected_no_more (Some bytes) (Some after) lines appends = sym (append-nil after) ∙ appends
+
+one_less_left : (max left : Option ℕ) (count new_count : ℕ) → IsLeftOf max left count → IfSome left (λ n. 0 < n) → new_count ≡ count + 1
+    → IsLeftOf max (option_map (λ n. n - 1) left) new_count
+one_less_left None None count new_count is some grown = tt
+one_less_left None (Some left) count new_count is some grown = absurd is
+one_less_left (Some limit) None count new_count is some grown = absurd is
+one_less_left (Some limit) (Some left) count new_count is some grown = omega arith
+
+pub one_more : (old now new : List Line → End → Type 0) (at place new_place : Cursor) (max left new_left : Option ℕ) (line : Line)
+    (output written : Option (List ℕ)) (text new_text : List ℕ) (bound new_bound : ℕ)
+    → PrintsSome old now at place max left output (append_known written text)
+    → PutsLine now new line new_place bound new_bound → IfSome left (λ n. 0 < n) → new_left ≡ option_map (λ n. n - 1) left
+    → new_text ≡ text ++ line.text
+    → PrintsSome old new at new_place max new_left output (append_known written new_text)
+one_more old now new at place new_place max left new_left line output written text new_text bound new_bound some puts above less grown = record {
+  lines = some.lines ++ line ∷ [];
+  due = λ rest end due. rw (append_assoc some.lines (line ∷ []) rest) (some.due (line ∷ rest) end (puts.due rest end due));
+  place_is = puts.place_is ∙ sym (last_cursor-push at some.lines line);
+  limit = rw less (one_less_left max left (length some.lines) (length (some.lines ++ line ∷ [])) some.limit above (length-append some.lines (line ∷ [])));
+  printed = rw (texts_of-push some.lines line) (collected output written text line.text new_text (texts_of some.lines) some.printed grown);
+}
+
+pub emptied : (old now : List Line → End → Type 0) (at place : Cursor) (max left : Option ℕ) (output written new_written : Option (List ℕ))
+    (text : List ℕ) → PrintsSome old now at place max left output (append_known written text) → Appends written new_written text
+    → PrintsSome old now at place max left output (append_known new_written [])
+emptied old now at place max left output written new_written text some moved = record {
+  lines = some.lines;
+  due = some.due;
+  place_is = some.place_is;
+  limit = some.limit;
+  printed = written_out output written new_written text (texts_of some.lines) some.printed moved;
+}
+
+at_limit : (max : Option ℕ) (count : ℕ) → IsLeftOf max (Some 0) count → max ≡ Some count
+at_limit None count is = absurd is
+at_limit (Some limit) count is = let same : limit ≡ count = omega (arith, is) in ap (λ n. Some n) same
+
+below_limit : (max left : Option ℕ) (count : ℕ) → IsLeftOf max left count → IfSome left (λ n. 0 < n) → IfSome max (λ limit. count < limit)
+below_limit None left count is above = tt
+below_limit (Some limit) None count is above = absurd is
+below_limit (Some limit) (Some left) count is above = omega arith
+
+-- the lines have ended at the limit
+pub ended_at_limit : (old now : List Line → End → Type 0) (at place : Cursor) (max left : Option ℕ)
+    (output written new_written : Option (List ℕ)) (text : List ℕ)
+    → PrintsSome old now at place max left output (append_known written text) → left ≡ Some 0
+    → ((lines : List Line) × (end : End) × now lines end) → Appends written new_written text
+    → PrintsLines old at max None place output new_written
+ended_at_limit old now at place max left output written new_written text some none_left others moved = record {
+  lines = some.lines;
+  others = others.0;
+  end = others.1;
+  due = some.due others.0 others.1 others.2;
+  ends = at_limit max (length some.lines) (rw none_left at some.limit);
+  place_is = some.place_is;
+  printed = collected_no_more output new_written (texts_of some.lines)
+      (written_out output written new_written text (texts_of some.lines) some.printed moved);
+}
+
+-- all lines are printed
+pub ended_at_end : (old now : List Line → End → Type 0) (at place new_place : Cursor) (max left : Option ℕ) (end : End)
     (output written new_written : Option (List ℕ)) (text new_text : List ℕ)
-    → IfSome left (λ bytes. file ≡ bytes)
-    → PrintsAllRows (walk_start file) walk (append_known output []) written end
-    → at ≡ walk.cursor → text ≡ [] → new_text ≡ text ++ last_line end at → Appends written new_written new_text
-    → IfSome left (λ bytes. (items : List Item) × AreItems bytes items end
-    × Appends output new_written (row_lines items ++ last_line end (last_cursor start items)))
-whole_printed None file walk end at output written new_written text new_text whole prints at_is empty grown moved = tt
-whole_printed (Some bytes) file walk end at output written new_written text new_text whole prints at_is empty grown moved =
-    let cursor : at ≡ last_cursor start prints.items = at_is ∙ prints.cursor in
-    let line : new_text ≡ last_line end (last_cursor start prints.items) = rw (cursor, empty) at grown in (
-      prints.items,
-      rw (← whole) prints.due,
-      Appends-trans output written new_written (row_lines prints.items) (last_line end (last_cursor start prints.items))
-          (collected_none output written (row_lines prints.items) prints.printed) (rw line at moved),
-    )
+    → PrintsSome old now at place max left output (append_known written text) → IfSome left (λ n. 0 < n)
+    → now [] end → new_place ≡ place → new_text ≡ text → Appends written new_written new_text
+    → PrintsLines old at max (Some end) new_place output new_written
+ended_at_end old now at place new_place max left end output written new_written text new_text some above due same_place same moved = record {
+  lines = some.lines;
+  others = [];
+  end = end;
+  due = some.due [] end due;
+  ends = (refl, refl, below_limit max left (length some.lines) some.limit above);
+  place_is = same_place ∙ some.place_is;
+  printed = collected_no_more output new_written (texts_of some.lines)
+      (written_out output written new_written text (texts_of some.lines) some.printed (rw same at moved));
+}
+
+-- the last line is printed behind the lines
+pub with_last_line : (due : List Line → End → Type 0) (at place : Cursor) (max : Option ℕ) (ending : Option End)
+    (output written new_written : Option (List ℕ)) (text new_text : List ℕ) (cursor : Cursor)
+    → PrintsLines due at max ending place (append_known output []) written
+    → text ≡ [] → cursor ≡ place → new_text ≡ text ++ last_line ending cursor → Appends written new_written new_text
+    → PrintsAll due at max ending output new_written
+with_last_line due at place max ending output written new_written text new_text cursor prints empty same grown moved =
+    let line : new_text ≡ last_line ending (last_cursor at prints.lines) = rw (same, prints.place_is, empty) at grown in record {
+      lines = prints.lines;
+      others = prints.others;
+      end = prints.end;
+      due = prints.due;
+      ends = prints.ends;
+      printed = Appends-trans output written new_written (texts_of prints.lines) (last_line ending (last_cursor at prints.lines))
+          (collected_none output written (texts_of prints.lines) prints.printed) (rw line at moved);
+    }

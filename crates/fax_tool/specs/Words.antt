@@ -1,7 +1,7 @@
 -- What the program says of words that name no job (this project's profile).
 use Rattle.std.specs.Prelude.{ℕ, List, ◌++◌, codes}
 use Rattle.fax_tool.specs.declared.words.WordsFault.{WordsFault}
-use Rattle.fax_tool.specs.declared.words.WordsFault.TheVariants.{Usage, Memory}
+use Rattle.fax_tool.specs.declared.words.WordsFault.TheVariants.{Usage, NotACursor, Memory}
 
 -- the four lines of the usage (this project's profile)
 abbrev pub usage_text : List ℕ
@@ -14,9 +14,11 @@ usage_text =
 -- the text for the error stream (this project's profile)
 abbrev pub words_text : WordsFault → List ℕ
 words_text Usage = usage_text
+words_text NotACursor = codes "fault cursor: NotACursor\n"
 words_text Memory = codes "fault: Memory\n"
 
 -- the program's status (this project's profile)
 abbrev pub words_status : WordsFault → ℕ
 words_status Usage = 2
+words_status NotACursor = 2
 words_status Memory = 3

@@ -3,8 +3,10 @@
 //! The program is `run` over `parse_words`: `main` only gathers the words and opens the streams.
 #![tactic(auto)]
 
+pub mod laws;
+mod lines;
+mod print;
 mod refusal;
-mod rows;
 mod run;
 mod streams;
 #[cfg(test)]
@@ -14,14 +16,14 @@ mod transfer;
 mod words;
 
 pub use fax_bits::Memory;
-pub use fax_walk::{Cause, Cursor, End, FileFault, StripFault};
+pub use fax_walk::{Cause, Cursor, End, FileFault, NotACursor, StripFault};
 pub use refusal::Refusal;
 pub use run::run;
 use std::fs::File;
 use std::process::ExitCode;
 use std::{env, io};
 pub use streams::{FromRead, Sink, Source, StreamFault, ToWrite};
-pub use words::{Command, Job, WordsFault, parse_words};
+pub use words::{Command, Job, Part, WordsFault, parse_words};
 
 /// The status where no file could be opened.
 const NOT_OPENED: u8 = 3;

@@ -1,11 +1,11 @@
 //! A run of the program over its streams.
 ghost use Rattle.std.specs.Prelude.{◌≡◌, ◌<◌, ◌⊎◌};
 ghost use Rattle.fax_tool.specs.code.Printing.{IsReport, IsSaid};
-ghost use Rattle.fax_tool.specs.Run.{IsStatus, PrintsRows, SaysRefusal};
+ghost use Rattle.fax_tool.specs.Run.{IsStatus, PrintsPart, SaysRefusal};
 ghost use Rattle.fax_tool.specs.Streams.{no_faults};
 
+use crate::print::{list, rows};
 use crate::refusal::Refusal;
-use crate::rows::rows;
 use crate::streams::{Sink, Source};
 use crate::text::fault_text;
 use crate::transfer::give_all;
@@ -13,7 +13,7 @@ use crate::words::{Command, Job};
 use fax_walk::End;
 use std::alloc::Global;
 
-/// Nothing was refused: all rows were printed.
+/// Nothing was refused: all that was asked for was printed.
 const DONE: u8 = 0;
 
 /// The input has a fault.
@@ -33,14 +33,16 @@ fn say<E: Sink>(err: &mut E, line: &str, status: u8) -> u8
     }
 }
 
-/// Says on the error stream how a run ended, and answers the program's status.
-fn report<E: Sink>(alloc: Global, ending: Result<End, Refusal>, err: &mut E) -> u8
+/// Says on the error stream how a run ended, with no end at its limit, and answers the program's
+/// status.
+fn report<E: Sink>(alloc: Global, ending: Result<Option<End>, Refusal>, err: &mut E) -> u8
     requires { E.counts err.old ≡ no_faults }
     ensures { IsReport ending (E.written err.old) (E.written err.new) (E.counts err.new) result }
 {
     match ending {
-        Ok(End::Proper) => DONE,
-        Ok(End::Fault { page, row, cause }) => match fault_text(alloc, page, row, cause) {
+        Ok(None | Some(End::Proper)) => DONE,
+        Ok(Some(End::Outside)) => say(err, "fault cursor: CursorOutside\n", INPUT_FAULT),
+        Ok(Some(End::Fault { page, row, cause })) => match fault_text(alloc, page, row, cause) {
             Ok(line) => say(err, line.as_str(), INPUT_FAULT),
             Err(_) => say(err, Refusal::Memory.line(), REFUSED),
         },
@@ -64,8 +66,8 @@ pub fn run<R: Source, W: Sink, E: Sink>(
     requires error_counts { E.counts err.old ≡ no_faults }
     ensures status { IsStatus result }
 
-    // What was done is the text of the input's rows and of their end.
-    ensures printed { result < 3 → PrintsRows (R.left input.old) (W.written out.old) (W.written out.new)
+    // What was done is the text of what follows the job's cursor in the input, up to its limit.
+    ensures printed { result < 3 → PrintsPart job.now.command (R.left input.old) (W.written out.old) (W.written out.new)
         (E.written err.old) (E.written err.new) result }
 
     // What was refused was refused for a reason that the streams' counts show.
@@ -73,7 +75,8 @@ pub fn run<R: Source, W: Sink, E: Sink>(
         (E.counts err.new) (E.written err.old) (E.written err.new) }
 {
     let ending = match job.command {
-        Command::Rows => rows(alloc, input, out),
+        Command::List(part) => list(alloc, part, input, out),
+        Command::Rows(part) => rows(alloc, part, input, out),
     };
     report(alloc, ending, err)
 }

@@ -6,7 +6,8 @@ mod page;
 mod streams;
 mod words;
 
-use caller::rows_of;
+use crate::{Command, Cursor, Part};
+use caller::{WHOLE, printed_by, rows_of};
 
 /// A file of one MH page of 8 pels by 1 row, WWWBBWWW.
 #[rattlefmt::skip]
@@ -48,4 +49,49 @@ fn prints_rows(rt: HostRuntime) {
     );
     assert!(rt; printed.error.is_empty());
     assert_eq!(rt; printed.status, 0);
+}
+
+#[test]
+fn prints_pages(rt: HostRuntime) {
+    let printed = printed_by(rt.alloc(), Command::List(WHOLE), &ONE_MH_PAGE);
+    assert_eq!(rt;
+        printed.output.as_slice(),
+        b"page 0 8 1 mh 1 0 1 204/1 196/1 2\nend\n".as_slice()
+    );
+    assert!(rt; printed.error.is_empty());
+    assert_eq!(rt; printed.status, 0);
+}
+
+#[test]
+fn looks_no_further_at_the_limit(rt: HostRuntime) {
+    let one = Part {
+        max: Some(1),
+        ..WHOLE
+    };
+    let rows = printed_by(rt.alloc(), Command::Rows(one), &ONE_MH_PAGE);
+    assert_eq!(rt;
+        rows.output.as_slice(),
+        b"row 0 0 3 2 3\nnext 1:0:1\n".as_slice()
+    );
+    assert_eq!(rt; rows.status, 0);
+    let pages = printed_by(rt.alloc(), Command::List(one), &ONE_MH_PAGE);
+    assert!(rt; pages.output.as_slice().ends_with(b"\nnext 1:1:0\n"));
+    assert_eq!(rt; pages.status, 0);
+}
+
+#[test]
+fn says_that_a_cursor_is_outside(rt: HostRuntime) {
+    let outside = Part {
+        cursor: Cursor { page: 0, row: 2 },
+        max: None,
+    };
+    for command in [Command::Rows(outside), Command::List(outside)] {
+        let printed = printed_by(rt.alloc(), command, &ONE_MH_PAGE);
+        assert!(rt; printed.output.is_empty());
+        assert_eq!(rt;
+            printed.error.as_slice(),
+            b"fault cursor: CursorOutside\n".as_slice()
+        );
+        assert_eq!(rt; printed.status, 1);
+    }
 }

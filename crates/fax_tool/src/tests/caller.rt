@@ -1,9 +1,15 @@
 //! A run over bytes in memory, with all that a caller learns of it.
 
-use crate::{Command, FromRead, Job, ToWrite, run};
+use crate::{Command, Cursor, FromRead, Job, Part, ToWrite, run};
 use std::alloc::Global;
 
-/// What a run of `rows` printed.
+/// All of a file.
+pub const WHOLE: Part = Part {
+    cursor: Cursor { page: 0, row: 0 },
+    max: None,
+};
+
+/// What a run printed.
 #[derive(Drop)]
 pub struct Printed {
     pub output: Vec<u8>,
@@ -14,14 +20,14 @@ pub struct Printed {
 ghost use Rattle.std.specs.Prelude.{◌<◌};
 ghost use Rattle.fax_tool.specs.code.Caller.{IsPrinted};
 
-/// Runs `rows` over these bytes. Where nothing was refused, what it printed is the text of the
-/// file's rows and of their end.
-pub fn rows_of(alloc: Global, file: &[u8]) -> Printed
+/// Runs a command over these bytes. Where nothing was refused, what it printed is the text of what
+/// follows the command's cursor in the file, up to its limit.
+pub fn printed_by(alloc: Global, command: Command, file: &[u8]) -> Printed
     ensures { result.status < 3
-        → IsPrinted file.now result.output.items result.error.items result.status }
+        → IsPrinted command file.now result.output.items result.error.items result.status }
 {
     let job = Job {
-        command: Command::Rows,
+        command,
         file: None,
     };
     let mut input = FromRead::new(file);
@@ -33,4 +39,9 @@ pub fn rows_of(alloc: Global, file: &[u8]) -> Printed
         error: err.into_inner(),
         status,
     }
+}
+
+/// Runs `rows` over all of a file.
+pub fn rows_of(alloc: Global, file: &[u8]) -> Printed {
+    printed_by(alloc, Command::Rows(WHOLE), file)
 }

@@ -3,6 +3,7 @@
 ghost use Rattle.std.specs.Prelude.{◌≡◌, IfOk};
 
 use super::ONE_MH_PAGE;
+use super::caller::WHOLE;
 use crate::{Command, FromRead, Job, ToWrite, run};
 use std::alloc::Global;
 use std::io;
@@ -87,7 +88,7 @@ fn roomy(alloc: Global) -> Writer {
 /// A run over such streams: the output, the error line and the status.
 fn run_over(alloc: Global, reader: Reader, out: Writer, err: Writer) -> (Vec<u8>, Vec<u8>, u8) {
     let job = Job {
-        command: Command::Rows,
+        command: Command::Rows(WHOLE),
         file: None,
     };
     let mut input = FromRead::new(reader);
@@ -214,7 +215,7 @@ impl io::Read for Endless {
 #[test]
 fn says_read_where_the_input_is_too_long(rt: HostRuntime) -> Result<(), Fail> {
     let job = Job {
-        command: Command::Rows,
+        command: Command::Rows(WHOLE),
         file: None,
     };
     let mut input = FromRead::new(Endless);

@@ -1,14 +1,14 @@
 //! Command lines, and what the program says of those it refuses.
 
-use crate::{Command, WordsFault, parse_words};
+use super::caller::WHOLE;
+use crate::{Command, Cursor, Part, WordsFault, parse_words};
 use std::test::Fail;
 
 /// Command lines that are refused: not built yet, wrong, or asking for help or the version.
-static REFUSED: [&[&str]; 16] = [
+static REFUSED: [&[&str]; 21] = [
     &[],
     &["faxpages"],
     &["faxpages", "convert"],
-    &["faxpages", "list"],
     &["faxpages", "check"],
     &["faxpages", "row"],
     &["faxpages", "ROWS"],
@@ -17,8 +17,14 @@ static REFUSED: [&[&str]; 16] = [
     &["faxpages", "help"],
     &["faxpages", "--version"],
     &["faxpages", "rows", "--help"],
-    &["faxpages", "rows", "--max", "1"],
-    &["faxpages", "rows", "--cursor", "1:0:0"],
+    &["faxpages", "rows", "--max", "0"],
+    &["faxpages", "rows", "--max", "4294967296"],
+    &["faxpages", "list", "--max", "-1"],
+    &["faxpages", "list", "--max", "one"],
+    &["faxpages", "rows", "--max", "1", "--max", "1"],
+    &["faxpages", "rows", "--cursor"],
+    &["faxpages", "list", "--cursor", "none", "--max", "0"],
+    &["faxpages", "rows", "--cursor", "none", "a.tif", "b.tif"],
     &["faxpages", "rows", "-x"],
     &["faxpages", "rows", "a.tif", "b.tif"],
 ];
@@ -35,18 +41,72 @@ fn refuses_other_words(rt: HostRuntime) -> Result<(), Fail> {
 }
 
 #[test]
+fn refuses_texts_of_no_cursor(rt: HostRuntime) -> Result<(), Fail> {
+    for text in [
+        "",
+        "1",
+        "1:0",
+        "1:00:0",
+        "1:+0:0",
+        "2:0:0",
+        "1:0:4294967296",
+        "1:0:0 ",
+    ] {
+        for command in ["rows", "list"] {
+            match parse_words(rt.alloc(), &["faxpages", command, "--cursor", text]) {
+                Ok(_) => assert!(rt; false, "{text} is read"),
+                Err(fault) => assert_eq!(rt; fault, WordsFault::NotACursor, "{text}"),
+            }
+        }
+    }
+    Ok(())
+}
+
+#[test]
 fn reads_jobs(rt: HostRuntime) -> Result<(), Fail> {
     let from_file = parse_words(rt.alloc(), &["faxpages", "rows", "a.tif"])?;
-    assert_eq!(rt; from_file.command, Command::Rows);
+    assert_eq!(rt; from_file.command, Command::Rows(WHOLE));
     assert_eq!(rt;
         from_file.file.as_ref().map(|name| name.as_str()),
         Some("a.tif")
     );
-    let from_input = parse_words(rt.alloc(), &["faxpages", "rows"])?;
-    assert_eq!(rt; from_input.command, Command::Rows);
+    let from_input = parse_words(rt.alloc(), &["faxpages", "list"])?;
+    assert_eq!(rt; from_input.command, Command::List(WHOLE));
     assert!(rt; from_input.file.is_none());
     let dashed = parse_words(rt.alloc(), &["faxpages", "rows", "--", "-x"])?;
     assert_eq!(rt; dashed.file.as_ref().map(|name| name.as_str()), Some("-x"));
+    Ok(())
+}
+
+#[test]
+fn reads_parts(rt: HostRuntime) -> Result<(), Fail> {
+    let part = Part {
+        cursor: Cursor {
+            page: 2,
+            row: 4_294_967_295,
+        },
+        max: Some(4_294_967_295),
+    };
+    let words = [
+        "faxpages",
+        "rows",
+        "--cursor",
+        "1:2:4294967295",
+        "--max=4294967295",
+    ];
+    assert_eq!(rt;
+        parse_words(rt.alloc(), &words)?.command,
+        Command::Rows(part)
+    );
+    let behind = ["faxpages", "list", "a.tif", "--max", "1", "--cursor=1:0:0"];
+    let first = Part {
+        max: Some(1),
+        ..WHOLE
+    };
+    assert_eq!(rt;
+        parse_words(rt.alloc(), &behind)?.command,
+        Command::List(first)
+    );
     Ok(())
 }
 
@@ -57,5 +117,9 @@ fn says_the_usage(rt: HostRuntime) {
     assert_eq!(rt; text.lines().count(), 4);
     assert!(rt; text.starts_with("usage: faxpages list [--cursor C] [--max N] [FILE]\n"));
     assert!(rt; text.ends_with("       faxpages check [FILE]\n"));
+    assert_eq!(rt;
+        WordsFault::NotACursor.text(),
+        ("fault cursor: NotACursor\n", 2)
+    );
     assert_eq!(rt; WordsFault::Memory.text(), ("fault: Memory\n", 3));
 }

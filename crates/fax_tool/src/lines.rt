@@ -1,0 +1,107 @@
+//! What is printed line by line: the rows of a file, or its pages.
+ghost use Rattle.std.specs.Prelude.{◌≡◌, ◌≤◌, ℕ, List, IfOk};
+ghost use Rattle.std.specs.String.{string_bytes, string_len};
+ghost use Rattle.fax_walk.specs.declared.cursor.Cursor.{Cursor as At};
+ghost use Rattle.fax_walk.specs.declared.end.End.{End as TheEnd};
+ghost use Rattle.fax_tool.specs.Text.{Line};
+ghost use Rattle.fax_tool.specs.code.Printing as Spec;
+ghost use Rattle.fax_tool.specs.code.Printing.{IsLinePut};
+
+use crate::text::{put_page_line, put_row_line};
+use fax_bits::Memory;
+use fax_walk::{Cursor, End, Pages, Walk, WalkFault};
+use std::alloc::Global;
+
+/// Lines that are printed one after another. Contracts see which lines are due, and the end behind
+/// them, the cursor that stands before the first of them, and a number that each line makes less.
+pub trait Lines {
+    ghost are_due: { Self → List Line → TheEnd → Type 0 };
+
+    ghost place: { Self → At };
+
+    ghost left: { Self → ℕ };
+
+    /// The place behind what the last line told, or the one that the lines began with.
+    fn cursor(&self) -> Cursor
+        ensures { result ≡ place self.now };
+
+    /// Collects the next line, or answers how the lines ended.
+    fn put_next(&mut self, alloc: Global, text: &mut String) -> Result<Option<End>, Memory>
+        ensures put { IsLinePut (are_due self.old) (place self.old) (left self.old) (string_bytes text.old) result
+            (are_due self.new) (place self.new) (left self.new) (string_bytes text.new) }
+        ensures no_shorter { string_len text.old ≤ string_len text.new };
+
+    /// There are lines that are due, and an end. It computes nothing.
+    fn have_an_end(&self)
+        ensures { (lines : List Line) × (end : TheEnd) × are_due self.now lines end };
+}
+
+/// How lines end where a walk or a reader of pages answers so; want of memory is no end.
+fn end_of(fault: WalkFault) -> Result<End, Memory>
+    ensures { IfOk result (λ end. Spec.end_of fault ≡ Some end) }
+{
+    match fault {
+        WalkFault::AtRow { page, row, cause } => Ok(End::Fault { page, row, cause }),
+        WalkFault::CursorOutside => Ok(End::Outside),
+        WalkFault::Memory => Err(Memory),
+    }
+}
+
+/// A line for each row.
+impl Lines for Walk<'_> {
+    ghost use Rattle.fax_walk.specs.code.Due.{places_left};
+    ghost use Rattle.fax_tool.specs.code.Printing.{AreRowsDue};
+
+    ghost are_due = { λ walk lines end. AreRowsDue walk lines end };
+
+    ghost place = { λ walk. walk.cursor };
+
+    ghost left = { λ walk. places_left walk };
+
+    fn cursor(&self) -> Cursor {
+        Walk::cursor(self)
+    }
+
+    fn put_next(&mut self, alloc: Global, text: &mut String) -> Result<Option<End>, Memory> {
+        match self.next_row() {
+            Ok(Some((place, row))) => {
+                let runs = row.runs(alloc)?;
+                put_row_line(text, place, &runs)?;
+                Ok(None)
+            }
+            Ok(None) => Ok(Some(End::Proper)),
+            Err(fault) => Ok(Some(end_of(fault)?)),
+        }
+    }
+
+    fn have_an_end(&self) {}
+}
+
+/// A line for each page.
+impl Lines for Pages<'_> {
+    ghost use Rattle.fax_walk.specs.code.Pages.{pages_left};
+    ghost use Rattle.fax_tool.specs.code.Printing.{ArePagesDue};
+
+    ghost are_due = { λ pages lines end. ArePagesDue pages lines end };
+
+    ghost place = { λ pages. pages.cursor };
+
+    ghost left = { λ pages. pages_left pages };
+
+    fn cursor(&self) -> Cursor {
+        Pages::cursor(self)
+    }
+
+    fn put_next(&mut self, _alloc: Global, text: &mut String) -> Result<Option<End>, Memory> {
+        match self.next_page() {
+            Ok(Some((page, form))) => {
+                put_page_line(text, page, &form)?;
+                Ok(None)
+            }
+            Ok(None) => Ok(Some(End::Proper)),
+            Err(fault) => Ok(Some(end_of(fault)?)),
+        }
+    }
+
+    fn have_an_end(&self) {}
+}
