@@ -15,3 +15,6 @@ pub mod WrittenFileLemmas
 pub mod WrittenRowLemmas
 pub mod WritingLemmas
 pub mod WriterLemmas
+pub mod PbmGapLemmas
+pub mod PbmNumberLemmas
+pub mod PbmHeadLemmas
