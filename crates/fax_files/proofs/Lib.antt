@@ -18,3 +18,4 @@ pub mod WriterLemmas
 pub mod PbmGapLemmas
 pub mod PbmNumberLemmas
 pub mod PbmHeadLemmas
+pub mod PbmWrittenLemmas

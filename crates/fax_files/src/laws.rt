@@ -1,5 +1,6 @@
 //! Laws of files. The functions compute nothing: each has a law as its contract.
 ghost use Rattle.fax_files.specs.Laws as Laws;
+ghost use Rattle.fax_files.specs.PbmLaws as PbmLaws;
 
 /// Each file has one chain of directories, which has one end (TIFF 6.0, section 2). So that of a
 /// written file is that of its pages, and no other.
@@ -28,3 +29,10 @@ pub fn written_files_are_read()
 pub fn written_rows_are_read()
     ensures { Laws.WrittenRowsAreRead }
 {}
+
+/// Images that are written are read back, and a proper end behind them (the netpbm format, P4).
+pub fn written_images_are_read()
+    ensures { PbmLaws.WrittenImagesAreRead }
+{
+    fax_rows::laws::packing_undoes_unpacking();
+}
