@@ -19,3 +19,4 @@ pub mod PbmGapLemmas
 pub mod PbmNumberLemmas
 pub mod PbmHeadLemmas
 pub mod PbmWrittenLemmas
+pub mod PbmOneLemmas

@@ -36,3 +36,8 @@ pub fn written_images_are_read()
 {
     fax_rows::laws::packing_undoes_unpacking();
 }
+
+/// Bytes have one list of images, and one end (the netpbm format, P4).
+pub fn images_are_read_in_one_way()
+    ensures { PbmLaws.ImagesAreReadInOneWay }
+{}

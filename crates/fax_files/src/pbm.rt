@@ -1,8 +1,9 @@
 //! Raw PBM, one image after another (the netpbm format, P4): read as slices of the input, and
 //! written.
 
-ghost use Rattle.std.specs.Prelude.{◌≡◌, ◌≢◌, ◌⊎◌, ℕ, ◌+◌, ◌*◌, ◌<◌, ◌≤◌, ◌++◌, List, [], length};
-ghost use Rattle.std.specs.Prelude.{min, true, false, Some, None, IsTrue, IfOk, IfErr, OnOk, OnErr, IfSome};
+ghost use Rattle.std.specs.Prelude.{◌≡◌, ℕ, ◌*◌, ◌<◌, ◌++◌, List, length};
+ghost use Rattle.std.specs.Prelude.{true, false, Some, None, IsTrue, IfOk, IfErr, OnOk, OnErr};
+ghost use Rattle.std.specs.Prelude.{IfSome};
 ghost use Rattle.std.specs.Option.{IfNone};
 ghost use Rattle.fax_files.specs.Pbm as Pbm;
 ghost use Rattle.fax_files.specs.code.Pbm as Spec;

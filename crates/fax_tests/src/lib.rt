@@ -12,6 +12,8 @@ mod files;
 #[cfg(test)]
 mod page;
 #[cfg(test)]
+mod pbm;
+#[cfg(test)]
 mod rows;
 #[cfg(test)]
 mod walk;
