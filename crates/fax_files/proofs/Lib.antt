@@ -15,3 +15,8 @@ pub mod WrittenFileLemmas
 pub mod WrittenRowLemmas
 pub mod WritingLemmas
 pub mod WriterLemmas
+pub mod PbmGapLemmas
+pub mod PbmNumberLemmas
+pub mod PbmHeadLemmas
+pub mod PbmWrittenLemmas
+pub mod PbmOneLemmas

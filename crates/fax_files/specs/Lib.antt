@@ -7,5 +7,7 @@ pub mod StripBytes
 pub mod PageRows
 pub mod FaultNames
 pub mod Written
+pub mod Pbm
+pub mod PbmLaws
 pub mod Laws
 pub mod code

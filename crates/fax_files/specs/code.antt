@@ -3,3 +3,4 @@ pub mod Tiff
 pub mod Fields
 pub mod Chain
 pub mod Writing
+pub mod Pbm

@@ -1,5 +1,6 @@
 //! Laws of files. The functions compute nothing: each has a law as its contract.
 ghost use Rattle.fax_files.specs.Laws as Laws;
+ghost use Rattle.fax_files.specs.PbmLaws as PbmLaws;
 
 /// Each file has one chain of directories, which has one end (TIFF 6.0, section 2). So that of a
 /// written file is that of its pages, and no other.
@@ -27,4 +28,16 @@ pub fn written_files_are_read()
 /// A page that is read as it was written has the rows of its strips (TIFF 6.0, RowsPerStrip).
 pub fn written_rows_are_read()
     ensures { Laws.WrittenRowsAreRead }
+{}
+
+/// Images that are written are read back, and a proper end behind them (the netpbm format, P4).
+pub fn written_images_are_read()
+    ensures { PbmLaws.WrittenImagesAreRead }
+{
+    fax_rows::laws::packing_undoes_unpacking();
+}
+
+/// Bytes have one list of images, and one end (the netpbm format, P4).
+pub fn images_are_read_in_one_way()
+    ensures { PbmLaws.ImagesAreReadInOneWay }
 {}

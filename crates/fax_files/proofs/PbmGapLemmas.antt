@@ -1,0 +1,214 @@
+-- Gaps in a PBM's header: a gap that is read is one, and each gap is read to its end.
+use Rattle.std.proofs.Common.{◌≡◌, ◌≢◌, ℕ, ◌+◌, ◌⊎◌, inl, inr, Bool, true, false, not, cond, ◌||◌, List, [], ◌∷◌, ◌++◌, Option, Some, None, refl, sym, ap, ◌∙◌, arith, append_assoc}
+use Rattle.std.specs.Prelude.{◌==◌, IsTrue, if◌then◌else◌}
+use Rattle.std.specs.List.{list_all}
+use Rattle.std.proofs.lemmas.Bool.{eqb-true, and_parts}
+use Rattle.std.proofs.lemmas.Bool.Decides.{nat_tests}
+use Rattle.fax_files.specs.Page.{is_between}
+use Rattle.fax_files.specs.Pbm.{is_white_space, is_line_end, is_digit, IsPiece, ArePieces, IsGap}
+use Rattle.fax_files.specs.code.Pbm.{begins_piece, behind_pieces, behind_gap, has_digit}
+
+pub white_is_no_hash : (c : ℕ) → is_white_space c ≡ true → (c == 35) ≡ false
+white_is_no_hash c white = grind (arith, nat_tests)
+
+pub white_begins : (c : ℕ) → is_white_space c ≡ true → begins_piece c ≡ true
+white_begins c white = rw (white_is_no_hash c white) white
+
+pub digit_begins_none : (c : ℕ) → is_digit c ≡ true → begins_piece c ≡ false
+digit_begins_none c digit = grind (arith, nat_tests)
+
+pub piece_is_no_digit : (c : ℕ) → begins_piece c ≡ true → is_digit c ≡ false
+piece_is_no_digit c piece = grind (arith, nat_tests)
+
+pub white_is_no_digit : (c : ℕ) → is_white_space c ≡ true → is_digit c ≡ false
+white_is_no_digit c white = piece_is_no_digit c (white_begins c white)
+
+-- pieces, and what stands behind them
+record HasPieces (bytes rest : List ℕ) : Type 0 where
+  pieces : List (List ℕ)
+  gap : List ℕ
+  are : ArePieces pieces gap
+  is : bytes ≡ gap ++ rest
+
+-- the same of one piece or more
+record HasGap (bytes rest : List ℕ) : Type 0 where
+  first : List ℕ
+  pieces : List (List ℕ)
+  gap : List ℕ
+  are : ArePieces (first ∷ pieces) gap
+  is : bytes ≡ gap ++ rest
+
+-- the rest of a comment, pieces, and what stands behind them
+record HasComment (bytes rest : List ℕ) : Type 0 where
+  text : List ℕ
+  end : ℕ
+  pieces : List (List ℕ)
+  gap : List ℕ
+  all : IsTrue (list_all (λ t. not (is_line_end t)) text)
+  ends : IsTrue (is_line_end end)
+  are : ArePieces pieces gap
+  is : bytes ≡ text ++ end ∷ (gap ++ rest)
+
+abbrev Has : Bool → List ℕ → List ℕ → Type 0
+Has true bytes rest = HasComment bytes rest
+Has false bytes rest = HasPieces bytes rest
+
+comment_ends : (c : ℕ) (bytes rest : List ℕ) → is_line_end c ≡ true → HasPieces bytes rest → HasComment (c ∷ bytes) rest
+comment_ends c bytes rest ends has = record {
+  text = [];
+  end = c;
+  pieces = has.pieces;
+  gap = has.gap;
+  all = refl;
+  ends = ends;
+  are = has.are;
+  is = ap (λ (l : List ℕ). c ∷ l) has.is;
+}
+
+comment_goes_on : (c : ℕ) (bytes rest : List ℕ) → is_line_end c ≡ false → HasComment bytes rest → HasComment (c ∷ bytes) rest
+comment_goes_on c bytes rest goes_on has = record {
+  text = c ∷ has.text;
+  end = has.end;
+  pieces = has.pieces;
+  gap = has.gap;
+  all = rw goes_on has.all;
+  ends = has.ends;
+  are = has.are;
+  is = ap (λ (l : List ℕ). c ∷ l) has.is;
+}
+
+comment_is_piece : (c : ℕ) (bytes rest : List ℕ) → c ≡ 35 → HasComment bytes rest → HasGap (c ∷ bytes) rest
+comment_is_piece c bytes rest hash has =
+    let piece : List ℕ = 35 ∷ has.text ++ has.end ∷ [] in
+    record {
+      first = piece;
+      pieces = has.pieces;
+      gap = piece ++ has.gap;
+      are = (has.gap, inr (has.text, has.end, has.all, has.ends, refl), has.are, refl);
+      is =
+          rw (hash, has.is) (
+          ap (λ (l : List ℕ). 35 ∷ l) (
+          sym (append_assoc (has.text ++ has.end ∷ []) has.gap rest ∙ append_assoc has.text (has.end ∷ []) (has.gap ++ rest))
+          )
+          );
+    }
+
+white_is_piece : (c : ℕ) (bytes rest : List ℕ) → is_white_space c ≡ true → HasPieces bytes rest → HasGap (c ∷ bytes) rest
+white_is_piece c bytes rest white has = record {
+  first = c ∷ [];
+  pieces = has.pieces;
+  gap = c ∷ has.gap;
+  are = (has.gap, inl (c, white, refl), has.are, refl);
+  is = ap (λ (l : List ℕ). c ∷ l) has.is;
+}
+
+gap_has_pieces : (bytes rest : List ℕ) → HasGap bytes rest → HasPieces bytes rest
+gap_has_pieces bytes rest has = record { pieces = has.first ∷ has.pieces; gap = has.gap; are = has.are; is = has.is }
+
+-- the first piece begins at this byte
+first_piece : (c : ℕ) (bytes rest : List ℕ) → begins_piece c ≡ true
+    → ((in_comment : Bool) → behind_pieces in_comment bytes ≡ Some rest → Has in_comment bytes rest)
+    → behind_pieces (c == 35) bytes ≡ Some rest → HasGap (c ∷ bytes) rest
+first_piece c bytes rest begins has next =
+    elim (c == 35) as (λ v. (c == 35) ≡ v → behind_pieces v bytes ≡ Some rest → HasGap (c ∷ bytes) rest) [
+      | true ↦ λ hash more. comment_is_piece c bytes rest (eqb-true c 35 hash) (has true more)
+      | false ↦ λ other more. white_is_piece c bytes rest (rw other at begins) (has false more)
+    ] refl next
+
+has_read : (in_comment : Bool) (bytes rest : List ℕ) → behind_pieces in_comment bytes ≡ Some rest → Has in_comment bytes rest
+has_read in_comment [] rest is = let no : ⊥ = cc in absurd no
+has_read true (c ∷ bytes) rest is =
+    elim (is_line_end c) as (λ v. is_line_end c ≡ v → behind_pieces (not v) bytes ≡ Some rest → HasComment (c ∷ bytes) rest) [
+      | true ↦ λ ends next. comment_ends c bytes rest ends (has_read false bytes rest next)
+      | false ↦ λ goes_on next. comment_goes_on c bytes rest goes_on (has_read true bytes rest next)
+    ] refl is
+has_read false (c ∷ bytes) rest is =
+    elim (begins_piece c) as (λ v. begins_piece c ≡ v → (if v then (behind_pieces (c == 35) bytes) else (Some (c ∷ bytes))) ≡ Some rest → HasPieces (c ∷ bytes) rest) [
+      | true ↦ λ begins next.
+          gap_has_pieces (c ∷ bytes) rest (first_piece c bytes rest begins (λ in_comment more. has_read in_comment bytes rest more) next)
+      | false ↦ λ none same. record { pieces = []; gap = []; are = refl; is = cc }
+    ] refl is
+
+-- a gap that is read is one
+pub gap_is_read : (bytes rest : List ℕ) → behind_gap bytes ≡ Some rest → (gap : List ℕ) × IsGap gap × (bytes ≡ gap ++ rest)
+gap_is_read [] rest is = let no : ⊥ = cc in absurd no
+gap_is_read (c ∷ bytes) rest is =
+    elim (begins_piece c) as (λ v. begins_piece c ≡ v → (if v then (if v then (behind_pieces (c == 35) bytes) else (Some (c ∷ bytes))) else None) ≡ Some rest → (gap : List ℕ) × IsGap gap × (c ∷ bytes ≡ gap ++ rest)) [
+      | true ↦ λ begins next.
+          let has = first_piece c bytes rest begins (λ in_comment more. has_read in_comment bytes rest more) next in
+          (has.gap, (has.first ∷ has.pieces, (λ e. cc), has.are), has.is)
+      | false ↦ λ none next. let no : ⊥ = cc in absurd no
+    ] refl is
+
+-- in a comment
+behind_text : (text : List ℕ) (c : ℕ) (more : List ℕ) → list_all (λ t. not (is_line_end t)) text ≡ true → is_line_end c ≡ true
+    → behind_pieces true (text ++ c ∷ more) ≡ behind_pieces false more
+behind_text [] c more all ends = ap (λ v. behind_pieces (not v) more) ends
+behind_text (t ∷ text) c more all ends =
+    let parts = and_parts (not (is_line_end t)) (list_all (λ t. not (is_line_end t)) text) all in
+    ap (λ v. behind_pieces v (text ++ c ∷ more)) parts.0 ∙ behind_text text c more parts.1 ends
+
+white_passed : (c : ℕ) (more : List ℕ) → is_white_space c ≡ true → behind_pieces false (c ∷ more) ≡ behind_pieces false more
+white_passed c more white =
+    ap (λ v. if v then (behind_pieces (c == 35) more) else (Some (c ∷ more))) (white_begins c white)
+    ∙ ap (λ v. behind_pieces v more) (white_is_no_hash c white)
+
+piece_passed : (piece more : List ℕ) → IsPiece piece → behind_pieces false (piece ++ more) ≡ behind_pieces false more
+piece_passed piece more (inl w) =
+    ap (λ (p : List ℕ). behind_pieces false (p ++ more)) w.2 ∙ white_passed w.0 more w.1
+piece_passed piece more (inr w) =
+    ap (λ (p : List ℕ). behind_pieces false (p ++ more)) w.4
+    ∙ ap (λ (l : List ℕ). behind_pieces true l) (append_assoc w.0 (w.1 ∷ []) more)
+    ∙ behind_text w.0 w.1 more w.2 w.3
+
+pieces_passed : (pieces : List (List ℕ)) (gap rest : List ℕ) → ArePieces pieces gap → behind_pieces false (gap ++ rest) ≡ behind_pieces false rest
+pieces_passed [] gap rest are = ap (λ (g : List ℕ). behind_pieces false (g ++ rest)) are
+pieces_passed (piece ∷ pieces) gap rest are =
+    ap (λ (g : List ℕ). behind_pieces false (g ++ rest)) are.3
+    ∙ ap (λ (l : List ℕ). behind_pieces false l) (append_assoc piece are.0 rest)
+    ∙ piece_passed piece (are.0 ++ rest) are.1
+    ∙ pieces_passed pieces are.0 rest are.2
+
+-- a gap's first byte
+record Begins (gap : List ℕ) : Type 0 where
+  first : ℕ
+  others : List ℕ
+  begins : begins_piece first ≡ true
+  is : gap ≡ first ∷ others
+
+piece_begins : (piece : List ℕ) → IsPiece piece → Begins piece
+piece_begins piece (inl w) = record { first = w.0; others = []; begins = white_begins w.0 w.1; is = w.2 }
+piece_begins piece (inr w) = record { first = 35; others = w.0 ++ w.1 ∷ []; begins = refl; is = w.4 }
+
+pieces_begin : (pieces : List (List ℕ)) (gap : List ℕ) → (pieces ≡ [] → ⊥) → ArePieces pieces gap → Begins gap
+pieces_begin [] gap some are = absurd (some refl)
+pieces_begin (piece ∷ pieces) gap some are =
+    let b = piece_begins piece are.1 in
+    record { first = b.first; others = b.others ++ are.0; begins = b.begins; is = are.3 ∙ ap (λ (p : List ℕ). p ++ are.0) b.is }
+
+gap_begins : (gap : List ℕ) → IsGap gap → Begins gap
+gap_begins gap is = pieces_begin is.0 gap is.1 is.2
+
+-- what begins with a gap begins with no digit
+pub gap_has_no_digit : (gap rest : List ℕ) → IsGap gap → has_digit (gap ++ rest) ≡ false
+gap_has_no_digit gap rest is =
+    let b = gap_begins gap is in
+    ap (λ (g : List ℕ). has_digit (g ++ rest)) b.is ∙ piece_is_no_digit b.first b.begins
+
+digit_stops : (rest : List ℕ) → has_digit rest ≡ true → behind_pieces false rest ≡ Some rest
+digit_stops [] digit = let no : ⊥ = cc in absurd no
+digit_stops (c ∷ rest) digit =
+    ap (λ v. if v then (behind_pieces (c == 35) rest) else (Some (c ∷ rest))) (digit_begins_none c digit)
+
+begun_gap : (c : ℕ) (bytes : List ℕ) → begins_piece c ≡ true → behind_gap (c ∷ bytes) ≡ behind_pieces false (c ∷ bytes)
+begun_gap c bytes begins = ap (λ v. if v then (behind_pieces false (c ∷ bytes)) else None) begins
+
+-- each gap before a digit is read to its end
+pub gap_passed : (gap rest : List ℕ) → IsGap gap → has_digit rest ≡ true → behind_gap (gap ++ rest) ≡ Some rest
+gap_passed gap rest is digit =
+    let b = gap_begins gap is in
+    ap (λ (g : List ℕ). behind_gap (g ++ rest)) b.is
+    ∙ begun_gap b.first (b.others ++ rest) b.begins
+    ∙ ap (λ (g : List ℕ). behind_pieces false (g ++ rest)) (sym b.is)
+    ∙ pieces_passed is.0 gap rest is.2
+    ∙ digit_stops rest digit

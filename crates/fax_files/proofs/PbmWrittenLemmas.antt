@@ -1,0 +1,119 @@
+-- Images that are written are read back.
+use Rattle.std.proofs.Common.{◌≡◌, ◌≢◌, ℕ, zero, suc, ◌+◌, ◌-◌, ◌*◌, ◌/◌, ◌%◌, ◌^◌, ◌<◌, ◌≤◌, inl, true, ◌&&◌, List, [], ◌∷◌, ◌++◌, length, map, take, drop, None, refl, sym, ap, ◌∙◌, arith, append_assoc}
+use Rattle.std.specs.Prelude.{fold, codes, decimal, IsTrue}
+use Rattle.std.specs.List.{list_all, flat_map, range_with_len}
+use Rattle.std.proofs.lemmas.Bool.{and_from}
+use Rattle.std.proofs.lemmas.Bool.Decides.{nat_tests}
+use Rattle.std.proofs.lemmas.Fmt.{decimal_by_steps}
+use Rattle.std.proofs.lemmas.List.{length-append}
+use Rattle.std.proofs.lemmas.List.Folds.{list_all-append}
+use Rattle.std.proofs.lemmas.List.Sums.{fold-append}
+use Rattle.std.proofs.lemmas.List.FromFn.{length-map-range_with_len}
+use Rattle.std.proofs.Math.Seq.{take-append_seam, drop-append_seam}
+use Rattle.fax_bits.specs.declared.Colour.{Colour}
+use Rattle.fax_rows.specs.Packed.{packed_byte, packed_len, packed_row, unpacked_row, PackingUndoesUnpacking}
+use Rattle.fax_files.specs.Pbm.{Image, IsHead, IsImage, IsNumber, AreImages, is_digit, is_within_limits, spelled_number, head_bytes, image_bytes, pbm_of, raster_rows, raster_len}
+use Rattle.fax_files.specs.PbmLaws.{AreOfWidth, IsWritableImage, AreWritableImages}
+
+-- decimals as they are written are a number
+digit_is_number : (n : ℕ) → n < 10 → IsNumber ((48 + n) ∷ []) n
+digit_is_number n small =
+    let digit : is_digit (48 + n) ≡ true = grind (arith, nat_tests) in
+    ((λ e. cc), ap (λ v. v && true) digit, omega arith)
+
+nonempty_push : (digits : List ℕ) (d : ℕ) → digits ++ d ∷ [] ≢ []
+nonempty_push [] d = λ e. cc
+nonempty_push (c ∷ digits) d = λ e. cc
+
+more_is_number : (n : ℕ) (digits : List ℕ) → 10 ≤ n → IsNumber digits (n / 10) → IsNumber (digits ++ ((48 + n % 10) ∷ [])) n
+more_is_number n digits large is =
+    let last = 48 + n % 10 in
+    let digit : is_digit last ≡ true = grind (arith, nat_tests) in
+    let last_all : list_all is_digit (last ∷ []) ≡ true = ap (λ v. v && true) digit in (
+      nonempty_push digits last,
+      list_all-append is_digit digits (last ∷ []) ∙ and_from (list_all is_digit digits) (list_all is_digit (last ∷ [])) is.1 last_all,
+      (let spelled : spelled_number (digits ++ last ∷ []) ≡ 10 * spelled_number digits + (last - 48) = fold-append (λ number digit. 10 * number + (digit - 48)) 0 digits (last ∷ []) in omega (arith, is.2)),
+    )
+
+decimal_is_number : (n : ℕ) → n < 2 ^ 64 → IsNumber (decimal n) n
+decimal_is_number = decimal_by_steps (λ n digits. IsNumber digits n) digit_is_number more_is_number
+
+regroup : (a b c d e r : List ℕ) → (((((a ++ b) ++ c) ++ d) ++ e) ++ r) ≡ a ++ (b ++ (c ++ (d ++ (e ++ r))))
+regroup a b c d e r = simp append_assoc
+
+head_written : (width height : ℕ) (rest : List ℕ) → width < 2 ^ 64 → height < 2 ^ 64 → IsHead (head_bytes width height ++ rest) width height rest
+head_written width height rest width_small height_small = record {
+  first_gap = 10 ∷ [];
+  width_digits = decimal width;
+  second_gap = 32 ∷ [];
+  height_digits = decimal height;
+  space = 10;
+  first_is_gap = ((10 ∷ []) ∷ [], (λ e. cc), ([], inl (10, refl, refl), refl, refl));
+  width_is = decimal_is_number width width_small;
+  second_is_gap = ((32 ∷ []) ∷ [], (λ e. cc), ([], inl (32, refl, refl), refl, refl));
+  height_is = decimal_is_number height height_small;
+  space_is = refl;
+  spelled = regroup (codes "P4\n") (decimal width) (codes " ") (decimal height) (codes "\n") rest;
+}
+
+within_is_small : (width height : ℕ) → is_within_limits width height ≡ true → (width < 2 ^ 64) × (height < 2 ^ 64)
+within_is_small width height within = grind (arith, nat_tests)
+
+length-packed_row : (row : List Colour) → length (packed_row row) ≡ packed_len (length row)
+unfolding packed_row
+length-packed_row row = length-map-range_with_len (λ k. packed_byte row (8 * k)) 0 (packed_len (length row))
+
+-- the rows of a raster as it is written
+module _ (law : PackingUndoesUnpacking) where
+  row_read : (width : ℕ) (row : List Colour) → length row ≡ width → unpacked_row width (packed_row row) ≡ row
+  row_read width row is = rw (sym is) (law.read_back row)
+
+  row_len : (width : ℕ) (row : List Colour) → length row ≡ width → length (packed_row row) ≡ packed_len width
+  row_len width row is = length-packed_row row ∙ ap packed_len is
+
+  raster_read : (width : ℕ) (rows : List (List Colour)) → AreOfWidth width rows
+      → rows ≡ raster_rows width (length rows) (flat_map packed_row rows)
+  raster_read width [] are = refl
+  raster_read width (row ∷ rows) are =
+      let bytes = packed_row row in
+      let more = flat_map packed_row rows in
+      let len : length bytes ≡ packed_len width = row_len width row are.0 in
+      let front : take (packed_len width) (bytes ++ more) ≡ bytes = rw (sym len) (take-append_seam bytes more) in
+      let back : drop (packed_len width) (bytes ++ more) ≡ more = rw (sym len) (drop-append_seam bytes more) in
+      sym (
+      ap (λ (l : List ℕ). unpacked_row width l ∷ raster_rows width (length rows) (drop (packed_len width) (bytes ++ more))) front
+      ∙ ap (λ (r : List Colour). r ∷ raster_rows width (length rows) (drop (packed_len width) (bytes ++ more))) (row_read width row are.0)
+      ∙ ap (λ (l : List ℕ). row ∷ raster_rows width (length rows) l) back
+      ∙ ap (λ (l : List (List Colour)). row ∷ l) (sym (raster_read width rows are.1))
+      )
+
+  raster_length : (width : ℕ) (rows : List (List Colour)) → AreOfWidth width rows
+      → length (flat_map packed_row rows) ≡ raster_len width (length rows)
+  raster_length width [] are = omega arith
+  raster_length width (row ∷ rows) are =
+      let rec = raster_length width rows are.1 in
+      length-append (packed_row row) (flat_map packed_row rows)
+      ∙ ap (λ n. n + length (flat_map packed_row rows)) (row_len width row are.0)
+      ∙ ap (λ n. packed_len width + n) rec
+      ∙ more_rows (length rows) (packed_len width)
+    where
+      more_rows : (n len : ℕ) → len + n * len ≡ suc n * len
+      more_rows n len = grind arith
+
+  image_written : (image : Image) (rest : List ℕ) → IsWritableImage image → IsImage (image_bytes image ++ rest) image rest
+  image_written image rest is =
+      let height = length image.rows in
+      let raster = flat_map packed_row image.rows in
+      let small = within_is_small image.width height is.within in
+      record {
+        height = height;
+        raster = raster;
+        head = rw append_assoc (head_written image.width height (raster ++ rest) small.0 small.1);
+        within = is.within;
+        whole = raster_length image.width image.rows is.rows;
+        rows_are = raster_read image.width image.rows is.rows;
+      }
+
+  pub images_written : (images : List Image) → AreWritableImages images → AreImages (pbm_of images) images None
+  images_written [] are = inl (refl, refl)
+  images_written (image ∷ images) are = (pbm_of images, image_written image (pbm_of images) are.0, images_written images are.1)

@@ -1,0 +1,39 @@
+use Rattle.std.proofs.Common.{◌≡◌, ℕ, ◌-◌, ◌*◌, ◌≤◌, ◌++◌, List, length, take, drop, true, false, sym, ap, subst, ◌∙◌, arith}
+use Rattle.std.proofs.lemmas.Grind.{common_steps}
+use Rattle.fax_files.specs.code.Pbm.{IsHeadRead}
+use Rattle.fax_files.proofs.PbmHeadLemmas.{no_head, exact_head, head_outside, image_read, take_both, length-take_of}
+use Rattle.fax_files.proofs.pbm.read_image.Goals as goal
+
+pub returns-in_default-clause-err : goal.returns-in_default-clause-err
+returns-in_default-clause-err c = no_head c.args.bytes.now c.in_default.ensures.none
+
+pub returns-then-not-is_within_limits-clause-err :
+    goal.returns-then-not-is_within_limits-clause-err
+returns-then-not-is_within_limits-clause-err c =
+    let head = c.in-Some.head in
+    head_outside c.args.bytes.now head.width head.height head.behind.now c.in-Some.ensures.some (sym c.is_within_limits.ensures ∙ c.if-not-is_within_limits.true)
+
+pub returns-then-head-len-clause-err : goal.returns-then-head-len-clause-err
+returns-then-head-len-clause-err c =
+    let head = c.in-Some.head in
+    let within = sym c.is_within_limits.ensures ∙ c.if-not-is_within_limits.false in (
+      head.width,
+      head.height,
+      head.behind.now,
+      exact_head c.args.bytes.now head.width head.height head.behind.now c.in-Some.ensures.some within,
+      within,
+      rw c.row_len.ensures at c.if-head-len.true,
+    )
+
+pub returns-clause-ok : goal.returns-clause-ok
+returns-clause-ok c =
+    let head = c.in-Some.head in
+    let within = sym c.is_within_limits.ensures ∙ c.if-not-is_within_limits.false in
+    let len = head.height * c.row_len.result in
+    let behind = head.behind.now in
+    let raster = take len behind in
+    let rest = take (length behind - len) (drop len behind) in
+    image_read c.args.bytes.now head.width head.height raster rest
+    (subst (λ (l : List ℕ). IsHeadRead c.args.bytes.now head.width head.height l) (take_both behind len) c.in-Some.ensures.some)
+    within
+    (length-take_of behind len c.if-head-len.false ∙ ap (λ n. head.height * n) c.row_len.ensures)

@@ -1,0 +1,81 @@
+-- How a raw PBM is read, step by step, and how a reader is seen.
+use Rattle.std.specs.Prelude.{◌≡◌, ◌≢◌, ℕ, ◌+◌, ◌-◌, ◌*◌, ◌==◌, ◌||◌, min, Bool, true, false, not, if◌then◌else◌, List, [], ◌∷◌, ◌++◌, codes, Option, Some, None, Result, Ok, Err}
+use Rattle.fax_files.specs.declared.pbm.PbmFault.{PbmFault}
+use Rattle.fax_files.specs.Pbm.{is_white_space, is_line_end, is_digit, Image, IsImage, IsImageFault, raster_rows}
+
+-- a byte that begins a piece of a gap
+abbrev pub begins_piece : ℕ → Bool
+begins_piece c = (c == 35) || is_white_space c
+
+-- what stands behind all pieces, where a comment is open or not, and where something stands there
+abbrev pub behind_pieces : Bool → List ℕ → Option (List ℕ)
+behind_pieces in_comment [] = None
+behind_pieces true (c ∷ bytes) = behind_pieces (not (is_line_end c)) bytes
+behind_pieces false (c ∷ bytes) = if begins_piece c then (behind_pieces (c == 35) bytes) else (Some (c ∷ bytes))
+
+-- what stands behind a gap
+abbrev pub behind_gap : List ℕ → Option (List ℕ)
+behind_gap [] = None
+behind_gap (c ∷ bytes) = if begins_piece c then (behind_pieces false (c ∷ bytes)) else None
+
+-- a number above each limit, in place of a larger one
+abbrev pub capped : ℕ → ℕ
+capped n = min n 1000001
+
+-- the number that is spelled so far, and goes on with the digits ahead
+abbrev pub capped_from : ℕ → List ℕ → ℕ
+capped_from number [] = number
+capped_from number (c ∷ bytes) = if is_digit c then (capped_from (capped (10 * number + (c - 48))) bytes) else number
+
+-- what stands behind the digits ahead
+abbrev pub behind_digits : List ℕ → List ℕ
+behind_digits [] = []
+behind_digits (c ∷ bytes) = if is_digit c then (behind_digits bytes) else (c ∷ bytes)
+
+-- a digit is ahead
+abbrev pub has_digit : List ℕ → Bool
+has_digit [] = false
+has_digit (c ∷ bytes) = is_digit c
+
+-- a header is read so
+pub record IsHeadRead (bytes : List ℕ) (width height : ℕ) (rest : List ℕ) : Type 0 where
+  pub at_gap : List ℕ
+  pub at_width : List ℕ
+  pub at_height : List ℕ
+  pub space : ℕ
+  pub magic : bytes ≡ codes "P4" ++ at_gap
+  pub gap : behind_gap at_gap ≡ Some at_width
+  pub some_width : has_digit at_width ≡ true
+  pub width_is : width ≡ capped_from 0 at_width
+  pub second_gap : behind_gap (behind_digits at_width) ≡ Some at_height
+  pub some_height : has_digit at_height ≡ true
+  pub height_is : height ≡ capped_from 0 at_height
+  pub behind : behind_digits at_height ≡ space ∷ rest
+  pub space_is : is_white_space space ≡ true
+
+-- a reader: the bytes that are left, and the fault that was answered
+pub record PbmState : Type 0 where
+  pub left : List ℕ
+  pub fault : Option PbmFault
+
+-- the image of so many rows in these bytes
+abbrev pub image_of : ℕ → ℕ → List ℕ → Image
+image_of width height raster = record { width = width; rows = raster_rows width height raster }
+
+-- the image is read at the start of the bytes that are left, which then begin behind it
+pub record IsImageRead (old : PbmState) (image : Image) (new : PbmState) : Type 0 where
+  pub before : old.fault ≡ None
+  pub image_is : IsImage old.left image new.left
+  pub good : new.fault ≡ None
+
+-- no bytes are left
+pub record IsAtEnd (old new : PbmState) : Type 0 where
+  pub before : old.fault ≡ None
+  pub empty : old.left ≡ []
+  pub same : new ≡ old
+
+-- the fault is the one that was answered, or else that of the image which would be next, and is kept
+pub record IsFaultAnswered (old new : PbmState) (fault : PbmFault) : Type 0 where
+  pub again : (given : PbmFault) → old.fault ≡ Some given → fault ≡ given
+  pub first : old.fault ≡ None → (old.left ≢ []) × IsImageFault old.left fault
+  pub kept : new ≡ record { left = old.left; fault = Some fault }

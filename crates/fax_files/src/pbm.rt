@@ -1,0 +1,308 @@
+//! Raw PBM, one image after another (the netpbm format, P4): read as slices of the input, and
+//! written.
+
+ghost use Rattle.std.specs.Prelude.{◌≡◌, ℕ, ◌*◌, ◌<◌, ◌++◌, List, length};
+ghost use Rattle.std.specs.Prelude.{true, false, Some, None, IsTrue, IfOk, IfErr, OnOk, OnErr};
+ghost use Rattle.std.specs.Prelude.{IfSome};
+ghost use Rattle.std.specs.Option.{IfNone};
+ghost use Rattle.fax_files.specs.Pbm as Pbm;
+ghost use Rattle.fax_files.specs.code.Pbm as Spec;
+ghost use Rattle.fax_rows.specs.Packed as Packed;
+
+use fax_bits::Memory;
+use fax_rows::Row;
+use itoa::Buffer;
+use std::marker::Model;
+use thiserror::Error;
+
+/// A number above each limit, which stands for all larger ones.
+const OVER: u32 = 1_000_001;
+
+/// Why no image is read.
+#[derive(Clone, Copy, Debug, PartialEq, Eq, Error)]
+pub enum PbmFault {
+    /// The bytes do not begin with the header of a raw PBM.
+    #[error("the header is not one of a raw PBM")]
+    BadHeader,
+    /// The width is not 1 to 65,535, or the height not 1 to 1,000,000.
+    #[error("the image is out of limits")]
+    OutOfLimits,
+    /// There are fewer bytes than the rows take.
+    #[error("the image has fewer bytes than its rows")]
+    ShortRaster,
+}
+
+/// A blank, TAB, LF, VT, FF or CR.
+fn is_white_space(byte: u8) -> bool
+    ensures { result ≡ Pbm.is_white_space byte }
+{
+    byte == b' ' || (9 <= byte && byte <= 13)
+}
+
+/// A LF or CR, which ends a comment.
+fn is_line_end(byte: u8) -> bool
+    ensures { result ≡ Pbm.is_line_end byte }
+{
+    byte == b'\n' || byte == b'\r'
+}
+
+/// A decimal digit.
+fn is_digit(byte: u8) -> bool
+    ensures { result ≡ Pbm.is_digit byte }
+{
+    b'0' <= byte && byte <= b'9'
+}
+
+/// White space, or the `#` of a comment.
+fn begins_piece(byte: u8) -> bool
+    ensures { result ≡ Spec.begins_piece byte }
+{
+    byte == b'#' || is_white_space(byte)
+}
+
+/// What stands behind white space and comments, if anything does.
+fn behind_pieces(bytes: &[u8]) -> Option<&[u8]>
+    ensures some { IfSome result (λ rest. Spec.behind_pieces false bytes.now ≡ Some rest.now) }
+    ensures none { IfNone result (Spec.behind_pieces false bytes.now ≡ None) }
+{
+    let mut in_comment = false;
+    for (i, byte) in bytes.iter().enumerate() {
+        if in_comment {
+            in_comment = !is_line_end(*byte);
+        } else if begins_piece(*byte) {
+            in_comment = *byte == b'#';
+        } else {
+            return Some(&bytes[i..]);
+        }
+    }
+    None
+}
+
+/// What stands behind a gap, which is white space or a comment or more of them.
+fn behind_gap(bytes: &[u8]) -> Option<&[u8]>
+    ensures some { IfSome result (λ rest. Spec.behind_gap bytes.now ≡ Some rest.now) }
+    ensures none { IfNone result (Spec.behind_gap bytes.now ≡ None) }
+{
+    if bytes.is_empty() || !begins_piece(bytes[0]) {
+        return None;
+    }
+    behind_pieces(bytes)
+}
+
+/// The number that the digits ahead spell, or `OVER` where it is larger, and what stands behind it.
+fn number(bytes: &[u8]) -> Option<(u32, &[u8])>
+    ensures number { IfSome result (λ found. found.0 ≡ Spec.capped_from 0 bytes.now) }
+    ensures behind { IfSome result (λ found. found.1.now ≡ Spec.behind_digits bytes.now) }
+    ensures some { IfSome result (λ _. Spec.has_digit bytes.now ≡ true) }
+    ensures none { IfNone result (Spec.has_digit bytes.now ≡ false) }
+{
+    if bytes.is_empty() || !is_digit(bytes[0]) {
+        return None;
+    }
+    let mut number = 0;
+    for (i, byte) in bytes.iter().enumerate() {
+        if !is_digit(*byte) {
+            return Some((number, &bytes[i..]));
+        }
+        number = (10 * number + u32::from(*byte - b'0')).min(OVER);
+    }
+    Some((number, &bytes[bytes.len()..]))
+}
+
+/// An image's header, and what stands behind it. A number above its limit is a number above it.
+#[derive(Drop)]
+struct Head<'a> {
+    width: u32,
+    height: u32,
+    behind: &'a [u8],
+}
+
+/// The header at the start of the bytes.
+fn read_head(bytes: &[u8]) -> Option<Head<'_>>
+    ensures some { IfSome result (λ head.
+        Spec.IsHeadRead bytes.now head.width head.height head.behind.now) }
+    ensures none { IfNone result ((width height : ℕ) (rest : List ℕ)
+        → Spec.IsHeadRead bytes.now width height rest → ⊥) }
+{
+    if !bytes.starts_with(b"P4") {
+        return None;
+    }
+    let at_width = behind_gap(&bytes[2..])?;
+    let (width, behind_width) = number(at_width)?;
+    let at_height = behind_gap(behind_width)?;
+    let (height, behind_height) = number(at_height)?;
+    if behind_height.is_empty() || !is_white_space(behind_height[0]) {
+        return None;
+    }
+    Some(Head {
+        width,
+        height,
+        behind: &behind_height[1..],
+    })
+}
+
+/// The bytes of a row of this width.
+fn row_len(width: u32) -> usize
+    ensures { result ≡ Packed.packed_len width }
+{
+    (width as usize).div_ceil(8)
+}
+
+/// An image within the limits: its width, how many rows it has, and their bytes in the input, each
+/// row's from a byte of its own on.
+#[derive(Clone, Copy, Debug, PartialEq, Eq)]
+pub struct PbmImage<'a> {
+    pub width: u32,
+    pub rows: u32,
+    pub raster: &'a [u8],
+    ghost within: { IsTrue (Pbm.is_within_limits width rows) },
+    ghost whole: { length raster.now ≡ Pbm.raster_len width rows },
+}
+
+impl<'a> PbmImage<'a> {
+    ghost use Rattle.std.specs.Prelude.{take, drop};
+
+    /// The bytes of row `i`, from 0 at the top: eight pels in a byte, the leftmost in its highest
+    /// bit, where 1 is black.
+    pub fn row(&self, i: u32) -> &'a [u8]
+        requires { i < self.now.rows }
+        ensures bytes { result.now
+            ≡ take (Packed.packed_len self.now.width)
+            (drop (i * Packed.packed_len self.now.width) self.now.raster.now) }
+        ensures len { length result.now ≡ Packed.packed_len self.now.width }
+    {
+        let len = row_len(self.width);
+        let start = i as usize * len;
+        &self.raster[start..start + len]
+    }
+}
+
+/// The numbers are an image's width and height within the limits.
+fn is_within_limits(width: u32, height: u32) -> bool
+    ensures { result ≡ Pbm.is_within_limits width height }
+{
+    (1..=65_535).contains(&width) && (1..=1_000_000).contains(&height)
+}
+
+/// The image at the start of the bytes, and what stands behind it.
+fn read_image(bytes: &[u8]) -> Result<(PbmImage<'_>, &[u8]), PbmFault>
+    ensures ok { IfOk result (λ found. Pbm.IsImage bytes.now
+        (Spec.image_of found.0.width found.0.rows found.0.raster.now) found.1.now) }
+    ensures err { IfErr result (Pbm.IsImageFault bytes.now) }
+{
+    let Some(head) = read_head(bytes) else {
+        return Err(PbmFault::BadHeader);
+    };
+    if !is_within_limits(head.width, head.height) {
+        return Err(PbmFault::OutOfLimits);
+    }
+    let len = head.height as usize * row_len(head.width);
+    if head.behind.len() < len {
+        return Err(PbmFault::ShortRaster);
+    }
+    let image = PbmImage {
+        width: head.width,
+        rows: head.height,
+        raster: &head.behind[..len],
+    };
+    Ok((image, &head.behind[len..]))
+}
+
+/// Reads image after image. Contracts see the bytes that are left, and the fault that was answered.
+#[derive(Drop)]
+pub struct PbmReader<'a> {
+    left: &'a [u8],
+    fault: Option<PbmFault>,
+}
+
+impl<'a> Model for PbmReader<'a> {
+    ghost use Rattle.fax_files.specs.code.Pbm.{PbmState};
+
+    ghost Value = { PbmState };
+
+    ghost view = { λ r. record { left = r.left.now; fault = r.fault } };
+}
+
+impl<'a> PbmReader<'a> {
+    ghost use Rattle.fax_files.specs.code.Pbm.{image_of, IsAtEnd, IsFaultAnswered};
+    ghost use Rattle.fax_files.specs.code.Pbm.{IsImageRead};
+
+    /// A reader of the images in these bytes.
+    pub fn new(bytes: &'a [u8]) -> Self
+        ensures { result ≡ record { left = bytes.now; fault = None } }
+    {
+        PbmReader {
+            left: bytes,
+            fault: None,
+        }
+    }
+
+    /// The image at the start of the bytes that are left, which then begin behind it, or none where
+    /// no bytes are left.
+    ///
+    /// # Errors
+    ///
+    /// The image's fault, which is answered again from then on.
+    pub fn next_image(&mut self) -> Result<Option<PbmImage<'a>>, PbmFault>
+        ensures image { IfOk result (λ found. IfSome found (λ image. IsImageRead self.old
+            (image_of image.width image.rows image.raster.now) self.new)) }
+        ensures end { IfOk result (λ found. IfNone found (IsAtEnd self.old self.new)) }
+        ensures fault { IfErr result (IsFaultAnswered self.old self.new) }
+    {
+        if let Some(fault) = self.fault {
+            return Err(fault);
+        }
+        if self.left.is_empty() {
+            return Ok(None);
+        }
+        match read_image(self.left) {
+            Ok((image, behind)) => {
+                self.left = behind;
+                Ok(Some(image))
+            }
+            Err(fault) => {
+                self.fault = Some(fault);
+                Err(fault)
+            }
+        }
+    }
+}
+
+/// Appends an image's header: `P4`, its width and its height, in decimals without leading zeros.
+///
+/// # Errors
+///
+/// `Memory` where a growth was refused; the bytes are then as they were.
+pub fn put_pbm_head(out: &mut Vec<u8>, width: u32, rows: u32) -> Result<(), Memory>
+    ensures ok { OnOk result (out.new.items ≡ out.old.items ++ Pbm.head_bytes width rows) }
+    ensures err { OnErr result (out.new.items ≡ out.old.items) }
+{
+    let mut width_digits = Buffer::new();
+    let mut rows_digits = Buffer::new();
+    let width = width_digits.format(width).as_bytes();
+    let rows = rows_digits.format(rows).as_bytes();
+    out.reserve(5 + width.len() + rows.len())
+        .map_err(|_| Memory)?;
+    out.extend_from_slice(b"P4\n").map_err(|_| Memory)?;
+    out.extend_from_slice(width).map_err(|_| Memory)?;
+    out.extend_from_slice(b" ").map_err(|_| Memory)?;
+    out.extend_from_slice(rows).map_err(|_| Memory)?;
+    out.extend_from_slice(b"\n").map_err(|_| Memory)
+}
+
+/// Appends the bytes of a row: eight pels in a byte, the leftmost in its highest bit, where 1 is
+/// black and the bits behind the last pel are 0.
+///
+/// # Errors
+///
+/// `Memory` where a growth was refused; the bytes are then as they were.
+pub fn put_pbm_row(out: &mut Vec<u8>, row: &Row) -> Result<(), Memory>
+    ensures ok { OnOk result (out.new.items ≡ out.old.items ++ Packed.packed_row row.now) }
+    ensures err { OnErr result (out.new.items ≡ out.old.items) }
+{
+    let start = out.len();
+    let len = row_len(row.width());
+    out.resize(start + len, 0).map_err(|_| Memory)?;
+    row.to_packed(&mut out[start..]);
+    Ok(())
+}
