@@ -1,6 +1,6 @@
 //! Walks over small files.
 
-use fax_walk::{Cause, Cursor, FileFault, Place, StripFault, Walk, WalkFault};
+use fax_walk::{Cause, Cursor, FileFault, Pages, Place, StripFault, Walk, WalkFault};
 use std::alloc::Global;
 use std::process::Abort;
 use std::test::Fail;
@@ -166,4 +166,94 @@ fn exchanges_colours_behind_the_reference(rt: HostRuntime) -> Result<(), Fail> {
     file[88] = 2;
     file[9] = 0xf8;
     hands_out(&rt, rt.alloc(), &file, [&[0, 3, 2, 3], &[0, 3, 2, 3]])
+}
+
+/// A page of 8 pels by 6 rows in MMR, in three strips of two rows: WWWWWWWW and WWWBBWWW.
+#[rattlefmt::skip]
+static THREE_STRIPS: [u8; 138] = [
+    // Header: II, 42, the directory at 24.
+    0x49, 0x49, 42, 0, 24, 0, 0, 0,
+    // Three times 1, 001 1000 11 1 and an end of block; a zero byte.
+    0x98, 0xe0, 0x02, 0x00, 0x20, 0x98, 0xe0, 0x02, 0x00, 0x20, 0x98, 0xe0, 0x02, 0x00, 0x20, 0,
+    // Seven entries: ImageWidth, ImageLength, Compression, PhotometricInterpretation,
+    // StripOffsets (at 114), RowsPerStrip, StripByteCounts (at 126).
+    7, 0,
+    0x00, 0x01, 3, 0, 1, 0, 0, 0, 8, 0, 0, 0,
+    0x01, 0x01, 3, 0, 1, 0, 0, 0, 6, 0, 0, 0,
+    0x03, 0x01, 3, 0, 1, 0, 0, 0, 4, 0, 0, 0,
+    0x06, 0x01, 3, 0, 1, 0, 0, 0, 0, 0, 0, 0,
+    0x11, 0x01, 4, 0, 3, 0, 0, 0, 114, 0, 0, 0,
+    0x16, 0x01, 3, 0, 1, 0, 0, 0, 2, 0, 0, 0,
+    0x17, 0x01, 4, 0, 3, 0, 0, 0, 126, 0, 0, 0,
+    0, 0, 0, 0,
+    // The offsets and the byte counts.
+    8, 0, 0, 0, 13, 0, 0, 0, 18, 0, 0, 0,
+    5, 0, 0, 0, 5, 0, 0, 0, 5, 0, 0, 0,
+];
+
+/// The walk over that file from a row of its page on hands out the rest, and then has read so many
+/// rows. A row's number tells its runs.
+fn goes_on(rt: &impl Abort, alloc: Global, file: &[u8], first: u32, read: u64) -> Result<(), Fail> {
+    let mut walk = Walk::resume(
+        alloc,
+        file,
+        Cursor {
+            page: 0,
+            row: first,
+        },
+    );
+    for row in first..6 {
+        let runs: &[u32] = if row % 2 == 0 { &[8] } else { &[3, 2, 3] };
+        assert_row(rt, alloc, &mut walk, Place { page: 0, row }, runs)?;
+    }
+    assert_end(rt, &mut walk, Cursor { page: 0, row: 6 });
+    assert_eq!(rt; walk.rows_read(), read);
+    Ok(())
+}
+
+#[test]
+fn goes_on_in_the_strip_of_a_row(rt: HostRuntime) -> Result<(), Fail> {
+    goes_on(&rt, rt.alloc(), &THREE_STRIPS, 5, 2)
+}
+
+#[test]
+fn goes_on_behind_a_strip_without_bytes(rt: HostRuntime) -> Result<(), Fail> {
+    let mut file = THREE_STRIPS;
+    file[126] = 0;
+    goes_on(&rt, rt.alloc(), &file, 3, 4)
+}
+
+#[test]
+fn knows_no_row_behind_the_last_page(rt: HostRuntime) {
+    let mut walk = Walk::resume(rt.alloc(), &THREE_STRIPS, Cursor { page: 1, row: 1 });
+    assert_eq!(rt; walk.next_row().err(), Some(WalkFault::CursorOutside));
+}
+
+#[test]
+fn hands_out_each_page_once(rt: HostRuntime) {
+    let mut pages = Pages::start(&THREE_STRIPS);
+    match pages.next_page() {
+        Ok(Some((page, form))) => {
+            assert_eq!(rt; page, 0);
+            assert_eq!(rt; form.rows, 6);
+        }
+        _ => assert!(rt; false, "a page is there"),
+    }
+    assert!(rt;
+        matches!(pages.next_page(), Ok(None)),
+        "it was the only one"
+    );
+    assert_eq!(rt; pages.cursor(), Cursor { page: 1, row: 0 });
+}
+
+#[test]
+fn reads_a_cursor(rt: HostRuntime) {
+    let cursor = Cursor::parse("1:7:4294967295");
+    assert_eq!(rt;
+        cursor,
+        Ok(Cursor {
+            page: 7,
+            row: u32::MAX
+        })
+    );
 }
