@@ -5,4 +5,13 @@ pub mod TailLemmas
 pub mod FormLemmas
 pub mod OneFormLemmas
 pub mod PrintedLemmas
+pub mod BeforeLemmas
+pub mod BehindLemmas
 pub mod CursorLemmas
+pub mod DueLemmas
+pub mod EndingLemmas
+pub mod OpenLemmas
+pub mod OpeningLemmas
+pub mod PageAtLemmas
+pub mod PagesLemmas
+pub mod WalkLemmas

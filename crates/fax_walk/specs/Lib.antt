@@ -1,6 +1,7 @@
 pub mod Cursor
 pub mod Items
 pub mod Tail
+pub mod Before
 pub mod Forms
 pub mod Laws
 pub mod code

@@ -90,6 +90,7 @@ impl<'a> DuePage<'a> {
     pub(crate) fn behind(mut chain: Chain<'a>) -> Result<Option<Self>, End>
         ensures { Spec.IsPageAnswer chain.entry result }
     {
+        fax_files::laws::files_have_one_chain();
         let page = chain.given();
         let directory = match chain.next() {
             Ok(Some(directory)) => directory,
@@ -97,7 +98,12 @@ impl<'a> DuePage<'a> {
             Err(fault) => return Err(End::of_file(page, 0, fault)),
         };
         match directory.page() {
-            Ok(form) => Ok(Some(DuePage { page, chain, directory, form })),
+            Ok(form) => Ok(Some(DuePage {
+                page,
+                chain,
+                directory,
+                form,
+            })),
             Err(fault) => Err(End::of_file(page, 0, fault)),
         }
     }
@@ -109,10 +115,17 @@ impl<'a> DuePage<'a> {
         ensures err { IfErr result (Spec.EndsAt file.now cursor) }
     {
         let chain = chain_before(file, cursor.page)?;
-        match DuePage::behind(chain)? {
-            Some(page) if cursor.row > page.form.rows => Err(End::Outside),
-            None if cursor.row > 0 => Err(End::Outside),
-            answer => Ok(answer),
+        fax_files::laws::files_have_one_chain();
+        let Some(page) = DuePage::behind(chain)? else {
+            return if cursor.row == 0 {
+                Ok(None)
+            } else {
+                Err(End::Outside)
+            };
+        };
+        if cursor.row > page.form.rows {
+            return Err(End::Outside);
         }
+        Ok(Some(page))
     }
 }

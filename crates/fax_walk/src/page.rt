@@ -1,5 +1,5 @@
 //! A page whose rows are read, strip by strip.
-ghost use Rattle.std.specs.Prelude.{◌≡◌, ◌+◌, ◌*◌, ◌<◌, ◌≤◌, ◌==◌, List, [], IfErr, IfOk, OnOk};
+ghost use Rattle.std.specs.Prelude.{◌≡◌, ◌+◌, ◌*◌, ◌<◌, ◌≤◌, ◌==◌, List, [], IfErr, IfOk, OnErr, OnOk};
 ghost use Rattle.fax_files.specs.Page.{IsPageForm};
 ghost use Rattle.fax_walk.specs.Items.{Item, AreFromRow};
 ghost use Rattle.fax_walk.specs.code.Due as Due;
@@ -133,9 +133,10 @@ impl<'a> OpenPage<'a> {
     pub(crate) fn open_next(&self, alloc: Global) -> Result<OpenPage<'a>, OpenFault>
         requires { row_of self.now ≡ self.now.form.rows }
         ensures opened { IfOk result (Opening.IsOpenedBehind self.now.chain self.now.read) }
+        ensures number { self.now.chain.given ≡ self.now.page + 1 }
         ensures items { IfOk result (λ page. (items : List Item) (end : End)
-            → Due.IsDueOnPage page items end → Due.ArePagesBehind self.now.chain items end) }
-        ensures refused { IfErr result (Opening.IsRefusal (Due.ArePagesBehind self.now.chain)) }
+            → Due.IsDueOnPage page items end → Due.IsDueOnPage self.now items end) }
+        ensures refused { IfErr result (Opening.IsRefusal (Due.IsDueOnPage self.now)) }
     {
         open_behind(alloc, &self.chain, self.read)
     }
@@ -183,6 +184,7 @@ impl<'a> OpenPage<'a> {
         requires due { row_of self.old < self.old.form.rows }
         ensures ok { OnOk result (Due.KeepsPage self.old self.new) }
         ensures number { OnOk result (self.new.number ≡ self.old.number + 1) }
+        ensures same_read { self.new.read ≡ self.old.read }
         ensures err { IfErr result (Due.IsDueOnPage self.old []) }
     {
         let number = self.number + 1;
@@ -214,6 +216,7 @@ impl<'a> OpenPage<'a> {
         requires due { row_of self.old < self.old.form.rows }
         ensures ok { OnOk result (Due.ReadsPageRow self.old self.new) }
         ensures err { IfErr result (Due.IsDueOnPage self.old []) }
+        ensures same_read { OnErr result (self.new.read ≡ self.old.read) }
     {
         loop {
             match self.strip.advance() {
@@ -241,6 +244,7 @@ impl<'a> OpenPage<'a> {
         requires due { row_of self.old < self.old.form.rows }
         ensures ok { OnOk result (Due.GivesRow self.old self.new) }
         ensures err { IfErr result (Due.IsDueOnPage self.old []) }
+        ensures none { OnErr result (Due.GivesNone self.old self.new) }
     {
         loop {
             self.advance()?;

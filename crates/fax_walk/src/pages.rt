@@ -1,7 +1,8 @@
 //! The pages of a file in the order of their chain, with their forms.
-ghost use Rattle.std.specs.Prelude.{◌≡◌, List, IfErr, IfOk};
-ghost use Rattle.fax_walk.specs.Forms.{FormItem};
+ghost use Rattle.std.specs.Prelude.{◌≡◌, [], IfErr, IfOk};
+ghost use Rattle.fax_walk.specs.Forms.{IsFormTail};
 ghost use Rattle.fax_walk.specs.code.Opening as Opening;
+ghost use Rattle.fax_walk.specs.code.Pages as Spec;
 
 use crate::opening::DuePage;
 use crate::{Cursor, End, WalkFault};
@@ -39,14 +40,32 @@ impl<'a> Model for Pages<'a> {
     ghost invariant = { λ p. IsSoundReader p.stage p.cursor };
 }
 
-/// The first page from a cursor on: the one that it names at row 0, else the one behind it.
-fn first_page<'a>(file: &'a [u8], cursor: Cursor) -> Result<Option<DuePage<'a>>, End>
-    ensures { Opening.IsFirstPage file.now cursor result }
+/// The page behind the directories that a chain has handed out, or how the pages end there.
+fn page_behind<'a>(chain: Chain<'a>) -> Result<DuePage<'a>, End>
+    ensures ok { IfOk result (Spec.IsPageBehind chain.entry) }
+    ensures err { IfErr result (Opening.AreFormsBehind chain.entry []) }
 {
     fax_files::laws::files_have_one_chain();
-    match DuePage::at(file, cursor)? {
-        Some(page) if cursor.row > 0 => DuePage::behind(page.chain),
-        answer => Ok(answer),
+    match DuePage::behind(chain) {
+        Ok(Some(page)) => Ok(page),
+        Ok(None) => Err(End::Proper),
+        Err(end) => Err(end),
+    }
+}
+
+/// The first page from a cursor on: the one that it names at row 0, else the one behind it; or how
+/// the pages end there.
+fn first_page<'a>(file: &'a [u8], cursor: Cursor) -> Result<DuePage<'a>, End>
+    ensures ok { IfOk result (Spec.BeginsWith file.now cursor) }
+    ensures err { IfErr result (IsFormTail file.now cursor []) }
+{
+    let Some(page) = DuePage::at(file, cursor)? else {
+        return Err(End::Proper);
+    };
+    if cursor.row == 0 {
+        Ok(page)
+    } else {
+        page_behind(page.chain)
     }
 }
 
@@ -79,6 +98,18 @@ impl<'a> Pages<'a> {
         self.cursor
     }
 
+    /// The page that is due, or how the pages end.
+    fn due(&self) -> Result<DuePage<'a>, End>
+        ensures ok { IfOk result (Spec.IsDueIn self.now) }
+        ensures err { IfErr result (Spec.AreFormsDue self.now []) }
+    {
+        match &self.stage {
+            PagesStage::Before => first_page(self.file, self.cursor),
+            PagesStage::Behind(chain) => page_behind(chain.again()),
+            PagesStage::Ended(end) => Err(*end),
+        }
+    }
+
     /// Hands out the next page's number, from 0, and its form, or `None` once all pages were handed
     /// out. It takes no memory.
     ///
@@ -89,13 +120,8 @@ impl<'a> Pages<'a> {
     pub fn next_page(&mut self) -> Result<Option<(u32, PageForm)>, WalkFault>
         ensures { IsNextPage self.old result self.new }
     {
-        let due = match &self.stage {
-            PagesStage::Before => first_page(self.file, self.cursor),
-            PagesStage::Behind(chain) => DuePage::behind(chain.again()),
-            PagesStage::Ended(end) => Err(*end),
-        };
-        let end = match due {
-            Ok(Some(page)) => {
+        let end = match self.due() {
+            Ok(page) => {
                 self.cursor = Cursor {
                     page: page.chain.given(),
                     row: 0,
@@ -103,7 +129,6 @@ impl<'a> Pages<'a> {
                 self.stage = PagesStage::Behind(page.chain);
                 return Ok(Some((page.page, page.form)));
             }
-            Ok(None) => End::Proper,
             Err(end) => end,
         };
         self.stage = PagesStage::Ended(end);

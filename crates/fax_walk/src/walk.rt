@@ -4,7 +4,9 @@ ghost use Rattle.std.specs.Borrow.{sem};
 ghost use Rattle.fax_walk.specs.Items.{Item};
 ghost use Rattle.fax_walk.specs.Tail.{IsTail};
 ghost use Rattle.fax_walk.specs.code.Due as Due;
+ghost use Rattle.fax_walk.specs.Before.{AreRowsBefore};
 ghost use Rattle.fax_walk.specs.code.Opening.{IsRefusal};
+ghost use Rattle.fax_walk.specs.code.Stages.{skipped};
 
 use crate::opening::{DuePage, OpenFault};
 use crate::page::{OpenPage, open, open_behind};
@@ -33,13 +35,16 @@ enum Stage<'a> {
     Ended(End, u64),
 }
 
-/// A walk over the rows of a file. Contracts see its file, the place behind the last row that was
-/// handed out, or the one that it began with, and how far it has come: before its first row, on a
-/// page, or at the end.
+/// A walk over the rows of a file. Contracts see its file, the cursor that it began with, how many
+/// rows it handed out, the place behind the last of them, or the one that it began with, and how
+/// far it has come: before its first row, on a page, or at the end.
 #[derive(Drop)]
 pub struct Walk<'a> {
     alloc: Global,
     file: &'a [u8],
+    begun: Cursor,
+    /// How many rows were handed out.
+    given: u64,
     cursor: Cursor,
     stage: Stage<'a>,
 }
@@ -49,18 +54,21 @@ impl<'a> Model for Walk<'a> {
 
     ghost Value = { WalkState };
 
-    ghost view = { λ w. record { file = w.file.now; cursor = w.cursor; stage = w.stage } };
+    ghost view = { λ w. record {
+      file = w.file.now;
+      begun = w.begun;
+      given = w.given;
+      cursor = w.cursor;
+      stage = w.stage;
+    } };
 
-    ghost invariant = { λ w. IsSound w.stage w.cursor };
+    ghost invariant = { λ w. IsSound w.file.now w.begun w.given w.cursor w.stage };
 }
 
 /// Opens the page of a cursor's row, or the next one where it stands behind a page's last row.
-fn open_at<'a>(
-    alloc: Global,
-    file: &'a [u8],
-    cursor: Cursor,
-) -> Result<OpenPage<'a>, OpenFault>
+fn open_at<'a>(alloc: Global, file: &'a [u8], cursor: Cursor) -> Result<OpenPage<'a>, OpenFault>
     ensures opened { IfOk result (Due.IsOpenedFor cursor) }
+    ensures before { IfOk result (λ page. AreRowsBefore file.now cursor (skipped page)) }
     ensures items { IfOk result (λ page. (items : List Item) (end : End)
         → Due.IsDueOnPage page items end → IsTail file.now cursor items end) }
     ensures refused { IfErr result (IsRefusal (IsTail file.now cursor)) }
@@ -77,7 +85,7 @@ fn open_at<'a>(
 
 impl<'a> Walk<'a> {
     ghost use Rattle.fax_walk.specs.code.Due.{walk_from, walk_start, rows_read_at};
-    ghost use Rattle.fax_walk.specs.code.Next.{EndsAs, EntersAs, IsNext, IsStep, IsAtRow};
+    ghost use Rattle.fax_walk.specs.code.Next.{EndsAs, EntersAs, HasReadRows, IsNext, IsStep, IsAtRow};
 
     /// A walk over all rows of a file, from any bytes. Nothing is read yet.
     pub fn start(alloc: Global, file: &'a [u8]) -> Self
@@ -94,6 +102,8 @@ impl<'a> Walk<'a> {
         Walk {
             alloc,
             file,
+            begun: cursor,
+            given: 0,
             cursor,
             stage: Stage::Before,
         }
@@ -109,8 +119,10 @@ impl<'a> Walk<'a> {
     /// How many rows this walk has read: those that it handed out, and those that stand before the
     /// first of them in its strip.
     pub fn rows_read(&self) -> u64
-        ensures { result ≡ rows_read_at self.now.stage }
+        ensures exact { result ≡ rows_read_at self.now.stage }
+        ensures bounded { HasReadRows self.now result }
     {
+        fax_files::laws::files_have_one_chain();
         match &self.stage {
             Stage::Before => 0,
             Stage::Open(page) => page.read(),
@@ -123,10 +135,12 @@ impl<'a> Walk<'a> {
     fn enter(&mut self) -> Result<(), Memory>
         ensures { EntersAs self.old result self.new }
     {
+        fax_files::laws::files_have_one_chain();
         let opened = match &self.stage {
             Stage::Before => open_at(self.alloc, self.file, self.cursor),
             Stage::Open(page) if page.is_read() => page.open_next(self.alloc),
-            Stage::Open(_) | Stage::Ended(..) => return Ok(()),
+            Stage::Open(_) => return Ok(()),
+            Stage::Ended(..) => return Ok(()),
         };
         match opened {
             Ok(page) => self.stage = Stage::Open(page),
@@ -145,6 +159,7 @@ impl<'a> Walk<'a> {
             Stage::Open(mut page) => match page.next() {
                 Ok(()) => {
                     self.cursor = page.cursor();
+                    self.given += 1;
                     self.stage = Stage::Open(page);
                 }
                 Err(end) => self.stage = Stage::Ended(end, page.read()),

@@ -20,12 +20,15 @@ use Rattle.fax_walk.specs.declared.walk.Stage.TheVariants.{Before, Open, Ended}
 use Rattle.fax_walk.specs.Cursor.{start}
 use Rattle.fax_walk.specs.Items.{Item, numbered, stop_at, Follows, ArePagesItems}
 use Rattle.fax_walk.specs.Tail.{IsTail}
+use Rattle.fax_walk.specs.Before.{AreRowsBefore}
 use Rattle.fax_walk.specs.code.Stages.{PageState, row_of, skipped}
 
--- a walk: its file, the place behind the last row that was handed out, or the one that it began with, and how far it
--- has come
+-- a walk: its file, the cursor that it began with, how many rows it handed out, the place behind the last of them, or
+-- the one that it began with, and how far it has come
 pub record WalkState : Type 0 where
   pub file : List ℕ
+  pub begun : Cursor
+  pub given : ℕ
   pub cursor : Cursor
   pub stage : Stage
 
@@ -79,7 +82,7 @@ IsDue walk items end = IsDueAt walk.file walk.cursor walk.stage items end
 
 -- a walk from a cursor, before its first item
 abbrev pub walk_from : List ℕ → Cursor → WalkState
-walk_from file cursor = record { file = file; cursor = cursor; stage = Before }
+walk_from file cursor = record { file = file; begun = cursor; given = 0; cursor = cursor; stage = Before }
 
 -- a walk before the first item of its file
 abbrev pub walk_start : List ℕ → WalkState
@@ -90,22 +93,45 @@ pub record IsOpen (page : PageState) : Type 0 where
   pub no_fault : page.strip.fault ≡ None
   pub limits : IsPageForm page.form
   pub first : page.first < page.form.rows
+  pub page_number : page.page < 2 ^ 32
 
 -- the places of rows, numbered by page and then by row
 abbrev pub place_number : ℕ → ℕ → ℕ
 place_number page row = page * 2 ^ 32 + row
 
--- a page that is open can be read, and the first row that it hands out stands at the cursor or behind it
-abbrev pub IsSound : Stage → Cursor → Type 0
-IsSound Before cursor = ⊤
-IsSound (Open page) cursor =
-    IsOpen page × (place_number cursor.page cursor.row ≤ place_number page.page (row_of page + skipped page))
-IsSound (Ended end read) cursor = ⊤
+-- a page can be read, and the first row that it hands out stands at the cursor or behind it
+pub record IsOpenFrom (cursor : Cursor) (page : PageState) : Type 0 where
+  pub is_open : IsOpen page
+  pub within : row_of page ≤ page.form.rows
+  pub behind : place_number cursor.page cursor.row ≤ place_number page.page (row_of page + skipped page)
+
+-- a walk that began with this cursor, handed out so many rows and has so many to read before the next one has read so
+-- many: those that it handed out, and those before the first of them in its strip
+pub record HasCounted (file : List ℕ) (begun : Cursor) (given left read : ℕ) : Type 0 where
+  pub before : ℕ
+  pub are_before : AreRowsBefore file begun before
+  pub count : read + left ≡ given + before
+  pub none_left : 0 < given → left ≡ 0
+
+-- a walk that has ended has read the rows that it handed out, and those before the first of them in its strip; where it
+-- handed out none, at most these
+pub record HasReadAll (file : List ℕ) (begun : Cursor) (given read : ℕ) : Type 0 where
+  pub before : ℕ
+  pub are_before : AreRowsBefore file begun before
+  pub all : 0 < given → read ≡ given + before
+  pub most : read ≤ given + before
+
+-- before its first row a walk stands where it began, on a page its first row to hand out stands at the cursor or behind
+-- it, and its rows are counted
+abbrev pub IsSound : List ℕ → Cursor → ℕ → Cursor → Stage → Type 0
+IsSound file begun given cursor Before = (cursor ≡ begun) × (given ≡ 0)
+IsSound file begun given cursor (Open page) = IsOpenFrom cursor page × HasCounted file begun given (skipped page) page.read
+IsSound file begun given cursor (Ended end read) = HasReadAll file begun given read
 
 -- a page is open for a cursor: no row is read yet, and the first one that is handed out stands at the cursor or behind it
 --
 abbrev pub IsOpenedFor : Cursor → PageState → Type 0
-IsOpenedFor cursor page = IsSound (Open page) cursor × (page.read ≡ 0)
+IsOpenedFor cursor page = IsOpenFrom cursor page × (row_of page < page.form.rows) × (page.read ≡ 0)
 
 -- a row was read from a page: it was the first that is handed out, and what was due is that row, and then what is due
 -- now; or it was one before that, and what was due is due
@@ -116,6 +142,7 @@ pub record ReadsPageRow (old new : PageState) : Type 0 where
   pub next_row : row_of new ≡ row_of old + 1
   pub same_page : new.page ≡ old.page
   pub same_first : new.first ≡ old.first
+  pub same_form : new.form ≡ old.form
   pub still_open : IsOpen new
   pub one_more : new.read ≡ old.read + 1
 
@@ -124,10 +151,17 @@ pub record GivesRow (old new : PageState) : Type 0 where
   pub due : (items : List Item) (end : End) → IsDueOnPage new items end
       → IsDueOnPage old (record { page = old.page; row = row_of old + skipped old; pels = new.shown } ∷ items) end
   pub next_row : row_of new ≡ row_of old + skipped old + 1
+  pub within : row_of new ≤ new.form.rows
   pub none_skipped : skipped new ≡ 0
   pub same_page : new.page ≡ old.page
   pub still_open : IsOpen new
   pub read : new.read ≡ old.read + skipped old + 1
+  pub few : new.read < 2 ^ 64
+
+-- the rows end before the next one that is handed out: at most the rows before it were read
+pub record GivesNone (old new : PageState) : Type 0 where
+  pub some : old.read ≤ new.read
+  pub most : new.read ≤ old.read + skipped old
 
 -- the same page, with the same rows due, at this strip or a later one
 pub record KeepsPage (old new : PageState) : Type 0 where

@@ -1,5 +1,5 @@
 -- What a call for the next row of a walk answers.
-use Rattle.std.specs.Prelude.{◌≡◌, ◌+◌, ◌-◌, ◌<◌, ◌≤◌, List, [], ◌∷◌, Option, Some, None, Result, Ok, Err, ⊤}
+use Rattle.std.specs.Prelude.{◌≡◌, ℕ, ◌+◌, ◌-◌, ◌<◌, ◌≤◌, List, [], ◌∷◌, Option, Some, None, Result, Ok, Err, ⊤}
 use Rattle.std.specs.Borrow.{Bor, MutBor, Fml, follows_so}
 use mathlib.Core.Option.{none}
 use mir.Syntax.{named}
@@ -15,6 +15,7 @@ use Rattle.fax_walk.specs.declared.walk.Stage.TheVariants.{Before, Open, Ended}
 use Rattle.fax_walk.specs.contracts.walk.Walk.{the_row}
 use Rattle.fax_walk.specs.Items.{Item}
 use Rattle.fax_walk.specs.Tail.{behind_item}
+use Rattle.fax_walk.specs.Before.{AreRowsBefore}
 use Rattle.fax_walk.specs.code.Stages.{row_of, skipped}
 use Rattle.fax_walk.specs.code.Due.{WalkState, IsDue, places_left}
 
@@ -24,10 +25,21 @@ EndsAs walk P =
     follows_so (the_row (record { mir = named 1; lft = [] })) (the_row (record { mir = named 1; lft = [] }))
     walk.ghost_name none (λ _ _. ⊤) P
 
+-- so many rows were read by a walk: those that it handed out, and those before the first of them in its strip; where it
+-- handed out none, at most these
+pub record HasReadRows (walk : WalkState) (read : ℕ) : Type 0 where
+  pub before : ℕ
+  pub are_before : AreRowsBefore walk.file walk.begun before
+  pub all : 0 < walk.given → read ≡ walk.given + before
+  pub most : read ≤ walk.given + before
+
 -- this item is handed out: it is the first of what was due, and what is due then is the rest
 pub record HandsOut (old : WalkState) (item : Item) (new : WalkState) : Type 0 where
   pub due : (items : List Item) (end : End) → IsDue new items end → IsDue old (item ∷ items) end
   pub cursor : new.cursor ≡ behind_item item
+  pub file : new.file ≡ old.file
+  pub begun : new.begun ≡ old.begun
+  pub one_more : new.given ≡ old.given + 1
   pub fewer : places_left new < places_left old
 
 -- the rows have ended so
@@ -40,7 +52,7 @@ HasTold (Ended ended read) end = ended ≡ end
 pub record HasEnded (old : WalkState) (end : End) (new : WalkState) : Type 0 where
   pub due : IsDue old [] end
   pub told : HasTold new.stage end
-  pub cursor : new.cursor ≡ old.cursor
+  pub same : new ≡ record old { stage = new.stage }
 
 -- a page is entered with the next row: none is open, or all rows of the one that is are read
 abbrev pub IsEntering : Stage → Type 0
@@ -57,7 +69,7 @@ IsAtRow (Ended end read) = ⊤
 -- the page of the row that is due is open, and the same items are due
 pub record IsEntered (old new : WalkState) : Type 0 where
   pub due : (items : List Item) (end : End) → IsDue new items end → IsDue old items end
-  pub cursor : new.cursor ≡ old.cursor
+  pub same : new ≡ record old { stage = new.stage }
   pub at_row : IsAtRow new.stage
 
 -- what it leaves to open the page of the row that is due: memory is refused only where one is to be opened

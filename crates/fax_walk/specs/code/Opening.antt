@@ -1,5 +1,5 @@
 -- Pages as they become due.
-use Rattle.std.specs.Prelude.{◌≡◌, ℕ, ◌+◌, ◌<◌, ◌≤◌, ◌⊎◌, List, [], length, drop, Option, Some, None, Result, Ok, Err, slice_get, ⊤}
+use Rattle.std.specs.Prelude.{◌≡◌, ℕ, ◌+◌, ◌%◌, ◌<◌, ◌≤◌, ◌⊎◌, List, [], length, drop, Option, Some, None, Result, Ok, Err, slice_get, ⊤}
 use Rattle.fax_files.specs.declared.FileFault.{FileFault}
 use Rattle.fax_files.specs.declared.Cause.TheVariants.{File}
 use Rattle.fax_files.specs.declared.PageForm.{PageForm}
@@ -15,9 +15,10 @@ use Rattle.fax_walk.specs.declared.opening.OpenFault.{OpenFault}
 use Rattle.fax_walk.specs.declared.opening.OpenFault.TheVariants.{Memory, Ended}
 use Rattle.fax_walk.specs.Items.{Item, AreFromRow}
 use Rattle.fax_walk.specs.Tail.{IsTail}
+use Rattle.fax_walk.specs.Before.{AreRowsBefore, rows_before}
 use Rattle.fax_walk.specs.Forms.{FormItem, ArePagesForms, IsFormThen, IsFormTail}
 use Rattle.fax_walk.specs.code.Stages.{PageState, row_of, skipped}
-use Rattle.fax_walk.specs.code.Due.{ArePagesBehind, IsOpen, place_number}
+use Rattle.fax_walk.specs.code.Due.{ArePagesBehind, IsOpen}
 
 -- a page that is due: its number, the chain behind its directory, its directory and its form
 pub record PageDue : Type 0 where
@@ -53,14 +54,17 @@ IsRefusal due (Ended end) = due [] end
 -- the page is open with this row as the first that is handed out, and so many rows were read before
 pub record IsOpenedAt (due : PageDue) (first read : ℕ) (page : PageState) : Type 0 where
   pub is_open : IsOpen page
+  pub row_due : row_of page < page.form.rows
   pub same_page : page.page ≡ due.page
   pub first_is : row_of page + skipped page ≡ first
+  pub skipped_is : skipped page ≡ first % due.form.rows_per_strip
   pub read_is : page.read ≡ read
 
 -- the page behind the directories that a chain has handed out is open at its first row, and so many rows were read before
 --
 pub record IsOpenedBehind (chain : ChainState) (read : ℕ) (page : PageState) : Type 0 where
   pub is_open : IsOpen page
+  pub row_due : row_of page < page.form.rows
   pub same_page : page.page ≡ chain.given
   pub first_is : row_of page + skipped page ≡ 0
   pub read_is : page.read ≡ read
@@ -77,7 +81,9 @@ IsAnswerOver chain offsets fault (Err end) =
 
 -- a page that is due is the next one of the chain
 abbrev pub IsNextOf : ChainState → Result (Option PageDue) End → Type 0
-IsNextOf chain (Ok (Some due)) = (due.page ≡ chain.given) × (due.chain ≡ record chain { given = chain.given + 1 })
+IsNextOf chain (Ok (Some due)) =
+    (due.page ≡ chain.given) × (due.chain ≡ record chain { given = chain.given + 1 })
+    × IsPageDue due.page due.chain due.directory due.form
 IsNextOf chain _ = ⊤
 
 -- what a chain's next page is
@@ -106,6 +112,7 @@ IsEndBefore file number end = (row : ℕ) → EndsAt file (record { page = numbe
 pub record IsPageOf (file : List ℕ) (at : Cursor) (due : PageDue) : Type 0 where
   pub same_page : due.page ≡ at.page
   pub within : at.row ≤ due.form.rows
+  pub before : AreRowsBefore file at (rows_before (Ok due.form) at.row)
   pub from_row : (items : List Item) (end : End) → at.row < due.form.rows → AreDueFrom due at.row items end → IsTail file at items end
   pub from_next : (items : List Item) (end : End) → at.row ≡ due.form.rows → ArePagesBehind due.chain items end → IsTail file at items end
   pub form_first : (forms : List FormItem) (end : End) → at.row ≡ 0 → IsFormThen due.page due.form (AreFormsBehind due.chain) forms end
@@ -116,15 +123,3 @@ pub record IsPageOf (file : List ℕ) (at : Cursor) (due : PageDue) : Type 0 whe
 abbrev pub IsPageAt : List ℕ → Cursor → Option PageDue → Type 0
 IsPageAt file at (Some due) = IsPageOf file at due
 IsPageAt file at None = EndsAt file at Proper
-
--- a reader of pages from a cursor begins with this page
-pub record BeginsWith (file : List ℕ) (at : Cursor) (due : PageDue) : Type 0 where
-  pub forms : (forms : List FormItem) (end : End) → IsFormThen due.page due.form (AreFormsBehind due.chain) forms end
-      → IsFormTail file at forms end
-  pub behind : place_number at.page at.row ≤ place_number due.page 0
-
--- what a reader of pages from a cursor begins with: a page, or the end of the pages
-abbrev pub IsFirstPage : List ℕ → Cursor → Result (Option PageDue) End → Type 0
-IsFirstPage file at (Ok (Some due)) = BeginsWith file at due
-IsFirstPage file at (Ok None) = IsFormTail file at [] Proper
-IsFirstPage file at (Err end) = IsFormTail file at [] end

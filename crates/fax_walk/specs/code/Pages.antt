@@ -1,6 +1,7 @@
 -- A reader of a file's pages.
-use Rattle.std.specs.Prelude.{◌≡◌, ℕ, ◌-◌, ◌^◌, ◌<◌, List, [], ◌∷◌, Option, Some, None, Result, Ok, Err}
+use Rattle.std.specs.Prelude.{◌≡◌, ℕ, ◌+◌, ◌-◌, ◌^◌, ◌<◌, ◌≤◌, List, [], ◌∷◌, Option, Some, None, Result, Ok, Err}
 use Rattle.fax_files.specs.declared.PageForm.{PageForm}
+use Rattle.fax_files.specs.code.Chain.{ChainState}
 use Rattle.fax_walk.specs.declared.cursor.Cursor.{Cursor}
 use Rattle.fax_walk.specs.declared.end.End.{End}
 use Rattle.fax_walk.specs.declared.end.End.TheVariants.{Proper, Fault, Outside}
@@ -9,9 +10,9 @@ use Rattle.fax_walk.specs.declared.end.WalkFault.TheVariants.{Memory, AtRow, Cur
 use Rattle.fax_walk.specs.declared.pages.PagesStage.{PagesStage}
 use Rattle.fax_walk.specs.declared.pages.PagesStage.TheVariants.{Before, Behind, Ended}
 use Rattle.fax_walk.specs.Cursor.{start}
-use Rattle.fax_walk.specs.Forms.{FormItem, IsFormTail, behind_page}
+use Rattle.fax_walk.specs.Forms.{FormItem, IsFormThen, IsFormTail, behind_page}
 use Rattle.fax_walk.specs.code.Due.{place_number}
-use Rattle.fax_walk.specs.code.Opening.{AreFormsBehind}
+use Rattle.fax_walk.specs.code.Opening.{PageDue, AreFormsBehind}
 
 -- a reader of a file's pages: the file, the place behind the last page that was handed out, or the one that it began
 -- with, and how far it has come
@@ -44,6 +45,27 @@ abbrev pub IsSoundReader : PagesStage → Cursor → Type 0
 IsSoundReader Before cursor = Unit {0}
 IsSoundReader (Behind chain) cursor = (chain.given ≡ cursor.page) × (cursor.row ≡ 0)
 IsSoundReader (Ended end) cursor = Unit {0}
+
+-- a page is the one behind the directories that a chain has handed out
+pub record IsPageBehind (chain : ChainState) (due : PageDue) : Type 0 where
+  pub forms : (forms : List FormItem) (end : End) → IsFormThen due.page due.form (AreFormsBehind due.chain) forms end
+      → AreFormsBehind chain forms end
+  pub number : due.page ≡ chain.given
+  pub given : due.chain.given ≡ due.page + 1
+
+-- a reader of pages from a cursor begins with this page
+pub record BeginsWith (file : List ℕ) (at : Cursor) (due : PageDue) : Type 0 where
+  pub forms : (forms : List FormItem) (end : End) → IsFormThen due.page due.form (AreFormsBehind due.chain) forms end
+      → IsFormTail file at forms end
+  pub behind : place_number at.page at.row ≤ place_number due.page 0
+  pub given : due.chain.given ≡ due.page + 1
+
+-- a reader of pages hands out this page next
+pub record IsDueIn (pages : PagesState) (due : PageDue) : Type 0 where
+  pub forms : (forms : List FormItem) (end : End) → IsFormThen due.page due.form (AreFormsBehind due.chain) forms end
+      → AreFormsDue pages forms end
+  pub behind : place_number pages.cursor.page pages.cursor.row ≤ place_number due.page 0
+  pub given : due.chain.given ≡ due.page + 1
 
 -- no more places of pages than these are left behind a cursor
 abbrev pub pages_left : PagesState → ℕ

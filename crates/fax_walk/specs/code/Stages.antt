@@ -1,5 +1,5 @@
 -- A page that is open.
-use Rattle.std.specs.Prelude.{◌≡◌, ℕ, ◌+◌, ◌-◌, ◌*◌, ◌<◌, ◌≤◌, true, false, List, length, map, if◌then◌else◌, Option, Some, None}
+use Rattle.std.specs.Prelude.{◌≡◌, ℕ, ◌+◌, ◌-◌, ◌*◌, ◌^◌, ◌<◌, ◌≤◌, true, false, List, length, map, if◌then◌else◌, Option, Some, None}
 use Rattle.fax_bits.specs.declared.Colour.{Colour}
 use Rattle.fax_rows.specs.Elements.{other}
 use Rattle.fax_page.specs.code.Reader.{StripState}
@@ -57,6 +57,8 @@ pub record IsReadingPage (page : ℕ) (chain : ChainState) (form : PageForm) (st
   pub counted : strips.count ≡ form.strips
   pub within : number < form.strips
   pub form_is : strip.form ≡ strip_form form number
+  pub within_strip : strip.row ≤ strip.form.rows
   pub row_is : row ≡ number * form.rows_per_strip + strip.row
   pub room : IsRoomFor form exchanged
+  pub some_page : page < 2 ^ 32
   pub few : read ≤ page * most_rows + row

@@ -1,0 +1,56 @@
+-- Pages as a chain hands them out.
+use Rattle.std.proofs.Common.{◌≡◌, ℕ, ◌+◌, ◌<◌, ◌≤◌, List, [], ◌∷◌, length, drop, Option, Some, None, Result, Ok, Err, inl, inr, refl, ap, sym, ◌∙◌, arith}
+use Rattle.std.specs.Prelude.{◌⊎◌, slice_get}
+use Rattle.fax_files.specs.declared.FileFault.{FileFault}
+use Rattle.fax_files.specs.declared.Cause.TheVariants.{File}
+use Rattle.fax_files.specs.declared.PageForm.{PageForm}
+use Rattle.fax_files.specs.Numbers.{header}
+use Rattle.fax_files.specs.Chain.{IsChain}
+use Rattle.fax_files.specs.Laws.{HasOneChain, FilesHaveOneChain}
+use Rattle.fax_files.specs.Page.{page}
+use Rattle.fax_files.specs.code.Chain.{ChainState, IsDueAnswer, answer_at}
+use Rattle.fax_files.specs.code.Tiff.{TiffFile, TiffDirectory, directory_of, form_of}
+
+-- a directory that is answered stands at the place that is asked for
+answered : (tiff : TiffFile) (place : Option ℕ) (end : Option FileFault) (directory : TiffDirectory)
+    → Ok (Some directory) ≡ answer_at tiff place end → (place ≡ Some directory.offset) × (directory ≡ directory_of tiff directory.offset)
+answered tiff (Some q) end directory is =
+    let same : directory ≡ directory_of tiff q = cc is in
+    (cc same, rw same refl)
+answered tiff None None directory is = absurd (cc is)
+answered tiff None (Some fault) directory is = absurd (cc is)
+
+-- no directory is answered where there is none, and the chain ends properly
+none_answered : (tiff : TiffFile) (place : Option ℕ) (end : Option FileFault) → Ok None ≡ answer_at tiff place end → (place ≡ None) × (end ≡ None)
+none_answered tiff (Some q) end is = absurd (cc is)
+none_answered tiff None None is = (refl, refl)
+none_answered tiff None (Some fault) is = absurd (cc is)
+
+-- a fault is answered where there is no directory, and the chain ends with it
+fault_answered : (tiff : TiffFile) (place : Option ℕ) (end : Option FileFault) (met : FileFault) → Err met ≡ answer_at tiff place end
+    → (place ≡ None) × (end ≡ Some met)
+fault_answered tiff (Some q) end met is = absurd (cc is)
+fault_answered tiff None None met is = absurd (cc is)
+fault_answered tiff None (Some fault) met is = (refl, cc is)
+
+-- what a chain answers
+module _ (chain : ChainState) (answer : Result (Option TiffDirectory) FileFault) (due : IsDueAnswer chain answer) where
+  pub due_some : (directory : TiffDirectory) → answer ≡ Ok (Some directory) → (offsets : List ℕ) (end : Option FileFault)
+      → IsChain chain.tiff.head chain.tiff.file offsets end
+      → (slice_get offsets chain.given ≡ Some directory.offset) × (directory ≡ directory_of chain.tiff directory.offset)
+  due_some directory is offsets end held = answered chain.tiff (slice_get offsets chain.given) end directory (sym is ∙ due offsets end held)
+
+  pub due_none : answer ≡ Ok None → (offsets : List ℕ) (end : Option FileFault)
+      → IsChain chain.tiff.head chain.tiff.file offsets end → (slice_get offsets chain.given ≡ None) × (end ≡ None)
+  due_none is offsets end held = none_answered chain.tiff (slice_get offsets chain.given) end (sym is ∙ due offsets end held)
+
+  pub due_fault : (met : FileFault) → answer ≡ Err met → (offsets : List ℕ) (end : Option FileFault)
+      → IsChain chain.tiff.head chain.tiff.file offsets end → (slice_get offsets chain.given ≡ None) × (end ≡ Some met)
+  due_fault met is offsets end held = fault_answered chain.tiff (slice_get offsets chain.given) end met (sym is ∙ due offsets end held)
+
+  -- a directory that is answered belongs to the chain's file
+  pub due_directory : FilesHaveOneChain → (directory : TiffDirectory) → answer ≡ Ok (Some directory)
+      → directory ≡ directory_of chain.tiff directory.offset
+  due_directory one directory is =
+      let held = one chain.tiff.head chain.tiff.file in
+      (due_some directory is held.offsets held.end held.is).1
