@@ -1,10 +1,9 @@
 -- Gaps in a PBM's header: a gap that is read is one, and each gap is read to its end.
-use Rattle.std.proofs.Common.{◌≡◌, ◌≢◌, ℕ, ◌+◌, ◌⊎◌, inl, inr, Bool, true, false, not, cond, ◌||◌, List, [], ◌∷◌, ◌++◌, Option, Some, None, refl, sym, ap, ◌∙◌, arith, append_assoc}
+use Rattle.std.proofs.Common.{◌≡◌, ℕ, inl, inr, Bool, true, false, not, List, [], ◌∷◌, ◌++◌, Some, None, refl, sym, ap, ◌∙◌, arith, append_assoc}
 use Rattle.std.specs.Prelude.{◌==◌, IsTrue, if◌then◌else◌}
 use Rattle.std.specs.List.{list_all}
 use Rattle.std.proofs.lemmas.Bool.{eqb-true, and_parts}
 use Rattle.std.proofs.lemmas.Bool.Decides.{nat_tests}
-use Rattle.fax_files.specs.Page.{is_between}
 use Rattle.fax_files.specs.Pbm.{is_white_space, is_line_end, is_digit, IsPiece, ArePieces, IsGap}
 use Rattle.fax_files.specs.code.Pbm.{begins_piece, behind_pieces, behind_gap, has_digit}
 

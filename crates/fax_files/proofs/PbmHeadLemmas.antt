@@ -7,7 +7,7 @@ use Rattle.fax_files.specs.declared.pbm.PbmFault.TheVariants.{BadHeader, OutOfLi
 use Rattle.fax_files.specs.Pbm.{IsHead, IsImage, IsImageFault, is_within_limits, raster_len}
 use Rattle.fax_files.specs.code.Pbm.{capped, behind_gap, behind_digits, IsHeadRead, image_of}
 use Rattle.fax_files.proofs.PbmGapLemmas.{gap_is_read, gap_passed, gap_has_no_digit, white_is_no_digit}
-use Rattle.fax_files.proofs.PbmNumberLemmas.{HasNumber, number_is_read, number_passed, number_begins, digits_passed}
+use Rattle.fax_files.proofs.PbmNumberLemmas.{number_is_read, number_passed, number_begins, digits_passed}
 
 -- a header that is read is one
 pub record HasHead (bytes : List ℕ) (width height : ℕ) (rest : List ℕ) : Type 0 where

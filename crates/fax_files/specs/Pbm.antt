@@ -1,5 +1,5 @@
 -- Raw PBM: images one after another (the netpbm format, P4, in this project's profile).
-use Rattle.std.specs.Prelude.{◌≡◌, ◌≢◌, ℕ, zero, suc, ◌+◌, ◌-◌, ◌*◌, ◌<◌, ◌≤◌, ◌⊎◌, Bool, ◌==◌, ◌||◌, ◌&&◌, not, List, [], ◌∷◌, ◌++◌, length, take, drop, fold, codes, decimal, Option, Some, None, IsTrue, IsFalse}
+use Rattle.std.specs.Prelude.{◌≡◌, ◌≢◌, ℕ, zero, suc, ◌+◌, ◌-◌, ◌*◌, ◌<◌, ◌⊎◌, Bool, ◌==◌, ◌||◌, ◌&&◌, not, List, [], ◌∷◌, ◌++◌, length, take, drop, fold, codes, decimal, Option, Some, None, IsTrue, IsFalse}
 use Rattle.std.specs.List.{list_all, flat_map}
 use Rattle.fax_bits.specs.declared.Colour.{Colour}
 use Rattle.fax_rows.specs.Packed.{packed_len, packed_row, unpacked_row}

@@ -1,5 +1,5 @@
-use Rattle.std.proofs.Common.{◌≡◌, ◌≤◌, drop, true}
-use Rattle.fax_files.specs.code.Pbm.{capped_from, behind_digits, has_digit}
+use Rattle.std.proofs.Common.{◌≡◌, ◌≤◌, drop}
+use Rattle.fax_files.specs.code.Pbm.{capped_from, behind_digits}
 use Rattle.fax_files.proofs.pbm.number.Given as goal
 
 abbrev pub invariant-loop-i : goal.invariant-loop-i

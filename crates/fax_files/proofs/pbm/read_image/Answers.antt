@@ -1,5 +1,4 @@
-use Rattle.std.proofs.Common.{◌≡◌, ℕ, ◌-◌, ◌*◌, ◌≤◌, ◌++◌, List, length, take, drop, true, false, sym, ap, subst, ◌∙◌, arith}
-use Rattle.std.proofs.lemmas.Grind.{common_steps}
+use Rattle.std.proofs.Common.{ℕ, ◌-◌, ◌*◌, List, length, take, drop, sym, ap, subst, ◌∙◌}
 use Rattle.fax_files.specs.code.Pbm.{IsHeadRead}
 use Rattle.fax_files.proofs.PbmHeadLemmas.{no_head, exact_head, head_outside, image_read, take_both, length-take_of}
 use Rattle.fax_files.proofs.pbm.read_image.Goals as goal
