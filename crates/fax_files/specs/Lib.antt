@@ -1,7 +1,6 @@
 pub mod Numbers
 pub mod Directory
 pub mod Chain
-pub mod ChainRead
 pub mod Page
 pub mod StripBytes
 pub mod PageRows
