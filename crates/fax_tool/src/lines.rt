@@ -74,7 +74,9 @@ impl Lines for Walk<'_> {
         }
     }
 
-    fn have_an_end(&self) {}
+    fn have_an_end(&self) {
+        fax_walk::laws::walks_have_items(self);
+    }
 }
 
 /// A line for each page.
@@ -103,5 +105,7 @@ impl Lines for Pages<'_> {
         }
     }
 
-    fn have_an_end(&self) {}
+    fn have_an_end(&self) {
+        fax_walk::laws::pages_have_forms(self);
+    }
 }

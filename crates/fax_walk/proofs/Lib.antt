@@ -15,3 +15,4 @@ pub mod OpeningLemmas
 pub mod PageAtLemmas
 pub mod PagesLemmas
 pub mod WalkLemmas
+pub mod StillDueLemmas

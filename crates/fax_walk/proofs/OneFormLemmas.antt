@@ -76,7 +76,7 @@ module _ (p : ℕ) (behind : List FormItem → End → Type 0) (one_behind : IsO
   ]
 
 module _ (endian : Endian) (file : List ℕ) (fault : Option FileFault) where
-  one_of_pages : (p : ℕ) (offsets : List ℕ) → IsOne (ArePagesForms endian file fault p offsets)
+  pub one_of_pages : (p : ℕ) (offsets : List ℕ) → IsOne (ArePagesForms endian file fault p offsets)
   one_of_pages p [] = record { items = []; end = chain_end p fault; is = (refl, refl); one = λ others other is. is }
   one_of_pages p (q ∷ offsets) =
       let all = one_from p (ArePagesForms endian file fault (p + 1) offsets) (one_of_pages (p + 1) offsets) (page endian file q) in

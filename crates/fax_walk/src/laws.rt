@@ -1,6 +1,14 @@
 //! Laws of a file's rows and of its forms. The functions compute nothing: each has a law as its
 //! contract.
+ghost use Rattle.std.specs.Prelude.{List};
+ghost use Rattle.fax_walk.specs.Forms.{FormItem};
+ghost use Rattle.fax_walk.specs.Items.{Item};
 ghost use Rattle.fax_walk.specs.Laws as Laws;
+ghost use Rattle.fax_walk.specs.code.Due.{IsDue};
+ghost use Rattle.fax_walk.specs.code.Pages.{AreFormsDue};
+ghost use Rattle.fax_walk.specs.declared.end.End.{End};
+
+use crate::{Pages, Walk};
 
 /// Each file has rows and an end, and one list of them only.
 pub fn files_have_one_items()
@@ -71,4 +79,18 @@ pub fn form_tails_of_printed()
 {
     files_have_one_forms();
     cursors_have_one_form_tail();
+}
+
+/// Each walk has rows that are due, and an end, also where it has handed out some.
+pub fn walks_have_items(walk: &Walk)
+    ensures { (items : List Item) × (end : End) × IsDue walk.now items end }
+{
+    walk.has_items();
+}
+
+/// Each reader of pages has pages that are due, and an end, also where it has handed out some.
+pub fn pages_have_forms(pages: &Pages)
+    ensures { (forms : List FormItem) × (end : End) × AreFormsDue pages.now forms end }
+{
+    pages.has_forms();
 }

@@ -148,6 +148,17 @@ impl<'a> OpenPage<'a> {
         self.row == self.form.rows
     }
 
+    /// Rows of the page and of those behind it are due, and an end. It computes nothing.
+    pub(crate) fn has_items(&self)
+        ensures { (items : List Item) × (end : End) × Due.IsDueOnPage self.now items end }
+    {
+        fax_page::laws::lines_are_read_in_one_way();
+        fax_page::laws::strips_are_read_in_one_way();
+        fax_files::laws::forms_are_whole();
+        fax_files::laws::files_have_one_chain();
+        let _ = &self.page;
+    }
+
     /// The place of the row that was read last.
     pub(crate) fn last(&self) -> Place
         requires { 0 < row_of self.now }

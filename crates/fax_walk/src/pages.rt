@@ -1,6 +1,6 @@
 //! The pages of a file in the order of their chain, with their forms.
-ghost use Rattle.std.specs.Prelude.{◌≡◌, [], IfErr, IfOk};
-ghost use Rattle.fax_walk.specs.Forms.{IsFormTail};
+ghost use Rattle.std.specs.Prelude.{◌≡◌, List, [], IfErr, IfOk};
+ghost use Rattle.fax_walk.specs.Forms.{FormItem, IsFormTail};
 ghost use Rattle.fax_walk.specs.code.Opening as Opening;
 ghost use Rattle.fax_walk.specs.code.Pages as Spec;
 
@@ -70,7 +70,7 @@ fn first_page<'a>(file: &'a [u8], cursor: Cursor) -> Result<DuePage<'a>, End>
 }
 
 impl<'a> Pages<'a> {
-    ghost use Rattle.fax_walk.specs.code.Pages.{IsNextPage, pages_from, pages_start};
+    ghost use Rattle.fax_walk.specs.code.Pages.{AreFormsDue, IsNextPage, pages_from, pages_start};
 
     /// A reader of all pages of a file, from any bytes. Nothing is read yet.
     pub fn start(file: &'a [u8]) -> Self
@@ -107,6 +107,17 @@ impl<'a> Pages<'a> {
             PagesStage::Before => first_page(self.file, self.cursor),
             PagesStage::Behind(chain) => page_behind(chain.again()),
             PagesStage::Ended(end) => Err(*end),
+        }
+    }
+
+    /// Pages are due, and an end. It computes nothing.
+    pub(crate) fn has_forms(&self)
+        ensures { (forms : List FormItem) × (end : End) × AreFormsDue self.now forms end }
+    {
+        match &self.stage {
+            PagesStage::Before => crate::laws::cursors_have_one_form_tail(),
+            PagesStage::Behind(_) => fax_files::laws::files_have_one_chain(),
+            PagesStage::Ended(_) => {}
         }
     }
 

@@ -130,6 +130,17 @@ impl<'a> Walk<'a> {
         }
     }
 
+    /// Rows are due, and an end. It computes nothing.
+    pub(crate) fn has_items(&self)
+        ensures { (items : List Item) × (end : End) × Due.IsDue self.now items end }
+    {
+        match &self.stage {
+            Stage::Before => crate::laws::cursors_have_one_tail(),
+            Stage::Open(page) => page.has_items(),
+            Stage::Ended(..) => {}
+        }
+    }
+
     /// Opens the page of the row that is due, where it is not open. Where memory is refused the
     /// walk is as it was.
     fn enter(&mut self) -> Result<(), Memory>
