@@ -21,8 +21,9 @@ use Rattle.fax_files.specs.code.Tiff.{TiffDirectory, bytes_of}
 use Rattle.fax_walk.specs.declared.end.End.{End}
 use Rattle.fax_walk.specs.declared.end.End.TheVariants.{Fault}
 use Rattle.fax_walk.specs.Items.{Item, numbered, stop_at, Follows}
+use Rattle.fax_walk.specs.Before.{EndsBefore}
 use Rattle.fax_walk.specs.code.Stages.{PageState, row_of, skipped, row_handed_out}
-use Rattle.fax_walk.specs.code.Due.{AreStripsBehind, IsLeftOnPage, IsDueOnPage, ArePagesBehind, IsOpen, ReadsPageRow, GivesRow, GivesNone, KeepsPage}
+use Rattle.fax_walk.specs.code.Due.{AreStripsBehind, IsLeftOnPage, IsDueOnPage, ArePagesBehind, IsOpen, ReadsPageRow, GivesRow, GivesNone, KeepsPage, EndsAtRow}
 
 -- rows as they are handed out, one after the other
 pub shown_none : (form : PageForm) → shown form [] ≡ []
@@ -319,12 +320,13 @@ pub record Skips (old now : PageState) : Type 0 where
   pub read : now.read + skipped now ≡ old.read + skipped old
   pub some : old.read ≤ now.read
   pub same_page : now.page ≡ old.page
+  pub same_first : now.first ≡ old.first
   pub is_open : IsOpen now
   pub row_due : row_of now < now.form.rows
 
 pub none_skipped : (page : PageState) → IsOpen page → row_of page < page.form.rows → Skips page page
 none_skipped page at due =
-    record { due = λ items end d. d; to_go = refl; read = refl; some = omega arith; same_page = refl; is_open = at; row_due = due }
+    record { due = λ items end d. d; to_go = refl; read = refl; some = omega arith; same_page = refl; same_first = refl; is_open = at; row_due = due }
 
 -- one more row before the first that is handed out
 pub one_skipped : (old now new : PageState) → Skips old now → ReadsPageRow now new → row_of new ≤ new.first → Skips old new
@@ -336,6 +338,7 @@ one_skipped old now new skips reads before =
       read = omega (arith, skips.read, reads.one_more, reads.next_row, reads.same_first, before);
       some = omega (arith, skips.some, reads.one_more);
       same_page = reads.same_page ∙ skips.same_page;
+      same_first = reads.same_first ∙ skips.same_first;
       is_open = reads.still_open;
       row_due = omega (arith, before, reads.still_open.first);
     }
@@ -357,5 +360,14 @@ row_given old now new skips reads behind few =
     }
 
 -- the rows end before the first that is handed out
-pub none_given : (old now new : PageState) → Skips old now → new.read ≡ now.read → GivesNone old new
-none_given old now new skips same = record { some = omega (arith, same, skips.some); most = omega (arith, same, skips.read) }
+pub none_given : (old now new : PageState) (end : End) → Skips old now → new.read ≡ now.read → EndsAtRow now end → GivesNone old new end
+none_given old now new end skips same (cause, end_is) = record {
+  some = omega (arith, same, skips.some);
+  most = omega (arith, same, skips.read);
+  told = by_order (cases_lt 0 (skipped now));
+}
+  where
+    by_order : (0 < skipped now) ⊎ (skipped now ≤ 0)
+        → (new.read ≡ old.read + skipped old) ⊎ EndsBefore end (record { page = old.page; row = old.first })
+    by_order (inl left) = inr (rw end_is (skips.same_page, omega (arith, left, skips.same_first)))
+    by_order (inr none) = inl (omega (arith, none, same, skips.read))

@@ -49,12 +49,16 @@ proper_past pages at page row =
 module _ (file : List ℕ) (at : Cursor) where
   -- the header is refused
   pub header_refused : (fault : FileFault) → header file ≡ Err fault → EndsAt file at (Fault 0 0 (File fault))
-  header_refused fault refused = rw refused ((refl, refl), (refl, refl))
+  header_refused fault refused = rw refused ((refl, refl), (refl, refl), refl)
 
   module _ (head : Header) (is : header file ≡ Ok head) (one : HasOneChain head file) where
     -- the chain has no page of this number
     past_chain : slice_get one.offsets at.page ≡ None → EndsAt file at (end_past_chain (length one.offsets) one.end at)
-    past_chain none = rw is ((one.offsets, one.end, one.is, rw none (refl, refl)), (one.offsets, one.end, one.is, rw none (refl, refl)))
+    past_chain none = rw is (
+      (one.offsets, one.end, one.is, rw none (refl, refl)),
+      (one.offsets, one.end, one.is, rw none (refl, refl)),
+      (one.offsets, one.end, one.is, rw none refl),
+    )
 
     -- a chain of fewer pages ends properly
     pub ends_before : (number : ℕ) → slice_get one.offsets number ≡ None → one.end ≡ None → number < at.page → EndsAt file at Outside
@@ -94,6 +98,7 @@ module _ (file : List ℕ) (at : Cursor) where
         rw is (
           (one.offsets, one.end, one.is, rw (some, bad) (refl, refl)),
           (one.offsets, one.end, one.is, rw (some, bad) (refl, refl)),
+          (one.offsets, one.end, one.is, rw (some, bad) refl),
         )
 
 -- what a file's chain answers for the directory that is due

@@ -7,6 +7,7 @@ pub mod OneFormLemmas
 pub mod PrintedLemmas
 pub mod BeforeLemmas
 pub mod BehindLemmas
+pub mod CountLemmas
 pub mod CursorLemmas
 pub mod DueLemmas
 pub mod EndingLemmas

@@ -1,6 +1,7 @@
 -- The page that a cursor names.
 use Rattle.std.proofs.Common.{◌≡◌, ℕ, ◌+◌, ◌<◌, ◌≤◌, List, [], length, drop, Option, Some, None, Result, Ok, Err, inl, inr, refl, ap, sym, ◌∙◌, arith}
-use Rattle.std.specs.Prelude.{slice_get}
+use Rattle.std.specs.Prelude.{slice_get, nat_lt, false}
+use Rattle.std.proofs.lemmas.Bool.Decides.{nat_tests}
 use Rattle.fax_files.specs.declared.FileFault.{FileFault}
 use Rattle.fax_files.specs.declared.Cause.{Cause}
 use Rattle.fax_files.specs.declared.Cause.TheVariants.{File}
@@ -109,6 +110,7 @@ module _ (chain : ChainState) (good : header chain.tiff.file ≡ Ok chain.tiff.h
   row_outside above = rw good (
     (one.offsets, one.end, one.is, rw (some, form_is) (inl (above, refl, refl))),
     (one.offsets, one.end, one.is, rw (some, form_is) (inl (above, refl, refl))),
+    (one.offsets, one.end, one.is, let below : nat_lt at.row due.form.rows ≡ false = grind (arith, nat_tests, above) in rw (some, form_is, below) refl),
   )
 
   row_there : at.row ≤ due.form.rows → IsPageOf chain.tiff.file at due

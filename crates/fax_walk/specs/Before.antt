@@ -1,5 +1,5 @@
 -- The rows that stand before a cursor's row in its strip: a walk from the cursor reads them again.
-use Rattle.std.specs.Prelude.{◌≡◌, ℕ, ◌%◌, nat_lt, if◌then◌else◌, List, Option, Some, None, Result, Ok, Err, slice_get}
+use Rattle.std.specs.Prelude.{◌≡◌, ℕ, ◌%◌, ◌<◌, nat_lt, if◌then◌else◌, List, Option, Some, None, Result, Ok, Err, slice_get}
 use Rattle.fax_files.specs.declared.FileFault.{FileFault}
 use Rattle.fax_files.specs.declared.PageForm.{PageForm}
 use Rattle.fax_files.specs.declared.Endian.{Endian}
@@ -7,6 +7,8 @@ use Rattle.fax_files.specs.Numbers.{Header, header}
 use Rattle.fax_files.specs.Chain.{IsChain}
 use Rattle.fax_files.specs.Page.{page}
 use Rattle.fax_walk.specs.declared.cursor.Cursor.{Cursor}
+use Rattle.fax_walk.specs.declared.end.End.{End}
+use Rattle.fax_walk.specs.declared.end.End.TheVariants.{Proper, Fault, Outside}
 
 -- how many rows stand before row r in its strip, where the page's fields give this answer: none where the page has no
 -- such row (TIFF 6.0, RowsPerStrip)
@@ -29,3 +31,9 @@ AreRowsBeforeUnder file at (Ok head) n =
 -- so many rows stand before a cursor's row in its strip (TIFF 6.0, RowsPerStrip)
 abbrev pub AreRowsBefore : List ℕ → Cursor → ℕ → Type 0
 AreRowsBefore file at n = AreRowsBeforeUnder file at (header file) n
+
+-- the rows end on the cursor's page, before its row (this project's profile)
+abbrev pub EndsBefore : End → Cursor → Type 0
+EndsBefore Proper at = ⊥
+EndsBefore Outside at = ⊥
+EndsBefore (Fault page row cause) at = (page ≡ at.page) × (row < at.row)

@@ -83,6 +83,7 @@ pub(crate) fn open<'a>(
     ensures items { IfOk result (λ page. (items : List Item) (end : End)
         → Due.IsDueOnPage page items end → Opening.AreDueFrom due.entry first items end) }
     ensures refused { IfErr result (Opening.IsRefusal (Opening.AreDueFrom due.entry first)) }
+    ensures short { IfErr result (Opening.EndsShort due.entry first) }
 {
     let form = due.form;
     let strips = due.directory.strips(&form);
@@ -196,6 +197,7 @@ impl<'a> OpenPage<'a> {
         ensures ok { OnOk result (Due.KeepsPage self.old self.new) }
         ensures number { OnOk result (self.new.number ≡ self.old.number + 1) }
         ensures same_read { self.new.read ≡ self.old.read }
+        ensures place { IfErr result (Due.EndsAtRow self.old) }
         ensures err { IfErr result (Due.IsDueOnPage self.old []) }
     {
         let number = self.number + 1;
@@ -228,6 +230,7 @@ impl<'a> OpenPage<'a> {
         ensures ok { OnOk result (Due.ReadsPageRow self.old self.new) }
         ensures err { IfErr result (Due.IsDueOnPage self.old []) }
         ensures same_read { OnErr result (self.new.read ≡ self.old.read) }
+        ensures place { IfErr result (Due.EndsAtRow self.old) }
     {
         loop {
             match self.strip.advance() {
@@ -255,7 +258,7 @@ impl<'a> OpenPage<'a> {
         requires due { row_of self.old < self.old.form.rows }
         ensures ok { OnOk result (Due.GivesRow self.old self.new) }
         ensures err { IfErr result (Due.IsDueOnPage self.old []) }
-        ensures none { OnErr result (Due.GivesNone self.old self.new) }
+        ensures none { IfErr result (Due.GivesNone self.old self.new) }
     {
         loop {
             self.advance()?;

@@ -5,7 +5,7 @@ ghost use Rattle.fax_walk.specs.Items.{Item};
 ghost use Rattle.fax_walk.specs.Tail.{IsTail};
 ghost use Rattle.fax_walk.specs.code.Due as Due;
 ghost use Rattle.fax_walk.specs.Before.{AreRowsBefore};
-ghost use Rattle.fax_walk.specs.code.Opening.{IsRefusal};
+ghost use Rattle.fax_walk.specs.code.Opening.{EndsShortAt, IsRefusal};
 ghost use Rattle.fax_walk.specs.code.Stages.{skipped};
 
 use crate::opening::{DuePage, OpenFault};
@@ -72,6 +72,7 @@ fn open_at<'a>(alloc: Global, file: &'a [u8], cursor: Cursor) -> Result<OpenPage
     ensures items { IfOk result (λ page. (items : List Item) (end : End)
         → Due.IsDueOnPage page items end → IsTail file.now cursor items end) }
     ensures refused { IfErr result (IsRefusal (IsTail file.now cursor)) }
+    ensures short { IfErr result (EndsShortAt file.now cursor) }
 {
     let Some(due) = DuePage::at(file, cursor)? else {
         return Err(OpenFault::Ended(End::Proper));

@@ -1,5 +1,5 @@
 -- What a walk still hands out.
-use Rattle.std.specs.Prelude.{◌≡◌, ◌≢◌, ℕ, ◌+◌, ◌-◌, ◌*◌, ◌^◌, ◌<◌, ◌≤◌, Bool, List, [], ◌∷◌, ◌++◌, length, drop, Option, Some, None, ⊤}
+use Rattle.std.specs.Prelude.{◌≡◌, ◌≢◌, ℕ, ◌+◌, ◌-◌, ◌*◌, ◌^◌, ◌<◌, ◌≤◌, ◌⊎◌, Bool, List, [], ◌∷◌, ◌++◌, length, drop, Option, Some, None, ⊤}
 use Rattle.fax_bits.specs.declared.Colour.{Colour}
 use Rattle.fax_page.specs.declared.StripFault.{StripFault}
 use Rattle.fax_page.specs.Strip.{AreLines}
@@ -15,12 +15,13 @@ use Rattle.fax_files.specs.code.Chain.{ChainState}
 use Rattle.fax_files.specs.code.Tiff.{TiffDirectory}
 use Rattle.fax_walk.specs.declared.cursor.Cursor.{Cursor}
 use Rattle.fax_walk.specs.declared.end.End.{End}
+use Rattle.fax_walk.specs.declared.end.End.TheVariants.{Fault}
 use Rattle.fax_walk.specs.declared.walk.Stage.{Stage}
 use Rattle.fax_walk.specs.declared.walk.Stage.TheVariants.{Before, Open, Ended}
 use Rattle.fax_walk.specs.Cursor.{start}
 use Rattle.fax_walk.specs.Items.{Item, numbered, stop_at, Follows, ArePagesItems}
 use Rattle.fax_walk.specs.Tail.{IsTail}
-use Rattle.fax_walk.specs.Before.{AreRowsBefore}
+use Rattle.fax_walk.specs.Before.{AreRowsBefore, EndsBefore}
 use Rattle.fax_walk.specs.code.Stages.{PageState, row_of, skipped}
 
 -- a walk: its file, the cursor that it began with, how many rows it handed out, the place behind the last of them, or
@@ -105,33 +106,42 @@ pub record IsOpenFrom (cursor : Cursor) (page : PageState) : Type 0 where
   pub within : row_of page ≤ page.form.rows
   pub behind : place_number cursor.page cursor.row ≤ place_number page.page (row_of page + skipped page)
 
--- a walk that began with this cursor, handed out so many rows and has so many to read before the next one has read so
--- many: those that it handed out, and those before the first of them in its strip
-pub record HasCounted (file : List ℕ) (begun : Cursor) (given left read : ℕ) : Type 0 where
+-- a walk that began with this cursor, handed out so many rows and is on this page has read those that it handed out, and
+-- those before the first of them in its strip, but for the ones that it still skips; it skips rows on the cursor's page
+-- alone, before its first row
+pub record HasCounted (file : List ℕ) (begun : Cursor) (given : ℕ) (page : PageState) : Type 0 where
   pub before : ℕ
   pub are_before : AreRowsBefore file begun before
-  pub count : read + left ≡ given + before
-  pub none_left : 0 < given → left ≡ 0
+  pub count : page.read + skipped page ≡ given + before
+  pub none_left : 0 < given → skipped page ≡ 0
+  pub named : 0 < skipped page → (page.page ≡ begun.page) × (page.first ≡ begun.row)
 
--- a walk that has ended has read the rows that it handed out, and those before the first of them in its strip; where it
--- handed out none, at most these
-pub record HasReadAll (file : List ℕ) (begun : Cursor) (given read : ℕ) : Type 0 where
+-- a walk that has ended so has read the rows that it handed out, and those before the first of them in its strip, but
+-- where it handed out none and one before the cursor's row cannot be read
+pub record HasReadAll (file : List ℕ) (begun : Cursor) (given : ℕ) (end : End) (read : ℕ) : Type 0 where
   pub before : ℕ
   pub are_before : AreRowsBefore file begun before
-  pub all : 0 < given → read ≡ given + before
   pub most : read ≤ given + before
+  pub all : 0 < given → read ≡ given + before
+  pub told : (read ≡ given + before) ⊎ EndsBefore end begun
 
 -- before its first row a walk stands where it began, on a page its first row to hand out stands at the cursor or behind
 -- it, and its rows are counted
 abbrev pub IsSound : List ℕ → Cursor → ℕ → Cursor → Stage → Type 0
 IsSound file begun given cursor Before = (cursor ≡ begun) × (given ≡ 0)
-IsSound file begun given cursor (Open page) = IsOpenFrom cursor page × HasCounted file begun given (skipped page) page.read
-IsSound file begun given cursor (Ended end read) = HasReadAll file begun given read
+IsSound file begun given cursor (Open page) = IsOpenFrom cursor page × HasCounted file begun given page
+IsSound file begun given cursor (Ended end read) = HasReadAll file begun given end read
 
 -- a page is open for a cursor: no row is read yet, and the first one that is handed out stands at the cursor or behind it
 --
 abbrev pub IsOpenedFor : Cursor → PageState → Type 0
-IsOpenedFor cursor page = IsOpenFrom cursor page × (row_of page < page.form.rows) × (page.read ≡ 0)
+IsOpenedFor cursor page =
+    IsOpenFrom cursor page × (row_of page < page.form.rows) × (page.read ≡ 0)
+    × (0 < skipped page → (page.page ≡ cursor.page) × (page.first ≡ cursor.row))
+
+-- the rows end at the row that is due on a page
+abbrev pub EndsAtRow : PageState → End → Type 0
+EndsAtRow page end = (cause : Cause) × (end ≡ Fault page.page (row_of page) cause)
 
 -- a row was read from a page: it was the first that is handed out, and what was due is that row, and then what is due
 -- now; or it was one before that, and what was due is due
@@ -158,10 +168,12 @@ pub record GivesRow (old new : PageState) : Type 0 where
   pub read : new.read ≡ old.read + skipped old + 1
   pub few : new.read < 2 ^ 64
 
--- the rows end before the next one that is handed out: at most the rows before it were read
-pub record GivesNone (old new : PageState) : Type 0 where
+-- the rows end so before the next one that is handed out: the rows before it were read, but where one of them cannot be
+-- read
+pub record GivesNone (old new : PageState) (end : End) : Type 0 where
   pub some : old.read ≤ new.read
   pub most : new.read ≤ old.read + skipped old
+  pub told : (new.read ≡ old.read + skipped old) ⊎ EndsBefore end (record { page = old.page; row = old.first })
 
 -- the same page, with the same rows due, at this strip or a later one
 pub record KeepsPage (old new : PageState) : Type 0 where

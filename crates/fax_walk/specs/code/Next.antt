@@ -1,5 +1,5 @@
 -- What a call for the next row of a walk answers.
-use Rattle.std.specs.Prelude.{◌≡◌, ℕ, ◌+◌, ◌-◌, ◌<◌, ◌≤◌, List, [], ◌∷◌, Option, Some, None, Result, Ok, Err, ⊤}
+use Rattle.std.specs.Prelude.{◌≡◌, ℕ, ◌+◌, ◌-◌, ◌<◌, ◌≤◌, ◌⊎◌, List, [], ◌∷◌, Option, Some, None, Result, Ok, Err, ⊤}
 use Rattle.std.specs.Borrow.{Bor, MutBor, Fml, follows_so}
 use mathlib.Core.Option.{none}
 use mir.Syntax.{named}
@@ -15,7 +15,7 @@ use Rattle.fax_walk.specs.declared.walk.Stage.TheVariants.{Before, Open, Ended}
 use Rattle.fax_walk.specs.contracts.walk.Walk.{the_row}
 use Rattle.fax_walk.specs.Items.{Item}
 use Rattle.fax_walk.specs.Tail.{behind_item}
-use Rattle.fax_walk.specs.Before.{AreRowsBefore}
+use Rattle.fax_walk.specs.Before.{AreRowsBefore, EndsBefore}
 use Rattle.fax_walk.specs.code.Stages.{row_of, skipped}
 use Rattle.fax_walk.specs.code.Due.{WalkState, IsDue, places_left}
 
@@ -25,13 +25,20 @@ EndsAs walk P =
     follows_so (the_row (record { mir = named 1; lft = [] })) (the_row (record { mir = named 1; lft = [] }))
     walk.ghost_name none (λ _ _. ⊤) P
 
--- so many rows were read by a walk: those that it handed out, and those before the first of them in its strip; where it
--- handed out none, at most these
+-- the rows have ended so
+abbrev pub HasTold : Stage → End → Type 0
+HasTold Before end = ⊥
+HasTold (Open page) end = ⊥
+HasTold (Ended ended read) end = ended ≡ end
+
+-- So many rows were read by a walk: those that it handed out, and those before the first of them in its strip. Before
+-- it hands out one it has read at most these; and where it has ended so, all of them, but where one cannot be read
 pub record HasReadRows (walk : WalkState) (read : ℕ) : Type 0 where
   pub before : ℕ
   pub are_before : AreRowsBefore walk.file walk.begun before
-  pub all : 0 < walk.given → read ≡ walk.given + before
   pub most : read ≤ walk.given + before
+  pub all : 0 < walk.given → read ≡ walk.given + before
+  pub told : (end : End) → HasTold walk.stage end → (read ≡ walk.given + before) ⊎ EndsBefore end walk.begun
 
 -- this item is handed out: it is the first of what was due, and what is due then is the rest
 pub record HandsOut (old : WalkState) (item : Item) (new : WalkState) : Type 0 where
@@ -41,12 +48,6 @@ pub record HandsOut (old : WalkState) (item : Item) (new : WalkState) : Type 0 w
   pub begun : new.begun ≡ old.begun
   pub one_more : new.given ≡ old.given + 1
   pub fewer : places_left new < places_left old
-
--- the rows have ended so
-abbrev pub HasTold : Stage → End → Type 0
-HasTold Before end = ⊥
-HasTold (Open page) end = ⊥
-HasTold (Ended ended read) end = ended ≡ end
 
 -- nothing more is due, and the rows have ended so for good
 pub record HasEnded (old : WalkState) (end : End) (new : WalkState) : Type 0 where

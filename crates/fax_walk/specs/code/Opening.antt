@@ -15,7 +15,7 @@ use Rattle.fax_walk.specs.declared.opening.OpenFault.{OpenFault}
 use Rattle.fax_walk.specs.declared.opening.OpenFault.TheVariants.{Memory, Ended}
 use Rattle.fax_walk.specs.Items.{Item, AreFromRow}
 use Rattle.fax_walk.specs.Tail.{IsTail}
-use Rattle.fax_walk.specs.Before.{AreRowsBefore, rows_before}
+use Rattle.fax_walk.specs.Before.{AreRowsBefore, EndsBefore, rows_before}
 use Rattle.fax_walk.specs.Forms.{FormItem, ArePagesForms, IsFormThen, IsFormTail}
 use Rattle.fax_walk.specs.code.Stages.{PageState, row_of, skipped}
 use Rattle.fax_walk.specs.code.Due.{ArePagesBehind, IsOpen}
@@ -51,12 +51,25 @@ abbrev pub IsRefusal : (List Item → End → Type 0) → OpenFault → Type 0
 IsRefusal due Memory = ⊤
 IsRefusal due (Ended end) = due [] end
 
+-- no page was opened for a row of it: where memory was not refused, no row stands before it in its strip, or the rows end
+-- before it
+abbrev pub EndsShort : PageDue → ℕ → OpenFault → Type 0
+EndsShort due first Memory = ⊤
+EndsShort due first (Ended end) =
+    (first % due.form.rows_per_strip ≡ 0) ⊎ EndsBefore end (record { page = due.page; row = first })
+
+-- the same for the row that a cursor names
+abbrev pub EndsShortAt : List ℕ → Cursor → OpenFault → Type 0
+EndsShortAt file at Memory = ⊤
+EndsShortAt file at (Ended end) = (n : ℕ) × AreRowsBefore file at n × ((n ≡ 0) ⊎ EndsBefore end at)
+
 -- the page is open with this row as the first that is handed out, and so many rows were read before
 pub record IsOpenedAt (due : PageDue) (first read : ℕ) (page : PageState) : Type 0 where
   pub is_open : IsOpen page
   pub row_due : row_of page < page.form.rows
   pub same_page : page.page ≡ due.page
   pub first_is : row_of page + skipped page ≡ first
+  pub same_first : page.first ≡ first
   pub skipped_is : skipped page ≡ first % due.form.rows_per_strip
   pub read_is : page.read ≡ read
 
@@ -100,9 +113,9 @@ pub record IsChainBefore (file : List ℕ) (number : ℕ) (chain : ChainState) :
   pub within : (offsets : List ℕ) (fault : Option FileFault) → IsChain chain.tiff.head chain.tiff.file offsets fault
       → number ≤ length offsets
 
--- from a cursor on there are no rows and no pages, and they end so
+-- from a cursor on there are no rows and no pages, and they end so; nor are there rows before it in a strip
 abbrev pub EndsAt : List ℕ → Cursor → End → Type 0
-EndsAt file at end = IsTail file at [] end × IsFormTail file at [] end
+EndsAt file at end = IsTail file at [] end × IsFormTail file at [] end × AreRowsBefore file at 0
 
 -- there is no page of this number, and from any row of it on there is nothing but this end
 abbrev pub IsEndBefore : List ℕ → ℕ → End → Type 0

@@ -11,4 +11,5 @@ returns-in-Before-clause-bounded c =
       are_before = before.1;
       all = λ some. absurd (omega (arith, some, sound.1));
       most = omega arith;
+      told = λ end told. absurd (rw c.in-Before.is at told);
     })

@@ -1,0 +1,79 @@
+-- How many rows a walk has read.
+use Rattle.std.proofs.Common.{◌≡◌, ℕ, ◌+◌, ◌-◌, ◌<◌, ◌≤◌, List, true, Result, Ok, inl, inr, refl, ap, sym, ◌∙◌, arith}
+use Rattle.std.specs.Prelude.{◌⊎◌, ◌==◌, IfOk}
+use Rattle.std.proofs.lemmas.Bool.Decides.{nat_tests}
+use Rattle.std.proofs.lemmas.Bool.{cases_lt}
+use Rattle.fax_walk.specs.declared.cursor.Cursor.{Cursor}
+use Rattle.fax_walk.specs.declared.end.End.{End}
+use Rattle.fax_walk.specs.declared.opening.OpenFault.{OpenFault}
+use Rattle.fax_walk.specs.Before.{AreRowsBefore, EndsBefore}
+use Rattle.fax_walk.specs.code.Stages.{PageState, row_of, skipped}
+use Rattle.fax_walk.specs.code.Due.{IsOpenFrom, IsOpenedFor, HasCounted, HasReadAll, GivesNone}
+use Rattle.fax_walk.specs.code.Opening.{IsOpenedBehind}
+
+-- the first page of a walk is opened
+pub counted_first : (file : List ℕ) (begun cursor : Cursor) (given : ℕ) (page : PageState) (opened result : Result PageState OpenFault)
+    → (cursor ≡ begun) × (given ≡ 0) → opened ≡ result → opened ≡ Ok page → IfOk result (IsOpenedFor cursor)
+    → IfOk result (λ page. AreRowsBefore file cursor (skipped page)) → IsOpenFrom cursor page × HasCounted file begun given page
+counted_first file begun cursor given page opened result sound same is for_cursor before =
+    let is : result ≡ Ok page = rw same at is in
+    let for_cursor = rw is at for_cursor in
+    let before = rw is at before in
+    (
+      for_cursor.0,
+      record {
+        before = skipped page;
+        are_before = rw sound.0 at before;
+        count = omega (arith, for_cursor.2, sound.1);
+        none_left = λ some. absurd (omega (arith, some, sound.1));
+        named = rw sound.0 at for_cursor.3;
+      },
+    )
+
+-- the page behind one that is read to its end is opened
+pub counted_next : (file : List ℕ) (begun cursor : Cursor) (given : ℕ) (old page : PageState) (opened result : Result PageState OpenFault)
+    → IsOpenFrom cursor old × HasCounted file begun given old → row_of old ≡ old.form.rows → old.chain.given ≡ old.page + 1
+    → opened ≡ result → opened ≡ Ok page → IfOk result (IsOpenedBehind old.chain old.read) → IsOpenFrom cursor page × HasCounted file begun given page
+counted_next file begun cursor given old page opened result (from, counted) all_read number same is behind =
+    let is : result ≡ Ok page = rw same at is in
+    let behind = rw is at behind in
+    let none : skipped page ≡ 0 = omega (arith, behind.first_is) in
+    let none_before : skipped old ≡ 0 = let first = from.is_open.first in omega (arith, all_read, first) in
+    (
+      record {
+        is_open = behind.is_open;
+        within = let due = behind.row_due in omega (arith, due);
+        behind = let few = from.is_open.limits.rows in omega (arith, from.behind, none_before, all_read, few, number, behind.same_page, behind.first_is);
+      },
+      record {
+        before = counted.before;
+        are_before = counted.are_before;
+        count = omega (arith, counted.count, none, none_before, behind.read_is);
+        none_left = λ some. none;
+        named = λ some. absurd (omega (arith, some, none));
+      },
+    )
+
+-- the rows end on the page that is open
+pub counted_last : (file : List ℕ) (begun : Cursor) (given : ℕ) (old new : PageState) (end : End) (read : ℕ) → HasCounted file begun given old
+    → GivesNone old new end → read ≡ new.read → HasReadAll file begun given end read
+counted_last file begun given old new end read counted gives is = record {
+  before = counted.before;
+  are_before = counted.are_before;
+  most = omega (arith, is, gives.most, counted.count);
+  all = λ some. omega (arith, is, gives.some, gives.most, counted.count, counted.none_left some);
+  told = by_order (cases_lt 0 (skipped old)) gives.told;
+}
+  where
+    by_order : (0 < skipped old) ⊎ (skipped old ≤ 0)
+        → (new.read ≡ old.read + skipped old) ⊎ EndsBefore end (record { page = old.page; row = old.first })
+        → (read ≡ given + counted.before) ⊎ EndsBefore end begun
+    by_order left (inl all) = inl (omega (arith, is, all, counted.count))
+    by_order (inl left) (inr before) =
+        let named : record { page = old.page; row = old.first } ≡ begun = rw ((counted.named left).0, (counted.named left).1) refl in
+        inr (rw named at before)
+    by_order (inr none) (inr before) = inl (omega (arith, is, none, gives.some, gives.most, counted.count))
+
+-- numbers that the test finds equal
+pub same_number : (a b : ℕ) → (a == b) ≡ true → a ≡ b
+same_number a b is = grind (arith, nat_tests, is)
