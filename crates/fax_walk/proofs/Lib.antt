@@ -17,3 +17,4 @@ pub mod PageAtLemmas
 pub mod PagesLemmas
 pub mod WalkLemmas
 pub mod StillDueLemmas
+pub mod RowOrderLemmas

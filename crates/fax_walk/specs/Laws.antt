@@ -1,11 +1,12 @@
 -- Laws of items and tails, and of forms, which the functions of the module `laws` prove.
-use Rattle.std.specs.Prelude.{◌≡◌, ℕ, nat_le, Bool, ◌↔◌, List, ◌∷◌, ◌++◌}
+use Rattle.std.specs.Prelude.{◌≡◌, ℕ, nat_le, Bool, ◌↔◌, List, [], ◌∷◌, ◌++◌}
 use Rattle.std.specs.List.{filter}
 use Rattle.fax_walk.specs.declared.cursor.Cursor.{Cursor}
 use Rattle.fax_walk.specs.declared.end.End.{End}
 use Rattle.fax_walk.specs.Cursor.{start}
 use Rattle.fax_walk.specs.Items.{Item, AreItems}
 use Rattle.fax_walk.specs.Tail.{behind_item, IsPrinted, IsRest, IsTail}
+use Rattle.fax_walk.specs.Before.{EndsBefore}
 use Rattle.fax_walk.specs.Forms.{FormItem, AreForms, IsFormTail, behind_page, IsPrintedPage}
 
 -- there is one list of which this holds, with one end (this project's profile)
@@ -38,6 +39,10 @@ abbrev pub TailOfPrinted : Type 0
 TailOfPrinted =
     (file : List ℕ) (at : Cursor) (items : List Item) (end : End)
     → IsPrinted file at → IsTail file at items end ↔ IsRest file at items end
+
+-- a tail from a printed cursor that has no rows ends behind the rows before the cursor's (this project's profile)
+abbrev pub PrintedTailsEndBehind : Type 0
+PrintedTailsEndBehind = (file : List ℕ) (at : Cursor) (end : End) → IsPrinted file at → IsTail file at [] end → EndsBefore end at → ⊥
 
 -- each file has forms and an end, and one list of them only (this project's profile)
 abbrev pub FilesHaveOneForms : Type 0

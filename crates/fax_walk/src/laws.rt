@@ -49,6 +49,15 @@ pub fn tails_of_printed()
     cursors_have_one_tail();
 }
 
+/// A tail from a printed cursor that has no rows ends behind the rows before the cursor's: so a walk
+/// from there has read all of them.
+pub fn printed_tails_end_behind()
+    ensures { Laws.PrintedTailsEndBehind }
+{
+    files_have_one_items();
+    tails_of_printed();
+}
+
 /// Each file has forms and an end, and one list of them only.
 pub fn files_have_one_forms()
     ensures { Laws.FilesHaveOneForms }
