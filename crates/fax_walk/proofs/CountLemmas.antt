@@ -18,8 +18,7 @@ pub counted_first : (file : List ℕ) (begun cursor : Cursor) (given : ℕ) (pag
 counted_first file begun cursor given page opened result sound same is for_cursor before =
     let is : result ≡ Ok page = rw same at is in
     let for_cursor = rw is at for_cursor in
-    let before = rw is at before in
-    (
+    let before = rw is at before in (
       for_cursor.0,
       record {
         before = skipped page;
@@ -38,8 +37,7 @@ counted_next file begun cursor given old page opened result (from, counted) all_
     let is : result ≡ Ok page = rw same at is in
     let behind = rw is at behind in
     let none : skipped page ≡ 0 = omega (arith, behind.first_is) in
-    let none_before : skipped old ≡ 0 = let first = from.is_open.first in omega (arith, all_read, first) in
-    (
+    let none_before : skipped old ≡ 0 = let first = from.is_open.first in omega (arith, all_read, first) in (
       record {
         is_open = behind.is_open;
         within = let due = behind.row_due in omega (arith, due);

@@ -56,10 +56,13 @@ module _ (endian : Endian) (file : List ℕ) (fault : Option FileFault) (p row :
     where
       rows : List (List Colour)
       rows = drop (0 % form.rows_per_strip) (shown form (joined part.strips))
+
       inside : item.row < 0 + length rows
       inside = (own_row first 0 rows item (rw part.items_are at there)).1
+
       fewer : length rows ≤ length (joined part.strips)
       fewer = omega (arith, length-drop (0 % form.rows_per_strip) (shown form (joined part.strips)), by_exchange form.exchanged (joined part.strips))
+
       by_end : (end : Option Cause) → Some stop ≡ stop_at (0 / form.rows_per_strip * form.rows_per_strip + length (joined part.strips)) end → item.row < stop.0
       by_end None is = absurd (cc is)
       by_end (Some met) is =
@@ -111,6 +114,7 @@ module _ (endian : Endian) (file : List ℕ) (fault : Option FileFault) (p row :
     where
       nothing : AreBefore items p row
       nothing item there on_page = absurd (none_there item (rw are.0 at there))
+
       by_fault : (met : Option FileFault) → end ≡ chain_end first met → Holds first items
       by_fault None end_is = absurd (cc (sym end_is ∙ is))
       by_fault (Some met) end_is =
