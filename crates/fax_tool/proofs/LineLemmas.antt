@@ -1,6 +1,6 @@
 -- Lines of rows and of pages, one after another.
-use Rattle.std.proofs.Common.{◌≡◌, List, [], ◌∷◌, refl, ap, ◌∙◌, sym}
-use Rattle.std.specs.Prelude.{Option, Some, None, Result, Ok, Err}
+use Rattle.std.proofs.Common.{◌≡◌, [], ◌∷◌, refl, ap}
+use Rattle.std.specs.Prelude.{Some, None, Err}
 use Rattle.fax_walk.specs.declared.end.End.{End}
 use Rattle.fax_walk.specs.declared.end.WalkFault.{WalkFault}
 use Rattle.fax_walk.specs.declared.end.WalkFault.TheVariants.{Memory, AtRow, CursorOutside}
@@ -9,7 +9,7 @@ use Rattle.fax_walk.specs.Forms.{FormItem}
 use Rattle.fax_walk.specs.code.Due.{WalkState, places_left}
 use Rattle.fax_walk.specs.code.Next.{HandsOut, HasEnded, IsNext}
 use Rattle.fax_walk.specs.code.Pages.{PagesState, HandsOutPage, PagesHaveEnded, IsNextPage, pages_left}
-use Rattle.fax_tool.specs.Text.{Line, line_of_row, line_of_page}
+use Rattle.fax_tool.specs.Text.{line_of_row, line_of_page}
 use Rattle.fax_tool.specs.code.Printing.{AreRowsDue, ArePagesDue, PutsLine, end_of}
 
 pub row_put : (old new : WalkState) (item : Item) → HandsOut old item new
@@ -37,7 +37,8 @@ page_put old new item hands = record {
 }
 
 pub rows_ended : (old new : WalkState) (end : End) → HasEnded old end new → AreRowsDue old [] end × (new.cursor ≡ old.cursor)
-rows_ended old new end ended = (record { items = []; due = ended.due; lines_are = refl }, ended.cursor)
+rows_ended old new end ended =
+    (record { items = []; due = ended.due; lines_are = refl }, ap (λ (walk : WalkState). walk.cursor) ended.same)
 
 pub pages_ended : (old new : PagesState) (end : End) → PagesHaveEnded old end new → ArePagesDue old [] end × (new.cursor ≡ old.cursor)
 pages_ended old new end ended = (record { items = []; due = ended.due; lines_are = refl }, ended.cursor)

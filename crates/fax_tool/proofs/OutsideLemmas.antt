@@ -1,5 +1,5 @@
 -- Nothing follows a cursor that is outside of a file.
-use Rattle.std.proofs.Common.{◌≡◌, ℕ, ◌+◌, ◌<◌, List, [], ◌∷◌, length, drop, map, inl, inr, sym, ◌∙◌, arith, refl}
+use Rattle.std.proofs.Common.{◌≡◌, ℕ, ◌+◌, ◌<◌, List, [], ◌∷◌, drop, map, inl, inr, sym, ◌∙◌, arith, refl}
 use Rattle.std.specs.Prelude.{Option, Some, None, Result, Ok, Err, slice_get}
 use Rattle.fax_files.specs.declared.FileFault.{FileFault}
 use Rattle.fax_files.specs.declared.Cause.{Cause}
@@ -12,7 +12,7 @@ use Rattle.fax_walk.specs.declared.end.End.{End}
 use Rattle.fax_walk.specs.declared.end.End.TheVariants.{Proper, Fault, Outside}
 use Rattle.fax_walk.specs.Items.{Item, chain_end, Follows, AreFromRowOf, AreFromPage, ArePagesItems}
 use Rattle.fax_walk.specs.Tail.{IsTail, IsTailUnder, IsTailOver}
-use Rattle.fax_walk.specs.Forms.{FormItem, IsFormThen, AreFormsFrom, ArePagesForms, IsFormTail, IsFormTailOf, IsFormTailOver, IsFormTailUnder}
+use Rattle.fax_walk.specs.Forms.{FormItem, IsFormThen, AreFormsFrom, ArePagesForms, IsFormTailOf, IsFormTailOver, IsFormTailUnder}
 use Rattle.fax_tool.specs.Run.{AreRowLines, ArePageLines}
 use Rattle.fax_tool.specs.Text.{Line, line_of_row, line_of_page}
 

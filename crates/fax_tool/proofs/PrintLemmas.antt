@@ -6,7 +6,7 @@ use Rattle.std.proofs.KnownBytes.{Appends-nil, Appends-trans}
 use Rattle.fax_walk.specs.declared.cursor.Cursor.{Cursor}
 use Rattle.fax_walk.specs.declared.end.End.{End}
 use Rattle.fax_tool.specs.Text.{Line, texts_of, last_cursor}
-use Rattle.fax_tool.specs.code.Printing.{PutsLine, PrintsLines, PrintsAll, EndsWith, last_line}
+use Rattle.fax_tool.specs.code.Printing.{PutsLine, PrintsLines, PrintsAll, last_line}
 
 -- the limit is so much above what is left of it, where there is one
 abbrev pub IsLeftOf : Option ℕ → Option ℕ → ℕ → Type 0

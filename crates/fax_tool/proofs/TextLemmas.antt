@@ -1,9 +1,8 @@
 -- The text of lines that are printed up to a limit or to their end.
-use Rattle.std.proofs.Common.{◌≡◌, ℕ, ◌+◌, ◌<◌, ◌≤◌, List, [], ◌++◌, length, take, refl, ap, sym, ◌∙◌, append-nil, arith, length-append, true, false}
+use Rattle.std.proofs.Common.{◌≡◌, ℕ, ◌<◌, List, [], ◌++◌, length, refl, ap, sym, ◌∙◌, append-nil, arith, length-append, true, false}
 use Rattle.std.proofs.Math.Seq.{take-append_seam}
 use Rattle.std.proofs.lemmas.Bool.{le-leb, lt-leb}
 use Rattle.std.specs.Prelude.{Option, Some, None, IfSome, IfOk, Result, Ok, Err, nat_le}
-use Rattle.std.specs.Io.KnownBytes.{Appends}
 use Rattle.fax_walk.specs.declared.cursor.Cursor.{Cursor}
 use Rattle.fax_walk.specs.declared.end.End.{End}
 use Rattle.fax_walk.specs.declared.end.End.TheVariants.{Proper, Fault, Outside}
@@ -13,7 +12,7 @@ use Rattle.fax_tool.specs.declared.refusal.Refusal.{Refusal}
 use Rattle.fax_tool.specs.declared.words.Part.{Part}
 use Rattle.fax_tool.specs.Run.{AreRowLines, ArePageLines}
 use Rattle.fax_tool.specs.Text.{Line, Printed, texts_of, last_cursor, output_of, text_of, cut_text, whole_text}
-use Rattle.fax_tool.specs.code.Printing.{AreRowsDue, ArePagesDue, EndsWith, PrintsAll, PrintsText, ending_of, error_of, status_at, last_line}
+use Rattle.fax_tool.specs.code.Printing.{AreRowsDue, ArePagesDue, EndsWith, PrintsAll, PrintsText, ending_of, last_line}
 use Rattle.fax_tool.proofs.OutsideLemmas.{row_lines_outside, page_lines_outside}
 
 not_above : (lines others : List Line) → nat_le (length lines) (length (lines ++ others)) ≡ true

@@ -1,5 +1,5 @@
 -- The text of `rows` and `list` (this project's profile).
-use Rattle.std.specs.Prelude.{ℕ, ◌+◌, Bool, nat_le, if◌then◌else◌, List, [], ◌∷◌, ◌++◌, flat_map, length, map, take, Option, Some, None, codes, decimal}
+use Rattle.std.specs.Prelude.{ℕ, Bool, nat_le, if◌then◌else◌, List, [], ◌∷◌, ◌++◌, flat_map, length, take, Option, Some, None, codes, decimal}
 use Rattle.fax_rows.specs.Elements.{runs_of}
 use Rattle.fax_page.specs.declared.Coding.{Coding}
 use Rattle.fax_page.specs.declared.Coding.TheVariants.{Mh, Mr, Mmr}

@@ -1,5 +1,5 @@
 -- Steps of printing lines.
-use Rattle.std.specs.Prelude.{◌≡◌, ℕ, ◌+◌, ◌<◌, ◌⊎◌, nat_le, if◌then◌else◌, List, [], ◌∷◌, ◌++◌, map, length, Option, Some, None, IfSome, Result, Ok, Err, codes, ⊤}
+use Rattle.std.specs.Prelude.{◌≡◌, ℕ, ◌<◌, ◌⊎◌, nat_le, if◌then◌else◌, List, [], ◌∷◌, ◌++◌, map, length, Option, Some, None, IfSome, Result, Ok, Err, codes, ⊤}
 use Rattle.std.specs.Io.KnownBytes.{Appends}
 use Rattle.fax_bits.specs.declared.Memory.{Memory as NoMemory}
 use Rattle.fax_walk.specs.declared.cursor.Cursor.{Cursor}

@@ -1,4 +1,4 @@
-use Rattle.std.proofs.Common.{rules, arith}
+use Rattle.std.proofs.Common.{rules}
 use Rattle.std.specs.String.{string_bytes}
 use Rattle.fax_tool.proofs.PrintLemmas.{one_more, emptied}
 use Rattle.fax_tool.proofs.print.print_lines.Goals as goal

@@ -1,4 +1,4 @@
-use Rattle.std.proofs.Common.{◌≡◌, refl}
+use Rattle.std.proofs.Common.{refl}
 use Rattle.fax_tool.specs.Text.{line_of_page}
 use Rattle.fax_tool.proofs.LineLemmas.{page_put, pages_refused}
 use Rattle.fax_tool.proofs.lines.PagesLines.put_next.Goals as goal

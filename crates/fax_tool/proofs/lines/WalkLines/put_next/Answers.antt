@@ -1,4 +1,4 @@
-use Rattle.std.proofs.Common.{◌≡◌, refl}
+use Rattle.std.proofs.Common.{refl}
 use Rattle.fax_tool.specs.Text.{line_of_row}
 use Rattle.fax_tool.proofs.LineLemmas.{row_put, rows_refused}
 use Rattle.fax_tool.proofs.lines.WalkLines.put_next.Goals as goal
