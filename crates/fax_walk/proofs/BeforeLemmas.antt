@@ -1,9 +1,9 @@
 -- The rows before a cursor's row in its strip are so many.
-use Rattle.std.proofs.Common.{◌≡◌, ℕ, List, Result, Ok, Err, refl}
+use Rattle.std.proofs.Common.{ℕ, List, Result, Ok, Err, refl}
 use Rattle.std.specs.Prelude.{slice_get}
 use Rattle.fax_files.specs.declared.FileFault.{FileFault}
 use Rattle.fax_files.specs.Numbers.{Header, header}
-use Rattle.fax_files.specs.Laws.{HasOneChain, FilesHaveOneChain}
+use Rattle.fax_files.specs.Laws.{FilesHaveOneChain}
 use Rattle.fax_walk.specs.declared.cursor.Cursor.{Cursor}
 use Rattle.fax_walk.specs.Before.{rows_before_at, AreRowsBefore, AreRowsBeforeUnder}
 

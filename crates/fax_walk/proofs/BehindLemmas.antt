@@ -1,8 +1,7 @@
 -- The page behind the directories that a chain has handed out.
-use Rattle.std.proofs.Common.{◌≡◌, ℕ, zero, suc, ◌+◌, ◌<◌, ◌≤◌, List, [], ◌∷◌, length, drop, Option, Some, None, Result, Ok, Err, inl, inr, refl, ap, sym, ◌∙◌, arith}
+use Rattle.std.proofs.Common.{◌≡◌, ℕ, zero, suc, ◌+◌, ◌<◌, List, [], ◌∷◌, drop, Some, None, Result, Ok, Err, inl, inr, refl, ap, ◌∙◌, arith}
 use Rattle.std.specs.Prelude.{slice_get, IfOk, IfErr}
 use Rattle.std.proofs.lemmas.List.{drop_all}
-use Rattle.fax_files.specs.declared.FileFault.{FileFault}
 use Rattle.fax_files.specs.Laws.{HasOneChain, FilesHaveOneChain}
 use Rattle.fax_files.specs.Page.{page}
 use Rattle.fax_files.specs.code.Chain.{ChainState}

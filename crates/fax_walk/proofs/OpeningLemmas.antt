@@ -1,15 +1,11 @@
 -- Pages as a chain hands them out.
-use Rattle.std.proofs.Common.{◌≡◌, ℕ, ◌+◌, ◌<◌, ◌≤◌, List, [], ◌∷◌, length, drop, Option, Some, None, Result, Ok, Err, inl, inr, refl, ap, sym, ◌∙◌, arith}
-use Rattle.std.specs.Prelude.{◌⊎◌, slice_get}
+use Rattle.std.proofs.Common.{◌≡◌, ℕ, List, Option, Some, None, Result, Ok, Err, refl, sym, ◌∙◌}
+use Rattle.std.specs.Prelude.{slice_get}
 use Rattle.fax_files.specs.declared.FileFault.{FileFault}
-use Rattle.fax_files.specs.declared.Cause.TheVariants.{File}
-use Rattle.fax_files.specs.declared.PageForm.{PageForm}
-use Rattle.fax_files.specs.Numbers.{header}
 use Rattle.fax_files.specs.Chain.{IsChain}
-use Rattle.fax_files.specs.Laws.{HasOneChain, FilesHaveOneChain}
-use Rattle.fax_files.specs.Page.{page}
+use Rattle.fax_files.specs.Laws.{FilesHaveOneChain}
 use Rattle.fax_files.specs.code.Chain.{ChainState, IsDueAnswer, answer_at}
-use Rattle.fax_files.specs.code.Tiff.{TiffFile, TiffDirectory, directory_of, form_of}
+use Rattle.fax_files.specs.code.Tiff.{TiffFile, TiffDirectory, directory_of}
 
 -- a directory that is answered stands at the place that is asked for
 answered : (tiff : TiffFile) (place : Option ℕ) (end : Option FileFault) (directory : TiffDirectory)

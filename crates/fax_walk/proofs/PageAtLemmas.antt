@@ -1,10 +1,8 @@
 -- The page that a cursor names.
-use Rattle.std.proofs.Common.{◌≡◌, ℕ, ◌+◌, ◌<◌, ◌≤◌, List, [], length, drop, Option, Some, None, Result, Ok, Err, inl, inr, refl, ap, sym, ◌∙◌, arith}
+use Rattle.std.proofs.Common.{◌≡◌, ℕ, ◌+◌, ◌<◌, ◌≤◌, List, length, drop, Option, Some, None, Result, Ok, Err, inl, inr, refl, ap, ◌∙◌, arith}
 use Rattle.std.specs.Prelude.{slice_get, nat_lt, false}
 use Rattle.std.proofs.lemmas.Bool.Decides.{nat_tests}
-use Rattle.fax_files.specs.declared.FileFault.{FileFault}
 use Rattle.fax_files.specs.declared.Cause.{Cause}
-use Rattle.fax_files.specs.declared.Cause.TheVariants.{File}
 use Rattle.fax_files.specs.declared.PageForm.{PageForm}
 use Rattle.fax_files.specs.declared.Endian.{Endian}
 use Rattle.fax_files.specs.Numbers.{header}
@@ -14,12 +12,11 @@ use Rattle.fax_files.specs.code.Chain.{ChainState}
 use Rattle.fax_files.specs.code.Tiff.{directory_of}
 use Rattle.fax_walk.specs.declared.cursor.Cursor.{Cursor}
 use Rattle.fax_walk.specs.declared.end.End.{End}
-use Rattle.fax_walk.specs.declared.end.End.TheVariants.{Proper, Fault, Outside}
+use Rattle.fax_walk.specs.declared.end.End.TheVariants.{Proper, Outside}
 use Rattle.fax_walk.specs.Items.{Item, AreFromRow, ArePagesItems, Follows}
-use Rattle.fax_walk.specs.Forms.{FormItem, ArePagesForms, IsFormThen, IsFormTail}
-use Rattle.fax_walk.specs.Tail.{IsTail}
+use Rattle.fax_walk.specs.Forms.{FormItem, ArePagesForms, IsFormThen}
 use Rattle.fax_walk.specs.code.Due.{ArePagesBehind}
-use Rattle.fax_walk.specs.code.Opening.{PageDue, IsPageDue, AreFormsBehind, AreDueFrom, IsPageAnswer, IsAnswerOver, IsChainBefore, EndsAt, IsPageOf}
+use Rattle.fax_walk.specs.code.Opening.{PageDue, IsPageDue, AreFormsBehind, IsPageAnswer, IsAnswerOver, IsChainBefore, EndsAt, IsPageOf}
 use Rattle.fax_walk.proofs.EndingLemmas.{row_behind, place_behind, fields_refused, fault_before}
 
 -- what follows a page, with another word for what the pages behind it have

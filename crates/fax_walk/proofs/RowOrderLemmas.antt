@@ -1,6 +1,5 @@
 -- A file's rows stand before its end.
-use Rattle.std.proofs.Common.{◌≡◌, ℕ, zero, suc, ◌≤◌, ◌+◌, ◌-◌, ◌*◌, ◌/◌, ◌%◌, ◌<◌, Bool, true, false, List, [], ◌∷◌, ◌++◌, map, length, drop, Option, Some, None, Result, Ok, Err, inl, inr, refl, ap, sym, ◌∙◌, arith, length-drop}
-use Rattle.std.proofs.Math.Nat.{zero-div}
+use Rattle.std.proofs.Common.{◌≡◌, ℕ, zero, suc, ◌≤◌, ◌+◌, ◌*◌, ◌/◌, ◌%◌, ◌<◌, Bool, true, false, List, [], ◌∷◌, ◌++◌, map, length, drop, Option, Some, None, Result, Ok, Err, inl, inr, refl, ap, sym, ◌∙◌, arith, length-drop}
 use Rattle.std.proofs.lemmas.List.{length-map}
 use Rattle.std.proofs.lemmas.List.Elements.{Contains-append_cases}
 use Rattle.std.specs.List.{Contains}
@@ -17,9 +16,7 @@ use Rattle.fax_files.specs.PageRows.{joined, shown}
 use Rattle.fax_walk.specs.declared.cursor.Cursor.{Cursor}
 use Rattle.fax_walk.specs.declared.end.End.{End}
 use Rattle.fax_walk.specs.declared.end.End.TheVariants.{Proper, Fault, Outside}
-use Rattle.fax_walk.specs.Items.{Item, numbered, ArePageItems, AreFromPage, ArePagesItems, AreItems, AreItemsUnder, Follows, stop_at, chain_end}
-use Rattle.fax_walk.specs.Tail.{IsTail, IsPrinted, behind_item}
-use Rattle.fax_walk.specs.Before.{EndsBefore}
+use Rattle.fax_walk.specs.Items.{Item, numbered, ArePageItems, AreFromPage, ArePagesItems, AreItemsUnder, Follows, stop_at, chain_end}
 use Rattle.fax_walk.specs.Laws.{FilesHaveOneItems, TailOfPrinted, PrintedTailsEndBehind}
 
 none_there : {A : Type 0} (x : A) → Contains [] x → ⊥

@@ -1,5 +1,5 @@
 -- Each walk has rows that are due, and an end, and each reader of pages has pages.
-use Rattle.std.proofs.Common.{◌≡◌, ℕ, zero, suc, ◌+◌, ◌-◌, ◌*◌, ◌<◌, ◌≤◌, inl, inr, Bool, List, [], ◌∷◌, ◌++◌, length, drop, Option, Some, None, refl, arith}
+use Rattle.std.proofs.Common.{◌≡◌, ℕ, zero, suc, ◌+◌, ◌-◌, ◌<◌, ◌≤◌, inl, inr, Bool, List, [], ◌∷◌, ◌++◌, length, drop, Option, Some, None, refl, arith}
 use Rattle.fax_bits.specs.declared.Colour.{Colour}
 use Rattle.fax_bits.specs.Bits.{bits}
 use Rattle.fax_page.specs.declared.StripForm.{StripForm}
@@ -21,7 +21,7 @@ use Rattle.fax_walk.specs.declared.end.End.TheVariants.{Fault}
 use Rattle.fax_walk.specs.Items.{Item, numbered, stop_at, Follows}
 use Rattle.fax_walk.specs.Forms.{FormItem}
 use Rattle.fax_walk.specs.code.Stages.{PageState, row_of, skipped}
-use Rattle.fax_walk.specs.code.Due.{AreStripsBehind, IsLeftOnPage, ArePagesBehind, IsDueOnPage}
+use Rattle.fax_walk.specs.code.Due.{AreStripsBehind, ArePagesBehind, IsDueOnPage}
 use Rattle.fax_walk.specs.code.Opening.{AreFormsBehind}
 use Rattle.fax_walk.proofs.OneTailLemmas.{one_of_pages}
 use Rattle.fax_walk.proofs.OneFormLemmas.{one_of_pages as one_of_forms}

@@ -1,16 +1,16 @@
 -- Steps of a walk.
-use Rattle.std.proofs.Common.{◌≡◌, ℕ, ◌+◌, ◌-◌, ◌^◌, ◌<◌, ◌≤◌, List, [], ◌∷◌, Result, Ok, refl, ap, sym, ◌∙◌, arith}
+use Rattle.std.proofs.Common.{◌≡◌, ℕ, ◌+◌, ◌-◌, ◌^◌, ◌<◌, List, Result, Ok, refl, ap, ◌∙◌, arith}
 use Rattle.std.specs.Prelude.{IfOk}
 use Rattle.fax_walk.specs.declared.end.End.{End}
 use Rattle.fax_walk.specs.declared.opening.OpenFault.{OpenFault}
-use Rattle.fax_walk.specs.declared.walk.Stage.TheVariants.{Before, Open, Ended}
+use Rattle.fax_walk.specs.declared.walk.Stage.TheVariants.{Before, Open}
 use Rattle.fax_walk.specs.Items.{Item}
 use Rattle.fax_walk.specs.Tail.{IsTail}
 use Rattle.fax_walk.specs.code.Stages.{PageState, row_of, skipped}
 use Rattle.fax_walk.specs.declared.cursor.Cursor.{Cursor}
-use Rattle.fax_walk.specs.code.Due.{WalkState, IsDue, IsDueOnPage, IsOpenedFor, IsOpenFrom, GivesRow, place_number, places_left}
+use Rattle.fax_walk.specs.code.Due.{WalkState, IsDue, IsDueOnPage, IsOpenedFor, IsOpenFrom, GivesRow, place_number}
 use Rattle.fax_walk.specs.code.Opening.{IsOpenedBehind}
-use Rattle.fax_walk.specs.code.Next.{IsEntered, HandsOut, StepsAs}
+use Rattle.fax_walk.specs.code.Next.{IsEntered, StepsAs}
 
 -- a page that takes the place of what is due: what it has is due, and a row of it is due
 pub record TakesPlace (walk : WalkState) (page : PageState) : Type 0 where

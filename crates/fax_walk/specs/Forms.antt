@@ -1,6 +1,6 @@
 -- The forms of a file's pages, and what follows a cursor among them.
 use Rattle.std.specs.Prelude.{◌≡◌, ℕ, ◌+◌, ◌<◌, ◌≤◌, ◌⊎◌, List, [], ◌∷◌, length, drop, Option, Some, None, Result, Ok, Err, slice_get}
-use Rattle.std.specs.List.{filter, Contains}
+use Rattle.std.specs.List.{Contains}
 use Rattle.fax_files.specs.declared.FileFault.{FileFault}
 use Rattle.fax_files.specs.declared.Cause.TheVariants.{File}
 use Rattle.fax_files.specs.declared.PageForm.{PageForm}

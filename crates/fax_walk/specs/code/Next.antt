@@ -16,7 +16,7 @@ use Rattle.fax_walk.specs.contracts.walk.Walk.{the_row}
 use Rattle.fax_walk.specs.Items.{Item}
 use Rattle.fax_walk.specs.Tail.{behind_item}
 use Rattle.fax_walk.specs.Before.{AreRowsBefore, EndsBefore}
-use Rattle.fax_walk.specs.code.Stages.{row_of, skipped}
+use Rattle.fax_walk.specs.code.Stages.{row_of}
 use Rattle.fax_walk.specs.code.Due.{WalkState, IsDue, places_left}
 
 -- the walk, once the row that it lends is given back, is so

@@ -10,7 +10,7 @@ use Rattle.fax_files.specs.code.Chain.{ChainState}
 use Rattle.fax_files.specs.code.Tiff.{TiffDirectory, directory_of, form_of}
 use Rattle.fax_walk.specs.declared.cursor.Cursor.{Cursor}
 use Rattle.fax_walk.specs.declared.end.End.{End}
-use Rattle.fax_walk.specs.declared.end.End.TheVariants.{Proper, Fault, Outside}
+use Rattle.fax_walk.specs.declared.end.End.TheVariants.{Proper, Fault}
 use Rattle.fax_walk.specs.declared.opening.OpenFault.{OpenFault}
 use Rattle.fax_walk.specs.declared.opening.OpenFault.TheVariants.{Memory, Ended}
 use Rattle.fax_walk.specs.Items.{Item, AreFromRow}

@@ -1,4 +1,4 @@
-use Rattle.std.proofs.Common.{◌≡◌, ◌≤◌, Ok, Err, ap, sym, ◌∙◌, arith}
+use Rattle.std.proofs.Common.{◌≡◌, ◌≤◌, Ok, ap, ◌∙◌, arith}
 use Rattle.fax_walk.proofs.EndingLemmas.{goes_on, none_before, fault_before_page}
 use Rattle.fax_walk.proofs.opening.chain_before.Goals as goal
 

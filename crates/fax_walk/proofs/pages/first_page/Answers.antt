@@ -1,4 +1,4 @@
-use Rattle.std.proofs.Common.{◌≡◌, ◌<◌, ◌^◌, sym, arith}
+use Rattle.std.proofs.Common.{◌<◌, ◌^◌, sym, arith}
 use Rattle.fax_walk.proofs.PagesLemmas.{if_behind}
 use Rattle.fax_walk.proofs.pages.first_page.Goals as goal
 

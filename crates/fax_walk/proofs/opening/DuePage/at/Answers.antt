@@ -1,4 +1,4 @@
-use Rattle.std.proofs.Common.{◌≡◌, ap, sym, ◌∙◌, arith}
+use Rattle.std.proofs.Common.{sym, arith}
 use Rattle.std.proofs.lemmas.Result.{err_from_is_err_and}
 use Rattle.fax_walk.proofs.PageAtLemmas.{refused_at, last_at, behind_last_at, outside_at, page_at}
 use Rattle.fax_walk.proofs.opening.DuePage.at.Goals as goal

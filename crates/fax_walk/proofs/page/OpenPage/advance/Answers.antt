@@ -1,4 +1,4 @@
-use Rattle.std.proofs.Common.{[], sym, arith, Fits, w64}
+use Rattle.std.proofs.Common.{[], sym, arith}
 use Rattle.fax_walk.proofs.DueLemmas.{row_read, fault_met, kept_open, kept_read}
 use Rattle.fax_walk.proofs.page.OpenPage.advance.Goals as goal
 

@@ -1,5 +1,4 @@
-use Rattle.std.proofs.Common.{◌≡◌, ◌+◌, ◌*◌, ◌-◌, ◌<◌, ap, arith, sym, ◌∙◌, min}
-use Rattle.fax_page.specs.declared.StripForm.{StripForm}
+use Rattle.std.proofs.Common.{sym}
 use Rattle.fax_walk.proofs.DueLemmas.{strip_outside, next_begins, more_strips}
 use Rattle.fax_walk.proofs.page.OpenPage.next_strip.Goals as goal
 

@@ -1,4 +1,4 @@
-use Rattle.std.proofs.Common.{◌≡◌, sym}
+use Rattle.std.proofs.Common.{sym}
 use Rattle.fax_walk.proofs.BehindLemmas.{items_so, refused_so}
 use Rattle.fax_walk.proofs.DueLemmas.{pages_due}
 use Rattle.fax_walk.proofs.page.OpenPage.open_next.Goals as goal

@@ -1,4 +1,3 @@
-use Rattle.std.proofs.Common.{◌≡◌, sym}
 use Rattle.fax_walk.proofs.PagesLemmas.{due_behind}
 use Rattle.fax_walk.proofs.pages.Pages.due.Goals as goal
 

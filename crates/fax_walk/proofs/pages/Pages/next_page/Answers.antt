@@ -1,4 +1,4 @@
-use Rattle.std.proofs.Common.{◌≡◌, ◌<◌, ◌^◌, sym, ap, arith}
+use Rattle.std.proofs.Common.{◌<◌, ◌^◌, sym, ap, arith}
 use Rattle.fax_walk.proofs.PagesLemmas.{page_given}
 use Rattle.fax_walk.proofs.pages.Pages.next_page.Goals as goal
 

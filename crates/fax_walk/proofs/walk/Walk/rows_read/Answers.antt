@@ -1,4 +1,4 @@
-use Rattle.std.proofs.Common.{sym, arith}
+use Rattle.std.proofs.Common.{arith}
 use Rattle.fax_walk.proofs.BeforeLemmas.{some_before}
 use Rattle.fax_walk.proofs.walk.Walk.rows_read.Goals as goal
 
