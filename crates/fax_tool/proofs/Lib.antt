@@ -4,3 +4,6 @@ pub mod LineLemmas
 pub mod OutsideLemmas
 pub mod TextLemmas
 pub mod RunLemmas
+pub mod ReportLemmas
+pub mod StopLemmas
+pub mod CommandLemmas

@@ -3,6 +3,7 @@
 //! The program is `run` over `parse_words`: `main` only gathers the words and opens the streams.
 #![tactic(auto)]
 
+mod fault;
 pub mod laws;
 mod lines;
 mod print;

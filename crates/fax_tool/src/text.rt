@@ -1,21 +1,24 @@
 //! The lines that the program prints.
-ghost use Rattle.std.specs.Prelude.{◌≡◌, ◌≤◌, ◌++◌, List, OnOk, IfOk, flat_map, codes, decimal, length, map};
-ghost use Rattle.std.specs.String.{string_bytes, string_len};
+ghost use Rattle.std.specs.Prelude.{◌≡◌, ◌++◌, ◌+◌, ◌≤◌, OnErr, OnOk, decimal};
+ghost use Rattle.std.specs.String.{string_bytes};
+ghost use Rattle.arrayvec.specs.ArrayString.{array_string_len};
 ghost use Rattle.fax_files.specs.Written.{fill_order_of};
-ghost use Rattle.fax_tool.specs.Text.{and_coding, and_fraction, and_number, fault_line, next_line, page_line_of};
-ghost use Rattle.fax_tool.specs.Text.{row_line_of};
-ghost use Rattle.fax_tool.specs.code.Printing.{last_line};
+ghost use Rattle.fax_tool.specs.Text.{and_coding, and_fraction, and_number, page_line_of, row_line_of};
+ghost use Rattle.fax_tool.specs.code.Printing.{Extends};
 
+use arrayvec::ArrayString;
 use fax_bits::Memory;
-use fax_files::{Cause, Coding, FillOrder, PageForm};
-use fax_walk::{Cursor, End, Place};
+use fax_files::{Coding, FillOrder, PageForm};
+use fax_walk::Place;
 use itoa::Buffer;
-use std::alloc::Global;
+
+/// The line of a page, which is made without memory.
+type PageLine = ArrayString<136>;
 
 /// Appends a number in decimals.
 fn put_decimal(text: &mut String, number: u32) -> Result<(), Memory>
     ensures ok { OnOk result (string_bytes text.new ≡ string_bytes text.old ++ decimal number) }
-    ensures no_shorter { string_len text.old ≤ string_len text.new }
+    ensures err { OnErr result (Extends (string_bytes text.old) (string_bytes text.new)) }
 {
     let mut digits = Buffer::new();
     put(text, digits.format(number))
@@ -24,27 +27,16 @@ fn put_decimal(text: &mut String, number: u32) -> Result<(), Memory>
 /// Appends a blank and a number in decimals.
 fn put_number(text: &mut String, number: u32) -> Result<(), Memory>
     ensures ok { OnOk result (string_bytes text.new ≡ string_bytes text.old ++ and_number number) }
-    ensures no_shorter { string_len text.old ≤ string_len text.new }
+    ensures err { OnErr result (Extends (string_bytes text.old) (string_bytes text.new)) }
 {
     put(text, " ")?;
     put_decimal(text, number)
 }
 
-/// Appends a blank and a fraction: two numbers in decimals with a stroke between them.
-fn put_fraction(text: &mut String, value: (u32, u32)) -> Result<(), Memory>
-    ensures ok { OnOk result (string_bytes text.new ≡ string_bytes text.old ++ and_fraction value) }
-    ensures no_shorter { string_len text.old ≤ string_len text.new }
-{
-    let (over, under) = value;
-    put_number(text, over)?;
-    put(text, "/")?;
-    put_decimal(text, under)
-}
-
 /// Appends a text.
 fn put(text: &mut String, more: &str) -> Result<(), Memory>
     ensures ok { OnOk result (string_bytes text.new ≡ string_bytes text.old ++ more.now) }
-    ensures no_shorter { string_len text.old ≤ string_len text.new }
+    ensures err { OnErr result (Extends (string_bytes text.old) (string_bytes text.new)) }
 {
     text.push_str(more).map_err(|_| Memory)
 }
@@ -53,7 +45,7 @@ fn put(text: &mut String, more: &str) -> Result<(), Memory>
 #[tactic(auto, unfolding(crate::specs::Text::row_line_of))]
 pub fn put_row_line(text: &mut String, place: Place, runs: &[u32]) -> Result<(), Memory>
     ensures ok { OnOk result (string_bytes text.new ≡ string_bytes text.old ++ row_line_of place.page place.row runs.now) }
-    ensures no_shorter { string_len text.old ≤ string_len text.new }
+    ensures err { OnErr result (Extends (string_bytes text.old) (string_bytes text.new)) }
 {
     put(text, "row")?;
     put_number(text, place.page)?;
@@ -85,64 +77,55 @@ fn order_number(order: FillOrder) -> u32
     }
 }
 
-/// Appends the line of a page: `page P`, the numbers of its form, and its resolution.
+/// Appends a blank and a number in decimals.
+fn push_number(line: &mut PageLine, number: u32)
+    requires { array_string_len line.old + 11 ≤ 136 }
+    ensures text { line.new.bytes ≡ line.old.bytes ++ and_number number }
+    ensures len { array_string_len line.new ≤ array_string_len line.old + 11 }
+{
+    let mut digits = Buffer::new();
+    line.push_str(" ");
+    line.push_str(digits.format(number));
+}
+
+/// Appends a blank and a fraction: two numbers in decimals with a stroke between them.
+fn push_fraction(line: &mut PageLine, value: (u32, u32))
+    requires { array_string_len line.old + 22 ≤ 136 }
+    ensures text { line.new.bytes ≡ line.old.bytes ++ and_fraction value }
+    ensures len { array_string_len line.new ≤ array_string_len line.old + 22 }
+{
+    let (over, under) = value;
+    let mut digits = Buffer::new();
+    push_number(line, over);
+    line.push_str("/");
+    line.push_str(digits.format(under));
+}
+
+/// The line of a page: `page P`, the numbers of its form, and its resolution.
 #[tactic(auto, unfolding(crate::specs::Text::page_line_of))]
+fn page_line(page: u32, form: &PageForm) -> PageLine
+    ensures { result.bytes ≡ page_line_of page form.now }
+{
+    let mut line = PageLine::new();
+    line.push_str("page");
+    push_number(&mut line, page);
+    push_number(&mut line, form.width);
+    push_number(&mut line, form.rows);
+    line.push_str(coding_text(form.coding));
+    push_number(&mut line, order_number(form.order));
+    push_number(&mut line, u32::from(form.exchanged));
+    push_number(&mut line, form.strips);
+    push_fraction(&mut line, form.x);
+    push_fraction(&mut line, form.y);
+    push_number(&mut line, u32::from(form.unit));
+    line.push_str("\n");
+    line
+}
+
+/// Appends the line of a page.
 pub fn put_page_line(text: &mut String, page: u32, form: &PageForm) -> Result<(), Memory>
     ensures ok { OnOk result (string_bytes text.new ≡ string_bytes text.old ++ page_line_of page form.now) }
-    ensures no_shorter { string_len text.old ≤ string_len text.new }
+    ensures err { OnErr result (Extends (string_bytes text.old) (string_bytes text.new)) }
 {
-    put(text, "page")?;
-    put_number(text, page)?;
-    put_number(text, form.width)?;
-    put_number(text, form.rows)?;
-    put(text, coding_text(form.coding))?;
-    put_number(text, order_number(form.order))?;
-    put_number(text, u32::from(form.exchanged))?;
-    put_number(text, form.strips)?;
-    put_fraction(text, form.x)?;
-    put_fraction(text, form.y)?;
-    put_number(text, u32::from(form.unit))?;
-    put(text, "\n")
-}
-
-/// Appends the line that a run ends with where rows are left: `next` and the cursor.
-pub fn put_next_line(text: &mut String, cursor: Cursor) -> Result<(), Memory>
-    ensures { OnOk result (string_bytes text.new ≡ string_bytes text.old ++ next_line cursor) }
-{
-    put(text, "next ")?;
-    cursor.put_text(text)?;
-    put(text, "\n")
-}
-
-/// The line of a fault in the input: `fault page P row R`, the fault's name, and the tag of the
-/// field at fault.
-#[tactic(auto, unfolding(crate::specs::Text::fault_line))]
-pub fn fault_text(alloc: Global, page: u32, row: u32, cause: Cause) -> Result<String, Memory>
-    ensures { IfOk result (λ text. string_bytes text ≡ fault_line page row cause) }
-{
-    let (name, tag) = cause.name();
-    let mut text = String::new(alloc);
-    put(&mut text, "fault page")?;
-    put_number(&mut text, page)?;
-    put(&mut text, " row")?;
-    put_number(&mut text, row)?;
-    put(&mut text, ": ")?;
-    put(&mut text, name)?;
-    if let Some(tag) = tag {
-        put_number(&mut text, u32::from(tag))?;
-    }
-    put(&mut text, "\n")?;
-    Ok(text)
-}
-
-/// Appends the last line of the output: `end`, or where to go on, or none for a cursor outside of
-/// the file. Where printing ended at its limit there is no end.
-pub fn put_last_line(text: &mut String, end: Option<End>, cursor: Cursor) -> Result<(), Memory>
-    ensures { OnOk result (string_bytes text.new ≡ string_bytes text.old ++ last_line end cursor) }
-{
-    match end {
-        Some(End::Proper) => put(text, "end\n"),
-        Some(End::Outside) => Ok(()),
-        Some(End::Fault { .. }) | None => put_next_line(text, cursor),
-    }
+    put(text, page_line(page, form).as_str())
 }
