@@ -1,6 +1,7 @@
 //! The walk over the rows of a TIFF-F file, from its bytes to rows with their places.
 #![tactic(auto)]
 
+mod checking;
 mod conversion;
 mod cursor;
 mod end;
@@ -11,6 +12,7 @@ mod page;
 mod pages;
 mod walk;
 
+pub use checking::{Note, NoteKind, Report, check};
 pub use conversion::convert;
 pub use cursor::{Cursor, NotACursor};
 pub use end::{End, WalkFault};
