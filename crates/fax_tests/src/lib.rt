@@ -2,6 +2,8 @@
 #![tactic(auto)]
 
 #[cfg(test)]
+mod conversion;
+#[cfg(test)]
 mod files;
 #[cfg(test)]
 mod pbm;

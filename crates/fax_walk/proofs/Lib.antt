@@ -18,3 +18,4 @@ pub mod PagesLemmas
 pub mod WalkLemmas
 pub mod StillDueLemmas
 pub mod RowOrderLemmas
+pub mod ConversionLemmas

@@ -3,5 +3,8 @@ pub mod Items
 pub mod Tail
 pub mod Before
 pub mod Forms
+pub mod Converted
 pub mod Laws
+pub mod NoteNames
+pub mod Report
 pub mod code

@@ -4,3 +4,4 @@ pub mod Due
 pub mod Opening
 pub mod Next
 pub mod Pages
+pub mod Conversion

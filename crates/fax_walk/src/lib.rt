@@ -1,19 +1,25 @@
 //! The walk over the rows of a TIFF-F file, from its bytes to rows with their places.
 #![tactic(auto)]
 
+mod checking;
+mod conversion;
 mod cursor;
 mod end;
 pub mod laws;
 mod opening;
+mod options;
 mod page;
 mod pages;
 mod walk;
 
+pub use checking::{Note, NoteKind, Report, check};
+pub use conversion::convert;
 pub use cursor::{Cursor, NotACursor};
 pub use end::{End, WalkFault};
 pub use fax_bits::Memory;
 pub use fax_files::{Cause, FileFault};
 pub use fax_page::StripFault;
 pub use fax_rows::Row;
+pub use options::{ConvertFault, Options, Target};
 pub use pages::Pages;
 pub use walk::{Place, Walk};

@@ -1,0 +1,48 @@
+-- The images of a file, counted.
+use Rattle.std.proofs.Common.{◌≡◌, ℕ, ◌+◌, ◌≤◌, ◌<◌, inl, inr, List, [], ◌∷◌, ◌++◌, length, Option, Some, None, refl, sym, ap, subst, ◌∙◌, arith, append_assoc, append-nil}
+use Rattle.std.proofs.lemmas.List.{length-append}
+use Rattle.fax_files.specs.declared.pbm.PbmFault.{PbmFault}
+use Rattle.fax_files.specs.Pbm.{Image, IsImage, IsImageFault, AreImages}
+use Rattle.fax_walk.specs.declared.options.ConvertFault.TheVariants.{Pbm as PbmSource}
+use Rattle.fax_walk.specs.code.Conversion.{AreImagesRead, IsImageCount, IsImagesFault}
+
+pub none_read : (bytes : List ℕ) → AreImagesRead bytes bytes 0
+none_read bytes = record { images = []; count_is = refl; behind = λ more end are. are }
+
+pub one_more : (bytes left : List ℕ) (count : ℕ) (image : Image) (rest : List ℕ) → AreImagesRead bytes left count → IsImage left image rest
+    → AreImagesRead bytes rest (count + 1)
+one_more bytes left count image rest read is = record {
+  images = read.images ++ image ∷ [];
+  count_is = length-append read.images (image ∷ []) ∙ ap (λ n. n + 1) read.count_is;
+  behind = λ more end are.
+      subst (λ (l : List Image). AreImages bytes l end) (sym (append_assoc read.images (image ∷ []) more))
+      (read.behind (image ∷ more) end (rest, is, are));
+}
+
+pub all_read : (bytes left : List ℕ) (count : ℕ) → AreImagesRead bytes left count → left ≡ [] → IsImageCount bytes count
+all_read bytes left count read empty = record {
+  images = read.images ++ [];
+  count_is = ap length (append-nil read.images) ∙ read.count_is;
+  are = read.behind [] None (inl (empty, refl));
+}
+
+pub fault_met : (bytes left : List ℕ) (count : ℕ) (fault : PbmFault) → AreImagesRead bytes left count → (left ≡ [] → ⊥) → IsImageFault left fault
+    → IsImagesFault bytes (PbmSource count fault)
+fault_met bytes left count fault read some is = record {
+  images = read.images ++ [];
+  fault = fault;
+  are = read.behind [] (Some fault) (inr (fault, some, is, refl));
+  answer_is = ap (λ n. PbmSource n fault) (sym (ap length (append-nil read.images) ∙ read.count_is));
+}
+
+-- an image has bytes of its own
+pub image_is_long : (bytes : List ℕ) (image : Image) (rest : List ℕ) → IsImage bytes image rest → length rest < length bytes
+image_is_long bytes image rest is =
+    let h = is.head in
+    let spelled = ap length h.spelled in
+    let raster = length-append is.raster rest in
+    let digits = length-append h.height_digits (h.space ∷ (is.raster ++ rest)) in
+    let second = length-append h.second_gap (h.height_digits ++ h.space ∷ (is.raster ++ rest)) in
+    let width = length-append h.width_digits (h.second_gap ++ (h.height_digits ++ h.space ∷ (is.raster ++ rest))) in
+    let first = length-append h.first_gap (h.width_digits ++ (h.second_gap ++ (h.height_digits ++ h.space ∷ (is.raster ++ rest)))) in
+    omega (arith, spelled, raster, digits, second, width, first)

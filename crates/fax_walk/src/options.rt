@@ -1,0 +1,65 @@
+//! What a file is converted to, and why it is not.
+ghost use Rattle.std.specs.Prelude.{◌≡◌, ◌<◌};
+ghost use Rattle.std.specs.Option.{ForSome};
+
+use crate::Cause;
+use fax_bits::Memory;
+use fax_files::{FillOrder, PbmFault};
+use thiserror::Error;
+
+/// What a file is turned into.
+#[derive(Clone, Copy, Debug, PartialEq, Eq)]
+pub enum Target {
+    /// Raw PBM.
+    Pbm,
+    /// TIFF, with rows coded one by one (T.4, section 4.1).
+    Mh,
+    /// TIFF, with rows coded over one another (T.4, section 4.2).
+    Mr,
+    /// TIFF, with rows coded over one another (T.6).
+    Mmr,
+}
+
+/// How a file is written. For PBM only the target is looked at.
+#[derive(Clone, Copy, Debug, PartialEq, Eq)]
+pub struct Options {
+    pub target: Target,
+    /// Which bit of a byte is first.
+    pub order: FillOrder,
+    /// In MR, a row in this many is coded by itself; at least 1.
+    pub k: u32,
+    /// The rows of a strip, at least 1, or none where a page is one strip.
+    pub strip: Option<u32>,
+    ghost some_k: { 0 < k },
+    ghost some_strip: { ForSome strip (λ rows. 0 < rows) },
+}
+
+/// Why a file is not converted.
+#[derive(Clone, Copy, Debug, PartialEq, Eq, Error)]
+pub enum ConvertFault {
+    /// The bytes begin neither with `P4` nor with `II` or `MM`.
+    #[error("the input is neither raw PBM nor TIFF")]
+    UnknownInput,
+    /// The first fault of a PBM, at this image, from 0.
+    #[error("image {image}: {fault}")]
+    Pbm { image: u64, fault: PbmFault },
+    /// The first fault of a TIFF file, where this row of a page was due, both from 0.
+    #[error("page {page} row {row}: {cause}")]
+    Source { page: u32, row: u32, cause: Cause },
+    /// What is written has more than 268,435,456 bytes, or a TIFF file more than 65,535 pages.
+    #[error("the output is too large")]
+    OutputTooLarge,
+    /// A growth was refused.
+    #[error("out of memory")]
+    Memory,
+}
+
+impl From<Memory> for ConvertFault {
+    ghost use Rattle.fax_walk.specs.declared.options.ConvertFault.TheVariants.{Memory as NoMemory};
+
+    ghost from_gives = { λ _ gives. gives ≡ NoMemory };
+
+    fn from(_refused: Memory) -> Self {
+        ConvertFault::Memory
+    }
+}
