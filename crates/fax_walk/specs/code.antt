@@ -5,3 +5,5 @@ pub mod Opening
 pub mod Next
 pub mod Pages
 pub mod Conversion
+pub mod OpenStrips
+pub mod Output

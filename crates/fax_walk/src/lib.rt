@@ -6,10 +6,13 @@ mod conversion;
 mod cursor;
 mod end;
 pub mod laws;
+mod open_strips;
 mod opening;
 mod options;
+mod output;
 mod page;
 mod pages;
+mod sheet;
 mod walk;
 
 pub use checking::{Note, NoteKind, Report, check};
