@@ -4,3 +4,4 @@ pub mod LineLemmas
 pub mod OutsideLemmas
 pub mod TextLemmas
 pub mod RunLemmas
+mod NumberLemmas

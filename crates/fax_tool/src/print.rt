@@ -76,7 +76,6 @@ fn behind_one(left: Option<u32>) -> Option<u32>
 /// Prints the lines that are due, up to the limit, behind the text that is collected, and answers
 /// how they ended, or `None` at the limit. All of the text is written then.
 fn print_lines<L: Lines, W: Sink>(
-    alloc: Global,
     lines: &mut L,
     max: Option<u32>,
     text: &mut String,
@@ -98,7 +97,7 @@ fn print_lines<L: Lines, W: Sink>(
         }
         let cursor = lines.cursor();
         let whole = text.len();
-        match lines.put_next(alloc, text) {
+        match lines.put_next(text) {
             Ok(None) => left = behind_one(left),
             Ok(Some(end)) => {
                 write_out(out, text)?;
@@ -115,7 +114,6 @@ fn print_lines<L: Lines, W: Sink>(
 /// Prints the lines that are due, up to the limit, and the last line, and answers how the lines
 /// ended, or `None` at the limit.
 fn print_all<L: Lines, W: Sink>(
-    alloc: Global,
     lines: &mut L,
     max: Option<u32>,
     text: &mut String,
@@ -127,7 +125,7 @@ fn print_all<L: Lines, W: Sink>(
         (W.written out.old) (W.written out.new)) }
     ensures reason { IfErr result (λ refusal. HasReason refusal no_faults 0 (W.counts out.new)) }
 {
-    let ending = print_lines(alloc, lines, max, text, out)?;
+    let ending = print_lines(lines, max, text, out)?;
     put_last_line(text, ending, lines.cursor())?;
     write_out(out, text)?;
     Ok(ending)
@@ -152,7 +150,7 @@ pub fn rows<R: Source, W: Sink>(
     let mut text = empty_text(alloc)?;
     let file = read_whole(alloc, input)?;
     let mut walk = Walk::resume(alloc, &file, part.cursor);
-    print_all(alloc, &mut walk, part.max, &mut text, out)
+    print_all(&mut walk, part.max, &mut text, out)
 }
 
 /// Reads the input whole and prints the forms of its pages from the cursor on, up to the limit, and
@@ -174,5 +172,5 @@ pub fn list<R: Source, W: Sink>(
     let mut text = empty_text(alloc)?;
     let file = read_whole(alloc, input)?;
     let mut pages = Pages::resume(&file, part.cursor);
-    print_all(alloc, &mut pages, part.max, &mut text, out)
+    print_all(&mut pages, part.max, &mut text, out)
 }
