@@ -230,6 +230,8 @@ fn packs_and_unpacks_rows(rt: HostRuntime) -> Result<(), Fail> {
         row.runs(rt.alloc())?.as_slice(),
         [0u32, 3, 2, 3, 1, 1, 1].as_slice()
     );
+    row.set_packed(&[0b1000_0001, 0b1101_1111]);
+    assert_eq!(rt; row.changes(), [0u32, 1, 7, 10].as_slice());
     Ok(())
 }
 

@@ -17,6 +17,7 @@ mod two_dimensional;
 use fax_bits::CodeFault;
 pub use fax_bits::{BitSink, BitSource, Colour, FillOrder, Memory};
 pub use lanes::first_other;
+pub use longest_runs::LongestRuns;
 pub use one_dimensional::read_1d;
 pub use pels::Row;
 pub use places::b1_b2;

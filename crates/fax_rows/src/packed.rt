@@ -31,10 +31,20 @@ impl Row {
         ensures same_width { IfOk result (λ row. length row ≡ width) }
     {
         let mut row = Row::white(alloc, width)?;
-        let places = row.places.as_mut_slice();
-        let end = places_of_bits(bytes, places, width);
-        row.end = close(places, end, width);
+        row.set_packed(bytes);
         Ok(row)
+    }
+
+    /// Takes the pels that these bytes hold: pel `i` is black where bit `i` is 1, the highest bit of
+    /// each byte first. The bits behind the last pel are ignored. It takes no memory.
+    pub fn set_packed(&mut self, bytes: &[u8])
+        requires { length bytes.now ≡ Spec.packed_len (length self.old) }
+        ensures pels { self.new ≡ Spec.unpacked_row (length self.old) bytes.now }
+        ensures same_width { length self.new ≡ length self.old }
+    {
+        let places = self.places.as_mut_slice();
+        let end = places_of_bits(bytes, places, self.width);
+        self.end = close(places, end, self.width);
     }
 
     /// Writes the row's pels as bytes, the highest bit of each first, where 1 is black and the bits

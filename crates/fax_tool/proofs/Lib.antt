@@ -7,3 +7,4 @@ pub mod RunLemmas
 pub mod ReportLemmas
 pub mod StopLemmas
 pub mod CommandLemmas
+mod NumberLemmas

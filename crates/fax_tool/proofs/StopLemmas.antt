@@ -1,9 +1,8 @@
 -- What printing has written where memory or a write was refused.
-use Rattle.std.proofs.Common.{◌≡◌, ℕ, ◌+◌, ◌<◌, ◌≤◌, List, [], ◌∷◌, ◌++◌, length, inl, inr, refl, ap, sym, ◌∙◌, append_assoc, append-nil, arith, take}
+use Rattle.std.proofs.Common.{◌≡◌, ℕ, ◌+◌, ◌<◌, ◌≤◌, List, [], ◌∷◌, ◌++◌, length, inl, inr, refl, ap, sym, ◌∙◌, append_assoc, append-nil, arith}
 use Rattle.std.specs.Prelude.{Option, Some, None, IfSome, Result, Ok, Err, IfErr, codes}
 use Rattle.std.specs.Io.KnownBytes.{Appends}
 use Rattle.std.proofs.KnownBytes.{Appends-trans}
-use Rattle.std.proofs.Math.Seq.{take-append_seam}
 use Rattle.fax_walk.specs.declared.cursor.Cursor.{Cursor}
 use Rattle.fax_walk.specs.declared.end.End.{End}
 use Rattle.fax_walk.specs.declared.end.End.TheVariants.{Proper, Fault, Outside}
@@ -12,7 +11,7 @@ use Rattle.fax_tool.specs.declared.refusal.Refusal.TheVariants.{Memory, Read, Wr
 use Rattle.fax_tool.specs.Streams.{Counts}
 use Rattle.fax_tool.specs.Text.{Line, Printed, texts_of, last_cursor, next_line, text_of}
 use Rattle.fax_tool.specs.Run.{HasFailed, IsTextOfFirst, IsTextOfLines}
-use Rattle.fax_tool.specs.code.Printing.{Extends, PrintsLines, StopsForMemory, StopsPrinting, WritesFrontOfLines, last_line}
+use Rattle.fax_tool.specs.code.Printing.{PrintsLines, StopsForMemory, StopsPrinting, WritesFrontOfLines, last_line}
 use Rattle.fax_tool.specs.code.Transfers.{IsGivenInPart, WritesFront}
 use Rattle.fax_tool.proofs.PrintLemmas.{IsLeftOf, PrintsSome}
 use Rattle.fax_tool.proofs.TextLemmas.{whole}
@@ -86,19 +85,14 @@ stopped_for_memory old now at place max left output written new_written text cou
   behind output written new_written some.sent (text ++ next_line place) some.printed stops.front)
 )
 
-front_of : (old new : List ℕ) (whole : ℕ) → Extends old new → whole ≡ length old → take whole new ≡ old
-front_of old new whole (more, grown) same = rw (grown, same) (take-append_seam old more)
-
--- the same, where a line was begun behind the text, and the cursor's line is at hand
+-- the same, with the text and the line that says where to go on at hand
 pub stopped_behind : (old now : List Line → End → Type 0) (at place : Cursor) (max left : Option ℕ)
-    (output written new_written : Option (List ℕ)) (text grown shown next : List ℕ) (len : ℕ) (counts : Counts) (refusal : Refusal)
+    (output written new_written : Option (List ℕ)) (text shown next : List ℕ) (counts : Counts) (refusal : Refusal)
     → PrintsSome old now at place max left output written text → ((lines : List Line) × (end : End) × now lines end)
-    → Extends text grown → len ≡ length text → shown ≡ grown → next ≡ next_line place
-    → StopsForMemory refusal written new_written (take len shown ++ next) counts
+    → shown ≡ text → next ≡ next_line place → StopsForMemory refusal written new_written (shown ++ next) counts
     → StopsPrinting old at max refusal output new_written counts
-stopped_behind old now at place max left output written new_written text grown shown next len counts refusal some others extends len_is same next_is stops =
-    let front : take len shown ≡ text = rw same (front_of text grown len extends len_is) in
-    stopped_for_memory old now at place max left output written new_written text counts refusal some others (rw (front, next_is) at stops)
+stopped_behind old now at place max left output written new_written text shown next counts refusal some others same next_is stops =
+    stopped_for_memory old now at place max left output written new_written text counts refusal some others (rw (same, next_is) at stops)
 
 below : (max : Option ℕ) (count : ℕ) → IfSome max (λ limit. count < limit) → IfSome max (λ limit. count ≤ limit)
 below None count is = tt

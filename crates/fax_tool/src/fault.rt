@@ -4,9 +4,9 @@ ghost use Rattle.arrayvec.specs.ArrayString.{array_string_len};
 ghost use Rattle.fax_tool.specs.Text.{and_number, fault_line};
 ghost use Rattle.fax_tool.specs.code.Outcome as Spec;
 
+use crate::short::push_number;
 use arrayvec::ArrayString;
 use fax_walk::{Cause, End};
-use itoa::Buffer;
 
 /// A line of the error stream, which is made without memory.
 pub type ErrorLine = ArrayString<72>;
@@ -18,17 +18,6 @@ pub enum InputFault {
     CursorOutside,
     /// What is wrong where this row of a page was due, both from 0.
     AtRow { page: u32, row: u32, cause: Cause },
-}
-
-/// Appends a blank and a number in decimals.
-fn push_number(line: &mut ErrorLine, number: u32)
-    requires { array_string_len line.old + 11 ≤ 72 }
-    ensures text { line.new.bytes ≡ line.old.bytes ++ and_number number }
-    ensures len { array_string_len line.new ≤ array_string_len line.old + 11 }
-{
-    let mut digits = Buffer::new();
-    line.push_str(" ");
-    line.push_str(digits.format(number));
 }
 
 /// The line of a fault where a row was due: `fault page P row R`, the fault's name, and the tag of

@@ -7,10 +7,10 @@ ghost use Rattle.fax_tool.specs.Text.{Line};
 ghost use Rattle.fax_tool.specs.code.Printing as Spec;
 ghost use Rattle.fax_tool.specs.code.Printing.{IsLinePut};
 
-use crate::text::{put_page_line, put_row_line};
+use crate::page_line::put_page_line;
+use crate::row_line::put_row_line;
 use fax_bits::Memory;
 use fax_walk::{Cursor, End, Pages, Walk, WalkFault};
-use std::alloc::Global;
 
 /// Lines that are printed one after another. Contracts see which lines are due, and the end behind
 /// them, the cursor that stands before the first of them, and a number that each line makes less.
@@ -26,10 +26,9 @@ pub trait Lines {
         ensures { result ≡ place self.now };
 
     /// Collects the next line, or answers how the lines ended.
-    fn put_next(&mut self, alloc: Global, text: &mut String) -> Result<Option<End>, Memory>
+    fn put_next(&mut self, text: &mut String) -> Result<Option<End>, Memory>
         ensures put { IsLinePut (are_due self.old) (place self.old) (left self.old) (string_bytes text.old) result
-            (are_due self.new) (place self.new) (left self.new) (string_bytes text.new) }
-        ensures err { OnErr result (Spec.Extends (string_bytes text.old) (string_bytes text.new)) };
+            (are_due self.new) (place self.new) (left self.new) (string_bytes text.new) };
 
     /// There are lines that are due, and an end. It computes nothing.
     fn have_an_end(&self)
@@ -62,11 +61,10 @@ impl Lines for Walk<'_> {
         Walk::cursor(self)
     }
 
-    fn put_next(&mut self, alloc: Global, text: &mut String) -> Result<Option<End>, Memory> {
+    fn put_next(&mut self, text: &mut String) -> Result<Option<End>, Memory> {
         match self.next_row() {
             Ok(Some((place, row))) => {
-                let runs = row.runs(alloc)?;
-                put_row_line(text, place, &runs)?;
+                put_row_line(text, place, row)?;
                 Ok(None)
             }
             Ok(None) => Ok(Some(End::Proper)),
@@ -94,7 +92,7 @@ impl Lines for Pages<'_> {
         Pages::cursor(self)
     }
 
-    fn put_next(&mut self, _alloc: Global, text: &mut String) -> Result<Option<End>, Memory> {
+    fn put_next(&mut self, text: &mut String) -> Result<Option<End>, Memory> {
         match self.next_page() {
             Ok(Some((page, form))) => {
                 put_page_line(text, page, &form)?;

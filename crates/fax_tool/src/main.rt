@@ -6,13 +6,15 @@
 mod fault;
 pub mod laws;
 mod lines;
+mod page_line;
 mod print;
 mod refusal;
+mod row_line;
 mod run;
+mod short;
 mod streams;
 #[cfg(test)]
 mod tests;
-mod text;
 mod transfer;
 mod words;
 

@@ -1,5 +1,5 @@
 //! `rows` and `list`: the runs of each row, or the form of each page, line by line.
-ghost use Rattle.std.specs.Prelude.{◌≡◌, ◌++◌, ◌≤◌, ◌-◌, ◌<◌, IfErr, IfOk, IfSome, OnOk, [], option_map, vec_len};
+ghost use Rattle.std.specs.Prelude.{◌≡◌, ◌++◌, ◌≤◌, ◌-◌, ◌<◌, IfErr, IfOk, IfSome, OnErr, OnOk, [], option_map, vec_len};
 ghost use Rattle.std.specs.Io.KnownBytes.{Appends};
 ghost use Rattle.std.specs.String.{string_bytes};
 ghost use Rattle.fax_tool.specs.code.Outcome.{IsStopped, WritesOutput};
@@ -115,6 +115,23 @@ fn behind_one(left: Option<u32>) -> Option<u32>
     }
 }
 
+/// Collects the next line behind the text, or answers how the lines ended. The line is made apart,
+/// so that no part of it is collected where memory is refused.
+fn collect_next<L: Lines>(
+    lines: &mut L,
+    line: &mut String,
+    text: &mut String,
+) -> Result<Option<End>, Memory>
+    ensures put { Spec.IsLinePut (L.are_due lines.old) (L.place lines.old) (L.left lines.old) (string_bytes text.old) result
+        (L.are_due lines.new) (L.place lines.new) (L.left lines.new) (string_bytes text.new) }
+    ensures err { OnErr result (string_bytes text.new ≡ string_bytes text.old) }
+{
+    line.clear();
+    let ending = lines.put_next(line)?;
+    text.push_str(line.as_str()).map_err(|_| Memory)?;
+    Ok(ending)
+}
+
 /// Prints the lines that are due, up to the limit, and answers how they ended, or `None` at the
 /// limit.
 fn print_lines<L: Lines, W: Sink>(
@@ -132,6 +149,7 @@ fn print_lines<L: Lines, W: Sink>(
         (W.written out.old) (W.written out.new) (W.counts out.new)) }
 {
     let mut text = String::new(alloc);
+    let mut line = String::new(alloc);
     let mut left = max;
     loop {
         lines.have_an_end();
@@ -140,17 +158,16 @@ fn print_lines<L: Lines, W: Sink>(
             return Ok(None);
         }
         write_where_long(out, interruptions, &mut text)?;
-        let whole = text.len();
         let cursor = lines.cursor();
-        match lines.put_next(alloc, &mut text) {
+        match collect_next(lines, &mut line, &mut text) {
             Ok(None) => left = behind_one(left),
             Ok(Some(end)) => {
                 write_out(out, interruptions, &mut text)?;
                 return Ok(Some(end));
             }
             Err(Memory) => {
-                let lines = &text.as_bytes()[..whole];
-                return Err(stop_for_memory(out, interruptions, lines, &next_line(cursor)));
+                let next = next_line(cursor);
+                return Err(stop_for_memory(out, interruptions, text.as_bytes(), &next));
             }
         }
     }

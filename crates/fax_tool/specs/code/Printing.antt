@@ -30,10 +30,6 @@ pub record ArePagesDue (pages : PagesState) (lines : List Line) (end : End) : Ty
   pub due : AreFormsDue pages items end
   pub lines_are : lines ≡ map line_of_page items
 
--- a text grows at its end
-abbrev pub Extends : List ℕ → List ℕ → Type 0
-Extends old new = (more : List ℕ) × (new ≡ old ++ more)
-
 -- how lines end where a walk or a reader of pages answers so; want of memory is no end
 abbrev pub end_of : WalkFault → Option End
 end_of (AtRow page row cause) = Some (Fault page row cause)

@@ -33,7 +33,7 @@ loop-alloc-preserved g c =
     let sent = part_sent _ _ _ _ _ _ _ (g.W.Sink.written c.loop-alloc.out) _ (string_bytes c.loop-alloc.text) _ c.loop-alloc.invariant.some
     c.in_ok-write_where_long.ensures.ok in
     record {
-      some = one_more _ _ (g.L.Lines.are_due c.put_next.new.self) _ _ (g.L.Lines.place c.put_next.new.self) _ _ _ put.0 _
+      some = one_more _ _ (g.L.Lines.are_due c.collect_next.new.lines) _ _ (g.L.Lines.place c.collect_next.new.lines) _ _ _ put.0 _
           (g.W.Sink.written c.write_where_long.new.out) (string_bytes c.write_where_long.new.text) _ _ _ sent put.1
           (search rules) c.behind_one-left.ensures put.2;
       counts = c.in_ok-write_where_long.ensures.counts;
@@ -65,6 +65,5 @@ returns-in-Err-clause-err g c =
     let sent = part_sent _ _ _ _ _ _ _ (g.W.Sink.written c.loop-alloc.out) _ (string_bytes c.loop-alloc.text) _ c.loop-alloc.invariant.some
     c.in_ok-write_where_long.ensures.ok in
     stopped_behind _ (g.L.Lines.are_due c.loop-alloc.lines) _ (g.L.Lines.place c.loop-alloc.lines) _ c.loop-alloc.left _
-    (g.W.Sink.written c.write_where_long.new.out) _ (string_bytes c.write_where_long.new.text) (string_bytes c.put_next.new.text)
-    c.as_bytes.result.now c.deref.result.now c.len-whole.result _ _ sent c.have_an_end.ensures c.in-Err.ensures.err (search rules)
-    c.as_bytes.ensures.value (search rules) c.stop_for_memory.ensures
+    (g.W.Sink.written c.write_where_long.new.out) _ (string_bytes c.write_where_long.new.text) c.as_bytes.result.now c.deref.result.now _ _
+    sent c.have_an_end.ensures (c.as_bytes.ensures.value ∙ c.in-Err.ensures.err) (search rules) c.stop_for_memory.ensures

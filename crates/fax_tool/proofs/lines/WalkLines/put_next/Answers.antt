@@ -6,8 +6,7 @@ use Rattle.fax_tool.proofs.lines.WalkLines.put_next.Goals as goal
 pub returns-in_ok-put_row_line-in-Ok-Some-clause-put : goal.returns-in_ok-put_row_line-in-Ok-Some-clause-put
 returns-in_ok-put_row_line-in-Ok-Some-clause-put c =
     let next = rw (c.in-Ok-Some.is, c.in-Ok-Some.field-0-is) at c.next_row.follows.holds-at-none in
-    let text = rw (c.deref.ensures.value, c.in_ok-runs-in-Ok-Some.ensures) at c.in_ok-put_row_line-in-Ok-Some.ensures.ok in
-    (line_of_row _, row_put _ c.next_row.follows.lender-at-none _ next, text)
+    (line_of_row _, row_put _ c.next_row.follows.lender-at-none _ next, c.in_ok-put_row_line-in-Ok-Some.ensures.ok)
 
 pub returns-in_ok-end_of-in-Err-clause-put : goal.returns-in_ok-end_of-in-Err-clause-put
 returns-in_ok-end_of-in-Err-clause-put c =

@@ -1,0 +1,54 @@
+"""Files that are made to be slow to read."""
+
+import struct
+
+MH, MMR = 3, 4
+WIDEST = 65535
+
+
+def tiff(width, rows, compression, strip):
+    """A file of one page, of one strip."""
+    at = 8 + len(strip) + len(strip) % 2
+    fields = [(256, 4, width), (257, 4, rows), (258, 3, 1), (259, 3, compression), (262, 3, 0), (266, 3, 1),
+              (273, 4, 8), (277, 3, 1), (278, 4, rows), (279, 4, len(strip)), (282, 5, 0), (283, 5, 8), (296, 3, 2)]
+    values = at + 2 + 12 * len(fields) + 4
+    directory = struct.pack("<H", len(fields))
+    for tag, kind, value in fields:
+        directory += struct.pack("<HHII", tag, kind, 1, values + value if kind == 5 else value)
+    head = b"II" + struct.pack("<HI", 42, at)
+    return head + strip + bytes(len(strip) % 2) + directory + bytes(4) + struct.pack("<IIII", 204, 1, 196, 1)
+
+
+def packed(bits):
+    """The bytes of bits, the first one highest, with zeros behind them."""
+    whole = bits + "0" * (-len(bits) % 8)
+    return int(whole, 2).to_bytes(len(whole) // 8, "big")
+
+
+def most_changes(rows):
+    """Rows that begin black and change at every pel: the codes of white 0, then black 1 and white 1 in turn."""
+    row = "00110101" + ("010" + "000111") * (WIDEST // 2) + "010"
+    return tiff(WIDEST, rows, MH, packed(("000000000001" + row) * rows))
+
+
+def most_changes_again(rows):
+    """The same rows in T.6: the first by horizontal mode, and the others by a bit for each change."""
+    first = "001" + "00110101" + "010" + ("001" + "000111" + "010") * (WIDEST // 2)
+    return tiff(WIDEST, rows, MMR, packed(first + "1" * (WIDEST + 1) * (rows - 1)))
+
+
+def passes(rows):
+    """Rows that change at every pel and are white in turn, by pass mode alone."""
+    first = "001" + "00110101" + "010" + ("001" + "000111" + "010") * (WIDEST // 2)
+    white = "0001" * (WIDEST // 2 + 1) + "1"
+    return tiff(WIDEST, 2 * rows, MMR, packed((first + white) * rows))
+
+
+def files():
+    """The files with their names."""
+    yield "65,535 changes a row, T.4", most_changes(20)
+    yield "65,535 changes a row, T.6", most_changes_again(100)
+    yield "65,535 changes, passed", passes(20)
+    yield "a million rows of one bit", tiff(8, 1000000, MMR, b"\xff" * 125000)
+    yield "a strip of fill", tiff(8, 2, MH, packed("000000000001" + "10011") + bytes(8000000) + b"\x19\x80")
+    yield "a strip of zeros", tiff(8, 2, MH, bytes(8000000))

@@ -1,0 +1,93 @@
+/* Fax pages by libtiff's C API, to be compared with faxpages:
+
+       libtiff make mh|mr|mmr PAGES IMAGE.pbm OUT.tif   the image on so many pages, one strip each
+       libtiff decode IN.tif                            decodes each strip
+       libtiff pbm IN.tif OUT.pbm                       decodes each strip, and writes raw PBM */
+#include <stdio.h>
+#include <stdlib.h>
+#include <string.h>
+#include <tiffio.h>
+
+static void fail(const char *what) {
+    fprintf(stderr, "libtiff: %s\n", what);
+    exit(1);
+}
+
+static unsigned char *read_image(const char *name, unsigned *width, unsigned *rows) {
+    FILE *file = fopen(name, "rb");
+    if (!file || fscanf(file, "P4 %u %u", width, rows) != 2 || fgetc(file) == EOF) fail(name);
+    size_t size = (size_t)*rows * ((*width + 7) / 8);
+    unsigned char *pels = malloc(size);
+    if (!pels || fread(pels, 1, size, file) != size) fail(name);
+    fclose(file);
+    return pels;
+}
+
+static void set_form(TIFF *tiff, const char *coding, unsigned width, unsigned rows) {
+    int mmr = strcmp(coding, "mmr") == 0;
+    TIFFSetField(tiff, TIFFTAG_IMAGEWIDTH, width);
+    TIFFSetField(tiff, TIFFTAG_IMAGELENGTH, rows);
+    TIFFSetField(tiff, TIFFTAG_ROWSPERSTRIP, rows);
+    TIFFSetField(tiff, TIFFTAG_BITSPERSAMPLE, 1);
+    TIFFSetField(tiff, TIFFTAG_SAMPLESPERPIXEL, 1);
+    TIFFSetField(tiff, TIFFTAG_PHOTOMETRIC, PHOTOMETRIC_MINISWHITE);
+    TIFFSetField(tiff, TIFFTAG_FILLORDER, FILLORDER_MSB2LSB);
+    TIFFSetField(tiff, TIFFTAG_COMPRESSION, mmr ? COMPRESSION_CCITTFAX4 : COMPRESSION_CCITTFAX3);
+    if (!mmr) {
+        TIFFSetField(tiff, TIFFTAG_GROUP3OPTIONS, strcmp(coding, "mr") == 0 ? GROUP3OPT_2DENCODING : 0);
+    }
+    TIFFSetField(tiff, TIFFTAG_XRESOLUTION, 204.0);
+    TIFFSetField(tiff, TIFFTAG_YRESOLUTION, 196.0);
+    TIFFSetField(tiff, TIFFTAG_RESOLUTIONUNIT, RESUNIT_INCH);
+}
+
+static void make(const char *coding, int pages, const char *image, const char *out) {
+    unsigned width, rows;
+    unsigned char *pels = read_image(image, &width, &rows);
+    tmsize_t size = (tmsize_t)rows * ((width + 7) / 8);
+    unsigned char *copy = malloc(size);
+    TIFF *tiff = TIFFOpen(out, "wl");
+    if (!tiff || !copy) fail(out);
+    for (int page = 0; page < pages; page++) {
+        set_form(tiff, coding, width, rows);
+        memcpy(copy, pels, size);
+        if (TIFFWriteEncodedStrip(tiff, 0, copy, size) != size) fail(out);
+        TIFFWriteDirectory(tiff);
+    }
+    TIFFClose(tiff);
+}
+
+/* Decodes each strip of each page, and writes the pages where there is a file for them. */
+static void decode(const char *in, FILE *out) {
+    TIFF *tiff = TIFFOpen(in, "r");
+    if (!tiff) fail(in);
+    tmsize_t room = TIFFStripSize(tiff);
+    unsigned char *pels = malloc(room);
+    do {
+        unsigned width = 0, rows = 0;
+        TIFFGetField(tiff, TIFFTAG_IMAGEWIDTH, &width);
+        TIFFGetField(tiff, TIFFTAG_IMAGELENGTH, &rows);
+        if (out) fprintf(out, "P4\n%u %u\n", width, rows);
+        for (uint32_t strip = 0; strip < TIFFNumberOfStrips(tiff); strip++) {
+            tmsize_t size = TIFFReadEncodedStrip(tiff, strip, pels, room);
+            if (size < 0 || (out && fwrite(pels, 1, size, out) != (size_t)size)) fail(in);
+        }
+    } while (TIFFReadDirectory(tiff));
+    TIFFClose(tiff);
+}
+
+int main(int count, char **words) {
+    if (count == 6 && strcmp(words[1], "make") == 0) {
+        make(words[2], atoi(words[3]), words[4], words[5]);
+    } else if (count == 3 && strcmp(words[1], "decode") == 0) {
+        decode(words[2], NULL);
+    } else if (count == 4 && strcmp(words[1], "pbm") == 0) {
+        FILE *out = fopen(words[3], "wb");
+        if (!out) fail(words[3]);
+        decode(words[2], out);
+        if (fclose(out) != 0) fail(words[3]);
+    } else {
+        fail("see the head of libtiff.c for its commands");
+    }
+    return 0;
+}
