@@ -19,3 +19,5 @@ pub mod WalkLemmas
 pub mod StillDueLemmas
 pub mod RowOrderLemmas
 pub mod ConversionLemmas
+pub mod StripCheckLemmas
+pub mod PageCheckLemmas

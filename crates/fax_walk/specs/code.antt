@@ -5,3 +5,4 @@ pub mod Opening
 pub mod Next
 pub mod Pages
 pub mod Conversion
+pub mod Check
