@@ -94,11 +94,11 @@ reason_of_printing are at max Memory input taken output new_output counts stops 
 reason_of_printing are at max Read input taken output new_output counts stops = absurd stops
 reason_of_printing are at max Write input taken output new_output counts stops = stops.0
 
-if_some : {A : Type 0} (P : A → Type 0) (left : Option A) → ((x : A) → P x) → IfSome left P
+pub if_some : {A : Type 0} (P : A → Type 0) (left : Option A) → ((x : A) → P x) → IfSome left P
 if_some P None all = tt
 if_some P (Some x) all = all x
 
-if_same : {A : Type 0} (P : A → Type 0) (left : Option A) (file : A) → IfSome left (λ x. file ≡ x) → P file → IfSome left P
+pub if_same : {A : Type 0} (P : A → Type 0) (left : Option A) (file : A) → IfSome left (λ x. file ≡ x) → P file → IfSome left P
 if_same P None file same holds = tt
 if_same P (Some x) file same holds = rw (← same) holds
 

@@ -8,3 +8,4 @@ pub mod ReportLemmas
 pub mod StopLemmas
 pub mod CommandLemmas
 mod NumberLemmas
+pub mod WholeLemmas

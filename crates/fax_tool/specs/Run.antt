@@ -6,13 +6,19 @@ use Rattle.fax_walk.specs.declared.end.End.{End}
 use Rattle.fax_walk.specs.Items.{Item}
 use Rattle.fax_walk.specs.Tail.{IsTail}
 use Rattle.fax_walk.specs.Forms.{FormItem, IsFormTail}
+use Rattle.fax_walk.specs.Converted.{IsConverted, IsRefused as IsNotConverted}
+use Rattle.fax_walk.specs.Report.{IsReport}
+use Rattle.fax_walk.specs.declared.options.Options.{Options}
+use Rattle.fax_walk.specs.declared.options.ConvertFault.{ConvertFault}
+use Rattle.fax_walk.specs.declared.checking.Report.{Report}
 use Rattle.fax_tool.specs.declared.refusal.Refusal.{Refusal}
 use Rattle.fax_tool.specs.declared.refusal.Refusal.TheVariants.{Memory, Read, Write}
 use Rattle.fax_tool.specs.declared.words.Command.{Command}
-use Rattle.fax_tool.specs.declared.words.Command.TheVariants.{List as Forms, Rows}
+use Rattle.fax_tool.specs.declared.words.Command.TheVariants.{List as Forms, Rows, Convert, Check}
 use Rattle.fax_tool.specs.declared.words.Part.{Part}
 use Rattle.fax_tool.specs.Streams.{Counts}
-use Rattle.fax_tool.specs.Text.{Line, Printed, texts_of, last_cursor, next_line, text_of, line_of_row, line_of_page}
+use Rattle.fax_tool.specs.Text.{Line, Printed, texts_of, last_cursor, next_line, text_of, line_of_row, line_of_page, convert_fault_line}
+use Rattle.fax_tool.specs.ReportText.{report_text}
 
 -- so many interrupted calls of a stream are made again (this project's profile)
 abbrev pub most_interrupted : ℕ
@@ -75,15 +81,26 @@ pub record IsTextOfFirst (are_lines : List Line → End → Type 0) (at : Cursor
   pub within : IfSome max (λ limit. length lines ≤ limit)
   pub output_is : output ≡ texts_of lines ++ next_line (last_cursor at lines)
 
+-- what is written of a file that is converted, or is not (this project's profile)
+abbrev pub IsConversionText : Options → List ℕ → Printed → Type 0
+IsConversionText options file printed =
+    ((output : List ℕ) × IsConverted file options output × (printed ≡ record { output = output; error = []; status = 0 }))
+    ⊎ ((fault : ConvertFault) × IsNotConverted file options fault
+    × (printed ≡ record { output = []; error = convert_fault_line fault; status = 1 }))
+
 -- what a command writes of a file (this project's profile)
 abbrev pub IsTextOf : Command → List ℕ → Printed → Type 0
 IsTextOf (Forms part) file printed = IsTextOfLines (ArePageLines file part.cursor) part.cursor part.max printed
 IsTextOf (Rows part) file printed = IsTextOfLines (AreRowLines file part.cursor) part.cursor part.max printed
+IsTextOf (Convert options) file printed = IsConversionText options file printed
+IsTextOf Check file printed = (report : Report) × IsReport file report × (printed ≡ report_text report)
 
 -- what a command writes of a file where memory is refused (this project's profile)
 abbrev pub IsTextAfterMemory : Command → List ℕ → List ℕ → Type 0
 IsTextAfterMemory (Forms part) file output = IsTextOfFirst (ArePageLines file part.cursor) part.cursor part.max output
 IsTextAfterMemory (Rows part) file output = IsTextOfFirst (AreRowLines file part.cursor) part.cursor part.max output
+IsTextAfterMemory (Convert options) file output = output ≡ []
+IsTextAfterMemory Check file output = output ≡ []
 
 -- all that a command would write of a file, also where memory is refused (this project's profile)
 abbrev pub IsOutputOf : Command → List ℕ → List ℕ → Type 0

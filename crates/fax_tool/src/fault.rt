@@ -1,12 +1,13 @@
 //! Faults of the input.
-ghost use Rattle.std.specs.Prelude.{◌≡◌, ◌++◌, ◌≤◌, ◌+◌, length, option_map};
-ghost use Rattle.arrayvec.specs.ArrayString.{array_string_len};
-ghost use Rattle.fax_tool.specs.Text.{and_number, fault_line};
+ghost use Rattle.std.specs.Prelude.{◌≡◌, ◌≤◌, IfOk, length};
+ghost use Rattle.fax_tool.specs.Text.{fault_line, image_fault_line};
 ghost use Rattle.fax_tool.specs.code.Outcome as Spec;
 
 use crate::short::push_number;
 use arrayvec::ArrayString;
-use fax_walk::{Cause, End};
+use fax_bits::Memory;
+use fax_files::PbmFault;
+use fax_walk::{Cause, ConvertFault, End};
 
 /// A line of the error stream, which is made without memory.
 pub type ErrorLine = ArrayString<72>;
@@ -18,6 +19,12 @@ pub enum InputFault {
     CursorOutside,
     /// What is wrong where this row of a page was due, both from 0.
     AtRow { page: u32, row: u32, cause: Cause },
+    /// What is wrong with an image of a PBM, from 0.
+    AtImage { image: u64, fault: PbmFault },
+    /// The input is neither raw PBM nor TIFF.
+    UnknownInput,
+    /// What would be written is too large.
+    OutputTooLarge,
 }
 
 /// The line of a fault where a row was due: `fault page P row R`, the fault's name, and the tag of
@@ -41,18 +48,40 @@ fn row_line(page: u32, row: u32, cause: Cause) -> ErrorLine
     line
 }
 
+/// The line of a fault of an image: `fault image I` and the fault's name.
+fn image_line(image: u64, fault: PbmFault) -> ErrorLine
+    ensures { result.bytes ≡ image_fault_line image fault }
+{
+    let mut line = ErrorLine::new();
+    line.push_str("fault image");
+    push_number(&mut line, image);
+    line.push_str(": ");
+    line.push_str(fault.name());
+    line.push_str("\n");
+    line
+}
+
+/// A line that is always the same.
+fn fixed_line(text: &'static str) -> ErrorLine
+    requires { length text.now ≤ 72 }
+    ensures { result.bytes ≡ text.now }
+{
+    let mut line = ErrorLine::new();
+    line.push_str(text);
+    line
+}
+
 impl InputFault {
     /// The line for the error stream.
     pub fn line(self) -> ErrorLine
         ensures { result.bytes ≡ Spec.input_fault_line self }
     {
         match self {
-            InputFault::CursorOutside => {
-                let mut line = ErrorLine::new();
-                line.push_str("fault cursor: CursorOutside\n");
-                line
-            }
+            InputFault::CursorOutside => fixed_line("fault cursor: CursorOutside\n"),
             InputFault::AtRow { page, row, cause } => row_line(page, row, cause),
+            InputFault::AtImage { image, fault } => image_line(image, fault),
+            InputFault::UnknownInput => fixed_line("fault: UnknownInput\n"),
+            InputFault::OutputTooLarge => fixed_line("fault: OutputTooLarge\n"),
         }
     }
 }
@@ -65,5 +94,18 @@ pub fn fault_of(ending: Option<End>) -> Option<InputFault>
         None | Some(End::Proper) => None,
         Some(End::Outside) => Some(InputFault::CursorOutside),
         Some(End::Fault { page, row, cause }) => Some(InputFault::AtRow { page, row, cause }),
+    }
+}
+
+/// The fault for which a file is not converted, unless memory was refused.
+pub fn fault_of_conversion(fault: ConvertFault) -> Result<InputFault, Memory>
+    ensures { IfOk result (Spec.IsFaultOf fault) }
+{
+    match fault {
+        ConvertFault::UnknownInput => Ok(InputFault::UnknownInput),
+        ConvertFault::Pbm { image, fault } => Ok(InputFault::AtImage { image, fault }),
+        ConvertFault::Source { page, row, cause } => Ok(InputFault::AtRow { page, row, cause }),
+        ConvertFault::OutputTooLarge => Ok(InputFault::OutputTooLarge),
+        ConvertFault::Memory => Err(Memory),
     }
 }

@@ -4,6 +4,8 @@ ghost use Rattle.fax_tool.specs.code.Outcome.{IsReport, IsSaid, IsStopped, Write
 ghost use Rattle.fax_tool.specs.Run.{IsRefused, IsStatus, WritesText};
 ghost use Rattle.fax_tool.specs.Streams.{no_faults};
 
+use crate::check::check;
+use crate::convert::convert;
 use crate::fault::InputFault;
 use crate::print::{list, rows};
 use crate::refusal::Refusal;
@@ -65,6 +67,8 @@ fn carry_out<R: Source, W: Sink>(
     match command {
         Command::List(part) => list(alloc, part, input, out),
         Command::Rows(part) => rows(alloc, part, input, out),
+        Command::Convert(options) => convert(alloc, options, input, out),
+        Command::Check => check(alloc, input, out),
     }
 }
 

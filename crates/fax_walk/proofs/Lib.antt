@@ -19,10 +19,7 @@ pub mod WalkLemmas
 pub mod StillDueLemmas
 pub mod RowOrderLemmas
 pub mod ConversionLemmas
-<<<<<<< HEAD
 pub mod OpenStripsLemmas
 pub mod OutputLemmas
-=======
 pub mod StripCheckLemmas
 pub mod PageCheckLemmas
->>>>>>> e04799c1580b4a3b93b58eb09684d53462cd7422

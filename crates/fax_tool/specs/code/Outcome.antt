@@ -1,13 +1,15 @@
 -- How a command ended that was not refused.
-use Rattle.std.specs.Prelude.{◌≡◌, ℕ, ◌⊎◌, List, [], Option, Some, None, IfSome, Result, Ok, Err, codes}
+use Rattle.std.specs.Prelude.{◌≡◌, ◌≢◌, ℕ, ◌⊎◌, List, [], Option, Some, None, IfSome, Result, Ok, Err, codes}
 use Rattle.std.specs.Io.KnownBytes.{Appends}
 use Rattle.fax_walk.specs.declared.end.End.{End}
 use Rattle.fax_walk.specs.declared.end.End.TheVariants.{Proper, Fault, Outside}
+use Rattle.fax_walk.specs.declared.options.ConvertFault.{ConvertFault}
+use Rattle.fax_walk.specs.declared.options.ConvertFault.TheVariants.{Memory}
 use Rattle.fax_tool.specs.declared.fault.InputFault.{InputFault}
-use Rattle.fax_tool.specs.declared.fault.InputFault.TheVariants.{CursorOutside, AtRow}
+use Rattle.fax_tool.specs.declared.fault.InputFault.TheVariants.{CursorOutside, AtRow, AtImage, UnknownInput as Unknown, OutputTooLarge as TooLarge}
 use Rattle.fax_tool.specs.declared.refusal.Refusal.{Refusal}
 use Rattle.fax_tool.specs.declared.words.Command.{Command}
-use Rattle.fax_tool.specs.Text.{Printed, fault_line}
+use Rattle.fax_tool.specs.Text.{Printed, fault_line, image_fault_line, convert_fault_line}
 use Rattle.fax_tool.specs.Streams.{Counts}
 use Rattle.fax_tool.specs.Run.{HasFailed, HasReason, IsTextOf, LeavesText, refusal_line}
 
@@ -15,6 +17,13 @@ use Rattle.fax_tool.specs.Run.{HasFailed, HasReason, IsTextOf, LeavesText, refus
 abbrev pub input_fault_line : InputFault → List ℕ
 input_fault_line CursorOutside = codes "fault cursor: CursorOutside\n"
 input_fault_line (AtRow page row cause) = fault_line page row cause
+input_fault_line (AtImage image fault) = image_fault_line image fault
+input_fault_line Unknown = codes "fault: UnknownInput\n"
+input_fault_line TooLarge = codes "fault: OutputTooLarge\n"
+
+-- this is the fault for which a file is not converted
+abbrev pub IsFaultOf : ConvertFault → InputFault → Type 0
+IsFaultOf fault of = (fault ≢ Memory) × (convert_fault_line fault ≡ input_fault_line of)
 
 -- the fault that lines ended with; at a limit there is none
 abbrev pub fault_of : Option End → Option InputFault
