@@ -21,3 +21,8 @@ pub mod RowOrderLemmas
 pub mod ConversionLemmas
 pub mod OpenStripsLemmas
 pub mod OutputLemmas
+pub mod WidthLemmas
+pub mod ImageLemmas
+pub mod SourceLemmas
+pub mod RowLemmas
+pub mod FileLemmas

@@ -7,3 +7,4 @@ pub mod Pages
 pub mod Conversion
 pub mod OpenStrips
 pub mod Output
+pub mod Sources
