@@ -1,5 +1,5 @@
 -- A TIFF file that is converted page by page.
-use Rattle.std.proofs.Common.{◌≡◌, ◌≢◌, ℕ, ◌+◌, ◌<◌, ◌≤◌, inl, inr, max, Bool, true, false, List, [], ◌∷◌, ◌++◌, map, length, Option, Some, None, Result, Ok, Err, refl, sym, ap, ◌∙◌, subst, arith, append_assoc, append-nil, length-append}
+use Rattle.std.proofs.Common.{◌≡◌, ◌≢◌, ℕ, ◌<◌, ◌≤◌, inr, max, Bool, true, false, List, [], ◌∷◌, ◌++◌, map, length, Option, Some, None, Result, Ok, Err, refl, sym, ap, ◌∙◌, subst, arith, append_assoc, append-nil, length-append}
 use Rattle.std.specs.Prelude.{if◌then◌else◌, ◌==◌, not, IfOk, IfErr}
 use Rattle.std.proofs.lemmas.Bool.Decides.{nat_tests}
 use Rattle.fax_files.specs.declared.Cause.{Cause}
@@ -7,7 +7,7 @@ use Rattle.fax_files.specs.declared.FileFault.{FileFault}
 use Rattle.fax_files.specs.declared.FileFault.TheVariants.{ShortHeader, Magic, NoDirectory, DirectoryOutside}
 use Rattle.fax_files.specs.declared.PageForm.{PageForm}
 use Rattle.fax_files.specs.declared.Endian.{Endian}
-use Rattle.fax_files.specs.Numbers.{Header, header, check, ◌>>=◌, number_at, is_inside, endian_of}
+use Rattle.fax_files.specs.Numbers.{Header, header, check, ◌>>=◌, number_at, is_inside}
 use Rattle.fax_files.specs.Directory.{is_directory}
 use Rattle.fax_files.specs.Chain.{IsChain}
 use Rattle.fax_files.specs.Page.{page}
@@ -23,11 +23,11 @@ use Rattle.fax_walk.specs.declared.output.Output.{Output}
 use Rattle.fax_walk.specs.Items.{Item, chain_end, AreItems}
 use Rattle.fax_walk.specs.Forms.{FormItem, AreFormsFrom, ArePagesForms, AreFormsUnder, AreForms}
 use Rattle.fax_walk.specs.Laws.{FilesHaveOneForms, TailOfStart, FormTailOfStart}
-use Rattle.fax_walk.specs.Converted.{SourcePage, IsTiff, IsTooLarge, target_bytes, IsConverted, IsRefused}
+use Rattle.fax_walk.specs.Converted.{IsTiff, IsTooLarge, target_bytes, IsConverted, IsRefused}
 use Rattle.fax_walk.specs.code.Due.{WalkState, IsDue, walk_start}
 use Rattle.fax_walk.specs.code.Pages.{PagesState, AreFormsDue, HandsOutPage, IsNextPage, pages_start}
 use Rattle.fax_walk.specs.code.Output.{Progress, with_page, page_of, form_sheet, IsWrittenTo, IsBeginning, IsWhole}
-use Rattle.fax_walk.specs.code.Sources.{BeginsWithPage, ArePagesOf, ConvertsRows, EndsWith, IsPageCount, ArePagesWritten, source_fault}
+use Rattle.fax_walk.specs.code.Sources.{BeginsWithPage, ConvertsRows, EndsWith, IsPageCount, ArePagesWritten, source_fault}
 use Rattle.fax_walk.proofs.SourceLemmas.{file_pages, pages_passed, pages_grow, pages_count, pages_are, forms_inside}
 
 -- what follows from an answer

@@ -1,6 +1,6 @@
 -- Images that are converted.
-use Rattle.std.proofs.Common.{◌≡◌, ◌≢◌, ℕ, zero, suc, ◌+◌, ◌*◌, ◌<◌, ◌≤◌, min, inl, inr, List, [], ◌∷◌, ◌++◌, length, map, take, drop, Option, Some, None, Result, Ok, Err, IsTrue, refl, sym, ap, ◌∙◌, subst, arith, append_assoc, append-nil, length-append, length-take, length-drop}
-use Rattle.std.specs.Prelude.{flat_map, codes}
+use Rattle.std.proofs.Common.{◌≡◌, ◌≢◌, ℕ, zero, suc, ◌+◌, ◌*◌, ◌<◌, ◌≤◌, inl, inr, List, [], ◌∷◌, ◌++◌, length, map, take, drop, Some, None, refl, sym, ap, ◌∙◌, subst, arith, append_assoc, append-nil, length-append, length-take, length-drop}
+use Rattle.std.specs.Prelude.{flat_map}
 use Rattle.std.proofs.lemmas.List.{length-map, drop-drop, map-append, length_push, nil_from_length}
 use Rattle.fax_bits.specs.Bits.{bits, byte_bits, code_bits}
 use Rattle.fax_bits.specs.declared.FillOrder.TheVariants.{MsbFirst}
@@ -10,14 +10,13 @@ use Rattle.fax_files.specs.declared.pbm.PbmFault.{PbmFault}
 use Rattle.fax_files.specs.Pbm.{Image, IsImage, IsImageFault, AreImages, raster_rows}
 use Rattle.fax_files.specs.PbmLaws.{AreOfWidth, ImagesAreReadInOneWay, ImagesBeginInOneWay}
 use Rattle.fax_walk.specs.declared.options.Options.{Options}
-use Rattle.fax_walk.specs.declared.options.ConvertFault.{ConvertFault}
 use Rattle.fax_walk.specs.declared.options.ConvertFault.TheVariants.{OutputTooLarge}
 use Rattle.fax_walk.specs.declared.output.Output.{Output}
 use Rattle.fax_walk.specs.declared.output.Output.TheVariants.{TooLarge}
 use Rattle.fax_walk.specs.Converted.{SourcePage, IsPbm, page_of_image, target_bytes, IsTooLarge, IsConverted, IsRefused}
 use Rattle.fax_walk.specs.code.Conversion.{IsImageCount}
-use Rattle.fax_walk.specs.code.Output.{Progress, no_rows, image_sheet, behind, IsPartWritten, IsWrittenTo, IsBeginning, IsWhole}
-use Rattle.fax_walk.specs.code.Sources.{part_of, PutsImage, AreImagesWritten}
+use Rattle.fax_walk.specs.code.Output.{Progress, IsWrittenTo, IsBeginning, IsWhole}
+use Rattle.fax_walk.specs.code.Sources.{PutsImage, AreImagesWritten}
 
 pub raster_count : (width n : ℕ) (bytes : List ℕ) → length (raster_rows width n bytes) ≡ n
 raster_count width zero bytes = refl

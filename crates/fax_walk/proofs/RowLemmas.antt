@@ -1,5 +1,5 @@
 -- Rows that are read from a walk and put.
-use Rattle.std.proofs.Common.{◌≡◌, ◌≢◌, ℕ, ◌+◌, ◌-◌, ◌<◌, List, [], ◌∷◌, ◌++◌, map, length, Err, refl, sym, ap, ◌∙◌, subst, arith, append_assoc, append-nil}
+use Rattle.std.proofs.Common.{◌≡◌, ◌≢◌, ℕ, ◌+◌, ◌-◌, ◌<◌, List, [], ◌∷◌, ◌++◌, map, length, Err, refl, sym, ap, ◌∙◌, subst, arith, append_assoc}
 use Rattle.std.proofs.lemmas.List.{length-map, length_push, map-append}
 use Rattle.fax_bits.specs.declared.Colour.{Colour}
 use Rattle.fax_files.specs.declared.Cause.{Cause}
@@ -8,7 +8,7 @@ use Rattle.fax_walk.specs.declared.end.End.TheVariants.{Proper, Fault, Outside}
 use Rattle.fax_walk.specs.declared.end.WalkFault.{WalkFault}
 use Rattle.fax_walk.specs.declared.end.WalkFault.TheVariants.{Memory as NoMemory, AtRow, CursorOutside}
 use Rattle.fax_walk.specs.declared.options.ConvertFault.{ConvertFault}
-use Rattle.fax_walk.specs.declared.options.ConvertFault.TheVariants.{Source, Memory}
+use Rattle.fax_walk.specs.declared.options.ConvertFault.TheVariants.{Memory}
 use Rattle.fax_walk.specs.declared.walk.Stage.{Stage}
 use Rattle.fax_walk.specs.declared.walk.Stage.TheVariants.{Before, Open, Ended}
 use Rattle.fax_walk.specs.declared.output.Output.{Output}
@@ -17,7 +17,7 @@ use Rattle.fax_walk.specs.Items.{Item}
 use Rattle.fax_walk.specs.code.Stages.{row_of}
 use Rattle.fax_walk.specs.code.Due.{WalkState, IsDue}
 use Rattle.fax_walk.specs.code.Next.{HandsOut, HasEnded, StepsAs, IsOnPage, shown_at, IsAdvance}
-use Rattle.fax_walk.specs.code.Output.{Progress, IsPartWritten, PutsRow}
+use Rattle.fax_walk.specs.code.Output.{IsPartWritten, PutsRow}
 use Rattle.fax_walk.specs.code.Sources.{part_of, PutsRows, BeginsWithPage, HasGiven, EndsWith, source_fault}
 use Rattle.fax_walk.proofs.SourceLemmas.{item_wide, ends_at_fault}
 

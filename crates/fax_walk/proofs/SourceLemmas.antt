@@ -1,23 +1,20 @@
 -- The pages of a file that is converted, with their rows.
-use Rattle.std.proofs.Common.{◌≡◌, ◌≢◌, ℕ, zero, suc, ◌+◌, ◌-◌, ◌*◌, ◌/◌, ◌%◌, ◌<◌, ◌≤◌, ◌⊎◌, inl, inr, min, Bool, true, false, List, [], ◌∷◌, ◌++◌, map, length, take, drop, Option, Some, None, Result, Ok, Err, refl, sym, ap, ◌∙◌, subst, arith, append_assoc, append-nil, length-append}
-use Rattle.std.specs.Prelude.{if◌then◌else◌, ◌==◌, not}
-use Rattle.std.proofs.lemmas.Bool.Decides.{nat_tests}
-use Rattle.std.proofs.lemmas.List.{length-map, length_push, take_at, drop_at, map-append}
+use Rattle.std.proofs.Common.{◌≡◌, ℕ, suc, ◌+◌, ◌*◌, ◌/◌, ◌%◌, ◌<◌, inl, inr, min, Bool, true, false, List, [], ◌∷◌, ◌++◌, map, length, take, drop, Option, Some, None, Result, Ok, Err, refl, sym, ap, ◌∙◌, subst, arith, append_assoc, append-nil, length-append}
+use Rattle.std.specs.Prelude.{if◌then◌else◌}
+use Rattle.std.proofs.lemmas.List.{length-map, take_at, drop_at}
 use Rattle.fax_bits.specs.declared.Colour.{Colour}
 use Rattle.fax_rows.specs.Elements.{other}
 use Rattle.fax_files.specs.declared.Cause.{Cause}
-use Rattle.fax_files.specs.declared.Cause.TheVariants.{File}
 use Rattle.fax_files.specs.declared.FileFault.{FileFault}
-use Rattle.fax_files.specs.declared.FileFault.TheVariants.{ShortHeader, Magic, NoDirectory}
 use Rattle.fax_files.specs.declared.PageForm.{PageForm}
 use Rattle.fax_files.specs.declared.Endian.{Endian}
-use Rattle.fax_files.specs.Numbers.{Header, header, check, ◌>>=◌, number_at, is_inside, endian_of}
+use Rattle.fax_files.specs.Numbers.{Header, header}
 use Rattle.fax_files.specs.Page.{page}
 use Rattle.fax_files.specs.PageRows.{AreStrips, joined, shown}
 use Rattle.fax_files.specs.PbmLaws.{AreOfWidth}
 use Rattle.fax_files.specs.Laws.{FilesHaveOneChain, FormsAreWhole, IsWholeForm}
 use Rattle.fax_walk.specs.declared.end.End.{End}
-use Rattle.fax_walk.specs.declared.end.End.TheVariants.{Proper, Fault, Outside}
+use Rattle.fax_walk.specs.declared.end.End.TheVariants.{Fault, Outside}
 use Rattle.fax_walk.specs.Items.{Item, numbered, chain_end, stop_at, Follows, ArePageItems, AreFromRow, AreFromPage, ArePagesItems, AreItemsUnder, AreItems}
 use Rattle.fax_walk.specs.Forms.{FormItem, AreFormsFrom, ArePagesForms, AreFormsUnder, AreForms}
 use Rattle.fax_walk.specs.Converted.{SourcePage, page_of_form, pages_of}
@@ -200,14 +197,24 @@ pages_passed (one ∷ forms) more_forms form_end items more end pages (own, othe
 pub pages_grow : (forms : List FormItem) (items : List Item) (pages : List SourcePage) (one : FormItem) (own : List Item)
     → AreWholePages forms items pages → length own ≡ one.form.rows
     → AreWholePages (forms ++ one ∷ []) (items ++ own) (pages ++ page_of_form one.form (map (λ item. item.pels) own) ∷ [])
-pages_grow [] items pages one own whole count =
-    (own, [], [], ap (λ (l : List Item). l ++ own) whole.0 ∙ sym (append-nil own), count,
-    ap (λ (l : List SourcePage). l ++ page_of_form one.form (map (λ item. item.pels) own) ∷ []) whole.1, (refl, refl))
-pages_grow (form ∷ forms) items pages one own (first, others, later, items_are, all, pages_are, rest) count =
-    (first, others ++ own, later ++ page_of_form one.form (map (λ item. item.pels) own) ∷ [],
-    ap (λ (l : List Item). l ++ own) items_are ∙ append_assoc first others own, all,
-    ap (λ (l : List SourcePage). l ++ page_of_form one.form (map (λ item. item.pels) own) ∷ []) pages_are,
-    pages_grow forms others later one own rest count)
+pages_grow [] items pages one own whole count = (
+  own,
+  [],
+  [],
+  ap (λ (l : List Item). l ++ own) whole.0 ∙ sym (append-nil own),
+  count,
+  ap (λ (l : List SourcePage). l ++ page_of_form one.form (map (λ item. item.pels) own) ∷ []) whole.1,
+  (refl, refl),
+)
+pages_grow (form ∷ forms) items pages one own (first, others, later, items_are, all, pages_are, rest) count = (
+  first,
+  others ++ own,
+  later ++ page_of_form one.form (map (λ item. item.pels) own) ∷ [],
+  ap (λ (l : List Item). l ++ own) items_are ∙ append_assoc first others own,
+  all,
+  ap (λ (l : List SourcePage). l ++ page_of_form one.form (map (λ item. item.pels) own) ∷ []) pages_are,
+  pages_grow forms others later one own rest count,
+)
 
 pub pages_count : (forms : List FormItem) (items : List Item) (pages : List SourcePage) → AreWholePages forms items pages → length pages ≡ length forms
 pages_count [] items pages whole = ap length whole.1

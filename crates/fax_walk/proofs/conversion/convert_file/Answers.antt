@@ -1,4 +1,4 @@
-use Rattle.std.proofs.Common.{◌≡◌, map, length, refl, sym, ap, ◌∙◌, subst}
+use Rattle.std.proofs.Common.{map, refl, sym, ◌∙◌, subst}
 use Rattle.std.proofs.lemmas.List.{length-map}
 use Rattle.fax_walk.specs.Items.{Item}
 use Rattle.fax_walk.specs.Forms.{FormItem}
@@ -24,8 +24,8 @@ returns-in-Ok-None-clause-ok c =
     let ended = rw c.in-Ok-None.field-0-is at c.in-Ok-None.ensures in
     let all = all_written c.files_have_one_forms.ensures c.files_have_one_chain.ensures c.forms_are_whole.ensures c.args.file.now c.args.options.now inv.total inv.count inv.counted inv.total_is c.loop-form.pages c.loop-form.walk c.loop-form.output inv.so_far c.requires ended.due c.has_items.ensures in
     if_ok c.finish.result c.finish.ensures.ok (λ result finishes.
-      file_converted c.files_have_one_forms.ensures c.files_have_one_chain.ensures c.forms_are_whole.ensures c.args.file.now c.args.options.now inv.total inv.count inv.counted inv.total_is c.loop-form.pages c.loop-form.walk c.loop-form.output inv.so_far c.requires ended.due c.has_items.ensures
-      result.items (finishes (now c.files_have_one_forms.ensures c.files_have_one_chain.ensures c.forms_are_whole.ensures c.args.file.now c.args.options.now inv.total inv.count inv.counted inv.total_is c.loop-form.pages c.loop-form.walk c.loop-form.output inv.so_far) inv.so_far.written all))
+    file_converted c.files_have_one_forms.ensures c.files_have_one_chain.ensures c.forms_are_whole.ensures c.args.file.now c.args.options.now inv.total inv.count inv.counted inv.total_is c.loop-form.pages c.loop-form.walk c.loop-form.output inv.so_far c.requires ended.due c.has_items.ensures
+    result.items (finishes (now c.files_have_one_forms.ensures c.files_have_one_chain.ensures c.forms_are_whole.ensures c.args.file.now c.args.options.now inv.total inv.count inv.counted inv.total_is c.loop-form.pages c.loop-form.walk c.loop-form.output inv.so_far) inv.so_far.written all))
 
 pub returns-in-Ok-None-clause-err : goal.returns-in-Ok-None-clause-err
 returns-in-Ok-None-clause-err c =
@@ -33,9 +33,9 @@ returns-in-Ok-None-clause-err c =
     let ended = rw c.in-Ok-None.field-0-is at c.in-Ok-None.ensures in
     let all = all_written c.files_have_one_forms.ensures c.files_have_one_chain.ensures c.forms_are_whole.ensures c.args.file.now c.args.options.now inv.total inv.count inv.counted inv.total_is c.loop-form.pages c.loop-form.walk c.loop-form.output inv.so_far c.requires ended.due c.has_items.ensures in
     if_err c.finish.result c.finish.ensures.err (λ fault refused not_memory.
-      subst (IsRefused c.args.file.now c.args.options.now) (sym refused.0)
-      (file_too_large c.files_have_one_forms.ensures c.files_have_one_chain.ensures c.forms_are_whole.ensures c.args.file.now c.args.options.now inv.total inv.count inv.counted inv.total_is c.loop-form.pages c.loop-form.walk c.loop-form.output inv.so_far c.requires ended.due c.has_items.ensures
-      (refused.1 (now c.files_have_one_forms.ensures c.files_have_one_chain.ensures c.forms_are_whole.ensures c.args.file.now c.args.options.now inv.total inv.count inv.counted inv.total_is c.loop-form.pages c.loop-form.walk c.loop-form.output inv.so_far) inv.so_far.written all)))
+    subst (IsRefused c.args.file.now c.args.options.now) (sym refused.0)
+    (file_too_large c.files_have_one_forms.ensures c.files_have_one_chain.ensures c.forms_are_whole.ensures c.args.file.now c.args.options.now inv.total inv.count inv.counted inv.total_is c.loop-form.pages c.loop-form.walk c.loop-form.output inv.so_far c.requires ended.due c.has_items.ensures
+    (refused.1 (now c.files_have_one_forms.ensures c.files_have_one_chain.ensures c.forms_are_whole.ensures c.args.file.now c.args.options.now inv.total inv.count inv.counted inv.total_is c.loop-form.pages c.loop-form.walk c.loop-form.output inv.so_far) inv.so_far.written all)))
 
 pub source_fault-requires : goal.source_fault-requires
 source_fault-requires c =

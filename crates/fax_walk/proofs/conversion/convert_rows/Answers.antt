@@ -1,5 +1,5 @@
 use Rattle.fax_walk.specs.code.Sources.{part_of}
-use Rattle.fax_walk.proofs.RowLemmas.{went, rows, rows_due, next_wide, one_converted, not_proper, not_outside, told}
+use Rattle.fax_walk.proofs.RowLemmas.{went, rows, rows_due, next_wide, one_converted}
 use Rattle.fax_walk.proofs.conversion.convert_rows.Goals as goal
 
 pub put_row-requires : goal.put_row-requires
