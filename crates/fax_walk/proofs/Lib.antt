@@ -23,3 +23,8 @@ pub mod OpenStripsLemmas
 pub mod OutputLemmas
 pub mod StripCheckLemmas
 pub mod PageCheckLemmas
+pub mod WidthLemmas
+pub mod ImageLemmas
+pub mod SourceLemmas
+pub mod RowLemmas
+pub mod FileLemmas

@@ -1,7 +1,6 @@
 -- An output that is written page by page.
-use Rattle.std.proofs.Common.{◌≡◌, ◌≢◌, ℕ, zero, suc, ◌+◌, ◌-◌, ◌*◌, ◌/◌, ◌%◌, ◌<◌, ◌≤◌, inl, inr, min, List, [], ◌∷◌, ◌++◌, length, map, take, drop, Option, Some, None, Result, Ok, Err, Vec, refl, sym, ap, ◌∙◌, subst, arith, append_assoc, append-nil, length-append, length-take, length-drop, ◌↔◌}
+use Rattle.std.proofs.Common.{◌≡◌, ℕ, suc, ◌+◌, ◌-◌, ◌*◌, ◌<◌, ◌≤◌, inl, inr, List, [], ◌∷◌, ◌++◌, length, map, take, drop, Option, Some, None, Result, Ok, Err, refl, sym, ap, ◌∙◌, arith, append_assoc, append-nil, length-append, length-take, length-drop}
 use Rattle.std.specs.Prelude.{flat_map, OnOk}
-use Rattle.std.specs.declared.alloc.Global.{Global}
 use Rattle.std.proofs.Math.Nat.{mul-le-mul_left}
 use Rattle.std.proofs.lemmas.Bool.{cases_lt}
 use Rattle.std.proofs.lemmas.Grind.{div_ceil_times}
@@ -15,7 +14,6 @@ use Rattle.fax_page.specs.declared.Coding.{Coding}
 use Rattle.fax_page.specs.declared.Coding.TheVariants.{Mh, Mr, Mmr}
 use Rattle.fax_page.specs.code.Writer.{WriterState}
 use Rattle.fax_files.specs.declared.PageForm.{PageForm}
-use Rattle.fax_files.specs.declared.writer.WriteFault.{WriteFault}
 use Rattle.fax_files.specs.Pbm.{Image, head_bytes, image_bytes, pbm_of}
 use Rattle.fax_files.specs.PbmLaws.{AreOfWidth}
 use Rattle.fax_files.specs.Written.{Written, WrittenPage, empty_file, four, with_four_at, page_bytes, directory_place, with_page as with_tiff_page, with_pages, file_of}
@@ -24,13 +22,10 @@ use Rattle.fax_walk.specs.declared.options.Options.{Options}
 use Rattle.fax_walk.specs.declared.options.Target.{Target}
 use Rattle.fax_walk.specs.declared.options.Target.TheVariants.{Pbm, Mh as ToMh, Mr as ToMr, Mmr as ToMmr}
 use Rattle.fax_walk.specs.declared.open_strips.OpenStrips.{OpenStrips}
-use Rattle.fax_walk.specs.declared.output.Output.{Output}
-use Rattle.fax_walk.specs.declared.output.Output.TheVariants.{Images, File, TooLarge}
 use Rattle.fax_walk.specs.declared.sheet.Sheet.{Sheet}
-use Rattle.fax_walk.specs.Converted.{SourcePage, strips_of, coded_strips, written_form, written_page, target_bytes, IsTooLarge}
+use Rattle.fax_walk.specs.Converted.{SourcePage, strips_of, coded_strips, written_page, target_bytes}
 use Rattle.fax_walk.specs.code.OpenStrips.{HasPutRows, AreInStrip}
-use Rattle.fax_walk.specs.code.Output.{Progress, Part, no_rows, with_row, with_page, page_of, behind, nothing_written, sheet_form, coding_of, StaysTooLarge, HasImages, HasPages, HasRowsOnPage, HasImageRows, HasPart, BecomesTooLarge, IsPartWritten, IsWrittenTo}
-use Rattle.fax_walk.proofs.OpenStripsLemmas.{enough}
+use Rattle.fax_walk.specs.code.Output.{Progress, Part, no_rows, with_row, page_of, behind, nothing_written, sheet_form, coding_of, StaysTooLarge, HasImages, HasPages, HasRowsOnPage, HasImageRows, BecomesTooLarge}
 
 -- what follows where a call was done
 pub on_ok : {E : Type 0} {P Q : Type 0} (result : Result (Unit {0}) E) → OnOk result P → (P → Q) → OnOk result Q

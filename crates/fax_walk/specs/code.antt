@@ -8,3 +8,4 @@ pub mod Conversion
 pub mod OpenStrips
 pub mod Output
 pub mod Check
+pub mod Sources

@@ -1,7 +1,12 @@
 //! A file of pages turned into another: raw PBM or TIFF, into either of them.
-ghost use Rattle.std.specs.Prelude.{◌≢◌, IfOk, IfErr};
+ghost use Rattle.std.specs.Prelude.{◌≡◌, ◌≢◌, IfOk, IfErr, OnOk, List};
+ghost use Rattle.fax_walk.specs.declared.end.End.{End};
+ghost use Rattle.fax_walk.specs.Items.{Item};
 ghost use Rattle.fax_walk.specs.Converted as Spec;
 ghost use Rattle.fax_walk.specs.code.Conversion as Code;
+ghost use Rattle.fax_walk.specs.code.Due.{IsDue};
+ghost use Rattle.fax_walk.specs.code.Output.{image_sheet};
+ghost use Rattle.fax_walk.specs.code.Sources as Reads;
 
 use crate::options::{ConvertFault, Options};
 use crate::output::Output;
@@ -28,9 +33,13 @@ fn count_images(bytes: &[u8]) -> Result<u64, ConvertFault>
     Ok(u64::MAX)
 }
 
-/// Converts the rows of an image.
-fn convert_raster(alloc: Global, image: &PbmImage, output: &mut Output) -> Result<(), Memory> {
-    if matches!(output, Output::TooLarge) {
+/// Puts the rows of an image, or none where the output is too large.
+fn convert_raster(alloc: Global, image: &PbmImage, output: &mut Output) -> Result<(), Memory>
+    requires { Reads.HasBegun output.old (image_sheet image.now.width image.now.rows) }
+    ensures { OnOk result (Reads.PutsImage output.old image.now.width image.now.rows image.now.raster.now
+        output.new) }
+{
+    if let Output::TooLarge = output {
         return Ok(());
     }
     for i in 0..image.rows {
@@ -41,13 +50,22 @@ fn convert_raster(alloc: Global, image: &PbmImage, output: &mut Output) -> Resul
 }
 
 /// Converts images.
-fn convert_images(alloc: Global, bytes: &[u8], options: &Options) -> Result<Vec<u8>, ConvertFault> {
+fn convert_images(alloc: Global, bytes: &[u8], options: &Options) -> Result<Vec<u8>, ConvertFault>
+    requires { Spec.IsPbm bytes.now }
+    ensures ok { IfOk result (λ output. Spec.IsConverted bytes.now options.now output.items) }
+    ensures err { IfErr result (λ fault. fault ≢ ConvertFault.Memory
+        → Spec.IsRefused bytes.now options.now fault) }
+{
+    fax_files::laws::images_are_read_in_one_way();
+    fax_files::laws::images_begin_in_one_way();
     let images = count_images(bytes)?;
     let mut output = Output::new(alloc, options, images)?;
     let mut reader = PbmReader::new(bytes);
     for _ in 0..images {
-        let Ok(Some(image)) = reader.next_image() else {
-            unreachable!()
+        let image = match reader.next_image() {
+            Ok(Some(image)) => image,
+            Ok(None) => unreachable!(),
+            Err(_) => unreachable!(),
         };
         output.begin(alloc, options, &Sheet::of_image(&image))?;
         convert_raster(alloc, &image, &mut output)?;
@@ -57,7 +75,10 @@ fn convert_images(alloc: Global, bytes: &[u8], options: &Options) -> Result<Vec<
 }
 
 /// Why the rows or the pages of a TIFF file have ended.
-fn source_fault(fault: WalkFault) -> ConvertFault {
+fn source_fault(fault: WalkFault) -> ConvertFault
+    requires { fault ≢ WalkFault.CursorOutside }
+    ensures { result ≡ Reads.source_fault fault }
+{
     match fault {
         WalkFault::Memory => ConvertFault::Memory,
         WalkFault::AtRow { page, row, cause } => ConvertFault::Source { page, row, cause },
@@ -66,21 +87,36 @@ fn source_fault(fault: WalkFault) -> ConvertFault {
 }
 
 /// The number of pages that are not refused, from the first on.
-fn count_pages(file: &[u8]) -> u64 {
+fn count_pages(file: &[u8]) -> u64
+    ensures { Reads.IsPageCount file.now result }
+{
+    crate::laws::form_tail_of_start();
     let mut pages = Pages::start(file);
     let mut count = 0;
-    while let Ok(Some(_)) = pages.next_page() {
-        count += 1;
+    loop {
+        match pages.next_page() {
+            Ok(Some(_)) => count += 1,
+            Ok(None) => return count,
+            Err(_) => return count,
+        }
     }
-    count
 }
 
-/// Converts the next rows of a walk, which are those of a page.
-fn convert_rows(walk: &mut Walk, rows: u32, output: &mut Output) -> Result<(), ConvertFault> {
-    for _ in 0..rows {
+/// Reads the rows of a page and puts them.
+fn convert_rows(walk: &mut Walk, sheet: &Sheet, output: &mut Output) -> Result<(), ConvertFault>
+    requires due { (items : List Item) (end : End) → IsDue walk.old items end
+        → Reads.BeginsWithPage sheet.now.width sheet.now.rows items end }
+    requires begun { Reads.HasBegun output.old sheet.now }
+    ensures ok { OnOk result (Reads.ConvertsRows walk.old output.old sheet.now walk.new output.new) }
+    ensures err { IfErr result (λ fault. fault ≢ ConvertFault.Memory → Reads.EndsWith walk.old fault) }
+{
+    for _ in 0..sheet.rows {
         match walk.advance() {
-            Ok(true) => output.put_row(walk.row())?,
-            Ok(false) => return Ok(()),
+            Ok(true) => {
+                walk.has_items();
+                output.put_row(walk.row())?;
+            }
+            Ok(false) => unreachable!(),
             Err(fault) => return Err(source_fault(fault)),
         }
     }
@@ -88,19 +124,33 @@ fn convert_rows(walk: &mut Walk, rows: u32, output: &mut Output) -> Result<(), C
 }
 
 /// Converts a TIFF file.
-fn convert_file(alloc: Global, file: &[u8], options: &Options) -> Result<Vec<u8>, ConvertFault> {
+fn convert_file(alloc: Global, file: &[u8], options: &Options) -> Result<Vec<u8>, ConvertFault>
+    requires { Spec.IsTiff file.now }
+    ensures ok { IfOk result (λ output. Spec.IsConverted file.now options.now output.items) }
+    ensures err { IfErr result (λ fault. fault ≢ ConvertFault.Memory
+        → Spec.IsRefused file.now options.now fault) }
+{
+    crate::laws::tail_of_start();
+    crate::laws::form_tail_of_start();
+    crate::laws::files_have_one_forms();
+    fax_files::laws::files_have_one_chain();
+    fax_files::laws::forms_are_whole();
+    let count = count_pages(file);
     // A file without a page is refused where its first one is due.
-    let mut output = Output::new(alloc, options, count_pages(file).max(1))?;
+    let mut output = Output::new(alloc, options, count.max(1))?;
     let mut walk = Walk::start(alloc, file);
     let mut pages = Pages::start(file);
     loop {
+        walk.has_items();
         let form = match pages.next_page() {
             Ok(Some((_, form))) => form,
             Ok(None) => return output.finish(),
             Err(fault) => return Err(source_fault(fault)),
         };
-        output.begin(alloc, options, &Sheet::of_form(&form))?;
-        convert_rows(&mut walk, form.rows, &mut output)?;
+        pages.has_forms();
+        let sheet = Sheet::of_form(&form);
+        output.begin(alloc, options, &sheet)?;
+        convert_rows(&mut walk, &sheet, &mut output)?;
         output.end()?;
     }
 }

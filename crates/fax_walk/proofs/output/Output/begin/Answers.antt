@@ -1,4 +1,4 @@
-use Rattle.std.proofs.Common.{◌≡◌, ◌+◌, ◌*◌, ◌<◌, ◌≤◌, length, ap, ◌∙◌, arith, length-append}
+use Rattle.std.proofs.Common.{◌≡◌, ◌*◌, length, ap, arith, length-append}
 use Rattle.fax_rows.specs.Packed.{packed_len}
 use Rattle.fax_files.specs.Pbm.{head_bytes}
 use Rattle.fax_walk.proofs.OutputLemmas.{image_too_large, image_begun}

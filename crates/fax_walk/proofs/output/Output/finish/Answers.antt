@@ -1,6 +1,5 @@
-use Rattle.std.proofs.Common.{refl, [], ◌++◌, ap, subst, append-nil, ◌≡◌, length, ◌∙◌, List}
+use Rattle.std.proofs.Common.{refl, [], ap, subst, append-nil, length, ◌∙◌, List}
 use Rattle.fax_walk.specs.Converted.{SourcePage, IsTooLarge, target_bytes}
-use Rattle.fax_walk.specs.code.Output.{IsWrittenTo}
 use Rattle.fax_walk.proofs.output.Output.finish.Goals as goal
 
 pub returns-clause-err : goal.returns-clause-err

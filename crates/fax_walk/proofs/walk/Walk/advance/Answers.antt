@@ -1,4 +1,4 @@
-use Rattle.std.proofs.Common.{◌≡◌, sym, ap, ◌∙◌}
+use Rattle.std.proofs.Common.{sym, ap, ◌∙◌}
 use Rattle.fax_walk.specs.code.Due.{WalkState}
 use Rattle.fax_walk.proofs.WalkLemmas.{went_to_row, went_to_end}
 use Rattle.fax_walk.proofs.walk.Walk.advance.Goals as goal
