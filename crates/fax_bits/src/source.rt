@@ -68,7 +68,7 @@ impl<'a> BitSource<'a> {
     }
 
     /// The bit that is `i` bits ahead, or a zero past the end.
-    fn bit_or_zero(&self, i: u64) -> bool
+    pub(crate) fn bit_or_zero(&self, i: u64) -> bool
         ensures { result ≡ slice_index_or self.now.left i false }
     {
         i < self.remaining() && self.bit(i)
