@@ -22,7 +22,7 @@ pub enum ModeCode {
 /// How many entries the mode table has: nine modes, and the extension prefix.
 const MODE_ENTRIES: usize = 10;
 
-const MODES: [CodeEntry<ModeCode>; MODE_ENTRIES] = [
+static MODES: [CodeEntry<ModeCode>; MODE_ENTRIES] = [
     CodeEntry {
         code: 0b0001,
         len: 4,

@@ -35,6 +35,7 @@ fn read_run_code(source: &mut BitSource, colour: Colour) -> Result<RunCode, Code
 }
 
 /// Reads a run of the colour whose first pel is `from`, and answers how many pels it has.
+#[inline(always)]
 pub fn read_run(
     source: &mut BitSource,
     colour: Colour,
