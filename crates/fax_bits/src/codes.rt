@@ -131,7 +131,7 @@ pub fn read_code<T: CodeTable>(source: &mut BitSource) -> Result<T::Meaning, Cod
     ensures same_end { KeepsEnd source.old source.new }
     ensures shorter { OnOk result (length source.new.left < length source.old.left) }
 {
-    if source.remaining() < u64::from(LONGEST_CODE) {
+    if !source.has_word() {
         return read_last_code::<T>(source);
     }
     match take_code::<T>(source, LONGEST_CODE) {
@@ -140,20 +140,20 @@ pub fn read_code<T: CodeTable>(source: &mut BitSource) -> Result<T::Meaning, Cod
     }
 }
 
-/// What `read_code` does where fewer bits are left than the longest code has.
+/// What `read_code` does, also near the end of the bytes.
 #[inline(never)]
 fn read_last_code<T: CodeTable>(source: &mut BitSource) -> Result<T::Meaning, CodeFault>
-    requires { length source.old.left < 13 }
     ensures ok { IfOk result (λ meaning. Takes T.table source.old.left meaning source.new.left) }
     ensures err { IfErr result (λ fault. IsFaultOf T.table source.old.left fault) }
     ensures unchanged { OnErr result (source.new ≡ source.old) }
     ensures same_end { KeepsEnd source.old source.new }
     ensures shorter { OnOk result (length source.new.left < length source.old.left) }
 {
-    let n = source.remaining() as u32;
+    let n = source.remaining().min(u64::from(LONGEST_CODE)) as u32;
     match take_code::<T>(source, n) {
         Some(meaning) => Ok(meaning),
-        None => Err(fault_at_end::<T>(source)),
+        None if n < LONGEST_CODE => Err(fault_at_end::<T>(source)),
+        None => Err(CodeFault::BadCode),
     }
 }
 

@@ -57,6 +57,14 @@ impl<'a> BitSource<'a> {
         self.bytes.len() as u64 * 8 - self.place
     }
 
+    /// Whether four bytes are left, from that of the next bit on.
+    #[inline(always)]
+    pub(crate) fn has_word(&self) -> bool
+        ensures { IsTrue result → 25 ≤ length self.now.left }
+    {
+        self.bytes.len() - (self.place / 8) as usize >= 4
+    }
+
     /// The bit that is `i` bits ahead.
     pub(crate) fn bit(&self, i: u64) -> bool
         requires { i < length self.now.left }
@@ -68,7 +76,7 @@ impl<'a> BitSource<'a> {
     }
 
     /// The bit that is `i` bits ahead, or a zero past the end.
-    pub(crate) fn bit_or_zero(&self, i: u64) -> bool
+    fn bit_or_zero(&self, i: u64) -> bool
         ensures { result ≡ slice_index_or self.now.left i false }
     {
         i < self.remaining() && self.bit(i)

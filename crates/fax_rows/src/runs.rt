@@ -21,6 +21,7 @@ pub fn other(colour: Colour) -> Colour
 }
 
 /// Reads a code for a run of the colour.
+#[inline(always)]
 fn read_run_code(source: &mut BitSource, colour: Colour) -> Result<RunCode, CodeFault>
     ensures ok { IfOk result
         (λ code. Takes (run_table colour) source.old.left code source.new.left) }

@@ -1,21 +1,23 @@
-use Rattle.std.proofs.Common.{◌≡◌, ◌<◌, ℕ, suc, zero, List, [], ◌∷◌, ◌++◌, drop, get_or, length, Bool, true, false, refl, ap, sym, ◌∙◌, true≢false, arith}
+use Rattle.std.proofs.Common.{◌≡◌, ◌<◌, ℕ, List, [], ◌∷◌, ◌++◌, take, drop, replicate, length, Bool, true, false, refl, arith}
 use Rattle.std.specs.Prelude.{pos}
 use Rattle.fax_bits.specs.declared.modes.ModeCode.TheVariants.{Vertical}
 use Rattle.fax_bits.specs.Codes.{Takes}
-use Rattle.fax_bits.specs.Bits.{code_bits}
+use Rattle.fax_bits.specs.Bits.{bits_number, code_bits}
 use Rattle.fax_bits.specs.Tables.{modes}
 use Rattle.fax_bits.proofs.TableLemmas.{listed}
 use Rattle.fax_bits.proofs.modes.read_mode.Goals as goal
 
-takes_one : (left : List Bool) → true ≡ get_or left 0 false → Takes modes left (Vertical (pos 0)) (drop 1 left)
+takes_one : (left : List Bool) (number : ℕ) → number ≡ bits_number (take 1 (left ++ replicate 1 false)) → number ≡ 1
+    → Takes modes left (Vertical (pos 0)) (drop 1 left)
 unfolding modes code_bits
-takes_one [] one = absurd (true≢false one)
-takes_one (b ∷ left) one = record {
+takes_one [] number is one = absurd (omega arith)
+takes_one (false ∷ left) number is one = absurd (omega arith)
+takes_one (true ∷ left) number is one = record {
   entry = record { code = 1; len = 1; meaning = Vertical (pos 0) };
   listed = listed modes 2 (record { code = 1; len = 1; meaning = Vertical (pos 0) }) refl;
   means = refl;
-  spelled = ap (λ bit. bit ∷ left) (sym one);
+  spelled = refl;
 }
 
-pub returns-then-bit_or_zero-clause-ok : goal.returns-then-bit_or_zero-clause-ok
-returns-then-bit_or_zero-clause-ok c = rw c.skip.ensures (takes_one c.args.source.now.left (sym c.if-bit_or_zero.true ∙ c.bit_or_zero.ensures))
+pub returns-then-peek-eq1-clause-ok : goal.returns-then-peek-eq1-clause-ok
+returns-then-peek-eq1-clause-ok c = rw c.skip.ensures (takes_one c.args.source.now.left c.peek.result c.peek.ensures (omega arith))
