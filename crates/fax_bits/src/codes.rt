@@ -1,6 +1,6 @@
 //! Code tables, and the code that bits begin with.
 ghost use Rattle.std.specs.Prelude.{◌≡◌, ℕ, ◌^◌, ◌<◌, ◌≤◌, List, length, slice_get};
-ghost use Rattle.std.specs.Prelude.{OnOk, OnErr, IfOk, IfErr, MatchOption, Some};
+ghost use Rattle.std.specs.Prelude.{OnOk, OnErr, IfOk, IfErr, MatchOption, Some, None, IsSome};
 ghost use Rattle.fax_bits.specs.Bits.{code_bits};
 ghost use Rattle.fax_bits.specs.Codes.{Takes, IsFaultOf, HasNoCode};
 ghost use Rattle.fax_bits.specs.code.Meeting.{IsMeeting};
@@ -8,6 +8,9 @@ ghost use Rattle.fax_bits.specs.code.Source.{KeepsEnd};
 
 use crate::BitSource;
 use thiserror::Error;
+
+/// How many bits the longest code has.
+const LONGEST_CODE: u32 = 13;
 
 /// A code of a table: the lowest `len` bits of `code`, the highest of them first.
 #[derive(Clone, Copy, Debug, PartialEq, Eq)]
@@ -128,15 +131,51 @@ pub fn read_code<T: CodeTable>(source: &mut BitSource) -> Result<T::Meaning, Cod
     ensures same_end { KeepsEnd source.old source.new }
     ensures shorter { OnOk result (length source.new.left < length source.old.left) }
 {
-    let n = source.remaining().min(13) as u32;
-    if let Some(found) = T::find(source.peek(n), n) {
-        source.skip(u64::from(found.0));
-        return Ok(found.1);
+    if !source.has_word() {
+        return read_last_code::<T>(source);
     }
-    if n < 13 {
-        Err(fault_at_end::<T>(source))
-    } else {
-        Err(CodeFault::BadCode)
+    match take_code::<T>(source, LONGEST_CODE) {
+        Some(meaning) => Ok(meaning),
+        None => Err(CodeFault::BadCode),
+    }
+}
+
+/// What `read_code` does, also near the end of the bytes.
+#[inline(never)]
+fn read_last_code<T: CodeTable>(source: &mut BitSource) -> Result<T::Meaning, CodeFault>
+    ensures ok { IfOk result (λ meaning. Takes T.table source.old.left meaning source.new.left) }
+    ensures err { IfErr result (λ fault. IsFaultOf T.table source.old.left fault) }
+    ensures unchanged { OnErr result (source.new ≡ source.old) }
+    ensures same_end { KeepsEnd source.old source.new }
+    ensures shorter { OnOk result (length source.new.left < length source.old.left) }
+{
+    let n = source.remaining().min(u64::from(LONGEST_CODE)) as u32;
+    match take_code::<T>(source, n) {
+        Some(meaning) => Ok(meaning),
+        None if n < LONGEST_CODE => Err(fault_at_end::<T>(source)),
+        None => Err(CodeFault::BadCode),
+    }
+}
+
+/// Reads the code that begins the next `n` bits, which are 13, or all where fewer are left. Where none
+/// does, the source is as it was.
+#[inline(always)]
+fn take_code<T: CodeTable>(source: &mut BitSource, n: u32) -> Option<T::Meaning>
+    requires few { n ≤ 13 }
+    requires within { n ≤ length source.old.left }
+    requires all { (k : ℕ) → k ≤ 13 → k ≤ length source.old.left → k ≤ n }
+    ensures code { MatchOption result (HasNoCode T.table source.old.left)
+        (λ meaning. Takes T.table source.old.left meaning source.new.left) }
+    ensures unchanged { result ≡ None → source.new ≡ source.old }
+    ensures same_end { KeepsEnd source.old source.new }
+    ensures shorter { IsSome result → length source.new.left < length source.old.left }
+{
+    match T::find(source.peek(n), n) {
+        Some(found) => {
+            source.skip(u64::from(found.0));
+            Some(found.1)
+        }
+        None => None,
     }
 }
 

@@ -14,7 +14,7 @@ mod window;
 
 pub use codes::{CodeEntry, CodeFault, CodeTable, read_code};
 pub use lanes::reverse_bits;
-pub use modes::{ModeCode, Modes};
+pub use modes::{ModeCode, Modes, read_mode};
 pub use put::{put_mode, put_run};
 pub use runs::{BlackRuns, RunCode, WhiteRuns};
 pub use sink::BitSink;

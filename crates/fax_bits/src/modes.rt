@@ -1,7 +1,11 @@
 //! The modes of two-dimensional coding (ITU-T T.4, table 4).
-ghost use Rattle.std.specs.Prelude.{◌≡◌, ◌<◌};
+ghost use Rattle.std.specs.Prelude.{◌≡◌, ◌<◌, length, IfOk, IfErr, OnOk, OnErr};
+ghost use Rattle.fax_bits.specs.Codes.{Takes, IsFaultOf};
+ghost use Rattle.fax_bits.specs.Tables.{modes};
+ghost use Rattle.fax_bits.specs.code.Source.{KeepsEnd};
 
-use crate::codes::{CodeEntry, CodeTable};
+use crate::BitSource;
+use crate::codes::{CodeEntry, CodeFault, CodeTable, read_code};
 use crate::indexes::MODE_PLACES;
 
 /// What a code of the mode table means (T.4, section 4.2.1.3.2).
@@ -18,7 +22,7 @@ pub enum ModeCode {
 /// How many entries the mode table has: nine modes, and the extension prefix.
 const MODE_ENTRIES: usize = 10;
 
-const MODES: [CodeEntry<ModeCode>; MODE_ENTRIES] = [
+static MODES: [CodeEntry<ModeCode>; MODE_ENTRIES] = [
     CodeEntry {
         code: 0b0001,
         len: 4,
@@ -99,4 +103,22 @@ impl CodeTable for Modes {
     ghost short_codes = { Laws.modes_has_short_codes };
 
     ghost prefix_free = { Laws.modes_is_prefix_free };
+}
+
+/// Reads a mode: what `read_code` does, without a look-up where a1 is under b1. After an `Err` the
+/// source is as it was.
+pub fn read_mode(source: &mut BitSource) -> Result<ModeCode, CodeFault>
+    ensures ok { IfOk result (λ mode. Takes modes source.old.left mode source.new.left) }
+    ensures err { IfErr result (λ fault. IsFaultOf modes source.old.left fault) }
+    ensures unchanged { OnErr result (source.new ≡ source.old) }
+
+    // The source goes on in the same bits, and a mode takes at least one of them.
+    ensures same_end { KeepsEnd source.old source.new }
+    ensures shorter { OnOk result (length source.new.left < length source.old.left) }
+{
+    if source.has_word() && source.peek(1) == 1 {
+        source.skip(1);
+        return Ok(ModeCode::Vertical(0));
+    }
+    read_code::<Modes>(source)
 }

@@ -59,6 +59,14 @@ impl<'a> BitSource<'a> {
         self.bytes.len() as u64 * 8 - self.place
     }
 
+    /// Whether four bytes are left, from that of the next bit on.
+    #[inline(always)]
+    pub(crate) fn has_word(&self) -> bool
+        ensures { IsTrue result → 25 ≤ length self.now.left }
+    {
+        self.bytes.len() - (self.place / 8) as usize >= 4
+    }
+
     /// The bit that is `i` bits ahead.
     pub(crate) fn bit(&self, i: u64) -> bool
         requires { i < length self.now.left }

@@ -13,6 +13,7 @@ use crate::turns::{close, turn};
 use fax_bits::{BitSource, Colour};
 
 /// Reads the runs of a row in one-dimensional coding, and answers where its places end.
+#[inline(never)]
 fn read_places(source: &mut BitSource, places: &mut [u32], width: u32) -> Result<usize, RowFault>
     requires some { 0 < width }
     requires short { width < 2 ^ 16 }

@@ -21,6 +21,7 @@ pub fn other(colour: Colour) -> Colour
 }
 
 /// Reads a code for a run of the colour.
+#[inline(always)]
 fn read_run_code(source: &mut BitSource, colour: Colour) -> Result<RunCode, CodeFault>
     ensures ok { IfOk result
         (λ code. Takes (run_table colour) source.old.left code source.new.left) }
@@ -35,6 +36,7 @@ fn read_run_code(source: &mut BitSource, colour: Colour) -> Result<RunCode, Code
 }
 
 /// Reads a run of the colour whose first pel is `from`, and answers how many pels it has.
+#[inline(always)]
 pub fn read_run(
     source: &mut BitSource,
     colour: Colour,

@@ -15,7 +15,7 @@ use crate::RowFault;
 use crate::pels::Row;
 use crate::runs::{other, read_run};
 use crate::turns::{close, turn};
-use fax_bits::{BitSource, Colour, ModeCode, Modes, read_code};
+use fax_bits::{BitSource, Colour, ModeCode, read_mode};
 
 /// How far a row is read (T.4, section 4.2.1.3.1).
 #[derive(Clone, Copy)]
@@ -118,6 +118,7 @@ fn find_turned_b1(reference: &[u32], end: usize, width: u32, b1: usize, place: u
 
 /// Vertical mode: goes on to a1, which is `d` pels right of b1, where the colour changes (T.4,
 /// section 4.2.1.3.2).
+#[inline(always)]
 fn vertical(
     reference: &[u32],
     reference_end: usize,
@@ -211,6 +212,7 @@ fn horizontal(
 }
 
 /// Reads one mode, and goes on by what it says (T.4, section 4.2.1.3.3).
+#[inline(always)]
 fn step(
     source: &mut BitSource,
     reference: &[u32],
@@ -235,7 +237,7 @@ fn step(
     ensures same_end { KeepsEnd source.old source.new }
     ensures shorter { OnOk result (length source.new.left < length source.old.left) }
 {
-    let mode = read_code::<Modes>(source)?;
+    let mode = read_mode(source)?;
     match mode {
         ModeCode::Pass => Ok(pass(reference, reference_end, places, width, at)),
         ModeCode::Horizontal => horizontal(source, reference, reference_end, places, width, at),
@@ -245,6 +247,7 @@ fn step(
 }
 
 /// Reads the modes of a row over the reference row's places, and answers where its places end.
+#[inline(never)]
 fn read_places_2d(
     source: &mut BitSource,
     reference: &[u32],
