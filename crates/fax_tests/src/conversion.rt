@@ -58,7 +58,7 @@ fn writes_as_the_options_say(rt: HostRuntime) {
     // Each row is one-dimensional.
     let first = to(Target::Mr, FillOrder::MsbFirst, 1, None);
     let file = convert(rt.alloc(), b"P4\n8 2\n\x18\x18", &first).expect(&rt, "a file");
-    assert!(rt; file.starts_with(b"II*\0\x0E\0\0\0\0\x1C\x70\0\xE3\x80"));
+    assert!(rt; file.starts_with(b"II*\0\x0E\0\0\0\0\x1C\x70\0\x38\xE0"));
 }
 
 #[test]
