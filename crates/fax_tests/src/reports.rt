@@ -34,7 +34,8 @@ fn reports_notes_up_to_the_first_fault(rt: HostRuntime) {
     file[34] = 6;
     file[38] = 0;
     file[46] = 8;
-    // The first strip has other codes behind its rows, and the second nothing; the third ends in its second row.
+    // The first strip has other bits behind its rows, and the second nothing; the third ends in its
+    // second row.
     file[10] = 3;
     file[15] = 0;
     file[17] = 0;
@@ -73,7 +74,7 @@ fn reports_the_fault_of_a_header_and_of_a_page(rt: HostRuntime) {
     let fault = Some((place, Cause::File(FileFault::ShortHeader)));
     assert_report(&rt, &report, &[], 0, 0, fault);
     let mut file = MMR;
-    // Compression 5, and a second page in place of the chain's end.
+    // Compression 5.
     file[52] = 5;
     let report = check(rt.alloc(), &file).expect(&rt, "a report");
     let fault = Some((place, Cause::File(FileFault::Unsupported(259))));

@@ -171,7 +171,8 @@ fn check_strips(
 ) -> Result<PageRead, Memory>
     requires form { form_of directory.now ≡ Ok form.now }
     requires limits { IsPageForm form.now }
-    ensures { IfOk result (λ read. (noted : List Note) × (notes.new.items ≡ notes.old.items ++ noted)
+    ensures { IfOk result (λ read. (noted : List Note)
+        × (notes.new.items ≡ notes.old.items ++ noted)
         × Code.AreAllStripsChecked directory.now form.now page noted read) }
 {
     fax_files::laws::forms_are_whole();
