@@ -14,6 +14,7 @@ pub mod ReadBackLemmas
 pub mod PutLemmas
 pub mod FindLemmas
 pub mod NumberLemmas
+pub mod TakeLemmas
 pub mod ReadLemmas
 pub mod PlaceLemmas
 pub mod IndexLemmas

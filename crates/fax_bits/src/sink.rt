@@ -1,10 +1,12 @@
 //! Bits that are put one behind another into bytes.
-ghost use Rattle.std.specs.Prelude.{◌≡◌, ◌<◌, ◌≤◌, ◌%◌, ◌^◌, [], length, OnOk, OnErr};
+ghost use Rattle.std.specs.Prelude.{◌≡◌, ◌<◌, ◌≤◌, ◌%◌, ◌^◌, ◌↔◌, [], length, OnOk, OnErr};
+ghost use Rattle.std.specs.Prelude.{IsTrue};
 ghost use Rattle.fax_bits.specs.Bits.{bits, code_bits};
 ghost use Rattle.fax_bits.specs.code.Sink.{Appends, IsPadded};
+ghost use Rattle.fax_bits.specs.code.Source.{BeginsWith};
 
 use crate::lanes::reverse_bits;
-use crate::{FillOrder, Memory};
+use crate::{BitSource, FillOrder, Memory};
 use std::alloc::Global;
 use std::marker::Model;
 
@@ -51,6 +53,28 @@ impl BitSink {
         ensures { result ≡ length self.now.bits }
     {
         self.bytes.len() as u128 * 8 + u128::from(self.count)
+    }
+
+    /// Forgets all bits. Their memory stays for those to come.
+    pub fn clear(&mut self)
+        ensures { self.new ≡ record self.old { bits = [] } }
+    {
+        self.bytes.clear();
+        self.pending = 0;
+        self.count = 0;
+    }
+
+    /// Whether the bits that a source has left begin with these.
+    pub fn begins(&self, source: &BitSource) -> bool
+        ensures { IsTrue result ↔ BeginsWith source.now.left self.now.bits }
+    {
+        let mut ahead = source.again();
+        for byte in &self.bytes {
+            if !ahead.take(u32::from(*byte), 8) {
+                return false;
+            }
+        }
+        ahead.take(self.pending, self.count)
     }
 
     /// Puts the lowest `len` bits of `bits`, 0 to 24 of them, the highest first. After an `Err` the

@@ -1,8 +1,10 @@
 //! Bits of bytes, read from a place on.
 ghost use Rattle.std.specs.Prelude.{◌≡◌, ◌+◌, ◌≤◌, ◌<◌, ◌++◌, length, take, drop, replicate};
 ghost use Rattle.std.specs.Prelude.{slice_index_or, false, MatchOption, IsTrue};
+ghost use Rattle.std.specs.Prelude.{◌^◌};
 ghost use Rattle.fax_bits.specs.Bits.{bits, bits_number, bit_in_byte, IsAllZeros, HasZerosAhead};
-ghost use Rattle.fax_bits.specs.code.Source.{IsZeroByteAt};
+ghost use Rattle.fax_bits.specs.Bits.{code_bits};
+ghost use Rattle.fax_bits.specs.code.Source.{IsZeroByteAt, IsTaken};
 
 use crate::FillOrder;
 use crate::window::Window;
@@ -152,6 +154,31 @@ impl<'a> BitSource<'a> {
             }
         }
         None
+    }
+
+    /// The same place once more.
+    pub fn again(&self) -> Self
+        ensures { result ≡ self.now }
+    {
+        BitSource {
+            order: self.order,
+            bytes: self.bytes,
+            place: self.place,
+        }
+    }
+
+    /// Goes behind the lowest `len` bits of `bits`, 0 to 24 of them, the highest first, where they
+    /// stand next, and answers whether they do. Else it stays.
+    pub fn take(&mut self, bits: u32, len: u32) -> bool
+        requires short { len ≤ 24 }
+        requires fits { bits < 2 ^ len }
+        ensures { IsTaken (code_bits len bits) self.old.left result self.new.left }
+    {
+        if self.remaining() < u64::from(len) || self.peek(len) != bits {
+            return false;
+        }
+        self.skip(u64::from(len));
+        true
     }
 
     /// Goes on by `n` bits.

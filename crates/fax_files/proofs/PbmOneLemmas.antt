@@ -64,7 +64,7 @@ same_image image other width_is rows_are =
     let first : image ≡ record { width = other.width; rows = image.rows } = ap (λ w. let i : Image = record { width = w; rows = image.rows } in i) width_is in
     first ∙ ap (λ (r : List (List Colour)). let i : Image = record { width = other.width; rows = r } in i) rows_are
 
-one_image : (bytes : List ℕ) (image other : Image) (rest others : List ℕ) → IsImage bytes image rest → IsImage bytes other others
+pub one_image : (bytes : List ℕ) (image other : Image) (rest others : List ℕ) → IsImage bytes image rest → IsImage bytes other others
     → (image ≡ other) × (rest ≡ others)
 one_image bytes image other rest others a b =
     let one = one_head bytes image.width a.height other.width b.height (a.raster ++ rest) (b.raster ++ others) a.head b.head in

@@ -4,6 +4,8 @@ use Rattle.fax_page.specs.declared.StripFault.{StripFault}
 use Rattle.fax_page.specs.declared.StripFault.TheVariants.{DataEnds, BadCode, Extension, RunTooLong, OutOfRow, MissingEol, EndMarker}
 use Rattle.fax_files.specs.declared.FileFault.{FileFault}
 use Rattle.fax_files.specs.declared.FileFault.TheVariants.{ShortHeader, ByteOrder, Magic, NoDirectory, DirectoryOutside, DirectoryLoop, MissingField, BadField, Unsupported, OutOfLimits, StripOutside}
+use Rattle.fax_files.specs.declared.pbm.PbmFault.{PbmFault}
+use Rattle.fax_files.specs.declared.pbm.PbmFault.TheVariants.{BadHeader, OutOfLimits as ImageOutOfLimits, ShortRaster}
 use Rattle.fax_files.specs.declared.Cause.{Cause}
 use Rattle.fax_files.specs.declared.Cause.TheVariants.{File, Strip}
 
@@ -54,3 +56,9 @@ fault_name (Strip fault) = strip_fault_name fault
 abbrev pub fault_tag : Cause → Option ℕ
 fault_tag (File fault) = file_fault_tag fault
 fault_tag (Strip fault) = None
+
+-- the name of an image's fault (this project's profile)
+abbrev pub pbm_fault_name : PbmFault → List ℕ
+pbm_fault_name BadHeader = codes "BadHeader"
+pbm_fault_name ImageOutOfLimits = codes "OutOfLimits"
+pbm_fault_name ShortRaster = codes "ShortRaster"

@@ -2,7 +2,7 @@
 use Rattle.std.specs.Prelude.{◌≡◌, ℕ, List, [], ◌∷◌, length, Option, None, IsTrue}
 use Rattle.fax_bits.specs.declared.Colour.{Colour}
 use Rattle.fax_files.specs.declared.pbm.PbmFault.{PbmFault}
-use Rattle.fax_files.specs.Pbm.{Image, AreImages, is_within_limits, pbm_of}
+use Rattle.fax_files.specs.Pbm.{Image, IsImage, AreImages, is_within_limits, pbm_of}
 
 -- rows of this width
 abbrev pub AreOfWidth : ℕ → List (List Colour) → Type 0
@@ -28,3 +28,9 @@ abbrev pub ImagesAreReadInOneWay : Type 0
 ImagesAreReadInOneWay =
     (bytes : List ℕ) (images others : List Image) (end other : Option PbmFault)
     → AreImages bytes images end → AreImages bytes others other → (images ≡ others) × (end ≡ other)
+
+-- bytes begin with at most one image, and one rest follows it (the netpbm format, P4, in this project's profile)
+abbrev pub ImagesBeginInOneWay : Type 0
+ImagesBeginInOneWay =
+    (bytes : List ℕ) (image other : Image) (rest others : List ℕ)
+    → IsImage bytes image rest → IsImage bytes other others → (image ≡ other) × (rest ≡ others)

@@ -41,3 +41,8 @@ pub fn written_images_are_read()
 pub fn images_are_read_in_one_way()
     ensures { PbmLaws.ImagesAreReadInOneWay }
 {}
+
+/// Bytes begin with at most one image (the netpbm format, P4).
+pub fn images_begin_in_one_way()
+    ensures { PbmLaws.ImagesBeginInOneWay }
+{}

@@ -32,6 +32,21 @@ pub enum PbmFault {
     ShortRaster,
 }
 
+impl PbmFault {
+    ghost use Rattle.fax_files.specs.FaultNames.{pbm_fault_name};
+
+    /// The fault's name.
+    pub fn name(self) -> &'static str
+        ensures { result.now ≡ pbm_fault_name self }
+    {
+        match self {
+            PbmFault::BadHeader => "BadHeader",
+            PbmFault::OutOfLimits => "OutOfLimits",
+            PbmFault::ShortRaster => "ShortRaster",
+        }
+    }
+}
+
 /// A blank, TAB, LF, VT, FF or CR.
 fn is_white_space(byte: u8) -> bool
     ensures { result ≡ Pbm.is_white_space byte }

@@ -59,7 +59,7 @@ eol_or_none b =
       ]
     ]
 
-eol_is_not_zeros : (b rest : List Bool) → IsEndOfLine b rest → IsAllZeros b → ⊥
+pub eol_is_not_zeros : (b rest : List Bool) → IsEndOfLine b rest → IsAllZeros b → ⊥
 eol_is_not_zeros b rest eol all = no_one eol.0 all.0 rest (sym eol.2 ∙ all.1)
 
 pub eol_is_not_below : (b rest : List Bool) → IsEndOfLine b rest → BeginsBelowEleven b → ⊥
@@ -69,7 +69,7 @@ eol_is_not_below b rest eol below =
 below_is_not_zeros : (b : List Bool) → BeginsBelowEleven b → IsAllZeros b → ⊥
 below_is_not_zeros b below all = no_one below.0 all.0 below.2.0 (sym below.2.1 ∙ all.1)
 
-same_eol : (b rest remaining : List Bool) → IsEndOfLine b rest → IsEndOfLine b remaining → rest ≡ remaining
+pub same_eol : (b rest remaining : List Bool) → IsEndOfLine b rest → IsEndOfLine b remaining → rest ≡ remaining
 same_eol b rest remaining first second = (same_ahead first.0 second.0 rest remaining (sym first.2 ∙ second.2)).1
 
 same_tag : (dimension another : Dimension) (rest remaining : List Bool) → tag_bit dimension ∷ rest ≡ tag_bit another ∷ remaining

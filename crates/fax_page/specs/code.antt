@@ -4,3 +4,4 @@ pub mod Starts
 pub mod Reader
 pub mod NextRow
 pub mod Writer
+pub mod Notes

@@ -3,10 +3,12 @@
 
 pub mod laws;
 mod lines;
+mod notes;
 mod reader;
 mod writer;
 
 pub use fax_rows::{Colour, FillOrder, Memory, Row, RowFault};
+pub use notes::{NotesFault, StripNotes, strip_notes};
 pub use reader::StripReader;
 use thiserror::Error;
 pub use writer::StripWriter;

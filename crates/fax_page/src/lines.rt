@@ -2,7 +2,7 @@
 ghost use Rattle.std.specs.Prelude.{◌≡◌, ◌∷◌, [], length, OnOk, IfOk, IfErr};
 ghost use Rattle.fax_bits.specs.code.Source.{KeepsEnd};
 ghost use Rattle.fax_page.specs.Lines as Lines;
-ghost use Rattle.fax_page.specs.code.Starts.{HasEol, HasNoEol};
+ghost use Rattle.fax_page.specs.code.Starts.{HasEol, HasNoEol, IsNoBegin, IsStop};
 
 use crate::{Coding, Dimension, StripFault, StripForm};
 use fax_rows::{BitSource, Row, read_1d, read_2d};
@@ -11,7 +11,7 @@ use fax_rows::{BitSource, Row, read_1d, read_2d};
 const EOL_ZEROS: u64 = 11;
 
 /// Reads fill and an EOL (T.4, sections 4.1.2 and 4.1.3), which some rows may lack.
-fn read_eol(source: &mut BitSource, may_lack: bool) -> Result<(), StripFault>
+pub fn read_eol(source: &mut BitSource, may_lack: bool) -> Result<(), StripFault>
     ensures ok { OnOk result (HasEol may_lack source.old.left source.new.left) }
     ensures err { IfErr result (HasNoEol may_lack source.old.left) }
     ensures same_end { KeepsEnd source.old source.new }
@@ -83,6 +83,40 @@ fn check_first_code(source: &BitSource) -> Result<(), StripFault>
     }
 }
 
+/// Reads what stands before the codes of row `i` of a strip, and answers how the row is coded.
+pub fn read_begin(source: &mut BitSource, form: StripForm, i: u32) -> Result<Dimension, StripFault>
+    ensures ok { IfOk result (λ dimension.
+        Lines.IsBegin form i source.old.left dimension source.new.left) }
+    ensures err { IfErr result (IsNoBegin form i source.old.left) }
+    ensures same_end { KeepsEnd source.old source.new }
+{
+    let dimension = read_start(source, form.coding, i)?;
+    check_first_code(source)?;
+    Ok(dimension)
+}
+
+/// Reads the codes of a row that is coded so into `row`, of which nothing is said after a fault.
+pub fn read_codes(
+    source: &mut BitSource,
+    dimension: Dimension,
+    reference: &Row,
+    row: &mut Row,
+) -> Result<(), StripFault>
+    requires same_width { length reference.now ≡ length row.old }
+    ensures ok { OnOk result (Lines.IsRowIn dimension (length row.old) reference.now
+        source.old.left row.new source.new.left) }
+    ensures err { IfErr result
+        (IsStop dimension (length row.old) reference.now source.old.left) }
+    ensures same_width { length row.new ≡ length row.old }
+    ensures same_end { KeepsEnd source.old source.new }
+{
+    match dimension {
+        Dimension::OneDimensional => read_1d(source, row)?,
+        Dimension::TwoDimensional => read_2d(source, reference, row)?,
+    }
+    Ok(())
+}
+
 /// Reads row `i` of a strip into `row`, of which nothing is said after a fault. Its reference is
 /// the row before it, or white before the first.
 pub fn read_line(
@@ -100,11 +134,6 @@ pub fn read_line(
     ensures same_width { length row.new ≡ length row.old }
     ensures same_end { KeepsEnd source.old source.new }
 {
-    let dimension = read_start(source, form.coding, i)?;
-    check_first_code(source)?;
-    match dimension {
-        Dimension::OneDimensional => read_1d(source, row)?,
-        Dimension::TwoDimensional => read_2d(source, reference, row)?,
-    }
-    Ok(())
+    let dimension = read_begin(source, form, i)?;
+    read_codes(source, dimension, reference, row)
 }

@@ -1,6 +1,7 @@
 //! Files turned into one another.
+use crate::files::{ONE_PAGE, changed};
 use fax_bits::FillOrder;
-use fax_files::{Cause, FileFault, PbmFault};
+use fax_files::{Cause, FileFault, PbmFault, StripFault};
 use fax_walk::{ConvertFault, Options, Target, convert};
 use std::alloc::Global;
 use std::process::Abort;
@@ -9,12 +10,16 @@ use std::test::Fail;
 /// Two images: 9 pels by 3 rows, and 8 pels by 1 row.
 const IMAGES: &[u8] = b"P4\n9 3\n\x18\x00\xFF\x80\x0F\x00P4\n8 1\n\x18";
 
-/// The options for a target, with strips of one row or whole.
+/// The options for a target, with strips of so many rows or whole; each number is at least 1.
 fn to(target: Target, order: FillOrder, k: u32, strip: Option<u32>) -> Options {
+    let strip = match strip {
+        Some(rows) => Some(rows.max(1)),
+        None => None,
+    };
     Options {
         target,
         order,
-        k,
+        k: k.max(1),
         strip,
     }
 }
@@ -35,31 +40,141 @@ fn converts_there_and_back(rt: HostRuntime) {
 }
 
 #[test]
-fn names_the_first_fault(rt: HostRuntime) {
+fn writes_as_the_options_say(rt: HostRuntime) {
+    let mh = to(Target::Mh, FillOrder::MsbFirst, 4, None);
+    let file = convert(rt.alloc(), b"P4\n8 1\n\x18", &mh).expect(&rt, "a file");
+    assert_eq!(rt; file.as_slice(), ONE_PAGE.as_slice());
+    // Strips of one row begin behind the header.
+    let mmr = to(Target::Mmr, FillOrder::MsbFirst, 4, Some(1));
+    let file = convert(rt.alloc(), b"P4\n8 2\n\x00\x18", &mmr).expect(&rt, "a file");
+    assert_eq!(rt; file.len(), 248);
+    assert!(rt; file.starts_with(b"II*\0\x12\0\0\0\x80\x08\0\x80\x31\xC0\x04\0\x40"));
+    let mr = to(Target::Mr, FillOrder::MsbFirst, 2, None);
+    let file = convert(rt.alloc(), b"P4\n8 2\n\x18\x18", &mr).expect(&rt, "a file");
+    assert!(rt; file.starts_with(b"II*\0\x0E\0\0\0\0\x1C\x70\0\x2E"));
+    let turned = to(Target::Mr, FillOrder::LsbFirst, 2, None);
+    let file = convert(rt.alloc(), b"P4\n8 2\n\x18\x18", &turned).expect(&rt, "a file");
+    assert!(rt; file.starts_with(b"II*\0\x0E\0\0\0\0\x38\x0E\0\x74"));
+    // Each row is one-dimensional.
+    let first = to(Target::Mr, FillOrder::MsbFirst, 1, None);
+    let file = convert(rt.alloc(), b"P4\n8 2\n\x18\x18", &first).expect(&rt, "a file");
+    assert!(rt; file.starts_with(b"II*\0\x0E\0\0\0\0\x1C\x70\0\x38\xE0"));
+}
+
+#[test]
+fn keeps_the_resolution_and_shows_the_rows(rt: HostRuntime) {
+    let mh = to(Target::Mh, FillOrder::MsbFirst, 4, None);
+    // 100 pels in each unit, which is a centimetre.
+    let coarse = changed(210, &[100]);
+    let file = convert(rt.alloc(), &coarse, &mh).expect(&rt, "a file");
+    assert_eq!(rt; file.as_slice(), coarse.as_slice());
+    let metric = changed(190, &[3]);
+    let file = convert(rt.alloc(), &metric, &mh).expect(&rt, "a file");
+    assert_eq!(rt; file.as_slice(), metric.as_slice());
+    // Black is coded as white in the source, and not in what is written.
+    let inverted = changed(82, &[1]);
+    let file = convert(rt.alloc(), &inverted, &mh).expect(&rt, "a file");
+    let shown = convert(rt.alloc(), b"P4\n8 1\n\xE7", &mh).expect(&rt, "a file");
+    assert_eq!(rt; file.as_slice(), shown.as_slice());
+    let pbm = to(Target::Pbm, FillOrder::MsbFirst, 4, None);
+    let image = convert(rt.alloc(), &inverted, &pbm).expect(&rt, "an image");
+    assert_eq!(rt; image.as_slice(), b"P4\n8 1\n\xE7".as_slice());
+}
+
+/// The fault of a conversion to MH.
+fn fault_of(alloc: Global, bytes: &[u8]) -> Option<ConvertFault> {
     let options = to(Target::Mh, FillOrder::MsbFirst, 4, None);
-    assert!(rt;
-        matches!(
-            convert(rt.alloc(), b"", &options),
-            Err(ConvertFault::UnknownInput)
-        )
+    convert(alloc, bytes, &options).err()
+}
+
+#[test]
+fn names_the_first_fault_of_images(rt: HostRuntime) {
+    for bytes in [
+        b"".as_slice(),
+        b"hello",
+        b"P1\n8 1\n0",
+        b"P",
+        b"I",
+        b"IM*\0",
+        b"MI*\0",
+    ] {
+        assert_eq!(rt;
+            fault_of(rt.alloc(), bytes),
+            Some(ConvertFault::UnknownInput)
+        );
+    }
+    let cases = [
+        (b"P4 8\n".as_slice(), 0, PbmFault::BadHeader),
+        (b"P4\n8 1\n\x18P", 1, PbmFault::BadHeader),
+        (b"P4\n8 1\n\x18P4 65536 1\n", 1, PbmFault::OutOfLimits),
+        (
+            b"P4\n8 1\n\x18P4\n8 1\n\x18P4\n8 2\n\x18",
+            2,
+            PbmFault::ShortRaster,
+        ),
+    ];
+    for (bytes, image, fault) in cases {
+        assert_eq!(rt;
+            fault_of(rt.alloc(), bytes),
+            Some(ConvertFault::Pbm { image, fault })
+        );
+    }
+}
+
+/// The fault of a file at a row of a page.
+fn at_row(page: u32, row: u32, cause: Cause) -> Option<ConvertFault> {
+    Some(ConvertFault::Source { page, row, cause })
+}
+
+#[test]
+fn names_the_first_fault_of_a_file(rt: HostRuntime) {
+    let short = Cause::File(FileFault::ShortHeader);
+    assert_eq!(rt; fault_of(rt.alloc(), b"MM"), at_row(0, 0, short));
+    let marked = changed(8, &[0, 0, 0]);
+    let ends = Cause::Strip(StripFault::DataEnds);
+    assert_eq!(rt; fault_of(rt.alloc(), &marked), at_row(0, 0, ends));
+    // Two pages, the second of which is cut within its directory: the rows of the first are read.
+    let mmr = to(Target::Mmr, FillOrder::MsbFirst, 4, None);
+    let mut file = convert(rt.alloc(), IMAGES, &mmr).expect(&rt, "a file");
+    file.truncate(file.len() - 30);
+    let outside = Cause::File(FileFault::DirectoryOutside);
+    assert_eq!(rt; fault_of(rt.alloc(), &file), at_row(1, 0, outside));
+}
+
+#[test]
+fn names_the_row_of_a_fault(rt: HostRuntime) {
+    let mmr = to(Target::Mmr, FillOrder::MsbFirst, 4, None);
+    let mut file = convert(rt.alloc(), b"P4\n8 2\n\x00\x18", &mmr).expect(&rt, "a file");
+    assert!(rt; file.len() > 9);
+    file[9] = 0;
+    let bad = Cause::Strip(StripFault::BadCode);
+    assert_eq!(rt; fault_of(rt.alloc(), &file), at_row(0, 1, bad));
+}
+
+#[test]
+fn refuses_more_pages_than_a_file_can_have(rt: HostRuntime) {
+    let mut images = Vec::new(rt.alloc());
+    for _ in 0..65_536 {
+        images
+            .extend_from_slice(b"P4\n1 1\n\x80")
+            .expect(&rt, "memory");
+    }
+    let fault = fault_of(rt.alloc(), &images);
+    assert_eq!(rt; fault, Some(ConvertFault::OutputTooLarge));
+    // A fault of the source comes first.
+    images.push(b'P').expect(&rt, "memory");
+    let fault = fault_of(rt.alloc(), &images);
+    let image = 65_536;
+    let header = PbmFault::BadHeader;
+    assert_eq!(rt;
+        fault,
+        Some(ConvertFault::Pbm {
+            image,
+            fault: header
+        })
     );
-    assert!(rt;
-        matches!(
-            convert(rt.alloc(), b"P4\n8 1\n\x18P", &options),
-            Err(ConvertFault::Pbm {
-                image: 1,
-                fault: PbmFault::BadHeader
-            })
-        )
-    );
-    assert!(rt;
-        matches!(
-            convert(rt.alloc(), b"II", &options),
-            Err(ConvertFault::Source {
-                page: 0,
-                row: 0,
-                cause: Cause::File(FileFault::ShortHeader)
-            })
-        )
-    );
+    images.truncate(images.len() - 1);
+    let pbm = to(Target::Pbm, FillOrder::MsbFirst, 4, None);
+    let same = convert(rt.alloc(), &images, &pbm).expect(&rt, "images");
+    assert_eq!(rt; same.as_slice(), images.as_slice());
 }

@@ -7,7 +7,7 @@ use std::process::Abort;
 
 /// A file of one page, 8 pels by 1 row, as the standards lay it out: header, a strip of three bytes, a zero byte, a
 /// directory of sixteen entries, and two resolutions.
-const ONE_PAGE: [u8; 226] = [
+pub(crate) const ONE_PAGE: [u8; 226] = [
     0x49, 0x49, 0x2A, 0x00, 0x0C, 0x00, 0x00, 0x00, // II, 42, the first directory at 12
     0x00, 0x18, 0xE0, 0x00, // the strip
     0x10, 0x00, // sixteen entries
@@ -47,7 +47,7 @@ fn first_strip(file: &[u8]) -> Result<&[u8], FileFault> {
 }
 
 /// The file of one page with these bytes in place of its own from a place on.
-fn changed(place: usize, bytes: &[u8]) -> [u8; 226] {
+pub(crate) fn changed(place: usize, bytes: &[u8]) -> [u8; 226] {
     let mut file = ONE_PAGE;
     for (old, new) in file.iter_mut().skip(place).zip(bytes) {
         *old = *new;

@@ -8,4 +8,6 @@ mod files;
 #[cfg(test)]
 mod pbm;
 #[cfg(test)]
+mod reports;
+#[cfg(test)]
 mod walk;

@@ -110,7 +110,7 @@ fn prints_cursors(rt: HostRuntime) -> Result<(), Fail> {
 
 /// A page of 8 pels by 2 rows in MMR, with one strip of each row, or one of both.
 #[rattlefmt::skip]
-const MMR: [u8; 126] = [
+pub const MMR: [u8; 126] = [
     // Header: II, 42, the directory at 18.
     0x49, 0x49, 42, 0, 18, 0, 0, 0,
     // WWWBBWWW and an end of block; a white row and an end of block; a zero byte.
@@ -170,7 +170,7 @@ fn exchanges_colours_behind_the_reference(rt: HostRuntime) -> Result<(), Fail> {
 
 /// A page of 8 pels by 6 rows in MMR, in three strips of two rows: WWWWWWWW and WWWBBWWW.
 #[rattlefmt::skip]
-static THREE_STRIPS: [u8; 138] = [
+pub static THREE_STRIPS: [u8; 138] = [
     // Header: II, 42, the directory at 24.
     0x49, 0x49, 42, 0, 24, 0, 0, 0,
     // Three times 1, 001 1000 11 1 and an end of block; a zero byte.

@@ -4,4 +4,8 @@ pub mod LineLemmas
 pub mod OutsideLemmas
 pub mod TextLemmas
 pub mod RunLemmas
+pub mod ReportLemmas
+pub mod StopLemmas
+pub mod CommandLemmas
 mod NumberLemmas
+pub mod WholeLemmas

@@ -1,12 +1,13 @@
 -- Lines that are printed, one after another.
-use Rattle.std.proofs.Common.{◌≡◌, ℕ, ◌+◌, ◌-◌, ◌<◌, List, [], ◌∷◌, ◌++◌, length, refl, ap, sym, ◌∙◌, append_assoc, append-nil, arith, length-append}
+use Rattle.std.proofs.Common.{◌≡◌, ℕ, ◌+◌, ◌-◌, ◌<◌, ◌≤◌, List, [], ◌∷◌, ◌++◌, length, refl, ap, sym, ◌∙◌, append_assoc, append-nil, arith, length-append}
 use Rattle.std.specs.Prelude.{Option, Some, None, IfSome, option_map}
-use Rattle.std.specs.Io.KnownBytes.{Appends, append_known}
+use Rattle.std.specs.Io.KnownBytes.{Appends}
 use Rattle.std.proofs.KnownBytes.{Appends-nil, Appends-trans}
 use Rattle.fax_walk.specs.declared.cursor.Cursor.{Cursor}
 use Rattle.fax_walk.specs.declared.end.End.{End}
 use Rattle.fax_tool.specs.Text.{Line, texts_of, last_cursor}
 use Rattle.fax_tool.specs.code.Printing.{PutsLine, PrintsLines, PrintsAll, last_line}
+use Rattle.fax_tool.specs.code.Transfers.{SendsPart}
 
 -- the limit is so much above what is left of it, where there is one
 abbrev pub IsLeftOf : Option ℕ → Option ℕ → ℕ → Type 0
@@ -15,26 +16,30 @@ IsLeftOf (Some limit) (Some left) count = left + count ≡ limit
 IsLeftOf None (Some left) count = ⊥
 IsLeftOf (Some limit) None count = ⊥
 
--- some of the lines are printed, in part collected only, and so much of the limit is left
-pub record PrintsSome (old now : List Line → End → Type 0) (at place : Cursor) (max left : Option ℕ) (output new_output : Option (List ℕ)) : Type 0 where
+-- some of the lines are printed, the last part of their text is collected only, and so much of the limit is left
+pub record PrintsSome (old now : List Line → End → Type 0) (at place : Cursor) (max left : Option ℕ) (output written : Option (List ℕ)) (text : List ℕ) : Type 0 where
   pub lines : List Line
   pub due : (rest : List Line) (end : End) → now rest end → old (lines ++ rest) end
   pub place_is : place ≡ last_cursor at lines
   pub limit : IsLeftOf max left (length lines)
-  pub printed : Appends output new_output (texts_of lines)
+  pub sent : List ℕ
+  pub printed : Appends output written sent
+  pub collected : texts_of lines ≡ sent ++ text
 
 all_left : (max : Option ℕ) → IsLeftOf max max 0
 all_left None = tt
 all_left (Some limit) = omega arith
 
 pub none_printed : (due : List Line → End → Type 0) (at : Cursor) (max : Option ℕ) (output : Option (List ℕ))
-    → PrintsSome due due at at max max output output
+    → PrintsSome due due at at max max output output []
 none_printed due at max output = record {
   lines = [];
   due = λ rest end due. due;
   place_is = refl;
   limit = all_left max;
+  sent = [];
   printed = Appends-nil output;
+  collected = refl;
 }
 
 texts_of-push : (lines : List Line) (line : Line) → texts_of (lines ++ line ∷ []) ≡ texts_of lines ++ line.text
@@ -46,34 +51,6 @@ last_cursor-push : (at : Cursor) (lines : List Line) (line : Line) → last_curs
 last_cursor-push at [] line = refl
 last_cursor-push at (first ∷ lines) line = last_cursor-push first.cursor lines line
 
--- text is collected behind what was
-collected : (output written : Option (List ℕ)) (text more new_text lines : List ℕ) → Appends output (append_known written text) lines
-    → new_text ≡ text ++ more → Appends output (append_known written new_text) (lines ++ more)
-collected None written text more new_text lines printed grown = tt
-collected (Some bytes) None text more new_text lines printed grown = absurd printed
-collected (Some bytes) (Some before) text more new_text lines printed grown =
-    ap (λ xs. before ++ xs) grown ∙ sym (append_assoc before text more) ∙ ap (λ xs. xs ++ more) printed ∙ append_assoc bytes lines more
-
--- what was collected is written
-written_out : (output written new_written : Option (List ℕ)) (text lines : List ℕ) → Appends output (append_known written text) lines
-    → Appends written new_written text → Appends output (append_known new_written []) lines
-written_out None written new_written text lines printed moved = tt
-written_out (Some bytes) None new_written text lines printed moved = absurd printed
-written_out (Some bytes) (Some before) None text lines printed moved = absurd moved
-written_out (Some bytes) (Some before) (Some after) text lines printed moved = append-nil after ∙ moved ∙ printed
-
--- nothing is collected
-pub collected_none : (known new : Option (List ℕ)) (lines : List ℕ) → Appends (append_known known []) new lines → Appends known new lines
-collected_none None new lines appends = tt
-collected_none (Some bytes) None lines appends = absurd appends
-collected_none (Some bytes) (Some after) lines appends = appends ∙ ap (λ xs. xs ++ lines) (append-nil bytes)
-
--- nothing is collected any more
-pub collected_no_more : (known new : Option (List ℕ)) (lines : List ℕ) → Appends known (append_known new []) lines → Appends known new lines
-collected_no_more None new lines appends = tt
-collected_no_more (Some bytes) None lines appends = absurd appends
-collected_no_more (Some bytes) (Some after) lines appends = sym (append-nil after) ∙ appends
-
 one_less_left : (max left : Option ℕ) (count new_count : ℕ) → IsLeftOf max left count → IfSome left (λ n. 0 < n) → new_count ≡ count + 1
     → IsLeftOf max (option_map (λ n. n - 1) left) new_count
 one_less_left None None count new_count is some grown = tt
@@ -83,28 +60,40 @@ one_less_left (Some limit) (Some left) count new_count is some grown = omega ari
 
 pub one_more : (old now new : List Line → End → Type 0) (at place new_place : Cursor) (max left new_left : Option ℕ) (line : Line)
     (output written : Option (List ℕ)) (text new_text : List ℕ) (bound new_bound : ℕ)
-    → PrintsSome old now at place max left output (append_known written text)
+    → PrintsSome old now at place max left output written text
     → PutsLine now new line new_place bound new_bound → IfSome left (λ n. 0 < n) → new_left ≡ option_map (λ n. n - 1) left
     → new_text ≡ text ++ line.text
-    → PrintsSome old new at new_place max new_left output (append_known written new_text)
+    → PrintsSome old new at new_place max new_left output written new_text
 one_more old now new at place new_place max left new_left line output written text new_text bound new_bound some puts above less grown = record {
   lines = some.lines ++ line ∷ [];
   due = λ rest end due. rw (append_assoc some.lines (line ∷ []) rest) (some.due (line ∷ rest) end (puts.due rest end due));
   place_is = puts.place_is ∙ sym (last_cursor-push at some.lines line);
   limit = rw less (one_less_left max left (length some.lines) (length (some.lines ++ line ∷ [])) some.limit above (length-append some.lines (line ∷ [])));
-  printed = rw (texts_of-push some.lines line) (collected output written text line.text new_text (texts_of some.lines) some.printed grown);
+  sent = some.sent;
+  printed = some.printed;
+  collected = texts_of-push some.lines line ∙ ap (λ xs. xs ++ line.text) some.collected ∙ append_assoc some.sent text line.text
+      ∙ ap (λ xs. some.sent ++ xs) (sym grown);
 }
 
-pub emptied : (old now : List Line → End → Type 0) (at place : Cursor) (max left : Option ℕ) (output written new_written : Option (List ℕ))
-    (text : List ℕ) → PrintsSome old now at place max left output (append_known written text) → Appends written new_written text
-    → PrintsSome old now at place max left output (append_known new_written [])
-emptied old now at place max left output written new_written text some moved = record {
+pub part_sent : (old now : List Line → End → Type 0) (at place : Cursor) (max left : Option ℕ) (output written new_written : Option (List ℕ))
+    (text new_text : List ℕ) → PrintsSome old now at place max left output written text → SendsPart written new_written text new_text
+    → PrintsSome old now at place max left output new_written new_text
+part_sent old now at place max left output written new_written text new_text some sends = record {
   lines = some.lines;
   due = some.due;
   place_is = some.place_is;
   limit = some.limit;
-  printed = written_out output written new_written text (texts_of some.lines) some.printed moved;
+  sent = some.sent ++ sends.part;
+  printed = Appends-trans output written new_written some.sent sends.part some.printed sends.written;
+  collected = some.collected ∙ ap (λ xs. some.sent ++ xs) sends.parts ∙ sym (append_assoc some.sent sends.part new_text);
 }
+
+-- all of the lines' text is written
+all_written : (old now : List Line → End → Type 0) (at place : Cursor) (max left : Option ℕ) (output written new_written : Option (List ℕ))
+    (text : List ℕ) (some : PrintsSome old now at place max left output written text) → Appends written new_written text
+    → Appends output new_written (texts_of some.lines)
+all_written old now at place max left output written new_written text some moved =
+    rw some.collected (Appends-trans output written new_written some.sent text some.printed moved)
 
 at_limit : (max : Option ℕ) (count : ℕ) → IsLeftOf max (Some 0) count → max ≡ Some count
 at_limit None count is = absurd is
@@ -118,7 +107,7 @@ below_limit (Some limit) (Some left) count is above = omega arith
 -- the lines have ended at the limit
 pub ended_at_limit : (old now : List Line → End → Type 0) (at place : Cursor) (max left : Option ℕ)
     (output written new_written : Option (List ℕ)) (text : List ℕ)
-    → PrintsSome old now at place max left output (append_known written text) → left ≡ Some 0
+    → PrintsSome old now at place max left output written text → left ≡ Some 0
     → ((lines : List Line) × (end : End) × now lines end) → Appends written new_written text
     → PrintsLines old at max None place output new_written
 ended_at_limit old now at place max left output written new_written text some none_left others moved = record {
@@ -128,14 +117,13 @@ ended_at_limit old now at place max left output written new_written text some no
   due = some.due others.0 others.1 others.2;
   ends = at_limit max (length some.lines) (rw none_left at some.limit);
   place_is = some.place_is;
-  printed = collected_no_more output new_written (texts_of some.lines)
-      (written_out output written new_written text (texts_of some.lines) some.printed moved);
+  printed = all_written old now at place max left output written new_written text some moved;
 }
 
 -- all lines are printed
 pub ended_at_end : (old now : List Line → End → Type 0) (at place new_place : Cursor) (max left : Option ℕ) (end : End)
     (output written new_written : Option (List ℕ)) (text new_text : List ℕ)
-    → PrintsSome old now at place max left output (append_known written text) → IfSome left (λ n. 0 < n)
+    → PrintsSome old now at place max left output written text → IfSome left (λ n. 0 < n)
     → now [] end → new_place ≡ place → new_text ≡ text → Appends written new_written new_text
     → PrintsLines old at max (Some end) new_place output new_written
 ended_at_end old now at place new_place max left end output written new_written text new_text some above due same_place same moved = record {
@@ -145,23 +133,22 @@ ended_at_end old now at place new_place max left end output written new_written 
   due = some.due [] end due;
   ends = (refl, refl, below_limit max left (length some.lines) some.limit above);
   place_is = same_place ∙ some.place_is;
-  printed = collected_no_more output new_written (texts_of some.lines)
-      (written_out output written new_written text (texts_of some.lines) some.printed (rw same at moved));
+  printed = all_written old now at place max left output written new_written text some (rw same at moved);
 }
 
 -- the last line is printed behind the lines
 pub with_last_line : (due : List Line → End → Type 0) (at place : Cursor) (max : Option ℕ) (ending : Option End)
-    (output written new_written : Option (List ℕ)) (text new_text : List ℕ) (cursor : Cursor)
-    → PrintsLines due at max ending place (append_known output []) written
-    → text ≡ [] → cursor ≡ place → new_text ≡ text ++ last_line ending cursor → Appends written new_written new_text
+    (output written new_written : Option (List ℕ)) (cursor : Cursor)
+    → PrintsLines due at max ending place output written → cursor ≡ place → Appends written new_written (last_line ending cursor)
     → PrintsAll due at max ending output new_written
-with_last_line due at place max ending output written new_written text new_text cursor prints empty same grown moved =
-    let line : new_text ≡ last_line ending (last_cursor at prints.lines) = rw (same, prints.place_is, empty) at grown in record {
+with_last_line due at place max ending output written new_written cursor prints same moved =
+    let line : last_line ending cursor ≡ last_line ending (last_cursor at prints.lines) =
+    ap (λ (place : Cursor). last_line ending place) (same ∙ prints.place_is) in record {
       lines = prints.lines;
       others = prints.others;
       end = prints.end;
       due = prints.due;
       ends = prints.ends;
-      printed = Appends-trans output written new_written (texts_of prints.lines) (last_line ending (last_cursor at prints.lines))
-          (collected_none output written (texts_of prints.lines) prints.printed) (rw line at moved);
+      printed = Appends-trans output written new_written (texts_of prints.lines) (last_line ending (last_cursor at prints.lines)) prints.printed
+          (rw line at moved);
     }

@@ -1,28 +1,81 @@
 -- Bytes that move in several calls.
-use Rattle.std.proofs.Common.{◌≡◌, ℕ, ◌-◌, List, ◌++◌, length, take, drop, ap, sym, ◌∙◌, append_assoc, length-drop, take-append-drop}
+use Rattle.std.proofs.Common.{◌≡◌, ℕ, ◌-◌, List, [], ◌++◌, append-nil, refl, length, take, drop, ap, sym, ◌∙◌, append_assoc, length-drop, take-append-drop}
 use Rattle.std.proofs.Math.Seq.{take-length}
-use Rattle.std.proofs.KnownBytes.{Appends-trans}
-use Rattle.std.specs.Prelude.{Option}
-use Rattle.std.specs.Io.KnownBytes.{Appends}
+use Rattle.std.proofs.KnownBytes.{Appends-nil, Appends-trans, Appends-kept}
+use Rattle.std.specs.Prelude.{Option, Result, Ok, Err, IfErr, ⊤}
+use Rattle.std.specs.Io.KnownBytes.{Appends, Keeps}
+use Rattle.fax_tool.specs.declared.refusal.Refusal.{Refusal}
 use Rattle.fax_tool.specs.Streams.{Counts}
+use Rattle.fax_tool.specs.code.Transfers.{IsGivenInPart, SendsPart, WritesFront}
 
--- some front of the bytes is written, and no call had a fault
-pub record IsPartWritten (old new : Option (List ℕ)) (bytes rest : List ℕ) (old_counts counts : Counts) : Type 0 where
+-- some front of the bytes is written
+pub record IsPartWritten (old new : Option (List ℕ)) (bytes rest : List ℕ) : Type 0 where
   pub front : List ℕ
   pub parts : bytes ≡ front ++ rest
   pub written : Appends old new front
-  pub no_fault : counts ≡ old_counts
 
 -- what is left behind n bytes, as the code cuts it
 rest_behind : (rest : List ℕ) (n : ℕ) → take (length rest - n) (drop n rest) ≡ drop n rest
 rest_behind rest n = ap (λ k. take k (drop n rest)) (sym (length-drop n rest)) ∙ take-length (drop n rest)
 
-pub more_written : (old mid new : Option (List ℕ)) (bytes rest : List ℕ) (n : ℕ) (old_counts counts new_counts : Counts)
-    → IsPartWritten old mid bytes rest old_counts counts → Appends mid new (take n rest) → new_counts ≡ counts
-    → IsPartWritten old new bytes (take (length rest - n) (drop n rest)) old_counts new_counts
-more_written old mid new bytes rest n old_counts counts new_counts part appends same = rw (rest_behind rest n) (record {
+pub more_written : (old mid new : Option (List ℕ)) (bytes rest : List ℕ) (n : ℕ) → IsPartWritten old mid bytes rest
+    → Appends mid new (take n rest) → IsPartWritten old new bytes (take (length rest - n) (drop n rest))
+more_written old mid new bytes rest n part appends = rw (rest_behind rest n) (record {
   front = part.front ++ take n rest;
   parts = part.parts ∙ ap (λ xs. part.front ++ xs) (sym (take-append-drop n rest)) ∙ sym (append_assoc part.front (take n rest) (drop n rest));
   written = Appends-trans old mid new part.front (take n rest) part.written appends;
-  no_fault = same ∙ part.no_fault;
 })
+
+pub kept_written : (old mid new : Option (List ℕ)) (bytes rest : List ℕ) → IsPartWritten old mid bytes rest → Keeps mid new
+    → IsPartWritten old new bytes rest
+kept_written old mid new bytes rest part keeps =
+    record { front = part.front; parts = part.parts; written = Appends-kept old mid new part.front part.written keeps }
+
+pub front_written : (old new : Option (List ℕ)) (bytes rest : List ℕ) → IsPartWritten old new bytes rest → WritesFront old new bytes
+front_written old new bytes rest part =
+    record { front = part.front; rest = rest; parts = part.parts; written = part.written }
+
+pub second_given : (old mid new : Option (List ℕ)) (first second : List ℕ) → Appends old mid first → Appends mid new second
+    → Appends old new (first ++ second)
+second_given old mid new first second = Appends-trans old mid new first second
+
+-- the first part was given in part
+pub first_given_in_part : (old new : Option (List ℕ)) (first second : List ℕ) (counts : Counts) (refusal : Refusal)
+    → IsGivenInPart old new first counts refusal → IsGivenInPart old new (first ++ second) counts refusal
+first_given_in_part old new first second counts refusal is = record {
+  write = is.write;
+  failed = is.failed;
+  front = record {
+    front = is.front.front;
+    rest = is.front.rest ++ second;
+    parts = ap (λ xs. xs ++ second) is.front.parts ∙ append_assoc is.front.front is.front.rest second;
+    written = is.front.written;
+  };
+}
+
+-- the second part was given in part
+second_given_in_part : (old mid new : Option (List ℕ)) (first second : List ℕ) (counts : Counts) (refusal : Refusal)
+    → Appends old mid first → IsGivenInPart mid new second counts refusal → IsGivenInPart old new (first ++ second) counts refusal
+second_given_in_part old mid new first second counts refusal given is = record {
+  write = is.write;
+  failed = is.failed;
+  front = record {
+    front = first ++ is.front.front;
+    rest = is.front.rest;
+    parts = ap (λ xs. first ++ xs) is.front.parts ∙ sym (append_assoc first is.front.front is.front.rest);
+    written = Appends-trans old mid new first is.front.front given is.front.written;
+  };
+}
+
+pub second_given_err : (old mid new : Option (List ℕ)) (first second : List ℕ) (counts : Counts) (answer : Result ⊤ Refusal)
+    → Appends old mid first → IfErr answer (IsGivenInPart mid new second counts)
+    → IfErr answer (IsGivenInPart old new (first ++ second) counts)
+second_given_err old mid new first second counts (Ok done) given is = tt
+second_given_err old mid new first second counts (Err refusal) given is =
+    second_given_in_part old mid new first second counts refusal given is
+
+pub none_sent : (known : Option (List ℕ)) (text : List ℕ) → SendsPart known known text text
+none_sent known text = record { part = []; parts = refl; written = Appends-nil known }
+
+pub all_sent : (old new : Option (List ℕ)) (text left : List ℕ) → Appends old new text → left ≡ [] → SendsPart old new text left
+all_sent old new text left given none = rw none (record { part = text; parts = sym (append-nil text); written = given })

@@ -1,6 +1,7 @@
 pub mod Streams
 pub mod Words
 pub mod Text
+pub mod ReportText
 pub mod Laws
 pub mod Run
 pub mod code

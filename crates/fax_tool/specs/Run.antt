@@ -1,22 +1,32 @@
 -- What a run leaves on its streams (this project's profile).
-use Rattle.std.specs.Prelude.{◌≡◌, ℕ, ◌<◌, ◌⊎◌, List, map, Option, IfSome, codes, ⊤}
+use Rattle.std.specs.Prelude.{◌≡◌, ℕ, ◌<◌, ◌≤◌, ◌⊎◌, List, [], ◌++◌, length, map, Option, IfSome, codes, ⊤}
 use Rattle.std.specs.Io.KnownBytes.{Appends}
 use Rattle.fax_walk.specs.declared.cursor.Cursor.{Cursor}
 use Rattle.fax_walk.specs.declared.end.End.{End}
 use Rattle.fax_walk.specs.Items.{Item}
 use Rattle.fax_walk.specs.Tail.{IsTail}
 use Rattle.fax_walk.specs.Forms.{FormItem, IsFormTail}
+use Rattle.fax_walk.specs.Converted.{IsConverted, IsRefused as IsNotConverted}
+use Rattle.fax_walk.specs.Report.{IsReport}
+use Rattle.fax_walk.specs.declared.options.Options.{Options}
+use Rattle.fax_walk.specs.declared.options.ConvertFault.{ConvertFault}
+use Rattle.fax_walk.specs.declared.checking.Report.{Report}
 use Rattle.fax_tool.specs.declared.refusal.Refusal.{Refusal}
 use Rattle.fax_tool.specs.declared.refusal.Refusal.TheVariants.{Memory, Read, Write}
 use Rattle.fax_tool.specs.declared.words.Command.{Command}
-use Rattle.fax_tool.specs.declared.words.Command.TheVariants.{List as Forms, Rows}
+use Rattle.fax_tool.specs.declared.words.Command.TheVariants.{List as Forms, Rows, Convert, Check}
 use Rattle.fax_tool.specs.declared.words.Part.{Part}
 use Rattle.fax_tool.specs.Streams.{Counts}
-use Rattle.fax_tool.specs.Text.{Line, Printed, text_of, line_of_row, line_of_page}
+use Rattle.fax_tool.specs.Text.{Line, Printed, texts_of, last_cursor, next_line, text_of, line_of_row, line_of_page, convert_fault_line}
+use Rattle.fax_tool.specs.ReportText.{report_text}
 
--- a call on the stream was interrupted, or one failed (this project's profile)
-abbrev pub HasFaults : Counts → Type 0
-HasFaults counts = (0 < counts.interrupted) ⊎ (0 < counts.failed)
+-- so many interrupted calls of a stream are made again (this project's profile)
+abbrev pub most_interrupted : ℕ
+most_interrupted = 1023
+
+-- a call on the stream failed, or too many were interrupted (this project's profile)
+abbrev pub HasFailed : Counts → Type 0
+HasFailed counts = (most_interrupted < counts.interrupted) ⊎ (0 < counts.failed)
 
 -- a status of a run: done, a fault of the input, or a refusal (this project's profile)
 abbrev pub IsStatus : ℕ → Type 0
@@ -32,12 +42,12 @@ refusal_line Memory = codes "fault: Memory\n"
 refusal_line Read = codes "fault: Read\n"
 refusal_line Write = codes "fault: Write\n"
 
--- a refusal is answered for its reason alone: Read where a read failed or the input is too long, Write where a write
+-- a refusal is answered for its reason alone: Read where the input failed or is too long, Write where the output
 -- failed; of Memory nothing can be said but that a growth was refused (this project's profile)
 abbrev pub HasReason : Refusal → Counts → ℕ → Counts → Type 0
 HasReason Memory input taken output = ⊤
-HasReason Read input taken output = HasFaults input ⊎ (most_input < taken)
-HasReason Write input taken output = HasFaults output
+HasReason Read input taken output = HasFailed input ⊎ (most_input < taken)
+HasReason Write input taken output = HasFailed output
 
 -- the output and the error line are appended, and the status is so (this project's profile)
 pub record AppendsText (text : Printed) (output new_output error new_error : Option (List ℕ)) (status : ℕ) : Type 0 where
@@ -57,25 +67,79 @@ pub record ArePageLines (file : List ℕ) (at : Cursor) (lines : List Line) (end
   pub tail : IsFormTail file at items end
   pub lines_are : lines ≡ map line_of_page items
 
--- the lines that a command prints of a file from a cursor on, and their end (this project's profile)
-abbrev pub AreLinesOf : Command → List ℕ → List Line → End → Type 0
-AreLinesOf (Forms part) file lines end = ArePageLines file part.cursor lines end
-AreLinesOf (Rows part) file lines end = AreRowLines file part.cursor lines end
+-- the text of lines from a cursor on, up to a limit, and of their end (this project's profile)
+abbrev pub IsTextOfLines : (List Line → End → Type 0) → Cursor → Option ℕ → Printed → Type 0
+IsTextOfLines are_lines at max printed =
+    (lines : List Line) × (end : End) × are_lines lines end × (printed ≡ text_of lines end at max)
 
--- the part of its lines that a command prints (this project's profile)
-abbrev pub part_of : Command → Part
-part_of (Forms part) = part
-part_of (Rows part) = part
+-- what is written of lines where memory is refused: the first of them, and where to go on (this project's profile)
+pub record IsTextOfFirst (are_lines : List Line → End → Type 0) (at : Cursor) (max : Option ℕ) (output : List ℕ) : Type 0 where
+  pub lines : List Line
+  pub others : List Line
+  pub end : End
+  pub are : are_lines (lines ++ others) end
+  pub within : IfSome max (λ limit. length lines ≤ limit)
+  pub output_is : output ≡ texts_of lines ++ next_line (last_cursor at lines)
 
--- a run that was not refused printed the text of the rows or pages that follow the cursor, and of their end
+-- what is written of a file that is converted, or is not (this project's profile)
+abbrev pub IsConversionText : Options → List ℕ → Printed → Type 0
+IsConversionText options file printed =
+    ((output : List ℕ) × IsConverted file options output × (printed ≡ record { output = output; error = []; status = 0 }))
+    ⊎ ((fault : ConvertFault) × IsNotConverted file options fault
+    × (printed ≡ record { output = []; error = convert_fault_line fault; status = 1 }))
+
+-- what a command writes of a file (this project's profile)
+abbrev pub IsTextOf : Command → List ℕ → Printed → Type 0
+IsTextOf (Forms part) file printed = IsTextOfLines (ArePageLines file part.cursor) part.cursor part.max printed
+IsTextOf (Rows part) file printed = IsTextOfLines (AreRowLines file part.cursor) part.cursor part.max printed
+IsTextOf (Convert options) file printed = IsConversionText options file printed
+IsTextOf Check file printed = (report : Report) × IsReport file report × (printed ≡ report_text report)
+
+-- what a command writes of a file where memory is refused (this project's profile)
+abbrev pub IsTextAfterMemory : Command → List ℕ → List ℕ → Type 0
+IsTextAfterMemory (Forms part) file output = IsTextOfFirst (ArePageLines file part.cursor) part.cursor part.max output
+IsTextAfterMemory (Rows part) file output = IsTextOfFirst (AreRowLines file part.cursor) part.cursor part.max output
+IsTextAfterMemory (Convert options) file output = output ≡ []
+IsTextAfterMemory Check file output = output ≡ []
+
+-- all that a command would write of a file, also where memory is refused (this project's profile)
+abbrev pub IsOutputOf : Command → List ℕ → List ℕ → Type 0
+IsOutputOf command file output =
+    ((printed : Printed) × IsTextOf command file printed × (output ≡ printed.output)) ⊎ IsTextAfterMemory command file output
+
+-- what a command that was refused has written: after Memory the text of the first lines, after Read nothing, and after
+-- Write a front of what it would have written (this project's profile)
+abbrev pub IsTextLeft : Refusal → Command → List ℕ → List ℕ → Type 0
+IsTextLeft Memory command file output = IsTextAfterMemory command file output
+IsTextLeft Read command file output = output ≡ []
+IsTextLeft Write command file output = (rest : List ℕ) × IsOutputOf command file (output ++ rest)
+
+-- this is appended to the output (this project's profile)
+abbrev pub LeavesText : Refusal → Command → List ℕ → Option (List ℕ) → Option (List ℕ) → Type 0
+LeavesText refusal command file output new_output =
+    (text : List ℕ) × IsTextLeft refusal command file text × Appends output new_output text
+
+-- a run that was not refused wrote the text of its command (this project's profile)
+abbrev pub WritesText : Command → Option (List ℕ) → Option (List ℕ) → Option (List ℕ) → Option (List ℕ) → Option (List ℕ) → ℕ → Type 0
+WritesText command left output new_output error new_error status =
+    IfSome left (λ file. (printed : Printed) × IsTextOf command file printed
+    × AppendsText printed output new_output error new_error status)
+
+-- a run whose error stream failed alone has written its output (this project's profile)
+abbrev pub WritesOutputAlone : Command → Option (List ℕ) → Option (List ℕ) → Option (List ℕ) → Type 0
+WritesOutputAlone command left output new_output =
+    IfSome left (λ file. (printed : Printed) × IsTextOf command file printed × Appends output new_output printed.output)
+
+-- a run that was refused left what it has to, and said why, for a reason, or the error stream failed too
 -- (this project's profile)
-abbrev pub PrintsPart : Command → Option (List ℕ) → Option (List ℕ) → Option (List ℕ) → Option (List ℕ) → Option (List ℕ) → ℕ → Type 0
-PrintsPart command left output new_output error new_error status =
-    IfSome left (λ file. (lines : List Line) × (end : End) × AreLinesOf command file lines end
-    × AppendsText (text_of lines end (part_of command).cursor (part_of command).max) output new_output error new_error status)
+pub record SaysRefusal (command : Command) (left : Option (List ℕ)) (refusal : Refusal) (input : Counts) (taken : ℕ) (output_counts error_counts : Counts) (output new_output error new_error : Option (List ℕ)) : Type 0 where
+  pub reason : HasReason refusal input taken output_counts
+  pub leaves : IfSome left (λ file. LeavesText refusal command file output new_output)
+  pub said : HasFailed error_counts ⊎ Appends error new_error (refusal_line refusal)
 
--- a run that was refused said so, for a reason, or the error stream failed (this project's profile)
-abbrev pub SaysRefusal : Counts → ℕ → Counts → Counts → Option (List ℕ) → Option (List ℕ) → Type 0
-SaysRefusal input taken output error_counts error new_error =
-    HasFaults error_counts
-    ⊎ ((refusal : Refusal) × HasReason refusal input taken output × Appends error new_error (refusal_line refusal))
+-- a run with status 3: its error stream failed, or it was refused (this project's profile)
+abbrev pub IsRefused : Command → Option (List ℕ) → Counts → ℕ → Counts → Counts → Option (List ℕ) → Option (List ℕ) → Option (List ℕ) → Option (List ℕ) → Type 0
+IsRefused command left input taken output_counts error_counts output new_output error new_error =
+    (HasFailed error_counts × WritesOutputAlone command left output new_output)
+    ⊎ ((refusal : Refusal)
+    × SaysRefusal command left refusal input taken output_counts error_counts output new_output error new_error)

@@ -37,11 +37,13 @@ abbrev pub KeepsOrForgets : Option (List ℕ) → Option (List ℕ) → Type 0
 KeepsOrForgets known None = ⊤
 KeepsOrForgets known (Some bytes) = Keeps known (Some bytes)
 
--- what a source has left behind a call: the bytes behind those that now stand at the buffer's front
+-- what a source has left behind a call: the bytes behind those that now stand at the buffer's front, and all of them
+-- where the call was interrupted
 -- (this project's profile)
 abbrev pub TakesBytes : Option (List ℕ) → Option (List ℕ) → Result ℕ StreamFault → List ℕ → Type 0
 TakesBytes old new (Ok n) buffer = Consumes old new (take n buffer) × (n ≡ 0 → 0 < length buffer → IsAtEnd new)
-TakesBytes old new (Err fault) buffer = KeepsOrForgets old new
+TakesBytes old new (Err Interrupted) buffer = Keeps old new
+TakesBytes old new (Err Failed) buffer = KeepsOrForgets old new
 
 -- what a sink holds behind a call: the bytes that it took at its end (this project's profile)
 abbrev pub GivesBytes : Option (List ℕ) → Option (List ℕ) → Result ℕ StreamFault → List ℕ → Type 0

@@ -5,11 +5,14 @@ use Rattle.fax_page.specs.declared.Coding.{Coding}
 use Rattle.fax_page.specs.declared.Coding.TheVariants.{Mh, Mr, Mmr}
 use Rattle.fax_files.specs.declared.Cause.{Cause}
 use Rattle.fax_files.specs.declared.PageForm.{PageForm}
-use Rattle.fax_files.specs.FaultNames.{fault_name, fault_tag}
+use Rattle.fax_files.specs.declared.pbm.PbmFault.{PbmFault}
+use Rattle.fax_files.specs.FaultNames.{fault_name, fault_tag, pbm_fault_name}
 use Rattle.fax_files.specs.Written.{fill_order_of}
 use Rattle.fax_walk.specs.declared.cursor.Cursor.{Cursor}
 use Rattle.fax_walk.specs.declared.end.End.{End}
 use Rattle.fax_walk.specs.declared.end.End.TheVariants.{Proper, Fault, Outside}
+use Rattle.fax_walk.specs.declared.options.ConvertFault.{ConvertFault}
+use Rattle.fax_walk.specs.declared.options.ConvertFault.TheVariants.{UnknownInput, Pbm, Source, OutputTooLarge, Memory}
 use Rattle.fax_walk.specs.Cursor.{cursor_text}
 use Rattle.fax_walk.specs.Items.{Item}
 use Rattle.fax_walk.specs.Tail.{behind_item}
@@ -86,6 +89,18 @@ unfoldable pub fault_line : ℕ → ℕ → Cause → List ℕ
 fault_line page row cause =
     codes "fault page" ++ and_number page ++ codes " row" ++ and_number row ++ codes ": " ++ fault_name cause
     ++ and_tag (fault_tag cause) ++ line_end
+
+-- `fault image I: Name` (this project's profile)
+abbrev pub image_fault_line : ℕ → PbmFault → List ℕ
+image_fault_line image fault = codes "fault image" ++ and_number image ++ codes ": " ++ pbm_fault_name fault ++ line_end
+
+-- the error line of a file that is not converted (this project's profile)
+abbrev pub convert_fault_line : ConvertFault → List ℕ
+convert_fault_line UnknownInput = codes "fault: UnknownInput\n"
+convert_fault_line (Pbm image fault) = image_fault_line image fault
+convert_fault_line (Source page row cause) = fault_line page row cause
+convert_fault_line OutputTooLarge = codes "fault: OutputTooLarge\n"
+convert_fault_line Memory = codes "fault: Memory\n"
 
 -- `next 1:P:R` (this project's profile)
 abbrev pub next_line : Cursor → List ℕ

@@ -1,13 +1,14 @@
 //! What is printed line by line: the rows of a file, or its pages.
-ghost use Rattle.std.specs.Prelude.{◌≡◌, ◌≤◌, ℕ, List, IfOk};
-ghost use Rattle.std.specs.String.{string_bytes, string_len};
+ghost use Rattle.std.specs.Prelude.{◌≡◌, ℕ, List, IfOk, OnErr};
+ghost use Rattle.std.specs.String.{string_bytes};
 ghost use Rattle.fax_walk.specs.declared.cursor.Cursor.{Cursor as At};
 ghost use Rattle.fax_walk.specs.declared.end.End.{End as TheEnd};
 ghost use Rattle.fax_tool.specs.Text.{Line};
 ghost use Rattle.fax_tool.specs.code.Printing as Spec;
 ghost use Rattle.fax_tool.specs.code.Printing.{IsLinePut};
 
-use crate::text::{put_page_line, put_row_line};
+use crate::page_line::put_page_line;
+use crate::row_line::put_row_line;
 use fax_bits::Memory;
 use fax_walk::{Cursor, End, Pages, Walk, WalkFault};
 
@@ -27,8 +28,7 @@ pub trait Lines {
     /// Collects the next line, or answers how the lines ended.
     fn put_next(&mut self, text: &mut String) -> Result<Option<End>, Memory>
         ensures put { IsLinePut (are_due self.old) (place self.old) (left self.old) (string_bytes text.old) result
-            (are_due self.new) (place self.new) (left self.new) (string_bytes text.new) }
-        ensures no_shorter { string_len text.old ≤ string_len text.new };
+            (are_due self.new) (place self.new) (left self.new) (string_bytes text.new) };
 
     /// There are lines that are due, and an end. It computes nothing.
     fn have_an_end(&self)

@@ -3,20 +3,26 @@
 //! The program is `run` over `parse_words`: `main` only gathers the words and opens the streams.
 #![tactic(auto)]
 
+mod check;
+mod convert;
+mod fault;
 pub mod laws;
 mod lines;
+mod page_line;
 mod print;
 mod refusal;
+mod row_line;
 mod run;
+mod short;
 mod streams;
 #[cfg(test)]
 mod tests;
-mod text;
 mod transfer;
 mod words;
 
 pub use fax_bits::Memory;
-pub use fax_walk::{Cause, Cursor, End, FileFault, NotACursor, StripFault};
+pub use fax_bits::FillOrder;
+pub use fax_walk::{Cause, Cursor, End, FileFault, NotACursor, Options, StripFault, Target};
 pub use refusal::Refusal;
 pub use run::run;
 use std::fs::File;

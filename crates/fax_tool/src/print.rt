@@ -1,17 +1,22 @@
 //! `rows` and `list`: the runs of each row, or the form of each page, line by line.
-ghost use Rattle.std.specs.Prelude.{◌≡◌, ◌++◌, ◌≤◌, ◌-◌, ◌<◌, IfErr, IfOk, IfSome, List, [], OnOk, option_map};
-ghost use Rattle.std.specs.Io.KnownBytes.{Appends, append_known};
-ghost use Rattle.std.specs.String.{string_bytes, string_len};
-ghost use Rattle.fax_tool.specs.code.Printing.{PrintsAll, PrintsLines, PrintsText};
-ghost use Rattle.fax_tool.specs.Run.{ArePageLines, AreRowLines, HasReason};
+ghost use Rattle.std.specs.Prelude.{◌≡◌, ◌++◌, ◌≤◌, ◌-◌, ◌<◌, IfErr, IfOk, IfSome, OnErr, OnOk, [], option_map, vec_len};
+ghost use Rattle.std.specs.Io.KnownBytes.{Appends};
+ghost use Rattle.std.specs.String.{string_bytes};
+ghost use Rattle.fax_tool.specs.code.Outcome.{IsStopped, WritesOutput};
+ghost use Rattle.fax_tool.specs.code.Printing as Spec;
+ghost use Rattle.fax_tool.specs.code.Transfers.{IsGivenInPart, SendsPart, counted};
 ghost use Rattle.fax_tool.specs.Streams.{no_faults};
+ghost use Rattle.fax_tool.specs.Text.{next_line};
+ghost use Rattle.fax_tool.specs.Run.{most_input};
+ghost use Rattle.fax_tool.specs.declared.words.Command.TheVariants.{List as Forms, Rows};
 
+use crate::fault::{InputFault, fault_of};
 use crate::lines::Lines;
 use crate::refusal::Refusal;
 use crate::streams::{Sink, Source};
-use crate::text::{put_last_line, put_next_line};
-use crate::transfer::{give_all, read_whole};
+use crate::transfer::{Interruptions, give_all, read_whole};
 use crate::words::Part;
+use arrayvec::ArrayString;
 use fax_bits::Memory;
 use fax_walk::{Cursor, End, Pages, Walk};
 use std::alloc::Global;
@@ -19,47 +24,84 @@ use std::alloc::Global;
 /// How many bytes of text are collected, and a line more, before they are written.
 const ENOUGH_TEXT: usize = 65_536;
 
-/// Room for the last line, which is taken before anything is read.
-const LAST_LINE: usize = 64;
-
-/// A text with room for the last line.
-fn empty_text(alloc: Global) -> Result<String, Memory>
-    ensures { IfOk result (λ text. string_bytes text ≡ []) }
+/// The line that a run ends with where rows are left, made without memory: `next` and the cursor.
+fn next_line(cursor: Cursor) -> ArrayString<29>
+    ensures { result.bytes ≡ next_line cursor }
 {
-    String::with_capacity(alloc, LAST_LINE).map_err(|_| Memory)
+    let mut line = ArrayString::new();
+    line.push_str("next ");
+    line.push_str(cursor.text().as_str());
+    line.push_str("\n");
+    line
+}
+
+/// Writes a text in two parts.
+#[tactic(auto, using(crate::proofs::TransferLemmas::second_given))]
+fn give_two<W: Sink>(
+    out: &mut W,
+    interruptions: &mut Interruptions,
+    first: &[u8],
+    second: &[u8],
+) -> Result<(), Refusal>
+    requires { W.counts out.old ≡ counted interruptions.old }
+    ensures ok { OnOk result (Appends (W.written out.old) (W.written out.new) (first.now ++ second.now)) }
+    ensures err { IfErr result (IsGivenInPart (W.written out.old) (W.written out.new) (first.now ++ second.now)
+        (W.counts out.new)) }
+{
+    match give_all(out, interruptions, first) {
+        Ok(()) => give_all(out, interruptions, second),
+        Err(refusal) => Err(refusal),
+    }
+}
+
+/// Writes the lines that are whole, and the line that says where to go on, when memory was refused.
+fn stop_for_memory<W: Sink>(
+    out: &mut W,
+    interruptions: &mut Interruptions,
+    lines: &[u8],
+    next: &str,
+) -> Refusal
+    requires { W.counts out.old ≡ counted interruptions.old }
+    ensures { Spec.StopsForMemory result (W.written out.old) (W.written out.new) (lines.now ++ next.now) (W.counts out.new) }
+{
+    match give_two(out, interruptions, lines, next.as_bytes()) {
+        Ok(()) => Refusal::Memory,
+        Err(refusal) => refusal,
+    }
 }
 
 /// Writes the text that is collected, and empties it; its room stays.
-fn write_out<W: Sink>(out: &mut W, text: &mut String) -> Result<(), Refusal>
-    requires counts { W.counts out.old ≡ no_faults }
+fn write_out<W: Sink>(
+    out: &mut W,
+    interruptions: &mut Interruptions,
+    text: &mut String,
+) -> Result<(), Refusal>
+    requires { W.counts out.old ≡ counted interruptions.old }
     ensures ok { OnOk result (Appends (W.written out.old) (W.written out.new) (string_bytes text.old)) }
     ensures emptied { OnOk result (string_bytes text.new ≡ []) }
-    ensures no_fault { OnOk result (W.counts out.new ≡ no_faults) }
-    ensures reason { IfErr result (λ refusal. HasReason refusal no_faults 0 (W.counts out.new)) }
+    ensures counts { OnOk result (W.counts out.new ≡ counted interruptions.new) }
+    ensures err { IfErr result (IsGivenInPart (W.written out.old) (W.written out.new) (string_bytes text.old) (W.counts out.new)) }
 {
-    match give_all(out, text.as_bytes()) {
-        Ok(()) => {
-            text.clear();
-            Ok(())
-        }
-        Err(_) => Err(Refusal::Write),
-    }
+    give_all(out, interruptions, text.as_bytes())?;
+    text.clear();
+    Ok(())
 }
 
-/// Writes what is collected of whole lines, and where to go on, when memory was refused.
-fn stop_for_memory<W: Sink>(out: &mut W, text: &mut String, whole: usize, cursor: Cursor) -> Refusal
-    requires whole { whole ≤ string_len text.old }
-    requires counts { W.counts out.old ≡ no_faults }
-    ensures { HasReason result no_faults 0 (W.counts out.new) }
+/// Writes the text that is collected where it is long, and empties it then.
+fn write_where_long<W: Sink>(
+    out: &mut W,
+    interruptions: &mut Interruptions,
+    text: &mut String,
+) -> Result<(), Refusal>
+    requires { W.counts out.old ≡ counted interruptions.old }
+    ensures ok { OnOk result (SendsPart (W.written out.old) (W.written out.new) (string_bytes text.old) (string_bytes text.new)) }
+    ensures counts { OnOk result (W.counts out.new ≡ counted interruptions.new) }
+    ensures err { IfErr result (IsGivenInPart (W.written out.old) (W.written out.new) (string_bytes text.old) (W.counts out.new)) }
 {
-    if give_all(out, &text.as_bytes()[..whole]).is_err() {
-        return Refusal::Write;
+    if text.len() < ENOUGH_TEXT {
+        return Ok(());
     }
-    text.clear();
-    if put_next_line(text, cursor).is_ok() && give_all(out, text.as_bytes()).is_err() {
-        return Refusal::Write;
-    }
-    Refusal::Memory
+    write_out(out, interruptions, text)
 }
 
 /// What is left of a limit behind one more line.
@@ -73,62 +115,129 @@ fn behind_one(left: Option<u32>) -> Option<u32>
     }
 }
 
-/// Prints the lines that are due, up to the limit, behind the text that is collected, and answers
-/// how they ended, or `None` at the limit. All of the text is written then.
+/// Collects the next line behind the text, or answers how the lines ended. The line is made apart,
+/// so that no part of it is collected where memory is refused.
+fn collect_next<L: Lines>(
+    lines: &mut L,
+    line: &mut String,
+    text: &mut String,
+) -> Result<Option<End>, Memory>
+    ensures put { Spec.IsLinePut (L.are_due lines.old) (L.place lines.old) (L.left lines.old) (string_bytes text.old) result
+        (L.are_due lines.new) (L.place lines.new) (L.left lines.new) (string_bytes text.new) }
+    ensures err { OnErr result (string_bytes text.new ≡ string_bytes text.old) }
+{
+    line.clear();
+    let ending = lines.put_next(line)?;
+    text.push_str(line.as_str()).map_err(|_| Memory)?;
+    Ok(ending)
+}
+
+/// Prints the lines that are due, up to the limit, and answers how they ended, or `None` at the
+/// limit.
 fn print_lines<L: Lines, W: Sink>(
+    alloc: Global,
     lines: &mut L,
     max: Option<u32>,
-    text: &mut String,
     out: &mut W,
+    interruptions: &mut Interruptions,
 ) -> Result<Option<End>, Refusal>
-    requires counts { W.counts out.old ≡ no_faults }
-    ensures printed { IfOk result (λ ending. PrintsLines (L.are_due lines.old) (L.place lines.old) max ending
-        (L.place lines.new) (append_known (W.written out.old) (string_bytes text.old)) (W.written out.new)) }
-    ensures emptied { OnOk result (string_bytes text.new ≡ []) }
-    ensures no_fault { OnOk result (W.counts out.new ≡ no_faults) }
-    ensures reason { IfErr result (λ refusal. HasReason refusal no_faults 0 (W.counts out.new)) }
+    requires { W.counts out.old ≡ counted interruptions.old }
+    ensures ok { IfOk result (λ ending. Spec.PrintsLines (L.are_due lines.old) (L.place lines.old) max ending
+        (L.place lines.new) (W.written out.old) (W.written out.new)) }
+    ensures counts { OnOk result (W.counts out.new ≡ counted interruptions.new) }
+    ensures err { IfErr result (λ refusal. Spec.StopsPrinting (L.are_due lines.old) (L.place lines.old) max refusal
+        (W.written out.old) (W.written out.new) (W.counts out.new)) }
 {
+    let mut text = String::new(alloc);
+    let mut line = String::new(alloc);
     let mut left = max;
     loop {
+        lines.have_an_end();
         if left == Some(0) {
-            lines.have_an_end();
-            write_out(out, text)?;
+            write_out(out, interruptions, &mut text)?;
             return Ok(None);
         }
+        write_where_long(out, interruptions, &mut text)?;
         let cursor = lines.cursor();
-        let whole = text.len();
-        match lines.put_next(text) {
+        match collect_next(lines, &mut line, &mut text) {
             Ok(None) => left = behind_one(left),
             Ok(Some(end)) => {
-                write_out(out, text)?;
+                write_out(out, interruptions, &mut text)?;
                 return Ok(Some(end));
             }
-            Err(Memory) => return Err(stop_for_memory(out, text, whole, cursor)),
+            Err(Memory) => {
+                let next = next_line(cursor);
+                return Err(stop_for_memory(out, interruptions, text.as_bytes(), &next));
+            }
         }
-        if text.len() >= ENOUGH_TEXT {
-            write_out(out, text)?;
-        }
+    }
+}
+
+/// Writes the last line of the output: `end`, or where to go on, or none for a cursor outside of the
+/// file. Where printing ended at its limit there is no end.
+fn give_last_line<W: Sink>(
+    out: &mut W,
+    interruptions: &mut Interruptions,
+    ending: Option<End>,
+    cursor: Cursor,
+) -> Result<(), Refusal>
+    requires { W.counts out.old ≡ counted interruptions.old }
+    ensures ok { OnOk result (Appends (W.written out.old) (W.written out.new) (Spec.last_line ending cursor)) }
+    ensures err { IfErr result (IsGivenInPart (W.written out.old) (W.written out.new) (Spec.last_line ending cursor)
+        (W.counts out.new)) }
+{
+    match ending {
+        Some(End::Proper) => give_all(out, interruptions, b"end\n"),
+        Some(End::Outside) => Ok(()),
+        Some(End::Fault { .. }) | None => give_all(out, interruptions, next_line(cursor).as_bytes()),
     }
 }
 
 /// Prints the lines that are due, up to the limit, and the last line, and answers how the lines
 /// ended, or `None` at the limit.
 fn print_all<L: Lines, W: Sink>(
+    alloc: Global,
     lines: &mut L,
     max: Option<u32>,
-    text: &mut String,
     out: &mut W,
 ) -> Result<Option<End>, Refusal>
-    requires counts { W.counts out.old ≡ no_faults }
-    requires nothing { string_bytes text.old ≡ [] }
-    ensures printed { IfOk result (λ ending. PrintsAll (L.are_due lines.old) (L.place lines.old) max ending
+    requires { W.counts out.old ≡ no_faults }
+    ensures ok { IfOk result (λ ending. Spec.PrintsAll (L.are_due lines.old) (L.place lines.old) max ending
         (W.written out.old) (W.written out.new)) }
-    ensures reason { IfErr result (λ refusal. HasReason refusal no_faults 0 (W.counts out.new)) }
+    ensures err { IfErr result (λ refusal. Spec.StopsPrinting (L.are_due lines.old) (L.place lines.old) max refusal
+        (W.written out.old) (W.written out.new) (W.counts out.new)) }
 {
-    let ending = print_lines(lines, max, text, out)?;
-    put_last_line(text, ending, lines.cursor())?;
-    write_out(out, text)?;
+    let mut interruptions = Interruptions::NONE;
+    let ending = print_lines(alloc, lines, max, out, &mut interruptions)?;
+    give_last_line(out, &mut interruptions, ending, lines.cursor())?;
     Ok(ending)
+}
+
+/// Reads the input whole. Where memory is refused it writes where to go on: at this cursor.
+fn read_or_stop<R: Source, W: Sink>(
+    alloc: Global,
+    cursor: Cursor,
+    input: &mut R,
+    out: &mut W,
+) -> Result<Vec<u8>, Refusal>
+    requires input_counts { R.counts input.old ≡ no_faults }
+    requires taken { R.taken input.old ≡ 0 }
+    requires counts { W.counts out.old ≡ no_faults }
+    ensures whole { IfOk result (λ file. IfSome (R.left input.old) (λ bytes. file.items ≡ bytes)) }
+    ensures limit { IfOk result (λ file. vec_len file ≤ most_input) }
+    ensures unwritten { OnOk result (out.new ≡ out.old) }
+    ensures err { IfErr result (λ refusal. Spec.StopsAtBeginning refusal cursor (R.counts input.new) (R.taken input.new)
+        (W.written out.old) (W.written out.new) (W.counts out.new)) }
+{
+    match read_whole(alloc, input) {
+        Ok(file) => Ok(file),
+        Err(Refusal::Memory) => {
+            let mut interruptions = Interruptions::NONE;
+            let next = next_line(cursor);
+            Err(stop_for_memory(out, &mut interruptions, b"", &next))
+        }
+        Err(refusal) => Err(refusal),
+    }
 }
 
 /// Reads the input whole and prints the rows of its pages from the cursor on, up to the limit, and
@@ -138,19 +247,20 @@ pub fn rows<R: Source, W: Sink>(
     part: Part,
     input: &mut R,
     out: &mut W,
-) -> Result<Option<End>, Refusal>
+) -> Result<Option<InputFault>, Refusal>
     requires input_counts { R.counts input.old ≡ no_faults }
     requires taken { R.taken input.old ≡ 0 }
     requires counts { W.counts out.old ≡ no_faults }
-    ensures printed { IfOk result (λ ending. IfSome (R.left input.old) (λ file.
-        PrintsText (AreRowLines file part.cursor) part ending (W.written out.old) (W.written out.new))) }
-    ensures reason { IfErr result (λ refusal.
-        HasReason refusal (R.counts input.new) (R.taken input.new) (W.counts out.new)) }
+    ensures ok { IfOk result (λ fault. IfSome (R.left input.old) (λ file.
+        WritesOutput (Rows part) file (W.written out.old) (W.written out.new) fault)) }
+    ensures err { IfErr result (λ refusal. IsStopped (Rows part) (R.left input.old) refusal
+        (R.counts input.new) (R.taken input.new) (W.counts out.new) (W.written out.old) (W.written out.new)) }
 {
-    let mut text = empty_text(alloc)?;
-    let file = read_whole(alloc, input)?;
+    fax_walk::laws::cursors_have_one_tail();
+    let file = read_or_stop(alloc, part.cursor, input, out)?;
     let mut walk = Walk::resume(alloc, &file, part.cursor);
-    print_all(&mut walk, part.max, &mut text, out)
+    let ending = print_all(alloc, &mut walk, part.max, out)?;
+    Ok(fault_of(ending))
 }
 
 /// Reads the input whole and prints the forms of its pages from the cursor on, up to the limit, and
@@ -160,17 +270,18 @@ pub fn list<R: Source, W: Sink>(
     part: Part,
     input: &mut R,
     out: &mut W,
-) -> Result<Option<End>, Refusal>
+) -> Result<Option<InputFault>, Refusal>
     requires input_counts { R.counts input.old ≡ no_faults }
     requires taken { R.taken input.old ≡ 0 }
     requires counts { W.counts out.old ≡ no_faults }
-    ensures printed { IfOk result (λ ending. IfSome (R.left input.old) (λ file.
-        PrintsText (ArePageLines file part.cursor) part ending (W.written out.old) (W.written out.new))) }
-    ensures reason { IfErr result (λ refusal.
-        HasReason refusal (R.counts input.new) (R.taken input.new) (W.counts out.new)) }
+    ensures ok { IfOk result (λ fault. IfSome (R.left input.old) (λ file.
+        WritesOutput (Forms part) file (W.written out.old) (W.written out.new) fault)) }
+    ensures err { IfErr result (λ refusal. IsStopped (Forms part) (R.left input.old) refusal
+        (R.counts input.new) (R.taken input.new) (W.counts out.new) (W.written out.old) (W.written out.new)) }
 {
-    let mut text = empty_text(alloc)?;
-    let file = read_whole(alloc, input)?;
+    fax_walk::laws::cursors_have_one_form_tail();
+    let file = read_or_stop(alloc, part.cursor, input, out)?;
     let mut pages = Pages::resume(&file, part.cursor);
-    print_all(&mut pages, part.max, &mut text, out)
+    let ending = print_all(alloc, &mut pages, part.max, out)?;
+    Ok(fault_of(ending))
 }

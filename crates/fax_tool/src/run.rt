@@ -1,19 +1,20 @@
 //! A run of the program over its streams.
-ghost use Rattle.std.specs.Prelude.{◌≡◌, ◌<◌, ◌⊎◌};
-ghost use Rattle.fax_tool.specs.code.Printing.{IsReport, IsSaid};
-ghost use Rattle.fax_tool.specs.Run.{IsStatus, PrintsPart, SaysRefusal};
+ghost use Rattle.std.specs.Prelude.{◌≡◌, ◌<◌, IfErr, IfOk, IfSome};
+ghost use Rattle.fax_tool.specs.code.Outcome.{IsReport, IsSaid, IsStopped, WritesOutput};
+ghost use Rattle.fax_tool.specs.Run.{IsRefused, IsStatus, WritesText};
 ghost use Rattle.fax_tool.specs.Streams.{no_faults};
 
+use crate::check::check;
+use crate::convert::convert;
+use crate::fault::InputFault;
 use crate::print::{list, rows};
 use crate::refusal::Refusal;
 use crate::streams::{Sink, Source};
-use crate::text::fault_text;
-use crate::transfer::give_all;
+use crate::transfer::{Interruptions, give_all};
 use crate::words::{Command, Job};
-use fax_walk::End;
 use std::alloc::Global;
 
-/// Nothing was refused: all that was asked for was printed.
+/// Nothing was refused: all that was asked for was written.
 const DONE: u8 = 0;
 
 /// The input has a fault.
@@ -27,26 +28,47 @@ fn say<E: Sink>(err: &mut E, line: &str, status: u8) -> u8
     requires { E.counts err.old ≡ no_faults }
     ensures { IsSaid (E.written err.old) (E.written err.new) (E.counts err.new) line.now status result }
 {
-    match give_all(err, line.as_bytes()) {
+    let mut interruptions = Interruptions::NONE;
+    match give_all(err, &mut interruptions, line.as_bytes()) {
         Ok(()) => status,
         Err(_) => REFUSED,
     }
 }
 
-/// Says on the error stream how a run ended, with no end at its limit, and answers the program's
-/// status.
-fn report<E: Sink>(alloc: Global, ending: Result<Option<End>, Refusal>, err: &mut E) -> u8
+/// Says on the error stream what fault the input has, or why the run was refused, and answers the
+/// program's status.
+fn report<E: Sink>(outcome: Result<Option<InputFault>, Refusal>, err: &mut E) -> u8
     requires { E.counts err.old ≡ no_faults }
-    ensures { IsReport ending (E.written err.old) (E.written err.new) (E.counts err.new) result }
+    ensures { IsReport outcome (E.written err.old) (E.written err.new) (E.counts err.new) result }
 {
-    match ending {
-        Ok(None | Some(End::Proper)) => DONE,
-        Ok(Some(End::Outside)) => say(err, "fault cursor: CursorOutside\n", INPUT_FAULT),
-        Ok(Some(End::Fault { page, row, cause })) => match fault_text(alloc, page, row, cause) {
-            Ok(line) => say(err, line.as_str(), INPUT_FAULT),
-            Err(_) => say(err, Refusal::Memory.line(), REFUSED),
-        },
+    match outcome {
+        Ok(None) => DONE,
+        Ok(Some(fault)) => say(err, fault.line().as_str(), INPUT_FAULT),
         Err(refusal) => say(err, refusal.line(), REFUSED),
+    }
+}
+
+/// Carries out a command: reads the input whole and writes the output. It answers the fault of the
+/// input, if any.
+fn carry_out<R: Source, W: Sink>(
+    alloc: Global,
+    command: Command,
+    input: &mut R,
+    out: &mut W,
+) -> Result<Option<InputFault>, Refusal>
+    requires input_counts { R.counts input.old ≡ no_faults }
+    requires taken { R.taken input.old ≡ 0 }
+    requires output_counts { W.counts out.old ≡ no_faults }
+    ensures ok { IfOk result (λ fault. IfSome (R.left input.old) (λ file.
+        WritesOutput command file (W.written out.old) (W.written out.new) fault)) }
+    ensures err { IfErr result (λ refusal. IsStopped command (R.left input.old) refusal
+        (R.counts input.new) (R.taken input.new) (W.counts out.new) (W.written out.old) (W.written out.new)) }
+{
+    match command {
+        Command::List(part) => list(alloc, part, input, out),
+        Command::Rows(part) => rows(alloc, part, input, out),
+        Command::Convert(options) => convert(alloc, options, input, out),
+        Command::Check => check(alloc, input, out),
     }
 }
 
@@ -66,17 +88,15 @@ pub fn run<R: Source, W: Sink, E: Sink>(
     requires error_counts { E.counts err.old ≡ no_faults }
     ensures status { IsStatus result }
 
-    // What was done is the text of what follows the job's cursor in the input, up to its limit.
-    ensures printed { result < 3 → PrintsPart job.now.command (R.left input.old) (W.written out.old) (W.written out.new)
+    // What was done is the text of what the job's command tells of the input.
+    ensures written { result < 3 → WritesText job.now.command (R.left input.old) (W.written out.old) (W.written out.new)
         (E.written err.old) (E.written err.new) result }
 
-    // What was refused was refused for a reason that the streams' counts show.
-    ensures refused { result ≡ 3 → SaysRefusal (R.counts input.new) (R.taken input.new) (W.counts out.new)
-        (E.counts err.new) (E.written err.old) (E.written err.new) }
+    // What was refused was refused for a reason that the streams' counts show, and the output is
+    // what it has to be then.
+    ensures refused { result ≡ 3 → IsRefused job.now.command (R.left input.old) (R.counts input.new) (R.taken input.new)
+        (W.counts out.new) (E.counts err.new) (W.written out.old) (W.written out.new) (E.written err.old) (E.written err.new) }
 {
-    let ending = match job.command {
-        Command::List(part) => list(alloc, part, input, out),
-        Command::Rows(part) => rows(alloc, part, input, out),
-    };
-    report(alloc, ending, err)
+    let outcome = carry_out(alloc, job.command, input, out);
+    report(outcome, err)
 }

@@ -1,9 +1,10 @@
 //! Whole transfers: a source to its end, and all of some bytes to a sink.
-ghost use Rattle.std.specs.Prelude.{◌≡◌, ◌≤◌, length, IfOk, IfErr, IfSome, OnOk, Err, vec_len};
+ghost use Rattle.std.specs.Prelude.{◌≡◌, ◌≤◌, ◌<◌, ◌-◌, length, IfOk, IfErr, IfSome, OnOk, IsTrue, Err, false, vec_len};
 ghost use Rattle.std.specs.Io.KnownBytes.{Appends};
 ghost use Rattle.fax_tool.specs.declared.refusal.Refusal.TheVariants.{Memory};
-ghost use Rattle.fax_tool.specs.Run.{HasReason, most_input};
+ghost use Rattle.fax_tool.specs.Run.{HasFailed, HasReason, most_input, most_interrupted};
 ghost use Rattle.fax_tool.specs.Streams.{counts_after, no_faults};
+ghost use Rattle.fax_tool.specs.code.Transfers.{IsGivenInPart, counted};
 
 use crate::refusal::Refusal;
 use crate::streams::{Sink, Source, StreamFault};
@@ -14,6 +15,36 @@ const MOST_INPUT: usize = 268_435_456;
 
 /// How many bytes are read at a time.
 const CHUNK: usize = 65_536;
+
+/// How many interrupted calls of a stream are made again.
+const MOST_INTERRUPTED: u32 = 1_023;
+
+/// How many calls on a stream were interrupted, and made again.
+#[derive(Clone, Copy)]
+pub struct Interruptions {
+    count: u32,
+}
+
+impl Interruptions {
+    /// No call was interrupted.
+    pub const NONE: Interruptions = Interruptions { count: 0 };
+
+    /// Whether a call with this fault is made again: an interrupted one, up to 1,023 times on a
+    /// stream.
+    fn allow(&mut self, fault: StreamFault) -> bool
+        ensures again { IsTrue result → counted self.new ≡ counts_after (Err fault) (counted self.old) }
+        ensures fewer { IsTrue result → most_interrupted - self.new.count < most_interrupted - self.old.count }
+        ensures failed { result ≡ false → HasFailed (counts_after (Err fault) (counted self.old)) }
+    {
+        match fault {
+            StreamFault::Interrupted if self.count < MOST_INTERRUPTED => {
+                self.count += 1;
+                true
+            }
+            StreamFault::Interrupted | StreamFault::Failed => false,
+        }
+    }
+}
 
 /// So many zero bytes, as room for what is read.
 fn room(alloc: Global, len: usize) -> Result<Vec<u8>, Refusal>
@@ -27,7 +58,8 @@ fn room(alloc: Global, len: usize) -> Result<Vec<u8>, Refusal>
 ///
 /// # Errors
 ///
-/// `Memory` where a growth was refused; `Read` where a read failed or the source has more bytes.
+/// `Memory` where a growth was refused; `Read` where a read failed, 1,024 were interrupted, or the
+/// source has more bytes.
 pub fn read_whole<R: Source>(alloc: Global, input: &mut R) -> Result<Vec<u8>, Refusal>
     requires counts { R.counts input.old ≡ no_faults }
     requires taken { R.taken input.old ≡ 0 }
@@ -35,21 +67,25 @@ pub fn read_whole<R: Source>(alloc: Global, input: &mut R) -> Result<Vec<u8>, Re
     ensures limit { IfOk result (λ file. vec_len file ≤ most_input) }
     ensures reason { IfErr result (λ refusal. HasReason refusal (R.counts input.new) (R.taken input.new) no_faults) }
 {
+    let mut interruptions = Interruptions::NONE;
     let mut file = Vec::new(alloc);
     let mut chunk = room(alloc, CHUNK)?;
     loop {
-        let count = match input.take(&mut chunk) {
-            Ok(count) => count,
-            Err(_) => return Err(Refusal::Read),
-        };
-        if count == 0 {
-            return Ok(file);
-        }
-        if count > MOST_INPUT - file.len() {
-            return Err(Refusal::Read);
-        }
-        if file.extend_from_slice(&chunk[..count]).is_err() {
-            return Err(Refusal::Memory);
+        match input.take(&mut chunk) {
+            Ok(0) => return Ok(file),
+            Ok(count) => {
+                if count > MOST_INPUT - file.len() {
+                    return Err(Refusal::Read);
+                }
+                if file.extend_from_slice(&chunk[..count]).is_err() {
+                    return Err(Refusal::Memory);
+                }
+            }
+            Err(fault) => {
+                if !interruptions.allow(fault) {
+                    return Err(Refusal::Read);
+                }
+            }
         }
     }
 }
@@ -58,16 +94,24 @@ pub fn read_whole<R: Source>(alloc: Global, input: &mut R) -> Result<Vec<u8>, Re
 ///
 /// # Errors
 ///
-/// The fault of the first call that gave one; a front of the bytes was then written.
-pub fn give_all<W: Sink>(out: &mut W, bytes: &[u8]) -> Result<(), StreamFault>
+/// `Write` where a write failed or 1,024 on this sink were interrupted; a front of the bytes was
+/// then written.
+pub fn give_all<W: Sink>(out: &mut W, interruptions: &mut Interruptions, bytes: &[u8]) -> Result<(), Refusal>
+    requires counts { W.counts out.old ≡ counted interruptions.old }
     ensures ok { OnOk result (Appends (W.written out.old) (W.written out.new) bytes.now) }
-    ensures no_fault { OnOk result (W.counts out.new ≡ W.counts out.old) }
-    ensures fault { IfErr result (λ fault. W.counts out.new ≡ counts_after (Err fault) (W.counts out.old)) }
+    ensures counts { OnOk result (W.counts out.new ≡ counted interruptions.new) }
+    ensures err { IfErr result (IsGivenInPart (W.written out.old) (W.written out.new) bytes.now (W.counts out.new)) }
 {
     let mut rest = bytes;
     while !rest.is_empty() {
-        let count = out.give(rest)?;
-        rest = &rest[count..];
+        match out.give(rest) {
+            Ok(count) => rest = &rest[count..],
+            Err(fault) => {
+                if !interruptions.allow(fault) {
+                    return Err(Refusal::Write);
+                }
+            }
+        }
     }
     Ok(())
 }

@@ -1,10 +1,11 @@
 //! The words of a command line.
-ghost use Rattle.std.specs.Prelude.{◌≡◌, codes};
+ghost use Rattle.std.specs.Prelude.{◌≡◌, ◌<◌, ◌≤◌, IfOk, IfSome};
 ghost use Rattle.fax_tool.specs.Words.{words_text, words_status};
 
 use clap::error::ErrorKind;
 use clap::{Arg, ArgMatches, value_parser};
-use fax_walk::{Cursor, NotACursor};
+use fax_bits::FillOrder;
+use fax_walk::{Cursor, NotACursor, Options, Target};
 use std::alloc::{AllocError, Global};
 use thiserror::Error;
 
@@ -22,6 +23,10 @@ pub enum Command {
     List(Part),
     /// Prints the runs of each row.
     Rows(Part),
+    /// Writes the pages in another form.
+    Convert(Options),
+    /// Prints what is worth a note.
+    Check,
 }
 
 /// The part of a file's pages or rows that is printed.
@@ -47,7 +52,13 @@ pub enum WordsFault {
     Memory,
 }
 
-/// The four lines of the usage: all commands, also those that are not built yet.
+/// The most rows of a strip, and the greatest K.
+const MOST_ROWS: u32 = 1_000_000;
+
+/// K where none is given.
+const USUAL_K: u32 = 4;
+
+/// The four lines of the usage.
 const USAGE: &str = "\
 usage: faxpages list [--cursor C] [--max N] [FILE]
        faxpages rows [--cursor C] [--max N] [FILE]
@@ -102,14 +113,45 @@ fn printing<'a>(alloc: Global, name: &'a str) -> Result<clap::Command<'a>, Alloc
         .arg(Arg::new(alloc, "FILE"))
 }
 
-/// The command line of the program: its commands, as far as they are built.
+/// An option with a number from 1 to the most.
+fn number<'a>(alloc: Global, name: &'a str, most: u32) -> Arg<'a> {
+    Arg::new(alloc, name)
+        .long(name)
+        .value_parser(value_parser!(u32).range(1..=i64::from(most)))
+}
+
+/// The command that writes pages in another form.
+fn converting<'a>(alloc: Global) -> Result<clap::Command<'a>, AllocError> {
+    let target = Arg::new(alloc, "o")
+        .short('o')
+        .required(true)
+        .value_parser(["pbm", "mh", "mr", "mmr"].as_slice());
+    clap::Command::new(alloc, "convert")
+        .disable_help_flag(true)
+        .arg(target)?
+        .arg(number(alloc, "order", 2))?
+        .arg(number(alloc, "k", MOST_ROWS))?
+        .arg(number(alloc, "strip", MOST_ROWS))?
+        .arg(Arg::new(alloc, "FILE"))
+}
+
+/// The command that looks for what is worth a note.
+fn checking<'a>(alloc: Global) -> Result<clap::Command<'a>, AllocError> {
+    clap::Command::new(alloc, "check")
+        .disable_help_flag(true)
+        .arg(Arg::new(alloc, "FILE"))
+}
+
+/// The command line of the program.
 fn command_line<'a>(alloc: Global) -> Result<clap::Command<'a>, AllocError> {
     clap::Command::new(alloc, "faxpages")
         .disable_help_flag(true)
         .disable_help_subcommand(true)
         .subcommand_required(true)
         .subcommand(printing(alloc, "list")?)?
-        .subcommand(printing(alloc, "rows")?)
+        .subcommand(printing(alloc, "rows")?)?
+        .subcommand(converting(alloc)?)?
+        .subcommand(checking(alloc)?)
 }
 
 /// The file among the words behind a command.
@@ -132,6 +174,41 @@ fn part_of(matches: &ArgMatches) -> Result<Part, NotACursor> {
     })
 }
 
+/// What the words behind `-o` name.
+fn target_of(matches: &ArgMatches) -> Result<Target, WordsFault> {
+    match matches.get_str("o") {
+        Some("pbm") => Ok(Target::Pbm),
+        Some("mh") => Ok(Target::Mh),
+        Some("mr") => Ok(Target::Mr),
+        Some("mmr") => Ok(Target::Mmr),
+        _ => Err(WordsFault::Usage),
+    }
+}
+
+/// A number of 1 to 1,000,000 among the words, where there is one.
+fn number_of(matches: &ArgMatches, name: &str) -> Result<Option<u32>, WordsFault>
+    ensures { IfOk result (λ number. IfSome number (λ n. (0 < n) × (n ≤ 1000000))) }
+{
+    match matches.get_one::<u32>(name) {
+        Some(number) if number == 0 || number > MOST_ROWS => Err(WordsFault::Usage),
+        number => Ok(number),
+    }
+}
+
+/// How the words behind `convert` want the pages.
+fn options_of(matches: &ArgMatches) -> Result<Options, WordsFault> {
+    let order = match number_of(matches, "order")? {
+        Some(2) => FillOrder::LsbFirst,
+        _ => FillOrder::MsbFirst,
+    };
+    Ok(Options {
+        target: target_of(matches)?,
+        order,
+        k: number_of(matches, "k")?.unwrap_or(USUAL_K),
+        strip: number_of(matches, "strip")?,
+    })
+}
+
 /// The job that the words name, the program's own name first. Each refusal of words but for a text
 /// that is no cursor's, a request for help or the version included, is `Usage`.
 pub fn parse_words(alloc: Global, words: &[&str]) -> Result<Job, WordsFault> {
@@ -139,10 +216,11 @@ pub fn parse_words(alloc: Global, words: &[&str]) -> Result<Job, WordsFault> {
     let Some((name, of_command)) = matches.subcommand() else {
         return Err(WordsFault::Usage);
     };
-    let part = part_of(of_command)?;
     let command = match name {
-        "list" => Command::List(part),
-        "rows" => Command::Rows(part),
+        "list" => Command::List(part_of(of_command)?),
+        "rows" => Command::Rows(part_of(of_command)?),
+        "convert" => Command::Convert(options_of(of_command)?),
+        "check" => Command::Check,
         _ => return Err(WordsFault::Usage),
     };
     Ok(Job {

@@ -19,7 +19,7 @@ use Rattle.fax_walk.proofs.EndingLemmas.{none_past}
 use Rattle.fax_walk.proofs.PageAtLemmas.{from_row_so, form_then_so, behind_one, forms_behind_one}
 
 -- the list from an element on
-drop_there : (offsets : List ℕ) (n q : ℕ) → slice_get offsets n ≡ Some q → drop n offsets ≡ q ∷ drop (n + 1) offsets
+pub drop_there : (offsets : List ℕ) (n q : ℕ) → slice_get offsets n ≡ Some q → drop n offsets ≡ q ∷ drop (n + 1) offsets
 drop_there [] n q there = absurd (cc there)
 drop_there (first ∷ offsets) zero q there = ap (λ x. x ∷ offsets) (cc there)
 drop_there (first ∷ offsets) (suc n) q there =

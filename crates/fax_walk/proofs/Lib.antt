@@ -19,3 +19,12 @@ pub mod WalkLemmas
 pub mod StillDueLemmas
 pub mod RowOrderLemmas
 pub mod ConversionLemmas
+pub mod OpenStripsLemmas
+pub mod OutputLemmas
+pub mod StripCheckLemmas
+pub mod PageCheckLemmas
+pub mod WidthLemmas
+pub mod ImageLemmas
+pub mod SourceLemmas
+pub mod RowLemmas
+pub mod FileLemmas

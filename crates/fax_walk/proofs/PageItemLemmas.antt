@@ -36,7 +36,7 @@ strip_count form b rows end strip =
     let n : 0 + length rows ≡ length rows = omega arith in
     subst (λ (k : ℕ). IsCount end k form.rows) n (counted form 0 _ b rows end strip.left strip.lines)
 
-by_exchange : (exchanged : Bool) (rows : List (List Colour)) → length (if exchanged then map (map other) rows else rows) ≡ length rows
+pub by_exchange : (exchanged : Bool) (rows : List (List Colour)) → length (if exchanged then map (map other) rows else rows) ≡ length rows
 by_exchange true rows = length-map rows (map other)
 by_exchange false rows = refl
 

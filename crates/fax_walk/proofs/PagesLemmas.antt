@@ -2,6 +2,7 @@
 use Rattle.std.proofs.Common.{◌≡◌, ℕ, ◌+◌, ◌^◌, ◌<◌, List, Some, Result, Ok, Err, refl, arith}
 use Rattle.std.specs.Prelude.{IfOk}
 use Rattle.fax_files.specs.Laws.{FilesHaveOneChain}
+use Rattle.fax_files.specs.Page.{IsPageForm}
 use Rattle.fax_files.specs.code.Chain.{ChainState}
 use Rattle.fax_walk.specs.declared.cursor.Cursor.{Cursor}
 use Rattle.fax_walk.specs.declared.end.End.{End}
@@ -28,14 +29,15 @@ first_behind file at due next named some short given behind = record {
 }
 
 -- the page that is due is handed out
-pub page_given : (pages : PagesState) (due : PageDue) (cursor : Cursor) → IsDueIn pages due → due.page < 2 ^ 32
+pub page_given : (pages : PagesState) (due : PageDue) (cursor : Cursor) → IsDueIn pages due → due.page < 2 ^ 32 → IsPageForm due.form
     → cursor ≡ record { page = due.chain.given; row = 0 }
     → HandsOutPage pages (record { page = due.page; form = due.form }) (record pages { cursor = cursor; stage = Behind due.chain })
-page_given pages due cursor is short cursor_is =
+page_given pages due cursor is short limits cursor_is =
     let earlier : place_number pages.cursor.page pages.cursor.row < 2 ^ 64 = omega (arith, is.behind, short) in
     record {
       due = λ forms end behind. is.forms _ end (record { others = forms; forms_are = refl; follows = behind });
       cursor = rw (cursor_is, is.given) refl;
+      limits = limits;
       fewer = rw cursor_is (omega (arith, is.behind, is.given, earlier));
     }
 

@@ -1,16 +1,19 @@
 -- Steps of a walk.
-use Rattle.std.proofs.Common.{◌≡◌, ℕ, ◌+◌, ◌-◌, ◌^◌, ◌<◌, List, Result, Ok, refl, ap, ◌∙◌, arith}
+use Rattle.std.proofs.Common.{◌≡◌, ℕ, ◌+◌, ◌-◌, ◌^◌, ◌<◌, List, [], Result, Ok, refl, sym, ap, ◌∙◌, subst, arith}
 use Rattle.std.specs.Prelude.{IfOk}
+use Rattle.fax_bits.specs.declared.Colour.{Colour}
 use Rattle.fax_walk.specs.declared.end.End.{End}
 use Rattle.fax_walk.specs.declared.opening.OpenFault.{OpenFault}
-use Rattle.fax_walk.specs.declared.walk.Stage.TheVariants.{Before, Open}
+use Rattle.fax_walk.specs.declared.walk.Place.{Place}
+use Rattle.fax_walk.specs.declared.walk.Stage.{Stage}
+use Rattle.fax_walk.specs.declared.walk.Stage.TheVariants.{Before, Open, Ended}
 use Rattle.fax_walk.specs.Items.{Item}
 use Rattle.fax_walk.specs.Tail.{IsTail}
 use Rattle.fax_walk.specs.code.Stages.{PageState, row_of, skipped}
 use Rattle.fax_walk.specs.declared.cursor.Cursor.{Cursor}
-use Rattle.fax_walk.specs.code.Due.{WalkState, IsDue, IsDueOnPage, IsOpenedFor, IsOpenFrom, GivesRow, place_number}
+use Rattle.fax_walk.specs.code.Due.{WalkState, IsDue, IsDueOnPage, IsOpenedFor, IsOpenFrom, GivesRow, place_number, places_left}
 use Rattle.fax_walk.specs.code.Opening.{IsOpenedBehind}
-use Rattle.fax_walk.specs.code.Next.{IsEntered, StepsAs}
+use Rattle.fax_walk.specs.code.Next.{IsEntered, StepsAs, IsOnPage, HandsOut, HasEnded}
 
 -- a page that takes the place of what is due: what it has is due, and a row of it is due
 pub record TakesPlace (walk : WalkState) (page : PageState) : Type 0 where
@@ -77,3 +80,43 @@ module _ (walk : WalkState) (old new : PageState) (cursor : Cursor) (stage_is : 
     },
     omega (arith, gives.next_row),
   )
+
+-- a walk that entered a page and read a row of it, or ended there
+module _ (old middle new : WalkState) (enters : IsEntered old middle) (steps : StepsAs middle new.stage new) where
+  -- the steps, where the stage is known
+  steps_at : (stage : Stage) → new.stage ≡ stage → StepsAs middle stage new
+  steps_at stage is = subst (λ (s : Stage). StepsAs middle s new) is steps
+
+  pub went_to_row : (page : PageState) → new.stage ≡ Open page → IsOnPage new.stage × StepsAs old new.stage new
+  went_to_row page stage_is =
+      let step : StepsAs middle (Open page) new = steps_at (Open page) stage_is in
+      let given = step.0 in
+      let gives : StepsAs old (Open page) new = (
+        record {
+          due = λ items end due. enters.due _ end (given.due items end due);
+          cursor = given.cursor;
+          file = given.file ∙ ap (λ (w : WalkState). w.file) enters.same;
+          begun = given.begun ∙ ap (λ (w : WalkState). w.begun) enters.same;
+          one_more = given.one_more ∙ ap (λ (w : WalkState). w.given + 1) enters.same;
+          fewer = subst (λ (n : ℕ). places_left new < n) (ap places_left enters.same) given.fewer;
+        },
+        step.1,
+      ) in
+      subst (λ (s : Stage). IsOnPage s × StepsAs old s new) (sym stage_is) (tt, gives)
+
+  pub went_to_end : (end : End) (read : ℕ) → new.stage ≡ Ended end read → HasEnded old end new
+  went_to_end end read stage_is =
+      let ended : StepsAs middle (Ended end read) new = steps_at (Ended end read) stage_is in
+      record {
+        due = enters.due [] end ended.due;
+        told = ended.told;
+        same = ended.same ∙ ap (λ (w : WalkState). record w { stage = new.stage }) enters.same;
+      }
+
+-- the row that a walk went to is lent with its place
+pub lent : (old new : WalkState) (page : PageState) (place : Place) (row : List Colour) → StepsAs old (Open page) new
+    → place.page ≡ page.page → place.row + 1 ≡ row_of page → row ≡ page.shown
+    → HandsOut old (record { page = place.page; row = place.row; pels = row }) new
+lent old new page place row step page_is row_is pels_are =
+    let number : place.row ≡ row_of page - 1 = omega arith in
+    rw (page_is, number, pels_are) step.0

@@ -5,4 +5,6 @@ pub mod Before
 pub mod Forms
 pub mod Converted
 pub mod Laws
+pub mod NoteNames
+pub mod Report
 pub mod code

@@ -5,3 +5,7 @@ pub mod Opening
 pub mod Next
 pub mod Pages
 pub mod Conversion
+pub mod OpenStrips
+pub mod Output
+pub mod Check
+pub mod Sources

@@ -3,6 +3,7 @@ ghost use Rattle.std.specs.Prelude.{◌≡◌, ◌≢◌, ℕ, ◌++◌, ◌<◌
 ghost use Rattle.std.specs.String.{string_bytes};
 ghost use Rattle.fax_walk.specs.Cursor.{cursor_text};
 
+use arrayvec::ArrayString;
 use fax_bits::Memory;
 use itoa::Buffer;
 use thiserror::Error;
@@ -67,7 +68,20 @@ impl Cursor {
         })
     }
 
-    /// Appends the cursor's text, `1:P:R` in decimals.
+    /// The cursor's text, `1:P:R` in decimals.
+    pub fn text(&self) -> ArrayString<23>
+        ensures { result.bytes ≡ cursor_text self.now }
+    {
+        let mut digits = Buffer::new();
+        let mut text = ArrayString::new();
+        text.push_str("1:");
+        text.push_str(digits.format(self.page));
+        text.push_str(":");
+        text.push_str(digits.format(self.row));
+        text
+    }
+
+    /// Appends the cursor's text.
     ///
     /// # Errors
     ///
@@ -76,15 +90,6 @@ impl Cursor {
         ensures ok { OnOk result (string_bytes text.new ≡ string_bytes text.old ++ cursor_text self.now) }
         ensures err { OnErr result (string_bytes text.new ≡ string_bytes text.old) }
     {
-        let mut page_digits = Buffer::new();
-        let mut row_digits = Buffer::new();
-        let page = page_digits.format(self.page);
-        let row = row_digits.format(self.row);
-        text.reserve(3 + page.len() + row.len())
-            .map_err(|_| Memory)?;
-        text.push_str("1:").map_err(|_| Memory)?;
-        text.push_str(page).map_err(|_| Memory)?;
-        text.push_str(":").map_err(|_| Memory)?;
-        text.push_str(row).map_err(|_| Memory)
+        text.push_str(self.text().as_str()).map_err(|_| Memory)
     }
 }

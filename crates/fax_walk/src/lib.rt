@@ -1,16 +1,21 @@
 //! The walk over the rows of a TIFF-F file, from its bytes to rows with their places.
 #![tactic(auto)]
 
+mod checking;
 mod conversion;
 mod cursor;
 mod end;
 pub mod laws;
+mod open_strips;
 mod opening;
 mod options;
+mod output;
 mod page;
 mod pages;
+mod sheet;
 mod walk;
 
+pub use checking::{Note, NoteKind, Report, check};
 pub use conversion::convert;
 pub use cursor::{Cursor, NotACursor};
 pub use end::{End, WalkFault};

@@ -4,7 +4,7 @@ ghost use Rattle.std.specs.Option.{ForSome};
 
 use crate::Cause;
 use fax_bits::Memory;
-use fax_files::{FillOrder, PbmFault};
+use fax_files::{Coding, FillOrder, PbmFault};
 use thiserror::Error;
 
 /// What a file is turned into.
@@ -18,6 +18,22 @@ pub enum Target {
     Mr,
     /// TIFF, with rows coded over one another (T.6).
     Mmr,
+}
+
+impl Target {
+    ghost use Rattle.fax_walk.specs.code.Output.{coding_of};
+
+    /// How rows are coded, in a TIFF file.
+    pub(crate) fn coding(self) -> Option<Coding>
+        ensures { result ≡ coding_of self }
+    {
+        match self {
+            Target::Pbm => None,
+            Target::Mh => Some(Coding::Mh),
+            Target::Mr => Some(Coding::Mr),
+            Target::Mmr => Some(Coding::Mmr),
+        }
+    }
 }
 
 /// How a file is written. For PBM only the target is looked at.

@@ -87,6 +87,7 @@ fn open_at<'a>(alloc: Global, file: &'a [u8], cursor: Cursor) -> Result<OpenPage
 impl<'a> Walk<'a> {
     ghost use Rattle.fax_walk.specs.code.Due.{walk_from, walk_start, rows_read_at};
     ghost use Rattle.fax_walk.specs.code.Next.{EndsAs, EntersAs, HasReadRows, IsNext, IsStep, IsAtRow};
+    ghost use Rattle.fax_walk.specs.code.Next.{IsAdvance, IsOnPage, shown_at};
 
     /// A walk over all rows of a file, from any bytes. Nothing is read yet.
     pub fn start(alloc: Global, file: &'a [u8]) -> Self
@@ -180,6 +181,43 @@ impl<'a> Walk<'a> {
         }
     }
 
+    /// Goes to the next row, and answers whether there was one. It takes memory only where it
+    /// enters a page.
+    ///
+    /// # Errors
+    ///
+    /// As `next_row`.
+    pub(crate) fn advance(&mut self) -> Result<bool, WalkFault>
+        ensures { IsAdvance self.old result self.new }
+    {
+        if let Err(Memory) = self.enter() {
+            return Err(WalkFault::Memory);
+        }
+        self.step();
+        match &self.stage {
+            Stage::Before => unreachable!(),
+            Stage::Open(_) => Ok(true),
+            Stage::Ended(End::Proper, _) => Ok(false),
+            Stage::Ended(End::Outside, _) => Err(WalkFault::CursorOutside),
+            Stage::Ended(End::Fault { page, row, cause }, _) => Err(WalkFault::AtRow {
+                page: *page,
+                row: *row,
+                cause: *cause,
+            }),
+        }
+    }
+
+    /// The row that `advance` went to.
+    pub(crate) fn row(&self) -> &Row
+        requires { IsOnPage self.now.stage }
+        ensures { result.now ≡ shown_at self.now.stage }
+    {
+        match &self.stage {
+            Stage::Open(page) => page.row(),
+            Stage::Before | Stage::Ended(..) => unreachable!(),
+        }
+    }
+
     /// Hands out the next row with its place, or `None` once all rows were handed out. It takes
     /// memory only where it enters a page.
     ///
@@ -190,20 +228,12 @@ impl<'a> Walk<'a> {
     pub fn next_row(&mut self) -> Result<Option<(Place, &Row)>, WalkFault>
         ensures* next { sem 𝓛 (EndsAs self.entry (IsNext self.old result)) }
     {
-        if let Err(Memory) = self.enter() {
-            return Err(WalkFault::Memory);
+        if !self.advance()? {
+            return Ok(None);
         }
-        self.step();
         match &self.stage {
-            Stage::Before => unreachable!(),
             Stage::Open(page) => Ok(Some((page.last(), page.row()))),
-            Stage::Ended(End::Proper, _) => Ok(None),
-            Stage::Ended(End::Outside, _) => Err(WalkFault::CursorOutside),
-            Stage::Ended(End::Fault { page, row, cause }, _) => Err(WalkFault::AtRow {
-                page: *page,
-                row: *row,
-                cause: *cause,
-            }),
+            Stage::Before | Stage::Ended(..) => unreachable!(),
         }
     }
 }

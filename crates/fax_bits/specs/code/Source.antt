@@ -1,5 +1,5 @@
 -- Bits that are read from a place on.
-use Rattle.std.specs.Prelude.{◌≡◌, ℕ, ◌+◌, ◌*◌, ◌<◌, ◌≤◌, Bool, false, List, length, slice_index_or, drop}
+use Rattle.std.specs.Prelude.{◌≡◌, ℕ, ◌+◌, ◌*◌, ◌<◌, ◌≤◌, Bool, true, false, List, ◌++◌, length, slice_index_or, drop}
 use Rattle.fax_bits.specs.declared.FillOrder.{FillOrder}
 use Rattle.fax_bits.specs.Bits.{bits}
 
@@ -16,6 +16,15 @@ source_of order bytes place = record { left = drop place (bits order bytes); pla
 pub record IsZeroByteAt (b : List Bool) (place : ℕ) : Type 0 where
   pub within : place + 8 ≤ length b
   pub zeros : (k : ℕ) → k < 8 → slice_index_or b (place + k) false ≡ false
+
+-- the bits begin with these
+abbrev pub BeginsWith : List Bool → List Bool → Type 0
+BeginsWith b front = (rest : List Bool) × (b ≡ front ++ rest)
+
+-- whether the bits begin with these, which are taken then
+abbrev pub IsTaken : List Bool → List Bool → Bool → List Bool → Type 0
+IsTaken front b true rest = b ≡ front ++ rest
+IsTaken front b false rest = (rest ≡ b) × (BeginsWith b front → ⊥)
 
 -- the source goes on in the same bits: they end at the same place
 abbrev pub KeepsEnd : Source → Source → Type 0

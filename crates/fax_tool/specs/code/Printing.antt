@@ -1,5 +1,5 @@
 -- Steps of printing lines.
-use Rattle.std.specs.Prelude.{◌≡◌, ℕ, ◌<◌, ◌⊎◌, nat_le, if◌then◌else◌, List, [], ◌∷◌, ◌++◌, map, length, Option, Some, None, IfSome, Result, Ok, Err, codes, ⊤}
+use Rattle.std.specs.Prelude.{◌≡◌, ℕ, ◌<◌, ◌⊎◌, List, [], ◌∷◌, ◌++◌, map, length, Option, Some, None, IfSome, Result, Ok, Err, codes, ⊤}
 use Rattle.std.specs.Io.KnownBytes.{Appends}
 use Rattle.fax_bits.specs.declared.Memory.{Memory as NoMemory}
 use Rattle.fax_walk.specs.declared.cursor.Cursor.{Cursor}
@@ -12,11 +12,11 @@ use Rattle.fax_walk.specs.Forms.{FormItem}
 use Rattle.fax_walk.specs.code.Due.{WalkState, IsDue}
 use Rattle.fax_walk.specs.code.Pages.{PagesState, AreFormsDue}
 use Rattle.fax_tool.specs.declared.refusal.Refusal.{Refusal}
-use Rattle.fax_tool.specs.declared.refusal.Refusal.TheVariants.{Memory}
-use Rattle.fax_tool.specs.declared.words.Part.{Part}
+use Rattle.fax_tool.specs.declared.refusal.Refusal.TheVariants.{Memory, Read, Write}
 use Rattle.fax_tool.specs.Streams.{Counts}
-use Rattle.fax_tool.specs.Text.{Line, line_of_row, line_of_page, texts_of, last_cursor, next_line, error_text, status_of, text_of}
-use Rattle.fax_tool.specs.Run.{HasFaults, refusal_line}
+use Rattle.fax_tool.specs.Text.{Line, Printed, line_of_row, line_of_page, texts_of, last_cursor, next_line}
+use Rattle.fax_tool.specs.Run.{HasFailed, HasReason, IsTextOfFirst, IsTextOfLines}
+use Rattle.fax_tool.specs.code.Transfers.{IsGivenInPart, WritesFront}
 
 -- the lines of the rows that a walk still hands out, and their end
 pub record AreRowsDue (walk : WalkState) (lines : List Line) (end : End) : Type 0 where
@@ -63,7 +63,7 @@ last_line (Some (Fault page row cause)) at = next_line at
 last_line (Some Outside) at = []
 
 -- these lines were printed, the first of those that were due from a cursor on, and printing ended so; behind them the
--- place is this, and the text is appended to the output, whose last part is collected
+-- place is this
 pub record PrintsLines (are_due : List Line → End → Type 0) (at : Cursor) (max : Option ℕ) (ending : Option End) (place : Cursor) (output new_output : Option (List ℕ)) : Type 0 where
   pub lines : List Line
   pub others : List Line
@@ -82,38 +82,29 @@ pub record PrintsAll (are_due : List Line → End → Type 0) (at : Cursor) (max
   pub ends : EndsWith lines others end max ending
   pub printed : Appends output new_output (texts_of lines ++ last_line ending (last_cursor at lines))
 
--- how the printing of lines ends: at the limit, or with their end
-abbrev pub ending_of : List Line → End → Option ℕ → Option End
-ending_of lines end None = Some end
-ending_of lines end (Some limit) = if nat_le limit (length lines) then None else Some end
+-- a front of the text of lines is written, also of the text that is written where memory is refused
+abbrev pub WritesFrontOfLines : (List Line → End → Type 0) → Cursor → Option ℕ → Option (List ℕ) → Option (List ℕ) → Type 0
+WritesFrontOfLines are_lines at max output new_output =
+    (text : List ℕ) × (((printed : Printed) × IsTextOfLines are_lines at max printed × (text ≡ printed.output))
+    ⊎ IsTextOfFirst are_lines at max text) × WritesFront output new_output text
 
--- the output is the text of these lines and their end, and printing ended as it has to
-pub record PrintsText (are_lines : List Line → End → Type 0) (part : Part) (ending : Option End) (output new_output : Option (List ℕ)) : Type 0 where
-  pub lines : List Line
-  pub end : End
-  pub read : are_lines lines end
-  pub printed : Appends output new_output (text_of lines end part.cursor part.max).output
-  pub ending_is : ending ≡ ending_of lines end part.max
+-- printing of lines was refused
+abbrev pub StopsPrinting : (List Line → End → Type 0) → Cursor → Option ℕ → Refusal → Option (List ℕ) → Option (List ℕ) → Counts → Type 0
+StopsPrinting are_lines at max Memory output new_output counts =
+    (text : List ℕ) × IsTextOfFirst are_lines at max text × Appends output new_output text
+StopsPrinting are_lines at max Read output new_output counts = ⊥
+StopsPrinting are_lines at max Write output new_output counts =
+    HasFailed counts × WritesFrontOfLines are_lines at max output new_output
 
--- the error line of a run that ended so, none at the limit
-abbrev pub error_of : Option End → List ℕ
-error_of None = []
-error_of (Some end) = error_text end
+-- memory was refused, and this text was written, or a write was refused then
+abbrev pub StopsForMemory : Refusal → Option (List ℕ) → Option (List ℕ) → List ℕ → Counts → Type 0
+StopsForMemory Memory output new_output text counts = Appends output new_output text
+StopsForMemory Read output new_output text counts = ⊥
+StopsForMemory Write output new_output text counts = IsGivenInPart output new_output text counts Write
 
--- the status of a run that ended so
-abbrev pub status_at : Option End → ℕ
-status_at None = 0
-status_at (Some end) = status_of end
-
--- a line was said, and the status is the one that goes with it, or the error stream failed
-abbrev pub IsSaid : Option (List ℕ) → Option (List ℕ) → Counts → List ℕ → ℕ → ℕ → Type 0
-IsSaid error new_error counts line status result =
-    (Appends error new_error line × (result ≡ status)) ⊎ (HasFaults counts × (result ≡ 3))
-
--- what is said on the error stream of the way a run ended, with the status
-abbrev pub IsReport : Result (Option End) Refusal → Option (List ℕ) → Option (List ℕ) → Counts → ℕ → Type 0
-IsReport (Ok ending) error new_error counts status =
-    (Appends error new_error (error_of ending) × (status ≡ status_at ending))
-    ⊎ ((HasFaults counts ⊎ Appends error new_error (refusal_line Memory)) × (status ≡ 3))
-IsReport (Err refusal) error new_error counts status =
-    (HasFaults counts ⊎ Appends error new_error (refusal_line refusal)) × (status ≡ 3)
+-- the input was not read, and where to go on was written where memory was refused
+abbrev pub StopsAtBeginning : Refusal → Cursor → Counts → ℕ → Option (List ℕ) → Option (List ℕ) → Counts → Type 0
+StopsAtBeginning Read at input taken output new_output counts =
+    HasReason Read input taken counts × Appends output new_output []
+StopsAtBeginning refusal at input taken output new_output counts =
+    StopsForMemory refusal output new_output (next_line at) counts

@@ -1,12 +1,20 @@
 //! A run over bytes in memory, with all that a caller learns of it.
 
-use crate::{Command, Cursor, FromRead, Job, Part, ToWrite, run};
+use crate::{Command, Cursor, FillOrder, FromRead, Job, Options, Part, Target, ToWrite, run};
 use std::alloc::Global;
 
 /// All of a file.
 pub const WHOLE: Part = Part {
     cursor: Cursor { page: 0, row: 0 },
     max: None,
+};
+
+/// Into raw PBM.
+pub const TO_PBM: Options = Options {
+    target: Target::Pbm,
+    order: FillOrder::MsbFirst,
+    k: 4,
+    strip: None,
 };
 
 /// What a run printed.

@@ -1,47 +1,64 @@
 //! Streams that give little at a time, fail, or are interrupted.
 
-ghost use Rattle.std.specs.Prelude.{◌≡◌, IfOk};
+ghost use Rattle.std.specs.Prelude.{◌≤◌, IfOk};
 
 use super::ONE_MH_PAGE;
-use super::caller::WHOLE;
+use super::caller::{TO_PBM, WHOLE};
 use crate::{Command, FromRead, Job, ToWrite, run};
 use std::alloc::Global;
 use std::io;
 use std::test::Fail;
 
-/// What a reader or a writer does once its bytes are used up.
-#[derive(Clone, Copy)]
-enum Then {
-    Ends,
-    Fails,
-    IsInterrupted,
-}
+/// The rows of the one page.
+const ROWS: &[u8] = b"row 0 0 3 2 3\nend\n";
 
-/// Gives the bytes of a file, a few at a time, and then ends, fails or is interrupted.
+/// A stream that plays a script: its first calls are interrupted, then it moves bytes up to its
+/// room, a few at a time, and behind its room it fails or moves nothing.
 #[derive(Drop)]
-struct Reader<'a> {
+struct Scripted<'a> {
+    /// What is left to read.
     left: &'a [u8],
+    /// What was written.
+    taken: Vec<u8>,
+    room: usize,
     at_a_time: usize,
-    then: Then,
+    interruptions: u32,
+    fails: bool,
 }
 
-/// What a call answers once the bytes are used up.
-fn answer(then: Then) -> io::Result<usize>
-    ensures { IfOk result (λ count. count ≡ 0) }
-{
-    match then {
-        Then::Ends => Ok(0),
-        Then::Fails => Err(io::Error::from(io::ErrorKind::Other)),
-        Then::IsInterrupted => Err(io::Error::from(io::ErrorKind::Interrupted)),
+impl<'a> Scripted<'a> {
+    /// A stream that gives these bytes, or takes all that is written.
+    fn new(alloc: Global, bytes: &'a [u8]) -> Self {
+        Scripted {
+            left: bytes,
+            taken: Vec::new(alloc),
+            room: usize::MAX,
+            at_a_time: usize::MAX,
+            interruptions: 0,
+            fails: false,
+        }
+    }
+
+    /// How many bytes the next call moves, of so many.
+    fn moves(&mut self, len: usize) -> io::Result<usize>
+        ensures { IfOk result (λ count. count ≤ len) }
+    {
+        if self.interruptions > 0 {
+            self.interruptions -= 1;
+            return Err(io::Error::from(io::ErrorKind::Interrupted));
+        }
+        let count = len.min(self.at_a_time).min(self.room);
+        if count == 0 && self.fails {
+            return Err(io::Error::from(io::ErrorKind::Other));
+        }
+        self.room -= count;
+        Ok(count)
     }
 }
 
-impl io::Read for Reader<'_> {
+impl io::Read for Scripted<'_> {
     fn read(&mut self, buf: &mut [u8]) -> io::Result<usize> {
-        if self.left.is_empty() {
-            return answer(self.then);
-        }
-        let count = self.at_a_time.min(self.left.len()).min(buf.len());
+        let count = self.moves(self.left.len().min(buf.len()))?;
         for i in 0..count {
             buf[i] = self.left[i];
         }
@@ -50,23 +67,10 @@ impl io::Read for Reader<'_> {
     }
 }
 
-/// Takes so many bytes, a few at a time, and then no more, fails or is interrupted.
-#[derive(Drop)]
-struct Writer {
-    taken: Vec<u8>,
-    room: usize,
-    at_a_time: usize,
-    then: Then,
-}
-
-impl io::Write for Writer {
+impl io::Write for Scripted<'_> {
     fn write(&mut self, buf: &[u8]) -> io::Result<usize> {
-        let count = self.at_a_time.min(self.room).min(buf.len());
-        if count == 0 && !buf.is_empty() {
-            return answer(self.then);
-        }
+        let count = self.moves(buf.len())?;
         self.taken.extend_from_slice(&buf[..count])?;
-        self.room -= count;
         Ok(count)
     }
 
@@ -75,82 +79,106 @@ impl io::Write for Writer {
     }
 }
 
-/// A writer with room for all that is written.
-fn roomy(alloc: Global) -> Writer {
-    Writer {
-        taken: Vec::new(alloc),
-        room: usize::MAX,
-        at_a_time: usize::MAX,
-        then: Then::Ends,
-    }
-}
-
-/// A run over such streams: the output, the error line and the status.
-fn run_over(alloc: Global, reader: Reader, out: Writer, err: Writer) -> (Vec<u8>, Vec<u8>, u8) {
-    let job = Job {
-        command: Command::Rows(WHOLE),
+/// The job of a command over standard input.
+fn job(command: Command) -> Job {
+    Job {
+        command,
         file: None,
-    };
-    let mut input = FromRead::new(reader);
-    let mut output = ToWrite::new(out);
-    let mut error = ToWrite::new(err);
-    let status = run(alloc, &job, &mut input, &mut output, &mut error);
-    (output.into_inner().taken, error.into_inner().taken, status)
+    }
 }
 
-/// A reader of the one page, which then ends.
-fn whole_page(at_a_time: usize) -> Reader<'static> {
-    Reader {
-        left: &ONE_MH_PAGE,
-        at_a_time,
-        then: Then::Ends,
+/// What a run over scripted streams leaves.
+#[derive(Drop)]
+struct Left {
+    output: Vec<u8>,
+    error: Vec<u8>,
+    status: u8,
+}
+
+/// Runs a command over scripted streams.
+fn run_over(alloc: Global, command: Command, input: Scripted, out: Scripted, err: Scripted) -> Left {
+    let mut input = FromRead::new(input);
+    let mut out = ToWrite::new(out);
+    let mut err = ToWrite::new(err);
+    let status = run(alloc, &job(command), &mut input, &mut out, &mut err);
+    Left {
+        output: out.into_inner().taken,
+        error: err.into_inner().taken,
+        status,
     }
+}
+
+/// A sink with room for all that is written.
+fn roomy(alloc: Global) -> Scripted<'static> {
+    Scripted::new(alloc, b"")
+}
+
+/// Each command, so that a run over the one page writes something.
+fn commands() -> [Command; 4] {
+    [
+        Command::List(WHOLE),
+        Command::Rows(WHOLE),
+        Command::Convert(TO_PBM),
+        Command::Check,
+    ]
 }
 
 #[test]
 fn moves_all_in_small_steps(rt: HostRuntime) -> Result<(), Fail> {
     for step in [1, 2, 3, 100, 226, 227] {
+        let mut input = Scripted::new(rt.alloc(), &ONE_MH_PAGE);
+        input.at_a_time = step;
         let mut out = roomy(rt.alloc());
         out.at_a_time = step;
-        let (output, error, status) = run_over(
-            rt.alloc(),
-            whole_page(step),
-            out,
-            roomy(rt.alloc()),
-        );
-        assert_eq!(rt;
-            output.as_slice(),
-            b"row 0 0 3 2 3\nend\n".as_slice(),
-            "steps of {step}"
-        );
-        assert!(rt; error.is_empty(), "steps of {step}");
-        assert_eq!(rt; status, 0, "steps of {step}");
+        let left = run_over(rt.alloc(), Command::Rows(WHOLE), input, out, roomy(rt.alloc()));
+        assert_eq!(rt; left.output.as_slice(), ROWS, "steps of {step}");
+        assert!(rt; left.error.is_empty(), "steps of {step}");
+        assert_eq!(rt; left.status, 0, "steps of {step}");
+    }
+    Ok(())
+}
+
+#[test]
+fn calls_again_up_to_1023_times(rt: HostRuntime) -> Result<(), Fail> {
+    for (interruptions, status) in [(1, 0), (1_023, 0), (1_024, 3)] {
+        let mut input = Scripted::new(rt.alloc(), &ONE_MH_PAGE);
+        input.interruptions = interruptions;
+        input.at_a_time = 1;
+        let left = run_over(rt.alloc(), Command::Rows(WHOLE), input, roomy(rt.alloc()), roomy(rt.alloc()));
+        assert_eq!(rt; left.status, status, "{interruptions} reads");
+        assert_eq!(rt; left.output.as_slice() == ROWS, status == 0, "{interruptions} reads");
+        let read = b"fault: Read\n".as_slice();
+        assert_eq!(rt; left.error.as_slice() == read, status == 3, "{interruptions} reads");
+    }
+    Ok(())
+}
+
+#[test]
+fn writes_again_up_to_1023_times(rt: HostRuntime) -> Result<(), Fail> {
+    for (interruptions, status) in [(1, 0), (1_023, 0), (1_024, 3)] {
+        let mut out = roomy(rt.alloc());
+        out.interruptions = interruptions;
+        let input = Scripted::new(rt.alloc(), &ONE_MH_PAGE);
+        let left = run_over(rt.alloc(), Command::Rows(WHOLE), input, out, roomy(rt.alloc()));
+        assert_eq!(rt; left.status, status, "{interruptions} writes");
+        assert_eq!(rt; left.output.as_slice() == ROWS, status == 0, "{interruptions} writes");
+        let write = b"fault: Write\n".as_slice();
+        assert_eq!(rt; left.error.as_slice() == write, status == 3, "{interruptions} writes");
     }
     Ok(())
 }
 
 #[test]
 fn says_read_where_a_read_fails(rt: HostRuntime) -> Result<(), Fail> {
-    for then in [Then::Fails, Then::IsInterrupted] {
-        for len in [0, 100, 226] {
-            let reader = Reader {
-                left: &ONE_MH_PAGE[..len],
-                at_a_time: 64,
-                then,
-            };
-            let (output, error, status) = run_over(
-                rt.alloc(),
-                reader,
-                roomy(rt.alloc()),
-                roomy(rt.alloc()),
-            );
-            assert!(rt; output.is_empty(), "a read fails behind {len}");
-            assert_eq!(rt;
-                error.as_slice(),
-                b"fault: Read\n".as_slice(),
-                "a read fails behind {len}"
-            );
-            assert_eq!(rt; status, 3, "a read fails behind {len}");
+    for command in commands() {
+        for len in [0, 9, 226] {
+            let mut input = Scripted::new(rt.alloc(), &ONE_MH_PAGE[..len]);
+            input.at_a_time = 4;
+            input.fails = true;
+            let left = run_over(rt.alloc(), command, input, roomy(rt.alloc()), roomy(rt.alloc()));
+            assert!(rt; left.output.is_empty(), "a read fails behind {len}");
+            assert_eq!(rt; left.error.as_slice(), b"fault: Read\n".as_slice(), "a read fails behind {len}");
+            assert_eq!(rt; left.status, 3, "a read fails behind {len}");
         }
     }
     Ok(())
@@ -158,47 +186,54 @@ fn says_read_where_a_read_fails(rt: HostRuntime) -> Result<(), Fail> {
 
 #[test]
 fn says_write_where_a_write_fails(rt: HostRuntime) -> Result<(), Fail> {
-    for then in [Then::Ends, Then::Fails, Then::IsInterrupted] {
-        for room in [0, 5, 17] {
-            let mut out = roomy(rt.alloc());
-            out.room = room;
-            out.then = then;
-            let (output, error, status) = run_over(
-                rt.alloc(),
-                whole_page(226),
-                out,
-                roomy(rt.alloc()),
-            );
-            assert_eq!(rt; output.len(), room);
-            assert!(rt;
-                b"row 0 0 3 2 3\nend\n".starts_with(&output),
-                "a write fails behind {room}"
-            );
-            assert_eq!(rt;
-                error.as_slice(),
-                b"fault: Write\n".as_slice(),
-                "a write fails behind {room}"
-            );
-            assert_eq!(rt; status, 3, "a write fails behind {room}");
+    for command in commands() {
+        let input = Scripted::new(rt.alloc(), &ONE_MH_PAGE);
+        let whole = run_over(rt.alloc(), command, input, roomy(rt.alloc()), roomy(rt.alloc()));
+        for room in 0..whole.output.len() {
+            for fails in [true, false] {
+                let input = Scripted::new(rt.alloc(), &ONE_MH_PAGE);
+                let mut out = roomy(rt.alloc());
+                out.room = room;
+                out.fails = fails;
+                let left = run_over(rt.alloc(), command, input, out, roomy(rt.alloc()));
+                assert_eq!(rt; left.output.len(), room);
+                assert!(rt; whole.output.starts_with(&left.output), "a write fails behind {room}");
+                assert_eq!(rt; left.error.as_slice(), b"fault: Write\n".as_slice(), "a write fails behind {room}");
+                assert_eq!(rt; left.status, 3, "a write fails behind {room}");
+            }
         }
     }
     Ok(())
 }
 
 #[test]
+fn says_write_in_place_of_a_fault_of_the_input(rt: HostRuntime) -> Result<(), Fail> {
+    let input = Scripted::new(rt.alloc(), &ONE_MH_PAGE[..100]);
+    let mut out = roomy(rt.alloc());
+    out.room = 0;
+    let left = run_over(rt.alloc(), Command::Rows(WHOLE), input, out, roomy(rt.alloc()));
+    assert!(rt; left.output.is_empty());
+    assert_eq!(rt; left.error.as_slice(), b"fault: Write\n".as_slice());
+    assert_eq!(rt; left.status, 3);
+    Ok(())
+}
+
+#[test]
 fn answers_3_where_the_error_stream_fails(rt: HostRuntime) -> Result<(), Fail> {
-    let reader = Reader {
-        left: &ONE_MH_PAGE[..100],
-        at_a_time: 100,
-        then: Then::Ends,
-    };
-    let mut err = roomy(rt.alloc());
-    err.room = 4;
-    err.then = Then::Fails;
-    let (output, error, status) = run_over(rt.alloc(), reader, roomy(rt.alloc()), err);
-    assert_eq!(rt; output.as_slice(), b"next 1:0:0\n".as_slice());
-    assert_eq!(rt; error.as_slice(), b"faul".as_slice());
-    assert_eq!(rt; status, 3);
+    for command in commands() {
+        let cut = &ONE_MH_PAGE[..100];
+        let input = Scripted::new(rt.alloc(), cut);
+        let whole = run_over(rt.alloc(), command, input, roomy(rt.alloc()), roomy(rt.alloc()));
+        assert_eq!(rt; whole.status, 1);
+        let input = Scripted::new(rt.alloc(), cut);
+        let mut err = roomy(rt.alloc());
+        err.room = 4;
+        err.fails = true;
+        let left = run_over(rt.alloc(), command, input, roomy(rt.alloc()), err);
+        assert_eq!(rt; left.output.as_slice(), whole.output.as_slice());
+        assert_eq!(rt; left.error.as_slice(), b"faul".as_slice());
+        assert_eq!(rt; left.status, 3);
+    }
     Ok(())
 }
 
@@ -214,18 +249,11 @@ impl io::Read for Endless {
 
 #[test]
 fn says_read_where_the_input_is_too_long(rt: HostRuntime) -> Result<(), Fail> {
-    let job = Job {
-        command: Command::Rows(WHOLE),
-        file: None,
-    };
     let mut input = FromRead::new(Endless);
     let mut out = ToWrite::new(roomy(rt.alloc()));
     let mut err = ToWrite::new(roomy(rt.alloc()));
-    assert_eq!(rt; run(rt.alloc(), &job, &mut input, &mut out, &mut err), 3);
+    assert_eq!(rt; run(rt.alloc(), &job(Command::Rows(WHOLE)), &mut input, &mut out, &mut err), 3);
     assert!(rt; out.into_inner().taken.is_empty());
-    assert_eq!(rt;
-        err.into_inner().taken.as_slice(),
-        b"fault: Read\n".as_slice()
-    );
+    assert_eq!(rt; err.into_inner().taken.as_slice(), b"fault: Read\n".as_slice());
     Ok(())
 }

@@ -1,15 +1,25 @@
 //! Command lines, and what the program says of those it refuses.
 
-use super::caller::WHOLE;
-use crate::{Command, Cursor, Part, WordsFault, parse_words};
+use super::caller::{TO_PBM, WHOLE};
+use crate::{Command, Cursor, FillOrder, Options, Part, Target, WordsFault, parse_words};
 use std::test::Fail;
 
-/// Command lines that are refused: not built yet, wrong, or asking for help or the version.
-static REFUSED: [&[&str]; 21] = [
+/// Command lines that are refused: wrong, or asking for help or the version.
+static REFUSED: [&[&str]; 31] = [
     &[],
     &["faxpages"],
     &["faxpages", "convert"],
-    &["faxpages", "check"],
+    &["faxpages", "convert", "a.tif"],
+    &["faxpages", "convert", "-o", "tif"],
+    &["faxpages", "convert", "-o", "PBM"],
+    &["faxpages", "convert", "-o", "mh", "-o", "mh"],
+    &["faxpages", "convert", "-o", "mh", "--order", "3"],
+    &["faxpages", "convert", "-o", "mh", "--order", "0"],
+    &["faxpages", "convert", "-o", "mr", "--k", "0"],
+    &["faxpages", "convert", "-o", "pbm", "--k", "1000001"],
+    &["faxpages", "convert", "-o", "mmr", "--strip", "0"],
+    &["faxpages", "convert", "-o", "mmr", "--strip", "1000001"],
+    &["faxpages", "check", "--max", "1"],
     &["faxpages", "row"],
     &["faxpages", "ROWS"],
     &["faxpages", "--help"],
@@ -107,6 +117,43 @@ fn reads_parts(rt: HostRuntime) -> Result<(), Fail> {
         parse_words(rt.alloc(), &behind)?.command,
         Command::List(first)
     );
+    Ok(())
+}
+
+#[test]
+fn reads_options(rt: HostRuntime) -> Result<(), Fail> {
+    let whole = Options {
+        target: Target::Mmr,
+        ..TO_PBM
+    };
+    assert_eq!(rt;
+        parse_words(rt.alloc(), &["faxpages", "convert", "-o", "mmr"])?.command,
+        Command::Convert(whole)
+    );
+    let all = [
+        "faxpages", "convert", "-o", "mr", "--order", "2", "--k", "1000000", "--strip=1", "a.tif",
+    ];
+    let options = Options {
+        target: Target::Mr,
+        order: FillOrder::LsbFirst,
+        k: 1_000_000,
+        strip: Some(1),
+    };
+    let job = parse_words(rt.alloc(), &all)?;
+    assert_eq!(rt; job.command, Command::Convert(options));
+    assert_eq!(rt; job.file.as_ref().map(|name| name.as_str()), Some("a.tif"));
+    let unused = ["faxpages", "convert", "-o", "pbm", "--k", "1", "--strip", "1000000"];
+    let first = Options {
+        k: 1,
+        strip: Some(1_000_000),
+        ..TO_PBM
+    };
+    assert_eq!(rt;
+        parse_words(rt.alloc(), &unused)?.command,
+        Command::Convert(first)
+    );
+    let check = parse_words(rt.alloc(), &["faxpages", "check", "a.tif"])?;
+    assert_eq!(rt; check.command, Command::Check);
     Ok(())
 }
 

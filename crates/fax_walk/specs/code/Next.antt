@@ -1,5 +1,5 @@
 -- What a call for the next row of a walk answers.
-use Rattle.std.specs.Prelude.{◌≡◌, ℕ, ◌+◌, ◌-◌, ◌<◌, ◌≤◌, ◌⊎◌, List, [], ◌∷◌, Option, Some, None, Result, Ok, Err, ⊤}
+use Rattle.std.specs.Prelude.{◌≡◌, ℕ, ◌+◌, ◌-◌, ◌<◌, ◌≤◌, ◌⊎◌, Bool, true, false, List, [], ◌∷◌, Option, Some, None, Result, Ok, Err, ⊤}
 use Rattle.std.specs.Borrow.{Bor, MutBor, Fml, follows_so}
 use mathlib.Core.Option.{none}
 use mir.Syntax.{named}
@@ -99,3 +99,23 @@ IsNext old (Ok None) new = HasEnded old Proper new
 IsNext old (Err (AtRow page row cause)) new = HasEnded old (Fault page row cause) new
 IsNext old (Err CursorOutside) new = HasEnded old Outside new
 IsNext old (Err Memory) new = (new ≡ old) × IsEntering old.stage
+
+-- a page is open
+abbrev pub IsOnPage : Stage → Type 0
+IsOnPage Before = ⊥
+IsOnPage (Open page) = ⊤
+IsOnPage (Ended end read) = ⊥
+
+-- the row that was read last, where a page is open
+abbrev pub shown_at : Stage → List Colour
+shown_at Before = []
+shown_at (Open page) = page.shown
+shown_at (Ended end read) = []
+
+-- what a call that goes to the next row answers: memory is refused only where a page is entered
+abbrev pub IsAdvance : WalkState → Result Bool WalkFault → WalkState → Type 0
+IsAdvance old (Ok true) new = IsOnPage new.stage × StepsAs old new.stage new
+IsAdvance old (Ok false) new = HasEnded old Proper new
+IsAdvance old (Err (AtRow page row cause)) new = HasEnded old (Fault page row cause) new
+IsAdvance old (Err CursorOutside) new = HasEnded old Outside new
+IsAdvance old (Err Memory) new = (new ≡ old) × IsEntering old.stage

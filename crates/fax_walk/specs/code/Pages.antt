@@ -1,6 +1,7 @@
 -- A reader of a file's pages.
 use Rattle.std.specs.Prelude.{◌≡◌, ℕ, ◌+◌, ◌-◌, ◌^◌, ◌<◌, ◌≤◌, List, [], ◌∷◌, Option, Some, None, Result, Ok, Err}
 use Rattle.fax_files.specs.declared.PageForm.{PageForm}
+use Rattle.fax_files.specs.Page.{IsPageForm}
 use Rattle.fax_files.specs.code.Chain.{ChainState}
 use Rattle.fax_walk.specs.declared.cursor.Cursor.{Cursor}
 use Rattle.fax_walk.specs.declared.end.End.{End}
@@ -75,6 +76,7 @@ pages_left pages = 2 ^ 64 - place_number pages.cursor.page pages.cursor.row
 pub record HandsOutPage (old : PagesState) (item : FormItem) (new : PagesState) : Type 0 where
   pub due : (forms : List FormItem) (end : End) → AreFormsDue new forms end → AreFormsDue old (item ∷ forms) end
   pub cursor : new.cursor ≡ behind_page item
+  pub limits : IsPageForm item.form
   pub fewer : pages_left new < pages_left old
 
 -- the pages have ended so

@@ -1,16 +1,14 @@
 use Rattle.std.proofs.Common.{◌≡◌}
-use Rattle.std.specs.Io.KnownBytes.{append_known}
 use Rattle.std.specs.String.{string_bytes}
-use Rattle.fax_tool.specs.Streams.{no_faults}
+use Rattle.fax_tool.specs.code.Transfers.{counted}
 use Rattle.fax_tool.proofs.PrintLemmas.{PrintsSome}
 use Rattle.fax_tool.proofs.print.print_lines.Given as goal
 
 abbrev pub invariant-loop-left : goal.invariant-loop-left
 invariant-loop-left g l = record {
   some : PrintsSome (g.L.Lines.are_due l.initial.lines) (g.L.Lines.are_due l.lines) (g.L.Lines.place l.initial.lines)
-      (g.L.Lines.place l.lines) l.initial.left l.left (append_known (g.W.Sink.written l.initial.out) (string_bytes l.initial.text))
-      (append_known (g.W.Sink.written l.out) (string_bytes l.text));
-  no_fault : g.W.Sink.counts l.out ≡ no_faults;
+      (g.L.Lines.place l.lines) l.initial.left l.left (g.W.Sink.written l.initial.out) (g.W.Sink.written l.out) (string_bytes l.text);
+  counts : g.W.Sink.counts l.out ≡ counted l.interruptions;
 }
 
 abbrev pub decreases-loop-left : goal.decreases-loop-left

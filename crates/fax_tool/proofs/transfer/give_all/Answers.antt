@@ -1,6 +1,9 @@
+use Rattle.std.proofs.Common.{◌∙◌}
 use Rattle.fax_tool.proofs.TransferLemmas.{more_written}
 use Rattle.fax_tool.proofs.transfer.give_all.Goals as goal
 
-pub loop-rest-preserved : goal.loop-rest-preserved
-loop-rest-preserved g c =
-    more_written _ (g.W.Sink.written c.loop-rest.out) _ _ _ c.in_ok-count.count _ _ _ c.loop-rest.invariant c.in_ok-count.ensures.bytes c.in_ok-count.ensures.counts
+pub loop-rest-preserved-in-Ok : goal.loop-rest-preserved-in-Ok
+loop-rest-preserved-in-Ok g c = record {
+  part = more_written _ (g.W.Sink.written c.loop-rest.out) _ _ _ c.in-Ok.count c.loop-rest.invariant.part c.in-Ok.ensures.bytes;
+  counts = c.in-Ok.ensures.counts ∙ c.loop-rest.invariant.counts;
+}

@@ -3,13 +3,13 @@ use Rattle.fax_tool.specs.Text.{line_of_row}
 use Rattle.fax_tool.proofs.LineLemmas.{row_put, rows_refused}
 use Rattle.fax_tool.proofs.lines.WalkLines.put_next.Goals as goal
 
-pub returns-in_ok-put_row_line-in-Ok-Some-clause-put : goal.returns-in_ok-put_row_line-in-Ok-Some-clause-put
-returns-in_ok-put_row_line-in-Ok-Some-clause-put c =
+pub returns-in_ok-put_row_line-in-Ok-Some : goal.returns-in_ok-put_row_line-in-Ok-Some
+returns-in_ok-put_row_line-in-Ok-Some c =
     let next = rw (c.in-Ok-Some.is, c.in-Ok-Some.field-0-is) at c.next_row.follows.holds-at-none in
-    (line_of_row _, row_put _ c.next_row.follows.lender-at-none _ next, c.in_ok-put_row_line-in-Ok-Some.ensures.ok)
+    record { put = (line_of_row _, row_put _ c.next_row.follows.lender-at-none _ next, c.in_ok-put_row_line-in-Ok-Some.ensures.ok) }
 
-pub returns-in_ok-end_of-in-Err-clause-put : goal.returns-in_ok-end_of-in-Err-clause-put
-returns-in_ok-end_of-in-Err-clause-put c =
+pub returns-in_ok-end_of-in-Err : goal.returns-in_ok-end_of-in-Err
+returns-in_ok-end_of-in-Err c =
     let next = rw c.in-Err.is at c.next_row.follows.holds-at-none in
     let ended = rows_refused _ c.next_row.follows.lender-at-none c.in-Err.fault _ next c.in_ok-end_of-in-Err.ensures in
-    (ended.0, ended.1, refl)
+    record { put = (ended.0, ended.1, refl) }

@@ -1,0 +1,96 @@
+-- Bits that stand next in a source.
+use Rattle.std.proofs.Common.{◌≡◌, ℕ, suc, ◌+◌, ◌^◌, ◌<◌, ◌≤◌, List, ◌∷◌, ◌++◌, length, take, drop, replicate, get_or, Bool, true, false, ◌↔◌, IsTrue, add-one, refl, ap, sym, ◌∙◌, arith, append_assoc, length-append, drop-cons}
+use Rattle.std.proofs.lemmas.List.{append_cancel_left, take-append-le, take-append-drop, length-take-le}
+use Rattle.std.proofs.Math.Seq.{take-append_seam, take-length, take-suc}
+use Rattle.std.proofs.lemmas.List.Concat.{flat_map-append}
+use Rattle.fax_bits.specs.declared.FillOrder.TheVariants.{MsbFirst}
+use Rattle.fax_bits.specs.Bits.{bits, byte_bits, code_bits, bits_number}
+use Rattle.fax_bits.proofs.SinkLemmas.{bits-push, byte_bits-msb}
+use Rattle.fax_bits.specs.code.Source.{BeginsWith, IsTaken}
+use Rattle.fax_bits.proofs.MeetingLemmas.{length-code_bits}
+use Rattle.fax_bits.proofs.NumberLemmas.{code_bits-number, number-code_bits}
+use Rattle.fax_bits.proofs.PeekLemmas.{padded}
+
+-- bits that spell a number
+pub spelled : (b : List Bool) (len number : ℕ) → len ≤ length b → bits_number (take len (padded b len)) ≡ number
+    → b ≡ code_bits len number ++ drop len b
+spelled b len number enough spells =
+    let here : take len (padded b len) ≡ take len b = take-append-le len b (replicate len false) enough in
+    let long : length (take len b) ≡ len = length-take-le len b enough in
+    let front : code_bits len number ≡ take len b =
+    ap (code_bits len) (sym spells ∙ ap bits_number here) ∙ ap (λ n. code_bits n (bits_number (take len b))) (sym long)
+    ∙ code_bits-number (take len b) in
+    sym (take-append-drop len b) ∙ ap (λ c. c ++ drop len b) (sym front)
+
+-- bits that begin with those of a number are as many, and spell it
+pub as_many : (b : List Bool) (len number : ℕ) → BeginsWith b (code_bits len number) → len ≤ length b
+as_many b len number begins =
+    omega (arith, ap length begins.1, length-append (code_bits len number) begins.0, length-code_bits len number)
+
+pub spells_it : (b : List Bool) (len number : ℕ) → number < 2 ^ len → BeginsWith b (code_bits len number)
+    → bits_number (take len (padded b len)) ≡ number
+spells_it b len number fits begins =
+    let front = code_bits len number in
+    let long : length front ≡ len = length-code_bits len number in
+    ap bits_number
+    (take-append-le len b (replicate len false) (as_many b len number begins) ∙ ap (take len) begins.1
+    ∙ ap (λ n. take n (front ++ begins.0)) (sym long) ∙ take-append_seam front begins.0)
+    ∙ number-code_bits len number fits
+
+-- whether bits begin with these, behind those that both begin with
+pub begins_behind : (b c front more : List Bool) → b ≡ front ++ c → BeginsWith c more ↔ BeginsWith b (front ++ more)
+begins_behind b c front more is = (
+  λ begins. (begins.0, is ∙ ap (λ d. front ++ d) begins.1 ∙ sym (append_assoc front more begins.0)),
+  λ begins. (
+    begins.0,
+    append_cancel_left front c (more ++ begins.0) (sym is ∙ begins.1 ∙ append_assoc front more begins.0),
+  ),
+)
+
+pub taken_iff : (front b : List Bool) (result : Bool) (rest : List Bool) → IsTaken front b result rest → IsTrue result ↔ BeginsWith b front
+taken_iff front b true rest taken = (λ is. (rest, taken), λ begins. refl)
+taken_iff front b false rest taken = (λ is. absurd (cc is), λ begins. absurd (taken.1 begins))
+
+-- the bits of bytes that stand one behind another
+bits-append : (bytes more : List ℕ) → bits MsbFirst (bytes ++ more) ≡ bits MsbFirst bytes ++ bits MsbFirst more
+unfolding bits
+bits-append bytes more = flat_map-append (byte_bits MsbFirst) bytes more
+
+bits-cons : (byte : ℕ) (bytes : List ℕ) → bits MsbFirst (byte ∷ bytes) ≡ code_bits 8 byte ++ bits MsbFirst bytes
+unfolding bits
+bits-cons byte bytes = ap (λ b. b ++ bits MsbFirst bytes) (byte_bits-msb byte)
+
+-- the bytes of a sink, compared one behind another, with some pending bits behind them
+module _ (bytes : List ℕ) (i : ℕ) (source ahead : List Bool) (so_far : source ≡ bits MsbFirst (take i bytes) ++ ahead) where
+  pub next_byte : (byte : ℕ) (rest : List Bool) → i < length bytes → byte ≡ get_or bytes i 0 → ahead ≡ code_bits 8 byte ++ rest
+      → source ≡ bits MsbFirst (take (i + 1) bytes) ++ rest
+  next_byte byte rest within byte_is taken =
+      let front = bits MsbFirst (take i bytes) in
+      so_far ∙ ap (λ b. front ++ b) (taken ∙ ap (λ n. code_bits 8 n ++ rest) byte_is)
+      ∙ sym (append_assoc front (code_bits 8 (get_or bytes i 0)) rest)
+      ∙ ap (λ b. front ++ b ++ rest) (sym (byte_bits-msb (get_or bytes i 0)))
+      ∙ ap (λ b. b ++ rest) (sym (bits-push MsbFirst (take i bytes) (get_or bytes i 0)))
+      ∙ ap (λ xs. bits MsbFirst xs ++ rest) (rw (add-one, take-suc bytes i 0 within))
+
+  pub other_byte : (byte : ℕ) (pending : List Bool) → i < length bytes → byte ≡ get_or bytes i 0
+      → (BeginsWith ahead (code_bits 8 byte) → ⊥) → BeginsWith source (bits MsbFirst bytes ++ pending) → ⊥
+  other_byte byte pending within byte_is other begins =
+      let front = bits MsbFirst (take i bytes) in
+      let here = code_bits 8 byte in
+      let behind = bits MsbFirst (drop (suc i) bytes) in
+      let parts : bits MsbFirst bytes ≡ front ++ (here ++ behind) =
+      sym (ap (bits MsbFirst) (take-append-drop i bytes)) ∙ ap (λ xs. bits MsbFirst (take i bytes ++ xs)) (drop-cons bytes i 0 within)
+      ∙ bits-append (take i bytes) (get_or bytes i 0 ∷ drop (suc i) bytes)
+      ∙ ap (λ b. front ++ b) (bits-cons (get_or bytes i 0) (drop (suc i) bytes) ∙ ap (λ n. code_bits 8 n ++ behind) (sym byte_is)) in
+      let all : bits MsbFirst bytes ++ pending ≡ front ++ (here ++ (behind ++ pending)) =
+      ap (λ b. b ++ pending) parts ∙ append_assoc front (here ++ behind) pending ∙ ap (λ b. front ++ b) (append_assoc here behind pending) in
+      let more = (begins_behind source ahead front (here ++ (behind ++ pending)) so_far).1 (begins.0, begins.1 ∙ ap (λ b. b ++ begins.0) all) in
+      other (behind ++ pending ++ more.0, more.1 ∙ append_assoc here (behind ++ pending) more.0)
+
+  pub last_bits : (pending : List Bool) (result : Bool) (rest : List Bool) → i ≡ length bytes → IsTaken pending ahead result rest
+      → IsTrue result ↔ BeginsWith source (bits MsbFirst bytes ++ pending)
+  last_bits pending result rest all taken =
+      let is : source ≡ bits MsbFirst bytes ++ ahead = so_far ∙ ap (λ n. bits MsbFirst (take n bytes) ++ ahead) all ∙ ap (λ xs. bits MsbFirst xs ++ ahead) (take-length bytes) in
+      let here = taken_iff pending ahead result rest taken in
+      let whole = begins_behind source ahead (bits MsbFirst bytes) pending is in
+      (λ yes. whole.0 (here.0 yes), λ begins. here.1 (whole.1 begins))

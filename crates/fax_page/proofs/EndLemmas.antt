@@ -1,0 +1,206 @@
+-- What stands behind the last row of a strip.
+use Rattle.std.proofs.Common.{◌≡◌, ◌≢◌, ℕ, zero, suc, ◌+◌, ◌<◌, ◌⊎◌, ◌↔◌, List, [], ◌∷◌, ◌++◌, length, replicate, get_or, Bool, true, false, IsTrue, Option, Some, None, MatchOption, not, is_some, refl, ap, sym, ◌∙◌, subst, arith, inl, inr}
+use Rattle.std.specs.List.{Contains}
+use Rattle.std.proofs.lemmas.List.Elements.{Contains-append_right}
+use Rattle.fax_bits.specs.Bits.{IsAllZeros, HasZerosAhead, code_bits}
+use Rattle.fax_bits.specs.code.Source.{Source, BeginsWith, IsTaken}
+use Rattle.fax_page.specs.declared.Coding.{Coding}
+use Rattle.fax_page.specs.declared.Coding.TheVariants.{Mh, Mr, Mmr}
+use Rattle.fax_page.specs.declared.StripFault.{StripFault}
+use Rattle.fax_page.specs.Lines.{IsEndOfLine}
+use Rattle.fax_page.specs.CodedStrip.{end_of_block}
+use Rattle.fax_page.specs.Notes.{IsReturnEol, AreReturnEols, IsEndMark, HasEndMark, IsBehindEnd}
+use Rattle.fax_page.specs.code.Starts.{HasEol, HasNoEol}
+use Rattle.fax_page.specs.code.Notes.{AreEolsTaken, IsBehind, TakesReturnEol, AreNotesBehind}
+use Rattle.fax_page.proofs.StartLaws.{same_eol, eol_is_not_zeros, eol_is_not_below}
+
+-- a 1 behind zeros is among the bits
+pub contains_one : (b : List Bool) (zeros : ℕ) → HasZerosAhead b zeros → Contains b true
+contains_one b zeros ahead =
+    subst (λ c. Contains c true) (sym ahead.1)
+    (Contains-append_right (replicate zeros false) (true ∷ ahead.0) true (0, omega arith, refl))
+
+none_at : (n k : ℕ) → k < length (replicate n false) → get_or (replicate n false) k true ≡ true → ⊥
+none_at zero k within is = omega (arith, within)
+none_at (suc n) zero within is = cc
+none_at (suc n) (suc k) within is = none_at n k (omega (arith, within)) is
+
+-- and not where there are zeros alone
+pub contains_none : (b : List Bool) → IsAllZeros b → Contains b true → ⊥
+contains_none b all has =
+    let here = subst (λ c. Contains c true) all.1 has in
+    none_at all.0 here.0 here.1 here.2
+
+-- where an EOL is not there, no EOL of a return to control is
+pub no_eol : (b rest : List Bool) (fault : StripFault) → HasNoEol false b fault → IsEndOfLine b rest → ⊥
+no_eol b rest fault (inl all) eol = eol_is_not_zeros b rest eol all.0
+no_eol b rest fault (inr below) eol = eol_is_not_below b rest eol below.1
+
+pub eol_taken : (b rest : List Bool) → HasEol false b rest → IsEndOfLine b rest
+eol_taken b rest (inl eol) = eol
+eol_taken b rest (inr none) = absurd (cc (none.0))
+
+-- an EOL of a return to control is taken in one way
+same_return_eol : (coding : Coding) (b rest remaining : List Bool) → IsReturnEol coding b rest → IsReturnEol coding b remaining → rest ≡ remaining
+same_return_eol Mh b rest remaining first second = same_eol b rest remaining first second
+same_return_eol Mr b rest remaining first second =
+    let same = same_eol b (true ∷ rest) (true ∷ remaining) first second in cc same
+same_return_eol Mmr b rest remaining first second = absurd first
+
+-- six EOLs stand next where none is taken yet
+pub none_taken : (coding : Coding) (b : List Bool) → AreEolsTaken coding b 0 b
+none_taken coding b = record { left = 6; count = refl; onward = λ rest eols. eols; back = λ rest eols. eols }
+
+next_taken : (coding : Coding) (b ahead rest : List Bool) (i left : ℕ) → i + left ≡ 6 → i < 6
+    → ((behind : List Bool) → AreReturnEols coding left ahead behind → AreReturnEols coding 6 b behind)
+    → ((behind : List Bool) → AreReturnEols coding 6 b behind → AreReturnEols coding left ahead behind)
+    → IsReturnEol coding ahead rest → AreEolsTaken coding b (i + 1) rest
+next_taken coding b ahead rest i zero count due onward back eol = absurd (omega (arith, count, due))
+next_taken coding b ahead rest i (suc left) count due onward back eol = record {
+  left = left;
+  count = omega (arith, count);
+  onward = λ behind eols. onward behind (rest, eol, eols);
+  back = λ behind eols.
+      let found = back behind eols in
+      subst (λ c. AreReturnEols coding left c behind) (same_return_eol coding ahead found.0 rest found.1 eol) found.2;
+}
+
+pub one_taken : (coding : Coding) (b ahead rest : List Bool) (i : ℕ) → i < 6 → AreEolsTaken coding b i ahead → IsReturnEol coding ahead rest
+    → AreEolsTaken coding b (i + 1) rest
+one_taken coding b ahead rest i due taken eol =
+    next_taken coding b ahead rest i taken.left taken.count due taken.onward taken.back eol
+
+missing : (coding : Coding) (b ahead : List Bool) (i left : ℕ) → i + left ≡ 6 → i < 6
+    → ((behind : List Bool) → AreReturnEols coding 6 b behind → AreReturnEols coding left ahead behind)
+    → ((behind : List Bool) → IsReturnEol coding ahead behind → ⊥) → (rest : List Bool) → AreReturnEols coding 6 b rest → ⊥
+missing coding b ahead i zero count due back none rest eols = absurd (omega (arith, count, due))
+missing coding b ahead i (suc left) count due back none rest eols =
+    let found = back rest eols in
+    none found.0 found.1
+
+pub one_missing : (coding : Coding) (b ahead : List Bool) (i : ℕ) → i < 6 → AreEolsTaken coding b i ahead
+    → ((behind : List Bool) → IsReturnEol coding ahead behind → ⊥) → (rest : List Bool) → AreReturnEols coding 6 b rest → ⊥
+one_missing coding b ahead i due taken none rest eols =
+    missing coding b ahead i taken.left taken.count due taken.back none rest eols
+
+all_of : (coding : Coding) (b ahead : List Bool) (left : ℕ) → left ≡ 0
+    → ((behind : List Bool) → AreReturnEols coding left ahead behind → AreReturnEols coding 6 b behind) → AreReturnEols coding 6 b ahead
+all_of coding b ahead zero none onward = onward ahead refl
+all_of coding b ahead (suc left) none onward = absurd (omega (arith, none))
+
+pub all_taken : (coding : Coding) (b ahead : List Bool) (i : ℕ) → i ≡ 6 → AreEolsTaken coding b i ahead → AreReturnEols coding 6 b ahead
+all_taken coding b ahead i all taken = all_of coding b ahead taken.left (omega (arith, taken.count, all)) taken.onward
+
+-- an end mark was found or not, and a 1 behind it or behind the last row
+pub record IsEndFound (coding : Coding) (left : List Bool) (ended more : Bool) : Type 0 where
+  pub behind : List Bool
+  pub behind_end : IsBehindEnd coding left behind
+  pub mark : IsTrue ended ↔ HasEndMark coding left
+  pub one : IsTrue more ↔ Contains behind true
+
+pub one_found : (b : List Bool) (zeros : Option ℕ) → MatchOption zeros (IsAllZeros b) (HasZerosAhead b) → IsTrue (is_some zeros) ↔ Contains b true
+one_found b None all = (λ is. absurd (cc is), λ has. absurd (contains_none b all has))
+one_found b (Some zeros) ahead = (λ is. contains_one b zeros ahead, λ has. refl)
+
+-- the same as the program finds it: behind the end mark
+pub end_found : (coding : Coding) (left behind : List Bool) (zeros : Option ℕ) (more : Bool) (found : Bool × Bool) → IsEndMark coding left behind
+    → MatchOption zeros (IsAllZeros behind) (HasZerosAhead behind) → more ≡ is_some zeros → found ≡ (true, more)
+    → IsEndFound coding left found.0 found.1
+end_found coding left behind zeros more found mark ahead more_is found_is =
+    subst (λ (pair : Bool × Bool). IsEndFound coding left pair.0 pair.1) (sym found_is)
+    (record {
+      behind = behind;
+      behind_end = inl mark;
+      mark = (λ is. (behind, mark), λ has. refl);
+      one = subst (λ m. IsTrue m ↔ Contains behind true) (sym more_is) (one_found behind zeros ahead);
+    })
+
+-- or behind the last row
+pub no_end_found : (coding : Coding) (left : List Bool) (zeros : Option ℕ) (more : Bool) (found : Bool × Bool)
+    → ((rest : List Bool) → IsEndMark coding left rest → ⊥) → MatchOption zeros (IsAllZeros left) (HasZerosAhead left)
+    → more ≡ is_some zeros → found ≡ (false, more) → IsEndFound coding left found.0 found.1
+no_end_found coding left zeros more found none ahead more_is found_is =
+    subst (λ (pair : Bool × Bool). IsEndFound coding left pair.0 pair.1) (sym found_is)
+    (record {
+      behind = left;
+      behind_end = inr (λ has. none has.0 has.1, refl);
+      mark = (λ is. absurd (cc is), λ has. absurd (none has.0 has.1));
+      one = subst (λ m. IsTrue m ↔ Contains left true) (sym more_is) (one_found left zeros ahead);
+    })
+
+is_not : (ended : Bool) (P : Type 0) → IsTrue ended ↔ P → IsTrue (not ended) ↔ (P → ⊥)
+is_not true P same = (λ is. absurd (cc is), λ none. absurd (none (same.0 refl)))
+is_not false P same = (λ is has. let yes = same.1 has in cc yes, λ none. refl)
+
+abbrev pub IsMhOrMr : Coding → Type 0
+IsMhOrMr coding = (coding ≡ Mh) ⊎ (coding ≡ Mr)
+
+not_mmr : (coding : Coding) → IsMhOrMr coding → coding ≢ Mmr
+not_mmr coding (inl is) other = cc
+not_mmr coding (inr is) other = cc
+
+-- the notes by them: in MH and MR
+pub notes_of_eols : (coding : Coding) (left : List Bool) (ended more other : Bool) → IsMhOrMr coding → IsEndFound coding left ended more
+    → AreNotesBehind coding left other (record { no_end_of_block = false; return_to_control = ended; data_after_end = more; not_t4_choice = other })
+notes_of_eols coding left ended more other either found = record {
+  behind = found.behind;
+  behind_end = found.behind_end;
+  no_end_of_block = (λ is. absurd (cc is), λ none. absurd (not_mmr coding either none.0));
+  return_to_control = (λ is. (not_mmr coding either, found.mark.0 is), λ has. found.mark.1 has.1);
+  data_after_end = found.one;
+  other_is = refl;
+}
+
+-- and in MMR
+pub notes_of_block : (coding : Coding) (left : List Bool) (ended more other : Bool) → coding ≡ Mmr → IsEndFound coding left ended more
+    → AreNotesBehind coding left other (record { no_end_of_block = not ended; return_to_control = false; data_after_end = more; not_t4_choice = other })
+notes_of_block coding left ended more other is_mmr found =
+    let same = is_not ended (HasEndMark coding left) found.mark in
+    record {
+      behind = found.behind;
+      behind_end = found.behind_end;
+      no_end_of_block = (λ is. (is_mmr, same.0 is), λ none. same.1 none.1);
+      return_to_control = (λ is. absurd (cc is), λ has. absurd (has.0 is_mmr));
+      data_after_end = found.one;
+      other_is = refl;
+    }
+
+-- a return to control is the end mark of MH and MR
+pub eols_end : (coding : Coding) (b : List Bool) (found : Option Source) → IsMhOrMr coding → IsBehind (AreReturnEols coding 6 b) found
+    → IsBehind (IsEndMark coding b) found
+eols_end Mh b found either behind = behind
+eols_end Mr b found either behind = behind
+eols_end Mmr b found either behind = absurd (not_mmr Mmr either refl)
+
+-- and two EOLs, as a number, that of MMR
+pub block_bits : code_bits 24 4097 ≡ end_of_block
+unfolding code_bits
+block_bits = refl
+
+pub block_end : (coding : Coding) (b rest : List Bool) → coding ≡ Mmr → b ≡ code_bits 24 4097 ++ rest → IsEndMark coding b rest
+block_end coding b rest is taken =
+    subst (λ c. IsEndMark c b rest) (sym is) (taken ∙ ap (λ front. front ++ rest) block_bits)
+
+pub no_block_end : (coding : Coding) (b rest : List Bool) → coding ≡ Mmr → (BeginsWith b (code_bits 24 4097) → ⊥) → IsEndMark coding b rest → ⊥
+no_block_end coding b rest is none mark =
+    let block = subst (λ c. IsEndMark c b rest) is mark in
+    none (rest, block ∙ ap (λ front. front ++ rest) (sym block_bits))
+
+-- an EOL and a bit behind it, as the program takes them
+pub no_return_eol : (coding : Coding) (b rest : List Bool) (fault : StripFault) → HasNoEol false b fault → IsReturnEol coding b rest → ⊥
+no_return_eol Mh b rest fault none eol = no_eol b rest fault none eol
+no_return_eol Mr b rest fault none eol = no_eol b (true ∷ rest) fault none eol
+no_return_eol Mmr b rest fault none eol = eol
+
+one_bit : code_bits 1 1 ≡ true ∷ []
+unfolding code_bits
+one_bit = refl
+
+pub tag_taken : (coding : Coding) (b behind : List Bool) (result : Bool) (rest : List Bool) → coding ≡ Mr → HasEol false b behind
+    → IsTaken (code_bits 1 1) behind result rest → TakesReturnEol coding b result rest
+tag_taken coding b behind true rest is eol taken =
+    subst (λ c. IsReturnEol c b rest) (sym is)
+    (subst (λ c. IsEndOfLine b c) (taken ∙ ap (λ front. front ++ rest) one_bit) (eol_taken b behind eol))
+tag_taken coding b behind false rest is eol taken = λ more return_eol.
+    let found = subst (λ c. IsReturnEol c b more) is return_eol in
+    taken.1 (more, same_eol b behind (true ∷ more) (eol_taken b behind eol) found ∙ ap (λ front. front ++ more) (sym one_bit))

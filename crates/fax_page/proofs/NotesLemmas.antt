@@ -1,0 +1,180 @@
+-- A strip that is read for its notes, row by row.
+use Rattle.std.proofs.Common.{◌≡◌, ℕ, ◌+◌, ◌<◌, ◌↔◌, List, [], ◌∷◌, ◌++◌, length, Bool, true, false, IsTrue, refl, ap, sym, ◌∙◌, subst, arith, append_assoc, append-nil, length-append, inl, inr, Option, Some, None}
+use Rattle.fax_bits.specs.declared.Colour.{Colour}
+use Rattle.fax_bits.specs.code.Source.{BeginsWith}
+use Rattle.fax_rows.specs.Elements.{HasWidth}
+use Rattle.fax_rows.specs.Laws.{OneDimensionalBitsAreOneRow, TwoDimensionalBitsAreOneRow}
+use Rattle.fax_rows.specs.OneDimensional.{IsOneDimensionalRow}
+use Rattle.fax_rows.specs.TwoDimensional.{IsTwoDimensionalRow}
+use Rattle.fax_page.specs.declared.Dimension.{Dimension}
+use Rattle.fax_page.specs.declared.Dimension.TheVariants.{OneDimensional, TwoDimensional}
+use Rattle.fax_page.specs.declared.StripForm.{StripForm}
+use Rattle.fax_page.specs.declared.StripFault.{StripFault}
+use Rattle.fax_page.specs.declared.notes.NotesFault.{NotesFault}
+use Rattle.fax_page.specs.declared.notes.NotesFault.TheVariants.{Memory, Strip}
+use Rattle.fax_page.specs.declared.notes.StripNotes.{StripNotes}
+use Rattle.fax_page.specs.Lines.{IsBegin, IsCause, IsLine, IsRowIn}
+use Rattle.fax_page.specs.Strip.{AreLines, EndsAt, IsStrip, white_row}
+use Rattle.fax_page.specs.CodedStrip.{row_bits}
+use Rattle.fax_page.specs.Laws.{ReadsLinesOneWay}
+use Rattle.fax_page.specs.Notes.{IsChosen, HasOtherChoice, IsNotedAs, IsNotesFault}
+use Rattle.fax_page.specs.code.Notes.{IsLineRead, IsLineFault, AreRowsRead, AreNotesBehind}
+use Rattle.fax_page.proofs.StartLaws.{one_start}
+
+-- what follows the codes that T.4 chooses is what follows the row
+module _ (one : OneDimensionalBitsAreOneRow) (two : TwoDimensionalBitsAreOneRow) where
+  same_rest : (dimension : Dimension) (width : ℕ) (reference codes_row : List Colour) (codes rest more : List Bool) → HasWidth codes_row → length codes_row ≡ width
+      → length reference ≡ width → IsRowIn dimension width reference codes codes_row rest
+      → codes ≡ row_bits dimension reference codes_row ++ more → more ≡ rest
+  same_rest OneDimensional width reference row codes rest more fits is_width reference_width read is =
+      (one row row more rest fits
+      (subst (λ b. IsOneDimensionalRow (length row) b row rest) is
+      (subst (λ n. IsOneDimensionalRow n codes row rest) (sym is_width) read))).1
+  same_rest TwoDimensional width reference row codes rest more fits is_width reference_width read is =
+      (two reference row row more rest fits (reference_width ∙ sym is_width)
+      (subst (λ b. IsTwoDimensionalRow reference b row rest) is read)).1
+
+  -- a row that was read, and whether the codes that T.4 chooses begin where its codes do
+  pub line_read : (form : StripForm) (i : ℕ) (reference row : List Colour) (b codes rest put : List Bool) (dimension : Dimension) (chosen : Bool)
+      → HasWidth row → length row ≡ form.width → length reference ≡ form.width → IsBegin form i b dimension codes
+      → IsRowIn dimension form.width reference codes row rest → put ≡ row_bits dimension reference row
+      → IsTrue chosen ↔ BeginsWith codes put → IsLineRead form i reference b row rest chosen
+  line_read form i reference row b codes rest put dimension chosen fits is_width reference_width begin read put_is begins = record {
+    line = record { dimension = dimension; codes = codes; begin = begin; coded = read };
+    choice = (
+      λ yes.
+          let here = begins.0 yes in
+          let is : codes ≡ row_bits dimension reference row ++ here.0 = here.1 ∙ ap (λ c. c ++ here.0) put_is in
+          is
+          ∙ ap (λ c. row_bits dimension reference row ++ c)
+          (same_rest dimension form.width reference row codes rest here.0 fits is_width reference_width read is),
+      λ is. begins.1 (rest, is ∙ ap (λ c. c ++ rest) (sym put_is)),
+    );
+  }
+
+module _ (reads : (form : StripForm) (i : ℕ) (reference : List Colour) → ReadsLinesOneWay form i reference) where
+  -- a row is chosen by one reading of it where it is by another, and the same rest follows
+  record IsSameLine (form : StripForm) (i : ℕ) (reference row : List Colour) (b rest remaining : List Bool) (line : IsLine form i reference b row rest)
+      (other : IsLine form i reference b row remaining) : Type 0 where
+    same_behind : rest ≡ remaining
+    chosen : IsChosen line.dimension reference line.codes row rest → IsChosen other.dimension reference other.codes row remaining
+
+  same_line : (form : StripForm) (i : ℕ) (reference row : List Colour) (b rest remaining : List Bool) (line : IsLine form i reference b row rest)
+      (other : IsLine form i reference b row remaining) → IsSameLine form i reference row b rest remaining line other
+  same_line form i reference row b rest remaining line other =
+      let start = one_start form.coding i b line.dimension other.dimension line.codes other.codes line.begin.start other.begin.start in
+      let behind = ((reads form i reference).one_line b row row rest remaining line other).1 in
+      record {
+        same_behind = behind;
+        chosen = λ is.
+            sym start.1 ∙ is ∙ ap (λ (d : Dimension). row_bits d reference row ++ rest) start.0
+            ∙ ap (λ c. row_bits other.dimension reference row ++ c) behind;
+      }
+
+  -- one more row: whether some row is coded otherwise is true then, where this one is
+  pub row_noted : (form : StripForm) (b left rest : List Bool) (i : ℕ) (reference row : List Colour) (other chosen : Bool) (new : Bool)
+      → i < form.rows → AreRowsRead form b i reference left other → IsLineRead form i reference left row rest chosen
+      → (chosen ≡ false → new ≡ true) → (chosen ≡ true → new ≡ other) → AreRowsRead form b (i + 1) row rest new
+  row_noted form b left rest i reference row other chosen new due so_far read marked kept = record {
+    before = so_far.before ++ row ∷ [];
+    count = omega (arith, so_far.count, length-append so_far.before (row ∷ []));
+    lines = λ more end behind lines.
+        subst (λ rows. AreLines form 0 (white_row form.width) b rows end behind) (sym (append_assoc so_far.before (row ∷ []) more))
+        (so_far.lines (row ∷ more) end behind (rest, due, read.line, lines));
+    found = λ is more. onto more (found chosen kept is read.choice more);
+    onward = λ more has. onto more (so_far.onward (row ∷ more) (rest, read.line, inr has));
+    back = λ more has.
+        elim (so_far.back (row ∷ more) (subst (λ rows. HasOtherChoice form 0 (white_row form.width) b rows) (append_assoc so_far.before (row ∷ []) more) has)) [
+          | inl is ↦ inl (stays chosen marked kept is)
+          | inr here ↦
+              let same = same_line form i reference row left rest here.0 read.line here.1 in
+              elim here.2 [
+                | inl not ↦ inl (marks chosen marked read.choice (λ is. not (same.chosen is)))
+                | inr behind ↦ inr (subst (λ c. HasOtherChoice form (i + 1) row c more) (sym same.same_behind) behind)
+              ]
+        ];
+  }
+    where
+      onto : (more : List (List Colour)) → HasOtherChoice form 0 (white_row form.width) b (so_far.before ++ row ∷ more)
+          → HasOtherChoice form 0 (white_row form.width) b ((so_far.before ++ row ∷ []) ++ more)
+      onto more has =
+          subst (λ rows. HasOtherChoice form 0 (white_row form.width) b rows) (sym (append_assoc so_far.before (row ∷ []) more)) has
+
+      found : (chosen : Bool) → (chosen ≡ true → new ≡ other) → new ≡ true
+          → (IsTrue chosen ↔ IsChosen read.line.dimension reference read.line.codes row rest) → (more : List (List Colour))
+          → HasOtherChoice form 0 (white_row form.width) b (so_far.before ++ row ∷ more)
+      found true kept is choice more = so_far.found (sym (kept refl) ∙ is) (row ∷ more)
+      found false kept is choice more =
+          so_far.onward (row ∷ more) (rest, read.line, inl (λ chosen_so. let no = choice.1 chosen_so in cc no))
+
+      stays : (chosen : Bool) → (chosen ≡ false → new ≡ true) → (chosen ≡ true → new ≡ other) → other ≡ true → new ≡ true
+      stays true marked kept is = kept refl ∙ is
+      stays false marked kept is = marked refl
+
+      marks : (chosen : Bool) → (chosen ≡ false → new ≡ true)
+          → (IsTrue chosen ↔ IsChosen read.line.dimension reference read.line.codes row rest)
+          → (IsChosen read.line.dimension reference read.line.codes row rest → ⊥) → new ≡ true
+      marks true marked choice not = absurd (not (choice.0 refl))
+      marks false marked choice not = marked refl
+
+-- before the first row
+pub none_read : (form : StripForm) (b : List Bool) → AreRowsRead form b 0 (white_row form.width) b false
+none_read form b = record {
+  before = [];
+  count = refl;
+  lines = λ more end behind lines. lines;
+  found = λ is more. absurd (cc is);
+  onward = λ more has. has;
+  back = λ more has. inr has;
+}
+
+-- the rows so far, and an end behind them
+stopped : (form : StripForm) (b left : List Bool) (i : ℕ) (reference : List Colour) (other : Bool) (end : Option StripFault)
+    (so_far : AreRowsRead form b i reference left other) → EndsAt form i reference left end
+    → AreLines form 0 (white_row form.width) b so_far.before end left
+stopped form b left i reference other end so_far stop =
+    subst (λ rows. AreLines form 0 (white_row form.width) b rows end left) (append-nil so_far.before) (so_far.lines [] end left (refl, stop))
+
+-- a row that cannot be read
+fault_met : (form : StripForm) (b left : List Bool) (i : ℕ) (reference : List Colour) (other : Bool) (fault : StripFault) (row : ℕ)
+    → i < form.rows → AreRowsRead form b i reference left other → row ≡ i → IsCause form i reference left fault
+    → (rows : List (List Colour)) × (length rows ≡ row) × IsStrip form b rows (Some fault)
+fault_met form b left i reference other fault row due so_far here cause = (
+  so_far.before,
+  so_far.count ∙ sym here,
+  record { left = left; lines = stopped form b left i reference other (Some fault) so_far (due, cause) },
+)
+
+-- or memory was refused
+pub no_notes : (form : StripForm) (b left : List Bool) (i : ℕ) (reference : List Colour) (other : Bool) (fault : NotesFault)
+    → i < form.rows → AreRowsRead form b i reference left other → IsLineFault form i reference left fault → IsNotesFault form b fault
+no_notes form b left i reference other Memory due so_far fault = tt
+no_notes form b left i reference other (Strip row fault) due so_far (here, cause) =
+    fault_met form b left i reference other fault row due so_far here cause
+
+-- all rows were read
+pub all_noted : (form : StripForm) (b left : List Bool) (i : ℕ) (reference : List Colour) (other : Bool) (notes : StripNotes)
+    → i ≡ form.rows → AreRowsRead form b i reference left other → AreNotesBehind form.coding left other notes
+    → (rows : List (List Colour)) × IsNotedAs form b rows notes
+all_noted form b left i reference other notes all so_far ends = (
+  so_far.before,
+  record {
+    left = left;
+    lines = stopped form b left i reference other None so_far all;
+    behind = ends.behind;
+    behind_end = ends.behind_end;
+    no_end_of_block = ends.no_end_of_block;
+    return_to_control = ends.return_to_control;
+    data_after_end = ends.data_after_end;
+    not_t4_choice = (
+      λ is.
+          subst (λ rows. HasOtherChoice form 0 (white_row form.width) b rows) (append-nil so_far.before)
+          (so_far.found (sym ends.other_is ∙ is) []),
+      λ has.
+          elim (so_far.back [] (subst (λ rows. HasOtherChoice form 0 (white_row form.width) b rows) (sym (append-nil so_far.before)) has)) [
+            | inl is ↦ ends.other_is ∙ is
+            | inr none ↦ absurd none
+          ],
+    );
+  },
+)

@@ -1,0 +1,207 @@
+//! What is worth a note in a strip that has all its rows.
+ghost use Rattle.std.specs.Prelude.{◌≡◌, ◌≤◌, List, length, IfOk, IfErr, OnOk};
+ghost use Rattle.fax_bits.specs.Bits.{bits};
+ghost use Rattle.fax_bits.specs.code.Sink.{Appends};
+ghost use Rattle.fax_bits.specs.declared.Colour.{Colour};
+ghost use Rattle.fax_page.specs.CodedStrip.{row_bits};
+ghost use Rattle.fax_page.specs.Notes as Spec;
+ghost use Rattle.fax_page.specs.Strip.{IsStripForm};
+ghost use Rattle.fax_page.specs.code.Notes as Code;
+
+use crate::lines::{read_begin, read_codes, read_eol};
+use crate::{Coding, Dimension, StripFault, StripForm};
+use fax_rows::{BitSink, BitSource, Memory, Row, put_1d, put_2d};
+use std::alloc::Global;
+use std::mem::swap;
+use thiserror::Error;
+
+/// How many EOLs a return to control has (T.4, section 4.1.4).
+const RETURN_EOLS: u32 = 6;
+
+/// The end of a facsimile block as a number: two EOLs (T.6, End-of-facsimile block).
+const END_OF_BLOCK: u32 = 0x1001;
+
+/// How many bits the end of a facsimile block has.
+const END_OF_BLOCK_BITS: u32 = 24;
+
+/// What is worth a note in a strip of which all rows can be read.
+#[derive(Clone, Copy, Debug, PartialEq, Eq)]
+pub struct StripNotes {
+    /// The strip is MMR, and no end of a facsimile block stands behind its last row (T.6,
+    /// End-of-facsimile block).
+    pub no_end_of_block: bool,
+    /// The strip is MH or MR, and a return to control stands behind its last row: six EOLs, each
+    /// with any fill, in MR each with a tag bit of 1 (T.4, section 4.1.4).
+    pub return_to_control: bool,
+    /// A 1 stands behind the last row, and behind the end of the facsimile block or the return to
+    /// control where there is one.
+    pub data_after_end: bool,
+    /// The codes of some row are others than T.4 chooses (T.4, sections 4.1.1 and 4.2.1.3.3).
+    pub not_t4_choice: bool,
+}
+
+/// Why a strip has no notes.
+#[derive(Clone, Copy, Debug, PartialEq, Eq, Error)]
+pub enum NotesFault {
+    /// A growth was refused.
+    #[error("out of memory")]
+    Memory,
+    /// This row of the strip, from 0, could not be read.
+    #[error("row {row}: {fault}")]
+    Strip { row: u32, fault: StripFault },
+}
+
+impl From<Memory> for NotesFault {
+    ghost use Rattle.fax_page.specs.declared.notes.NotesFault.TheVariants.{Memory as NoMemory};
+
+    ghost from_gives = { λ _ gives. gives ≡ NoMemory };
+
+    fn from(_refused: Memory) -> Self {
+        NotesFault::Memory
+    }
+}
+
+/// Puts the codes of a row that T.4 chooses where it is coded so.
+fn put_codes(
+    sink: &mut BitSink,
+    dimension: Dimension,
+    reference: &Row,
+    row: &Row,
+) -> Result<(), Memory>
+    requires same_width { length reference.now ≡ length row.now }
+    ensures { OnOk result
+        (Appends sink.old (row_bits dimension reference.now row.now) sink.new) }
+{
+    match dimension {
+        Dimension::OneDimensional => put_1d(row, sink),
+        Dimension::TwoDimensional => put_2d(reference, row, sink),
+    }
+}
+
+/// Reads row `i` of a strip into `row`, of which nothing is said after a fault, and answers whether
+/// its codes are those that T.4 chooses. What was in the sink is forgotten.
+fn read_choice(
+    source: &mut BitSource,
+    form: StripForm,
+    i: u32,
+    reference: &Row,
+    row: &mut Row,
+    sink: &mut BitSink,
+) -> Result<bool, NotesFault>
+    requires reference_width { length reference.now ≡ form.width }
+    requires width { length row.old ≡ form.width }
+    requires limits { IsStripForm form }
+    ensures ok { IfOk result
+        (Code.IsLineRead form i reference.now source.old.left row.new source.new.left) }
+    ensures err { IfErr result (Code.IsLineFault form i reference.now source.old.left) }
+    ensures same_width { length row.new ≡ length row.old }
+{
+    fax_rows::laws::one_dimensional_rows_are_read_as_nothing_else();
+    fax_rows::laws::two_dimensional_rows_are_read_as_nothing_else();
+    let dimension = match read_begin(source, form, i) {
+        Ok(dimension) => dimension,
+        Err(fault) => return Err(NotesFault::Strip { row: i, fault }),
+    };
+    let codes = source.again();
+    if let Err(fault) = read_codes(source, dimension, reference, row) {
+        return Err(NotesFault::Strip { row: i, fault });
+    }
+    sink.clear();
+    put_codes(sink, dimension, reference, row)?;
+    Ok(sink.begins(&codes))
+}
+
+/// Goes behind an EOL of a return to control, and answers whether there is one (T.4, sections 4.1.4
+/// and 4.2.2).
+fn take_return_eol(source: &mut BitSource, coding: Coding) -> bool
+    ensures { Code.TakesReturnEol coding source.old.left result source.new.left }
+{
+    if let Err(_none) = read_eol(source, false) {
+        return false;
+    }
+    match coding {
+        Coding::Mh => true,
+        Coding::Mr => source.take(1, 1),
+        Coding::Mmr => false,
+    }
+}
+
+/// What stands behind a return to control, where there is one (T.4, section 4.1.4).
+fn behind_return<'a>(source: &BitSource<'a>, coding: Coding) -> Option<BitSource<'a>>
+    ensures { Code.IsBehind (Spec.AreReturnEols coding 6 source.now.left) result }
+{
+    let mut ahead = source.again();
+    for _eol in 0..RETURN_EOLS {
+        if !take_return_eol(&mut ahead, coding) {
+            return None;
+        }
+    }
+    Some(ahead)
+}
+
+/// What stands behind the end mark of a strip, where there is one (T.4, section 4.1.4; T.6,
+/// End-of-facsimile block).
+fn behind_end<'a>(source: &BitSource<'a>, coding: Coding) -> Option<BitSource<'a>>
+    ensures { Code.IsBehind (Spec.IsEndMark coding source.now.left) result }
+{
+    match coding {
+        Coding::Mh | Coding::Mr => behind_return(source, coding),
+        Coding::Mmr => {
+            let mut ahead = source.again();
+            if ahead.take(END_OF_BLOCK, END_OF_BLOCK_BITS) {
+                Some(ahead)
+            } else {
+                None
+            }
+        }
+    }
+}
+
+/// The notes on a strip whose rows end at a source.
+fn notes_behind(source: &BitSource, coding: Coding, not_t4_choice: bool) -> StripNotes
+    ensures { Code.AreNotesBehind coding source.now.left not_t4_choice result }
+{
+    let (ended, data_after_end) = match behind_end(source, coding) {
+        Some(behind) => (true, behind.zeros().is_some()),
+        None => (false, source.zeros().is_some()),
+    };
+    let (no_end_of_block, return_to_control) = match coding {
+        Coding::Mh | Coding::Mr => (false, ended),
+        Coding::Mmr => (!ended, false),
+    };
+    StripNotes {
+        no_end_of_block,
+        return_to_control,
+        data_after_end,
+        not_t4_choice,
+    }
+}
+
+/// The notes on a strip in at most 4,294,967,295 bytes. It takes memory for what a row needs: no
+/// strip is written whole.
+///
+/// # Errors
+///
+/// `Strip` where a row cannot be read, and `Memory` where a growth was refused.
+pub fn strip_notes(alloc: Global, bytes: &[u8], form: StripForm) -> Result<StripNotes, NotesFault>
+    requires count { length bytes.now ≤ 4294967295 }
+    requires limits { IsStripForm form }
+    ensures ok { IfOk result (λ notes. (rows : List (List Colour))
+        × Spec.IsNotedAs form (bits form.order bytes.now) rows notes) }
+    ensures err { IfErr result (Spec.IsNotesFault form (bits form.order bytes.now)) }
+{
+    crate::laws::lines_are_read_in_one_way();
+    let mut source = BitSource::new(bytes, form.order);
+    let mut reference = Row::white(alloc, form.width)?;
+    let mut row = Row::white(alloc, form.width)?;
+    let mut sink = BitSink::new(alloc, form.order);
+    let mut not_t4_choice = false;
+    for i in 0..form.rows {
+        let chosen = read_choice(&mut source, form, i, &reference, &mut row, &mut sink)?;
+        if !chosen {
+            not_t4_choice = true;
+        }
+        swap(&mut reference, &mut row);
+    }
+    Ok(notes_behind(&source, form.coding, not_t4_choice))
+}

@@ -1,0 +1,194 @@
+-- Rows that are put on a page, strip by strip.
+use Rattle.std.proofs.Common.{◌≡◌, ℕ, zero, suc, ◌+◌, ◌*◌, ◌<◌, ◌≤◌, inl, inr, min, List, [], ◌∷◌, ◌++◌, length, take, drop, Option, Some, None, Vec, refl, sym, ap, ◌∙◌, subst, arith, length-drop}
+use Rattle.std.specs.declared.alloc.Global.{Global}
+use Rattle.std.proofs.lemmas.List.{take-append-le, drop-append-le, drop-drop, drop_all, take_all, length_push}
+use Rattle.std.proofs.Math.Nat.{mul-le-mul_left}
+use Rattle.std.proofs.lemmas.Bool.{cases_lt}
+use Rattle.std.proofs.lemmas.Grind.{div_ceil_times}
+use Rattle.fax_bits.specs.declared.Colour.{Colour}
+use Rattle.fax_page.specs.CodedStrip.{coded_strip}
+use Rattle.fax_page.specs.code.Writer.{WriterState, HasPut, PutsRow, FinishesAs, WritesRowByRow, writer_beginning}
+use Rattle.fax_files.specs.declared.PageForm.{PageForm}
+use Rattle.fax_files.specs.Page.{IsPageForm}
+use Rattle.fax_files.specs.PageRows.{strip_form}
+use Rattle.fax_files.specs.code.Writing.{contents}
+use Rattle.fax_walk.specs.declared.open_strips.OpenStrips.{OpenStrips}
+use Rattle.fax_walk.specs.Converted.{strips_of, coded_strips}
+use Rattle.fax_walk.specs.code.OpenStrips.{AreInStrip, HasPutRows}
+
+-- rows behind n strips do not change them
+pub strips_more : (in_strip n : ℕ) (rows more : List (List Colour)) → n * in_strip ≤ length rows
+    → strips_of in_strip n (rows ++ more) ≡ strips_of in_strip n rows
+strips_more in_strip zero rows more far = refl
+strips_more in_strip (suc n) rows more far =
+    let first : in_strip ≤ length rows = omega arith in
+    let rest : n * in_strip ≤ length (drop in_strip rows) = omega (arith, length-drop in_strip rows) in
+    let later = strips_more in_strip n (drop in_strip rows) more rest in
+    ap (λ (l : List (List Colour)). l ∷ strips_of in_strip n (drop in_strip (rows ++ more))) (take-append-le in_strip rows more first)
+    ∙ ap (λ (l : List (List Colour)). take in_strip rows ∷ strips_of in_strip n l) (drop-append-le in_strip rows more first)
+    ∙ ap (λ (l : List (List (List Colour))). take in_strip rows ∷ l) later
+
+-- one more strip
+pub strips_next : (in_strip n : ℕ) (rows : List (List Colour))
+    → strips_of in_strip (n + 1) rows ≡ strips_of in_strip n rows ++ take in_strip (drop (n * in_strip) rows) ∷ []
+strips_next in_strip zero rows =
+    let none : 0 ≡ 0 * in_strip = omega arith in
+    ap (λ (i : ℕ). take in_strip (drop i rows) ∷ []) none
+strips_next in_strip (suc n) rows =
+    let count : suc n + 1 ≡ suc (n + 1) = omega arith in
+    let place : in_strip + n * in_strip ≡ suc n * in_strip = omega arith in
+    let later = strips_next in_strip n (drop in_strip rows) in
+    ap (λ (i : ℕ). strips_of in_strip i rows) count
+    ∙ ap (λ (l : List (List (List Colour))). take in_strip rows ∷ l) later
+    ∙ ap (λ (l : List (List Colour)). take in_strip rows ∷ (strips_of in_strip n (drop in_strip rows) ++ take in_strip l ∷ []))
+    (drop-drop (n * in_strip) in_strip rows ∙ ap (λ (i : ℕ). drop i rows) place)
+
+pub strips_count : (in_strip n : ℕ) (rows : List (List Colour)) → length (strips_of in_strip n rows) ≡ n
+strips_count in_strip zero rows = refl
+strips_count in_strip (suc n) rows = ap suc (strips_count in_strip n (drop in_strip rows))
+
+coded_next : (form : PageForm) (k s : ℕ) (strips : List (List (List Colour))) (rows : List (List Colour))
+    → coded_strips form k s (strips ++ rows ∷ []) ≡ coded_strips form k s strips ++ coded_strip (strip_form form (s + length strips)) k rows ∷ []
+coded_next form k s [] rows =
+    let here : s ≡ s + 0 = omega arith in
+    ap (λ (i : ℕ). coded_strip (strip_form form i) k rows ∷ []) here
+coded_next form k s (first ∷ strips) rows =
+    let there : s + 1 + length strips ≡ s + suc (length strips) = omega arith in
+    ap (λ (l : List (List ℕ)). coded_strip (strip_form form s) k first ∷ l)
+    (coded_next form k (s + 1) strips rows
+    ∙ ap (λ (i : ℕ). coded_strips form k (s + 1) strips ++ coded_strip (strip_form form i) k rows ∷ []) there)
+
+contents_next : (strips : List (Vec ℕ Global)) (bytes : Vec ℕ Global) → contents (strips ++ bytes ∷ []) ≡ contents strips ++ bytes.items ∷ []
+contents_next [] bytes = refl
+contents_next (first ∷ strips) bytes = ap (λ (l : List (List ℕ)). first.items ∷ l) (contents_next strips bytes)
+
+pub contents_count : (strips : List (Vec ℕ Global)) → length (contents strips) ≡ length strips
+contents_count [] = refl
+contents_count (first ∷ strips) = ap suc (contents_count strips)
+
+-- the strips of a page hold its rows
+pub enough : (form : PageForm) → IsPageForm form → form.rows ≤ form.strips * form.rows_per_strip
+enough form limits =
+    let some : 0 < form.rows_per_strip = limits.some_rows_per_strip in
+    let times = div_ceil_times form.rows form.rows_per_strip some in
+    let count = limits.strips in
+    rw count times.0
+
+module _ (writes : WritesRowByRow) (form : PageForm) (k : ℕ) (rows : List (List Colour)) (page : OpenStrips) (put : HasPutRows form k rows page)
+    (due : length rows < form.rows) where
+  abbrev pub n : ℕ
+  n = length page.done.items
+
+  abbrev pub in_strip : ℕ
+  in_strip = form.rows_per_strip
+
+  abbrev Places : Type 0
+  Places = (n * in_strip ≤ length rows) × (length rows < n * in_strip + in_strip)
+
+  places_by : (writer : Option WriterState) → AreInStrip form k n rows writer → Places
+  places_by None is =
+      let some = put.limits.some_rows_per_strip in
+      (omega arith, omega arith)
+  places_by (Some writer) is =
+      let fewer = is.2.fewer in
+      let left = length-drop (n * in_strip) rows in
+      (omega (arith, is.0), omega arith)
+
+  places : Places
+  places = places_by page.writer put.in_strip
+
+  one_due : n < form.strips
+  one_due = elim (cases_lt n form.strips) [
+    | inl less ↦ less
+    | inr not_less ↦
+        let far : in_strip * form.strips ≤ in_strip * n = mul-le-mul_left in_strip not_less in
+        absurd (omega (arith, enough form put.limits, places))
+  ]
+
+  -- a strip's writer that the next row can be put to
+  abbrev pub IsReady : WriterState → Type 0
+  IsReady writer = HasPut (strip_form form n) k (drop (n * in_strip) rows) writer
+
+  pub ready_started : (writer : WriterState) → page.writer ≡ Some writer → IsReady writer
+  ready_started writer is =
+      let started = subst (λ (w : Option WriterState). AreInStrip form k n rows w) is put.in_strip in started.2.has_put
+
+  pub ready_new : (writer : WriterState) → page.writer ≡ None → writer ≡ writer_beginning (strip_form page.form n) page.k → IsReady writer
+  ready_new writer none is =
+      let whole : min (n * in_strip) form.rows ≡ length rows = subst (λ (w : Option WriterState). AreInStrip form k n rows w) none put.in_strip in
+      let nothing : drop (n * in_strip) rows ≡ [] = drop_all (n * in_strip) rows (omega arith) in
+      let begun : writer ≡ writer_beginning (strip_form form n) k =
+      is ∙ ap (λ (f : PageForm). writer_beginning (strip_form f n) page.k) put.form_is ∙ ap (writer_beginning (strip_form form n)) put.k_is in
+      subst (λ (l : List (List Colour)). HasPut (strip_form form n) k l writer) (sym nothing)
+      (subst (HasPut (strip_form form n) k []) (sym begun) (writes.begins (strip_form form n) k))
+
+  module _ (row : List Colour) (old new : WriterState) (ready : IsReady old) (puts : PutsRow old row new) where
+    abbrev more : List (List Colour)
+    more = rows ++ row ∷ []
+
+    count : length more ≡ length rows + 1
+    count = length_push rows row
+
+    rest_is : drop (n * in_strip) more ≡ drop (n * in_strip) rows ++ row ∷ []
+    rest_is = drop-append-le (n * in_strip) rows (row ∷ []) places.0
+
+    has_put : HasPut (strip_form form n) k (drop (n * in_strip) more) new
+    has_put = subst (λ (l : List (List Colour)). HasPut (strip_form form n) k l new) (sym rest_is)
+        (writes.goes_on (strip_form form n) k (drop (n * in_strip) rows) row old new ready puts)
+
+    same_strips : strips_of in_strip n more ≡ strips_of in_strip n rows
+    same_strips = strips_more in_strip n rows (row ∷ []) places.0
+
+    pub kept : (length rows + 1 ≡ min ((n + 1) * in_strip) form.rows → ⊥)
+        → HasPutRows form k more (record page { writer = Some new; rows = page.rows + 1 })
+    kept not_whole = record {
+      form_is = put.form_is;
+      k_is = put.k_is;
+      limits = put.limits;
+      some_k = put.some_k;
+      count = omega (arith, put.count, count);
+      within = omega (arith, count);
+      strips = put.strips;
+      done = put.done ∙ ap (coded_strips form k 0) (sym same_strips);
+      in_strip = (
+        omega (arith, places, count),
+        omega (arith, places, count, not_whole),
+        record {
+          has_put = has_put;
+          some = omega (arith, length-drop (n * in_strip) more, count, places);
+          fewer = omega (arith, length-drop (n * in_strip) more, count, places, not_whole);
+        },
+      );
+    }
+
+    pub whole : (done : Vec (Vec ℕ Global) Global) (bytes : Vec ℕ Global) → done.items ≡ page.done.items ++ bytes ∷ []
+        → length rows + 1 ≡ min ((n + 1) * in_strip) form.rows → FinishesAs new bytes.items
+        → HasPutRows form k more (record page { done = done; writer = None; rows = page.rows + 1 })
+    whole done bytes done_is all ends =
+        let strips_are : length done.items ≡ n + 1 = ap length done_is ∙ length_push page.done.items bytes in
+        let all_rows : take in_strip (drop (n * in_strip) more) ≡ drop (n * in_strip) more =
+        take_all in_strip (drop (n * in_strip) more) (omega (arith, length-drop (n * in_strip) more, count, places)) in
+        let coded : bytes.items ≡ coded_strip (strip_form form n) k (drop (n * in_strip) more) =
+        writes.finishes (strip_form form n) k (drop (n * in_strip) more) new bytes.items has_put ends in
+        let number : 0 + length (strips_of in_strip n more) ≡ n = omega (arith, strips_count in_strip n more) in
+        let strips_next_are : strips_of in_strip (n + 1) more ≡ strips_of in_strip n more ++ drop (n * in_strip) more ∷ [] =
+        strips_next in_strip n more ∙ ap (λ (l : List (List Colour)). strips_of in_strip n more ++ l ∷ []) all_rows in
+        let coded_are : coded_strips form k 0 (strips_of in_strip (n + 1) more)
+        ≡ coded_strips form k 0 (strips_of in_strip n more) ++ coded_strip (strip_form form n) k (drop (n * in_strip) more) ∷ [] =
+        ap (coded_strips form k 0) strips_next_are
+        ∙ coded_next form k 0 (strips_of in_strip n more) (drop (n * in_strip) more)
+        ∙ ap (λ (i : ℕ). coded_strips form k 0 (strips_of in_strip n more) ++ coded_strip (strip_form form i) k (drop (n * in_strip) more) ∷ []) number in
+        record {
+          form_is = put.form_is;
+          k_is = put.k_is;
+          limits = put.limits;
+          some_k = put.some_k;
+          count = omega (arith, put.count, count);
+          within = omega (arith, count);
+          strips = omega (arith, strips_are, one_due);
+          done = ap contents done_is ∙ contents_next page.done.items bytes
+              ∙ ap (λ (l : List (List ℕ)). l ++ bytes.items ∷ []) (put.done ∙ ap (coded_strips form k 0) (sym same_strips))
+              ∙ ap (λ (b : List ℕ). coded_strips form k 0 (strips_of in_strip n more) ++ b ∷ []) coded
+              ∙ sym coded_are ∙ ap (λ (i : ℕ). coded_strips form k 0 (strips_of in_strip i more)) (sym strips_are);
+          in_strip = rw strips_are (omega (arith, all, count));
+        }

@@ -1,0 +1,298 @@
+-- An output that is written page by page.
+use Rattle.std.proofs.Common.{◌≡◌, ℕ, suc, ◌+◌, ◌-◌, ◌*◌, ◌<◌, ◌≤◌, inl, inr, List, [], ◌∷◌, ◌++◌, length, map, take, drop, Option, Some, None, Result, Ok, Err, refl, sym, ap, ◌∙◌, arith, append_assoc, append-nil, length-append, length-take, length-drop}
+use Rattle.std.specs.Prelude.{flat_map, OnOk}
+use Rattle.std.proofs.Math.Nat.{mul-le-mul_left}
+use Rattle.std.proofs.lemmas.Bool.{cases_lt}
+use Rattle.std.proofs.lemmas.Grind.{div_ceil_times}
+use Rattle.std.proofs.lemmas.List.{length_push, flat_map_more, length-map}
+use Rattle.std.proofs.lemmas.List.{map-append}
+use Rattle.std.proofs.lemmas.List.Concat.{flat_map-append}
+use Rattle.std.proofs.lemmas.List.FromFn.{length-map-range_with_len}
+use Rattle.fax_bits.specs.declared.Colour.{Colour}
+use Rattle.fax_rows.specs.Packed.{packed_len, packed_byte, packed_row}
+use Rattle.fax_page.specs.declared.Coding.{Coding}
+use Rattle.fax_page.specs.declared.Coding.TheVariants.{Mh, Mr, Mmr}
+use Rattle.fax_page.specs.code.Writer.{WriterState}
+use Rattle.fax_files.specs.declared.PageForm.{PageForm}
+use Rattle.fax_files.specs.Pbm.{Image, head_bytes, image_bytes, pbm_of}
+use Rattle.fax_files.specs.PbmLaws.{AreOfWidth}
+use Rattle.fax_files.specs.Written.{Written, WrittenPage, empty_file, four, with_four_at, page_bytes, directory_place, with_page as with_tiff_page, with_pages, file_of}
+use Rattle.fax_files.specs.code.Writing.{Writing, with_one_more, length_with, contents}
+use Rattle.fax_walk.specs.declared.options.Options.{Options}
+use Rattle.fax_walk.specs.declared.options.Target.{Target}
+use Rattle.fax_walk.specs.declared.options.Target.TheVariants.{Pbm, Mh as ToMh, Mr as ToMr, Mmr as ToMmr}
+use Rattle.fax_walk.specs.declared.open_strips.OpenStrips.{OpenStrips}
+use Rattle.fax_walk.specs.declared.sheet.Sheet.{Sheet}
+use Rattle.fax_walk.specs.Converted.{SourcePage, strips_of, coded_strips, written_page, target_bytes}
+use Rattle.fax_walk.specs.code.OpenStrips.{HasPutRows, AreInStrip}
+use Rattle.fax_walk.specs.code.Output.{Progress, Part, no_rows, with_row, page_of, behind, nothing_written, sheet_form, coding_of, StaysTooLarge, HasImages, HasPages, HasRowsOnPage, HasImageRows, BecomesTooLarge}
+
+-- what follows where a call was done
+pub on_ok : {E : Type 0} {P Q : Type 0} (result : Result (Unit {0}) E) → OnOk result P → (P → Q) → OnOk result Q
+on_ok (Ok done) holds follows = follows holds
+on_ok (Err fault) holds follows = tt
+
+-- rows of one width, and one more
+pub widths_more : (width : ℕ) (rows : List (List Colour)) (row : List Colour) → AreOfWidth width rows → length row ≡ width
+    → AreOfWidth width (rows ++ row ∷ [])
+widths_more width [] row are is = (is, tt)
+widths_more width (first ∷ rows) row are is = (are.0, widths_more width rows row are.1 is)
+
+packed_length : (row : List Colour) → length (packed_row row) ≡ packed_len (length row)
+unfolding packed_row
+packed_length row = length-map-range_with_len (λ k. packed_byte row (8 * k)) 0 (packed_len (length row))
+
+-- how many bytes rows of one width take
+rows_length : (width : ℕ) (rows : List (List Colour)) → AreOfWidth width rows → length (flat_map packed_row rows) ≡ length rows * packed_len width
+rows_length width [] are = let none : 0 ≡ 0 * packed_len width = omega arith in none
+rows_length width (row ∷ rows) are =
+    let later = rows_length width rows are.1 in
+    let len : length (packed_row row) ≡ packed_len width = packed_length row ∙ ap packed_len are.0 in
+    let n = length rows in
+    let more : packed_len width + n * packed_len width ≡ suc n * packed_len width = omega arith in
+    length-append (packed_row row) (flat_map packed_row rows) ∙ ap (λ (i : ℕ). i + length (flat_map packed_row rows)) len
+    ∙ ap (λ (i : ℕ). packed_len width + i) later ∙ more
+
+image_of : SourcePage → Image
+image_of page = page.image
+
+-- the images of pages, and what follows them
+images_split : (pages more : List SourcePage) (page : SourcePage)
+    → pbm_of (map (λ page. page.image) ((pages ++ page ∷ []) ++ more))
+    ≡ pbm_of (map (λ page. page.image) pages) ++ (image_bytes page.image ++ pbm_of (map (λ page. page.image) more))
+images_split pages more page =
+    ap (λ (l : List SourcePage). pbm_of (map (λ page. page.image) l)) (append_assoc pages (page ∷ []) more)
+    ∙ ap pbm_of (map-append (λ (page : SourcePage). page.image) pages (page ∷ more))
+    ∙ flat_map-append image_bytes (map (λ page. page.image) pages) (map (λ page. page.image) (page ∷ more))
+
+module _ (at : Progress) (sheet : Sheet) (target : at.options.target ≡ Pbm) where
+  abbrev done : List ℕ
+  done = pbm_of (map (λ page. page.image) at.pages)
+
+  -- an image for which there is no room makes the output too large
+  pub image_too_large : 268435456 < length done + length (head_bytes sheet.width sheet.rows) + sheet.rows * packed_len sheet.width
+      → BecomesTooLarge (no_rows at sheet)
+  image_too_large large = λ rows count widths more all.
+      let page = page_of sheet rows in
+      let whole = images_split at.pages more page in
+      let first = length-append done (image_bytes page.image ++ pbm_of (map (λ page. page.image) more)) in
+      let second = length-append (image_bytes page.image) (pbm_of (map (λ page. page.image) more)) in
+      let third = length-append (head_bytes sheet.width (length rows)) (flat_map packed_row rows) in
+      let head = ap (λ (n : ℕ). length (head_bytes sheet.width n)) count in
+      let raster : length (flat_map packed_row rows) ≡ sheet.rows * packed_len sheet.width =
+      rows_length sheet.width rows widths ∙ ap (λ (n : ℕ). n * packed_len sheet.width) count in
+      let long : 268435456 < length (pbm_of (map (λ page. page.image) ((at.pages ++ page ∷ []) ++ more))) =
+      omega (arith, large, ap length whole, first, second, third, head, raster) in
+      rw target (inl long)
+
+-- an image is begun
+pub image_begun : (at : Progress) (sheet : Sheet) (old new : List ℕ) → HasImages old at → new ≡ old ++ head_bytes sheet.width sheet.rows
+    → length new + sheet.rows * packed_len sheet.width ≤ 268435456 → HasImageRows new (no_rows at sheet)
+image_begun at sheet old new has new_is fits = record {
+  target = has.target;
+  bytes_are = new_is ∙ ap (λ (l : List ℕ). l ++ head_bytes sheet.width sheet.rows) has.bytes_are
+      ∙ ap (λ (l : List ℕ). pbm_of (map (λ page. page.image) at.pages) ++ l) (sym (append-nil (head_bytes sheet.width sheet.rows)));
+  left = sheet.rows;
+  left_is = omega arith;
+  fits = fits;
+}
+
+-- a row is put behind the others of its image
+pub image_row : (part : Part) (row : List Colour) (old new : List ℕ) → HasImageRows old part → length part.rows < part.sheet.rows
+    → length row ≡ part.sheet.width → new ≡ old ++ packed_row row → HasImageRows new (with_row part row)
+image_row part row old new has due width new_is =
+    let before = pbm_of (map (λ page. page.image) part.at.pages) in
+    let head = head_bytes part.sheet.width part.sheet.rows in
+    let rows = flat_map packed_row part.rows in
+    let some : 0 < has.left = omega (arith, has.left_is) in
+    let one : has.left ≡ has.left - 1 + 1 = omega arith in
+    let len : length (packed_row row) ≡ packed_len part.sheet.width = packed_length row ∙ ap packed_len width in
+    let size : length new ≡ length old + packed_len part.sheet.width =
+    ap length new_is ∙ length-append old (packed_row row) ∙ ap (λ (n : ℕ). length old + n) len in
+    let room : has.left * packed_len part.sheet.width ≡ (has.left - 1) * packed_len part.sheet.width + packed_len part.sheet.width =
+    ap (λ (n : ℕ). n * packed_len part.sheet.width) one ∙ omega arith in
+    record {
+      target = has.target;
+      bytes_are = new_is ∙ ap (λ (l : List ℕ). l ++ packed_row row) has.bytes_are ∙ append_assoc before (head ++ rows) (packed_row row)
+          ∙ ap (λ (l : List ℕ). before ++ l) (flat_map_more packed_row head part.rows row);
+      left = has.left - 1;
+      left_is = omega (arith, has.left_is, length_push part.rows row);
+      fits = omega (arith, has.fits, size, room);
+    }
+
+-- an image is ended
+pub image_ended : (part : Part) (bytes : List ℕ) → HasImageRows bytes part → length part.rows ≡ part.sheet.rows → HasImages bytes (behind part)
+image_ended part bytes has all =
+    let page = page_of part.sheet part.rows in
+    let images = map (λ (page : SourcePage). page.image) part.at.pages in
+    let head = ap (λ (n : ℕ). head_bytes part.sheet.width n ++ flat_map packed_row part.rows) (sym all) in
+    record {
+      target = has.target;
+      bytes_are = has.bytes_are ∙ ap (λ (l : List ℕ). pbm_of images ++ l) head
+          ∙ flat_map_more image_bytes [] images page.image
+          ∙ ap pbm_of (sym (map-append (λ (page : SourcePage). page.image) part.at.pages (page ∷ [])));
+      fits = omega (arith, has.fits);
+    }
+
+pages_append : (old : Written) (total k : ℕ) (pages more : List WrittenPage)
+    → with_pages old total k (pages ++ more) ≡ with_pages (with_pages old total k pages) total (k + length pages) more
+unfolding with_pages
+pages_append old total k [] more = let here : k ≡ k + 0 = omega arith in ap (λ (n : ℕ). with_pages old total n more) here
+pages_append old total k (page ∷ pages) more =
+    let next = with_tiff_page old total k page.form page.strips in
+    let there : k + 1 + length pages ≡ k + suc (length pages) = omega arith in
+    pages_append next total (k + 1) pages more
+    ∙ ap (λ (n : ℕ). with_pages (with_pages next total (k + 1) pages) total n more) there
+
+-- a page more, whatever stands before it
+pages_next : (old : Written) (total : ℕ) (pages : List WrittenPage) (page : WrittenPage)
+    → with_pages old total 0 (pages ++ page ∷ []) ≡ with_tiff_page (with_pages old total 0 pages) total (length pages) page.form page.strips
+unfolding with_pages
+pages_next old total pages page =
+    let there : 0 + length pages ≡ length pages = omega arith in
+    pages_append old total 0 pages (page ∷ [])
+    ∙ ap (λ (n : ℕ). with_tiff_page (with_pages old total 0 pages) total n page.form page.strips) there
+
+-- a file does not get shorter with a page
+page_grows : (old : Written) (total k : ℕ) (form : PageForm) (strips : List (List ℕ))
+    → length old.bytes ≤ length (with_tiff_page old total k form strips).bytes
+unfolding with_tiff_page
+page_grows old total k form strips =
+    let place = directory_place (length old.bytes) strips in
+    let file = with_four_at old.bytes old.link place in
+    let four_is : length (four place) ≡ 4 = refl in
+    let all = length-append file (page_bytes (length old.bytes) total k form strips) in
+    let first = length-append (take old.link old.bytes ++ four place) (drop (old.link + 4) old.bytes) in
+    let second = length-append (take old.link old.bytes) (four place) in
+    omega (arith, all, first, second, four_is, length-take old.link old.bytes, length-drop (old.link + 4) old.bytes)
+
+pages_grow : (old : Written) (total k : ℕ) (pages : List WrittenPage) → length old.bytes ≤ length (with_pages old total k pages).bytes
+unfolding with_pages
+pages_grow old total k [] = omega arith
+pages_grow old total k (page ∷ pages) =
+    let first = page_grows old total k page.form page.strips in
+    let later = pages_grow (with_tiff_page old total k page.form page.strips) total (k + 1) pages in
+    omega (arith, first, later)
+
+-- a TIFF file of no page yet
+pub file_begun : (options : Options) (total : ℕ) (coding : Coding) (writer : Writing) → coding_of options.target ≡ Some coding → total ≤ 65535
+    → writer ≡ record { written = empty_file; total = total; added = 0 } → HasPages coding writer (nothing_written options total)
+unfolding with_pages
+file_begun options total coding writer coding_is few is =
+    let eight : length (empty_file.bytes) ≡ 8 = refl in
+    let bytes = ap (λ (w : Writing). length w.written.bytes) is in
+    record {
+      coding_is = coding_is;
+      few = few;
+      total = ap (λ (w : Writing). w.total) is;
+      added = ap (λ (w : Writing). w.added) is;
+      written = ap (λ (w : Writing). w.written) is;
+      fits = omega (arith, bytes, eight);
+    }
+
+-- how a TIFF file of pages is written
+target_file : (target : Target) (options : Options) (coding : Coding) (pages : List SourcePage) → coding_of target ≡ Some coding
+    → target_bytes target options pages ≡ file_of (map (written_page options coding) pages)
+target_file Pbm options coding pages is = absurd cc
+target_file ToMh options coding pages is = let same : Mh ≡ coding = cc in ap (λ (c : Coding). file_of (map (written_page options c) pages)) same
+target_file ToMr options coding pages is = let same : Mr ≡ coding = cc in ap (λ (c : Coding). file_of (map (written_page options c) pages)) same
+target_file ToMmr options coding pages is = let same : Mmr ≡ coding = cc in ap (λ (c : Coding). file_of (map (written_page options c) pages)) same
+
+reached_by : (form : PageForm) (k n : ℕ) (rows : List (List Colour)) (writer : Option WriterState) → length rows ≡ form.rows
+    → AreInStrip form k n rows writer → form.rows ≤ n * form.rows_per_strip
+reached_by form k n rows None all is = omega arith
+reached_by form k n rows (Some writer) all is = absurd (omega (arith, all, is.1))
+
+-- a page whose rows were all put has all its strips
+pub all_strips : (form : PageForm) (k : ℕ) (rows : List (List Colour)) (page : OpenStrips) → HasPutRows form k rows page → length rows ≡ form.rows
+    → length page.done.items ≡ form.strips
+all_strips form k rows page put all =
+    let some : 0 < form.rows_per_strip = put.limits.some_rows_per_strip in
+    let times = (div_ceil_times form.rows form.rows_per_strip some).1 in
+    let below : form.strips * form.rows_per_strip < form.rows + form.rows_per_strip = rw put.limits.strips times in
+    let reached : form.rows ≤ length page.done.items * form.rows_per_strip =
+    reached_by form k (length page.done.items) rows page.writer all put.in_strip in
+    elim (cases_lt (length page.done.items) form.strips) [
+      | inl less ↦
+          let far : form.rows_per_strip * (length page.done.items + 1) ≤ form.rows_per_strip * form.strips =
+          mul-le-mul_left form.rows_per_strip (omega arith) in
+          absurd (omega arith)
+      | inr not_less ↦ omega (arith, put.strips)
+    ]
+
+-- a page of a TIFF file whose rows were all put
+module _ (part : Part) (coding : Coding) (writer : Writing) (page : OpenStrips) (has : HasRowsOnPage coding writer (Some page) part)
+    (all : length part.rows ≡ part.sheet.rows) where
+  abbrev options : Options
+  options = part.at.options
+
+  abbrev total : ℕ
+  total = part.at.total
+
+  abbrev source : SourcePage
+  source = page_of part.sheet part.rows
+
+  abbrev pages : List SourcePage
+  pages = part.at.pages ++ source ∷ []
+
+  abbrev written : SourcePage → WrittenPage
+  written = written_page options coding
+
+  abbrev as_put : PageForm
+  as_put = sheet_form options coding part.sheet
+
+  same_form : as_put ≡ (written source).form
+  same_form = ap (λ (n : ℕ). sheet_form options coding (record part.sheet { rows = n })) (sym all)
+
+  form_is : page.form ≡ (written source).form
+  form_is = has.2.form_is ∙ same_form
+
+  strips_are : contents page.done.items ≡ (written source).strips
+  strips_are =
+      has.2.done
+      ∙ ap (λ (n : ℕ). coded_strips as_put options.k 0 (strips_of as_put.rows_per_strip n part.rows)) (all_strips as_put options.k part.rows page has.2 all)
+      ∙ ap (λ (f : PageForm). coded_strips f options.k 0 (strips_of f.rows_per_strip f.strips part.rows)) same_form
+
+  with_source : with_tiff_page writer.written writer.total writer.added page.form (contents page.done.items)
+      ≡ with_pages empty_file total 0 (map written pages)
+  with_source =
+      let before = with_pages empty_file total 0 (map written part.at.pages) in
+      let count = sym (length-map part.at.pages written) in
+      ap (λ (w : Written). with_tiff_page w writer.total writer.added page.form (contents page.done.items)) has.0.written
+      ∙ ap (λ (n : ℕ). with_tiff_page before n writer.added page.form (contents page.done.items)) has.0.total
+      ∙ ap (λ (n : ℕ). with_tiff_page before total n page.form (contents page.done.items)) (has.0.added ∙ count)
+      ∙ ap (λ (f : PageForm). with_tiff_page before total (length (map written part.at.pages)) f (contents page.done.items)) form_is
+      ∙ ap (λ (l : List (List ℕ)). with_tiff_page before total (length (map written part.at.pages)) (written source).form l) strips_are
+      ∙ sym (pages_next empty_file total (map written part.at.pages) (written source))
+      ∙ ap (with_pages empty_file total 0) (sym (map-append written part.at.pages (source ∷ [])))
+
+  pub page_ended : (new : Writing) → new ≡ with_one_more writer page.form page.done.items
+      → length_with writer page.form page.done.items ≤ 268435456 → HasPages coding new (behind part)
+  page_ended new new_is fits = record {
+    coding_is = has.0.coding_is;
+    few = has.0.few;
+    total = ap (λ (w : Writing). w.total) new_is ∙ has.0.total;
+    added = ap (λ (w : Writing). w.added) new_is ∙ ap (λ (n : ℕ). n + 1) has.0.added ∙ sym (length_push part.at.pages source);
+    written = ap (λ (w : Writing). w.written) new_is ∙ with_source;
+    fits = omega (arith, ap (λ (w : Writing). length w.written.bytes) new_is, fits);
+  }
+
+  pub page_too_large : 268435456 < length_with writer page.form page.done.items → StaysTooLarge (behind part)
+  page_too_large large = λ more count.
+      let file = map written (pages ++ more) in
+      let count_is : length file ≡ total = length-map (pages ++ more) written ∙ count in
+      let first = with_pages empty_file total 0 (map written pages) in
+      let split : with_pages empty_file total 0 file ≡ with_pages first total (0 + length (map written pages)) (map written more) =
+      ap (with_pages empty_file total 0) (map-append written pages more) ∙ pages_append empty_file total 0 (map written pages) (map written more) in
+      let bytes_are : target_bytes options.target options (pages ++ more) ≡ (with_pages empty_file total 0 file).bytes =
+      target_file options.target options coding (pages ++ more) has.0.coding_is
+      ∙ ap (λ (n : ℕ). (with_pages empty_file n 0 file).bytes) count_is in
+      let grown = pages_grow first total (0 + length (map written pages)) (map written more) in
+      inl (omega (
+        arith,
+        large,
+        ap (λ (w : Written). length w.bytes) with_source,
+        ap (λ (w : Written). length w.bytes) split,
+        ap length bytes_are,
+        grown,
+      ))

@@ -1,0 +1,13 @@
+use Rattle.std.proofs.Common.{◌-◌, ◌^◌}
+use Rattle.fax_walk.specs.code.Check.{ArePagesChecked}
+use Rattle.fax_walk.specs.code.Opening.{IsChainBefore}
+use Rattle.fax_walk.proofs.checking.check_pages.Given as goal
+
+abbrev pub invariant-loop-directory : goal.invariant-loop-directory
+invariant-loop-directory l = record {
+  before : IsChainBefore l.fn.tiff.file l.chain.given l.chain;
+  read : ArePagesChecked l.chain.tiff l.chain.given l.rows l.notes.items;
+}
+
+abbrev pub decreases-loop-directory : goal.decreases-loop-directory
+decreases-loop-directory l = 2 ^ 32 - l.chain.given

@@ -1,0 +1,5 @@
+use Rattle.fax_walk.proofs.RowLemmas.{HasConverted}
+use Rattle.fax_walk.proofs.conversion.convert_rows.Given as goal
+
+abbrev pub invariant-loop : goal.invariant-loop
+invariant-loop l = HasConverted l.initial.walk l.initial.output l.sheet l.counter l.walk l.output

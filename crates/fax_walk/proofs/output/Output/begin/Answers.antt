@@ -1,0 +1,31 @@
+use Rattle.std.proofs.Common.{◌≡◌, ◌*◌, length, ap, arith, length-append}
+use Rattle.fax_rows.specs.Packed.{packed_len}
+use Rattle.fax_files.specs.Pbm.{head_bytes}
+use Rattle.fax_walk.proofs.OutputLemmas.{image_too_large, image_begun}
+use Rattle.fax_walk.proofs.output.Output.begin.Goals as goal
+
+pub returns-then-len-raster-gt-MAX_OUTPUT : goal.returns-then-len-raster-gt-MAX_OUTPUT
+returns-then-len-raster-gt-MAX_OUTPUT c = λ at options_are fewer written.
+    let has = rw c.in-Images.is at written in
+    let new_is = c.in_ok-put_pbm_head-in-Images.ensures.ok in
+    let packed : c.div_ceil.result ≡ packed_len c.args.sheet.now.width = omega (arith, c.div_ceil.ensures) in
+    let raster = ap (λ n. c.args.sheet.now.rows * n) packed in
+    let parts = length-append c.in-Images.bytes.items (head_bytes c.args.sheet.now.width c.args.sheet.now.rows) in
+    let len : c.len.result ≡ length c.put_pbm_head.new.out.items = omega (arith, c.len.ensures) in
+    record {
+      widths = tt;
+      has = image_too_large at c.args.sheet.now has.target
+          (omega (arith, c.if-len-raster-gt-MAX_OUTPUT.true, len, ap length new_is, ap length has.bytes_are, parts, raster));
+    }
+
+pub returns-else-len-raster-gt-MAX_OUTPUT : goal.returns-else-len-raster-gt-MAX_OUTPUT
+returns-else-len-raster-gt-MAX_OUTPUT c = λ at options_are fewer written.
+    let has = rw c.in-Images.is at written in
+    let packed : c.div_ceil.result ≡ packed_len c.args.sheet.now.width = omega (arith, c.div_ceil.ensures) in
+    let raster = ap (λ n. c.args.sheet.now.rows * n) packed in
+    let len : c.len.result ≡ length c.put_pbm_head.new.out.items = omega (arith, c.len.ensures) in
+    record {
+      widths = tt;
+      has = image_begun at c.args.sheet.now c.in-Images.bytes.items c.put_pbm_head.new.out.items has c.in_ok-put_pbm_head-in-Images.ensures.ok
+          (omega (arith, c.if-len-raster-gt-MAX_OUTPUT.false, len, raster));
+    }

@@ -1,0 +1,51 @@
+-- The strips of a page that is being written.
+use Rattle.std.specs.Prelude.{◌≡◌, ℕ, ◌*◌, ◌<◌, ◌≤◌, min, List, [], ◌∷◌, ◌++◌, length, drop, Option, Some, None}
+use Rattle.fax_bits.specs.declared.Colour.{Colour}
+use Rattle.fax_page.specs.code.Writer.{WriterState, HasPut}
+use Rattle.fax_files.specs.declared.PageForm.{PageForm}
+use Rattle.fax_files.specs.Page.{IsPageForm}
+use Rattle.fax_files.specs.PageRows.{strip_form}
+use Rattle.fax_files.specs.code.Writing.{contents}
+use Rattle.fax_walk.specs.declared.open_strips.OpenStrips.{OpenStrips}
+use Rattle.fax_walk.specs.Converted.{strips_of, coded_strips}
+
+-- a strip is open, and these rows of it were put, but not all
+pub record IsOpenStrip (form : PageForm) (k n : ℕ) (rows : List (List Colour)) (writer : WriterState) : Type 0 where
+  pub has_put : HasPut (strip_form form n) k rows writer
+  pub some : 0 < length rows
+  pub fewer : length rows < form.rows_per_strip
+
+-- behind n whole strips, of so many rows in all, there are these rows: none, or those of the strip that is open
+abbrev pub AreInStrip : PageForm → ℕ → ℕ → List (List Colour) → Option WriterState → Type 0
+AreInStrip form k n rows None = min (n * form.rows_per_strip) form.rows ≡ length rows
+AreInStrip form k n rows (Some writer) =
+    (n * form.rows_per_strip < length rows) × (length rows < form.rows)
+    × IsOpenStrip form k n (drop (n * form.rows_per_strip) rows) writer
+
+-- these rows of a page were put, and no more
+pub record HasPutRows (form : PageForm) (k : ℕ) (rows : List (List Colour)) (page : OpenStrips) : Type 0 where
+  pub form_is : page.form ≡ form
+  pub k_is : page.k ≡ k
+  pub limits : IsPageForm form
+  pub some_k : 0 < k
+  pub count : page.rows ≡ length rows
+  pub within : length rows ≤ form.rows
+  pub strips : length page.done.items ≤ form.strips
+  pub done : contents page.done.items
+      ≡ coded_strips form k 0 (strips_of form.rows_per_strip (length page.done.items) rows)
+  pub in_strip : AreInStrip form k (length page.done.items) rows page.writer
+
+-- a row can be put on a page: it is due, and it has the page's width
+pub record TakesRow (page : OpenStrips) (row : List Colour) : Type 0 where
+  pub form : PageForm
+  pub k : ℕ
+  pub rows : List (List Colour)
+  pub put : HasPutRows form k rows page
+  pub due : length rows < form.rows
+  pub width : length row ≡ form.width
+
+-- the row was put behind those that were
+abbrev pub PutsRow : OpenStrips → List Colour → OpenStrips → Type 0
+PutsRow old row new =
+    (form : PageForm) (k : ℕ) (rows : List (List Colour)) → HasPutRows form k rows old → length rows < form.rows
+    → HasPutRows form k (rows ++ row ∷ []) new

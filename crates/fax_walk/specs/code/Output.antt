@@ -1,0 +1,233 @@
+-- How far an output is written.
+use Rattle.std.specs.Prelude.{◌≡◌, ℕ, ◌+◌, ◌*◌, ◌<◌, ◌≤◌, min, false, List, [], ◌∷◌, ◌++◌, length, map, flat_map, Option, Some, None, unwrap_or, Vec}
+use Rattle.std.specs.declared.alloc.Global.{Global}
+use Rattle.fax_bits.specs.declared.Colour.{Colour}
+use Rattle.fax_rows.specs.Packed.{packed_len, packed_row}
+use Rattle.fax_page.specs.declared.Coding.{Coding}
+use Rattle.fax_page.specs.declared.Coding.TheVariants.{Mh, Mr, Mmr}
+use Rattle.fax_files.specs.declared.PageForm.{PageForm}
+use Rattle.fax_files.specs.Page.{IsGoodRational, strip_count}
+use Rattle.fax_files.specs.Pbm.{head_bytes, pbm_of}
+use Rattle.fax_files.specs.PbmLaws.{AreOfWidth}
+use Rattle.fax_files.specs.Written.{empty_file, with_pages}
+use Rattle.fax_files.specs.code.Writing.{Writing}
+use Rattle.fax_walk.specs.declared.options.Options.{Options}
+use Rattle.fax_walk.specs.declared.options.Target.{Target}
+use Rattle.fax_walk.specs.declared.options.Target.TheVariants.{Pbm, Mh as ToMh, Mr as ToMr, Mmr as ToMmr}
+use Rattle.fax_walk.specs.declared.options.ConvertFault.{ConvertFault}
+use Rattle.fax_walk.specs.declared.options.ConvertFault.TheVariants.{OutputTooLarge}
+use Rattle.fax_walk.specs.declared.open_strips.OpenStrips.{OpenStrips}
+use Rattle.fax_walk.specs.declared.output.Output.{Output}
+use Rattle.fax_walk.specs.declared.output.Output.TheVariants.{Images, File, TooLarge}
+use Rattle.fax_walk.specs.declared.sheet.Sheet.{Sheet}
+use Rattle.fax_walk.specs.Converted.{SourcePage, written_page, target_bytes, IsTooLarge}
+use Rattle.fax_walk.specs.code.OpenStrips.{HasPutRows}
+
+-- a sheet within the limits of a page
+pub record IsSheet (sheet : Sheet) : Type 0 where
+  pub some_width : 1 ≤ sheet.width
+  pub width : sheet.width ≤ 65535
+  pub some_rows : 1 ≤ sheet.rows
+  pub rows : sheet.rows ≤ 1000000
+  pub x : IsGoodRational sheet.x
+  pub y : IsGoodRational sheet.y
+  pub some_unit : 1 ≤ sheet.unit
+  pub unit : sheet.unit ≤ 3
+
+-- the sheet of an image
+abbrev pub image_sheet : ℕ → ℕ → Sheet
+image_sheet width rows = record { width = width; rows = rows; x = (204, 1); y = (196, 1); unit = 2 }
+
+-- the sheet of a page of a TIFF file
+abbrev pub form_sheet : PageForm → Sheet
+form_sheet form = record { width = form.width; rows = form.rows; x = form.x; y = form.y; unit = form.unit }
+
+-- the sheet of a page that is converted
+abbrev pub sheet_of : SourcePage → Sheet
+sheet_of source = record {
+  width = source.image.width;
+  rows = length source.image.rows;
+  x = source.resolution.x;
+  y = source.resolution.y;
+  unit = source.resolution.unit;
+}
+
+-- the form of a sheet's page as it is written
+abbrev pub sheet_form : Options → Coding → Sheet → PageForm
+sheet_form options coding sheet =
+    let rows_per_strip = min (unwrap_or options.strip sheet.rows) sheet.rows in
+    record {
+      width = sheet.width;
+      rows = sheet.rows;
+      coding = coding;
+      order = options.order;
+      exchanged = false;
+      rows_per_strip = rows_per_strip;
+      strips = strip_count sheet.rows rows_per_strip;
+      x = sheet.x;
+      y = sheet.y;
+      unit = sheet.unit;
+    }
+
+-- the page of a sheet with these rows
+abbrev pub page_of : Sheet → List (List Colour) → SourcePage
+page_of sheet rows = record {
+  image = record { width = sheet.width; rows = rows };
+  resolution = record { x = sheet.x; y = sheet.y; unit = sheet.unit };
+}
+
+-- how the strips of a target are coded, if it is a TIFF file
+abbrev pub coding_of : Target → Option Coding
+coding_of Pbm = None
+coding_of ToMh = Some Mh
+coding_of ToMr = Some Mr
+coding_of ToMmr = Some Mmr
+
+-- how far a conversion is written: by these options, of so many pages, these
+pub record Progress : Type 0 where
+  pub options : Options
+  pub total : ℕ
+  pub pages : List SourcePage
+
+-- before the first page
+abbrev pub nothing_written : Options → ℕ → Progress
+nothing_written options total = record { options = options; total = total; pages = [] }
+
+-- with one more page
+abbrev pub with_page : Progress → SourcePage → Progress
+with_page at page = record at { pages = at.pages ++ page ∷ [] }
+
+-- a page that is being written: its sheet, and the rows of it that were put
+pub record Part : Type 0 where
+  pub at : Progress
+  pub sheet : Sheet
+  pub rows : List (List Colour)
+
+-- before a page's first row
+abbrev pub no_rows : Progress → Sheet → Part
+no_rows at sheet = record { at = at; sheet = sheet; rows = [] }
+
+-- with one more row
+abbrev pub with_row : Part → List Colour → Part
+with_row part row = record part { rows = part.rows ++ row ∷ [] }
+
+-- behind the page
+abbrev pub behind : Part → Progress
+behind part = with_page part.at (page_of part.sheet part.rows)
+
+-- whatever pages follow, up to all of them, the output is too large
+abbrev pub StaysTooLarge : Progress → Type 0
+StaysTooLarge at =
+    (more : List SourcePage) → length (at.pages ++ more) ≡ at.total
+    → IsTooLarge at.options.target (at.pages ++ more) (target_bytes at.options.target at.options (at.pages ++ more))
+
+-- the images of the pages are written
+pub record HasImages (bytes : List ℕ) (at : Progress) : Type 0 where
+  pub target : at.options.target ≡ Pbm
+  pub bytes_are : bytes ≡ pbm_of (map (λ page. page.image) at.pages)
+  pub fits : length bytes ≤ 268435456
+
+-- the pages are written into a TIFF file
+pub record HasPages (coding : Coding) (writer : Writing) (at : Progress) : Type 0 where
+  pub coding_is : coding_of at.options.target ≡ Some coding
+  pub few : at.total ≤ 65535
+  pub total : writer.total ≡ at.total
+  pub added : writer.added ≡ length at.pages
+  pub written : writer.written ≡ with_pages empty_file at.total 0 (map (written_page at.options coding) at.pages)
+  pub fits : length writer.written.bytes ≤ 268435456
+
+-- an output has these pages, and no part of another
+abbrev pub IsWrittenTo : Output → Progress → Type 0
+IsWrittenTo (Images bytes) at = HasImages bytes.items at
+IsWrittenTo (File coding writer None) at = HasPages coding writer at
+IsWrittenTo (File coding writer (Some page)) at = ⊥
+IsWrittenTo TooLarge at = StaysTooLarge at
+
+-- the page's rows are written behind the images of the pages before it, and there is room for those that are left
+pub record HasImageRows (bytes : List ℕ) (part : Part) : Type 0 where
+  pub target : part.at.options.target ≡ Pbm
+  pub bytes_are : bytes
+      ≡ pbm_of (map (λ page. page.image) part.at.pages)
+      ++ (head_bytes part.sheet.width part.sheet.rows ++ flat_map packed_row part.rows)
+  pub left : ℕ
+  pub left_is : length part.rows + left ≡ part.sheet.rows
+  pub fits : length bytes + left * packed_len part.sheet.width ≤ 268435456
+
+-- the rows are put on a page of a TIFF file that has the pages before it
+abbrev pub HasRowsOnPage : Coding → Writing → Option OpenStrips → Part → Type 0
+HasRowsOnPage coding writer None part = ⊥
+HasRowsOnPage coding writer (Some page) part =
+    HasPages coding writer part.at × (length part.at.pages < part.at.total)
+    × HasPutRows (sheet_form part.at.options coding part.sheet) part.at.options.k part.rows page
+
+-- a page of this sheet makes the output too large, whatever rows it has and whatever follows it
+abbrev pub BecomesTooLarge : Part → Type 0
+BecomesTooLarge part =
+    (rows : List (List Colour)) → length rows ≡ part.sheet.rows → AreOfWidth part.sheet.width rows
+    → StaysTooLarge (with_page part.at (page_of part.sheet rows))
+
+abbrev pub HasPart : Output → Part → Type 0
+HasPart (Images bytes) part = HasImageRows bytes.items part
+HasPart (File coding writer page) part = HasRowsOnPage coding writer page part
+HasPart TooLarge part = BecomesTooLarge part
+
+-- an output has some pages, and of the next one these rows, as wide as its sheet
+pub record IsPartWritten (output : Output) (part : Part) : Type 0 where
+  pub widths : AreOfWidth part.sheet.width part.rows
+  pub has : HasPart output part
+
+-- an output before its first page
+abbrev pub IsBeginning : Options → ℕ → Output → Type 0
+IsBeginning options total output = IsWrittenTo output (nothing_written options total)
+
+-- a page is begun
+abbrev pub BeginsPage : Options → Output → Sheet → Output → Type 0
+BeginsPage options old sheet new =
+    (at : Progress) → at.options ≡ options → length at.pages < at.total → IsWrittenTo old at
+    → IsPartWritten new (no_rows at sheet)
+
+-- a row can be put: it is due, and it is as wide as the page
+pub record TakesRow (output : Output) (row : List Colour) : Type 0 where
+  pub part : Part
+  pub written : IsPartWritten output part
+  pub due : length part.rows < part.sheet.rows
+  pub width : length row ≡ part.sheet.width
+
+-- the row is put
+abbrev pub PutsRow : Output → List Colour → Output → Type 0
+PutsRow old row new =
+    (part : Part) → IsPartWritten old part → length part.rows < part.sheet.rows → length row ≡ part.sheet.width
+    → IsPartWritten new (with_row part row)
+
+-- all rows of the page were put
+pub record HasAllRows (output : Output) : Type 0 where
+  pub part : Part
+  pub written : IsPartWritten output part
+  pub all : length part.rows ≡ part.sheet.rows
+
+-- the page is ended
+abbrev pub EndsPage : Output → Output → Type 0
+EndsPage old new =
+    (part : Part) → IsPartWritten old part → length part.rows ≡ part.sheet.rows → IsWrittenTo new (behind part)
+
+-- all pages were written
+pub record HasAllPages (output : Output) : Type 0 where
+  pub at : Progress
+  pub written : IsWrittenTo output at
+  pub all : length at.pages ≡ at.total
+
+-- the bytes are those of all pages, and not too many
+pub record IsWhole (at : Progress) (bytes : List ℕ) : Type 0 where
+  pub bytes_are : bytes ≡ target_bytes at.options.target at.options at.pages
+  pub fits : IsTooLarge at.options.target at.pages bytes → ⊥
+
+abbrev pub FinishesAs : Output → Vec ℕ Global → Type 0
+FinishesAs output bytes =
+    (at : Progress) → IsWrittenTo output at → length at.pages ≡ at.total → IsWhole at bytes.items
+
+-- all pages are too large
+abbrev pub IsRefusedAs : Output → ConvertFault → Type 0
+IsRefusedAs output fault =
+    (fault ≡ OutputTooLarge)
+    × ((at : Progress) → IsWrittenTo output at → length at.pages ≡ at.total
+    → IsTooLarge at.options.target at.pages (target_bytes at.options.target at.options at.pages))

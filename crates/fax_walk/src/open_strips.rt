@@ -1,0 +1,62 @@
+//! The strips of a page that is being written.
+ghost use Rattle.std.specs.Prelude.{◌≡◌, ◌<◌, ◌++◌, [], ◌∷◌, List, length, OnOk};
+ghost use Rattle.fax_bits.specs.declared.Colour.{Colour};
+ghost use Rattle.fax_files.specs.Page.{IsPageForm};
+ghost use Rattle.fax_walk.specs.code.OpenStrips as Spec;
+
+use fax_bits::Memory;
+use fax_files::PageForm;
+use fax_page::StripWriter;
+use fax_rows::Row;
+use std::alloc::Global;
+
+/// A page of a TIFF file that is being written: the strips that are whole, and the one that is not.
+#[derive(Drop)]
+pub(crate) struct OpenStrips {
+    alloc: Global,
+    pub(crate) form: PageForm,
+    k: u32,
+    pub(crate) done: Vec<Vec<u8>>,
+    writer: Option<StripWriter>,
+    rows: u32,
+}
+
+impl OpenStrips {
+    /// Before the first row.
+    pub(crate) fn new(alloc: Global, form: PageForm, k: u32) -> Self
+        requires limits { IsPageForm form }
+        requires some_k { 0 < k }
+        ensures { Spec.HasPutRows form k [] result }
+    {
+        OpenStrips {
+            alloc,
+            form,
+            k,
+            done: Vec::new(alloc),
+            writer: None,
+            rows: 0,
+        }
+    }
+
+    /// Writes the next row, and its strip where that is whole then.
+    pub(crate) fn put_row(&mut self, row: &Row) -> Result<(), Memory>
+        requires { Spec.TakesRow self.old row.now }
+        ensures { OnOk result (Spec.PutsRow self.old row.now self.new) }
+    {
+        fax_page::laws::strips_are_written_row_by_row();
+        let strip = self.done.len() as u32;
+        let mut writer = match self.writer.take() {
+            Some(writer) => writer,
+            None => StripWriter::new(self.alloc, self.form.strip_form(strip), self.k)?,
+        };
+        writer.put_row(row)?;
+        self.rows += 1;
+        let end = ((strip + 1) * self.form.rows_per_strip).min(self.form.rows);
+        if self.rows == end {
+            self.done.push(writer.finish()?).map_err(|_| Memory)?;
+        } else {
+            self.writer = Some(writer);
+        }
+        Ok(())
+    }
+}

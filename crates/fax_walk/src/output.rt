@@ -1,0 +1,120 @@
+//! What a conversion writes, page by page.
+ghost use Rattle.std.specs.Prelude.{◌≡◌, ◌≤◌, OnOk, IfOk, IfErr};
+ghost use Rattle.fax_walk.specs.declared.options.Options.{Options as Choice};
+ghost use Rattle.fax_walk.specs.code.Output as Spec;
+
+use crate::open_strips::OpenStrips;
+use crate::options::{ConvertFault, Options};
+use crate::sheet::Sheet;
+use fax_bits::Memory;
+use fax_files::{Coding, TiffWriter, WriteFault, put_pbm_head, put_pbm_row};
+use fax_rows::Row;
+use std::alloc::Global;
+
+/// The most bytes of what is written.
+const MAX_OUTPUT: usize = 268_435_456;
+
+/// The most pages of a TIFF file.
+const MAX_PAGES: u64 = 65_535;
+
+/// What is written, page by page.
+#[derive(Drop)]
+pub(crate) enum Output {
+    /// Images.
+    Images(Vec<u8>),
+    /// A TIFF file, and the page of it that is being written, in this coding.
+    File(Coding, TiffWriter, Option<OpenStrips>),
+    /// It is too large, and its bytes were given back.
+    TooLarge,
+}
+
+impl Output {
+    /// The output of so many pages, before the first.
+    pub(crate) fn new(alloc: Global, options: &Options, pages: u64) -> Result<Self, Memory>
+        requires { 1 ≤ pages }
+        ensures { IfOk result (Spec.IsBeginning options.now pages) }
+    {
+        let Some(coding) = options.target.coding() else {
+            return Ok(Output::Images(Vec::new(alloc)));
+        };
+        if pages > MAX_PAGES {
+            return Ok(Output::TooLarge);
+        }
+        let writer = TiffWriter::new(alloc, pages as u16)?;
+        Ok(Output::File(coding, writer, None))
+    }
+
+    /// Begins a page.
+    pub(crate) fn begin(
+        &mut self,
+        alloc: Global,
+        options: &Options,
+        sheet: &Sheet,
+    ) -> Result<(), Memory>
+        requires { Spec.IsSheet sheet.now }
+        ensures { OnOk result (Spec.BeginsPage options.now self.old sheet.now self.new) }
+    {
+        match self {
+            Output::Images(bytes) => {
+                put_pbm_head(bytes, sheet.width, sheet.rows)?;
+                let raster = sheet.rows as usize * (sheet.width as usize).div_ceil(8);
+                if bytes.len() + raster > MAX_OUTPUT {
+                    *self = Output::TooLarge;
+                }
+            }
+            Output::File(coding, _, open) => {
+                let form = sheet.form(options, *coding);
+                *open = Some(OpenStrips::new(alloc, form, options.k));
+            }
+            Output::TooLarge => {}
+        }
+        Ok(())
+    }
+
+    /// Writes the next row of the page.
+    pub(crate) fn put_row(&mut self, row: &Row) -> Result<(), Memory>
+        requires { Spec.TakesRow self.old row.now }
+        ensures { OnOk result (Spec.PutsRow self.old row.now self.new) }
+    {
+        match self {
+            Output::Images(bytes) => put_pbm_row(bytes, row),
+            Output::File(_, _, Some(page)) => page.put_row(row),
+            Output::File(_, _, None) => Ok(()),
+            Output::TooLarge => Ok(()),
+        }
+    }
+
+    /// Ends the page, of which all rows were written.
+    pub(crate) fn end(&mut self) -> Result<(), Memory>
+        requires { Spec.HasAllRows self.old }
+        ensures { OnOk result (Spec.EndsPage self.old self.new) }
+    {
+        let Output::File(_, writer, open) = self else {
+            return Ok(());
+        };
+        let Some(page) = open.take() else {
+            return Ok(());
+        };
+        match writer.add_page(&page.form, &page.done) {
+            Ok(()) => Ok(()),
+            Err(WriteFault::Memory) => Err(Memory),
+            Err(WriteFault::OutputTooLarge) => {
+                *self = Output::TooLarge;
+                Ok(())
+            }
+        }
+    }
+
+    /// The bytes of all pages.
+    pub(crate) fn finish(self) -> Result<Vec<u8>, ConvertFault>
+        requires { Spec.HasAllPages self }
+        ensures ok { IfOk result (Spec.FinishesAs self) }
+        ensures err { IfErr result (Spec.IsRefusedAs self) }
+    {
+        match self {
+            Output::Images(bytes) => Ok(bytes),
+            Output::File(_, writer, _) => Ok(writer.finish()),
+            Output::TooLarge => Err(ConvertFault::OutputTooLarge),
+        }
+    }
+}
