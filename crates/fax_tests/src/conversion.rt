@@ -136,7 +136,7 @@ fn names_the_first_fault_of_a_file(rt: HostRuntime) {
     // Two pages, the second of which is cut within its directory: the rows of the first are read.
     let mmr = to(Target::Mmr, FillOrder::MsbFirst, 4, None);
     let mut file = convert(rt.alloc(), IMAGES, &mmr).expect(&rt, "a file");
-    file.truncate(file.len() - 30);
+    file.truncate(file.len().saturating_sub(30));
     let outside = Cause::File(FileFault::DirectoryOutside);
     assert_eq!(rt; fault_of(rt.alloc(), &file), at_row(1, 0, outside));
 }
@@ -173,7 +173,7 @@ fn refuses_more_pages_than_a_file_can_have(rt: HostRuntime) {
             fault: header
         })
     );
-    images.truncate(images.len() - 1);
+    images.truncate(images.len().saturating_sub(1));
     let pbm = to(Target::Pbm, FillOrder::MsbFirst, 4, None);
     let same = convert(rt.alloc(), &images, &pbm).expect(&rt, "images");
     assert_eq!(rt; same.as_slice(), images.as_slice());
