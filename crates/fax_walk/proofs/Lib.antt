@@ -28,3 +28,4 @@ pub mod ImageLemmas
 pub mod SourceLemmas
 pub mod RowLemmas
 pub mod FileLemmas
+pub mod WrittenLemmas

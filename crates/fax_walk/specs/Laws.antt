@@ -1,10 +1,15 @@
 -- Laws of items and tails, and of forms, which the functions of the module `laws` prove.
-use Rattle.std.specs.Prelude.{◌≡◌, ℕ, nat_le, Bool, ◌↔◌, List, [], ◌∷◌, ◌++◌}
-use Rattle.std.specs.List.{filter}
+use Rattle.std.specs.Prelude.{◌≡◌, ℕ, ◌+◌, ◌≤◌, nat_le, Bool, ◌↔◌, List, [], ◌∷◌, ◌++◌, length}
+use Rattle.std.specs.List.{filter, AllZip}
+use Rattle.fax_bits.specs.declared.Colour.{Colour}
+use Rattle.fax_files.specs.PageRows.{joined}
+use Rattle.fax_files.specs.Written.{WrittenPage, file_of}
+use Rattle.fax_files.specs.Laws.{AreRowsOf, AreWritable}
 use Rattle.fax_walk.specs.declared.cursor.Cursor.{Cursor}
 use Rattle.fax_walk.specs.declared.end.End.{End}
 use Rattle.fax_walk.specs.Cursor.{start}
-use Rattle.fax_walk.specs.Items.{Item, AreItems}
+use Rattle.fax_walk.specs.declared.end.End.TheVariants.{Proper}
+use Rattle.fax_walk.specs.Items.{Item, numbered, AreItems}
 use Rattle.fax_walk.specs.Tail.{behind_item, IsPrinted, IsRest, IsTail}
 use Rattle.fax_walk.specs.Before.{EndsBefore}
 use Rattle.fax_walk.specs.Forms.{FormItem, AreForms, IsFormTail, behind_page, IsPrintedPage}
@@ -75,3 +80,32 @@ abbrev pub FormTailOfPrinted : Type 0
 FormTailOfPrinted =
     (file : List ℕ) (at : Cursor) (forms : List FormItem) (end : End)
     → IsPrintedPage file at → IsFormTail file at forms end ↔ IsFormRest file at forms end
+
+-- the strips of a page hold these rows, each strip all of its own (TIFF 6.0, RowsPerStrip)
+abbrev pub HoldsRows : WrittenPage → List (List Colour) → Type 0
+HoldsRows written rows =
+    (lists : List (List (List Colour))) × AreRowsOf written.form 0 written.strips lists × (rows ≡ joined lists)
+
+-- the rows of pages as items, page by page from page p on (this project's profile)
+abbrev pub items_of : ℕ → List (List (List Colour)) → List Item
+items_of p [] = []
+items_of p (rows ∷ pages) = numbered p 0 rows ++ items_of (p + 1) pages
+
+-- the forms of pages, from page p on (this project's profile)
+abbrev pub forms_of : ℕ → List WrittenPage → List FormItem
+forms_of p [] = []
+forms_of p (written ∷ pages) = record { page = p; form = written.form } ∷ forms_of (p + 1) pages
+
+-- the items of a file are these rows, page by page, its forms those of these pages, and both end properly
+-- (this project's profile)
+pub record IsWalkedAs (file : List ℕ) (pages : List WrittenPage) (rows : List (List (List Colour))) : Type 0 where
+  pub items : AreItems file (items_of 0 rows) Proper
+  pub forms : AreForms file (forms_of 0 pages) Proper
+
+-- the file of some pages, at most 65,535, whose strips hold these rows, has these rows and forms where it has at most
+-- 268,435,456 bytes (this project's profile)
+abbrev pub WrittenFilesAreWalked : Type 0
+WrittenFilesAreWalked =
+    (pages : List WrittenPage) (rows : List (List (List Colour))) → 1 ≤ length pages → length pages ≤ 65535
+    → AreWritable pages → AllZip HoldsRows pages rows → length (file_of pages) ≤ 268435456
+    → IsWalkedAs (file_of pages) pages rows

@@ -90,6 +90,14 @@ pub fn form_tails_of_printed()
     cursors_have_one_form_tail();
 }
 
+/// A written file has the rows and the forms of its pages, in their order, and a proper end (TIFF 6.0).
+pub fn written_files_are_walked()
+    ensures { Laws.WrittenFilesAreWalked }
+{
+    fax_files::laws::written_files_are_read();
+    fax_files::laws::written_rows_are_read();
+}
+
 /// Each walk has rows that are due, and an end, also where it has handed out some.
 pub fn walks_have_items(walk: &Walk)
     ensures { (items : List Item) × (end : End) × IsDue walk.now items end }
