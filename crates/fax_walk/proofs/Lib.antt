@@ -29,3 +29,4 @@ pub mod SourceLemmas
 pub mod RowLemmas
 pub mod FileLemmas
 pub mod WrittenLemmas
+pub mod CodedLemmas

@@ -1,13 +1,12 @@
 -- A written file has the rows and the forms of its pages.
-use Rattle.std.proofs.Common.{◌≡◌, ℕ, ◌+◌, ◌/◌, ◌%◌, ◌<◌, ◌≤◌, inl, inr, List, [], ◌∷◌, ◌++◌, length, drop, Option, Some, None, Result, Ok, Err, refl, sym, ap, ◌∙◌, subst, arith}
+use Rattle.std.proofs.Common.{◌≡◌, ℕ, ◌+◌, ◌/◌, ◌%◌, ◌≤◌, inr, List, [], ◌∷◌, ◌++◌, drop, None, Result, refl, sym, ap, ◌∙◌, subst, arith}
 use Rattle.std.specs.List.{AllZip}
 use Rattle.fax_bits.specs.declared.Colour.{Colour}
-use Rattle.fax_files.specs.declared.Cause.{Cause}
 use Rattle.fax_files.specs.declared.FileFault.{FileFault}
 use Rattle.fax_files.specs.declared.PageForm.{PageForm}
 use Rattle.fax_files.specs.declared.Endian.{Endian}
 use Rattle.fax_files.specs.declared.Endian.TheVariants.{Little}
-use Rattle.fax_files.specs.Numbers.{Header, header}
+use Rattle.fax_files.specs.Numbers.{Header}
 use Rattle.fax_files.specs.Page.{page}
 use Rattle.fax_files.specs.PageRows.{AreStrips, ArePageRows, joined, shown}
 use Rattle.fax_files.specs.Written.{WrittenPage, file_of}
@@ -15,7 +14,7 @@ use Rattle.fax_files.specs.Laws.{IsWritable, AreWritable, IsReadAt, IsReadAs, Wr
 use Rattle.fax_walk.specs.declared.end.End.{End}
 use Rattle.fax_walk.specs.declared.end.End.TheVariants.{Proper}
 use Rattle.fax_walk.specs.Items.{Item, numbered, ArePageItems, AreFromRow, AreFromPage, ArePagesItems, AreItemsUnder, AreItems}
-use Rattle.fax_walk.specs.Forms.{FormItem, AreFormsFrom, ArePagesForms, AreFormsUnder, AreForms}
+use Rattle.fax_walk.specs.Forms.{AreFormsFrom, ArePagesForms, AreFormsUnder, AreForms}
 use Rattle.fax_walk.specs.Laws.{HoldsRows, items_of, forms_of, IsWalkedAs, WrittenFilesAreWalked}
 
 -- the items of a page from its first row on, where no strip has a fault

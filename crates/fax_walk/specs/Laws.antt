@@ -1,18 +1,24 @@
 -- Laws of items and tails, and of forms, which the functions of the module `laws` prove.
-use Rattle.std.specs.Prelude.{◌≡◌, ℕ, ◌+◌, ◌≤◌, nat_le, Bool, ◌↔◌, List, [], ◌∷◌, ◌++◌, length}
+use Rattle.std.specs.Prelude.{◌≡◌, ℕ, ◌+◌, ◌<◌, ◌≤◌, nat_le, Bool, ◌↔◌, List, [], ◌∷◌, ◌++◌, length, map, All}
 use Rattle.std.specs.List.{filter, AllZip}
+use Rattle.std.specs.Option.{ForSome}
 use Rattle.fax_bits.specs.declared.Colour.{Colour}
+use Rattle.fax_page.specs.declared.Coding.{Coding}
+use Rattle.fax_files.specs.Page.{IsGoodRational}
 use Rattle.fax_files.specs.PageRows.{joined}
+use Rattle.fax_files.specs.PbmLaws.{IsWritableImage}
 use Rattle.fax_files.specs.Written.{WrittenPage, file_of}
 use Rattle.fax_files.specs.Laws.{AreRowsOf, AreWritable}
 use Rattle.fax_walk.specs.declared.cursor.Cursor.{Cursor}
 use Rattle.fax_walk.specs.declared.end.End.{End}
 use Rattle.fax_walk.specs.Cursor.{start}
 use Rattle.fax_walk.specs.declared.end.End.TheVariants.{Proper}
+use Rattle.fax_walk.specs.declared.options.Options.{Options}
 use Rattle.fax_walk.specs.Items.{Item, numbered, AreItems}
 use Rattle.fax_walk.specs.Tail.{behind_item, IsPrinted, IsRest, IsTail}
 use Rattle.fax_walk.specs.Before.{EndsBefore}
 use Rattle.fax_walk.specs.Forms.{FormItem, AreForms, IsFormTail, behind_page, IsPrintedPage}
+use Rattle.fax_walk.specs.Converted.{SourcePage, written_page}
 
 -- there is one list of which this holds, with one end (this project's profile)
 pub record IsOne {A : Type 0} (holds : List A → End → Type 0) : Type 0 where
@@ -109,3 +115,25 @@ WrittenFilesAreWalked =
     (pages : List WrittenPage) (rows : List (List (List Colour))) → 1 ≤ length pages → length pages ≤ 65535
     → AreWritable pages → AllZip HoldsRows pages rows → length (file_of pages) ≤ 268435456
     → IsWalkedAs (file_of pages) pages rows
+
+-- a page that can be written: its image and its resolution are within the limits (this project's profile)
+pub record IsWritableSource (source : SourcePage) : Type 0 where
+  pub image : IsWritableImage source.image
+  pub x : IsGoodRational source.resolution.x
+  pub y : IsGoodRational source.resolution.y
+  pub some_unit : 1 ≤ source.resolution.unit
+  pub unit : source.resolution.unit ≤ 3
+
+-- the pages as they are written in this coding (TIFF 6.0; RFC 2306)
+abbrev pub written_pages : Options → Coding → List SourcePage → List WrittenPage
+written_pages options coding pages = map (written_page options coding) pages
+
+-- the file of some pages, at most 65,535, written in any coding with any strip height and k, has their rows and forms
+-- where it has at most 268,435,456 bytes (this project's profile)
+abbrev pub CodedFilesAreWalked : Type 0
+CodedFilesAreWalked =
+    (options : Options) (coding : Coding) (pages : List SourcePage) → ForSome options.strip (λ rows. 0 < rows)
+    → 1 ≤ length pages → length pages ≤ 65535 → All IsWritableSource pages
+    → length (file_of (written_pages options coding pages)) ≤ 268435456
+    → IsWalkedAs (file_of (written_pages options coding pages)) (written_pages options coding pages)
+    (map (λ source. source.image.rows) pages)

@@ -98,6 +98,15 @@ pub fn written_files_are_walked()
     fax_files::laws::written_rows_are_read();
 }
 
+/// A file of coded strips has the rows and the forms of the pages that it was written of, in any
+/// coding and either fill order, for any k and strip height (TIFF 6.0).
+pub fn coded_files_are_walked()
+    ensures { Laws.CodedFilesAreWalked }
+{
+    fax_page::laws::coded_strips_are_read_back();
+    written_files_are_walked();
+}
+
 /// Each walk has rows that are due, and an end, also where it has handed out some.
 pub fn walks_have_items(walk: &Walk)
     ensures { (items : List Item) × (end : End) × IsDue walk.now items end }
