@@ -1,4 +1,4 @@
--- Laws of items and tails, and of forms, which the functions of the module `laws` prove.
+-- Laws of items and tails, of forms, and of written files, which the functions of the module `laws` prove.
 use Rattle.std.specs.Prelude.{◌≡◌, ℕ, ◌+◌, ◌<◌, ◌≤◌, nat_le, Bool, ◌↔◌, List, [], ◌∷◌, ◌++◌, length, map, All}
 use Rattle.std.specs.List.{filter, AllZip}
 use Rattle.std.specs.Option.{ForSome}

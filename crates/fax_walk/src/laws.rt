@@ -90,7 +90,8 @@ pub fn form_tails_of_printed()
     cursors_have_one_form_tail();
 }
 
-/// A written file has the rows and the forms of its pages, in their order, and a proper end (TIFF 6.0).
+/// A written file has the rows and the forms of its pages, in their order, and a proper end
+/// (TIFF 6.0).
 pub fn written_files_are_walked()
     ensures { Laws.WrittenFilesAreWalked }
 {
