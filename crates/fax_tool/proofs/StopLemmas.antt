@@ -1,6 +1,6 @@
 -- What printing has written where memory or a write was refused.
-use Rattle.std.proofs.Common.{◌≡◌, ℕ, ◌+◌, ◌<◌, ◌≤◌, List, [], ◌∷◌, ◌++◌, length, inl, inr, refl, ap, sym, ◌∙◌, append_assoc, append-nil, arith}
-use Rattle.std.specs.Prelude.{Option, Some, None, IfSome, Result, Ok, Err, IfErr, codes}
+use Rattle.std.proofs.Common.{◌≡◌, ℕ, ◌<◌, ◌≤◌, List, [], ◌++◌, length, inl, inr, refl, ap, sym, ◌∙◌, append_assoc, append-nil, arith}
+use Rattle.std.specs.Prelude.{Option, Some, None, IfSome, codes}
 use Rattle.std.specs.Io.KnownBytes.{Appends}
 use Rattle.std.proofs.KnownBytes.{Appends-trans}
 use Rattle.fax_walk.specs.declared.cursor.Cursor.{Cursor}
@@ -9,9 +9,9 @@ use Rattle.fax_walk.specs.declared.end.End.TheVariants.{Proper, Fault, Outside}
 use Rattle.fax_tool.specs.declared.refusal.Refusal.{Refusal}
 use Rattle.fax_tool.specs.declared.refusal.Refusal.TheVariants.{Memory, Read, Write}
 use Rattle.fax_tool.specs.Streams.{Counts}
-use Rattle.fax_tool.specs.Text.{Line, Printed, texts_of, last_cursor, next_line, text_of}
-use Rattle.fax_tool.specs.Run.{HasFailed, IsTextOfFirst, IsTextOfLines}
-use Rattle.fax_tool.specs.code.Printing.{PrintsLines, StopsForMemory, StopsPrinting, WritesFrontOfLines, last_line}
+use Rattle.fax_tool.specs.Text.{Line, Printed, texts_of, next_line, text_of}
+use Rattle.fax_tool.specs.Run.{IsTextOfFirst}
+use Rattle.fax_tool.specs.code.Printing.{PrintsLines, StopsForMemory, StopsPrinting, last_line}
 use Rattle.fax_tool.specs.code.Transfers.{IsGivenInPart, WritesFront}
 use Rattle.fax_tool.proofs.PrintLemmas.{IsLeftOf, PrintsSome}
 use Rattle.fax_tool.proofs.TextLemmas.{whole}
@@ -61,10 +61,13 @@ pub stopped_for_write : (old now : List Line → End → Type 0) (at place : Cur
     → PrintsSome old now at place max left output written text → ((lines : List Line) × (end : End) × now lines end)
     → IsGivenInPart written new_written text counts refusal → StopsPrinting old at max refusal output new_written counts
 stopped_for_write old now at place max left output written new_written text counts refusal some others given = rw given.write (
-  given.failed, (some.sent ++ (text ++ next_line place),
-  inr (first_lines old now at place max left output written text some others),
-  behind output written new_written some.sent (text ++ next_line place) some.printed
-  (longer written new_written text (next_line place) given.front))
+  given.failed,
+  (
+    some.sent ++ (text ++ next_line place),
+    inr (first_lines old now at place max left output written text some others),
+    behind output written new_written some.sent (text ++ next_line place) some.printed
+        (longer written new_written text (next_line place) given.front),
+  ),
 )
 
 -- memory was refused, and the lines so far and where to go on were written
@@ -80,9 +83,12 @@ stopped_for_memory old now at place max left output written new_written text cou
 )
 stopped_for_memory old now at place max left output written new_written text counts Read some others stops = absurd stops
 stopped_for_memory old now at place max left output written new_written text counts Write some others stops = (
-  stops.failed, (some.sent ++ (text ++ next_line place),
-  inr (first_lines old now at place max left output written text some others),
-  behind output written new_written some.sent (text ++ next_line place) some.printed stops.front)
+  stops.failed,
+  (
+    some.sent ++ (text ++ next_line place),
+    inr (first_lines old now at place max left output written text some others),
+    behind output written new_written some.sent (text ++ next_line place) some.printed stops.front,
+  ),
 )
 
 -- the same, with the text and the line that says where to go on at hand
@@ -121,9 +127,12 @@ pub stopped_at_last_line : (due : List Line → End → Type 0) (at place cursor
     → IsGivenInPart written new_written (last_line ending cursor) counts refusal
     → StopsPrinting due at max refusal output new_written counts
 stopped_at_last_line due at place cursor max None output written new_written counts refusal prints same given = rw given.write (
-  given.failed, (texts_of prints.lines ++ next_line place,
-  inr (all_lines due at place max None output written prints (at_most max (length prints.lines) prints.ends)),
-  behind output written new_written (texts_of prints.lines) (next_line place) prints.printed (rw same at given.front))
+  given.failed,
+  (
+    texts_of prints.lines ++ next_line place,
+    inr (all_lines due at place max None output written prints (at_most max (length prints.lines) prints.ends)),
+    behind output written new_written (texts_of prints.lines) (next_line place) prints.printed (rw same at given.front),
+  ),
 )
 stopped_at_last_line due at place cursor max (Some Proper) output written new_written counts refusal prints same given =
     let end_is : prints.end ≡ Proper = prints.ends.0 in
@@ -131,20 +140,29 @@ stopped_at_last_line due at place cursor max (Some Proper) output written new_wr
     let all : prints.lines ++ prints.others ≡ prints.lines = rw none (append-nil prints.lines) in
     let text = whole prints.lines Proper at max prints.ends.2 in
     rw given.write (
-      given.failed, (texts_of prints.lines ++ codes "end\n",
-      inl (text_of prints.lines Proper at max, (prints.lines, Proper, (rw (all, end_is) at prints.due), refl), ap (λ (p : Printed). p.output) (sym text)),
-      behind output written new_written (texts_of prints.lines) (codes "end\n") prints.printed given.front)
-)
+      given.failed,
+      (
+        texts_of prints.lines ++ codes "end\n",
+        inl (text_of prints.lines Proper at max, (prints.lines, Proper, (rw (all, end_is) at prints.due), refl), ap (λ (p : Printed). p.output) (sym text)),
+        behind output written new_written (texts_of prints.lines) (codes "end\n") prints.printed given.front,
+      ),
+    )
 stopped_at_last_line due at place cursor max (Some (Fault page row cause)) output written new_written counts refusal prints same given =
     rw given.write (
-      given.failed, (texts_of prints.lines ++ next_line place,
-      inr (all_lines due at place max (Some (Fault page row cause)) output written prints (below max (length prints.lines) prints.ends.2)),
-      behind output written new_written (texts_of prints.lines) (next_line place) prints.printed (rw same at given.front))
-)
+      given.failed,
+      (
+        texts_of prints.lines ++ next_line place,
+        inr (all_lines due at place max (Some (Fault page row cause)) output written prints (below max (length prints.lines) prints.ends.2)),
+        behind output written new_written (texts_of prints.lines) (next_line place) prints.printed (rw same at given.front),
+      ),
+    )
 stopped_at_last_line due at place cursor max (Some Outside) output written new_written counts refusal prints same given =
     rw given.write (
-      given.failed, (texts_of prints.lines ++ next_line place,
-      inr (all_lines due at place max (Some Outside) output written prints (below max (length prints.lines) prints.ends.2)),
-      behind output written new_written (texts_of prints.lines) (next_line place) prints.printed
-      (longer written new_written [] (next_line place) given.front))
-)
+      given.failed,
+      (
+        texts_of prints.lines ++ next_line place,
+        inr (all_lines due at place max (Some Outside) output written prints (below max (length prints.lines) prints.ends.2)),
+        behind output written new_written (texts_of prints.lines) (next_line place) prints.printed
+            (longer written new_written [] (next_line place) given.front),
+      ),
+    )

@@ -1,6 +1,6 @@
 -- What the commands that write a whole text leave on the output.
-use Rattle.std.proofs.Common.{◌≡◌, ◌≢◌, ℕ, List, [], ◌++◌, inl, inr, refl, sym, ◌∙◌}
-use Rattle.std.specs.Prelude.{Option, Some, None, IfSome, IfErr, Result, Ok, Err}
+use Rattle.std.proofs.Common.{◌≡◌, ◌≢◌, ℕ, List, [], inl, inr, refl, sym, ◌∙◌}
+use Rattle.std.specs.Prelude.{Option, Some, None, IfSome}
 use Rattle.std.specs.Io.KnownBytes.{Appends}
 use Rattle.std.proofs.KnownBytes.{Appends-nil}
 use Rattle.fax_files.specs.declared.Cause.{Cause}

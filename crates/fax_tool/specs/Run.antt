@@ -15,7 +15,6 @@ use Rattle.fax_tool.specs.declared.refusal.Refusal.{Refusal}
 use Rattle.fax_tool.specs.declared.refusal.Refusal.TheVariants.{Memory, Read, Write}
 use Rattle.fax_tool.specs.declared.words.Command.{Command}
 use Rattle.fax_tool.specs.declared.words.Command.TheVariants.{List as Forms, Rows, Convert, Check}
-use Rattle.fax_tool.specs.declared.words.Part.{Part}
 use Rattle.fax_tool.specs.Streams.{Counts}
 use Rattle.fax_tool.specs.Text.{Line, Printed, texts_of, last_cursor, next_line, text_of, line_of_row, line_of_page, convert_fault_line}
 use Rattle.fax_tool.specs.ReportText.{report_text}

@@ -20,8 +20,7 @@ mod tests;
 mod transfer;
 mod words;
 
-pub use fax_bits::Memory;
-pub use fax_bits::FillOrder;
+pub use fax_bits::{FillOrder, Memory};
 pub use fax_walk::{Cause, Cursor, End, FileFault, NotACursor, Options, StripFault, Target};
 pub use refusal::Refusal;
 pub use run::run;

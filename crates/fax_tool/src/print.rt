@@ -189,7 +189,11 @@ fn give_last_line<W: Sink>(
     match ending {
         Some(End::Proper) => give_all(out, interruptions, b"end\n"),
         Some(End::Outside) => Ok(()),
-        Some(End::Fault { .. }) | None => give_all(out, interruptions, next_line(cursor).as_bytes()),
+        Some(End::Fault { .. }) | None => give_all(
+            out,
+            interruptions,
+            next_line(cursor).as_bytes(),
+        ),
     }
 }
 

@@ -96,7 +96,11 @@ pub fn read_whole<R: Source>(alloc: Global, input: &mut R) -> Result<Vec<u8>, Re
 ///
 /// `Write` where a write failed or 1,024 on this sink were interrupted; a front of the bytes was
 /// then written.
-pub fn give_all<W: Sink>(out: &mut W, interruptions: &mut Interruptions, bytes: &[u8]) -> Result<(), Refusal>
+pub fn give_all<W: Sink>(
+    out: &mut W,
+    interruptions: &mut Interruptions,
+    bytes: &[u8],
+) -> Result<(), Refusal>
     requires counts { W.counts out.old ≡ counted interruptions.old }
     ensures ok { OnOk result (Appends (W.written out.old) (W.written out.new) bytes.now) }
     ensures counts { OnOk result (W.counts out.new ≡ counted interruptions.new) }

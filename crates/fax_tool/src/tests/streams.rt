@@ -97,7 +97,13 @@ struct Left {
 }
 
 /// Runs a command over scripted streams.
-fn run_over(alloc: Global, command: Command, input: Scripted, out: Scripted, err: Scripted) -> Left {
+fn run_over(
+    alloc: Global,
+    command: Command,
+    input: Scripted,
+    out: Scripted,
+    err: Scripted,
+) -> Left {
     let mut input = FromRead::new(input);
     let mut out = ToWrite::new(out);
     let mut err = ToWrite::new(err);
@@ -131,7 +137,13 @@ fn moves_all_in_small_steps(rt: HostRuntime) -> Result<(), Fail> {
         input.at_a_time = step;
         let mut out = roomy(rt.alloc());
         out.at_a_time = step;
-        let left = run_over(rt.alloc(), Command::Rows(WHOLE), input, out, roomy(rt.alloc()));
+        let left = run_over(
+            rt.alloc(),
+            Command::Rows(WHOLE),
+            input,
+            out,
+            roomy(rt.alloc()),
+        );
         assert_eq!(rt; left.output.as_slice(), ROWS, "steps of {step}");
         assert!(rt; left.error.is_empty(), "steps of {step}");
         assert_eq!(rt; left.status, 0, "steps of {step}");
@@ -145,11 +157,25 @@ fn calls_again_up_to_1023_times(rt: HostRuntime) -> Result<(), Fail> {
         let mut input = Scripted::new(rt.alloc(), &ONE_MH_PAGE);
         input.interruptions = interruptions;
         input.at_a_time = 1;
-        let left = run_over(rt.alloc(), Command::Rows(WHOLE), input, roomy(rt.alloc()), roomy(rt.alloc()));
+        let left = run_over(
+            rt.alloc(),
+            Command::Rows(WHOLE),
+            input,
+            roomy(rt.alloc()),
+            roomy(rt.alloc()),
+        );
         assert_eq!(rt; left.status, status, "{interruptions} reads");
-        assert_eq!(rt; left.output.as_slice() == ROWS, status == 0, "{interruptions} reads");
+        assert_eq!(rt;
+            left.output.as_slice() == ROWS,
+            status == 0,
+            "{interruptions} reads"
+        );
         let read = b"fault: Read\n".as_slice();
-        assert_eq!(rt; left.error.as_slice() == read, status == 3, "{interruptions} reads");
+        assert_eq!(rt;
+            left.error.as_slice() == read,
+            status == 3,
+            "{interruptions} reads"
+        );
     }
     Ok(())
 }
@@ -160,11 +186,25 @@ fn writes_again_up_to_1023_times(rt: HostRuntime) -> Result<(), Fail> {
         let mut out = roomy(rt.alloc());
         out.interruptions = interruptions;
         let input = Scripted::new(rt.alloc(), &ONE_MH_PAGE);
-        let left = run_over(rt.alloc(), Command::Rows(WHOLE), input, out, roomy(rt.alloc()));
+        let left = run_over(
+            rt.alloc(),
+            Command::Rows(WHOLE),
+            input,
+            out,
+            roomy(rt.alloc()),
+        );
         assert_eq!(rt; left.status, status, "{interruptions} writes");
-        assert_eq!(rt; left.output.as_slice() == ROWS, status == 0, "{interruptions} writes");
+        assert_eq!(rt;
+            left.output.as_slice() == ROWS,
+            status == 0,
+            "{interruptions} writes"
+        );
         let write = b"fault: Write\n".as_slice();
-        assert_eq!(rt; left.error.as_slice() == write, status == 3, "{interruptions} writes");
+        assert_eq!(rt;
+            left.error.as_slice() == write,
+            status == 3,
+            "{interruptions} writes"
+        );
     }
     Ok(())
 }
@@ -176,9 +216,19 @@ fn says_read_where_a_read_fails(rt: HostRuntime) -> Result<(), Fail> {
             let mut input = Scripted::new(rt.alloc(), &ONE_MH_PAGE[..len]);
             input.at_a_time = 4;
             input.fails = true;
-            let left = run_over(rt.alloc(), command, input, roomy(rt.alloc()), roomy(rt.alloc()));
+            let left = run_over(
+                rt.alloc(),
+                command,
+                input,
+                roomy(rt.alloc()),
+                roomy(rt.alloc()),
+            );
             assert!(rt; left.output.is_empty(), "a read fails behind {len}");
-            assert_eq!(rt; left.error.as_slice(), b"fault: Read\n".as_slice(), "a read fails behind {len}");
+            assert_eq!(rt;
+                left.error.as_slice(),
+                b"fault: Read\n".as_slice(),
+                "a read fails behind {len}"
+            );
             assert_eq!(rt; left.status, 3, "a read fails behind {len}");
         }
     }
@@ -189,7 +239,13 @@ fn says_read_where_a_read_fails(rt: HostRuntime) -> Result<(), Fail> {
 fn says_write_where_a_write_fails(rt: HostRuntime) -> Result<(), Fail> {
     for command in commands() {
         let input = Scripted::new(rt.alloc(), &ONE_MH_PAGE);
-        let whole = run_over(rt.alloc(), command, input, roomy(rt.alloc()), roomy(rt.alloc()));
+        let whole = run_over(
+            rt.alloc(),
+            command,
+            input,
+            roomy(rt.alloc()),
+            roomy(rt.alloc()),
+        );
         for room in 0..whole.output.len() {
             for fails in [true, false] {
                 let input = Scripted::new(rt.alloc(), &ONE_MH_PAGE);
@@ -198,8 +254,15 @@ fn says_write_where_a_write_fails(rt: HostRuntime) -> Result<(), Fail> {
                 out.fails = fails;
                 let left = run_over(rt.alloc(), command, input, out, roomy(rt.alloc()));
                 assert_eq!(rt; left.output.len(), room);
-                assert!(rt; whole.output.starts_with(&left.output), "a write fails behind {room}");
-                assert_eq!(rt; left.error.as_slice(), b"fault: Write\n".as_slice(), "a write fails behind {room}");
+                assert!(rt;
+                    whole.output.starts_with(&left.output),
+                    "a write fails behind {room}"
+                );
+                assert_eq!(rt;
+                    left.error.as_slice(),
+                    b"fault: Write\n".as_slice(),
+                    "a write fails behind {room}"
+                );
                 assert_eq!(rt; left.status, 3, "a write fails behind {room}");
             }
         }
@@ -212,7 +275,13 @@ fn says_write_in_place_of_a_fault_of_the_input(rt: HostRuntime) -> Result<(), Fa
     let input = Scripted::new(rt.alloc(), &ONE_MH_PAGE[..100]);
     let mut out = roomy(rt.alloc());
     out.room = 0;
-    let left = run_over(rt.alloc(), Command::Rows(WHOLE), input, out, roomy(rt.alloc()));
+    let left = run_over(
+        rt.alloc(),
+        Command::Rows(WHOLE),
+        input,
+        out,
+        roomy(rt.alloc()),
+    );
     assert!(rt; left.output.is_empty());
     assert_eq!(rt; left.error.as_slice(), b"fault: Write\n".as_slice());
     assert_eq!(rt; left.status, 3);
@@ -224,7 +293,13 @@ fn answers_3_where_the_error_stream_fails(rt: HostRuntime) -> Result<(), Fail> {
     for command in commands() {
         let cut = &ONE_MH_PAGE[..100];
         let input = Scripted::new(rt.alloc(), cut);
-        let whole = run_over(rt.alloc(), command, input, roomy(rt.alloc()), roomy(rt.alloc()));
+        let whole = run_over(
+            rt.alloc(),
+            command,
+            input,
+            roomy(rt.alloc()),
+            roomy(rt.alloc()),
+        );
         assert_eq!(rt; whole.status, 1);
         let input = Scripted::new(rt.alloc(), cut);
         let mut err = roomy(rt.alloc());
@@ -253,8 +328,20 @@ fn says_read_where_the_input_is_too_long(rt: HostRuntime) -> Result<(), Fail> {
     let mut input = FromRead::new(Endless);
     let mut out = ToWrite::new(roomy(rt.alloc()));
     let mut err = ToWrite::new(roomy(rt.alloc()));
-    assert_eq!(rt; run(rt.alloc(), &job(Command::Rows(WHOLE)), &mut input, &mut out, &mut err), 3);
+    assert_eq!(rt;
+        run(
+            rt.alloc(),
+            &job(Command::Rows(WHOLE)),
+            &mut input,
+            &mut out,
+            &mut err
+        ),
+        3
+    );
     assert!(rt; out.into_inner().taken.is_empty());
-    assert_eq!(rt; err.into_inner().taken.as_slice(), b"fault: Read\n".as_slice());
+    assert_eq!(rt;
+        err.into_inner().taken.as_slice(),
+        b"fault: Read\n".as_slice()
+    );
     Ok(())
 }

@@ -144,13 +144,25 @@ fn reads_options(rt: HostRuntime) -> Result<(), Fail> {
         Command::Convert(usual)
     );
     let all = [
-        "faxpages", "convert", "-o", "mmr", "--order", "2", "--k", "1000000", "--strip=1", "a.tif",
+        "faxpages",
+        "convert",
+        "-o",
+        "mmr",
+        "--order",
+        "2",
+        "--k",
+        "1000000",
+        "--strip=1",
+        "a.tif",
     ];
     let job = parse_words(rt.alloc(), &all)?;
     let given = options(FillOrder::LsbFirst, 1_000_000, Some(1));
     assert_eq!(rt; job.command, Command::Convert(given));
     assert_eq!(rt; job.file.as_ref().map(|name| name.as_str()), Some("a.tif"));
-    let to_pbm = parse_words(rt.alloc(), &["faxpages", "convert", "-o", "pbm", "--order", "1"])?;
+    let to_pbm = parse_words(
+        rt.alloc(),
+        &["faxpages", "convert", "-o", "pbm", "--order", "1"],
+    )?;
     assert_eq!(rt; to_pbm.command, Command::Convert(TO_PBM));
     let check = parse_words(rt.alloc(), &["faxpages", "check", "a.tif"])?;
     assert_eq!(rt; check.command, Command::Check);

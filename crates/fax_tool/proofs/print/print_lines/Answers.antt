@@ -1,7 +1,7 @@
-use Rattle.std.proofs.Common.{refl, sym, ◌∙◌, rules}
+use Rattle.std.proofs.Common.{◌∙◌, rules}
 use Rattle.std.specs.String.{string_bytes}
 use Rattle.std.proofs.lemmas.Result.{err_from_is_err_and}
-use Rattle.fax_tool.proofs.PrintLemmas.{none_printed, one_more, part_sent, ended_at_end, ended_at_limit}
+use Rattle.fax_tool.proofs.PrintLemmas.{none_printed, one_more, part_sent, ended_at_end}
 use Rattle.fax_tool.proofs.StopLemmas.{stopped_behind, stopped_for_write}
 use Rattle.fax_tool.proofs.print.print_lines.Goals as goal
 
