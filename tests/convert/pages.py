@@ -64,9 +64,9 @@ def converted(program, words, data):
     return ran.stdout if (ran.returncode, ran.stderr) == (0, b"") else (ran.returncode, ran.stderr)
 
 
-def checked(program, data):
-    """The report of `check`; a fault is told in its place."""
-    ran = subprocess.run([program, "check"], input=data, capture_output=True, timeout=60)
+def told(program, command, data):
+    """What `check` or `list` prints; a fault is told in its place."""
+    ran = subprocess.run([program, command], input=data, capture_output=True, timeout=60)
     return ran.stdout.decode() if (ran.returncode, ran.stderr) == (0, b"") else (ran.returncode, ran.stderr)
 
 
