@@ -18,6 +18,32 @@ FILES = {
 
 # How many runs of each part end so, at the least; as many as did when this was written.
 ENDS = {
+    "check": {
+        "DataAfterEnd": 8_802,
+        "NotT4Choice": 8_699,
+        "EntriesOutOfOrder": 7_687,
+        "proper": 6_799,
+        "NoEndOfBlock": 5_616,
+        "ReturnToControl": 2_829,
+        "DirectoryOutside": 1_942,
+        "DataEnds": 1_733,
+        "RunTooLong": 1_477,
+        "MissingEol": 1_180,
+        "ShortHeader": 798,
+        "BadCode": 786,
+        "BadField": 778,
+        "StripOutside": 764,
+        "Unsupported": 554,
+        "EndMarker": 446,
+        "MissingField": 441,
+        "DirectoryLoop": 416,
+        "OutOfRow": 395,
+        "ByteOrder": 372,
+        "Magic": 352,
+        "NoDirectory": 325,
+        "Extension": 277,
+        "OutOfLimits": 165,
+    },
     "rows": {
         "proper": 6_799,
         "DirectoryOutside": 1_942,

@@ -28,3 +28,5 @@ pub mod ImageLemmas
 pub mod SourceLemmas
 pub mod RowLemmas
 pub mod FileLemmas
+pub mod WrittenLemmas
+pub mod CodedLemmas

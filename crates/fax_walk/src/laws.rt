@@ -90,6 +90,24 @@ pub fn form_tails_of_printed()
     cursors_have_one_form_tail();
 }
 
+/// A written file has the rows and the forms of its pages, in their order, and a proper end
+/// (TIFF 6.0).
+pub fn written_files_are_walked()
+    ensures { Laws.WrittenFilesAreWalked }
+{
+    fax_files::laws::written_files_are_read();
+    fax_files::laws::written_rows_are_read();
+}
+
+/// A file of coded strips has the rows and the forms of the pages that it was written of, in any
+/// coding and either fill order, for any k and strip height (TIFF 6.0).
+pub fn coded_files_are_walked()
+    ensures { Laws.CodedFilesAreWalked }
+{
+    fax_page::laws::coded_strips_are_read_back();
+    written_files_are_walked();
+}
+
 /// Each walk has rows that are due, and an end, also where it has handed out some.
 pub fn walks_have_items(walk: &Walk)
     ensures { (items : List Item) × (end : End) × IsDue walk.now items end }

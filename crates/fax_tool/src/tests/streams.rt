@@ -58,11 +58,12 @@ impl<'a> Scripted<'a> {
 
 impl io::Read for Scripted<'_> {
     fn read(&mut self, buf: &mut [u8]) -> io::Result<usize> {
-        let count = self.moves(self.left.len().min(buf.len()))?;
+        let left = self.left;
+        let count = self.moves(left.len().min(buf.len()))?;
         for i in 0..count {
-            buf[i] = self.left[i];
+            buf[i] = left[i];
         }
-        self.left = &self.left[count..];
+        self.left = &left[count..];
         Ok(count)
     }
 }

@@ -1,5 +1,8 @@
 //! Command lines, and what the program says of those it refuses.
 
+ghost use Rattle.std.specs.Prelude.{◌<◌};
+ghost use Rattle.std.specs.Option.{ForSome};
+
 use super::caller::{TO_PBM, WHOLE};
 use crate::{Command, Cursor, FillOrder, Options, Part, Target, WordsFault, parse_words};
 use std::test::Fail;
@@ -120,38 +123,35 @@ fn reads_parts(rt: HostRuntime) -> Result<(), Fail> {
     Ok(())
 }
 
+/// The options of `convert` into MMR, with these numbers.
+fn options(order: FillOrder, k: u32, strip: Option<u32>) -> Options
+    requires k { 0 < k }
+    requires strip { ForSome strip (λ rows. 0 < rows) }
+{
+    Options {
+        target: Target::Mmr,
+        order,
+        k,
+        strip,
+    }
+}
+
 #[test]
 fn reads_options(rt: HostRuntime) -> Result<(), Fail> {
-    let whole = Options {
-        target: Target::Mmr,
-        ..TO_PBM
-    };
+    let usual = options(FillOrder::MsbFirst, 4, None);
     assert_eq!(rt;
         parse_words(rt.alloc(), &["faxpages", "convert", "-o", "mmr"])?.command,
-        Command::Convert(whole)
+        Command::Convert(usual)
     );
     let all = [
-        "faxpages", "convert", "-o", "mr", "--order", "2", "--k", "1000000", "--strip=1", "a.tif",
+        "faxpages", "convert", "-o", "mmr", "--order", "2", "--k", "1000000", "--strip=1", "a.tif",
     ];
-    let options = Options {
-        target: Target::Mr,
-        order: FillOrder::LsbFirst,
-        k: 1_000_000,
-        strip: Some(1),
-    };
     let job = parse_words(rt.alloc(), &all)?;
-    assert_eq!(rt; job.command, Command::Convert(options));
+    let given = options(FillOrder::LsbFirst, 1_000_000, Some(1));
+    assert_eq!(rt; job.command, Command::Convert(given));
     assert_eq!(rt; job.file.as_ref().map(|name| name.as_str()), Some("a.tif"));
-    let unused = ["faxpages", "convert", "-o", "pbm", "--k", "1", "--strip", "1000000"];
-    let first = Options {
-        k: 1,
-        strip: Some(1_000_000),
-        ..TO_PBM
-    };
-    assert_eq!(rt;
-        parse_words(rt.alloc(), &unused)?.command,
-        Command::Convert(first)
-    );
+    let to_pbm = parse_words(rt.alloc(), &["faxpages", "convert", "-o", "pbm", "--order", "1"])?;
+    assert_eq!(rt; to_pbm.command, Command::Convert(TO_PBM));
     let check = parse_words(rt.alloc(), &["faxpages", "check", "a.tif"])?;
     assert_eq!(rt; check.command, Command::Check);
     Ok(())

@@ -1,0 +1,146 @@
+-- A file of coded strips has the rows and the forms of the pages that it was written of.
+use Rattle.std.proofs.Common.{◌≡◌, ℕ, zero, suc, ◌+◌, ◌-◌, ◌*◌, ◌<◌, ◌≤◌, min, List, [], ◌∷◌, ◌++◌, length, map, take, drop, Option, Some, None, refl, sym, ap, ◌∙◌, arith, length-take, length-drop}
+use Rattle.std.specs.Prelude.{All, unwrap_or, IsTrue}
+use Rattle.std.specs.List.{AllZip}
+use Rattle.std.specs.Option.{ForSome}
+use Rattle.std.proofs.lemmas.Bool.Decides.{nat_tests}
+use Rattle.std.proofs.lemmas.Grind.{div_ceil_times}
+use Rattle.std.proofs.lemmas.List.{take-append-drop, length-map}
+use Rattle.std.proofs.lemmas.List.Elements.{All-take, All-drop, All-nil, All-cons, All-head, All-tail}
+use Rattle.std.proofs.Math.Nat.{mul-le-mul_left}
+use Rattle.fax_bits.specs.declared.Colour.{Colour}
+use Rattle.fax_page.specs.declared.Coding.{Coding}
+use Rattle.fax_page.specs.CodedStrip.{AreRowsOf as HasShape}
+use Rattle.fax_page.specs.Laws.{CodedStripsAreRead}
+use Rattle.fax_files.specs.declared.PageForm.{PageForm}
+use Rattle.fax_files.specs.Page.{IsPageForm}
+use Rattle.fax_files.specs.PageRows.{strip_form, joined}
+use Rattle.fax_files.specs.Pbm.{is_within_limits}
+use Rattle.fax_files.specs.PbmLaws.{AreOfWidth}
+use Rattle.fax_files.specs.Laws.{IsWritable, AreWritable, AreRowsOf}
+use Rattle.fax_walk.specs.declared.options.Options.{Options}
+use Rattle.fax_walk.specs.Converted.{SourcePage, strips_of, written_form, coded_strips, written_page}
+use Rattle.fax_walk.specs.Laws.{HoldsRows, IsWritableSource, written_pages, WrittenFilesAreWalked, CodedFilesAreWalked}
+use Rattle.fax_walk.proofs.OpenStripsLemmas.{enough}
+
+-- strips of enough rows are all rows
+rows_joined : (in_strip n : ℕ) (rows : List (List Colour)) → length rows ≤ n * in_strip → rows ≡ joined (strips_of in_strip n rows)
+rows_joined in_strip zero [] within = refl
+rows_joined in_strip zero (row ∷ rows) within = absurd (omega arith)
+rows_joined in_strip (suc n) rows within =
+    let times : suc n * in_strip ≡ in_strip + n * in_strip = omega arith in
+    let rest : length (drop in_strip rows) ≤ n * in_strip = omega (arith, length-drop in_strip rows) in
+    sym (take-append-drop in_strip rows)
+    ∙ ap (λ (l : List (List Colour)). take in_strip rows ++ l) (rows_joined in_strip n (drop in_strip rows) rest)
+
+-- each strip is coded
+strips_count : (form : PageForm) (k s n : ℕ) (rows : List (List Colour))
+    → length (coded_strips form k s (strips_of form.rows_per_strip n rows)) ≡ n
+strips_count form k s zero rows = refl
+strips_count form k s (suc n) rows = ap suc (strips_count form k (s + 1) n (drop form.rows_per_strip rows))
+
+all_wide : (width : ℕ) (rows : List (List Colour)) → AreOfWidth width rows → All (λ row. length row ≡ width) rows
+all_wide width [] are = All-nil (λ row. length row ≡ width)
+all_wide width (row ∷ rows) are = All-cons (λ row. length row ≡ width) row rows are.0 (all_wide width rows are.1)
+
+-- each strip begins before the page's end
+begins_before : (form : PageForm) (s : ℕ) → IsPageForm form → s < form.strips → s * form.rows_per_strip < form.rows
+begins_before form s limits due =
+    let some : 0 < form.rows_per_strip = limits.some_rows_per_strip in
+    let times = div_ceil_times form.rows form.rows_per_strip some in
+    let below : form.strips * form.rows_per_strip < form.rows + form.rows_per_strip = rw limits.strips times.1 in
+    let far : form.rows_per_strip * (s + 1) ≤ form.rows_per_strip * form.strips = mul-le-mul_left form.rows_per_strip (omega arith) in
+    omega arith
+
+module _ (law : CodedStripsAreRead) (form : PageForm) (limits : IsPageForm form) (k : ℕ) where
+  abbrev in_strip : ℕ
+  in_strip = form.rows_per_strip
+
+  -- coded strips hold their rows
+  holds_from : (s n : ℕ) (rows : List (List Colour)) → s + n ≡ form.strips → length rows ≡ form.rows - s * in_strip
+      → All (λ row. length row ≡ form.width) rows
+      → AreRowsOf form s (coded_strips form k s (strips_of in_strip n rows)) (strips_of in_strip n rows)
+  holds_from s zero rows strips count wide = tt
+  holds_from s (suc n) rows strips count wide =
+      let before : s * in_strip < form.rows = begins_before form s limits (omega arith) in
+      let some = limits.some_rows_per_strip in
+      let left : length (drop in_strip rows) ≡ form.rows - (s + 1) * in_strip = omega (arith, length-drop in_strip rows) in
+      let here : length (take in_strip rows) ≡ (strip_form form s).rows = omega (arith, length-take in_strip rows) in
+      let shape : HasShape (strip_form form s) (take in_strip rows) =
+      record { count = here; widths = All-take (λ row. length row ≡ form.width) in_strip rows wide } in (
+        law (strip_form form s) k (take in_strip rows)
+            (record {
+              some_pels = limits.some_width;
+              short_rows = omega (arith, limits.width);
+              some_rows = omega arith;
+              few_rows = omega (arith, limits.rows);
+            }) shape,
+        holds_from (s + 1) n (drop in_strip rows) (omega arith) left
+            (All-drop (λ row. length row ≡ form.width) in_strip rows wide),
+      )
+
+height : (strip : Option ℕ) (rows : ℕ) → ForSome strip (λ n. 0 < n) → 1 ≤ rows → 1 ≤ min (unwrap_or strip rows) rows
+height None rows some any = omega arith
+height (Some n) rows some any = let n_some : 0 < n = some n refl in omega arith
+
+within_limits : (width rows : ℕ) → IsTrue (is_within_limits width rows) → (1 ≤ width) × (width ≤ 65535) × (1 ≤ rows) × (rows ≤ 1000000)
+within_limits width rows within = (grind (arith, nat_tests), grind (arith, nat_tests), grind (arith, nat_tests), grind (arith, nat_tests))
+
+module _ (law : CodedStripsAreRead) (options : Options) (coding : Coding) (some_strip : ForSome options.strip (λ rows. 0 < rows)) where
+  module _ (source : SourcePage) (w : IsWritableSource source) where
+    abbrev form : PageForm
+    form = written_form options coding source
+
+    form_limits : IsPageForm form
+    form_limits =
+        let within = within_limits source.image.width (length source.image.rows) w.image.within in
+        record {
+          some_width = within.0;
+          width = within.1;
+          some_rows = within.2;
+          rows = within.3;
+          some_rows_per_strip = height options.strip (length source.image.rows) some_strip within.2;
+          rows_per_strip = omega arith;
+          strips = refl;
+          x = w.x;
+          y = w.y;
+          some_unit = w.some_unit;
+          unit = w.unit;
+        }
+
+    page_writable : IsWritable (written_page options coding source)
+    page_writable = record {
+      limits = form_limits;
+      exchanged = refl;
+      strips = strips_count form options.k 0 form.strips source.image.rows;
+    }
+
+    page_holds : HoldsRows (written_page options coding source) source.image.rows
+    page_holds = (
+      strips_of form.rows_per_strip form.strips source.image.rows,
+      holds_from law form form_limits options.k 0 form.strips source.image.rows (omega arith) (omega arith)
+          (all_wide source.image.width source.image.rows w.image.rows),
+      rows_joined form.rows_per_strip form.strips source.image.rows (enough form form_limits),
+    )
+
+  all_writable : (pages : List SourcePage) → All IsWritableSource pages → AreWritable (written_pages options coding pages)
+  all_writable [] are = tt
+  all_writable (source ∷ pages) are = (
+    page_writable source (All-head IsWritableSource source pages are),
+    all_writable pages (All-tail IsWritableSource source pages are),
+  )
+
+  all_hold : (pages : List SourcePage) → All IsWritableSource pages
+      → AllZip HoldsRows (written_pages options coding pages) (map (λ source. source.image.rows) pages)
+  all_hold [] are = tt
+  all_hold (source ∷ pages) are = (
+    page_holds source (All-head IsWritableSource source pages are),
+    all_hold pages (All-tail IsWritableSource source pages are),
+  )
+
+-- the law of files of coded strips
+pub coded_files_are_walked : CodedStripsAreRead → WrittenFilesAreWalked → CodedFilesAreWalked
+coded_files_are_walked strips files options coding pages some_strip some few are short =
+    let count = length-map pages (written_page options coding) in
+    files (written_pages options coding pages) (map (λ source. source.image.rows) pages) (omega arith) (omega arith)
+    (all_writable strips options coding some_strip pages are) (all_hold strips options coding some_strip pages are) short
