@@ -1,0 +1,74 @@
+"""Drawn pages as raw PBM images, and runs of programs over them."""
+
+import random
+import subprocess
+
+KINDS = ["black", "white", "noise", "marks", "stripes"]
+DOCUMENTS = [*KINDS, "all"]
+NARROW = range(1, 71)
+WIDE = [100, 1728, 2432, 2560, 2623, 2624, 5200, 32768, 65535]
+
+
+def draw_row(rng, kind, width, number, before):
+    """The pels of a row as a number, the first pel in its highest bit, 1 for black."""
+    every = (1 << width) - 1
+    if kind == "black":
+        return every
+    if kind == "white":
+        return 0
+    if kind == "noise":
+        return rng.getrandbits(width)
+    if kind == "stripes":
+        run = 1 + number % 3
+        return sum(1 << at for at in range(width) if at // run % 2)
+    # Marks change a little from row to row, as letters do, so that all modes are met.
+    row = before
+    for _ in range(rng.randint(0, 3)):
+        at = rng.randrange(width)
+        row ^= (1 << rng.randint(1, min(width - at, 40))) - 1 << at
+    return row
+
+
+def draw_page(rng, kind, width):
+    """The rows of a page."""
+    rows, before = [], 0
+    for number in range(rng.randint(1, 12 if width < 2000 else 6)):
+        before = draw_row(rng, kind, width, number, before)
+        rows.append(before)
+    return rows
+
+
+def draw_document(seed, kind, width):
+    """The pages of a document: one of this kind, or one of each."""
+    rng = seeded(seed, kind, width)
+    return [draw_page(rng, of, width) for of in (KINDS if kind == "all" else [kind])]
+
+
+def report(drawn, notes=""):
+    """The report of `check` on these pages, with these notes."""
+    return f"{notes}pages {len(drawn)} rows {sum(map(len, drawn))}\n"
+
+
+def image(width, rows, spare=0):
+    """The raw PBM image of these rows, with these bits (ones or none) behind the last pel of each."""
+    size = -(-width // 8)
+    pad = 8 * size - width
+    fill = spare & (1 << pad) - 1
+    raster = b"".join((row << pad | fill).to_bytes(size, "big") for row in rows)
+    return b"P4\n%d %d\n" % (width, len(rows)) + raster
+
+
+def converted(program, words, data):
+    """What `convert` writes with these words; a fault is told in its place."""
+    ran = subprocess.run([program, "convert", *words], input=data, capture_output=True, timeout=60)
+    return ran.stdout if (ran.returncode, ran.stderr) == (0, b"") else (ran.returncode, ran.stderr)
+
+
+def told(program, command, data):
+    """What `check` or `list` prints; a fault is told in its place."""
+    ran = subprocess.run([program, command], input=data, capture_output=True, timeout=60)
+    return ran.stdout.decode() if (ran.returncode, ran.stderr) == (0, b"") else (ran.returncode, ran.stderr)
+
+
+def seeded(*names):
+    return random.Random(" ".join(map(str, names)))
