@@ -44,6 +44,19 @@ strip_beginning form bytes = strip_behind 0 form bytes
 abbrev pub restarted : StripState → List ℕ → ℕ → StripState
 restarted old bytes rows = strip_behind old.read (record old.form { rows = rows }) bytes
 
+-- before row i of other bytes, which have so many rows, behind so many bits, over this reference; the rest of the
+-- form stays
+abbrev pub restarted_at : StripState → List ℕ → ℕ → ℕ → ℕ → List Colour → StripState
+restarted_at old bytes rows i place reference = record {
+  form = record old.form { rows = rows };
+  bytes = bytes;
+  place = place;
+  row = i;
+  read = old.read;
+  reference = reference;
+  fault = None;
+}
+
 -- the form is within the limits, the reference and the row to come have its width, no row behind its last is
 -- due, and until a fault was met the source stands where the row that is due begins
 pub record IsReading (form : StripForm) (bytes : List ℕ) (source : Source) (place row : ℕ) (reference next : List Colour) (fault : Option StripFault) : Type 0 where
