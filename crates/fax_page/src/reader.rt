@@ -129,6 +129,7 @@ impl<'a> StripReader<'a> {
     pub fn advance(&mut self) -> Result<bool, StripFault>
         ensures { IsAdvance self.old result self.new }
     {
+        bits_stand_by_place();
         if let Some(fault) = self.fault {
             return Err(fault);
         }
@@ -184,7 +185,8 @@ impl<'a> StripReader<'a> {
     /// How many bits of the strip stand before the row that is due. After a fault they are what they
     /// were before that call.
     pub fn bit_place(&self) -> u64
-        ensures { result ≡ self.now.place }
+        ensures place { result ≡ self.now.place }
+        ensures within { result ≤ 8 * length self.now.bytes }
     {
         self.place
     }
