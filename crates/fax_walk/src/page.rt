@@ -218,7 +218,7 @@ impl<'a> OpenPage<'a> {
         ensures shown { self.new.shown ≡ row_handed_out self.old.form self.old.strip.reference }
     {
         if let Some(row) = &mut self.exchanged {
-            row.set_from(self.strip.row());
+            row.set_from(self.strip.reference());
             row.exchange();
         }
     }
@@ -274,7 +274,7 @@ impl<'a> OpenPage<'a> {
     {
         match &self.exchanged {
             Some(row) => row,
-            None => self.strip.row(),
+            None => self.strip.reference(),
         }
     }
 }
