@@ -1,5 +1,5 @@
 -- Behind a row of a strip stands a rest of the bits that it began in.
-use Rattle.std.proofs.Common.{◌≡◌, ℕ, ◌+◌, List, [], ◌∷◌, ◌++◌, length, drop, map, replicate, Bool, true, false, refl, ap, sym, ◌∙◌, subst, arith, append_assoc, length-append, inl, inr}
+use Rattle.std.proofs.Common.{◌≡◌, ℕ, ◌+◌, ◌*◌, ◌≤◌, List, [], ◌∷◌, ◌++◌, length, drop, map, replicate, Bool, true, false, refl, ap, sym, ◌∙◌, subst, arith, append_assoc, length-append, length-drop, inl, inr}
 use Rattle.std.proofs.Math.Seq.{drop-append_seam}
 use Rattle.std.proofs.lemmas.List.{drop-drop}
 use Rattle.fax_bits.specs.declared.codes.CodeEntry.{CodeEntry}
@@ -130,3 +130,12 @@ pub line_between : (form : StripForm) (i : ℕ) (reference row : List Colour) (b
 line_between form i reference row bytes place behind old new here there line =
     subst (λ (s : Source). IsLine form i reference s.left row (drop behind (bits form.order bytes))) here
     (subst (λ (s : Source). IsLine form i reference old.left row s.left) there line)
+
+-- behind a row, the place still lies in the bytes
+pub placed_behind : (order : FillOrder) (bytes : List ℕ) (place behind : ℕ) (old new : Source)
+    → length (bits order bytes) ≡ 8 * length bytes → place ≤ 8 * length bytes → old ≡ source_of order bytes place
+    → new.place + length new.left ≡ old.place + length old.left → behind ≡ new.place → behind ≤ 8 * length bytes
+placed_behind order bytes place behind old new count placed here same_end behind_is =
+    let ends : old.place + length old.left ≡ place + length (drop place (bits order bytes)) =
+    ap (λ (s : Source). s.place + length s.left) here in
+    omega (arith, length-drop place (bits order bytes))

@@ -1,9 +1,10 @@
 //! A reader of strips.
-ghost use Rattle.std.specs.Prelude.{◌≡◌, ◌<◌, ◌≤◌, length, IfOk};
+ghost use Rattle.std.specs.Prelude.{◌≡◌, ◌*◌, ◌<◌, ◌≤◌, length, IfOk};
 ghost use Rattle.std.specs.Borrow.{sem};
 
 use crate::lines::read_line;
 use crate::{StripFault, StripForm};
+use fax_bits::laws::bits_stand_by_place;
 use fax_rows::{BitSource, Memory, Row};
 use std::alloc::Global;
 use std::marker::Model;
@@ -48,7 +49,7 @@ impl<'a> Model for StripReader<'a> {
 
 impl<'a> StripReader<'a> {
     ghost use Rattle.fax_page.specs.Strip.{IsStripForm};
-    ghost use Rattle.fax_page.specs.code.Reader.{strip_beginning, restarted, IsAdvance};
+    ghost use Rattle.fax_page.specs.code.Reader.{strip_beginning, restarted, restarted_at, IsAdvance};
     ghost use Rattle.fax_page.specs.code.NextRow.{EndsAs, IsNextRow};
 
     /// Before the first row of a strip in at most 4,294,967,295 bytes. It takes all the memory that
@@ -95,15 +96,40 @@ impl<'a> StripReader<'a> {
         self.fault = None;
     }
 
+    /// Goes before row `row` of another strip of the same coding, order and width, with up to
+    /// 1,000,000 rows in at most 4,294,967,295 bytes, behind so many of its bits: the row that is
+    /// read next begins there, over this reference, which has the same width. A fault is forgotten.
+    /// It takes no memory.
+    pub fn restart_at(&mut self, bytes: &'a [u8], rows: u32, row: u32, bits: u64, reference: &Row)
+        requires count { length bytes.now ≤ 4294967295 }
+        requires due { row < rows }
+        requires few { rows ≤ 1000000 }
+        requires within { bits ≤ 8 * length bytes.now }
+        requires width { length reference.now ≡ self.old.form.width }
+        ensures { self.new ≡ restarted_at self.old bytes.now rows row bits reference.now }
+    {
+        bits_stand_by_place();
+        let mut source = BitSource::new(bytes, self.form.order);
+        source.skip(bits);
+        self.bytes = bytes;
+        self.source = source;
+        self.form.rows = rows;
+        self.place = bits;
+        self.row = row;
+        self.reference.set_from(reference);
+        self.fault = None;
+    }
+
     /// Reads the next row, and answers whether there was one. It takes no memory.
     ///
     /// # Errors
     ///
     /// Why the row that is due could not be read. Every later call answers the same, until
-    /// `restart`.
+    /// `restart` or `restart_at`.
     pub fn advance(&mut self) -> Result<bool, StripFault>
         ensures { IsAdvance self.old result self.new }
     {
+        bits_stand_by_place();
         if let Some(fault) = self.fault {
             return Err(fault);
         }
@@ -131,8 +157,9 @@ impl<'a> StripReader<'a> {
         }
     }
 
-    /// The row before the one that is due: all white before the first.
-    pub fn row(&self) -> &Row
+    /// The reference of the row that is due: the row before it, white at a strip's beginning. After
+    /// a fault it is what it was before that call.
+    pub fn reference(&self) -> &Row
         ensures pels { result.now ≡ self.now.reference }
         ensures width { length result.now ≡ self.now.form.width }
     {
@@ -144,7 +171,7 @@ impl<'a> StripReader<'a> {
     /// # Errors
     ///
     /// Why the row that is due could not be read. Every later call answers the same, until
-    /// `restart`.
+    /// `restart` or `restart_at`.
     pub fn next_row(&mut self) -> Result<Option<&Row>, StripFault>
         ensures* next { sem 𝓛 (EndsAs self.entry (IsNextRow self.old result)) }
     {
@@ -155,9 +182,11 @@ impl<'a> StripReader<'a> {
         }
     }
 
-    /// How many bits of the strip stand before the row that is due.
+    /// How many bits of the strip stand before the row that is due. After a fault they are what they
+    /// were before that call.
     pub fn bit_place(&self) -> u64
-        ensures { result ≡ self.now.place }
+        ensures place { result ≡ self.now.place }
+        ensures within { result ≤ 8 * length self.now.bytes }
     {
         self.place
     }

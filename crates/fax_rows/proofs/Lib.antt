@@ -7,6 +7,7 @@ pub mod StepLemmas
 pub mod RunLemmas
 pub mod RowLemmas
 pub mod RowRunLemmas
+pub mod GivenRunLemmas
 pub mod RunLaws
 pub mod RowLaws
 pub mod ChangeLemmas

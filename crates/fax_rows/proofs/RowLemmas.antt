@@ -22,11 +22,11 @@ AreRuns-push c b [] n mid rest coded run = (rest, subst (λ x. IsRun c x n rest)
 AreRuns-push c b (m ∷ runs) n mid rest coded run =
     (coded.0, coded.1, AreRuns-push (other c) coded.0 runs n mid rest coded.2 run)
 
-colour_behind-push : (c : Colour) (runs : List ℕ) (n : ℕ) → colour_behind c (runs ++ n ∷ []) ≡ other (colour_behind c runs)
+pub colour_behind-push : (c : Colour) (runs : List ℕ) (n : ℕ) → colour_behind c (runs ++ n ∷ []) ≡ other (colour_behind c runs)
 colour_behind-push c [] n = refl
 colour_behind-push c (m ∷ runs) n = colour_behind-push (other c) runs n
 
-pels_of-push : (c : Colour) (runs : List ℕ) (n : ℕ) → pels_of c (runs ++ n ∷ []) ≡ pels_of c runs ++ replicate n (colour_behind c runs)
+pub pels_of-push : (c : Colour) (runs : List ℕ) (n : ℕ) → pels_of c (runs ++ n ∷ []) ≡ pels_of c runs ++ replicate n (colour_behind c runs)
 pels_of-push c [] n = append-nil (replicate n c)
 pels_of-push c (m ∷ runs) n =
     ap (λ ys. replicate m c ++ ys) (pels_of-push (other c) runs n)

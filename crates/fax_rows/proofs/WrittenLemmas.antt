@@ -148,7 +148,7 @@ replicate_more n colour pels =
     rw (← replicate-append-replicate n 1 colour) (append_assoc (replicate n colour) (colour ∷ []) pels)
 
 -- the longest runs make up the pels
-pels_of-runs_behind : (colour : Colour) (n : ℕ) (pels : List Colour) → pels_of colour (runs_behind colour n pels) ≡ replicate n colour ++ pels
+pub pels_of-runs_behind : (colour : Colour) (n : ℕ) (pels : List Colour) → pels_of colour (runs_behind colour n pels) ≡ replicate n colour ++ pels
 unfolding runs_behind
 pels_of-runs_behind colour n [] = refl
 pels_of-runs_behind White n (White ∷ pels) =

@@ -1,8 +1,13 @@
 //! The longest runs of a row, one after another (ITU-T T.4, section 4.1.1).
-ghost use Rattle.std.specs.Prelude.{◌≡◌, ◌<◌, ◌^◌, [], ◌∷◌, MatchOption, IfSome};
-ghost use Rattle.fax_rows.specs.Elements.{runs_of};
+ghost use Rattle.std.specs.Prelude.{◌≡◌, ◌+◌, ◌-◌, ◌<◌, ◌≤◌, ◌^◌, ◌↔◌, [], ◌∷◌};
+ghost use Rattle.std.specs.Prelude.{MatchOption, IfSome, IsTrue, length, slice_index, sum};
+ghost use Rattle.fax_rows.specs.Elements.{runs_of, pels_of};
+ghost use Rattle.fax_rows.specs.code.LongestRuns.{AreLongest};
+ghost use Rattle.fax_rows.specs.code.Turns.{row_of, IsAscending};
 
 use crate::pels::Row;
+use crate::turns::turn;
+use fax_bits::Colour;
 use std::marker::Model;
 
 /// The longest runs of a row that are still to come. Contracts see the list of their lengths in
@@ -63,4 +68,38 @@ impl<'a> LongestRuns<'a> {
             }
         }
     }
+}
+
+/// Whether these are the longest runs of a row of this width.
+pub fn are_longest(runs: &[u32], width: u32) -> bool
+    ensures { IsTrue result ↔ AreLongest runs.now width }
+{
+    let mut left = width;
+    for (i, n) in runs.iter().enumerate() {
+        if (i > 0 && *n == 0) || *n > left {
+            return false;
+        }
+        left -= *n;
+    }
+    left == 0
+}
+
+/// Puts the places where runs end, white first, and answers where these places end.
+pub fn put_runs(places: &mut [u32], runs: &[u32], width: u32) -> usize
+    requires short { width < 2 ^ 16 }
+    requires room { length places.old ≡ width + 4 }
+    requires first { slice_index places.old 0 ≡ 0 }
+    requires whole { sum runs.now ≡ width }
+    ensures pels { row_of places.new result width ≡ pels_of Colour.White runs.now }
+    ensures ascending { IsAscending places.new result }
+    ensures last { slice_index places.new (result - 1) ≤ width }
+    ensures same_len { length places.new ≡ length places.old }
+{
+    let mut end = 1;
+    let mut total = 0;
+    for n in runs {
+        total += *n;
+        end = turn(places, end, total);
+    }
+    end
 }

@@ -1,9 +1,10 @@
 //! A row of pels.
-ghost use Rattle.std.specs.Prelude.{◌≡◌, ◌<◌, ◌^◌, length, replicate, map, IfOk};
+ghost use Rattle.std.specs.Prelude.{◌≡◌, ◌≢◌, ◌<◌, ◌^◌, false, List, length, replicate, map};
+ghost use Rattle.std.specs.Prelude.{IfOk, IsTrue};
 ghost use Rattle.std.specs.List.{filter, range_with_len};
 ghost use Rattle.fax_rows.specs.Elements.{other as other_than, runs_of, is_changing, pel as pel_of};
 
-use crate::longest_runs::LongestRuns;
+use crate::longest_runs::{LongestRuns, are_longest, put_runs};
 use crate::turns::{close, places_up_to, turn_first};
 use fax_bits::{Colour, Memory};
 use std::alloc::Global;
@@ -114,6 +115,24 @@ impl Row {
     {
         self.places.copy_from_slice(&row.places);
         self.end = row.end;
+    }
+
+    /// Takes the pels of the row of this width that has these longest runs, white first, and answers
+    /// whether there is one. Where there is none, the row stays as it is. It takes no memory.
+    pub fn set_runs(&mut self, runs: &[u32]) -> bool
+        ensures set { IsTrue result → runs_of self.new ≡ runs.now }
+        ensures same_width { length self.new ≡ length self.old }
+        ensures unchanged { result ≡ false → self.new ≡ self.old }
+        ensures no_such_row { result ≡ false
+            → (row : List Colour) → length row ≡ length self.old → runs_of row ≢ runs.now }
+    {
+        if !are_longest(runs, self.width) {
+            return false;
+        }
+        let places = self.places.as_mut_slice();
+        let end = put_runs(places, runs, self.width);
+        self.end = close(places, end, self.width);
+        true
     }
 
     /// Turns all pels white. It takes no memory.

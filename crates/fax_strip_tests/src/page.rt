@@ -75,7 +75,7 @@ fn read_back(rt: &impl Abort, alloc: Global, form: StripForm, bytes: &[u8]) -> R
     let mut reader = StripReader::new(alloc, bytes, form)?;
     for number in 0..ROWS {
         assert!(rt; reader.advance() == Ok(true));
-        assert_row(rt, alloc, reader.row(), number)?;
+        assert_row(rt, alloc, reader.reference(), number)?;
     }
     assert!(rt; reader.advance() == Ok(false));
     Ok(())

@@ -47,7 +47,7 @@ fn read(
         if end != Ok(true) {
             break;
         }
-        put_runs(&mut runs, alloc, reader.row())?;
+        put_runs(&mut runs, alloc, reader.reference())?;
         end = reader.advance();
     }
     assert_eq!(rt; reader.advance(), end);

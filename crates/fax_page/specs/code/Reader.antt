@@ -1,5 +1,5 @@
 -- A strip that is read row by row.
-use Rattle.std.specs.Prelude.{◌≡◌, ℕ, ◌+◌, ◌<◌, ◌≤◌, ◌⊎◌, min, Bool, true, false, List, [], ◌∷◌, ◌++◌, length, drop, Option, Some, None, Result, Ok, Err}
+use Rattle.std.specs.Prelude.{◌≡◌, ℕ, ◌+◌, ◌*◌, ◌<◌, ◌≤◌, ◌⊎◌, min, Bool, true, false, List, [], ◌∷◌, ◌++◌, length, drop, Option, Some, None, Result, Ok, Err}
 use Rattle.fax_bits.specs.declared.Colour.{Colour}
 use Rattle.fax_bits.specs.Bits.{bits}
 use Rattle.fax_bits.specs.code.Source.{Source, source_of}
@@ -44,13 +44,27 @@ strip_beginning form bytes = strip_behind 0 form bytes
 abbrev pub restarted : StripState → List ℕ → ℕ → StripState
 restarted old bytes rows = strip_behind old.read (record old.form { rows = rows }) bytes
 
+-- before row i of other bytes, which have so many rows, behind so many bits, over this reference; the rest of the
+-- form stays
+abbrev pub restarted_at : StripState → List ℕ → ℕ → ℕ → ℕ → List Colour → StripState
+restarted_at old bytes rows i place reference = record {
+  form = record old.form { rows = rows };
+  bytes = bytes;
+  place = place;
+  row = i;
+  read = old.read;
+  reference = reference;
+  fault = None;
+}
+
 -- the form is within the limits, the reference and the row to come have its width, no row behind its last is
--- due, and until a fault was met the source stands where the row that is due begins
+-- due, the place lies in the bytes, and until a fault was met the source stands where the row that is due begins
 pub record IsReading (form : StripForm) (bytes : List ℕ) (source : Source) (place row : ℕ) (reference next : List Colour) (fault : Option StripFault) : Type 0 where
   pub limits : IsStripForm form
   pub width : length reference ≡ form.width
   pub next_width : length next ≡ form.width
   pub within : row ≤ form.rows
+  pub placed : place ≤ 8 * length bytes
   pub at_row : fault ≡ None → source ≡ source_of form.order bytes place
 
 -- a count of rows and one more, up to the greatest number of 64 bits

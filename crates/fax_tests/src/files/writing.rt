@@ -155,7 +155,7 @@ fn assert_rows(
 ) -> Result<(), Fail> {
     for runs in wanted {
         assert!(rt; reader.advance() == Ok(true));
-        assert_runs(rt, alloc, reader.row(), *runs)?;
+        assert_runs(rt, alloc, reader.reference(), *runs)?;
     }
     assert!(rt; reader.advance() == Ok(false));
     Ok(())

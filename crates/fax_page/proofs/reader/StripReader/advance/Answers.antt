@@ -1,5 +1,5 @@
 use Rattle.std.proofs.Common.{rules}
-use Rattle.fax_page.proofs.RestLemmas.{row_behind, line_between}
+use Rattle.fax_page.proofs.RestLemmas.{row_behind, line_between, placed_behind}
 use Rattle.fax_page.proofs.reader.StripReader.advance.Goals as goal
 
 pub invariant_of-self : goal.invariant_of-self
@@ -8,6 +8,10 @@ invariant_of-self c = record {
   width = search rules;
   next_width = search rules;
   within = search rules;
+  placed =
+      placed_behind c.self.inside.form.order c.self.inside.bytes.now c.self.inside.place _ _ _
+      (c.bits_stand_by_place.ensures.count c.self.inside.form.order c.self.inside.bytes.now) c.self.invariant.placed
+      (c.self.invariant.at_row c.in_default.is) c.in-Ok.ensures.same_end c.place-self-inside.ensures;
   at_row = λ none.
       row_behind _ _ _ _ _ _ _ _ _ (c.self.invariant.at_row none) c.in-Ok.ensures.ok c.in-Ok.ensures.same_end c.place-self-inside.ensures;
 }

@@ -1,0 +1,142 @@
+-- Rows that are made of their longest runs.
+use Rattle.std.proofs.Common.{◌≡◌, ℕ, zero, suc, ◌+◌, ◌-◌, ◌<◌, ◌≤◌, List, [], ◌∷◌, ◌++◌, length, take, get_or, replicate, refl, ap, sym, ◌∙◌, subst, arith, inl, inr}
+use Rattle.std.specs.Prelude.{sum, ◌⊎◌}
+use Rattle.std.proofs.lemmas.Bool.{cases_lt}
+use Rattle.std.proofs.Math.ListN.{get_or-append}
+use Rattle.std.proofs.Math.Seq.{get_or-append_right}
+use Rattle.std.proofs.lemmas.List.{get_or-replicate, take_more, ext_get_or}
+use Rattle.std.proofs.lemmas.List.Sums.{sum_by-take-le}
+use Rattle.fax_bits.specs.declared.Colour.{Colour}
+use Rattle.fax_bits.specs.declared.Colour.TheVariants.{White, Black}
+use Rattle.fax_rows.specs.Elements.{other, pels_of, runs_behind, runs_of}
+use Rattle.fax_rows.specs.Faults.{colour_behind}
+use Rattle.fax_rows.specs.code.LongestRuns.{AreLongest}
+use Rattle.fax_rows.specs.code.Turns.{turned, pels_by, IsTurnedFrom}
+use Rattle.fax_rows.proofs.PlacedRowLemmas.{turned-first, take-first}
+use Rattle.fax_rows.proofs.RowLaws.{length-pels_of}
+use Rattle.fax_rows.proofs.RowLemmas.{pels_of-push, colour_behind-push}
+use Rattle.fax_rows.proofs.RunLemmas.{sum-push}
+use Rattle.fax_rows.proofs.TurnLemmas.{length-pels_by, pel-pels_by}
+use Rattle.fax_rows.proofs.WrittenLemmas.{pels_of-runs_behind}
+
+-- the places so far are those where these runs end
+pub record ArePutRuns (runs : List ℕ) (total : ℕ) (places : List ℕ) : Type 0 where
+  pub sum_is : total ≡ sum runs
+  pub pels : (k : ℕ) → k < total → turned Black places k ≡ get_or (pels_of White runs) k White
+  pub behind : (k : ℕ) → total ≤ k → turned Black places k ≡ colour_behind White runs
+
+-- before the first run
+pub put_none : (places : List ℕ) → 0 < length places → get_or places 0 0 ≡ 0 → ArePutRuns [] 0 (take 1 places)
+put_none places some first = record {
+  sum_is = refl;
+  pels = λ k h. absurd (omega arith);
+  behind = λ k h. ap (λ ps. turned Black ps k) (take-first places some first) ∙ turned-first k;
+}
+
+-- one run more
+pub put_run : (runs : List ℕ) (total n : ℕ) (old new : List ℕ) → ArePutRuns runs total old → IsTurnedFrom old new (total + n)
+    → ArePutRuns (runs ++ n ∷ []) (total + n) new
+put_run runs total n old new put turn = record {
+  sum_is = omega (arith, sum-push runs n, put.sum_is);
+  pels = λ k h. turn.left k h ∙ pel_at k h (cases_lt k total) ∙ ap (λ xs. get_or xs k White) (sym (pels_of-push White runs n));
+  behind = λ k h. turn.right k h ∙ ap other (put.behind k (omega arith)) ∙ sym (colour_behind-push White runs n);
+}
+  where
+    len : length (pels_of White runs) ≡ total
+    len = length-pels_of White runs ∙ sym put.sum_is
+
+    pel_at : (k : ℕ) → k < total + n → (k < total) ⊎ (total ≤ k)
+        → turned Black old k ≡ get_or (pels_of White runs ++ replicate n (colour_behind White runs)) k White
+    pel_at k h (inl less) =
+        let short : k < length (pels_of White runs) = omega (arith, len) in
+        put.pels k less ∙ sym (get_or-append (pels_of White runs) (replicate n (colour_behind White runs)) White k short)
+    pel_at k h (inr more) =
+        let long : length (pels_of White runs) ≤ k = omega (arith, len) in
+        let short : k - length (pels_of White runs) < n = omega (arith, len) in
+        put.behind k more
+        ∙ sym (get_or-replicate n (k - length (pels_of White runs)) (colour_behind White runs) White short)
+        ∙ sym (get_or-append_right (pels_of White runs) (replicate n (colour_behind White runs)) k White long)
+
+-- the next of the runs
+pub put_next_run : (runs : List ℕ) (i total n : ℕ) (old new : List ℕ) → i < length runs → n ≡ get_or runs i 0
+    → ArePutRuns (take i runs) total old → IsTurnedFrom old new (total + n) → ArePutRuns (take (i + 1) runs) (total + n) new
+put_next_run runs i total n old new inside is put turn =
+    subst (λ front. ArePutRuns front (total + n) new)
+    (ap (λ m. take i runs ++ m ∷ []) is ∙ sym (take_more runs i 0 inside))
+    (put_run (take i runs) total n old new put turn)
+
+-- runs in front are no longer than all together
+pub part_within : (runs : List ℕ) (i : ℕ) → sum (take i runs) ≤ sum runs
+part_within runs i = sum_by-take-le (λ n. n) runs i
+
+-- all runs of a row
+pub put_all_runs : (runs : List ℕ) (total : ℕ) (places : List ℕ) (width : ℕ) → ArePutRuns runs total places → sum runs ≡ width
+    → pels_by width places ≡ pels_of White runs
+put_all_runs runs total places width put whole =
+    ext_get_or White (pels_by width places) (pels_of White runs) (length-pels_by width places ∙ sym whole ∙ sym (length-pels_of White runs))
+    (λ k h. let inside : k < width = omega (arith, length-pels_by width places) in
+    pel-pels_by width places k inside ∙ put.pels k (omega (arith, put.sum_is)))
+
+-- pels of the run's colour make it longer
+longer : (colour : Colour) (n m : ℕ) (pels : List Colour) → runs_behind colour n (replicate m colour ++ pels) ≡ runs_behind colour (n + m) pels
+unfolding runs_behind
+longer colour n zero pels = ap (λ k. runs_behind colour k pels) (omega arith)
+longer White n (suc m) pels =
+    longer White (n + 1) m pels ∙ ap (λ k. runs_behind White k pels) (omega arith)
+longer Black n (suc m) pels =
+    longer Black (n + 1) m pels ∙ ap (λ k. runs_behind Black k pels) (omega arith)
+
+-- behind a run stand the runs of the pels behind it, where none of them is 0
+runs_follow : (colour : Colour) (n : ℕ) (runs : List ℕ) → ((i : ℕ) → i < length runs → 0 < get_or runs i 0)
+    → runs_behind colour n (pels_of (other colour) runs) ≡ n ∷ runs
+unfolding runs_behind
+runs_follow colour n [] some = refl
+runs_follow colour n (zero ∷ runs) some = absurd (omega (arith, some 0 (omega arith)))
+runs_follow White n (suc m ∷ runs) some =
+    ap (λ more. n ∷ more)
+    (longer Black 1 m (pels_of White runs) ∙ runs_follow Black (1 + m) runs (λ i h. some (suc i) (omega arith))
+    ∙ ap (λ k. k ∷ runs) (omega arith))
+runs_follow Black n (suc m ∷ runs) some =
+    ap (λ more. n ∷ more)
+    (longer White 1 m (pels_of Black runs) ∙ runs_follow White (1 + m) runs (λ i h. some (suc i) (omega arith))
+    ∙ ap (λ k. k ∷ runs) (omega arith))
+
+-- the row of such runs has them as its longest ones
+pub longest_are_back : (runs : List ℕ) (width : ℕ) → 0 < width → AreLongest runs width → runs_of (pels_of White runs) ≡ runs
+longest_are_back [] width some longest = absurd (omega (arith, longest.whole))
+longest_are_back (n ∷ runs) width some longest =
+    longer White 0 n (pels_of Black runs)
+    ∙ runs_follow White (0 + n) runs (λ i h. longest.some (suc i) (omega arith) (omega arith))
+    ∙ ap (λ k. k ∷ runs) (omega arith)
+
+-- no run behind a whole one is 0
+none_is_0 : (colour : Colour) (n : ℕ) (pels : List Colour) → 0 < n → (i : ℕ) → i < length (runs_behind colour n pels)
+    → 0 < get_or (runs_behind colour n pels) i 0
+unfolding runs_behind
+none_is_0 colour n [] some zero h = some
+none_is_0 colour n [] some (suc i) h = absurd (omega arith)
+none_is_0 White n (White ∷ pels) some i h = none_is_0 White (n + 1) pels (omega arith) i h
+none_is_0 Black n (Black ∷ pels) some i h = none_is_0 Black (n + 1) pels (omega arith) i h
+none_is_0 White n (Black ∷ pels) some zero h = some
+none_is_0 Black n (White ∷ pels) some zero h = some
+none_is_0 White n (Black ∷ pels) some (suc i) h = none_is_0 Black 1 pels (omega arith) i (omega arith)
+none_is_0 Black n (White ∷ pels) some (suc i) h = none_is_0 White 1 pels (omega arith) i (omega arith)
+
+first_may_be_0 : (colour : Colour) (n : ℕ) (pels : List Colour) (i : ℕ) → 0 < i → i < length (runs_behind colour n pels)
+    → 0 < get_or (runs_behind colour n pels) i 0
+unfolding runs_behind
+first_may_be_0 colour n [] zero some h = absurd (omega arith)
+first_may_be_0 colour n [] (suc i) some h = absurd (omega arith)
+first_may_be_0 White n (White ∷ pels) i some h = first_may_be_0 White (n + 1) pels i some h
+first_may_be_0 Black n (Black ∷ pels) i some h = first_may_be_0 Black (n + 1) pels i some h
+first_may_be_0 White n (Black ∷ pels) zero some h = absurd (omega arith)
+first_may_be_0 Black n (White ∷ pels) zero some h = absurd (omega arith)
+first_may_be_0 White n (Black ∷ pels) (suc i) some h = none_is_0 Black 1 pels (omega arith) i (omega arith)
+first_may_be_0 Black n (White ∷ pels) (suc i) some h = none_is_0 White 1 pels (omega arith) i (omega arith)
+
+-- the runs of a row are such
+pub runs_are_longest : (row : List Colour) → AreLongest (runs_of row) (length row)
+runs_are_longest row = record {
+  whole = sym (length-pels_of White (runs_of row)) ∙ ap (λ (xs : List Colour). length xs) (pels_of-runs_behind White 0 row);
+  some = first_may_be_0 White 0 row;
+}
