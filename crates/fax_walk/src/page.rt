@@ -1,5 +1,5 @@
 //! A page whose rows are read, strip by strip.
-ghost use Rattle.std.specs.Prelude.{◌≡◌, ◌+◌, ◌*◌, ◌<◌, ◌≤◌, ◌==◌, List, [], IfErr, IfOk, OnErr, OnOk};
+ghost use Rattle.std.specs.Prelude.{◌≡◌, ◌+◌, ◌*◌, ◌<◌, ◌≤◌, ◌==◌, List, [], length, IfErr, IfOk, OnErr, OnOk};
 ghost use Rattle.fax_page.specs.Strip.{IsStripForm};
 ghost use Rattle.fax_files.specs.Page.{IsPageForm};
 ghost use Rattle.fax_walk.specs.Items.{Item, AreFromRow};
@@ -153,7 +153,7 @@ fn strip_at<'a>(
         return Err(outside);
     }
     let mut strip = StripReader::new(alloc, bytes, form)?;
-    strip.restart_at(bytes, form.rows, row, place.bits, &reference);
+    strip.restart_at(bytes, form.rows, row, u64::from(place.bits), &reference);
     Ok(strip)
 }
 

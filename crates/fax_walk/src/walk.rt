@@ -154,14 +154,14 @@ impl<'a> Walk<'a> {
     /// A walk over the rows of a file from a place inside a strip on. Nothing is read yet. Then no
     /// row before it is read.
     pub fn resume_long(alloc: Global, file: &'a [u8], cursor: LongCursor) -> Self
-        ensures { result ≡ walk_inside file.now cursor.entry }
+        ensures { result ≡ walk_inside file.now cursor }
     {
         Walk::begin(alloc, file, Begun::Inside(cursor))
     }
 
     /// A walk that begins so.
     fn begin(alloc: Global, file: &'a [u8], begun: Begun) -> Self
-        ensures { result ≡ Due.walk_begun file.now begun.entry }
+        ensures { result ≡ Due.walk_begun file.now begun }
     {
         let cursor = begun.cursor();
         Walk {

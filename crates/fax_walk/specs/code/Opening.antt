@@ -127,9 +127,13 @@ pub record IsChainBefore (file : List ℕ) (number : ℕ) (chain : ChainState) :
   pub within : (offsets : List ℕ) (fault : Option FileFault) → IsChain chain.tiff.head chain.tiff.file offsets fault
       → number ≤ length offsets
 
+-- the place inside a strip that has this cursor, these bits and these runs
+abbrev pub place_at : Cursor → ℕ → List ℕ → LongPlace
+place_at at bits runs = record { at = at; bits = bits; runs = runs }
+
 -- nor are there rows from a place inside a strip on that has this cursor
 abbrev pub EndsInside : List ℕ → Cursor → End → Type 0
-EndsInside file at end = (bits : ℕ) (runs : List ℕ) → IsLongTail file (record { at = at; bits = bits; runs = runs }) [] end
+EndsInside file at end = (bits : ℕ) (runs : List ℕ) → IsLongTail file (place_at at bits runs) [] end
 
 -- from a cursor on there are no rows and no pages, and they end so; nor are there rows before it in a strip
 abbrev pub EndsAt : List ℕ → Cursor → End → Type 0
@@ -152,7 +156,8 @@ pub record IsPageOf (file : List ℕ) (at : Cursor) (due : PageDue) : Type 0 whe
   pub from_behind : (items : List Item) (end : End) → ArePagesBehind due.chain items end
       → IsTail file (record { page = at.page; row = due.form.rows }) items end
   pub from_place : (bits : ℕ) (runs : List ℕ) (items : List Item) (end : End)
-      → (let place = record { at = at; bits = bits; runs = runs } in AreOnPage due.directory.endian file due.directory.offset place (Ok due.form) items end → IsLongTail file place items end)
+      → AreOnPage due.directory.endian file due.directory.offset (place_at at bits runs) (Ok due.form) items end
+      → IsLongTail file (place_at at bits runs) items end
   pub form_first : (forms : List FormItem) (end : End) → at.row ≡ 0 → IsFormThen due.page due.form (AreFormsBehind due.chain) forms end
       → IsFormTail file at forms end
   pub form_next : (forms : List FormItem) (end : End) → 0 < at.row → AreFormsBehind due.chain forms end → IsFormTail file at forms end
