@@ -30,3 +30,6 @@ pub mod RowLemmas
 pub mod FileLemmas
 pub mod WrittenLemmas
 pub mod CodedLemmas
+pub mod LongLineLemmas
+pub mod LongStripLemmas
+pub mod LongTailLemmas
