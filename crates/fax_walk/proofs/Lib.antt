@@ -33,3 +33,4 @@ pub mod CodedLemmas
 pub mod LongLineLemmas
 pub mod LongStripLemmas
 pub mod LongTailLemmas
+pub mod OneLongTailLemmas

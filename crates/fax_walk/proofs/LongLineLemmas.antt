@@ -87,7 +87,7 @@ replicate_more (suc n) colour pels =
     rw e (ap (λ (l : List Colour). colour ∷ l) (replicate_more n colour pels))
 
 -- the pels of a row's runs are the row
-pels_behind : (colour : Colour) (n : ℕ) (row : List Colour) → pels_of colour (runs_behind colour n row) ≡ replicate n colour ++ row
+pub pels_behind : (colour : Colour) (n : ℕ) (row : List Colour) → pels_of colour (runs_behind colour n row) ≡ replicate n colour ++ row
 unfolding runs_behind
 pels_behind colour n [] = refl
 pels_behind White n (White ∷ row) = pels_behind White (n + 1) row ∙ replicate_more n White row
