@@ -34,3 +34,4 @@ pub mod LongLineLemmas
 pub mod LongStripLemmas
 pub mod LongTailLemmas
 pub mod OneLongTailLemmas
+pub mod LongPrintedLemmas

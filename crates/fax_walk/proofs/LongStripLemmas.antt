@@ -1,6 +1,6 @@
 -- Pages and strips of a file, for what walks hand out that begin inside a strip.
 use Rattle.std.proofs.Common.{◌≡◌, ℕ, suc, ◌+◌, ◌-◌, ◌*◌, ◌/◌, ◌%◌, ◌<◌, ◌≤◌, ◌⊎◌, inl, inr, min, Bool, true, false, List, [], ◌∷◌, ◌++◌, map, length, drop, Option, Some, None, Result, Ok, Err, refl, sym, ap, ◌∙◌, subst, arith, append_assoc, length-append}
-use Rattle.std.proofs.Math.Nat.{mul-le-mul_left, mul-le-mul_right}
+use Rattle.std.proofs.Math.Nat.{div-add-mod}
 use Rattle.std.proofs.lemmas.Bool.{cases_lt}
 use Rattle.std.proofs.lemmas.Nat.{div-mul-add, mod-mul-add}
 use Rattle.std.specs.Prelude.{if◌then◌else◌, slice_get}
@@ -20,7 +20,7 @@ use Rattle.fax_walk.specs.declared.end.End.{End}
 use Rattle.fax_walk.specs.LongCursor.{LongPlace}
 use Rattle.fax_walk.specs.Items.{Item, numbered, stop_at, Follows, AreFromRowOf, ArePagesItems}
 use Rattle.fax_walk.specs.Tail.{IsTail, IsTailOver, IsTailUnder}
-use Rattle.fax_walk.specs.LongTail.{HasPage, AreOnPage, IsLongTail, IsLongTailOver, IsLongTailUnder}
+use Rattle.fax_walk.specs.LongTail.{strip_at, row_in_strip, HasPage, AreOnPage, IsLongTail, IsLongTailOver, IsLongTailUnder}
 
 -- a file's page of a number is one
 pub same_page : FilesHaveOneChain → (file : List ℕ) (p : ℕ) (head head' : Header) (q q' : ℕ) (form form' : PageForm)
@@ -68,6 +68,13 @@ module _ (chains : FilesHaveOneChain) (file : List ℕ) (p : ℕ) (head : Header
 -- a number by its quotient and rest
 pub in_strip : (m s k e : ℕ) → k < m → e ≡ s * m + k → (e / m ≡ s) × (e % m ≡ k)
 in_strip m s k e less is = (rw is (div-mul-add s m k less), rw is (mod-mul-add s m k less))
+
+-- the row behind one that is not its strip's last
+pub next_in_strip : (form : PageForm) (r : ℕ) → row_in_strip form r + 1 < (strip_form form (strip_at form r)).rows
+    → (strip_at form (r + 1) ≡ strip_at form r) × (row_in_strip form (r + 1) ≡ row_in_strip form r + 1)
+next_in_strip form r inside =
+    let parts = div-add-mod r form.rows_per_strip in
+    in_strip form.rows_per_strip (strip_at form r) (row_in_strip form r + 1) (r + 1) (omega (arith, inside)) (omega (arith, parts))
 
 -- the rows from the end of a strip on are what its cursor has
 pub strips_behind : (endian : Endian) (file : List ℕ) (q : ℕ) (form : PageForm) → IsWholeForm form → (p s e : ℕ) (behind : List Item → End → Type 0)

@@ -34,7 +34,7 @@ use Rattle.fax_walk.specs.Laws.{TailBehindItem}
 use Rattle.fax_walk.proofs.TailLemmas.{StandsFrom, stands_from, divided, none_holds}
 use Rattle.fax_walk.proofs.DueLemmas.{shown_none}
 use Rattle.fax_walk.proofs.LongLineLemmas.{LinesAreRead, GoesFrom, goes_from, last_width, lines_within, one_row}
-use Rattle.fax_walk.proofs.LongStripLemmas.{same_page, Behind, tail_at, tail_of, long_at, in_strip, strips_behind, numbered_both, shown_both}
+use Rattle.fax_walk.proofs.LongStripLemmas.{same_page, Behind, tail_at, tail_of, long_at, in_strip, next_in_strip, strips_behind, numbered_both, shown_both}
 use Rattle.fax_walk.proofs.PageItemLemmas.{IsCount, Split, split, counted, strip_count, shown_length, shown_drop}
 
 by_tests : {A : Type 0} (a b : Bool) (x place : A) → Some place ≡ (if a && b then (Some x) else None) → (a ≡ true) × (place ≡ x)
@@ -72,7 +72,7 @@ module _ (lines_read : LinesAreRead) (chains : FilesHaveOneChain) (file : List �
   parts = let e = div-add-mod r form.rows_per_strip in omega (arith, e)
 
   next : (strip_at form (r + 1) ≡ s) × (row_in_strip form (r + 1) ≡ k + 1)
-  next = in_strip form.rows_per_strip s (k + 1) (r + 1) (omega (arith, inside)) (omega (arith, parts))
+  next = next_in_strip form r inside
 
   row_there : r + 1 < form.rows
   row_there = omega (arith, inside, parts)
