@@ -35,3 +35,4 @@ pub mod LongStripLemmas
 pub mod LongTailLemmas
 pub mod OneLongTailLemmas
 pub mod LongPrintedLemmas
+pub mod OpenInsideLemmas

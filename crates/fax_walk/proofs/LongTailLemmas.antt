@@ -32,9 +32,8 @@ use Rattle.fax_walk.specs.LongTail.{strip_at, row_in_strip, HasPage, IsInside, F
 use Rattle.fax_walk.specs.LongLaws.{LongTailBehindItem}
 use Rattle.fax_walk.specs.Laws.{TailBehindItem}
 use Rattle.fax_walk.proofs.TailLemmas.{StandsFrom, stands_from, divided, none_holds}
-use Rattle.fax_walk.proofs.DueLemmas.{shown_none}
 use Rattle.fax_walk.proofs.LongLineLemmas.{LinesAreRead, GoesFrom, goes_from, last_width, lines_within, one_row}
-use Rattle.fax_walk.proofs.LongStripLemmas.{same_page, Behind, tail_at, tail_of, long_at, in_strip, next_in_strip, strips_behind, numbered_both, shown_both}
+use Rattle.fax_walk.proofs.LongStripLemmas.{nothing_left, same_page, Behind, tail_at, tail_of, long_at, in_strip, next_in_strip, strips_behind, numbered_both, shown_both}
 use Rattle.fax_walk.proofs.PageItemLemmas.{IsCount, Split, split, counted, strip_count, shown_length, shown_drop}
 
 by_tests : {A : Type 0} (a b : Bool) (x place : A) → Some place ≡ (if a && b then (Some x) else None) → (a ≡ true) × (place ≡ x)
@@ -52,10 +51,6 @@ pub some_behind : (form : PageForm) (p r n : ℕ) (row : List Colour) (place : L
 some_behind form p r n row place is =
     let p = by_tests (nat_lt (row_in_strip form r + 1) (strip_form form (strip_at form r)).rows) (nat_le n 4294967295) (place_of p r n row) place is in
     (grind (arith, nat_tests, p.0), p.1)
-
-nothing_left : (form : PageForm) (p r : ℕ) (strips : List (List (List Colour))) (others : List Item) → strips ≡ [] → others ≡ []
-    → numbered p r (shown form (joined strips)) ++ others ≡ []
-nothing_left form p r strips others none nothing = rw (none, shown_none form, nothing) refl
 
 -- a strip that was read up to a row that is not its last
 module _ (lines_read : LinesAreRead) (chains : FilesHaveOneChain) (file : List ℕ) (p r : ℕ) (head : Header) (q : ℕ) (form : PageForm)

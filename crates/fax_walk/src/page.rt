@@ -169,6 +169,7 @@ pub(crate) fn open_inside<'a>(
         → Due.IsDueOnPage page items end → Opening.IsPlaceDue due.entry place.now items end) }
     ensures refused { IfErr result (Opening.IsRefusal (Opening.IsPlaceDue due.entry place.now)) }
 {
+    fax_files::laws::forms_are_whole();
     let form = due.form;
     let first = place.at.row;
     if first >= form.rows || first % form.rows_per_strip == 0 {
