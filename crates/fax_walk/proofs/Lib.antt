@@ -36,3 +36,4 @@ pub mod LongTailLemmas
 pub mod OneLongTailLemmas
 pub mod LongPrintedLemmas
 pub mod OpenInsideLemmas
+pub mod GoesOnLemmas

@@ -292,7 +292,7 @@ impl<'a> OpenPage<'a> {
         ensures same_read { self.new.read ≡ self.old.read }
         ensures place { IfErr result (Due.EndsAtRow self.old) }
         ensures err { IfErr result (Due.IsDueOnPage self.old []) }
-        ensures goes_on { Due.GoesOn self.old self.new }
+        ensures goes_on { OnErr result (Due.GoesOn self.old self.new) }
     {
         let number = self.number + 1;
         match self.strips.bytes(number) {
