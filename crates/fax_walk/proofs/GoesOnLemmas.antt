@@ -1,5 +1,6 @@
 -- A page that is read on, and the walk that reads it.
-use Rattle.std.proofs.Common.{◌≡◌, ℕ, ◌+◌, ◌*◌, ◌<◌, ◌≤◌, ◌⊎◌, inl, inr, Bool, List, [], ◌∷◌, ◌++◌, length, drop, Option, Some, refl, sym, ap, ◌∙◌, subst, arith, length-append}
+use Rattle.std.specs.Prelude.{IfOk}
+use Rattle.std.proofs.Common.{◌≡◌, ℕ, ◌+◌, ◌*◌, ◌<◌, ◌≤◌, ◌⊎◌, inl, inr, Bool, List, [], ◌∷◌, ◌++◌, length, drop, Option, Some, Result, Ok, Err, refl, sym, ap, ◌∙◌, subst, arith, length-append}
 use Rattle.fax_bits.specs.Bits.{bits}
 use Rattle.fax_bits.specs.declared.Colour.{Colour}
 use Rattle.fax_page.specs.declared.StripFault.{StripFault}
@@ -11,10 +12,12 @@ use Rattle.fax_files.specs.PageRows.{strip_form}
 use Rattle.fax_files.specs.code.Tiff.{bytes_of}
 use Rattle.fax_walk.specs.declared.begun.Begun.{Begun}
 use Rattle.fax_walk.specs.declared.begun.Begun.TheVariants.{At, Inside}
+use Rattle.fax_walk.specs.declared.cursor.Cursor.{Cursor}
+use Rattle.fax_walk.specs.declared.opening.OpenFault.{OpenFault}
 use Rattle.fax_walk.specs.LongCursor.{LongPlace}
 use Rattle.fax_walk.specs.LongTail.{strip_at, IsInStrip, AreLinesUpTo, ReadsFrom, HasReadTo}
 use Rattle.fax_walk.specs.code.Stages.{PageState, row_of}
-use Rattle.fax_walk.specs.code.Due.{IsReached, IsNotBehind, GoesOn}
+use Rattle.fax_walk.specs.code.Due.{IsReached, IsNotBehind, GoesOn, IsAtStrip}
 use Rattle.fax_walk.proofs.LongLineLemmas.{joined_lines}
 
 -- a page that stays as it is
@@ -171,3 +174,9 @@ next_goes_on old new bytes row new_is strip_is there = rw new_is (record {
     at_place : (begun : Begun) (place : LongPlace) → IsNotBehind begun old.page old.form old.number → begun ≡ Inside place
         → (place.at.page < old.page) ⊎ ((place.at.page ≡ old.page) × (strip_at old.form place.at.row ≤ old.number))
     at_place begun place is begun_is = rw begun_is at is
+
+-- a page that was opened at a strip's beginning, for a walk that began at a cursor
+pub first_reached : (begun : Begun) (at : Cursor) (result : Result PageState OpenFault) → begun ≡ At at → IfOk result IsAtStrip → IfOk result (IsReached begun)
+first_reached begun at (Ok page) is at_strip =
+    begins_reached page begun page.strip.bytes page.strip.read at_strip.strip_is at_strip.bytes_are (λ place inside. absurd (cc (is, inside)))
+first_reached begun at (Err refused) is at_strip = at_strip

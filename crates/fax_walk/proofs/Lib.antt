@@ -37,3 +37,4 @@ pub mod OneLongTailLemmas
 pub mod LongPrintedLemmas
 pub mod OpenInsideLemmas
 pub mod GoesOnLemmas
+pub mod LastLemmas

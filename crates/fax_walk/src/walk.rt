@@ -242,11 +242,12 @@ impl<'a> Walk<'a> {
             Stage::Open(_) => return Ok(()),
             Stage::Ended(..) => return Ok(()),
         };
-        match opened {
-            Ok(page) => self.stage = Stage::Open(page),
-            Err(OpenFault::Ended(end)) => self.stage = Stage::Ended(end, self.rows_read(), None),
+        let stage = match opened {
+            Ok(page) => Stage::Open(page),
+            Err(OpenFault::Ended(end)) => Stage::Ended(end, self.rows_read(), None),
             Err(OpenFault::Memory) => return Err(Memory),
-        }
+        };
+        self.stage = stage;
         Ok(())
     }
 
