@@ -121,6 +121,7 @@ module _ (old : PageState) (strip : StripState) (handed : List Colour) (reads : 
     same_first = refl;
     same_form = refl;
     still_open = record { no_fault = reads.still_no_fault; limits = at.limits; first = at.first; page_number = at.page_number };
+    some_row = omega (arith, reads.next_row);
     one_more = refl;
   }
 
@@ -315,6 +316,7 @@ kept_read old now later keeps reads =
       same_first = reads.same_first ∙ keeps.same_first;
       same_form = reads.same_form ∙ keeps.same_form;
       still_open = reads.still_open;
+      some_row = reads.some_row;
       one_more = reads.one_more ∙ ap (λ n. n + 1) keeps.same_read;
     }
 
@@ -362,6 +364,7 @@ row_given old now new skips reads behind few =
       none_skipped = omega (arith, behind);
       same_page = reads.same_page ∙ skips.same_page;
       still_open = reads.still_open;
+      some_row = reads.some_row;
       read = omega (arith, skips.read, reads.one_more, none);
       few = few;
     }

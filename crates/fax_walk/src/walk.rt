@@ -256,6 +256,7 @@ impl<'a> Walk<'a> {
         requires { IsAtRow self.old.stage }
         ensures { IsStep self.old self.new }
     {
+        fax_files::laws::files_have_one_chain();
         match replace(&mut self.stage, Stage::Before) {
             Stage::Open(mut page) => match page.next() {
                 Ok(()) => {

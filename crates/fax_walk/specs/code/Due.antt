@@ -232,6 +232,7 @@ pub record ReadsPageRow (old new : PageState) : Type 0 where
   pub same_first : new.first ≡ old.first
   pub same_form : new.form ≡ old.form
   pub still_open : IsOpen new
+  pub some_row : 0 < new.strip.row
   pub one_more : new.read ≡ old.read + 1
 
 -- the next row that is handed out was read: what was due is that row, and then what is due now
@@ -243,6 +244,7 @@ pub record GivesRow (old new : PageState) : Type 0 where
   pub none_skipped : skipped new ≡ 0
   pub same_page : new.page ≡ old.page
   pub still_open : IsOpen new
+  pub some_row : 0 < new.strip.row
   pub read : new.read ≡ old.read + skipped old + 1
   pub few : new.read < 2 ^ 64
 
