@@ -14,7 +14,8 @@ use Rattle.fax_files.specs.Numbers.{header}
 use Rattle.fax_files.specs.Page.{IsPageForm}
 use Rattle.fax_files.specs.StripBytes.{strip_bytes}
 use Rattle.fax_files.specs.PageRows.{strip_form}
-use Rattle.fax_files.specs.Laws.{HasOneChain, FilesHaveOneChain}
+use Rattle.fax_files.specs.Laws.{FormsAreWhole, FilesHaveOneChain}
+use Rattle.fax_bits.specs.declared.Memory.{Memory as NoMemory}
 use Rattle.fax_files.specs.code.Tiff.{TiffDirectory}
 use Rattle.fax_walk.specs.declared.begun.Begun.{Begun}
 use Rattle.fax_walk.specs.declared.begun.Begun.TheVariants.{At, Inside}
@@ -223,3 +224,36 @@ module _ (chains : FilesHaveOneChain) (file : List ℕ) (begun : Begun) (given :
     reached = reached;
     last = λ some. by_strip some (cases_lt old.number new.number) (on.last some);
   }
+
+-- the place inside a strip behind the row that was handed out last
+pub place_on_page : FilesHaveOneChain → FormsAreWhole → (file : List ℕ) (begun : Begun) (given : ℕ) (cursor : Cursor) (page : PageState) (place : Option LongPlace) → 0 < given
+    → IsOnPageOf file begun given cursor page → IsLongOnPage page place → IsLongBefore file begun cursor place
+place_on_page chains forms file begun given cursor page place some on is = by_last (on.last some)
+  where
+    whole : 1 ≤ page.form.rows_per_strip
+    whole = (forms page.directory.endian page.directory.file page.directory.offset page.form on.in_file.form_is).some_in_strip
+
+    by_last : IsBehindLast file begun cursor page → IsLongBefore file begun cursor place
+    by_last (inl (read, cursor_is)) = λ p r named. place_of_strip chains file begun cursor page whole on.in_file on.reached read cursor_is p r named place is
+    by_last (inr (none, before)) =
+        let test : nat_lt 0 page.strip.row ≡ false = grind (arith, nat_tests, none) in
+        let nothing : place ≡ None = is.0 ∙ rw test refl in
+        rw nothing before
+
+-- a list that is not empty has a last element
+last_of : (items : List Item) → 0 < length items → (before : List Item) × (item : Item) × (items ≡ before ++ item ∷ [])
+last_of [] some = absurd (omega (arith, some))
+last_of (item ∷ []) some = ([], item, refl)
+last_of (item ∷ next ∷ items) some =
+    let rest = last_of (next ∷ items) (omega arith) in
+    (item ∷ rest.0, rest.1, ap (λ (l : List Item). item ∷ l) rest.2)
+
+pub long_now : (walk : WalkState) (place : Option LongPlace) → 0 < walk.given → IsLongBefore walk.file walk.begun walk.cursor place → IsLongNow walk place
+long_now walk place some before items handed =
+    let last = last_of items (omega (arith, some, handed.count)) in
+    inr (last.0, last.1, last.2, before last.1.page last.1.row (handed.cursor last.0 last.1 last.2))
+
+pub long_if_now : (walk : WalkState) (result : Result (Option LongPlace) NoMemory) → ((place : Option LongPlace) → result ≡ Ok place → IsLongNow walk place)
+    → IfOk result (IsLongNow walk)
+long_if_now walk (Ok place) now = now place refl
+long_if_now walk (Err refused) now = tt

@@ -10,11 +10,20 @@ use Rattle.fax_walk.specs.declared.walk.Stage.{Stage}
 use Rattle.fax_walk.specs.declared.walk.Stage.TheVariants.{Before, Open, Ended}
 use Rattle.fax_walk.specs.Items.{Item}
 use Rattle.fax_walk.specs.LongTail.{IsTailFrom, begins_at}
+use Rattle.fax_walk.specs.declared.begun.Begun.{Begun}
+use Rattle.fax_walk.specs.declared.begun.Begun.TheVariants.{At, Inside}
+use Rattle.fax_walk.specs.Laws.{CursorsHaveOneTail}
+use Rattle.fax_walk.specs.LongLaws.{PlacesHaveOneTail}
 use Rattle.fax_walk.specs.code.Stages.{PageState, row_of, skipped}
 use Rattle.fax_walk.specs.declared.cursor.Cursor.{Cursor}
 use Rattle.fax_walk.specs.code.Due.{WalkState, IsDue, IsDueOnPage, IsOpenedFor, IsOpenFrom, GivesRow, place_number, places_left}
 use Rattle.fax_walk.specs.code.Opening.{IsOpenedBehind, IsRefusal}
 use Rattle.fax_walk.specs.code.Next.{IsEntered, StepsAs, IsOnPage, HandsOut, HasEnded}
+
+-- each walk hands out some items, and an end
+pub begun_items : CursorsHaveOneTail → PlacesHaveOneTail → (file : List ℕ) (begun : Begun) → (items : List Item) × (end : End) × IsTailFrom file begun items end
+begun_items cursors places file (At at) = let one = cursors file at in (one.items, one.end, one.is)
+begun_items cursors places file (Inside place) = let one = places file place in (one.items, one.end, one.is)
 
 -- a page that takes the place of what is due: what it has is due, and a row of it is due
 pub record TakesPlace (walk : WalkState) (page : PageState) : Type 0 where

@@ -191,13 +191,16 @@ impl<'a> Walk<'a> {
     pub fn long_cursor(&self, alloc: Global) -> Result<Option<LongCursor>, Memory>
         ensures { IfOk result (IsLongNow self.now) }
     {
+        fax_files::laws::files_have_one_chain();
+        fax_files::laws::forms_are_whole();
         if self.given == 0 {
             return self.begun.long_cursor();
         }
         match &self.stage {
             Stage::Open(page) => page.long_cursor(alloc),
             Stage::Ended(_, _, Some(page)) => page.long_cursor(alloc),
-            Stage::Before | Stage::Ended(_, _, None) => Ok(None),
+            Stage::Before => unreachable!(),
+            Stage::Ended(_, _, None) => Ok(None),
         }
     }
 
