@@ -23,6 +23,12 @@ pub fn strips_are_read_in_one_way()
     lines_are_read_in_one_way();
 }
 
+/// An aligned EOL ends on a byte boundary of its strip, behind as little fill as does so (T.4,
+/// section 4.1.3; TIFF 6.0, T4Options).
+pub fn aligned_eols_end_on_bytes()
+    ensures { (before : ℕ) → Law.IsLeastFill before }
+{}
+
 /// The bits of a written strip are read as its rows and no fault, in any coding, whatever bits
 /// follow them.
 pub fn coded_bits_are_read_back()

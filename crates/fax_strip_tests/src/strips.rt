@@ -3,7 +3,7 @@ mod caller;
 mod noted;
 mod written;
 
-ghost use Rattle.std.specs.Prelude.{◌≡◌};
+ghost use Rattle.std.specs.Prelude.{◌≡◌, false};
 
 use fax_page::{Coding, FillOrder, Row, StripFault, StripForm, StripReader};
 use std::alloc::Global;
@@ -14,12 +14,14 @@ use std::test::Fail;
 fn form_of(coding: Coding, rows: u32) -> StripForm
     ensures width { result.width ≡ 8 }
     ensures rows { result.rows ≡ rows }
+    ensures not_aligned { result.aligned ≡ false }
 {
     StripForm {
         coding,
         order: FillOrder::MsbFirst,
         width: 8,
         rows,
+        aligned: false,
     }
 }
 
@@ -39,6 +41,7 @@ fn read(
 ) -> Result<(Vec<u32>, Option<StripFault>), Fail> {
     assert!(rt; form.width > 0 && form.width < 65_536);
     assert!(rt; form.rows > 0 && form.rows <= 1_000_000);
+    assert!(rt; !form.aligned);
     assert!(rt; bytes.len() < 100);
     let mut reader = StripReader::new(alloc, bytes, form)?;
     let mut runs = Vec::new(alloc);
