@@ -31,3 +31,8 @@ pub mod RowLemmas
 pub mod FileLemmas
 pub mod WrittenLemmas
 pub mod CodedLemmas
+pub mod LongLineLemmas
+pub mod LongStripLemmas
+pub mod LongTailLemmas
+pub mod OneLongTailLemmas
+pub mod LongPrintedLemmas

@@ -94,7 +94,8 @@ IsLongTailUnder file place (Ok head) items end =
     (offsets : List ℕ) × (fault : Option FileFault) × IsChain head file offsets fault
     × IsLongTailOver head.endian file offsets fault place (slice_get offsets place.at.page) items end
 
--- What a walk from a place inside a strip hands out: no row before the place's is read (this project's profile)
+-- What a walk from a place inside a strip hands out: no row before the place's is read
+-- (this project's profile)
 abbrev pub IsLongTail : List ℕ → LongPlace → List Item → End → Type 0
 IsLongTail file place items end = IsLongTailUnder file place (header file) items end
 
@@ -158,17 +159,21 @@ place_behind form p r n row =
     if nat_lt (row_in_strip form r + 1) (strip_form form (strip_at form r)).rows && nat_le n 4294967295
     then (Some (record { at = record { page = p; row = r + 1 }; bits = n; runs = runs_of row })) else None
 
--- the place behind row r of page p, in a file with this header, for a walk that began so (this project's profile)
-pub record IsLongBehind (file : List ℕ) (begun : Begun) (p r : ℕ) (answer : Result Header FileFault) (place : Option LongPlace) : Type 0 where
-  pub head : Header
-  pub head_is : answer ≡ Ok head
+-- the file's page of this number: its header, the offset of its directory, and its form (TIFF 6.0, section 2)
+pub record HasPage (file : List ℕ) (p : ℕ) (head : Header) (q : ℕ) (form : PageForm) : Type 0 where
+  pub head_is : header file ≡ Ok head
   pub offsets : List ℕ
   pub fault : Option FileFault
   pub chain : IsChain head file offsets fault
-  pub q : ℕ
   pub there : slice_get offsets p ≡ Some q
-  pub form : PageForm
   pub form_is : page head.endian file q ≡ Ok form
+
+-- the place inside a strip behind row r of page p, for a walk that began so, if there is one (this project's profile)
+pub record IsLongBehind (file : List ℕ) (begun : Begun) (p r : ℕ) (place : Option LongPlace) : Type 0 where
+  pub head : Header
+  pub q : ℕ
+  pub form : PageForm
+  pub here : HasPage file p head q form
   pub bytes : List ℕ
   pub bytes_are : strip_bytes head.endian file q (strip_at form r) ≡ Some bytes
   pub row : List Colour
@@ -180,7 +185,7 @@ pub record IsLongBehind (file : List ℕ) (begun : Begun) (p r : ℕ) (answer : 
 -- the place inside a strip behind an item of what a walk hands out that began so, if there is one
 -- (this project's profile)
 abbrev pub IsLongAfter : List ℕ → Begun → Item → Option LongPlace → Type 0
-IsLongAfter file begun item place = IsLongBehind file begun item.page item.row (header file) place
+IsLongAfter file begun item place = IsLongBehind file begun item.page item.row place
 
 -- the place inside a strip behind all these items of what a walk hands out that began so, if there is one: the one that
 -- it began with, where there are no items (this project's profile)

@@ -84,20 +84,20 @@ pub fn long_tails_behind_items()
 pub fn tails_from_printed()
     ensures { LongLaws.TailFromPrinted }
 {
-    files_have_one_items();
-    tails_of_printed();
-    tail_of_start();
+    fax_page::laws::lines_are_read_in_one_way();
+    fax_files::laws::files_have_one_chain();
+    fax_files::laws::forms_are_whole();
+    cursors_have_one_tail();
     places_have_one_tail();
-    long_tails_behind_items();
+    tails_of_printed();
 }
 
 /// The place inside a strip behind a row is printed too, where what the walk began with was printed.
 pub fn places_of_printed()
     ensures { LongLaws.PlacesOfPrinted }
 {
-    files_have_one_items();
-    tails_from_printed();
     fax_files::laws::files_have_one_chain();
+    tails_from_printed();
 }
 
 /// Each file has forms and an end, and one list of them only.

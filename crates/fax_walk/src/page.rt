@@ -266,11 +266,12 @@ impl<'a> OpenPage<'a> {
     pub(crate) fn long_cursor(&self, alloc: Global) -> Result<Option<LongCursor>, Memory>
         ensures { IfOk result (Due.IsLongOnPage self.now) }
     {
+        let place = self.strip.bit_place();
         let row = self.row - self.number * self.form.rows_per_strip;
         if row == 0 || row == self.form.strip_form(self.number).rows {
             return Ok(None);
         }
-        let Ok(bits) = u32::try_from(self.strip.bit_place()) else {
+        let Ok(bits) = u32::try_from(place) else {
             return Ok(None);
         };
         Ok(Some(LongCursor {

@@ -169,7 +169,7 @@ pub record IsReached (begun : Begun) (page : PageState) : Type 0 where
 -- behind the row before this cursor there is this place inside a strip, or none
 abbrev pub IsLongBefore : List ℕ → Begun → Cursor → Option LongPlace → Type 0
 IsLongBefore file begun cursor place =
-    (p r : ℕ) → cursor ≡ record { page = p; row = r + 1 } → IsLongBehind file begun p r (header file) place
+    (p r : ℕ) → cursor ≡ record { page = p; row = r + 1 } → IsLongBehind file begun p r place
 
 -- the row that was handed out last is the one before the row that is due in the strip that is read, or it was its
 -- strip's last
