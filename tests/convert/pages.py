@@ -65,7 +65,7 @@ def converted(program, words, data):
 
 
 def told(program, command, data):
-    """What `check` or `list` prints; a fault is told in its place."""
+    """What `check`, `list` or `rows` prints; a fault is told in its place."""
     ran = subprocess.run([program, command], input=data, capture_output=True, timeout=60)
     return ran.stdout.decode() if (ran.returncode, ran.stderr) == (0, b"") else (ran.returncode, ran.stderr)
 

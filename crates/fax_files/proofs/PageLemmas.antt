@@ -3,14 +3,13 @@ use Rattle.std.proofs.Common.{◌≡◌, ℕ, ◌+◌, ◌-◌, ◌*◌, ◌<◌
 use Rattle.std.specs.Prelude.{IsSome}
 use Rattle.std.proofs.lemmas.Grind.{div_ceil_times}
 use Rattle.std.proofs.Math.Nat.{add-mul, mul-le-mul_right}
-use Rattle.fax_page.specs.declared.Coding.{Coding}
 use Rattle.fax_files.specs.declared.FileFault.{FileFault}
 use Rattle.fax_files.specs.declared.FileFault.TheVariants.{MissingField, BadField}
 use Rattle.fax_files.specs.declared.PageForm.{PageForm}
 use Rattle.fax_files.specs.declared.Endian.{Endian}
 use Rattle.fax_files.specs.Numbers.{◌>>=◌, check, is_inside}
 use Rattle.fax_files.specs.Directory.{Entry, entries, field, value_at, has_integers}
-use Rattle.fax_files.specs.Page.{PelFormat, page, page_size, pel_format, strip_rows, strip_count, page_coding, strip_field, resolution}
+use Rattle.fax_files.specs.Page.{PelFormat, RowCoding, page, page_size, pel_format, strip_rows, strip_count, page_coding, strip_field, resolution}
 use Rattle.fax_files.specs.StripBytes.{strip_bytes, bytes_at}
 use Rattle.fax_files.specs.code.Tiff.{TiffDirectory, AreStripPlaces, bytes_of}
 
@@ -27,12 +26,13 @@ same_strips made form e = ap (λ (f : PageForm). f.strips) (ok_injective made fo
 
 -- What is left of a page's form after some of its steps, from the last one on.
 module _ (endian : Endian) (file : List ℕ) (fields : List Entry) where
-  abbrev pub form_of : ℕ × ℕ → PelFormat → ℕ → Coding → PageForm
+  abbrev pub form_of : ℕ × ℕ → PelFormat → ℕ → RowCoding → PageForm
   form_of size pels rows_per_strip coding = record {
     width = size.0;
     rows = size.1;
-    coding = coding;
+    coding = coding.coding;
     order = pels.order;
+    aligned = coding.aligned;
     exchanged = pels.exchanged;
     rows_per_strip = rows_per_strip;
     strips = strip_count size.1 rows_per_strip;
@@ -41,12 +41,12 @@ module _ (endian : Endian) (file : List ℕ) (fields : List Entry) where
     unit = (resolution endian file fields).unit;
   }
 
-  abbrev pub after_offsets : ℕ × ℕ → PelFormat → ℕ → Coding → Result PageForm FileFault
+  abbrev pub after_offsets : ℕ × ℕ → PelFormat → ℕ → RowCoding → Result PageForm FileFault
   after_offsets size pels rows_per_strip coding =
       strip_field endian file fields 279 (strip_count size.1 rows_per_strip)
       >>= λ _. Ok (form_of size pels rows_per_strip coding)
 
-  abbrev pub after_coding : ℕ × ℕ → PelFormat → ℕ → Coding → Result PageForm FileFault
+  abbrev pub after_coding : ℕ × ℕ → PelFormat → ℕ → RowCoding → Result PageForm FileFault
   after_coding size pels rows_per_strip coding =
       strip_field endian file fields 273 (strip_count size.1 rows_per_strip)
       >>= λ _. after_offsets size pels rows_per_strip coding

@@ -1,5 +1,5 @@
 -- A page that stands written in a file is read as it was written.
-use Rattle.std.proofs.Common.{◌≡◌, ℕ, zero, suc, ◌+◌, ◌-◌, ◌*◌, ◌^◌, ◌<◌, ◌≤◌, true, false, List, [], ◌∷◌, ◌++◌, length, get_or, Some, Result, Ok, Err, refl, sym, ap, ◌∙◌, arith}
+use Rattle.std.proofs.Common.{◌≡◌, ◌≢◌, ℕ, zero, suc, ◌+◌, ◌-◌, ◌*◌, ◌^◌, ◌<◌, ◌≤◌, Bool, true, false, List, [], ◌∷◌, ◌++◌, length, get_or, Some, Result, Ok, Err, refl, sym, ap, ◌∙◌, arith}
 use Rattle.std.proofs.lemmas.List.{length-append}
 use Rattle.std.proofs.lemmas.Bool.{le-leb, lt-ltb, ne_eqb, false≢true}
 use Rattle.std.proofs.lemmas.Grind.{div_ceil_times}
@@ -35,38 +35,44 @@ pub record IsPageAt (file : List ℕ) (q start total k : ℕ) (written : Written
   pub strips : HasBytesAt file start (joined_strips written.strips)
 
 -- the fields fit their bytes, where the strips can be counted
-fields_fit : (coding : Coding) (q total k : ℕ) (form : PageForm) (offsets lengths : List ℕ)
+fields_fit : (coding : Coding) (aligned : Bool) (q total k : ℕ) (form : PageForm) (offsets lengths : List ℕ)
     → nat_lt (length offsets) 4294967296 ≡ true → nat_lt (length lengths) 4294967296 ≡ true
-    → list_all fits (fields_of q total k (record form { coding = coding }) offsets lengths) ≡ true
-fields_fit Mh q total k form offsets lengths o l = rw (o, l) refl
-fields_fit Mr q total k form offsets lengths o l = rw (o, l) refl
-fields_fit Mmr q total k form offsets lengths o l = rw (o, l) refl
+    → list_all fits (fields_of q total k (record form { coding = coding; aligned = aligned }) offsets lengths) ≡ true
+fields_fit Mh true q total k form offsets lengths o l = rw (o, l) refl
+fields_fit Mh false q total k form offsets lengths o l = rw (o, l) refl
+fields_fit Mr true q total k form offsets lengths o l = rw (o, l) refl
+fields_fit Mr false q total k form offsets lengths o l = rw (o, l) refl
+fields_fit Mmr aligned q total k form offsets lengths o l = rw (o, l) refl
 
 -- the last two fields
 abbrev last_fields : ℕ → ℕ → PageForm → List WrittenField
 last_fields total k form = short_field 296 form.unit ∷ record { tag = 297; kind = SHORT; count = 2; value = two k ++ two total } ∷ []
 
 -- T4Options among fields, of which the one for options is the only one with its tag
-coding_from : (coding : Coding) (file : List ℕ) (place : ℕ) (fields : List WrittenField) → HasValues file place fields
-    → written_field fields 292 ≡ written_field (options_field coding ∷ []) 292
-    → page_coding Little file (read_fields place fields) (compression_of coding) ≡ Ok coding
+coding_from : (coding : Coding) (aligned : Bool) (file : List ℕ) (place : ℕ) (fields : List WrittenField) → HasValues file place fields
+    → (aligned ≡ true → coding ≢ Mmr)
+    → written_field fields 292 ≡ written_field (options_field coding aligned ∷ []) 292
+    → page_coding Little file (read_fields place fields) (compression_of coding) ≡ Ok (record { coding = coding; aligned = aligned })
 unfolding page_coding t4_coding
-coding_from Mh file place fields values found = rw (long_or file place 292 0 0 fields values found (omega arith)) refl
-coding_from Mr file place fields values found = rw (long_or file place 292 1 0 fields values found (omega arith)) refl
-coding_from Mmr file place fields values found = refl
+coding_from Mh true file place fields values has_eols found = rw (long_or file place 292 4 0 fields values found (omega arith)) refl
+coding_from Mh false file place fields values has_eols found = rw (long_or file place 292 0 0 fields values found (omega arith)) refl
+coding_from Mr true file place fields values has_eols found = rw (long_or file place 292 5 0 fields values found (omega arith)) refl
+coding_from Mr false file place fields values has_eols found = rw (long_or file place 292 1 0 fields values found (omega arith)) refl
+coding_from Mmr true file place fields values has_eols found = absurd (has_eols refl refl)
+coding_from Mmr false file place fields values has_eols found = refl
 
 -- which it is
-options_found : (coding : Coding) (total k : ℕ) (form : PageForm)
-    → written_field (options_field coding ∷ last_fields total k form) 292 ≡ written_field (options_field coding ∷ []) 292
-options_found Mh total k form = refl
-options_found Mr total k form = refl
-options_found Mmr total k form = refl
+options_found : (coding : Coding) (aligned : Bool) (total k : ℕ) (form : PageForm)
+    → written_field (options_field coding aligned ∷ last_fields total k form) 292 ≡ written_field (options_field coding aligned ∷ []) 292
+options_found Mh aligned total k form = refl
+options_found Mr aligned total k form = refl
+options_found Mmr aligned total k form = refl
 
-unit_found : (coding : Coding) (total k : ℕ) (form : PageForm)
-    → written_field (options_field coding ∷ last_fields total k form) 296 ≡ Some (short_field 296 form.unit)
-unit_found Mh total k form = refl
-unit_found Mr total k form = refl
-unit_found Mmr total k form = refl
+unit_found : (coding : Coding) (aligned : Bool) (total k : ℕ) (form : PageForm)
+    → written_field (options_field coding aligned ∷ last_fields total k form) 296 ≡ Some (short_field 296 form.unit)
+unit_found Mh aligned total k form = refl
+unit_found Mr aligned total k form = refl
+unit_found Mmr aligned total k form = refl
 
 compression_small : (coding : Coding) → compression_of coding < 65536
 compression_small Mh = omega arith
@@ -101,7 +107,7 @@ pub page_fits : (q start total k : ℕ) (written : WrittenPage) → IsWritable w
 page_fits q start total k written w =
     let many = strips_small written w in
     all_fit (page_fields q start total k written)
-    (fields_fit written.form.coding q total k written.form (offsets_from start written.strips) (lengths_of written.strips)
+    (fields_fit written.form.coding written.form.aligned q total k written.form (offsets_from start written.strips) (lengths_of written.strips)
     (lt-ltb _ _ (omega (arith, many, length-offsets_from start written.strips))) (lt-ltb _ _ (omega (arith, many, length-lengths_of written.strips))))
 
 pub length-page_fields : (q start total k : ℕ) (written : WrittenPage) → IsWritable written → length (fields_bytes (page_fields q start total k written)) ≡ 194
@@ -216,8 +222,11 @@ module _ (file : List ℕ) (q start total k : ℕ) (written : WrittenPage) (know
       let least : min written.form.rows_per_strip written.form.rows ≡ written.form.rows_per_strip = omega (arith, w.limits.rows_per_strip) in
       rw (rows, above, least) refl
 
-  coding_there : page_coding Little file entries_read (compression_of written.form.coding) ≡ Ok written.form.coding
-  coding_there = coding_from written.form.coding file (q + 2) fields values (options_found written.form.coding total k written.form)
+  coding_there : page_coding Little file entries_read (compression_of written.form.coding)
+      ≡ Ok (record { coding = written.form.coding; aligned = written.form.aligned })
+  coding_there =
+      coding_from written.form.coding written.form.aligned file (q + 2) fields values known.writable.limits.aligned
+      (options_found written.form.coding written.form.aligned total k written.form)
 
   parts : ValuesThere file q written.form (offsets_from start written.strips) (lengths_of written.strips)
   parts = values_there file q written.form (offsets_from start written.strips) (lengths_of written.strips) known.here.values
@@ -229,7 +238,7 @@ module _ (file : List ℕ) (q start total k : ℕ) (written : WrittenPage) (know
       let inside = at_inside (rational_bytes written.form.y) parts.y in
       let x = rational_back file (q + 2) 282 (q + 198) written.form.x fields values refl (omega (arith, inside, known.small)) w.limits.x parts.x in
       let y = rational_back file (q + 2) 283 (q + 206) written.form.y fields values refl (omega (arith, inside, known.small)) w.limits.y parts.y in
-      let unit = short_or file (q + 2) 296 written.form.unit 2 fields values (unit_found written.form.coding total k written.form) (omega (arith, w.limits.unit)) in
+      let unit = short_or file (q + 2) 296 written.form.unit 2 fields values (unit_found written.form.coding written.form.aligned total k written.form) (omega (arith, w.limits.unit)) in
       let unit_low : nat_le 1 written.form.unit ≡ true = le-leb _ _ w.limits.some_unit in
       let unit_high : nat_le written.form.unit 3 ≡ true = le-leb _ _ w.limits.unit in
       rw (x, y, unit, unit_low, unit_high) refl

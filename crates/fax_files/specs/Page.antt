@@ -1,5 +1,5 @@
 -- The form of a page, from the fields of its directory.
-use Rattle.std.specs.Prelude.{◌≡◌, ◌≤◌, ◌<◌, ℕ, ◌+◌, ◌-◌, ◌%◌, ◌^◌, min, Bool, nat_le, nat_lt, ◌==◌, ◌&&◌, ◌||◌, not}
+use Rattle.std.specs.Prelude.{◌≡◌, ◌≤◌, ◌<◌, ℕ, ◌+◌, ◌-◌, ◌/◌, ◌%◌, ◌^◌, ◌≢◌, min, Bool, true, false, nat_le, nat_lt, ◌==◌, ◌&&◌, ◌||◌, not}
 use Rattle.std.specs.Prelude.{if◌then◌else◌, List, Option, Some, None, Result, Ok}
 use Rattle.std.specs.Int.{div_ceil}
 use Rattle.fax_bits.specs.declared.FillOrder.{FillOrder}
@@ -80,16 +80,22 @@ strip_rows endian file fields rows = do
 abbrev pub strip_count : ℕ → ℕ → ℕ
 strip_count rows rows_per_strip = div_ceil rows rows_per_strip
 
--- how the rows of Compression 3 are coded: in MR where bit 0 of T4Options is set, else in MH; its other bits are
--- ignored (TIFF 6.0, T4Options)
-unfoldable pub t4_coding : Endian → List ℕ → List Entry → Result Coding FileFault
+-- how rows are coded, and whether each EOL ends on a byte boundary (TIFF 6.0, Compression and T4Options)
+pub record RowCoding : Type 0 where
+  pub coding : Coding
+  pub aligned : Bool
+
+-- how the rows of Compression 3 are coded: in MR where bit 0 of T4Options is set, else in MH; with aligned EOLs where
+-- bit 2 is set; its other bits are ignored (TIFF 6.0, T4Options)
+unfoldable pub t4_coding : Endian → List ℕ → List Entry → Result RowCoding FileFault
 t4_coding endian file fields = do
   options ← scalar_or endian file fields 292 0
-  Ok (if options % 2 == 1 then Mr else Mh)
+  Ok (record { coding = if options % 2 == 1 then Mr else Mh; aligned = options / 4 % 2 == 1 })
 
 -- how the rows are coded: in MMR where Compression is 4, for which T4Options is not read (TIFF 6.0, Compression)
-unfoldable pub page_coding : Endian → List ℕ → List Entry → ℕ → Result Coding FileFault
-page_coding endian file fields compression = if compression == 4 then (Ok Mmr) else (t4_coding endian file fields)
+unfoldable pub page_coding : Endian → List ℕ → List Entry → ℕ → Result RowCoding FileFault
+page_coding endian file fields compression =
+    if compression == 4 then (Ok (record { coding = Mmr; aligned = false })) else (t4_coding endian file fields)
 
 -- StripOffsets or StripByteCounts, with a value for each strip (this project's profile)
 unfoldable pub strip_field : Endian → List ℕ → List Entry → ℕ → ℕ → Result Entry FileFault
@@ -156,7 +162,7 @@ page endian file q = do
   pels ← pel_format endian file fields
   rows_per_strip ← strip_rows endian file fields size.1
   let strips = strip_count size.1 rows_per_strip
-  coding ← page_coding endian file fields pels.compression
+  coded ← page_coding endian file fields pels.compression
   -- StripOffsets
   _ ← strip_field endian file fields 273 strips
   -- StripByteCounts
@@ -165,8 +171,9 @@ page endian file q = do
   Ok (record {
     width = size.0;
     rows = size.1;
-    coding = coding;
+    coding = coded.coding;
     order = pels.order;
+    aligned = coded.aligned;
     exchanged = pels.exchanged;
     rows_per_strip = rows_per_strip;
     strips = strips;
@@ -182,7 +189,7 @@ pub record IsGoodRational (value : ℕ × ℕ) : Type 0 where
   pub some_bottom : 1 ≤ value.1
   pub bottom : value.1 < 4294967296
 
--- the limits of a page's form (this project's profile)
+-- the limits of a page's form; EOLs are aligned only where rows have them (this project's profile)
 pub record IsPageForm (form : PageForm) : Type 0 where
   pub some_width : 1 ≤ form.width
   pub width : form.width ≤ 65535
@@ -195,3 +202,4 @@ pub record IsPageForm (form : PageForm) : Type 0 where
   pub y : IsGoodRational form.y
   pub some_unit : 1 ≤ form.unit
   pub unit : form.unit ≤ 3
+  pub aligned : form.aligned ≡ true → form.coding ≢ Mmr

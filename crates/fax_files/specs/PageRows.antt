@@ -20,6 +20,7 @@ strip_form form s = record {
   order = form.order;
   width = form.width;
   rows = min form.rows_per_strip (form.rows - s * form.rows_per_strip);
+  aligned = form.aligned;
 }
 
 -- From strip s on the page has these strips, each a list of rows. The end is none behind the last strip, else

@@ -1,5 +1,5 @@
 -- TIFF files as they are written (TIFF 6.0, RFC 2306's profile F, and this project's profile).
-use Rattle.std.specs.Prelude.{ℕ, ◌+◌, ◌*◌, ◌%◌, List, [], ◌∷◌, ◌++◌, length, take, drop, replicate, flat_map, codes}
+use Rattle.std.specs.Prelude.{ℕ, ◌+◌, ◌*◌, ◌%◌, Bool, if◌then◌else◌, List, [], ◌∷◌, ◌++◌, length, take, drop, replicate, flat_map, codes}
 use Rattle.byteorder.specs.Endian.{little_bytes}
 use Rattle.fax_bits.specs.declared.FillOrder.{FillOrder}
 use Rattle.fax_bits.specs.declared.FillOrder.TheVariants.{MsbFirst, LsbFirst}
@@ -48,11 +48,11 @@ abbrev pub fill_order_of : FillOrder → ℕ
 fill_order_of MsbFirst = 1
 fill_order_of LsbFirst = 2
 
--- T4Options for MH and MR, T6Options for MMR
-abbrev pub options_field : Coding → WrittenField
-options_field Mh = long_field 292 1 0
-options_field Mr = long_field 292 1 1
-options_field Mmr = long_field 293 1 0
+-- T4Options for MH and MR, with bit 2 where EOLs are aligned, T6Options for MMR
+abbrev pub options_field : Coding → Bool → WrittenField
+options_field Mh aligned = long_field 292 1 (if aligned then 4 else 0)
+options_field Mr aligned = long_field 292 1 (if aligned then 5 else 1)
+options_field Mmr aligned = long_field 293 1 0
 
 -- the strips' offsets, the first of which is `start`
 abbrev pub offsets_from : ℕ → List (List ℕ) → List ℕ
@@ -101,7 +101,7 @@ fields_of q total k form offsets lengths =
     ∷ rational_field 282 (q + 198)
     ∷ rational_field 283 (q + 206)
     -- T4Options or T6Options
-    ∷ options_field form.coding
+    ∷ options_field form.coding form.aligned
     -- ResolutionUnit
     ∷ short_field 296 form.unit
     -- PageNumber

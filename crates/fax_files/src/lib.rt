@@ -162,6 +162,9 @@ pub struct PageForm {
     pub coding: Coding,
     /// Which bit of a byte is first.
     pub order: FillOrder,
+    /// Whether each EOL ends on a byte boundary of its strip, behind fill (TIFF 6.0, T4Options):
+    /// false in MMR, which has no EOLs. Rows are read in the same way either way.
+    pub aligned: bool,
     /// Whether black is coded as white, and white as black.
     pub exchanged: bool,
     /// The rows of each strip but the last, which may have fewer: 1 to `rows`.
@@ -196,6 +199,7 @@ impl PageForm {
             order: self.order,
             width: self.width,
             rows: self.rows_per_strip.min(self.rows - s * self.rows_per_strip),
+            aligned: self.aligned,
         }
     }
 }

@@ -1,6 +1,7 @@
 //! The form of a page, from the fields of its directory (TIFF 6.0; RFC 2306).
 
-ghost use Rattle.std.specs.Prelude.{◌≡◌, ◌+◌, ◌≤◌, length, Ok, IsTrue, IfOk};
+ghost use Rattle.std.specs.Prelude.{◌≡◌, ◌≢◌, ◌+◌, ◌≤◌, length, true, Ok, IsTrue, IfOk};
+ghost use Rattle.fax_page.specs.declared.Coding.TheVariants.{Mmr};
 ghost use Rattle.fax_files.specs.Directory as Entries;
 ghost use Rattle.fax_files.specs.Page as Spec;
 ghost use Rattle.fax_files.specs.declared.PageForm.{PageForm};
@@ -74,6 +75,21 @@ impl Model for PelFormat {
     } };
 }
 
+/// How the rows of a page are coded.
+struct RowCoding {
+    coding: Coding,
+    /// Whether each EOL ends on a byte boundary.
+    aligned: bool,
+}
+
+impl Model for RowCoding {
+    ghost use Rattle.fax_files.specs.Page.{RowCoding};
+
+    ghost Value = { RowCoding };
+
+    ghost view = { λ c. record { coding = c.coding; aligned = c.aligned } };
+}
+
 /// The resolution of a page.
 struct Resolution {
     x: (u32, u32),
@@ -103,7 +119,7 @@ pub fn page_form(fields: &Fields) -> Result<PageForm, FileFault>
     } = pel_format(fields)?;
     let rows_per_strip = strip_rows(fields, rows)?;
     let strips = rows.div_ceil(rows_per_strip);
-    let coding = page_coding(fields, compression)?;
+    let RowCoding { coding, aligned } = page_coding(fields, compression)?;
     strip_field(fields, STRIP_OFFSETS, strips)?;
     strip_field(fields, STRIP_BYTE_COUNTS, strips)?;
     let Resolution { x, y, unit } = page_resolution(fields);
@@ -112,6 +128,7 @@ pub fn page_form(fields: &Fields) -> Result<PageForm, FileFault>
         rows,
         coding,
         order,
+        aligned,
         exchanged,
         rows_per_strip,
         strips,
@@ -206,18 +223,27 @@ fn strip_rows(fields: &Fields, rows: u32) -> Result<u32, FileFault>
 
 /// How the rows of a page are coded. T4Options is looked at in T.4 alone.
 #[tactic(auto, unfolding(crate::specs::Page::page_coding, crate::specs::Page::t4_coding))]
-fn page_coding(fields: &Fields, compression: u32) -> Result<Coding, FileFault>
-    ensures { result
+fn page_coding(fields: &Fields, compression: u32) -> Result<RowCoding, FileFault>
+    ensures exact { result
         ≡ Spec.page_coding fields.now.endian fields.now.file (entries_of fields.now) compression }
+    ensures aligned { IfOk result (λ rows. rows.aligned ≡ true → rows.coding ≢ Mmr) }
 {
     if compression == COMPRESSION_T6 {
-        return Ok(Coding::Mmr);
+        return Ok(RowCoding {
+            coding: Coding::Mmr,
+            aligned: false,
+        });
     }
-    if fields.scalar_or(T4_OPTIONS, 0)? % 2 == 1 {
-        Ok(Coding::Mr)
+    let options = fields.scalar_or(T4_OPTIONS, 0)?;
+    let coding = if options % 2 == 1 {
+        Coding::Mr
     } else {
-        Ok(Coding::Mh)
-    }
+        Coding::Mh
+    };
+    Ok(RowCoding {
+        coding,
+        aligned: options / 4 % 2 == 1,
+    })
 }
 
 /// The resolution of a page: 204 by 196 dots an inch where its fields have no good one.

@@ -110,13 +110,13 @@ fn rational_field(tag: u16, place: u32) -> Field
     }
 }
 
-/// T4Options for MH and MR, T6Options for MMR.
-fn options_field(coding: Coding) -> Field
-    ensures { result ≡ Spec.options_field coding }
+/// T4Options for MH and MR, with bit 2 where EOLs are aligned, T6Options for MMR.
+fn options_field(coding: Coding, aligned: bool) -> Field
+    ensures { result ≡ Spec.options_field coding aligned }
 {
     match coding {
-        Coding::Mh => long_field(292, 1, 0),
-        Coding::Mr => long_field(292, 1, 1),
+        Coding::Mh => long_field(292, 1, if aligned { 4 } else { 0 }),
+        Coding::Mr => long_field(292, 1, if aligned { 5 } else { 1 }),
         Coding::Mmr => long_field(293, 1, 0),
     }
 }
@@ -196,7 +196,7 @@ fn page_fields(form: &PageForm, at: &Layout) -> [Field; 16]
         long_field(279, at.strips, at.byte_counts),
         rational_field(282, at.directory + 198),
         rational_field(283, at.directory + 206),
-        options_field(form.coding),
+        options_field(form.coding, form.aligned),
         short_field(296, form.unit),
         Field {
             tag: 297,

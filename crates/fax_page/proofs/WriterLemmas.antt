@@ -7,7 +7,6 @@ use Rattle.fax_bits.specs.Bits.{bits}
 use Rattle.fax_bits.specs.Bytes.{packed}
 use Rattle.fax_bits.specs.Laws.{PacksOneWay}
 use Rattle.fax_bits.specs.code.Sink.{Sink, Appends, IsPadded}
-use Rattle.fax_page.specs.declared.Coding.{Coding}
 use Rattle.fax_page.specs.declared.Dimension.{Dimension}
 use Rattle.fax_page.specs.declared.StripForm.{StripForm}
 use Rattle.fax_page.specs.Strip.{white_row}
@@ -22,13 +21,14 @@ appended old middle new first second put more =
     ∙ ap (λ (b : List Bool). record { order = old.order; bits = b }) (append_assoc old.bits first second)
 
 -- a row that is put: what stands before its codes, and then its codes
-pub line_put : (coding : Coding) (k i : ℕ) (reference row : List Colour) (dimension another : Dimension) (old middle new : Sink)
-    → dimension ≡ written_dimension coding k i → dimension ≡ another → Appends old (start_bits coding dimension) middle
-    → Appends middle (row_bits another reference row) new → Appends old (coded_line coding k i reference row) new
+pub line_put : (form : StripForm) (k before i : ℕ) (reference row : List Colour) (dimension another : Dimension) (old middle new : Sink)
+    → dimension ≡ written_dimension form.coding k i → dimension ≡ another
+    → Appends old (start_bits form.coding form.aligned before dimension) middle
+    → Appends middle (row_bits another reference row) new → Appends old (coded_line form k before i reference row) new
 unfolding coded_line
-line_put coding k i reference row dimension another old middle new written is start codes =
-    subst (λ d. Appends old (start_bits coding d ++ row_bits d reference row) new) written
-    (appended old middle new (start_bits coding dimension) (row_bits dimension reference row) start
+line_put form k before i reference row dimension another old middle new written is start codes =
+    subst (λ d. Appends old (start_bits form.coding form.aligned before d ++ row_bits d reference row) new) written
+    (appended old middle new (start_bits form.coding form.aligned before dimension) (row_bits dimension reference row) start
     (subst (λ d. Appends middle (row_bits d reference row) new) (sym is) codes))
 
 -- a strip that is finished: what stands behind its last row, and zeros
@@ -42,20 +42,27 @@ finished order start middle padded end bytes packs same_order put pad fit holds 
     packs.only order (start.bits ++ end) bytes pad.zeros pad.few fit
     (ap (λ o. bits o bytes) (sym order_is) ∙ holds ∙ ap (λ (s : Sink). s.bits) pad.appended ∙ ap (λ (s : Sink). s.bits ++ zeros) put)
 
-lines_grow : (coding : Coding) (k i : ℕ) (reference row : List Colour) (rows : List (List Colour))
-    → coded_lines coding k i reference (rows ++ row ∷ [])
-    ≡ coded_lines coding k i reference rows ++ coded_line coding k (i + length rows) (last_of reference rows) row
+lines_grow : (form : StripForm) (k before i : ℕ) (reference row : List Colour) (rows : List (List Colour))
+    → coded_lines form k before i reference (rows ++ row ∷ [])
+    ≡ coded_lines form k before i reference rows
+    ++ coded_line form k (before + length (coded_lines form k before i reference rows)) (i + length rows) (last_of reference rows) row
 unfolding coded_lines
-lines_grow coding k i reference row [] =
+lines_grow form k before i reference row [] =
     let here : i + 0 ≡ i = omega arith in
-    append-nil (coded_line coding k i reference row) ∙ sym (ap (λ n. coded_line coding k n reference row) here)
-lines_grow coding k i reference row (first ∷ rows) =
-    let there : i + 1 + length rows ≡ i + suc (length rows) = omega arith in
-    let line = coded_line coding k i reference first in
+    let place : before + 0 ≡ before = omega arith in
+    append-nil (coded_line form k before i reference row)
+    ∙ sym (ap (λ n. coded_line form k n (i + 0) reference row) place ∙ ap (λ n. coded_line form k before n reference row) here)
+lines_grow form k before i reference row (first ∷ rows) =
+    let line = coded_line form k before i reference first in
+    let others = coded_lines form k (before + length line) (i + 1) first rows in
     let last = last_of first rows in
+    let there : i + 1 + length rows ≡ i + suc (length rows) = omega arith in
+    let place : before + length line + length others ≡ before + length (line ++ others) = omega (arith, length-append line others) in
     ap (λ (b : List Bool). line ++ b)
-    (lines_grow coding k (i + 1) first row rows ∙ ap (λ n. coded_lines coding k (i + 1) first rows ++ coded_line coding k n last row) there)
-    ∙ sym (append_assoc line (coded_lines coding k (i + 1) first rows) (coded_line coding k (i + suc (length rows)) last row))
+    (lines_grow form k (before + length line) (i + 1) first row rows
+    ∙ ap (λ n. others ++ coded_line form k n (i + 1 + length rows) last row) place
+    ∙ ap (λ n. others ++ coded_line form k (before + length (line ++ others)) n last row) there)
+    ∙ sym (append_assoc line others (coded_line form k (before + length (line ++ others)) (i + suc (length rows)) last row))
 
 last_of-append : (reference row : List Colour) (rows : List (List Colour)) → last_of reference (rows ++ row ∷ []) ≡ row
 last_of-append reference row [] = refl
@@ -71,18 +78,21 @@ pub row_added : (form : StripForm) (k : ℕ) (rows : List (List Colour)) (row : 
     → HasPut form k rows old → PutsRow old row new → HasPut form k (rows ++ row ∷ []) new
 row_added form k rows row old new is puts =
     let white = white_row form.width in
+    let lines = coded_lines form k 0 0 white rows in
+    let last = last_of white rows in
     let start : 0 + length rows ≡ length rows = omega arith in
-    let bits_are : coded_lines form.coding k 0 white rows ++ coded_line form.coding k (length rows) (last_of white rows) row
-    ≡ coded_lines form.coding k 0 white (rows ++ row ∷ []) =
-    ap (λ n. coded_lines form.coding k 0 white rows ++ coded_line form.coding k n (last_of white rows) row) (sym start)
-    ∙ sym (lines_grow form.coding k 0 white row rows) in
+    let place : 0 + length lines ≡ length lines = omega arith in
+    let bits_are : lines ++ coded_line form k (length lines) (length rows) last row ≡ coded_lines form k 0 0 white (rows ++ row ∷ []) =
+    ap (λ n. lines ++ coded_line form k n (length rows) last row) (sym place)
+    ∙ ap (λ n. lines ++ coded_line form k (0 + length lines) n last row) (sym start)
+    ∙ sym (lines_grow form k 0 0 white row rows) in
     let count : length rows + 1 ≡ length (rows ++ row ∷ []) = sym (length-append rows (row ∷ [])) in
     let last_is : row ≡ last_of white (rows ++ row ∷ []) = sym (last_of-append white row rows) in
     puts.put
-    ∙ ap (λ (w : WriterState). record w { bits = w.bits ++ coded_line w.form.coding w.k w.row w.last row; row = w.row + 1; last = row }) is
+    ∙ ap (λ (w : WriterState). record w { bits = w.bits ++ coded_line w.form w.k (length w.bits) w.row w.last row; row = w.row + 1; last = row }) is
     ∙ ap (λ (b : List Bool). record { form = form; k = k; bits = b; row = length rows + 1; last = row; refused = false }) bits_are
-    ∙ ap (λ n. record { form = form; k = k; bits = coded_lines form.coding k 0 white (rows ++ row ∷ []); row = n; last = row; refused = false }) count
-    ∙ ap (λ (r : List Colour). record { form = form; k = k; bits = coded_lines form.coding k 0 white (rows ++ row ∷ []); row = length (rows ++ row ∷ []); last = r; refused = false }) last_is
+    ∙ ap (λ n. record { form = form; k = k; bits = coded_lines form k 0 0 white (rows ++ row ∷ []); row = n; last = row; refused = false }) count
+    ∙ ap (λ (r : List Colour). record { form = form; k = k; bits = coded_lines form k 0 0 white (rows ++ row ∷ []); row = length (rows ++ row ∷ []); last = r; refused = false }) last_is
 
 -- a writer that is finished
 pub finishes_so : (form : StripForm) (k : ℕ) (rows : List (List Colour)) (writer : WriterState) (bytes : List ℕ)

@@ -12,19 +12,24 @@ use Rattle.fax_page.specs.declared.Dimension.TheVariants.{OneDimensional, TwoDim
 use Rattle.fax_page.specs.declared.Coding.{Coding}
 use Rattle.fax_page.specs.declared.Coding.TheVariants.{Mh, Mr, Mmr}
 use Rattle.fax_page.specs.declared.StripForm.{StripForm}
-use Rattle.fax_page.specs.Lines.{IsStart, IsRowIn, IsLine}
+use Rattle.fax_page.specs.Lines.{tag_bit, IsStart, IsRowIn, IsLine}
 use Rattle.fax_page.specs.Strip.{IsStripForm, AreLines, white_row}
-use Rattle.fax_page.specs.CodedStrip.{written_dimension, row_bits, start_bits, coded_line, coded_lines, coded_bits, end_bits}
+use Rattle.fax_page.specs.CodedStrip.{written_dimension, row_bits, fill_zeros, start_bits, coded_line, coded_lines, coded_bits, end_bits}
 use Rattle.fax_page.specs.Laws.{CodedBitsAreRead}
+use Rattle.fax_page.proofs.FillLemmas.{end_of_line_back}
 use Rattle.fax_page.proofs.FirstCodeLemmas.{row_begins}
 
 -- a written row begins as it is to
-start_back : (coding : Coding) (k i : ℕ) (reference row : List Colour) (more : List Bool)
-    → IsStart coding i ((start_bits coding (written_dimension coding k i) ++ row_bits (written_dimension coding k i) reference row) ++ more) (written_dimension coding k i)
-    (row_bits (written_dimension coding k i) reference row ++ more)
-start_back Mh k i reference row more = (refl, inl (11, omega arith, refl))
-start_back Mr k i reference row more = (11, omega arith, refl)
-start_back Mmr k i reference row more = (refl, refl)
+start_back : (coding : Coding) (aligned : Bool) (before k i : ℕ) (reference row : List Colour) (more : List Bool)
+    → let dimension = written_dimension coding k i in
+    IsStart coding i ((start_bits coding aligned before dimension ++ row_bits dimension reference row) ++ more) dimension
+    (row_bits dimension reference row ++ more)
+start_back Mh aligned before k i reference row more =
+    (refl, inl (end_of_line_back (fill_zeros aligned before) [] (one_dimensional_bits row) more))
+start_back Mr aligned before k i reference row more =
+    let dimension = written_dimension Mr k i in
+    end_of_line_back (fill_zeros aligned before) (tag_bit dimension ∷ []) (row_bits dimension reference row) more
+start_back Mmr aligned before k i reference row more = (refl, refl)
 
 module _ (one_read : OneDimensionalBitsAreRead) (two_read : TwoDimensionalBitsAreRead) (form : StripForm) (limits : IsStripForm form) (k : ℕ) where
   row_back : (dimension : Dimension) (reference row : List Colour) (more : List Bool) → length reference ≡ form.width → length row ≡ form.width
@@ -36,10 +41,10 @@ module _ (one_read : OneDimensionalBitsAreRead) (two_read : TwoDimensionalBitsAr
       two_read reference row more record { some = omega (arith, limits.some_pels, width); short = omega (arith, limits.short_rows, width) }
       (reference_width ∙ sym width)
 
-  line_back : (i : ℕ) (reference row : List Colour) (more : List Bool) → length reference ≡ form.width → length row ≡ form.width
-      → IsLine form i reference (coded_line form.coding k i reference row ++ more) row more
+  line_back : (before i : ℕ) (reference row : List Colour) (more : List Bool) → length reference ≡ form.width → length row ≡ form.width
+      → IsLine form i reference (coded_line form k before i reference row ++ more) row more
   unfolding coded_line
-  line_back i reference row more reference_width width =
+  line_back before i reference row more reference_width width =
       let dimension = written_dimension form.coding k i in
       let codes = row_bits dimension reference row ++ more in
       let coded = row_back dimension reference row more reference_width width in
@@ -47,26 +52,28 @@ module _ (one_read : OneDimensionalBitsAreRead) (two_read : TwoDimensionalBitsAr
         dimension = dimension;
         codes = codes;
         begin = record {
-          start = start_back form.coding k i reference row more;
+          start = start_back form.coding form.aligned before k i reference row more;
           first_code = row_begins dimension form.width reference codes row more limits.some_pels coded;
         };
         coded = coded;
       }
 
-  lines_back : (i : ℕ) (reference : List Colour) (rows : List (List Colour)) (more : List Bool) → length reference ≡ form.width
+  lines_back : (before i : ℕ) (reference : List Colour) (rows : List (List Colour)) (more : List Bool) → length reference ≡ form.width
       → All (λ row. length row ≡ form.width) rows → i + length rows ≡ form.rows
-      → AreLines form i reference (coded_lines form.coding k i reference rows ++ more) rows None more
+      → AreLines form i reference (coded_lines form k before i reference rows ++ more) rows None more
   unfolding coded_lines
-  lines_back i reference [] more reference_width widths count = (refl, omega (arith, count))
-  lines_back i reference (row ∷ rows) more reference_width widths count =
+  lines_back before i reference [] more reference_width widths count = (refl, omega (arith, count))
+  lines_back before i reference (row ∷ rows) more reference_width widths count =
       let width : length row ≡ form.width = widths zero row (omega arith) in
-      let behind = coded_lines form.coding k (i + 1) row rows ++ more in (
+      let line = coded_line form k before i reference row in
+      let place = before + length line in
+      let others = coded_lines form k place (i + 1) row rows in
+      let behind = others ++ more in (
         behind,
         omega (arith, count),
-        subst (λ b. IsLine form i reference b row behind)
-            (sym (append_assoc (coded_line form.coding k i reference row) (coded_lines form.coding k (i + 1) row rows) more))
-            (line_back i reference row behind reference_width width),
-        lines_back (i + 1) row rows more width (λ j d h. widths (suc j) d (omega (arith, h))) (omega (arith, count)),
+        subst (λ b. IsLine form i reference b row behind) (sym (append_assoc line others more))
+            (line_back before i reference row behind reference_width width),
+        lines_back place (i + 1) row rows more width (λ j d h. widths (suc j) d (omega (arith, h))) (omega (arith, count)),
       )
 
 -- a written strip is read back, whatever bits follow it
@@ -77,7 +84,7 @@ coded_bits_back one_read two_read form k rows more limits fit =
     record {
       left = behind;
       lines = subst (λ b. AreLines form 0 (white_row form.width) b rows None behind)
-          (sym (append_assoc (coded_lines form.coding k 0 (white_row form.width) rows) (end_bits form.coding) more))
-          (lines_back one_read two_read form limits k 0 (white_row form.width) rows behind (length-replicate form.width White) fit.widths
+          (sym (append_assoc (coded_lines form k 0 0 (white_row form.width) rows) (end_bits form.coding) more))
+          (lines_back one_read two_read form limits k 0 0 (white_row form.width) rows behind (length-replicate form.width White) fit.widths
           (omega (arith, fit.count)));
     }

@@ -1,12 +1,12 @@
 -- Laws of strips, which the functions of the module `laws` prove.
-use Rattle.std.specs.Prelude.{◌≡◌, ℕ, ◌⊎◌, Bool, List, ◌++◌, Option, None}
+use Rattle.std.specs.Prelude.{◌≡◌, ℕ, ◌+◌, ◌<◌, ◌%◌, ◌⊎◌, Bool, true, List, ◌++◌, length, Option, None}
 use Rattle.fax_bits.specs.declared.Colour.{Colour}
 use Rattle.fax_bits.specs.Bits.{bits}
 use Rattle.fax_page.specs.declared.StripForm.{StripForm}
 use Rattle.fax_page.specs.declared.StripFault.{StripFault}
 use Rattle.fax_page.specs.Lines.{IsLine, IsCause}
 use Rattle.fax_page.specs.Strip.{IsStripForm, IsStrip}
-use Rattle.fax_page.specs.CodedStrip.{coded_bits, coded_strip, AreRowsOf}
+use Rattle.fax_page.specs.CodedStrip.{end_of_line, fill_zeros, coded_bits, coded_strip, AreRowsOf}
 
 -- bits begin with at most one row, and one rest follows it (this project's profile)
 abbrev pub IsOneLine : StripForm → ℕ → List Colour → Type 0
@@ -57,6 +57,16 @@ HasOneReading form =
 pub record ReadsStripsOneWay (form : StripForm) : Type 0 where
   pub rows_and_end : HasRowsAndEnd form
   pub one_reading : HasOneReading form
+
+-- behind so many bits and this much fill an EOL ends on a byte boundary (T.4, section 4.1.3; TIFF 6.0, T4Options)
+abbrev pub IsAligned : ℕ → ℕ → Type 0
+IsAligned before fill = (before + fill + length end_of_line) % 8 ≡ 0
+
+-- the fill before an aligned EOL makes it end on a byte boundary, and less fill does not (T.4, section 4.1.3; TIFF
+-- 6.0, T4Options)
+pub record IsLeastFill (before : ℕ) : Type 0 where
+  pub aligned : IsAligned before (fill_zeros true before)
+  pub least : (fewer : ℕ) → fewer < fill_zeros true before → IsAligned before fewer → ⊥
 
 -- the bits of a written strip, whatever follows them, are a strip with its rows and no fault (this project's
 -- profile)

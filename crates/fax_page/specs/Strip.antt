@@ -1,17 +1,20 @@
 -- The rows of a strip.
-use Rattle.std.specs.Prelude.{◌≡◌, ℕ, ◌+◌, ◌<◌, ◌≤◌, ◌^◌, Bool, List, [], ◌∷◌, replicate, Option, Some, None}
+use Rattle.std.specs.Prelude.{◌≡◌, ◌≢◌, ℕ, ◌+◌, ◌<◌, ◌≤◌, ◌^◌, Bool, true, List, [], ◌∷◌, replicate, Option, Some, None}
 use Rattle.fax_bits.specs.declared.Colour.{Colour}
 use Rattle.fax_bits.specs.declared.Colour.TheVariants.{White}
+use Rattle.fax_page.specs.declared.Coding.TheVariants.{Mmr}
 use Rattle.fax_page.specs.declared.StripForm.{StripForm}
 use Rattle.fax_page.specs.declared.StripFault.{StripFault}
 use Rattle.fax_page.specs.Lines.{IsLine, IsCause}
 
--- a strip's limits: rows of 1 to 65,535 pels, and 1 to 1,000,000 of them (this project's profile)
+-- a strip's limits: rows of 1 to 65,535 pels, and 1 to 1,000,000 of them; EOLs are aligned only where rows have them
+-- (this project's profile)
 pub record IsStripForm (form : StripForm) : Type 0 where
   pub some_pels : 0 < form.width
   pub short_rows : form.width < 2 ^ 16
   pub some_rows : 0 < form.rows
   pub few_rows : form.rows ≤ 1000000
+  pub aligned : form.aligned ≡ true → form.coding ≢ Mmr
 
 -- a strip ends before row i: there, where it has all its rows, or at the cause in the way of that row
 -- (this project's profile)

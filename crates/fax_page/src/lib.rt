@@ -45,6 +45,10 @@ pub struct StripForm {
     pub width: u32,
     /// How many rows the strip has, 1 to 1,000,000.
     pub rows: u32,
+    /// Whether each EOL is written so that it ends on a byte boundary of the strip, behind fill
+    /// (T.4, section 4.1.3; TIFF 6.0, T4Options): false in MMR, which has no EOLs. Rows are read in
+    /// the same way either way.
+    pub aligned: bool,
 }
 
 /// Why a row of a strip could not be read: the first fault in its bits.

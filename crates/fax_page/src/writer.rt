@@ -28,17 +28,35 @@ fn written_dimension(coding: Coding, k: u32, i: u32) -> Dimension
     }
 }
 
-/// Puts what stands before a row's codes: an EOL in MH, an EOL and a tag bit in MR, nothing in MMR
-/// (T.4, sections 4.1.2 and 4.2.2; T.6, section 2.2.1).
-#[tactic(auto, unfolding(fax_bits::specs::Bits::code_bits))]
-fn put_start(sink: &mut BitSink, coding: Coding, dimension: Dimension) -> Result<(), Memory>
-    ensures ok { OnOk result (Appends sink.old (Coded.start_bits coding dimension) sink.new) }
+/// How many zeros of fill stand before an EOL behind so many bits of a strip: where EOLs are
+/// aligned the fewest that make it end on a byte boundary, and else none (T.4, section 4.1.3; TIFF
+/// 6.0, T4Options).
+#[tactic(auto, unfolding(crate::specs::CodedStrip::fill_zeros))]
+fn fill_zeros(aligned: bool, before: u128) -> u32
+    ensures exact { result ≡ Coded.fill_zeros aligned before }
+    ensures few { result < 8 }
+{
+    if aligned {
+        let in_byte = (before % 8) as u32;
+        (EOL_BITS - in_byte) % 8
+    } else {
+        0
+    }
+}
+
+/// Puts what stands before a row's codes: an EOL in MH, an EOL and a tag bit in MR, both behind
+/// fill where EOLs are aligned, nothing in MMR (T.4, sections 4.1.2, 4.1.3 and 4.2.2; T.6, section
+/// 2.2.1).
+fn put_start(sink: &mut BitSink, form: StripForm, dimension: Dimension) -> Result<(), Memory>
+    ensures ok { OnOk result (Appends sink.old
+        (Coded.start_bits form.coding form.aligned (length sink.old.bits) dimension) sink.new) }
     ensures same_order { sink.new.order ≡ sink.old.order }
 {
-    match (coding, dimension) {
-        (Coding::Mh, _) => sink.put(EOL, EOL_BITS),
-        (Coding::Mr, Dimension::OneDimensional) => sink.put(2 * EOL + 1, EOL_BITS + 1),
-        (Coding::Mr, Dimension::TwoDimensional) => sink.put(2 * EOL, EOL_BITS + 1),
+    let fill = fill_zeros(form.aligned, sink.len());
+    match (form.coding, dimension) {
+        (Coding::Mh, _) => sink.put(EOL, EOL_BITS + fill),
+        (Coding::Mr, Dimension::OneDimensional) => sink.put(2 * EOL + 1, EOL_BITS + 1 + fill),
+        (Coding::Mr, Dimension::TwoDimensional) => sink.put(2 * EOL, EOL_BITS + 1 + fill),
         (Coding::Mmr, _) => Ok(()),
     }
 }
@@ -47,7 +65,7 @@ fn put_start(sink: &mut BitSink, coding: Coding, dimension: Dimension) -> Result
 /// T.4's own choice.
 fn put_line(
     sink: &mut BitSink,
-    coding: Coding,
+    form: StripForm,
     k: u32,
     i: u32,
     reference: &Row,
@@ -56,11 +74,12 @@ fn put_line(
     requires some_k { 0 < k }
     requires same_width { length reference.now ≡ length row.now }
     ensures ok { OnOk result
-        (Appends sink.old (Coded.coded_line coding k i reference.now row.now) sink.new) }
+        (Appends sink.old
+        (Coded.coded_line form k (length sink.old.bits) i reference.now row.now) sink.new) }
     ensures same_order { sink.new.order ≡ sink.old.order }
 {
-    let dimension = written_dimension(coding, k, i);
-    put_start(sink, coding, dimension)?;
+    let dimension = written_dimension(form.coding, k, i);
+    put_start(sink, form, dimension)?;
     match dimension {
         Dimension::OneDimensional => put_1d(row, sink),
         Dimension::TwoDimensional => put_2d(reference, row, sink),
@@ -140,8 +159,8 @@ impl StripWriter {
         })
     }
 
-    /// Puts the next row: without fill, in T.4's own choice of codes, and in MR and MMR over the
-    /// row before it.
+    /// Puts the next row: in T.4's own choice of codes, in MR and MMR over the row before it, and
+    /// without fill but for what aligns its EOL where the form says so (T.4, section 4.1.3).
     ///
     /// # Errors
     ///
@@ -154,14 +173,7 @@ impl StripWriter {
         if self.refused {
             return Err(Memory);
         }
-        match put_line(
-            &mut self.sink,
-            self.form.coding,
-            self.k,
-            self.row,
-            &self.last,
-            row,
-        ) {
+        match put_line(&mut self.sink, self.form, self.k, self.row, &self.last, row) {
             Ok(()) => {
                 self.last.set_from(row);
                 self.row += 1;

@@ -71,6 +71,7 @@ fn assert_row(rt: &impl Abort, alloc: Global, row: &Row, number: u32) -> Result<
 /// Sees that the strip in these bytes has the rows of the page.
 fn read_back(rt: &impl Abort, alloc: Global, form: StripForm, bytes: &[u8]) -> Result<(), Fail> {
     assert!(rt; form.width == WIDTH && form.rows == ROWS);
+    assert!(rt; !form.aligned);
     assert!(rt; bytes.len() < 10_000_000);
     let mut reader = StripReader::new(alloc, bytes, form)?;
     for number in 0..ROWS {
@@ -88,6 +89,7 @@ fn write_and_read(rt: &impl Abort, alloc: Global, coding: Coding) -> Result<usiz
         order: FillOrder::MsbFirst,
         width: WIDTH,
         rows: ROWS,
+        aligned: false,
     };
     let rows = page_rows(rt, alloc)?;
     let bytes = write(rt, alloc, form, 4, rows.as_slice())?;

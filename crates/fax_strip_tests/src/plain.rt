@@ -14,6 +14,14 @@ const LISTS: u32 = 60;
 /// The greatest k of the comparison.
 const MOST_K: u32 = 5;
 
+/// How the rows of a strip are written.
+#[derive(Clone, Copy)]
+struct Way {
+    coding: Coding,
+    k: u32,
+    aligned: bool,
+}
+
 /// Rows, and their pels, where black is true.
 #[derive(Drop)]
 struct Rows {
@@ -66,16 +74,22 @@ fn draw_rows(
     Ok(Rows { pels, rows })
 }
 
+/// Appends an EOL, and before it zeros until it ends on a byte boundary where EOLs are aligned.
+fn put_eol(bits: &mut Vec<bool>, aligned: bool) -> Result<(), AllocError> {
+    for _ in 0..8 {
+        if aligned && bits.len() % 8 != 4 {
+            bits.push(false)?;
+        }
+    }
+    put_text(bits, EOL)
+}
+
 /// Appends what stands before a row: an EOL in MH and MR, and in MR a tag.
-fn put_start(
-    bits: &mut Vec<bool>,
-    coding: Coding,
-    one_dimensional: bool,
-) -> Result<(), AllocError> {
-    match coding {
-        Coding::Mh => put_text(bits, EOL),
+fn put_start(bits: &mut Vec<bool>, way: Way, one_dimensional: bool) -> Result<(), AllocError> {
+    match way.coding {
+        Coding::Mh => put_eol(bits, way.aligned),
         Coding::Mr => {
-            put_text(bits, EOL)?;
+            put_eol(bits, way.aligned)?;
             put_text(bits, if one_dimensional { "1" } else { "0" })
         }
         Coding::Mmr => Ok(()),
@@ -91,12 +105,11 @@ fn white(alloc: Global, width: usize) -> Result<Vec<bool>, AllocError> {
     Ok(pels)
 }
 
-/// The bits of a strip, by the wording of T.4 (sections 4.1.2, 4.2.1.1 and 4.2.2) and T.6 (section
-/// 2.2.1, and the end of the facsimile block).
+/// The bits of a strip, by the wording of T.4 (sections 4.1.2, 4.1.3, 4.2.1.1 and 4.2.2) and T.6
+/// (section 2.2.1, and the end of the facsimile block).
 fn write_plainly(
     alloc: Global,
-    coding: Coding,
-    k: u32,
+    way: Way,
     width: usize,
     rows: &[Vec<bool>],
 ) -> Result<Vec<bool>, AllocError> {
@@ -104,15 +117,15 @@ fn write_plainly(
     let mut reference = white(alloc, width)?;
     let mut until_one_dimensional: u32 = 0;
     for row in rows {
-        let one_dimensional = match coding {
+        let one_dimensional = match way.coding {
             Coding::Mh => true,
             Coding::Mr => until_one_dimensional == 0,
             Coding::Mmr => false,
         };
-        put_start(&mut bits, coding, one_dimensional)?;
+        put_start(&mut bits, way, one_dimensional)?;
         if one_dimensional {
             write_runs(&mut bits, row.as_slice())?;
-            until_one_dimensional = k;
+            until_one_dimensional = way.k;
         } else {
             write_steps(&mut bits, reference.as_slice(), row.as_slice())?;
         }
@@ -120,7 +133,7 @@ fn write_plainly(
         reference.clear();
         reference.extend_from_slice(row.as_slice())?;
     }
-    if coding == Coding::Mmr {
+    if way.coding == Coding::Mmr {
         put_text(&mut bits, EOL)?;
         put_text(&mut bits, EOL)?;
     }
@@ -139,6 +152,7 @@ pub fn write(
     assert!(rt; form.rows > 0 && form.rows <= 1_000_000);
     assert!(rt; rows.len() == form.rows as usize);
     assert!(rt; k > 0);
+    assert!(rt; !form.aligned || !matches!(form.coding, Coding::Mmr));
     let mut writer = StripWriter::new(alloc, form, k)?;
     for row in rows {
         assert!(rt; row.width() == form.width);
@@ -148,37 +162,63 @@ pub fn write(
 }
 
 /// Compares the bytes of a strip in both fill orders.
-fn compare_orders(
-    rt: &impl Abort,
-    alloc: Global,
-    coding: Coding,
-    k: u32,
-    drawn: &Rows,
-) -> Result<(), Fail> {
+fn compare_orders(rt: &impl Abort, alloc: Global, way: Way, drawn: &Rows) -> Result<(), Fail> {
     let width = drawn.pels.first().map_or(0, |row| row.len());
-    let bits = write_plainly(alloc, coding, k, width, drawn.pels.as_slice())?;
+    let bits = write_plainly(alloc, way, width, drawn.pels.as_slice())?;
     for order in [FillOrder::MsbFirst, FillOrder::LsbFirst] {
         let form = StripForm {
-            coding,
+            coding: way.coding,
             order,
             width: u32::try_from(width).unwrap_or(0),
             rows: u32::try_from(drawn.rows.len()).unwrap_or(0),
+            aligned: way.aligned,
         };
-        let bytes = write(rt, alloc, form, k, drawn.rows.as_slice())?;
+        let bytes = write(rt, alloc, form, way.k, drawn.rows.as_slice())?;
         let plain = pack(alloc, bits.as_slice(), order == FillOrder::MsbFirst)?;
-        assert_eq!(rt; bytes.as_slice(), plain.as_slice(), "{form:?}, k {k}");
+        assert_eq!(rt; bytes.as_slice(), plain.as_slice(), "{form:?}, k {}", way.k);
     }
     Ok(())
 }
 
-/// Compares rows in each coding, and in MR for each k. Answers how many strips there are.
+/// Compares rows in each coding, with and without aligned EOLs, and in MR for each k. Answers how many strips there are.
 fn compare_codings(rt: &impl Abort, alloc: Global, drawn: &Rows) -> Result<u32, Fail> {
-    compare_orders(rt, alloc, Coding::Mh, 1, drawn)?;
-    compare_orders(rt, alloc, Coding::Mmr, 1, drawn)?;
-    for k in 0..MOST_K {
-        compare_orders(rt, alloc, Coding::Mr, k + 1, drawn)?;
+    let mut ways: u32 = 1;
+    compare_orders(
+        rt,
+        alloc,
+        Way {
+            coding: Coding::Mmr,
+            k: 1,
+            aligned: false,
+        },
+        drawn,
+    )?;
+    for aligned in [false, true] {
+        compare_orders(
+            rt,
+            alloc,
+            Way {
+                coding: Coding::Mh,
+                k: 1,
+                aligned,
+            },
+            drawn,
+        )?;
+        for k in 0..MOST_K {
+            compare_orders(
+                rt,
+                alloc,
+                Way {
+                    coding: Coding::Mr,
+                    k: k + 1,
+                    aligned,
+                },
+                drawn,
+            )?;
+        }
+        ways = ways.saturating_add(MOST_K + 1);
     }
-    Ok(2 * (MOST_K + 2))
+    Ok(ways.saturating_mul(2))
 }
 
 #[test]
@@ -192,6 +232,6 @@ fn agrees_with_a_plain_writing_of_strips(rt: HostRuntime) -> Result<(), Fail> {
         let drawn = draw_rows(&rt, alloc, &mut numbers, width)?;
         strips = strips.saturating_add(compare_codings(&rt, alloc, &drawn)?);
     }
-    assert_eq!(rt; strips, 840);
+    assert_eq!(rt; strips, 1_560);
     Ok(())
 }

@@ -1,4 +1,7 @@
 //! Files turned into one another.
+ghost use Rattle.std.specs.Prelude.{◌≢◌};
+ghost use Rattle.fax_walk.specs.declared.options.Target.TheVariants.{Mmr, Pbm};
+
 use crate::files::{ONE_PAGE, changed};
 use fax_bits::FillOrder;
 use fax_files::{Cause, FileFault, PbmFault, StripFault};
@@ -21,6 +24,21 @@ fn to(target: Target, order: FillOrder, k: u32, strip: Option<u32>) -> Options {
         order,
         k: k.max(1),
         strip,
+        aligned: false,
+    }
+}
+
+/// The options for MH or MR with aligned EOLs, and k 2.
+fn to_aligned(target: Target, order: FillOrder) -> Options
+    requires not_pbm { target ≢ Pbm }
+    requires not_mmr { target ≢ Mmr }
+{
+    Options {
+        target,
+        order,
+        k: 2,
+        strip: None,
+        aligned: true,
     }
 }
 
@@ -59,6 +77,42 @@ fn writes_as_the_options_say(rt: HostRuntime) {
     let first = to(Target::Mr, FillOrder::MsbFirst, 1, None);
     let file = convert(rt.alloc(), b"P4\n8 2\n\x18\x18", &first).expect(&rt, "a file");
     assert!(rt; file.starts_with(b"II*\0\x0E\0\0\0\0\x1C\x70\0\x38\xE0"));
+}
+
+#[test]
+fn aligns_eols_where_it_is_asked_to(rt: HostRuntime) {
+    // Fill 0000, EOL, 1000 11 1000; T4Options 4.
+    let mut wanted = changed(8, &[0x00, 0x01, 0x8E, 0x00]);
+    wanted[142] = 4;
+    wanted[178] = 4;
+    let aligned = to_aligned(Target::Mh, FillOrder::MsbFirst);
+    let file = convert(rt.alloc(), b"P4\n8 1\n\x18", &aligned).expect(&rt, "a file");
+    assert_eq!(rt; file.as_slice(), wanted.as_slice());
+    let again = convert(rt.alloc(), &file, &aligned).expect(&rt, "the same file");
+    assert_eq!(rt; again.as_slice(), wanted.as_slice());
+    // An aligned source is written as the options say.
+    let mh = to(Target::Mh, FillOrder::MsbFirst, 4, None);
+    let plain = convert(rt.alloc(), &file, &mh).expect(&rt, "a file");
+    assert_eq!(rt; plain.as_slice(), ONE_PAGE.as_slice());
+}
+
+#[test]
+fn aligns_eols_in_mr(rt: HostRuntime) {
+    // Fill 0000, EOL 1, 1000 11 1000; fill 0, EOL 0, V0 V0 V0.
+    let strips = [
+        (FillOrder::MsbFirst, [0x00, 0x01, 0xC7, 0x00, 0x01, 0x70]),
+        (FillOrder::LsbFirst, [0x00, 0x80, 0xE3, 0x00, 0x80, 0x0E]),
+    ];
+    let back = to(Target::Pbm, FillOrder::MsbFirst, 4, None);
+    for (order, strip) in strips {
+        let options = to_aligned(Target::Mr, order);
+        let file = convert(rt.alloc(), b"P4\n8 2\n\x18\x18", &options).expect(&rt, "a file");
+        assert!(rt; file.len() > 180);
+        assert_eq!(rt; &file[8..14], strip.as_slice());
+        assert_eq!(rt; file[180], 5);
+        let images = convert(rt.alloc(), &file, &back).expect(&rt, "images");
+        assert_eq!(rt; images.as_slice(), b"P4\n8 2\n\x18\x18".as_slice());
+    }
 }
 
 #[test]

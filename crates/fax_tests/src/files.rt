@@ -113,6 +113,7 @@ fn reads_a_file_of_one_page(rt: HostRuntime) {
         rows: 1,
         coding: Coding::Mh,
         order: FillOrder::MsbFirst,
+        aligned: false,
         exchanged: false,
         rows_per_strip: 1,
         strips: 1,
@@ -140,23 +141,27 @@ fn reads_both_fill_orders(rt: HostRuntime) {
 fn reads_compression_4_as_mmr(rt: HostRuntime) {
     let mut file = changed(70, &[4]);
     // T4Options is not looked at then.
-    file[178] = 1;
+    file[178] = 5;
     let form = first_page(&file).expect(&rt, "the page");
     assert!(rt; matches!(form.coding, Coding::Mmr));
+    assert!(rt; !form.aligned);
     assert_eq!(rt; form.width, 8);
     assert_eq!(rt; form.rows, 1);
 }
 
 #[test]
-fn reads_bit_0_of_t4_options_as_mr(rt: HostRuntime) {
-    for (options, coding) in [
-        (0, Coding::Mh),
-        (1, Coding::Mr),
-        (2, Coding::Mh),
-        (5, Coding::Mr),
+fn reads_bit_0_of_t4_options_as_mr_and_bit_2_as_aligned(rt: HostRuntime) {
+    for (options, coding, aligned) in [
+        (0, Coding::Mh, false),
+        (1, Coding::Mr, false),
+        (2, Coding::Mh, false),
+        (4, Coding::Mh, true),
+        (5, Coding::Mr, true),
+        (0xFB, Coding::Mr, false),
     ] {
         let form = first_page(&changed(178, &[options])).expect(&rt, "the page");
         assert_eq!(rt; form.coding, coding, "{options}");
+        assert_eq!(rt; form.aligned, aligned, "{options}");
     }
 }
 

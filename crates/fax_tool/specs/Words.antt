@@ -8,7 +8,7 @@ abbrev pub usage_text : List ℕ
 usage_text =
     codes "usage: faxpages list [--cursor C] [--max N] [FILE]\n"
     ++ codes "       faxpages rows [--cursor C] [--max N] [FILE]\n"
-    ++ codes "       faxpages convert -o pbm|mh|mr|mmr [--order 1|2] [--k K] [--strip ROWS] [FILE]\n"
+    ++ codes "       faxpages convert -o pbm|mh|mr|mmr [--order 1|2] [--k K] [--strip ROWS] [--align] [FILE]\n"
     ++ codes "       faxpages check [FILE]\n"
 
 -- the text for the error stream (this project's profile)

@@ -1,9 +1,10 @@
 //! The words of a command line.
-ghost use Rattle.std.specs.Prelude.{◌≡◌, ◌<◌, ◌≤◌, IfOk, IfSome};
+ghost use Rattle.std.specs.Prelude.{◌≡◌, ◌≢◌, ◌<◌, ◌≤◌, true, IfOk, IfSome};
+ghost use Rattle.fax_walk.specs.declared.options.Target.TheVariants.{Mmr, Pbm};
 ghost use Rattle.fax_tool.specs.Words.{words_text, words_status};
 
 use clap::error::ErrorKind;
-use clap::{Arg, ArgMatches, value_parser};
+use clap::{Arg, ArgAction, ArgMatches, value_parser};
 use fax_bits::FillOrder;
 use fax_walk::{Cursor, NotACursor, Options, Target};
 use std::alloc::{AllocError, Global};
@@ -62,7 +63,7 @@ const USUAL_K: u32 = 4;
 const USAGE: &str = "\
 usage: faxpages list [--cursor C] [--max N] [FILE]
        faxpages rows [--cursor C] [--max N] [FILE]
-       faxpages convert -o pbm|mh|mr|mmr [--order 1|2] [--k K] [--strip ROWS] [FILE]
+       faxpages convert -o pbm|mh|mr|mmr [--order 1|2] [--k K] [--strip ROWS] [--align] [FILE]
        faxpages check [FILE]
 ";
 
@@ -126,12 +127,16 @@ fn converting<'a>(alloc: Global) -> Result<clap::Command<'a>, AllocError> {
         .short('o')
         .required(true)
         .value_parser(["pbm", "mh", "mr", "mmr"].as_slice());
+    let align = Arg::new(alloc, "align")
+        .long("align")
+        .action(ArgAction::SetTrue);
     clap::Command::new(alloc, "convert")
         .disable_help_flag(true)
         .arg(target)?
         .arg(number(alloc, "order", 2))?
         .arg(number(alloc, "k", MOST_ROWS))?
         .arg(number(alloc, "strip", MOST_ROWS))?
+        .arg(align)?
         .arg(Arg::new(alloc, "FILE"))
 }
 
@@ -185,6 +190,17 @@ fn target_of(matches: &ArgMatches) -> Result<Target, WordsFault> {
     }
 }
 
+/// Whether EOLs are to be aligned, which is refused for a target that has none.
+fn aligned_of(matches: &ArgMatches, target: Target) -> Result<bool, WordsFault>
+    ensures not_pbm { IfOk result (λ aligned. aligned ≡ true → target ≢ Pbm) }
+    ensures not_mmr { IfOk result (λ aligned. aligned ≡ true → target ≢ Mmr) }
+{
+    match (matches.get_flag("align"), target) {
+        (true, Target::Pbm | Target::Mmr) => Err(WordsFault::Usage),
+        (aligned, _) => Ok(aligned),
+    }
+}
+
 /// A number of 1 to 1,000,000 among the words, where there is one.
 fn number_of(matches: &ArgMatches, name: &str) -> Result<Option<u32>, WordsFault>
     ensures { IfOk result (λ number. IfSome number (λ n. (0 < n) × (n ≤ 1000000))) }
@@ -201,11 +217,13 @@ fn options_of(matches: &ArgMatches) -> Result<Options, WordsFault> {
         Some(2) => FillOrder::LsbFirst,
         _ => FillOrder::MsbFirst,
     };
+    let target = target_of(matches)?;
     Ok(Options {
-        target: target_of(matches)?,
+        target,
         order,
         k: number_of(matches, "k")?.unwrap_or(USUAL_K),
         strip: number_of(matches, "strip")?,
+        aligned: aligned_of(matches, target)?,
     })
 }
 

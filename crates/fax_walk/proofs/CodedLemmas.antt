@@ -1,5 +1,5 @@
 -- A file of coded strips has the rows and the forms of the pages that it was written of.
-use Rattle.std.proofs.Common.{◌≡◌, ℕ, zero, suc, ◌+◌, ◌-◌, ◌*◌, ◌<◌, ◌≤◌, min, List, [], ◌∷◌, ◌++◌, length, map, take, drop, Option, Some, None, refl, sym, ap, ◌∙◌, arith, length-take, length-drop}
+use Rattle.std.proofs.Common.{◌≡◌, ◌≢◌, true, ℕ, zero, suc, ◌+◌, ◌-◌, ◌*◌, ◌<◌, ◌≤◌, min, List, [], ◌∷◌, ◌++◌, length, map, take, drop, Option, Some, None, refl, sym, ap, ◌∙◌, arith, length-take, length-drop}
 use Rattle.std.specs.Prelude.{All, unwrap_or, IsTrue}
 use Rattle.std.specs.List.{AllZip}
 use Rattle.std.specs.Option.{ForSome}
@@ -10,6 +10,7 @@ use Rattle.std.proofs.lemmas.List.Elements.{All-take, All-drop, All-nil, All-con
 use Rattle.std.proofs.Math.Nat.{mul-le-mul_left}
 use Rattle.fax_bits.specs.declared.Colour.{Colour}
 use Rattle.fax_page.specs.declared.Coding.{Coding}
+use Rattle.fax_page.specs.declared.Coding.TheVariants.{Mmr}
 use Rattle.fax_page.specs.CodedStrip.{AreRowsOf as HasShape}
 use Rattle.fax_page.specs.Laws.{CodedStripsAreRead}
 use Rattle.fax_files.specs.declared.PageForm.{PageForm}
@@ -74,6 +75,7 @@ module _ (law : CodedStripsAreRead) (form : PageForm) (limits : IsPageForm form)
               short_rows = omega (arith, limits.width);
               some_rows = omega arith;
               few_rows = omega (arith, limits.rows);
+              aligned = limits.aligned;
             }) shape,
         holds_from (s + 1) n (drop in_strip rows) (omega arith) left
             (All-drop (λ row. length row ≡ form.width) in_strip rows wide),
@@ -86,7 +88,8 @@ height (Some n) rows some any = let n_some : 0 < n = some n refl in omega arith
 within_limits : (width rows : ℕ) → IsTrue (is_within_limits width rows) → (1 ≤ width) × (width ≤ 65535) × (1 ≤ rows) × (rows ≤ 1000000)
 within_limits width rows within = (grind (arith, nat_tests), grind (arith, nat_tests), grind (arith, nat_tests), grind (arith, nat_tests))
 
-module _ (law : CodedStripsAreRead) (options : Options) (coding : Coding) (some_strip : ForSome options.strip (λ rows. 0 < rows)) where
+module _ (law : CodedStripsAreRead) (options : Options) (coding : Coding) (some_strip : ForSome options.strip (λ rows. 0 < rows))
+    (has_eols : options.aligned ≡ true → coding ≢ Mmr) where
   module _ (source : SourcePage) (w : IsWritableSource source) where
     abbrev form : PageForm
     form = written_form options coding source
@@ -106,6 +109,7 @@ module _ (law : CodedStripsAreRead) (options : Options) (coding : Coding) (some_
           y = w.y;
           some_unit = w.some_unit;
           unit = w.unit;
+          aligned = has_eols;
         }
 
     page_writable : IsWritable (written_page options coding source)
@@ -140,7 +144,8 @@ module _ (law : CodedStripsAreRead) (options : Options) (coding : Coding) (some_
 
 -- the law of files of coded strips
 pub coded_files_are_walked : CodedStripsAreRead → WrittenFilesAreWalked → CodedFilesAreWalked
-coded_files_are_walked strips files options coding pages some_strip some few are short =
+coded_files_are_walked strips files options coding pages some_strip has_eols some few are short =
     let count = length-map pages (written_page options coding) in
     files (written_pages options coding pages) (map (λ source. source.image.rows) pages) (omega arith) (omega arith)
-    (all_writable strips options coding some_strip pages are) (all_hold strips options coding some_strip pages are) short
+    (all_writable strips options coding some_strip has_eols pages are)
+    (all_hold strips options coding some_strip has_eols pages are) short

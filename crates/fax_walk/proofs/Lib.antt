@@ -9,6 +9,7 @@ pub mod BeforeLemmas
 pub mod BehindLemmas
 pub mod CountLemmas
 pub mod CursorLemmas
+pub mod LongCursorLemmas
 pub mod DueLemmas
 pub mod EndingLemmas
 pub mod OpenLemmas

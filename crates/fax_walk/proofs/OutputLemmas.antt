@@ -1,5 +1,5 @@
 -- An output that is written page by page.
-use Rattle.std.proofs.Common.{◌≡◌, ℕ, suc, ◌+◌, ◌-◌, ◌*◌, ◌<◌, ◌≤◌, inl, inr, List, [], ◌∷◌, ◌++◌, length, map, take, drop, Option, Some, None, Result, Ok, Err, refl, sym, ap, ◌∙◌, arith, append_assoc, append-nil, length-append, length-take, length-drop}
+use Rattle.std.proofs.Common.{◌≡◌, ℕ, suc, ◌+◌, ◌-◌, ◌*◌, ◌<◌, ◌≤◌, inl, inr, List, [], ◌∷◌, ◌++◌, length, map, take, drop, Option, Some, None, Result, Ok, Err, refl, sym, ap, ◌∙◌, subst, arith, append_assoc, append-nil, length-append, length-take, length-drop}
 use Rattle.std.specs.Prelude.{flat_map, OnOk}
 use Rattle.std.proofs.Math.Nat.{mul-le-mul_left}
 use Rattle.std.proofs.lemmas.Bool.{cases_lt}
@@ -23,7 +23,7 @@ use Rattle.fax_walk.specs.declared.options.Target.{Target}
 use Rattle.fax_walk.specs.declared.options.Target.TheVariants.{Pbm, Mh as ToMh, Mr as ToMr, Mmr as ToMmr}
 use Rattle.fax_walk.specs.declared.open_strips.OpenStrips.{OpenStrips}
 use Rattle.fax_walk.specs.declared.sheet.Sheet.{Sheet}
-use Rattle.fax_walk.specs.Converted.{SourcePage, strips_of, coded_strips, written_page, target_bytes}
+use Rattle.fax_walk.specs.Converted.{SourcePage, strips_of, coded_strips, written_page, target_bytes, IsTooLarge}
 use Rattle.fax_walk.specs.code.OpenStrips.{HasPutRows, AreInStrip}
 use Rattle.fax_walk.specs.code.Output.{Progress, Part, no_rows, with_row, page_of, behind, nothing_written, sheet_form, coding_of, StaysTooLarge, HasImages, HasPages, HasRowsOnPage, HasImageRows, BecomesTooLarge}
 
@@ -65,6 +65,11 @@ images_split pages more page =
     ∙ ap pbm_of (map-append (λ (page : SourcePage). page.image) pages (page ∷ more))
     ∙ flat_map-append image_bytes (map (λ page. page.image) pages) (map (λ page. page.image) (page ∷ more))
 
+-- images are too large in any options
+images_too_large : (target : Target) (options : Options) (pages : List SourcePage) → target ≡ Pbm
+    → 268435456 < length (pbm_of (map (λ page. page.image) pages)) → IsTooLarge target pages (target_bytes target options pages)
+images_too_large target options pages is long = subst (λ t. IsTooLarge t pages (target_bytes t options pages)) (sym is) (inl long)
+
 module _ (at : Progress) (sheet : Sheet) (target : at.options.target ≡ Pbm) where
   abbrev done : List ℕ
   done = pbm_of (map (λ page. page.image) at.pages)
@@ -83,7 +88,7 @@ module _ (at : Progress) (sheet : Sheet) (target : at.options.target ≡ Pbm) wh
       rows_length sheet.width rows widths ∙ ap (λ (n : ℕ). n * packed_len sheet.width) count in
       let long : 268435456 < length (pbm_of (map (λ page. page.image) ((at.pages ++ page ∷ []) ++ more))) =
       omega (arith, large, ap length whole, first, second, third, head, raster) in
-      rw target (inl long)
+      images_too_large at.options.target at.options ((at.pages ++ page ∷ []) ++ more) target long
 
 -- an image is begun
 pub image_begun : (at : Progress) (sheet : Sheet) (old new : List ℕ) → HasImages old at → new ≡ old ++ head_bytes sheet.width sheet.rows

@@ -85,6 +85,7 @@ written_form options coding source =
       rows = rows;
       coding = coding;
       order = options.order;
+      aligned = options.aligned;
       exchanged = false;
       rows_per_strip = rows_per_strip;
       strips = strip_count rows rows_per_strip;

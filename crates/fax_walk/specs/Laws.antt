@@ -1,9 +1,10 @@
 -- Laws of items and tails, of forms, and of written files, which the functions of the module `laws` prove.
-use Rattle.std.specs.Prelude.{◌≡◌, ℕ, ◌+◌, ◌<◌, ◌≤◌, nat_le, Bool, ◌↔◌, List, [], ◌∷◌, ◌++◌, length, map, All}
+use Rattle.std.specs.Prelude.{◌≡◌, ◌≢◌, ℕ, ◌+◌, ◌<◌, ◌≤◌, nat_le, Bool, true, ◌↔◌, List, [], ◌∷◌, ◌++◌, length, map, All}
 use Rattle.std.specs.List.{filter, AllZip}
 use Rattle.std.specs.Option.{ForSome}
 use Rattle.fax_bits.specs.declared.Colour.{Colour}
 use Rattle.fax_page.specs.declared.Coding.{Coding}
+use Rattle.fax_page.specs.declared.Coding.TheVariants.{Mmr}
 use Rattle.fax_files.specs.Page.{IsGoodRational}
 use Rattle.fax_files.specs.PageRows.{joined}
 use Rattle.fax_files.specs.PbmLaws.{IsWritableImage}
@@ -128,12 +129,12 @@ pub record IsWritableSource (source : SourcePage) : Type 0 where
 abbrev pub written_pages : Options → Coding → List SourcePage → List WrittenPage
 written_pages options coding pages = map (written_page options coding) pages
 
--- the file of some pages, at most 65,535, written in any coding with any strip height and k, has their rows and forms
--- where it has at most 268,435,456 bytes (this project's profile)
+-- the file of some pages, at most 65,535, written in any coding with any strip height and k, and in MH and MR with
+-- aligned EOLs or not, has their rows and forms where it has at most 268,435,456 bytes (this project's profile)
 abbrev pub CodedFilesAreWalked : Type 0
 CodedFilesAreWalked =
     (options : Options) (coding : Coding) (pages : List SourcePage) → ForSome options.strip (λ rows. 0 < rows)
-    → 1 ≤ length pages → length pages ≤ 65535 → All IsWritableSource pages
+    → (options.aligned ≡ true → coding ≢ Mmr) → 1 ≤ length pages → length pages ≤ 65535 → All IsWritableSource pages
     → length (file_of (written_pages options coding pages)) ≤ 268435456
     → IsWalkedAs (file_of (written_pages options coding pages)) (written_pages options coding pages)
     (map (λ source. source.image.rows) pages)

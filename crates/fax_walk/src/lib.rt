@@ -26,7 +26,7 @@ pub use fax_bits::Memory;
 pub use fax_files::{Cause, FileFault};
 pub use fax_page::StripFault;
 pub use fax_rows::Row;
-pub use long_cursor::LongCursor;
+pub use long_cursor::{LongCursor, LongFault};
 pub use options::{ConvertFault, Options, Target};
 pub use pages::Pages;
 pub use walk::{Place, Walk};

@@ -1,6 +1,7 @@
 //! What a file is converted to, and why it is not.
-ghost use Rattle.std.specs.Prelude.{◌≡◌, ◌<◌};
+ghost use Rattle.std.specs.Prelude.{◌≡◌, ◌≢◌, ◌<◌, true};
 ghost use Rattle.std.specs.Option.{ForSome};
+ghost use Rattle.fax_walk.specs.declared.options.Target.TheVariants.{Mmr, Pbm};
 
 use crate::Cause;
 use fax_bits::Memory;
@@ -46,8 +47,13 @@ pub struct Options {
     pub k: u32,
     /// The rows of a strip, at least 1, or none where a page is one strip.
     pub strip: Option<u32>,
+    /// In MH and MR alone, whether each EOL ends on a byte boundary of its strip, behind fill (T.4,
+    /// section 4.1.3; TIFF 6.0, T4Options).
+    pub aligned: bool,
     ghost some_k: { 0 < k },
     ghost some_strip: { ForSome strip (λ rows. 0 < rows) },
+    ghost aligned_is_no_pbm: { aligned ≡ true → target ≢ Pbm },
+    ghost aligned_is_no_mmr: { aligned ≡ true → target ≢ Mmr },
 }
 
 /// Why a file is not converted.

@@ -51,7 +51,8 @@ impl Output {
         options: &Options,
         sheet: &Sheet,
     ) -> Result<(), Memory>
-        requires { Spec.IsSheet sheet.now }
+        requires limits { Spec.IsSheet sheet.now }
+        requires written { Spec.IsWrittenBy options.now self.old }
         ensures { OnOk result (Spec.BeginsPage options.now self.old sheet.now self.new) }
     {
         match self {

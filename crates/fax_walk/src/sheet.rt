@@ -1,5 +1,5 @@
 //! The size and the resolution of a page that is converted.
-ghost use Rattle.std.specs.Prelude.{◌≡◌};
+ghost use Rattle.std.specs.Prelude.{◌≡◌, ◌≢◌, true};
 ghost use Rattle.fax_files.specs.Page.{IsPageForm};
 ghost use Rattle.fax_walk.specs.code.Output as Spec;
 
@@ -48,7 +48,8 @@ impl Sheet {
 
     /// The form of the page as it is written.
     pub(crate) fn form(&self, options: &Options, coding: Coding) -> PageForm
-        requires { Spec.IsSheet self.now }
+        requires limits { Spec.IsSheet self.now }
+        requires has_eols { options.now.aligned ≡ true → coding ≢ Coding.Mmr }
         ensures exact { result ≡ Spec.sheet_form options.now coding self.now }
         ensures limits { IsPageForm result }
     {
@@ -58,6 +59,7 @@ impl Sheet {
             rows: self.rows,
             coding,
             order: options.order,
+            aligned: options.aligned,
             exchanged: false,
             rows_per_strip,
             strips: self.rows.div_ceil(rows_per_strip),

@@ -33,7 +33,7 @@ laid_out_fields at form =
     ∷ long_field 279 at.strips at.byte_counts
     ∷ rational_field 282 (at.directory + 198)
     ∷ rational_field 283 (at.directory + 206)
-    ∷ options_field form.coding
+    ∷ options_field form.coding form.aligned
     ∷ short_field 296 form.unit
     ∷ record { tag = 297; kind = SHORT; count = 2; value = two at.number ++ two at.total }
     ∷ []

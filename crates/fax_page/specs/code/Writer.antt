@@ -36,7 +36,7 @@ pub record IsWriting (form : StripForm) (k : ℕ) (order : FillOrder) (row : ℕ
 pub record PutsRow (old : WriterState) (row : List Colour) (new : WriterState) : Type 0 where
   pub not_refused : old.refused ≡ false
   pub put : new ≡ record old {
-    bits = old.bits ++ coded_line old.form.coding old.k old.row old.last row;
+    bits = old.bits ++ coded_line old.form old.k (length old.bits) old.row old.last row;
     row = old.row + 1;
     last = row;
   }
@@ -67,7 +67,7 @@ HasPut form k rows writer =
     writer ≡ record {
       form = form;
       k = k;
-      bits = coded_lines form.coding k 0 white rows;
+      bits = coded_lines form k 0 0 white rows;
       row = length rows;
       last = last_of white rows;
       refused = false;

@@ -55,6 +55,7 @@ fn writes_a_strip(rt: HostRuntime) -> Result<(), Fail> {
         order: FillOrder::MsbFirst,
         width: 8,
         rows: 1,
+        aligned: false,
     };
     let rows = [Row::from_packed(rt.alloc(), &[0b0001_1000], 8)?];
     // Horizontal, white 3, black 2; V0; the end of the facsimile block.
@@ -70,6 +71,7 @@ fn counts_rows(rt: HostRuntime) -> Result<(), Fail> {
         order: FillOrder::MsbFirst,
         width: 8,
         rows: 2,
+        aligned: false,
     };
     // V0; the end of the facsimile block, where a row is due.
     assert_eq!(rt;

@@ -1,5 +1,5 @@
 //! Notes on strips whose bits were written by hand from T.4 and T.6.
-ghost use Rattle.std.specs.Prelude.{◌≡◌, ◌<◌, ◌≤◌};
+ghost use Rattle.std.specs.Prelude.{◌≡◌, ◌<◌, ◌≤◌, false};
 
 use super::form_of;
 use fax_page::{Coding, FillOrder, NotesFault, StripFault, StripForm, StripNotes, strip_notes};
@@ -108,6 +108,7 @@ fn noted_form(coding: Coding) -> StripForm
     ensures width { result.width ≡ 8 }
     ensures some_rows { 0 < result.rows }
     ensures few_rows { result.rows ≤ 2 }
+    ensures not_aligned { result.aligned ≡ false }
 {
     match coding {
         Coding::Mh | Coding::Mmr => form_of(coding, 1),

@@ -66,6 +66,25 @@ fn writes_mh_rows(rt: HostRuntime) -> Result<(), Fail> {
 }
 
 #[test]
+fn aligns_eols(rt: HostRuntime) -> Result<(), Fail> {
+    let cases: [(Coding, &[u8]); 2] = [
+        // Fill 0000, EOL, 1000 11 1000; fill 00, EOL, 1000 11 1000.
+        (Coding::Mh, &[0x00, 0x01, 0x8E, 0x00, 0x01, 0x8E, 0x00]),
+        // Fill 0000, EOL 1, 1000 11 1000; fill 0, EOL 0, V0 V0 V0.
+        (Coding::Mr, &[0x00, 0x01, 0xC7, 0x00, 0x01, 0x70]),
+    ];
+    for (coding, bytes) in cases {
+        let form = StripForm {
+            aligned: true,
+            ..form_of(coding, 2)
+        };
+        let written = write_eights(&rt, rt.alloc(), form, 2, &[BAR, BAR])?;
+        assert_eq!(rt; written.as_slice(), bytes, "{coding:?}");
+    }
+    Ok(())
+}
+
+#[test]
 fn ends_a_facsimile_block(rt: HostRuntime) -> Result<(), Fail> {
     let one = form_of(Coding::Mmr, 1);
     let bar = write_eights(&rt, rt.alloc(), one, 1, &[BAR])?;

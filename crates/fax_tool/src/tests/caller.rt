@@ -15,6 +15,7 @@ pub const TO_PBM: Options = Options {
     order: FillOrder::MsbFirst,
     k: 4,
     strip: None,
+    aligned: false,
 };
 
 /// What a run printed.

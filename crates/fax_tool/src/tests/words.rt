@@ -8,7 +8,7 @@ use crate::{Command, Cursor, FillOrder, Options, Part, Target, WordsFault, parse
 use std::test::Fail;
 
 /// Command lines that are refused: wrong, or asking for help or the version.
-static REFUSED: [&[&str]; 31] = [
+static REFUSED: [&[&str]; 35] = [
     &[],
     &["faxpages"],
     &["faxpages", "convert"],
@@ -22,6 +22,10 @@ static REFUSED: [&[&str]; 31] = [
     &["faxpages", "convert", "-o", "pbm", "--k", "1000001"],
     &["faxpages", "convert", "-o", "mmr", "--strip", "0"],
     &["faxpages", "convert", "-o", "mmr", "--strip", "1000001"],
+    &["faxpages", "convert", "-o", "mmr", "--align"],
+    &["faxpages", "convert", "-o", "pbm", "--align"],
+    &["faxpages", "convert", "-o", "mh", "--align", "--align"],
+    &["faxpages", "convert", "-o", "mh", "--align=1"],
     &["faxpages", "check", "--max", "1"],
     &["faxpages", "row"],
     &["faxpages", "ROWS"],
@@ -133,6 +137,7 @@ fn options(order: FillOrder, k: u32, strip: Option<u32>) -> Options
         order,
         k,
         strip,
+        aligned: false,
     }
 }
 
@@ -166,6 +171,34 @@ fn reads_options(rt: HostRuntime) -> Result<(), Fail> {
     assert_eq!(rt; to_pbm.command, Command::Convert(TO_PBM));
     let check = parse_words(rt.alloc(), &["faxpages", "check", "a.tif"])?;
     assert_eq!(rt; check.command, Command::Check);
+    Ok(())
+}
+
+#[test]
+fn reads_that_eols_are_aligned(rt: HostRuntime) -> Result<(), Fail> {
+    let to_mh = ["faxpages", "convert", "-o", "mh", "--align", "a.tif"];
+    let into_mh = Options {
+        target: Target::Mh,
+        order: FillOrder::MsbFirst,
+        k: 4,
+        strip: None,
+        aligned: true,
+    };
+    let job = parse_words(rt.alloc(), &to_mh)?;
+    assert_eq!(rt; job.command, Command::Convert(into_mh));
+    assert_eq!(rt; job.file.as_ref().map(|name| name.as_str()), Some("a.tif"));
+    let to_mr = ["faxpages", "convert", "--align", "-o", "mr", "--k", "2"];
+    let into_mr = Options {
+        target: Target::Mr,
+        order: FillOrder::MsbFirst,
+        k: 2,
+        strip: None,
+        aligned: true,
+    };
+    assert_eq!(rt;
+        parse_words(rt.alloc(), &to_mr)?.command,
+        Command::Convert(into_mr)
+    );
     Ok(())
 }
 

@@ -61,6 +61,7 @@ sheet_form options coding sheet =
       rows = sheet.rows;
       coding = coding;
       order = options.order;
+      aligned = options.aligned;
       exchanged = false;
       rows_per_strip = rows_per_strip;
       strips = strip_count sheet.rows rows_per_strip;
@@ -142,6 +143,12 @@ IsWrittenTo (Images bytes) at = HasImages bytes.items at
 IsWrittenTo (File coding writer None) at = HasPages coding writer at
 IsWrittenTo (File coding writer (Some page)) at = ⊥
 IsWrittenTo TooLarge at = StaysTooLarge at
+
+-- an output has some pages, written by these options
+pub record IsWrittenBy (options : Options) (output : Output) : Type 0 where
+  pub at : Progress
+  pub options_are : at.options ≡ options
+  pub written : IsWrittenTo output at
 
 -- the page's rows are written behind the images of the pages before it, and there is room for those that are left
 pub record HasImageRows (bytes : List ℕ) (part : Part) : Type 0 where
