@@ -171,26 +171,34 @@ pub(crate) fn open_inside<'a>(
 {
     fax_files::laws::forms_are_whole();
     let form = due.form;
-    let first = place.at.row;
-    if first >= form.rows || first % form.rows_per_strip == 0 {
+    let row = place.at.row;
+    if row >= form.rows || row % form.rows_per_strip == 0 {
         return Err(OpenFault::Ended(End::Outside));
     }
     let strips = due.directory.strips(&form);
-    let number = first / form.rows_per_strip;
-    let row = number * form.rows_per_strip;
+    let number = row / form.rows_per_strip;
+    let strip_row = number * form.rows_per_strip;
     let bytes = match strips.bytes(number) {
         Ok(bytes) => bytes,
-        Err(fault) => return Err(OpenFault::Ended(End::of_file(due.page, row, fault))),
+        Err(fault) => {
+            return Err(OpenFault::Ended(End::of_file(due.page, strip_row, fault)));
+        }
     };
-    let strip = strip_at(alloc, bytes, form.strip_form(number), first - row, place)?;
+    let strip = strip_at(
+        alloc,
+        bytes,
+        form.strip_form(number),
+        row - strip_row,
+        place,
+    )?;
     let exchanged = row_for_exchange(alloc, &form)?;
     Ok(OpenPage {
         page: due.page,
         chain: due.chain,
         form,
         strips,
-        first,
-        row: first,
+        first: row,
+        row,
         number,
         strip,
         exchanged,
