@@ -17,6 +17,7 @@ pub mod NumberLemmas
 pub mod TakeLemmas
 pub mod ReadLemmas
 pub mod PlaceLemmas
+pub mod AheadLemmas
 pub mod IndexLemmas
 pub mod WordLemmas
 pub mod WindowLemmas

@@ -7,3 +7,4 @@ pub mod TableTests
 pub mod TableLaws
 pub mod Window
 pub mod BitsAhead
+pub mod Ahead

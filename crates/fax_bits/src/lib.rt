@@ -1,6 +1,7 @@
 //! Bits of coded strips, read and written, and the code tables of ITU-T T.4.
 #![tactic(auto)]
 
+mod ahead;
 mod codes;
 mod indexes;
 mod lanes;
@@ -12,6 +13,7 @@ mod sink;
 mod source;
 mod window;
 
+pub use ahead::Ahead;
 pub use codes::{CodeEntry, CodeFault, CodeTable, read_code};
 pub use lanes::reverse_bits;
 pub use modes::{ModeCode, Modes, read_mode};

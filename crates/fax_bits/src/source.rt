@@ -1,12 +1,13 @@
 //! Bits of bytes, read from a place on.
 ghost use Rattle.std.specs.Prelude.{◌≡◌, ◌+◌, ◌≤◌, ◌<◌, ◌++◌, length, take, drop, replicate};
-ghost use Rattle.std.specs.Prelude.{slice_index_or, false, MatchOption, IsTrue};
+ghost use Rattle.std.specs.Prelude.{slice_index_or, false, IfSome, MatchOption, IsTrue};
 ghost use Rattle.std.specs.Prelude.{◌^◌};
 ghost use Rattle.fax_bits.specs.Bits.{bits, bits_number, bit_in_byte, IsAllZeros, HasZerosAhead};
 ghost use Rattle.fax_bits.specs.Bits.{code_bits};
-ghost use Rattle.fax_bits.specs.code.Source.{IsZeroByteAt, IsTaken};
+ghost use Rattle.fax_bits.specs.code.Source.{IsPlaced, IsZeroByteAt, IsTaken};
 
 use crate::FillOrder;
+use crate::ahead::Ahead;
 use crate::window::Window;
 use std::marker::Model;
 
@@ -43,6 +44,26 @@ impl<'a> BitSource<'a> {
             bytes,
             place: 0,
         }
+    }
+
+    /// A place in the bits of the bytes.
+    pub(crate) fn at(bytes: &'a [u8], order: FillOrder, place: u64) -> Self
+        requires { IsPlaced bytes.now place }
+        ensures { result ≡ source_of order bytes.now place }
+    {
+        BitSource {
+            order,
+            bytes,
+            place,
+        }
+    }
+
+    /// The same place by value, for a row that is read quickly, or `None` near the end of the bytes.
+    #[inline(always)]
+    pub fn ahead(&self) -> Option<Ahead<'a>>
+        ensures { IfSome result (λ ahead. ahead ≡ self.now) }
+    {
+        Ahead::at(self.bytes, self.order, self.place)
     }
 
     /// How many bits were skipped since the first one.

@@ -1,6 +1,6 @@
 //! The next bits of some bytes, by value: what a fast reader keeps in registers.
 ghost use Rattle.std.specs.Prelude.{◌≡◌, ◌+◌, ◌-◌, ◌%◌, ◌^◌, ◌<◌, ◌≤◌, ◌++◌, ℕ, List, length, take, drop};
-ghost use Rattle.std.specs.Prelude.{replicate, false};
+ghost use Rattle.std.specs.Prelude.{replicate, false, IsTrue};
 ghost use Rattle.fax_bits.specs.Bits.{bits, bits_number, code_bits, HasZerosAhead};
 ghost use Rattle.fax_bits.specs.declared.FillOrder.{FillOrder};
 
@@ -77,6 +77,16 @@ impl Window {
             → HasZerosAhead (bits_ahead order bytes self) result }
     {
         self.bits.leading_zeros()
+    }
+
+    /// Whether the next bit is loaded, and a 1.
+    #[inline(always)]
+    pub fn begins_with_one(self) -> bool
+        ensures ahead { IsTrue result → (order : FillOrder) (bytes : List ℕ)
+            → HasZerosAhead (bits_ahead order bytes self) 0 }
+        ensures loaded { IsTrue result → 0 < self.count }
+    {
+        self.bits >> 63 == 1
     }
 
     /// The number that the next `n` bits spell, which are loaded: what `BitSource::peek` says.

@@ -111,7 +111,7 @@ module _ (places : List ℕ) (end width : ℕ) (all : ArePlaces places end width
             ]
       ]
 
-  b1_within : (b : ℕ) → 0 < b → b ≤ end + 1 → ((b < end) × (get_or places b 0 < width)) ⊎ ((end ≤ b) × (get_or places b 0 ≡ width))
+  pub b1_within : (b : ℕ) → 0 < b → b ≤ end + 1 → ((b < end) × (get_or places b 0 < width)) ⊎ ((end ≤ b) × (get_or places b 0 ≡ width))
   b1_within b some within =
       elim (cases_lt b end) [
         | inl less ↦ inl (less, all.below b some less)
@@ -176,7 +176,7 @@ module _ (places : List ℕ) (end width : ℕ) (all : ArePlaces places end width
           }
 
   -- and b2 is the one behind it
-  behind_b1 : (b : ℕ) → 0 < b → b ≤ end + 1 → get_or places (b + 1) 0 ≡ next_change (pels_by width (take end places)) (Some (get_or places b 0))
+  pub behind_b1 : (b : ℕ) → 0 < b → b ≤ end + 1 → get_or places (b + 1) 0 ≡ next_change (pels_by width (take end places)) (Some (get_or places b 0))
   behind_b1 b some within =
       elim (cases_lt b end) [
         | inl inside ↦
@@ -313,6 +313,19 @@ module _ (places : List ℕ) (end width : ℕ) (all : ArePlaces places end width
 
       back : b - 1 ≡ b + 1 - 2
       back = omega (arith, at.some)
+
+  -- from just under b1 the next place is that of b1
+  pub b1_next : (a0 : Option ℕ) (colour : Colour) (b : ℕ) → IsB1At places end a0 colour b → get_or places b 0 < width
+      → IsB1At places end (Some (get_or places b 0)) (other colour) (b + 1)
+  b1_next a0 colour b at inside =
+      search_ends (get_or places b 0) (b + 1) right (other colour) (right_start a0 colour b (get_or places b 0) at (omega arith) inside)
+    where
+      right : get_or places b 0 < get_or places (b + 1) 0
+      right =
+          elim (cases_lt (b + 1) end) [
+            | inl inner ↦ below_later places end all.ascending b (b + 1) at.some (omega arith) inner
+            | inr over ↦ omega (arith, over_end (b + 1) over (omega (arith, at.within)))
+          ]
 
   -- and where it does at a place that is left of b1 and right of a0
   pub left_start : (a0 : Option ℕ) (colour : Colour) (b a1 : ℕ) → IsB1At places end a0 colour b → is_right_of a0 a1 ≡ true

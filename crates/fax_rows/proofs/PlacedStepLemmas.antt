@@ -1,5 +1,5 @@
 -- Steps of two-dimensional coding over places of change.
-use Rattle.std.proofs.Common.{◌≡◌, ℕ, ◌+◌, ◌-◌, ℤ, negsuc, ◌+ℤ◌, ◌≤ℤ◌, ◌<◌, ◌≤◌, List, [], ◌++◌, length, take, get_or, replicate, Bool, true, refl, ap, sym, ◌∙◌, subst, arith, pos}
+use Rattle.std.proofs.Common.{◌≡◌, ℕ, ◌+◌, ◌-◌, ℤ, negsuc, ◌+ℤ◌, ◌≤ℤ◌, ◌<◌, ◌≤◌, List, [], ◌++◌, length, take, get_or, replicate, Bool, true, refl, ap, sym, ◌∙◌, subst, arith, pos, inl, inr}
 use Rattle.std.specs.Prelude.{Option, Some, None, unwrap_or, ◌<ℤ◌, nat_abs}
 use Rattle.std.proofs.lemmas.Bool.{lt-ltb, ltb-true}
 use Rattle.std.proofs.lemmas.Int.{ints}
@@ -21,7 +21,7 @@ use Rattle.fax_rows.proofs.PaintLemmas.{painted_front}
 use Rattle.fax_rows.proofs.TurnLemmas.{other-other, length-pels_by, pel-pels_by}
 use Rattle.fax_rows.proofs.PlacedRowLemmas.{end_within, take-first, turned-first}
 use Rattle.fax_rows.proofs.PlacedReadLemmas.{places_within}
-use Rattle.fax_rows.proofs.PlacedB1Lemmas.{b1_is, b1_ahead, b2_ahead, b2_at_most, b2_is, b1_passed}
+use Rattle.fax_rows.proofs.PlacedB1Lemmas.{b1_is, b1_within, b1_at_most, b1_ahead, b2_ahead, b2_at_most, b2_is, b1_passed}
 
 -- the pels up to `to` where those from `from` on have one colour
 pub front_to : (width from to : ℕ) (old new : List ℕ) (colour : Colour) → from ≤ to → to ≤ width
@@ -42,6 +42,14 @@ pub coloured : (width : ℕ) (old new : List ℕ) (at : Reached) (to : ℕ) → 
 coloured width old new at to order within same behind =
     let position : List Colour → Position = λ pels. record { a0 = Some to; colour = at.colour; pels = pels } in
     ap position (front_to width (reached_pel at) to old new at.colour order within same behind)
+
+-- a0 is no less than just before the first pel
+pub from_start : (at : Reached) → negsuc 0 ≤ℤ a0_number (position_of at [])
+from_start at = by at.a0
+  where
+    by : (a0 : Option ℕ) → negsuc 0 ≤ℤ a0_number (record { a0 = a0; colour = at.colour; pels = [] })
+    by None = omega (arith, ints)
+    by (Some a) = omega (arith, ints)
 
 -- a place right of a0's number is right of a0
 pub number_right : (at : Reached) (a1 : ℕ) → a0_number (position_of at []) <ℤ pos a1 → is_right_of at.a0 a1 ≡ true
@@ -141,6 +149,25 @@ module _ (reference : List ℕ) (end width : ℕ) (all : ArePlaces reference end
         (record { right_of_a0 = omega (arith, ints, same); within = omega (arith, ints, same, len) })
         (a1_is ∙ z_is ∙ ap (λ n. pos n +ℤ d) same)
         (turned_position new next_end (nat_abs z) a1_ahead a1_within turn) is
+
+  -- b1 is right of a0, and in the row
+  pub under_right : a0_number (position_of at.reached []) <ℤ pos (get_or reference at.b1 0)
+  under_right = by at.reached.a0 (so_far.b1 unfinished) unfinished
+    where
+      by : (a0 : Option ℕ) → IsB1At reference end a0 at.reached.colour at.b1 → unwrap_or a0 0 < width
+          → a0_number (record { a0 = a0; colour = at.reached.colour; pels = [] }) <ℤ pos (get_or reference at.b1 0)
+      by None b1 h = omega (arith, ints)
+      by (Some a) b1 h =
+          elim (b1_within reference end width all at.b1 b1.some b1.within) [
+            | inl less ↦ omega (arith, ints, ltb-true a (get_or reference at.b1 0) (b1.ahead less.0))
+            | inr over ↦ omega (arith, ints, over.1)
+          ]
+
+  pub under_ahead : reached_pel at.reached ≤ get_or reference at.b1 0
+  under_ahead = b1_ahead reference end width all at.reached.a0 at.reached.colour at.b1 (so_far.b1 unfinished) unfinished
+
+  pub under_within : get_or reference at.b1 0 ≤ width
+  under_within = let b1 = so_far.b1 unfinished in b1_at_most reference end width all at.b1 b1.some b1.within
 
   -- two places are put where two runs end
   pub horizontal_placed : (b mid rest : List Bool) (first second : ℕ) (turned_colour : Colour) (between new : List ℕ) (middle_end next_end next_b1 : ℕ)

@@ -11,10 +11,13 @@ use crate::pels::Row;
 use crate::runs::{other, read_run};
 use crate::turns::{close, turn};
 use fax_bits::{BitSource, Colour};
+use quick::read_quickly;
 
-/// Reads the runs of a row in one-dimensional coding, and answers where its places end.
+mod quick;
+
+/// What `read_places` does, code by code: also where the row has a fault.
 #[inline(never)]
-fn read_places(source: &mut BitSource, places: &mut [u32], width: u32) -> Result<usize, RowFault>
+fn read_exactly(source: &mut BitSource, places: &mut [u32], width: u32) -> Result<usize, RowFault>
     requires some { 0 < width }
     requires short { width < 2 ^ 16 }
     requires room { length places.old ≡ width + 4 }
@@ -37,6 +40,27 @@ fn read_places(source: &mut BitSource, places: &mut [u32], width: u32) -> Result
         colour = other(colour);
     }
     Ok(end)
+}
+
+/// Reads the runs of a row in one-dimensional coding, and answers where its places end.
+fn read_places(source: &mut BitSource, places: &mut [u32], width: u32) -> Result<usize, RowFault>
+    requires some { 0 < width }
+    requires short { width < 2 ^ 16 }
+    requires room { length places.old ≡ width + 4 }
+    requires first { slice_index places.old 0 ≡ 0 }
+    ensures ok { IfOk result (λ end. IsOneDimensionalRow width source.old.left
+        (row_of places.new end width) source.new.left) }
+    ensures ascending { IfOk result (λ end. IsAscending places.new end) }
+    ensures last { IfOk result (λ end. slice_index places.new (end - 1) ≤ width) }
+    ensures err { IfErr result (λ fault. IsOneDimensionalFault width source.old.left fault) }
+    ensures first { slice_index places.new 0 ≡ 0 }
+    ensures same_len { length places.new ≡ length places.old }
+    ensures same_end { KeepsEnd source.old source.new }
+{
+    match read_quickly(source, places, width) {
+        Some(end) => Ok(end),
+        None => read_exactly(source, places, width),
+    }
 }
 
 /// Reads a row in one-dimensional coding: runs of white and black pels in turn, white first, up to

@@ -16,6 +16,9 @@ use crate::pels::Row;
 use crate::runs::{other, read_run};
 use crate::turns::{close, turn};
 use fax_bits::{BitSource, Colour, ModeCode, read_mode};
+use quick::read_quickly;
+
+mod quick;
 
 /// How far a row is read (T.4, section 4.2.1.3.1).
 #[derive(Clone, Copy)]
@@ -246,9 +249,9 @@ fn step(
     }
 }
 
-/// Reads the modes of a row over the reference row's places, and answers where its places end.
+/// What `read_places` does, mode by mode: also where the row has a fault.
 #[inline(never)]
-fn read_places_2d(
+fn read_exactly(
     source: &mut BitSource,
     reference: &[u32],
     reference_end: usize,
@@ -283,6 +286,34 @@ fn read_places_2d(
     Ok(at.end)
 }
 
+/// Reads the modes of a row over the reference row's places, and answers where its places end.
+fn read_places(
+    source: &mut BitSource,
+    reference: &[u32],
+    reference_end: usize,
+    places: &mut [u32],
+    width: u32,
+) -> Result<usize, RowFault>
+    requires reference { Turns.ArePlaces reference.now reference_end width }
+    requires room { length places.old ≡ width + 4 }
+    requires first { slice_index places.old 0 ≡ 0 }
+    ensures ok { IfOk result (λ end. Spec.IsTwoDimensionalRow
+        (Turns.row_of reference.now reference_end width) source.old.left
+        (Turns.row_of places.new end width) source.new.left) }
+    ensures ascending { IfOk result (λ end. Turns.IsAscending places.new end) }
+    ensures last { IfOk result (λ end. slice_index places.new (end - 1) ≤ width) }
+    ensures err { IfErr result (λ fault. Fault.IsTwoDimensionalFault
+        (Turns.row_of reference.now reference_end width) source.old.left fault) }
+    ensures first { slice_index places.new 0 ≡ 0 }
+    ensures same_len { length places.new ≡ length places.old }
+    ensures same_end { KeepsEnd source.old source.new }
+{
+    match read_quickly(source, reference, reference_end, places, width) {
+        Some(end) => Ok(end),
+        None => read_exactly(source, reference, reference_end, places, width),
+    }
+}
+
 /// Reads a row in two-dimensional coding over the reference row: modes from just before the first
 /// pel on, up to the row's width (T.4, sections 4.2.1.3.1 to 4.2.1.3.4; T.6, sections 2.2.1 to
 /// 2.2.4). It takes no memory.
@@ -304,7 +335,7 @@ pub fn read_2d(source: &mut BitSource, reference: &Row, row: &mut Row) -> Result
 {
     let width = row.width;
     let places = row.places.as_mut_slice();
-    match read_places_2d(source, &reference.places, reference.end, places, width) {
+    match read_places(source, &reference.places, reference.end, places, width) {
         Ok(end) => {
             row.end = close(places, end, width);
             Ok(())

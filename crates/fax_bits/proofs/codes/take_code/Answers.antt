@@ -1,5 +1,5 @@
 use Rattle.fax_bits.specs.Bits.{code_bits}
-use Rattle.std.proofs.Common.{◌≤◌, ◌<◌, length, arith, length-drop}
+use Rattle.std.proofs.Common.{arith, length-drop}
 use Rattle.fax_bits.proofs.MeetingLemmas.{length-code_bits}
 use Rattle.fax_bits.proofs.ReadLemmas.{peeked_bits, peeked-below, takes_found, found_is_short, none_begins}
 use Rattle.fax_bits.proofs.codes.take_code.Goals as goal

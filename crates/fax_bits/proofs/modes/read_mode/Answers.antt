@@ -1,4 +1,4 @@
-use Rattle.std.proofs.Common.{◌≡◌, ◌<◌, ℕ, List, [], ◌∷◌, ◌++◌, take, drop, replicate, length, Bool, true, false, refl, arith}
+use Rattle.std.proofs.Common.{◌≡◌, ℕ, List, [], ◌∷◌, ◌++◌, take, drop, replicate, Bool, true, false, refl, arith}
 use Rattle.std.specs.Prelude.{pos}
 use Rattle.fax_bits.specs.declared.modes.ModeCode.TheVariants.{Vertical}
 use Rattle.fax_bits.specs.Codes.{Takes}

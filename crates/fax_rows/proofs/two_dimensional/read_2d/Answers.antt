@@ -7,8 +7,8 @@ use Rattle.fax_rows.proofs.PlacedReadLemmas.{refilled}
 use Rattle.fax_rows.proofs.PlacedStepLemmas.{two_dimensional_as}
 use Rattle.fax_rows.proofs.two_dimensional.read_2d.Goals as goal
 
-pub read_places_2d-requires-clause-reference : goal.read_places_2d-requires-clause-reference
-read_places_2d-requires-clause-reference c =
+pub read_places-requires-clause-reference : goal.read_places-requires-clause-reference
+read_places-requires-clause-reference c =
     let own : c.row.inside.width ≡ length c.args.row.now = width_is c.row.inside.places.items c.row.inside.end c.row.inside.width c.row.invariant c.args.row.now c.row.view_is in
     let others : c.reference.inside.width ≡ length c.args.reference.now = width_is c.reference.inside.places.items c.reference.inside.end c.reference.inside.width c.reference.invariant c.args.reference.now c.reference.view_is in
     let same : c.row.inside.width ≡ c.reference.inside.width = omega arith in

@@ -1,4 +1,4 @@
-use Rattle.std.proofs.Common.{◌+◌, ◌/◌, ◌<◌, length, arith}
+use Rattle.std.proofs.Common.{arith}
 use Rattle.std.proofs.lemmas.Bool.{leb-true}
 use Rattle.fax_bits.proofs.SourceLemmas.{length-left_of}
 use Rattle.fax_bits.proofs.source.BitSource.has_word.Goals as goal

@@ -5,7 +5,7 @@ use Rattle.fax_rows.proofs.PlacedRowLemmas.{turned-first, take-first}
 use Rattle.fax_rows.proofs.PlacedReadLemmas.{places_within, run_turned, run_behind}
 use Rattle.fax_rows.proofs.RowLemmas.{row_begins, row_done}
 use Rattle.fax_rows.proofs.TurnLemmas.{length-pels_by}
-use Rattle.fax_rows.proofs.one_dimensional.read_places.Goals as goal
+use Rattle.fax_rows.proofs.one_dimensional.read_exactly.Goals as goal
 
 pub turn-end-requires-clause-room : goal.turn-end-requires-clause-room
 turn-end-requires-clause-room c =

@@ -2,7 +2,7 @@ use Rattle.std.proofs.Common.{◌≡◌, ◌+◌, length, take}
 use Rattle.fax_rows.specs.code.Turns.{pels_by}
 use Rattle.fax_rows.specs.code.PlacedReached.{placed_position, IsReadTo}
 use Rattle.fax_rows.proofs.StepLemmas.{AreStepsSoFar}
-use Rattle.fax_rows.proofs.two_dimensional.read_places_2d.Given as goal
+use Rattle.fax_rows.proofs.two_dimensional.read_exactly.Given as goal
 
 abbrev pub invariant-loop-source : goal.invariant-loop-source
 invariant-loop-source l = record {

@@ -4,7 +4,7 @@ use Rattle.fax_rows.specs.code.Turns.{pels_by}
 use Rattle.fax_rows.proofs.TurnLemmas.{length-pels_by}
 use Rattle.fax_rows.proofs.StepLemmas.{steps_begin, steps_go_on}
 use Rattle.fax_rows.proofs.PlacedStepLemmas.{nothing_read, steps_done, fault_here}
-use Rattle.fax_rows.proofs.two_dimensional.read_places_2d.Goals as goal
+use Rattle.fax_rows.proofs.two_dimensional.read_exactly.Goals as goal
 
 pub loop-source-init : goal.loop-source-init
 loop-source-init c = record {

@@ -1,0 +1,127 @@
+-- Bits that are loaded, and codes that are read from them.
+use Rattle.std.proofs.Common.{Bool, true, false, replicate, ◌≡◌, ℕ, ◌+◌, ◌*◌, ◌<◌, ◌≤◌, List, [], ◌∷◌, ◌++◌, length, take, drop, refl, ap, sym, ◌∙◌, subst, arith, length-append, length-drop}
+use Rattle.std.specs.Prelude.{pos}
+use Rattle.std.proofs.lemmas.List.{drop-drop}
+use Rattle.fax_bits.specs.declared.Colour.{Colour}
+use Rattle.fax_bits.specs.declared.FillOrder.{FillOrder}
+use Rattle.fax_bits.specs.declared.window.Window.{Window}
+use Rattle.fax_bits.specs.declared.runs.RunCode.TheVariants.{Terminating, MakeUp}
+use Rattle.fax_bits.specs.declared.modes.ModeCode.TheVariants.{Vertical}
+use Rattle.fax_bits.specs.Bits.{bits, bits_number, code_bits, HasZerosAhead}
+use Rattle.fax_bits.specs.declared.codes.CodeEntry.{CodeEntry}
+use Rattle.fax_bits.specs.Codes.{BeginsWith, Takes}
+use Rattle.fax_bits.specs.Runs.{IsRun}
+use Rattle.fax_bits.specs.Tables.{modes, run_table}
+use Rattle.fax_bits.specs.code.Window.{first_bits}
+use Rattle.fax_bits.specs.code.BitsAhead.{bits_ahead}
+use Rattle.fax_bits.specs.code.Ahead.{IsAhead, place_before}
+use Rattle.fax_bits.specs.code.Source.{Source, source_of, KeepsEnd}
+use Rattle.fax_bits.proofs.SourceLemmas.{length-left}
+use Rattle.fax_bits.proofs.MeetingLemmas.{length-code_bits}
+use Rattle.fax_bits.proofs.TableLemmas.{listed}
+use Rattle.fax_bits.proofs.PeekLemmas.{padded}
+use Rattle.fax_bits.proofs.ReadLemmas.{peeked_bits, peeked-below, takes_found, found_is_short}
+use Rattle.fax_bits.proofs.WindowLemmas.{length-first_bits}
+
+takes_one : (left rest : List Bool) → left ≡ replicate 0 false ++ true ∷ rest → Takes modes left (Vertical (pos 0)) (drop 1 left)
+unfolding modes code_bits
+takes_one [] rest is = cc
+takes_one (bit ∷ left) rest is = record {
+  entry = record { code = 1; len = 1; meaning = Vertical (pos 0) };
+  listed = listed modes 2 (record { code = 1; len = 1; meaning = Vertical (pos 0) }) refl;
+  means = refl;
+  spelled = is ∙ ap (λ b. true ∷ b) (sym (ap (drop 1) is));
+}
+
+-- a window at the place of another, of which more may be loaded
+module _ (order : FillOrder) (bytes : List ℕ) (old window : Window) (source : Source) (is : IsAhead order bytes old)
+    (shown : source_of order bytes (place_before old) ≡ source) (same : bits_ahead order bytes window ≡ bits_ahead order bytes old)
+    (place : 8 * window.at + old.count ≡ 8 * old.at + window.count) (within : window.at ≤ length bytes) where
+  pub loaded_left : bits_ahead order bytes window ≡ source.left
+  loaded_left = same ∙ is.bits_are ∙ ap (λ (s : Source). s.left) shown
+
+  loaded-left : window.count ≤ length source.left
+  loaded-left =
+      omega (
+        arith,
+        ap length loaded_left,
+        length-append (first_bits window.count window.bits) (bits order (drop window.at bytes)),
+        length-first_bits window.count window.bits,
+      )
+
+  -- behind some of its bits
+  module _ (n : ℕ) (behind : Window) (some : n ≤ 13) (count : behind.count + n ≡ window.count) (at : behind.at ≡ window.at) where
+    place_behind : place_before old + n ≡ place_before behind
+    place_behind = omega (arith, is.behind)
+
+    pub left_behind_code : drop (place_before behind) (bits order bytes) ≡ drop n source.left
+    left_behind_code =
+        ap (λ p. drop p (bits order bytes)) (sym place_behind) ∙ sym (drop-drop n (place_before old) (bits order bytes))
+        ∙ ap (λ (s : Source). drop n s.left) shown
+
+    pub end_kept : KeepsEnd source (source_of order bytes (place_before behind))
+    end_kept =
+        omega (
+          arith,
+          place_behind,
+          is.behind,
+          is.within,
+          within,
+          length-left order bytes (place_before behind),
+          length-left order bytes (place_before old),
+          ap (λ (s : Source). s.place) shown,
+          ap (λ (s : Source). length s.left) shown,
+        )
+
+  -- a 1, which is a mode of its own
+  module _ (behind : Window) (one : HasZerosAhead (bits_ahead order bytes window) 0) (count : behind.count + 1 ≡ window.count) (at : behind.at ≡ window.at) where
+    pub one_taken : Takes modes source.left (Vertical (pos 0)) (drop (place_before behind) (bits order bytes))
+    one_taken =
+        subst (λ rest. Takes modes source.left (Vertical (pos 0)) rest) (sym (left_behind_code 1 behind (omega arith) count at))
+        (takes_one source.left one.0 (sym loaded_left ∙ one.1))
+
+    pub one_end_kept : KeepsEnd source (source_of order bytes (place_before behind))
+    one_end_kept = end_kept 1 behind (omega arith) count at
+
+    pub one_shorter : length (drop (place_before behind) (bits order bytes)) < length source.left
+    one_shorter =
+        omega (arith, loaded-left, count, ap length (left_behind_code 1 behind (omega arith) count at), length-drop 1 source.left)
+
+  -- a code that begins the next thirteen bits, which are loaded
+  module _ (many : 32 ≤ window.count) (number : ℕ) (number_is : number ≡ bits_number (take 13 (padded (bits_ahead order bytes window) 13))) where
+    spelled_is : number ≡ bits_number (take 13 (padded source.left 13))
+    spelled_is = number_is ∙ ap (λ b. bits_number (take 13 (padded b 13))) loaded_left
+
+    pub number-below : number < 8192
+    number-below = peeked-below source.left 13 (omega (arith, many, loaded-left)) number spelled_is
+
+    module _ {M : Type 0} (table : List (CodeEntry M)) (len : ℕ) (meaning : M) (found : BeginsWith table (code_bits 13 number) len meaning)
+        (behind : Window) (count : behind.count + len ≡ window.count) (at : behind.at ≡ window.at) where
+      short : len ≤ 13
+      short = omega (arith, found_is_short table (code_bits 13 number) len meaning found, length-code_bits 13 number)
+
+      pub taken_ahead : Takes table source.left meaning (drop (place_before behind) (bits order bytes))
+      taken_ahead =
+          subst (λ rest. Takes table source.left meaning rest) (sym (left_behind_code len behind short count at))
+          (takes_found table source.left (code_bits 13 number) 13 len meaning (peeked_bits source.left 13 (omega (arith, many, loaded-left)) number spelled_is) found)
+
+      pub end_kept_ahead : KeepsEnd source (source_of order bytes (place_before behind))
+      end_kept_ahead = end_kept len behind short count at
+
+      pub shorter_ahead : 0 < len → length (drop (place_before behind) (bits order bytes)) < length source.left
+      shorter_ahead some =
+          omega (arith, short, some, many, loaded-left, ap length (left_behind_code len behind short count at), length-drop len source.left)
+
+-- a run of a terminating code alone
+pub short_run : (colour : Colour) (b : List Bool) (n : ℕ) (rest : List Bool) → Takes (run_table colour) b (Terminating n) rest → IsRun colour b n rest
+short_run colour b n rest takes = record { make_up = []; last = n; spelled = (rest, takes, refl); length = omega arith }
+
+-- a run of a make-up code and a terminating code
+pub long_run : (colour : Colour) (b : List Bool) (m n : ℕ) (middle rest : List Bool) → Takes (run_table colour) b (MakeUp m) middle
+    → Takes (run_table colour) middle (Terminating n) rest → IsRun colour b (m + n) rest
+long_run colour b m n middle rest first last = record {
+  make_up = m ∷ [];
+  last = n;
+  spelled = (middle, first, (rest, last, refl));
+  length = omega arith;
+}

@@ -1,0 +1,153 @@
+//! The bits ahead of a source, by value: what a row that has no fault is read from quickly. Every
+//! function gives up, with `None`, where fewer bits are loaded than it may need, or at any doubt: then
+//! the row is read again from its source.
+ghost use Rattle.std.specs.Prelude.{◌≡◌, ◌+◌, ◌*◌, ◌<◌, ◌≤◌, length, IfSome};
+ghost use Rattle.fax_bits.specs.Codes.{Takes};
+ghost use Rattle.fax_bits.specs.Runs.{IsRun};
+ghost use Rattle.fax_bits.specs.Tables.{modes, run_table};
+ghost use Rattle.fax_bits.specs.code.BitsAhead.{bits_ahead};
+ghost use Rattle.fax_bits.specs.code.Source.{KeepsEnd, IsPlaced, source_of};
+
+use crate::codes::CodeTable;
+use crate::modes::{ModeCode, Modes};
+use crate::runs::{BlackRuns, RunCode, WhiteRuns};
+use crate::window::Window;
+use crate::{BitSource, Colour, FillOrder};
+use std::marker::Model;
+
+/// How many bits the longest code has.
+const LONGEST_CODE: u32 = 13;
+
+/// A place in the bits of some bytes, by value, as a `BitSource` is one. Contracts see the bits from
+/// there on and the number of bits before it.
+#[derive(Drop)]
+pub struct Ahead<'a> {
+    order: FillOrder,
+    bytes: &'a [u8],
+    window: Window,
+}
+
+impl<'a> Model for Ahead<'a> {
+    ghost use Rattle.fax_bits.specs.code.Source.{Source, source_of};
+    ghost use Rattle.fax_bits.specs.code.Ahead.{IsAhead, place_before};
+
+    ghost Value = { Source };
+
+    ghost view = { λ a. source_of a.order a.bytes.now (place_before a.window) };
+
+    ghost invariant = { λ a. IsAhead a.order a.bytes.now a.window };
+}
+
+/// The same bits, of which at least 32 are loaded, or `None` near the end of the bytes.
+#[inline(always)]
+fn loaded(bytes: &[u8], order: FillOrder, window: Window) -> Option<Window>
+    requires { window.at ≤ length bytes.now }
+    ensures ahead { IfSome result (λ more. bits_ahead order bytes.now more ≡ bits_ahead order bytes.now window) }
+    ensures many { IfSome result (λ more. 32 ≤ more.count) }
+    ensures place { IfSome result (λ more. 8 * more.at + window.count ≡ 8 * window.at + more.count) }
+    ensures within { IfSome result (λ more. more.at ≤ length bytes.now) }
+{
+    if window.count >= 32 {
+        return Some(window);
+    }
+    if bytes.len() - window.at < 4 {
+        return None;
+    }
+    Some(window.refilled(bytes, order))
+}
+
+impl<'a> Ahead<'a> {
+    /// The bits of the bytes from a place on, or `None` near the end of the bytes.
+    #[inline(always)]
+    pub(crate) fn at(bytes: &'a [u8], order: FillOrder, place: u64) -> Option<Ahead<'a>>
+        requires { IsPlaced bytes.now place }
+        ensures { IfSome result (λ ahead. ahead ≡ source_of order bytes.now place) }
+    {
+        let at = (place / 8) as usize;
+        if bytes.len() - at < 4 {
+            return None;
+        }
+        let window = Window::new(at).refilled(bytes, order);
+        Some(Ahead {
+            order,
+            bytes,
+            window: window.behind((place % 8) as u32),
+        })
+    }
+
+    /// The same place as a source.
+    #[inline(always)]
+    pub fn source(self) -> BitSource<'a>
+        ensures { result ≡ self.entry }
+    {
+        let place = self.window.at as u64 * 8 - u64::from(self.window.count);
+        BitSource::at(self.bytes, self.order, place)
+    }
+
+    /// Reads a code of the table.
+    #[inline(always)]
+    fn code<T: CodeTable>(self) -> Option<(Ahead<'a>, T::Meaning)>
+        ensures takes { IfSome result (λ read. Takes T.table self.entry.left read.1 read.0.left) }
+        ensures same_end { IfSome result (λ read. KeepsEnd self.entry read.0) }
+        ensures shorter { IfSome result (λ read. length read.0.left < length self.entry.left) }
+    {
+        let window = loaded(self.bytes, self.order, self.window)?;
+        let (len, meaning) = T::find(window.number(LONGEST_CODE), LONGEST_CODE)?;
+        let behind = Ahead {
+            window: window.behind(len),
+            ..self
+        };
+        Some((behind, meaning))
+    }
+
+    /// Reads a mode (T.4, table 4).
+    #[inline(always)]
+    pub fn mode(self) -> Option<(Ahead<'a>, ModeCode)>
+        ensures takes { IfSome result (λ read. Takes modes self.entry.left read.1 read.0.left) }
+        ensures same_end { IfSome result (λ read. KeepsEnd self.entry read.0) }
+        ensures shorter { IfSome result (λ read. length read.0.left < length self.entry.left) }
+    {
+        if self.window.begins_with_one() {
+            let behind = Ahead {
+                window: self.window.behind(1),
+                ..self
+            };
+            return Some((behind, ModeCode::Vertical(0)));
+        }
+        self.code::<Modes>()
+    }
+
+    /// Reads a code for a run of the colour (T.4, tables 2, 3a and 3b).
+    #[inline(always)]
+    fn run_code(self, colour: Colour) -> Option<(Ahead<'a>, RunCode)>
+        ensures takes { IfSome result (λ read. Takes (run_table colour) self.entry.left read.1 read.0.left) }
+        ensures same_end { IfSome result (λ read. KeepsEnd self.entry read.0) }
+        ensures shorter { IfSome result (λ read. length read.0.left < length self.entry.left) }
+    {
+        match colour {
+            Colour::White => self.code::<WhiteRuns>(),
+            Colour::Black => self.code::<BlackRuns>(),
+        }
+    }
+
+    /// Reads a run of the colour, of one make-up code at most, and how many pels it has (T.4, section
+    /// 4.1.1).
+    #[inline(always)]
+    pub fn run(self, colour: Colour) -> Option<(Ahead<'a>, u32)>
+        ensures run { IfSome result (λ read. IsRun colour self.entry.left read.1 read.0.left) }
+        ensures same_end { IfSome result (λ read. KeepsEnd self.entry read.0) }
+        ensures shorter { IfSome result (λ read. length read.0.left < length self.entry.left) }
+    {
+        let (behind, first) = self.run_code(colour)?;
+        let pels = match first {
+            RunCode::Terminating(pels) => return Some((behind, u32::from(pels))),
+            RunCode::MakeUp(pels) => pels,
+            RunCode::Extension => return None,
+        };
+        let (behind, last) = behind.run_code(colour)?;
+        match last {
+            RunCode::Terminating(more) => Some((behind, u32::from(pels) + u32::from(more))),
+            RunCode::MakeUp(_) | RunCode::Extension => None,
+        }
+    }
+}
