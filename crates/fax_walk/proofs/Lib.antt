@@ -36,3 +36,6 @@ pub mod LongStripLemmas
 pub mod LongTailLemmas
 pub mod OneLongTailLemmas
 pub mod LongPrintedLemmas
+pub mod OpenInsideLemmas
+pub mod GoesOnLemmas
+pub mod LastLemmas

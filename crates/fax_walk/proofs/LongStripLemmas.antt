@@ -20,6 +20,7 @@ use Rattle.fax_walk.specs.declared.end.End.{End}
 use Rattle.fax_walk.specs.LongCursor.{LongPlace}
 use Rattle.fax_walk.specs.Items.{Item, numbered, stop_at, Follows, AreFromRowOf, ArePagesItems}
 use Rattle.fax_walk.specs.Tail.{IsTail, IsTailOver, IsTailUnder}
+use Rattle.fax_walk.proofs.DueLemmas.{shown_none}
 use Rattle.fax_walk.specs.LongTail.{strip_at, row_in_strip, HasPage, AreOnPage, IsLongTail, IsLongTailOver, IsLongTailUnder}
 
 -- a file's page of a number is one
@@ -84,13 +85,6 @@ pub strips_behind : (endian : Endian) (file : List ℕ) (q : ℕ) (form : PageFo
     → AreFromRowOf endian file q form p e behind (numbered p e (shown form (joined strips)) ++ others) end
 strips_behind endian file q form limits p s e behind strips cause others end within e_is are follows = by_order (cases_lt (s + 1) form.strips)
   where
-    no_rows : shown form [] ≡ []
-    no_rows = by_test form.exchanged
-      where
-        by_test : (b : Bool) → (let rows : List (List Colour) = [] in if b then map (map other) rows else rows) ≡ []
-        by_test true = refl
-        by_test false = refl
-
     last : (strips : List (List (List Colour))) (cause : Option Cause) → form.strips ≤ s + 1 → AreStrips endian file q form (s + 1) strips cause
         → (strips ≡ []) × (cause ≡ None)
     last [] cause none (inl stops) = (refl, stops.1)
@@ -123,7 +117,7 @@ strips_behind endian file q form limits p s e behind strips cause others end wit
         let count : form.strips ≡ s + 1 = omega (arith, none, within) in
         let all : e ≡ form.rows = let enough = rw count at limits.enough in omega (arith, e_is, enough) in
         let goes_on : behind others end = rw ends.1 at follows in
-        inr (inl (all, rw (ends.0, no_rows) goes_on))
+        inr (inl (all, rw (ends.0, shown_none form) goes_on))
 
 -- rows that are numbered one behind another
 pub numbered_both : (p r : ℕ) (rows more : List (List Colour)) → numbered p r (rows ++ more) ≡ numbered p r rows ++ numbered p (r + length rows) more
@@ -143,3 +137,8 @@ shown_both form rows more = by_test form.exchanged
         ≡ (if b then map (map other) rows else rows) ++ (if b then map (map other) more else more)
     by_test true = map_both (map other) rows more
     by_test false = refl
+
+-- behind no strips there is nothing
+pub nothing_left : (form : PageForm) (p r : ℕ) (strips : List (List (List Colour))) (others : List Item) → strips ≡ [] → others ≡ []
+    → numbered p r (shown form (joined strips)) ++ others ≡ []
+nothing_left form p r strips others none nothing = rw (none, shown_none form, nothing) refl

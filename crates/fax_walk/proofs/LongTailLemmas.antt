@@ -28,13 +28,12 @@ use Rattle.fax_walk.specs.declared.end.End.TheVariants.{Fault}
 use Rattle.fax_walk.specs.LongCursor.{LongPlace}
 use Rattle.fax_walk.specs.Items.{Item, numbered, stop_at, Follows, AreFromRowOf, ArePagesItems}
 use Rattle.fax_walk.specs.Tail.{behind_item, IsTail}
-use Rattle.fax_walk.specs.LongTail.{strip_at, row_in_strip, HasPage, IsInside, FollowsStrip, AreFromPlace, AreOnPage, IsLongTail, AreLinesUpTo, place_behind, IsLongBehind, IsTailFrom, ReadsFrom, HasReadTo, IsInStrip, IsRowInside, AreInStrip, IsLongTailOver, IsLongTailUnder}
+use Rattle.fax_walk.specs.LongTail.{strip_at, row_in_strip, HasPage, IsInside, FollowsStrip, AreFromPlace, AreOnPage, IsLongTail, AreLinesUpTo, place_behind, IsNotLast, IsLongBehind, IsTailFrom, ReadsFrom, HasReadTo, IsInStrip, IsRowInside, AreInStrip, IsLongTailOver, IsLongTailUnder}
 use Rattle.fax_walk.specs.LongLaws.{LongTailBehindItem}
 use Rattle.fax_walk.specs.Laws.{TailBehindItem}
 use Rattle.fax_walk.proofs.TailLemmas.{StandsFrom, stands_from, divided, none_holds}
-use Rattle.fax_walk.proofs.DueLemmas.{shown_none}
 use Rattle.fax_walk.proofs.LongLineLemmas.{LinesAreRead, GoesFrom, goes_from, last_width, lines_within, one_row}
-use Rattle.fax_walk.proofs.LongStripLemmas.{same_page, Behind, tail_at, tail_of, long_at, in_strip, next_in_strip, strips_behind, numbered_both, shown_both}
+use Rattle.fax_walk.proofs.LongStripLemmas.{nothing_left, same_page, Behind, tail_at, tail_of, long_at, in_strip, next_in_strip, strips_behind, numbered_both, shown_both}
 use Rattle.fax_walk.proofs.PageItemLemmas.{IsCount, Split, split, counted, strip_count, shown_length, shown_drop}
 
 by_tests : {A : Type 0} (a b : Bool) (x place : A) → Some place ≡ (if a && b then (Some x) else None) → (a ≡ true) × (place ≡ x)
@@ -52,10 +51,6 @@ pub some_behind : (form : PageForm) (p r n : ℕ) (row : List Colour) (place : L
 some_behind form p r n row place is =
     let p = by_tests (nat_lt (row_in_strip form r + 1) (strip_form form (strip_at form r)).rows) (nat_le n 4294967295) (place_of p r n row) place is in
     (grind (arith, nat_tests, p.0), p.1)
-
-nothing_left : (form : PageForm) (p r : ℕ) (strips : List (List (List Colour))) (others : List Item) → strips ≡ [] → others ≡ []
-    → numbered p r (shown form (joined strips)) ++ others ≡ []
-nothing_left form p r strips others none nothing = rw (none, shown_none form, nothing) refl
 
 -- a strip that was read up to a row that is not its last
 module _ (lines_read : LinesAreRead) (chains : FilesHaveOneChain) (file : List ℕ) (p r : ℕ) (head : Header) (q : ℕ) (form : PageForm)
@@ -202,7 +197,7 @@ module _ (lines_read : LinesAreRead) (chains : FilesHaveOneChain) (forms : Forms
       let wide = last_width (strip_form form (strip_at form r)) 0 (white_row form.width) (bits form.order is.bytes) read.rows is.row _ lines white in
       let count : row_in_strip form r + 1 ≡ length read.rows = omega (arith, read.count, read.from.0) in
       rw found.1 (tail_behind lines_read chains file p r is.head is.q form is.here (forms is.head.endian file is.q form is.here.form_is) is.bytes is.bytes_are
-      is.row is.n is.within found.0 wide read.rows count lines after end tail)
+      is.row is.n (is.within found.0) found.0 wide read.rows count lines after end tail)
 
 -- the place behind a row of a page that is known
 pub record IsBehindOn (head : Header) (file : List ℕ) (q : ℕ) (form : PageForm) (begun : Begun) (p r : ℕ) (place : Option LongPlace) : Type 0 where
@@ -211,7 +206,7 @@ pub record IsBehindOn (head : Header) (file : List ℕ) (q : ℕ) (form : PageFo
   pub row : List Colour
   pub n : ℕ
   pub read : HasReadTo begun p form (strip_at form r) bytes (row_in_strip form r + 1) row n
-  pub within : n ≤ 8 * length bytes
+  pub within : IsNotLast form r → n ≤ 8 * length bytes
   pub place_is : place ≡ place_behind form p r n row
 
 pub behind_on : FilesHaveOneChain → (file : List ℕ) (begun : Begun) (p r : ℕ) (place : Option LongPlace) (head : Header) (q : ℕ) (form : PageForm)
@@ -224,7 +219,7 @@ behind_on chains file begun p r place head q form here is =
       row = is.row;
       n = is.n;
       read = rw same.2 at is.read;
-      within = is.within;
+      within = rw same.2 at is.within;
       place_is = rw same.2 at is.place_is;
     }
 
@@ -329,7 +324,7 @@ module _ (lines_read : LinesAreRead) (chains : FilesHaveOneChain) (forms : Forms
     in_own =
         let row_is : from_row + length on.read.rows ≡ row_in_strip form item.row + 1 = omega (arith, numbers.1, read_count) in
         rw found.1
-        (begins_behind lines_read chains file item.page item.row head q form (page_of_item known.page_is) limits on.bytes on.bytes_are on.row on.n on.within found.0 wide
+        (begins_behind lines_read chains file item.page item.row head q form (page_of_item known.page_is) limits on.bytes on.bytes_are on.row on.n (on.within found.0) found.0 wide
         goes.more stop left (rw (same_bytes, numbers.0, ← row_is) goes.lines) others after end
         (after_is ∙ ap (λ (l : List Item). l ++ others) (known.after_is ∙ ap (λ (m : ℕ). numbered m (item.row + 1) (drop (length before + 1) (shown form own))) (sym known.page_is)
         ∙ ap (numbered item.page (item.row + 1)) rows_left))

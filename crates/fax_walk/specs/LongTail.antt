@@ -159,6 +159,10 @@ place_behind form p r n row =
     if nat_lt (row_in_strip form r + 1) (strip_form form (strip_at form r)).rows && nat_le n 4294967295
     then (Some (record { at = record { page = p; row = r + 1 }; bits = n; runs = runs_of row })) else None
 
+-- row r of the page is not its strip's last (TIFF 6.0, RowsPerStrip)
+abbrev pub IsNotLast : PageForm → ℕ → Type 0
+IsNotLast form r = row_in_strip form r + 1 < (strip_form form (strip_at form r)).rows
+
 -- the file's page of this number: its header, the offset of its directory, and its form (TIFF 6.0, section 2)
 pub record HasPage (file : List ℕ) (p : ℕ) (head : Header) (q : ℕ) (form : PageForm) : Type 0 where
   pub head_is : header file ≡ Ok head
@@ -179,7 +183,7 @@ pub record IsLongBehind (file : List ℕ) (begun : Begun) (p r : ℕ) (place : O
   pub row : List Colour
   pub n : ℕ
   pub read : HasReadTo begun p form (strip_at form r) bytes (row_in_strip form r + 1) row n
-  pub within : n ≤ 8 * length bytes
+  pub within : IsNotLast form r → n ≤ 8 * length bytes
   pub place_is : place ≡ place_behind form p r n row
 
 -- the place inside a strip behind an item of what a walk hands out that began so, if there is one

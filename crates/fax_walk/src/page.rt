@@ -169,6 +169,7 @@ pub(crate) fn open_inside<'a>(
         → Due.IsDueOnPage page items end → Opening.IsPlaceDue due.entry place.now items end) }
     ensures refused { IfErr result (Opening.IsRefusal (Opening.IsPlaceDue due.entry place.now)) }
 {
+    fax_files::laws::forms_are_whole();
     let form = due.form;
     let first = place.at.row;
     if first >= form.rows || first % form.rows_per_strip == 0 {
@@ -291,7 +292,7 @@ impl<'a> OpenPage<'a> {
         ensures same_read { self.new.read ≡ self.old.read }
         ensures place { IfErr result (Due.EndsAtRow self.old) }
         ensures err { IfErr result (Due.IsDueOnPage self.old []) }
-        ensures goes_on { Due.GoesOn self.old self.new }
+        ensures goes_on { OnErr result (Due.GoesOn self.old self.new) }
     {
         let number = self.number + 1;
         match self.strips.bytes(number) {

@@ -191,13 +191,16 @@ impl<'a> Walk<'a> {
     pub fn long_cursor(&self, alloc: Global) -> Result<Option<LongCursor>, Memory>
         ensures { IfOk result (IsLongNow self.now) }
     {
+        fax_files::laws::files_have_one_chain();
+        fax_files::laws::forms_are_whole();
         if self.given == 0 {
             return self.begun.long_cursor();
         }
         match &self.stage {
             Stage::Open(page) => page.long_cursor(alloc),
             Stage::Ended(_, _, Some(page)) => page.long_cursor(alloc),
-            Stage::Before | Stage::Ended(_, _, None) => Ok(None),
+            Stage::Before => unreachable!(),
+            Stage::Ended(_, _, None) => Ok(None),
         }
     }
 
@@ -242,11 +245,12 @@ impl<'a> Walk<'a> {
             Stage::Open(_) => return Ok(()),
             Stage::Ended(..) => return Ok(()),
         };
-        match opened {
-            Ok(page) => self.stage = Stage::Open(page),
-            Err(OpenFault::Ended(end)) => self.stage = Stage::Ended(end, self.rows_read(), None),
+        let stage = match opened {
+            Ok(page) => Stage::Open(page),
+            Err(OpenFault::Ended(end)) => Stage::Ended(end, self.rows_read(), None),
             Err(OpenFault::Memory) => return Err(Memory),
-        }
+        };
+        self.stage = stage;
         Ok(())
     }
 
@@ -255,6 +259,7 @@ impl<'a> Walk<'a> {
         requires { IsAtRow self.old.stage }
         ensures { IsStep self.old self.new }
     {
+        fax_files::laws::files_have_one_chain();
         match replace(&mut self.stage, Stage::Before) {
             Stage::Open(mut page) => match page.next() {
                 Ok(()) => {

@@ -151,11 +151,10 @@ pub record IsInFile (file : List ℕ) (number : ℕ) (chain : ChainState) (direc
 abbrev pub IsPageIn : List ℕ → PageState → Type 0
 IsPageIn file page = IsInFile file page.page page.chain page.directory page.form
 
--- a place inside a strip where a walk began stands in no later strip than the one that is read
-abbrev pub IsNotBehind : Begun → PageState → Type 0
-IsNotBehind (At at) page = ⊤
-IsNotBehind (Inside place) page =
-    (place.at.page < page.page) ⊎ ((place.at.page ≡ page.page) × (strip_at page.form place.at.row ≤ page.number))
+-- a place inside a strip where a walk began stands in no later strip than strip s of page p
+abbrev pub IsNotBehind : Begun → ℕ → PageForm → ℕ → Type 0
+IsNotBehind (At at) p form s = ⊤
+IsNotBehind (Inside place) p form s = (place.at.page < p) ⊎ ((place.at.page ≡ p) × (strip_at form place.at.row ≤ s))
 
 -- the strip that is read is the page's of its number, and a walk that began so has read it as far as this
 pub record IsReached (begun : Begun) (page : PageState) : Type 0 where
@@ -164,7 +163,7 @@ pub record IsReached (begun : Begun) (page : PageState) : Type 0 where
   pub within : page.strip.row ≤ page.strip.form.rows
   pub read : HasReadTo begun page.page page.form page.number page.strip.bytes page.strip.row page.strip.reference
       page.strip.place
-  pub not_behind : IsNotBehind begun page
+  pub not_behind : IsNotBehind begun page.page page.form page.number
 
 -- behind the row before this cursor there is this place inside a strip, or none
 abbrev pub IsLongBefore : List ℕ → Begun → Cursor → Option LongPlace → Type 0
@@ -211,6 +210,17 @@ IsOpenedFor cursor page =
 abbrev pub EndsAtRow : PageState → End → Type 0
 EndsAtRow page end = (cause : Cause) × (end ≡ Fault page.page (row_of page) cause)
 
+-- a page that was read on: the same page, as many rows further as were read, at this strip or a later one, and a walk
+-- that reached the one has reached the other
+pub record GoesOn (old new : PageState) : Type 0 where
+  pub same_page : new.page ≡ old.page
+  pub same_chain : new.chain ≡ old.chain
+  pub same_directory : new.directory ≡ old.directory
+  pub same_form : new.form ≡ old.form
+  pub count : row_of new + old.read ≡ row_of old + new.read
+  pub strips : old.number ≤ new.number
+  pub reached : (begun : Begun) → IsReached begun old → IsReached begun new
+
 -- a row was read from a page: it was the first that is handed out, and what was due is that row, and then what is due
 -- now; or it was one before that, and what was due is due
 pub record ReadsPageRow (old new : PageState) : Type 0 where
@@ -222,6 +232,7 @@ pub record ReadsPageRow (old new : PageState) : Type 0 where
   pub same_first : new.first ≡ old.first
   pub same_form : new.form ≡ old.form
   pub still_open : IsOpen new
+  pub some_row : 0 < new.strip.row
   pub one_more : new.read ≡ old.read + 1
 
 -- the next row that is handed out was read: what was due is that row, and then what is due now
@@ -233,6 +244,7 @@ pub record GivesRow (old new : PageState) : Type 0 where
   pub none_skipped : skipped new ≡ 0
   pub same_page : new.page ≡ old.page
   pub still_open : IsOpen new
+  pub some_row : 0 < new.strip.row
   pub read : new.read ≡ old.read + skipped old + 1
   pub few : new.read < 2 ^ 64
 
@@ -251,18 +263,8 @@ pub record KeepsPage (old new : PageState) : Type 0 where
   pub same_page : new.page ≡ old.page
   pub same_first : new.first ≡ old.first
   pub same_read : new.read ≡ old.read
+  pub goes_on : GoesOn old new
   pub no_fault : new.strip.fault ≡ None
-
--- a page that was read on: the same page, as many rows further as were read, at this strip or a later one, and a walk
--- that reached the one has reached the other
-pub record GoesOn (old new : PageState) : Type 0 where
-  pub same_page : new.page ≡ old.page
-  pub same_chain : new.chain ≡ old.chain
-  pub same_directory : new.directory ≡ old.directory
-  pub same_form : new.form ≡ old.form
-  pub count : row_of new + old.read ≡ row_of old + new.read
-  pub strips : old.number ≤ new.number
-  pub reached : (begun : Begun) → IsReached begun old → IsReached begun new
 
 -- the place inside the strip behind the row that was read last: the cursor of the row that is due, how many bits stand
 -- before it, and the runs of the row before it; none before a strip's first row and behind its last, and where the bits

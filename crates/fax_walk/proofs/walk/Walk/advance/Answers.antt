@@ -13,13 +13,13 @@ returns c =
       | in-Ended-Proper-default w ↦
           let end_is = rw w.in-Ended-Proper-default.is at w.in-Ended-Proper-default.field-0-is in
           rw w.result-is
-          (rw end_is at (went_to_end _ c.enter.new.self c.step.new.self c.in_default.ensures c.step.ensures _ _ (stage_is ∙ w.in-Ended-Proper-default.is)))
+          (rw end_is at (went_to_end _ c.enter.new.self c.step.new.self c.in_default.ensures c.step.ensures _ _ _ (stage_is ∙ w.in-Ended-Proper-default.is)))
       | in-Ended-Outside-default w ↦
           let end_is = rw w.in-Ended-Outside-default.is at w.in-Ended-Outside-default.field-0-is in
           rw w.result-is
-          (rw end_is at (went_to_end _ c.enter.new.self c.step.new.self c.in_default.ensures c.step.ensures _ _ (stage_is ∙ w.in-Ended-Outside-default.is)))
+          (rw end_is at (went_to_end _ c.enter.new.self c.step.new.self c.in_default.ensures c.step.ensures _ _ _ (stage_is ∙ w.in-Ended-Outside-default.is)))
       | in-Ended-Fault-default w ↦
           let end_is = rw w.in-Ended-Fault-default.is at w.in-Ended-Fault-default.field-0-is in
           rw w.result-is
-          (rw end_is at (went_to_end _ c.enter.new.self c.step.new.self c.in_default.ensures c.step.ensures _ _ (stage_is ∙ w.in-Ended-Fault-default.is)))
+          (rw end_is at (went_to_end _ c.enter.new.self c.step.new.self c.in_default.ensures c.step.ensures _ _ _ (stage_is ∙ w.in-Ended-Fault-default.is)))
     ]
