@@ -1,5 +1,4 @@
-use Rattle.std.proofs.Common.{◌≡◌, ◌<◌, ◌^◌, Some, None, rules, arith}
-use Rattle.std.proofs.lemmas.Str.Pattern.{IsSplitOnceResult}
+use Rattle.std.proofs.Common.{arith}
 use Rattle.fax_walk.proofs.LongCursorLemmas.{none_before_colon, no_number_before, number_before}
 use Rattle.fax_walk.proofs.long_cursor.cut_number.Goals as goal
 

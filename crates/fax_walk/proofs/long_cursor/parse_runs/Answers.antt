@@ -1,7 +1,6 @@
-use Rattle.std.proofs.Common.{◌≡◌, ℕ, Err, List, length, get_or, ap, sym, ◌∙◌, rules}
+use Rattle.std.proofs.Common.{rules}
 use Rattle.std.proofs.lemmas.Result.{err_from_is_err_and}
-use Rattle.fax_walk.specs.LongCursor.{runs_text}
-use Rattle.fax_walk.proofs.LongCursorLemmas.{none_cut, run_cut, all_cut, run_before, run_left}
+use Rattle.fax_walk.proofs.LongCursorLemmas.{run_cut, all_cut, run_before, run_left}
 use Rattle.fax_walk.proofs.long_cursor.parse_runs.Goals as goal
 
 pub loop-run-preserved : goal.loop-run-preserved

@@ -1,6 +1,6 @@
-use Rattle.std.proofs.Common.{◌≡◌, ◌++◌, ◌∷◌, take, get_or}
+use Rattle.std.proofs.Common.{◌≡◌, ◌++◌, take}
 use Rattle.std.specs.String.{string_bytes}
-use Rattle.std.specs.Prelude.{decimal, flat_map}
+use Rattle.std.specs.Prelude.{flat_map}
 use Rattle.fax_walk.specs.LongCursor.{and_run}
 use Rattle.fax_walk.proofs.long_cursor.put_runs.Given as goal
 

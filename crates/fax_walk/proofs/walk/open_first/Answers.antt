@@ -1,4 +1,3 @@
-use Rattle.fax_walk.proofs.LastLemmas.{place_of_strip}
 use Rattle.fax_walk.proofs.GoesOnLemmas.{first_reached}
 use Rattle.fax_walk.proofs.walk.open_first.Goals as goal
 

@@ -1,7 +1,5 @@
-use Rattle.std.proofs.Common.{◌≡◌, ◌∙◌, ap, sym, refl, arith}
+use Rattle.std.proofs.Common.{◌∙◌, sym, arith}
 use Rattle.std.proofs.lemmas.Result.{err_from_is_err_and}
-use Rattle.fax_walk.specs.LongCursor.{LongPlace, runs_text}
-use Rattle.fax_walk.specs.code.LongText.{number_and}
 use Rattle.fax_walk.proofs.LongCursorLemmas.{cut_so, text_by_numbers, is_long_text}
 use Rattle.fax_walk.proofs.long_cursor.LongCursor.parse.Goals as goal
 

@@ -1,5 +1,4 @@
-use Rattle.std.proofs.Common.{◌≡◌, Err, sym, ap, ◌∙◌, refl, arith}
-use Rattle.fax_walk.specs.code.Due.{IsSound, rows_read_at, WalkState}
+use Rattle.std.proofs.Common.{sym, ◌∙◌, arith}
 use Rattle.fax_walk.proofs.CountLemmas.{counted_first, counted_next, ended_first, ended_next, same_number}
 use Rattle.fax_walk.proofs.LastLemmas.{first_on_page, next_opened, none_behind_page}
 use Rattle.fax_walk.proofs.WalkLemmas.{TakesPlace, entered, takes_first, takes_next, ends_first, ends_next}

@@ -1,4 +1,4 @@
-use Rattle.std.proofs.Common.{◌≡◌, ◌<◌, Option, Ok, Some, None, sym, arith}
+use Rattle.std.proofs.Common.{◌<◌, None, arith}
 use Rattle.fax_walk.proofs.LastLemmas.{place_on_page, long_now, long_if_now}
 use Rattle.fax_walk.proofs.walk.Walk.long_cursor.Goals as goal
 

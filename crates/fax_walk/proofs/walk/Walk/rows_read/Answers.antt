@@ -1,6 +1,5 @@
 use Rattle.std.proofs.Common.{arith}
 use Rattle.fax_walk.proofs.BeforeLemmas.{some_before_begun}
-use Rattle.fax_walk.proofs.CountLemmas.{counted_long, ended_long}
 use Rattle.fax_walk.proofs.walk.Walk.rows_read.Goals as goal
 
 pub returns-in-Before-clause-bounded : goal.returns-in-Before-clause-bounded
