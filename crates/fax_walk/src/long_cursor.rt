@@ -18,7 +18,7 @@ const VERSION: u32 = 2;
 
 /// Where to go on inside a strip: a cursor, how many bits of the strip stand before its row, and the
 /// runs of the row before it, before any exchange of colours.
-#[derive(Drop)]
+#[derive(Debug, Drop)]
 pub struct LongCursor {
     pub at: Cursor,
     pub bits: u32,
@@ -104,11 +104,12 @@ fn put_number(text: &mut String, number: u32) -> Result<(), Memory>
 
 /// Appends runs, with commas between them.
 fn put_runs(text: &mut String, runs: &[u32]) -> Result<(), Memory>
-    requires { 0 < length runs.now }
     ensures ok { OnOk result (string_bytes text.new ≡ string_bytes text.old ++ runs_text runs.now) }
 {
-    put_number(text, runs[0])?;
-    let others = &runs[1..];
+    let Some((first, others)) = runs.split_first() else {
+        return Ok(());
+    };
+    put_number(text, *first)?;
     for run in others {
         put(text, ",")?;
         put_number(text, *run)?;
@@ -153,7 +154,6 @@ impl LongCursor {
 
     /// Appends the text to an empty one; where a growth was refused, some of it.
     fn put_parts(&self, text: &mut String) -> Result<(), Memory>
-        requires { 0 < length self.now.runs }
         ensures ok { OnOk result (string_bytes text.new ≡ string_bytes text.old ++ long_cursor_text self.now) }
     {
         put(text, "2:")?;
@@ -166,14 +166,13 @@ impl LongCursor {
         put_runs(text, &self.runs)
     }
 
-    /// Appends the text of a long cursor that has a run. It is made apart, so that no part of it is
-    /// appended where memory is refused.
+    /// Appends the long cursor's text. It is made apart, so that no part of it is appended where memory
+    /// is refused.
     ///
     /// # Errors
     ///
     /// `Memory` where a growth was refused; the text is then as it was.
     pub fn put_text(&self, text: &mut String) -> Result<(), Memory>
-        requires { 0 < length self.now.runs }
         ensures ok { OnOk result (string_bytes text.new ≡ string_bytes text.old ++ long_cursor_text self.now) }
         ensures err { OnErr result (string_bytes text.new ≡ string_bytes text.old) }
     {
