@@ -141,13 +141,10 @@ begins_reached page begun bytes count strip_is there before = rw strip_is (recor
     from : (begun : Begun) → ((place : LongPlace) → begun ≡ Inside place → (place.at.page < page.page) ⊎ ((place.at.page ≡ page.page) × (strip_at page.form place.at.row < page.number)))
         → ReadsFrom begun page.page page.form page.number bytes 0 (white_row page.form.width) (bits page.form.order bytes)
     from (At at) before = (refl, refl, refl)
-    from (Inside place) before = inr (
-      λ inside. elim (before place refl) [
-        | inl earlier ↦ omega (arith, earlier, inside.0)
-        | inr strip ↦ omega (arith, strip.1, inside.1)
-      ],
-      (refl, refl, refl),
-    )
+    from (Inside place) before = inr (λ inside. elim (before place refl) [
+      | inl earlier ↦ omega (arith, earlier, inside.0)
+      | inr strip ↦ omega (arith, strip.1, inside.1)
+    ], (refl, refl, refl))
 
     not_behind : (begun : Begun) → ((place : LongPlace) → begun ≡ Inside place → (place.at.page < page.page) ⊎ ((place.at.page ≡ page.page) × (strip_at page.form place.at.row < page.number)))
         → IsNotBehind begun page.page page.form page.number
@@ -168,10 +165,10 @@ next_goes_on old new bytes row new_is strip_is there = rw new_is (record {
   count = let same = rw new_is at row in omega (arith, same);
   strips = omega arith;
   reached = λ begun reached. begins_reached (record old { number = old.number + 1; strip = new.strip; shown = new.shown }) begun bytes old.strip.read strip_is there
-      (λ place is. elim (at_place begun place reached.not_behind is) [
-        | inl earlier ↦ inl earlier
-        | inr strip ↦ inr (strip.0, let less = strip.1 in omega (arith, less))
-      ]);
+  (λ place is. elim (at_place begun place reached.not_behind is) [
+    | inl earlier ↦ inl earlier
+    | inr strip ↦ inr (strip.0, let less = strip.1 in omega (arith, less))
+  ]);
 })
   where
     at_place : (begun : Begun) (place : LongPlace) → IsNotBehind begun old.page old.form old.number → begun ≡ Inside place

@@ -203,11 +203,8 @@ module _ (chains : FilesHaveOneChain) (file : List ℕ) (begun : Begun) (given :
 
     by_strip : (old.number < new.number) ⊎ (new.number ≤ old.number) → IsBehindLast file begun cursor old → IsBehindLast file begun cursor new
     by_strip (inl later) (inl (read, cursor_is)) =
-        inr (
-          (next_strip later).0,
-          λ p r named.
-              last_of_strip chains file begun cursor old limits.some_rows_per_strip on.in_file on.reached read cursor_is p r named (next_strip later).1,
-        )
+        inr ((next_strip later).0, λ p r named.
+        last_of_strip chains file begun cursor old limits.some_rows_per_strip on.in_file on.reached read cursor_is p r named (next_strip later).1)
     by_strip (inl later) (inr (none, before)) = inr ((next_strip later).0, before)
     by_strip (inr not_later) last =
         let number : new.number ≡ old.number = omega (arith, not_later, goes.strips) in

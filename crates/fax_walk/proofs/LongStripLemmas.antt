@@ -98,23 +98,20 @@ strips_behind endian file q form limits p s e behind strips cause others end wit
         let numbers = in_strip form.rows_per_strip (s + 1) 0 e some (omega (arith, start)) in
         let quotient = numbers.0 in
         let rest = numbers.1 in
-        inr (inr (
-          omega (arith, start, limits.needed (s + 1) more),
-          record {
-            own = numbered p e (shown form (joined strips));
-            others = others;
-            stop = stop_at (e + length (joined strips)) cause;
-            part = record {
-              strips = strips;
-              end = cause;
-              read = rw quotient are;
-              items_are = rw rest refl;
-              stop_is = rw (quotient, start) refl;
-            };
-            items_are = refl;
-            follows = follows;
-          },
-        ))
+        inr (inr (omega (arith, start, limits.needed (s + 1) more), record {
+          own = numbered p e (shown form (joined strips));
+          others = others;
+          stop = stop_at (e + length (joined strips)) cause;
+          part = record {
+            strips = strips;
+            end = cause;
+            read = rw quotient are;
+            items_are = rw rest refl;
+            stop_is = rw (quotient, start) refl;
+          };
+          items_are = refl;
+          follows = follows;
+        }))
     by_order (inr none) =
         let ends = last strips cause none are in
         let count : form.strips ≡ s + 1 = omega (arith, none, within) in

@@ -110,7 +110,11 @@ fn open_at_place<'a>(
 }
 
 /// Opens the page of the first row of a walk that begins so.
-fn open_first<'a>(alloc: Global, file: &'a [u8], begun: &Begun) -> Result<OpenPage<'a>, OpenFault>
+fn open_first<'a>(
+    alloc: Global,
+    file: &'a [u8],
+    begun: &Begun,
+) -> Result<OpenPage<'a>, OpenFault>
     ensures opened { IfOk result (Due.IsOpenedFor (begins_at begun.now)) }
     ensures before { IfOk result (λ page. AreRowsBeforeBegun file.now begun.now (skipped page)) }
     ensures items { IfOk result (λ page. (items : List Item) (end : End)

@@ -11,40 +11,33 @@ invariant_of-self c = elim c.match-opened.branch [
     | in-Before w ↦
         let sound = rw w.in-Before.is at c.self.invariant in
         let counted = counted_first _ _ _ _ o.in-Ok.page _ _ sound w.opened-is o.in-Ok.is w.open_first-opened.ensures.opened w.open_first-opened.ensures.before in
-        rw o.stage-is (
-          counted.0,
-          counted.1,
-          first_on_page _ _ _ _ o.in-Ok.page _ _ sound.1 w.opened-is o.in-Ok.is w.open_first-opened.ensures.in_file w.open_first-opened.ensures.reached,
-        )
+        rw o.stage-is
+        (counted.0, counted.1,
+        first_on_page _ _ _ _ o.in-Ok.page _ _ sound.1 w.opened-is o.in-Ok.is w.open_first-opened.ensures.in_file w.open_first-opened.ensures.reached)
     | in-Open w ↦
         let sound = rw w.in-Open.is at c.self.invariant in
         let all_read = same_number _ _ (sym w.is_read.ensures ∙ w.if-is_read.true) in
         let counted = counted_next _ _ _ _ w.in-Open.page o.in-Ok.page _ _ (sound.0, sound.1) all_read w.open_next-opened.ensures.number w.opened-is o.in-Ok.is
         w.open_next-opened.ensures.opened in
-        rw o.stage-is (
-          counted.0,
-          counted.1,
-          next_opened c.files_have_one_chain.ensures _ _ _ _ w.in-Open.page o.in-Ok.page _ _ sound.0.is_open.limits sound.2 all_read w.open_next-opened.ensures.number
-              w.opened-is o.in-Ok.is w.open_next-opened.ensures.opened,
-        )
+        rw o.stage-is
+        (counted.0, counted.1,
+        next_opened c.files_have_one_chain.ensures _ _ _ _ w.in-Open.page o.in-Ok.page _ _ sound.0.is_open.limits sound.2 all_read w.open_next-opened.ensures.number
+        w.opened-is o.in-Ok.is w.open_next-opened.ensures.opened)
   ]
   | in-Err-Ended o ↦ elim c.match-self.branch [
     | in-Before w ↦
         let sound = rw w.in-Before.is at c.self.invariant in
         let none_read = rw (← c.self.view_is, w.in-Before.is) at o.rows_read.ensures.exact in
-        rw o.stage-is (
-          ended_first _ _ _ o.in-Err-Ended.end o.rows_read.result _ _ _ sound.1 none_read w.opened-is o.in-Err-Ended.is (rw o.in-Err-Ended.is at o.in-Err-Ended.field-0-is)
-              w.open_first-opened.ensures.short,
-          λ some. absurd (omega (arith, some, sound.1)),
-        )
+        rw o.stage-is
+        (ended_first _ _ _ o.in-Err-Ended.end o.rows_read.result _ _ _ sound.1 none_read w.opened-is o.in-Err-Ended.is (rw o.in-Err-Ended.is at o.in-Err-Ended.field-0-is)
+        w.open_first-opened.ensures.short, λ some. absurd (omega (arith, some, sound.1)))
     | in-Open w ↦
         let sound = rw w.in-Open.is at c.self.invariant in
         let all_read = same_number _ _ (sym w.is_read.ensures ∙ w.if-is_read.true) in
         let read_is = rw (← c.self.view_is, w.in-Open.is) at o.rows_read.ensures.exact in
-        rw o.stage-is (
-          ended_next _ _ _ _ w.in-Open.page o.in-Err-Ended.end o.rows_read.result sound.0 sound.1 all_read read_is,
-          none_behind_page c.files_have_one_chain.ensures _ _ _ _ w.in-Open.page sound.0.is_open.limits sound.2 all_read,
-        )
+        rw o.stage-is
+        (ended_next _ _ _ _ w.in-Open.page o.in-Err-Ended.end o.rows_read.result sound.0 sound.1 all_read read_is,
+        none_behind_page c.files_have_one_chain.ensures _ _ _ _ w.in-Open.page sound.0.is_open.limits sound.2 all_read)
   ]
 ]
 

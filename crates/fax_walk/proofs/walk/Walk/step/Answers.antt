@@ -15,8 +15,9 @@ pub invariant_of-self-in-Err-6 : goal.invariant_of-self-in-Err-6
 invariant_of-self-in-Err-6 c =
     let stage_is : c.self.inside.stage ≡ Open c.in-Open.page = cc (c.replace.ensures.value, c.in-Open.is) in
     let sound = rw stage_is at c.self.invariant in
-    let none = c.in-Err.ensures.none in (
+    let none = c.in-Err.ensures.none in
+    (
       counted_last _ _ _ c.in-Open.page c.next.new.self _ _ sound.1 none c.read.ensures,
       ended_on_page c.files_have_one_chain.ensures _ _ _ _ c.in-Open.page c.next.new.self sound.0.is_open.limits sound.2 c.in-Err.ensures.goes_on
-          (λ some. omega (arith, none.some, none.most, sound.1.none_left some)),
+      (λ some. omega (arith, none.some, none.most, sound.1.none_left some)),
     )
