@@ -185,8 +185,7 @@ module _ (file : List ℕ) (part : Part) where
   rows_leave true is Memory output new_output counts (text, first, moved) = (text, first_rows text first, moved)
   rows_leave true is Read output new_output counts stops = absurd stops
   rows_leave true is Write output new_output counts (failed, (text, inl (ending, long), front)) =
-      let told = long_text file (begun_of part) part.max ending text long in
-      (
+      let told = long_text file (begun_of part) part.max ending text long in (
         front.front,
         (front.rest, inl (told.printed, subst (λ long. IsTextOfRows long file (begun_of part) part.max told.printed) (sym is) told.is, sym front.parts ∙ told.output)),
         front.written,
