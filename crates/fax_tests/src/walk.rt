@@ -1,6 +1,6 @@
 //! Walks over small files.
 
-use fax_walk::{Cause, Cursor, FileFault, Pages, Place, StripFault, Walk, WalkFault};
+use fax_walk::{Cause, Cursor, FileFault, LongCursor, Pages, Place, StripFault, Walk, WalkFault};
 use std::alloc::Global;
 use std::process::Abort;
 use std::test::Fail;
@@ -256,4 +256,86 @@ fn reads_a_cursor(rt: HostRuntime) {
             row: u32::MAX
         })
     );
+}
+
+/// A page of 8 pels by 2 rows in MMR, in one strip, with black as 0: the first row has ten bits.
+fn one_strip() -> [u8; 126] {
+    let mut file = MMR;
+    file[64] = 1;
+    file[88] = 2;
+    file[9] = 0xf8;
+    file
+}
+
+/// The place inside a strip behind the rows that the walk has handed out has this text, or none
+/// where the text is empty.
+fn assert_place(rt: &impl Abort, alloc: Global, walk: &Walk, text: &str) -> Result<(), Fail> {
+    let mut found = String::new(alloc);
+    if let Some(place) = walk.long_cursor(alloc)? {
+        place.put_text(&mut found)?;
+    }
+    assert_eq!(rt; found.as_str(), text);
+    Ok(())
+}
+
+#[test]
+fn goes_on_inside_a_strip(rt: HostRuntime) -> Result<(), Fail> {
+    let file = one_strip();
+    let mut walk = Walk::start(rt.alloc(), &file);
+    assert_place(&rt, rt.alloc(), &walk, "")?;
+    let first = Place { page: 0, row: 0 };
+    assert_row(&rt, rt.alloc(), &mut walk, first, &[0, 3, 2, 3])?;
+    assert_place(&rt, rt.alloc(), &walk, "2:0:1:10:3,2,3")?;
+
+    let place = LongCursor::parse(rt.alloc(), "2:0:1:10:3,2,3")?;
+    let mut walk = Walk::resume_long(rt.alloc(), &file, place);
+    assert_eq!(rt; walk.cursor(), Cursor { page: 0, row: 1 });
+    assert_place(&rt, rt.alloc(), &walk, "2:0:1:10:3,2,3")?;
+    let second = Place { page: 0, row: 1 };
+    assert_row(&rt, rt.alloc(), &mut walk, second, &[0, 3, 2, 3])?;
+    assert_place(&rt, rt.alloc(), &walk, "")?;
+    assert_end(&rt, &mut walk, Cursor { page: 0, row: 2 });
+    assert_eq!(rt; walk.rows_read(), 1);
+    Ok(())
+}
+
+#[test]
+fn keeps_its_place_behind_a_fault(rt: HostRuntime) -> Result<(), Fail> {
+    let mut walk = Walk::start(rt.alloc(), &TWO_ROWS);
+    let first = Place { page: 0, row: 0 };
+    assert_row(&rt, rt.alloc(), &mut walk, first, &[3, 2, 3])?;
+    let second = Cursor { page: 0, row: 1 };
+    let place = LongCursor::parse(rt.alloc(), "2:0:1:10:3,2,3")?;
+    let mut behind = Walk::resume_long(rt.alloc(), &TWO_ROWS, place);
+    for _ in 0..2 {
+        assert_place(&rt, rt.alloc(), &walk, "2:0:1:10:3,2,3")?;
+        assert_fault(&rt, &mut walk, second, Cause::Strip(StripFault::DataEnds));
+        assert_place(&rt, rt.alloc(), &behind, "2:0:1:10:3,2,3")?;
+        assert_fault(&rt, &mut behind, second, Cause::Strip(StripFault::DataEnds));
+    }
+    assert_eq!(rt; behind.rows_read(), 0);
+    Ok(())
+}
+
+#[test]
+fn needs_a_place_inside_a_strip(rt: HostRuntime) -> Result<(), Fail> {
+    let file = one_strip();
+    let outside = [
+        "2:0:1:41:8",
+        "2:0:1:10:7",
+        "2:0:1:10:3,0,5",
+        "2:0:0:0:8",
+        "2:0:2:10:8",
+        "2:1:1:0:8",
+    ];
+    for text in outside {
+        let place = LongCursor::parse(rt.alloc(), text)?;
+        let mut walk = Walk::resume_long(rt.alloc(), &file, place);
+        assert_eq!(rt; walk.next_row().err(), Some(WalkFault::CursorOutside));
+    }
+    let place = LongCursor::parse(rt.alloc(), "2:0:1:40:8")?;
+    let mut walk = Walk::resume_long(rt.alloc(), &file, place);
+    let second = Cursor { page: 0, row: 1 };
+    assert_fault(&rt, &mut walk, second, Cause::Strip(StripFault::DataEnds));
+    Ok(())
 }

@@ -7,8 +7,6 @@ use Rattle.fax_walk.specs.declared.cursor.Cursor.{Cursor}
 use Rattle.fax_walk.specs.declared.end.End.{End}
 use Rattle.fax_walk.specs.declared.opening.OpenFault.{OpenFault}
 use Rattle.fax_walk.specs.declared.begun.Begun.{Begun}
-use Rattle.fax_walk.specs.declared.begun.Begun.TheVariants.{Inside}
-use Rattle.fax_walk.specs.LongCursor.{LongPlace}
 use Rattle.fax_walk.specs.LongTail.{begins_at}
 use Rattle.fax_walk.specs.Before.{AreRowsBeforeBegun, EndsBefore}
 use Rattle.fax_walk.specs.code.Stages.{PageState, row_of, skipped}
@@ -106,24 +104,6 @@ ended_next file begun cursor given old end read from counted all_read is =
       all = λ some. omega (arith, is, none, counted.count);
       told = inl (omega (arith, is, none, counted.count));
     }
-
--- a walk that began inside a strip has read the rows that it handed out, and no others
-none_before : (file : List ℕ) (begun : Begun) (place : LongPlace) (before : ℕ) → begun ≡ Inside place → AreRowsBeforeBegun file begun before → before ≡ 0
-none_before file begun place before is are = rw is at are
-
-pub counted_long : (file : List ℕ) (begun : Begun) (place : LongPlace) (given : ℕ) (page : PageState) → begun ≡ Inside place → HasCounted file begun given page
-    → page.read ≡ given
-counted_long file begun place given page is counted = elim (cases_lt 0 given) [
-  | inl some ↦ omega (arith, counted.count, counted.none_left some, none_before file begun place counted.before is counted.are_before)
-  | inr none ↦ omega (arith, counted.count, none, none_before file begun place counted.before is counted.are_before)
-]
-
-pub ended_long : (file : List ℕ) (begun : Begun) (place : LongPlace) (given : ℕ) (end : End) (read : ℕ) → begun ≡ Inside place → HasReadAll file begun given end read
-    → read ≡ given
-ended_long file begun place given end read is all = elim (cases_lt 0 given) [
-  | inl some ↦ omega (arith, all.all some, none_before file begun place all.before is all.are_before)
-  | inr none ↦ omega (arith, all.most, none, none_before file begun place all.before is all.are_before)
-]
 
 -- numbers that the test finds equal
 pub same_number : (a b : ℕ) → (a == b) ≡ true → a ≡ b

@@ -1,13 +1,12 @@
 -- A page that is read on, and the walk that reads it.
 use Rattle.std.specs.Prelude.{IfOk}
-use Rattle.std.proofs.Common.{◌≡◌, ℕ, ◌+◌, ◌*◌, ◌<◌, ◌≤◌, ◌⊎◌, inl, inr, Bool, List, [], ◌∷◌, ◌++◌, length, drop, Option, Some, Result, Ok, Err, refl, sym, ap, ◌∙◌, subst, arith, length-append}
+use Rattle.std.proofs.Common.{◌≡◌, ℕ, ◌+◌, ◌<◌, ◌≤◌, ◌⊎◌, inl, inr, Bool, List, [], ◌∷◌, ◌++◌, length, drop, Option, Some, Result, Ok, Err, refl, sym, ap, ◌∙◌, arith, length-append}
 use Rattle.fax_bits.specs.Bits.{bits}
 use Rattle.fax_bits.specs.declared.Colour.{Colour}
 use Rattle.fax_page.specs.declared.StripFault.{StripFault}
 use Rattle.fax_page.specs.declared.StripForm.{StripForm}
 use Rattle.fax_page.specs.Strip.{white_row}
-use Rattle.fax_page.specs.code.Reader.{StripState, bits_left, strip_behind, ReadsRow}
-use Rattle.fax_files.specs.declared.PageForm.{PageForm}
+use Rattle.fax_page.specs.code.Reader.{StripState, strip_behind, ReadsRow}
 use Rattle.fax_files.specs.PageRows.{strip_form}
 use Rattle.fax_files.specs.code.Tiff.{bytes_of}
 use Rattle.fax_walk.specs.declared.begun.Begun.{Begun}
@@ -15,7 +14,7 @@ use Rattle.fax_walk.specs.declared.begun.Begun.TheVariants.{At, Inside}
 use Rattle.fax_walk.specs.declared.cursor.Cursor.{Cursor}
 use Rattle.fax_walk.specs.declared.opening.OpenFault.{OpenFault}
 use Rattle.fax_walk.specs.LongCursor.{LongPlace}
-use Rattle.fax_walk.specs.LongTail.{strip_at, IsInStrip, AreLinesUpTo, ReadsFrom, HasReadTo}
+use Rattle.fax_walk.specs.LongTail.{strip_at, AreLinesUpTo, ReadsFrom, HasReadTo}
 use Rattle.fax_walk.specs.code.Stages.{PageState, row_of}
 use Rattle.fax_walk.specs.code.Due.{IsReached, IsNotBehind, GoesOn, IsAtStrip}
 use Rattle.fax_walk.proofs.LongLineLemmas.{joined_lines}

@@ -1,16 +1,11 @@
 -- The row that a walk handed out last, and the place inside a strip behind it.
-use Rattle.std.proofs.Common.{◌≡◌, ℕ, ◌+◌, ◌-◌, ◌*◌, ◌/◌, ◌%◌, ◌<◌, ◌≤◌, ◌⊎◌, inl, inr, min, Bool, true, false, List, [], ◌∷◌, ◌++◌, length, drop, Option, Some, None, Result, Ok, Err, refl, sym, ap, ◌∙◌, subst, arith, add-mul}
-use Rattle.std.specs.Prelude.{IfOk, nat_lt, nat_le, ◌&&◌, if◌then◌else◌, slice_get}
+use Rattle.std.proofs.Common.{◌≡◌, ℕ, ◌+◌, ◌-◌, ◌*◌, ◌<◌, ◌≤◌, ◌⊎◌, inl, inr, min, true, false, List, [], ◌∷◌, ◌++◌, length, Option, Some, None, Result, Ok, Err, refl, sym, ap, ◌∙◌, arith, add-mul}
+use Rattle.std.specs.Prelude.{IfOk, nat_lt}
 use Rattle.std.proofs.lemmas.Bool.Decides.{nat_tests}
 use Rattle.std.proofs.lemmas.Bool.{cases_lt}
 use Rattle.std.proofs.Math.Nat.{mul-le-mul_right}
-use Rattle.fax_bits.specs.Bits.{bits}
-use Rattle.fax_bits.specs.declared.Colour.{Colour}
-use Rattle.fax_rows.specs.Elements.{runs_of}
 use Rattle.fax_page.specs.declared.StripForm.{StripForm}
 use Rattle.fax_page.specs.code.Reader.{StripState}
-use Rattle.fax_files.specs.declared.PageForm.{PageForm}
-use Rattle.fax_files.specs.Numbers.{header}
 use Rattle.fax_files.specs.Page.{IsPageForm}
 use Rattle.fax_files.specs.StripBytes.{strip_bytes}
 use Rattle.fax_files.specs.PageRows.{strip_form}
@@ -18,15 +13,14 @@ use Rattle.fax_files.specs.Laws.{FormsAreWhole, FilesHaveOneChain}
 use Rattle.fax_bits.specs.declared.Memory.{Memory as NoMemory}
 use Rattle.fax_files.specs.code.Tiff.{TiffDirectory}
 use Rattle.fax_walk.specs.declared.begun.Begun.{Begun}
-use Rattle.fax_walk.specs.declared.begun.Begun.TheVariants.{At, Inside}
+use Rattle.fax_walk.specs.declared.begun.Begun.TheVariants.{Inside}
 use Rattle.fax_walk.specs.declared.cursor.Cursor.{Cursor}
 use Rattle.fax_walk.specs.declared.opening.OpenFault.{OpenFault}
 use Rattle.fax_walk.specs.LongCursor.{LongPlace}
 use Rattle.fax_walk.specs.Items.{Item}
-use Rattle.fax_walk.specs.Tail.{behind_item}
-use Rattle.fax_walk.specs.LongTail.{strip_at, row_in_strip, HasPage, place_behind, IsNotLast, IsLongBehind, IsLongNext}
-use Rattle.fax_walk.specs.code.Stages.{PageState, row_of, skipped}
-use Rattle.fax_walk.specs.code.Due.{WalkState, IsPageIn, IsReached, IsNotBehind, IsLongBefore, IsBehindLast, IsOnPageOf, HasLeft, GoesOn, GivesRow, GivesNone, long_on_page, IsLongOnPage, HasHandedOut, IsLongNow}
+use Rattle.fax_walk.specs.LongTail.{strip_at, row_in_strip, HasPage, place_behind, IsNotLast, IsLongBehind}
+use Rattle.fax_walk.specs.code.Stages.{PageState, row_of}
+use Rattle.fax_walk.specs.code.Due.{WalkState, IsPageIn, IsReached, IsNotBehind, IsLongBefore, IsBehindLast, IsOnPageOf, GoesOn, long_on_page, IsLongOnPage, IsLongNow}
 use Rattle.fax_walk.specs.code.Opening.{IsOpenedBehind}
 use Rattle.fax_walk.proofs.LongStripLemmas.{in_strip}
 use Rattle.fax_walk.proofs.GoesOnLemmas.{begins_reached}

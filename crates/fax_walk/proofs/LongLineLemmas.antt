@@ -1,12 +1,10 @@
 -- Lines that are read on, and rows by their runs.
-use Rattle.std.proofs.Common.{◌≡◌, ℕ, zero, suc, ◌+◌, ◌<◌, ◌≤◌, Bool, true, false, List, [], ◌∷◌, ◌++◌, length, replicate, Option, Some, None, refl, sym, ap, ◌∙◌, subst, arith, append_assoc}
-use Rattle.std.specs.Prelude.{if◌then◌else◌}
+use Rattle.std.proofs.Common.{◌≡◌, ℕ, zero, suc, ◌+◌, ◌≤◌, Bool, List, [], ◌∷◌, ◌++◌, length, replicate, Option, Some, None, refl, sym, ap, ◌∙◌, arith}
 use Rattle.fax_bits.specs.declared.Colour.{Colour}
 use Rattle.fax_bits.specs.declared.Colour.TheVariants.{White, Black}
-use Rattle.fax_rows.specs.Elements.{other, same_colour, pels_of, runs_behind, runs_of}
+use Rattle.fax_rows.specs.Elements.{pels_of, runs_behind, runs_of}
 use Rattle.fax_page.specs.declared.StripForm.{StripForm}
 use Rattle.fax_page.specs.declared.StripFault.{StripFault}
-use Rattle.fax_page.specs.Lines.{IsLine}
 use Rattle.fax_page.specs.Strip.{AreLines}
 use Rattle.fax_page.specs.Laws.{ReadsLinesOneWay}
 use Rattle.fax_walk.specs.LongTail.{AreLinesUpTo}
@@ -68,17 +66,6 @@ last_width form i reference b [] last rest (last_is, rest_is) width = rw last_is
 last_width form i reference b (row ∷ rows) last rest (behind, due, line, after) width =
     last_width form (i + 1) row behind rows last rest after
     (row_in line.dimension form.width reference line.codes row behind width line.coded)
-
--- so many lines end with one row and one rest
-pub one_last : LinesAreRead → (form : StripForm) (i : ℕ) (reference : List Colour) (b : List Bool) (rows others : List (List Colour)) (last last' : List Colour) (rest rest' : List Bool)
-    → length rows ≡ length others → AreLinesUpTo form i reference b rows last rest → AreLinesUpTo form i reference b others last' rest'
-    → (last ≡ last') × (rest ≡ rest')
-one_last lines_read form i reference b [] [] last last' rest rest' count (l, r) (l', r') = (sym l ∙ l', sym r ∙ r')
-one_last lines_read form i reference b [] (other ∷ others) last last' rest rest' count lines lines' = absurd (omega (arith, count))
-one_last lines_read form i reference b (row ∷ rows) [] last last' rest rest' count lines lines' = absurd (omega (arith, count))
-one_last lines_read form i reference b (row ∷ rows) (other ∷ others) last last' rest rest' count (behind, due, line, after) (behind', due', line', after') =
-    let same = (lines_read form i reference).one_line b row other behind behind' line line' in
-    one_last lines_read form (i + 1) other behind' rows others last last' rest rest' (omega (arith, count)) (rw (same.0, same.1) at after) after'
 
 replicate_more : (n : ℕ) (colour : Colour) (pels : List Colour) → replicate (n + 1) colour ++ pels ≡ replicate n colour ++ colour ∷ pels
 replicate_more zero colour pels = refl

@@ -1,13 +1,10 @@
 -- Places inside strips that walks print.
-use Rattle.std.proofs.Common.{◌≡◌, ℕ, ◌+◌, ◌*◌, ◌%◌, ◌<◌, ◌≤◌, ◌↔◌, inl, inr, Bool, List, [], ◌∷◌, ◌++◌, length, drop, Option, Some, refl, sym, ap, ◌∙◌, subst, arith, length-append}
+use Rattle.std.proofs.Common.{◌≡◌, ℕ, ◌+◌, ◌<◌, ◌↔◌, inl, inr, Bool, List, ◌++◌, length, drop, Option, Some, refl, sym, ap, ◌∙◌, subst, arith, length-append}
 use Rattle.std.specs.List.{filter, Contains}
 use Rattle.std.proofs.lemmas.List.Elements.{All-filter, All-contains_itself}
 use Rattle.fax_bits.specs.Bits.{bits}
 use Rattle.fax_bits.specs.declared.Colour.{Colour}
-use Rattle.fax_rows.specs.Elements.{runs_of}
 use Rattle.fax_page.specs.Strip.{white_row}
-use Rattle.fax_files.specs.declared.PageForm.{PageForm}
-use Rattle.fax_files.specs.Numbers.{Header}
 use Rattle.fax_files.specs.StripBytes.{strip_bytes}
 use Rattle.fax_files.specs.PageRows.{strip_form}
 use Rattle.fax_files.specs.Laws.{FormsAreWhole, FilesHaveOneChain}
@@ -17,9 +14,9 @@ use Rattle.fax_walk.specs.declared.cursor.Cursor.{Cursor}
 use Rattle.fax_walk.specs.declared.end.End.{End}
 use Rattle.fax_walk.specs.Cursor.{start}
 use Rattle.fax_walk.specs.LongCursor.{LongPlace}
-use Rattle.fax_walk.specs.Items.{Item, AreItems}
+use Rattle.fax_walk.specs.Items.{Item}
 use Rattle.fax_walk.specs.Tail.{behind_item, is_from, IsPrinted, IsRest, IsTail}
-use Rattle.fax_walk.specs.LongTail.{strip_at, row_in_strip, HasPage, IsInside, IsInStrip, IsAtBeginning, AreLinesUpTo, ReadsFrom, HasReadTo, IsLongBehind, IsLongAfter, IsLongTail, IsTailFrom, IsPrintedPlace, IsPrintedBegun, begins_at}
+use Rattle.fax_walk.specs.LongTail.{strip_at, row_in_strip, IsInside, IsInStrip, IsAtBeginning, AreLinesUpTo, ReadsFrom, HasReadTo, IsLongBehind, IsLongAfter, IsLongTail, IsTailFrom, IsPrintedPlace, IsPrintedBegun, begins_at}
 use Rattle.fax_walk.specs.Laws.{CursorsHaveOneTail, TailOfPrinted}
 use Rattle.fax_walk.specs.LongLaws.{PlacesHaveOneTail, TailFromPrinted, PlacesOfPrinted}
 use Rattle.fax_walk.proofs.LongLineLemmas.{LinesAreRead, joined_lines, one_row}

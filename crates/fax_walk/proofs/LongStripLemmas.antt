@@ -1,5 +1,5 @@
 -- Pages and strips of a file, for what walks hand out that begin inside a strip.
-use Rattle.std.proofs.Common.{◌≡◌, ℕ, suc, ◌+◌, ◌-◌, ◌*◌, ◌/◌, ◌%◌, ◌<◌, ◌≤◌, ◌⊎◌, inl, inr, min, Bool, true, false, List, [], ◌∷◌, ◌++◌, map, length, drop, Option, Some, None, Result, Ok, Err, refl, sym, ap, ◌∙◌, subst, arith, append_assoc, length-append}
+use Rattle.std.proofs.Common.{◌≡◌, ℕ, ◌+◌, ◌*◌, ◌/◌, ◌%◌, ◌<◌, ◌≤◌, ◌⊎◌, inl, inr, min, Bool, true, false, List, [], ◌∷◌, ◌++◌, map, length, drop, Option, Some, None, Ok, refl, sym, ap, ◌∙◌, subst, arith}
 use Rattle.std.proofs.Math.Nat.{div-add-mod}
 use Rattle.std.proofs.lemmas.Bool.{cases_lt}
 use Rattle.std.proofs.lemmas.Nat.{div-mul-add, mod-mul-add}
@@ -10,18 +10,17 @@ use Rattle.fax_files.specs.declared.FileFault.{FileFault}
 use Rattle.fax_files.specs.declared.Cause.{Cause}
 use Rattle.fax_files.specs.declared.PageForm.{PageForm}
 use Rattle.fax_files.specs.declared.Endian.{Endian}
-use Rattle.fax_files.specs.Numbers.{Header, header}
-use Rattle.fax_files.specs.Chain.{IsChain}
+use Rattle.fax_files.specs.Numbers.{Header}
 use Rattle.fax_files.specs.Page.{page}
 use Rattle.fax_files.specs.PageRows.{AreStrips, strip_form, joined, shown}
-use Rattle.fax_files.specs.Laws.{IsWholeForm, HasOneChain, FilesHaveOneChain}
+use Rattle.fax_files.specs.Laws.{IsWholeForm, FilesHaveOneChain}
 use Rattle.fax_walk.specs.declared.cursor.Cursor.{Cursor}
 use Rattle.fax_walk.specs.declared.end.End.{End}
 use Rattle.fax_walk.specs.LongCursor.{LongPlace}
 use Rattle.fax_walk.specs.Items.{Item, numbered, stop_at, Follows, AreFromRowOf, ArePagesItems}
 use Rattle.fax_walk.specs.Tail.{IsTail, IsTailOver, IsTailUnder}
 use Rattle.fax_walk.proofs.DueLemmas.{shown_none}
-use Rattle.fax_walk.specs.LongTail.{strip_at, row_in_strip, HasPage, AreOnPage, IsLongTail, IsLongTailOver, IsLongTailUnder}
+use Rattle.fax_walk.specs.LongTail.{strip_at, row_in_strip, HasPage, AreOnPage, IsLongTail}
 
 -- a file's page of a number is one
 pub same_page : FilesHaveOneChain → (file : List ℕ) (p : ℕ) (head head' : Header) (q q' : ℕ) (form form' : PageForm)

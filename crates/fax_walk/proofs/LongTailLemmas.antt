@@ -1,5 +1,5 @@
 -- What follows an item of what is handed out from a place inside a strip.
-use Rattle.std.proofs.Common.{◌≡◌, ℕ, suc, ◌+◌, ◌-◌, ◌*◌, ◌/◌, ◌%◌, ◌<◌, ◌≤◌, ◌⊎◌, inl, inr, min, Bool, true, false, List, [], ◌∷◌, ◌++◌, length, drop, Option, Some, None, Result, Ok, Err, refl, sym, ap, ◌∙◌, subst, arith, append_assoc, length-append}
+use Rattle.std.proofs.Common.{◌≡◌, ℕ, ◌+◌, ◌*◌, ◌<◌, ◌≤◌, ◌⊎◌, inl, inr, Bool, true, false, List, [], ◌∷◌, ◌++◌, length, drop, Option, Some, None, Result, Ok, Err, refl, sym, ap, ◌∙◌, subst, arith, append_assoc, length-append}
 use Rattle.std.proofs.Math.Nat.{div-add-mod}
 use Rattle.std.proofs.lemmas.List.{drop_at, length-replicate}
 use Rattle.std.proofs.lemmas.Bool.Decides.{nat_tests}
@@ -26,12 +26,12 @@ use Rattle.fax_walk.specs.declared.cursor.Cursor.{Cursor}
 use Rattle.fax_walk.specs.declared.end.End.{End}
 use Rattle.fax_walk.specs.declared.end.End.TheVariants.{Fault}
 use Rattle.fax_walk.specs.LongCursor.{LongPlace}
-use Rattle.fax_walk.specs.Items.{Item, numbered, stop_at, Follows, AreFromRowOf, ArePagesItems}
-use Rattle.fax_walk.specs.Tail.{behind_item, IsTail}
-use Rattle.fax_walk.specs.LongTail.{strip_at, row_in_strip, HasPage, IsInside, FollowsStrip, AreFromPlace, AreOnPage, IsLongTail, AreLinesUpTo, place_behind, IsNotLast, IsLongBehind, IsTailFrom, ReadsFrom, HasReadTo, IsInStrip, IsRowInside, AreInStrip, IsLongTailOver, IsLongTailUnder}
+use Rattle.fax_walk.specs.Items.{Item, numbered, stop_at, Follows, AreFromRowOf}
+use Rattle.fax_walk.specs.Tail.{IsTail}
+use Rattle.fax_walk.specs.LongTail.{strip_at, row_in_strip, HasPage, IsInside, FollowsStrip, AreFromPlace, AreOnPage, IsLongTail, AreLinesUpTo, place_behind, IsNotLast, IsLongBehind, ReadsFrom, HasReadTo, IsInStrip, IsRowInside, AreInStrip, IsLongTailOver, IsLongTailUnder}
 use Rattle.fax_walk.specs.LongLaws.{LongTailBehindItem}
 use Rattle.fax_walk.specs.Laws.{TailBehindItem}
-use Rattle.fax_walk.proofs.TailLemmas.{StandsFrom, stands_from, divided, none_holds}
+use Rattle.fax_walk.proofs.TailLemmas.{stands_from, divided, none_holds}
 use Rattle.fax_walk.proofs.LongLineLemmas.{LinesAreRead, GoesFrom, goes_from, last_width, lines_within, one_row}
 use Rattle.fax_walk.proofs.LongStripLemmas.{nothing_left, same_page, Behind, tail_at, tail_of, long_at, in_strip, next_in_strip, strips_behind, numbered_both, shown_both}
 use Rattle.fax_walk.proofs.PageItemLemmas.{IsCount, Split, split, counted, strip_count, shown_length, shown_drop}

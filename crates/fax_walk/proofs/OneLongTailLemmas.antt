@@ -1,5 +1,5 @@
 -- There is one tail from each place inside a strip.
-use Rattle.std.proofs.Common.{◌≡◌, ℕ, suc, ◌+◌, ◌-◌, ◌*◌, ◌/◌, ◌%◌, ◌<◌, ◌≤◌, ◌⊎◌, inl, inr, Bool, List, [], ◌∷◌, ◌++◌, length, drop, Option, Some, None, Result, Ok, Err, refl, sym, ap, ◌∙◌, subst, arith}
+use Rattle.std.proofs.Common.{◌≡◌, ℕ, ◌+◌, ◌-◌, ◌*◌, ◌<◌, ◌≤◌, ◌⊎◌, inl, inr, Bool, List, [], ◌∷◌, ◌++◌, length, drop, Option, Some, None, Result, Ok, Err, refl, sym, ap, ◌∙◌, subst, arith}
 use Rattle.std.proofs.Math.Nat.{div-add-mod}
 use Rattle.std.proofs.lemmas.Bool.{cases_lt}
 use Rattle.std.specs.Prelude.{slice_get}
@@ -24,8 +24,8 @@ use Rattle.fax_walk.specs.declared.end.End.{End}
 use Rattle.fax_walk.specs.declared.end.End.TheVariants.{Fault, Outside}
 use Rattle.fax_walk.specs.LongCursor.{LongPlace}
 use Rattle.fax_walk.specs.Items.{Item, numbered}
-use Rattle.fax_walk.specs.Tail.{IsTail, end_past_chain}
-use Rattle.fax_walk.specs.LongTail.{strip_at, row_in_strip, IsInside, IsRowInside, FollowsStrip, AreFromPlace, AreInStrip, AreOnPage, IsLongTailOver, IsLongTailUnder, IsLongTail}
+use Rattle.fax_walk.specs.Tail.{end_past_chain}
+use Rattle.fax_walk.specs.LongTail.{strip_at, row_in_strip, IsInside, IsRowInside, FollowsStrip, AreFromPlace, AreInStrip, AreOnPage, IsLongTailOver, IsLongTailUnder}
 use Rattle.fax_walk.specs.Laws.{IsOne, CursorsHaveOneTail}
 use Rattle.fax_walk.specs.LongLaws.{PlacesHaveOneTail}
 use Rattle.fax_walk.proofs.LongLineLemmas.{LinesAreRead, one_row, pels_behind}

@@ -1,11 +1,11 @@
 -- A page that is opened at a place inside one of its strips.
-use Rattle.std.proofs.Common.{◌≡◌, ℕ, ◌+◌, ◌-◌, ◌*◌, ◌/◌, ◌%◌, ◌<◌, ◌^◌, ◌≤◌, ◌⊎◌, inl, inr, min, Bool, List, [], ◌∷◌, ◌++◌, length, drop, Option, Some, None, Ok, refl, sym, ap, ◌∙◌, subst, arith, append_assoc, length-append}
+use Rattle.std.proofs.Common.{◌≡◌, ℕ, ◌+◌, ◌*◌, ◌<◌, ◌^◌, ◌≤◌, inl, inr, min, List, [], ◌++◌, length, drop, Option, Some, None, Ok, refl, sym, ap, ◌∙◌, subst, arith, append_assoc, length-append}
 use Rattle.std.proofs.Math.Nat.{div-add-mod}
 use Rattle.fax_bits.specs.Bits.{bits}
 use Rattle.fax_bits.specs.declared.Colour.{Colour}
 use Rattle.fax_page.specs.declared.StripFault.{StripFault}
 use Rattle.fax_page.specs.Strip.{AreLines}
-use Rattle.fax_page.specs.code.Reader.{StripState, bits_left}
+use Rattle.fax_page.specs.code.Reader.{StripState}
 use Rattle.fax_files.specs.declared.Cause.{Cause}
 use Rattle.fax_files.specs.declared.Cause.TheVariants.{Strip}
 use Rattle.fax_files.specs.declared.PageForm.{PageForm}
@@ -14,18 +14,17 @@ use Rattle.fax_files.specs.Page.{IsPageForm}
 use Rattle.fax_files.specs.PageRows.{joined, shown, strip_form}
 use Rattle.fax_files.specs.code.Tiff.{TiffDirectory, bytes_of}
 use Rattle.fax_walk.specs.declared.begun.Begun.TheVariants.{Inside}
-use Rattle.fax_walk.specs.declared.cursor.Cursor.{Cursor}
 use Rattle.fax_walk.specs.declared.end.End.{End}
 use Rattle.fax_walk.specs.declared.end.End.TheVariants.{Fault}
 use Rattle.fax_walk.specs.LongCursor.{LongPlace}
 use Rattle.fax_walk.specs.Items.{Item, numbered, stop_at, Follows, AreFromRow, AreFromRowOf}
 use Rattle.fax_walk.specs.Tail.{IsTail}
-use Rattle.fax_walk.specs.LongTail.{strip_at, row_in_strip, IsInside, IsRowInside, FollowsStrip, AreFromPlace, AreInStrip, AreOnPage, IsLongTail, HasReadTo}
+use Rattle.fax_walk.specs.LongTail.{strip_at, row_in_strip, IsRowInside, FollowsStrip, AreFromPlace, AreOnPage, IsLongTail, HasReadTo}
 use Rattle.fax_walk.specs.code.Stages.{PageState, row_of, skipped}
-use Rattle.fax_walk.specs.code.Due.{AreStripsBehind, IsLeftOnPage, IsDueOnPage, ArePagesBehind, IsOpen, IsReached}
-use Rattle.fax_walk.specs.code.Opening.{PageDue, IsPageOf, IsPlaceDue, IsOpenedInside, IsAtPlace, AreDueFrom}
+use Rattle.fax_walk.specs.code.Due.{AreStripsBehind, IsDueOnPage, ArePagesBehind, IsReached}
+use Rattle.fax_walk.specs.code.Opening.{PageDue, IsPageOf, IsOpenedInside, IsAtPlace}
 use Rattle.fax_walk.proofs.OpenLemmas.{strip_there}
-use Rattle.fax_walk.proofs.PageItemLemmas.{IsCount, counted, shown_length}
+use Rattle.fax_walk.proofs.PageItemLemmas.{counted, shown_length}
 use Rattle.fax_walk.proofs.LongStripLemmas.{nothing_left, strips_behind, numbered_both, shown_both}
 
 module _ (due : PageDue) (place : LongPlace) (same_page : due.page ≡ place.at.page) (limits : IsPageForm due.form) (whole : IsWholeForm due.form)

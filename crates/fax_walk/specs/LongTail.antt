@@ -26,7 +26,7 @@ use Rattle.fax_walk.specs.declared.end.End.TheVariants.{Fault, Outside}
 use Rattle.fax_walk.specs.Cursor.{start}
 use Rattle.fax_walk.specs.LongCursor.{LongPlace}
 use Rattle.fax_walk.specs.Items.{Item, numbered, AreItems}
-use Rattle.fax_walk.specs.Tail.{behind_item, end_past_chain, IsPrinted, IsTail}
+use Rattle.fax_walk.specs.Tail.{end_past_chain, IsPrinted, IsTail}
 
 -- the number of the strip that holds row r, and the row's number in that strip (TIFF 6.0, RowsPerStrip)
 abbrev pub strip_at : PageForm → ℕ → ℕ
