@@ -1,9 +1,9 @@
 -- Rows that are printed with a long cursor at the end.
-use Rattle.std.proofs.Common.{◌≡◌, ℕ, ◌<◌, ◌≤◌, List, [], ◌∷◌, ◌++◌, length, take, drop, map, true, false, refl, ap, sym, ◌∙◌, subst, append-nil, take-append-drop, arith, length-append, inl, inr}
+use Rattle.std.proofs.Common.{◌≡◌, ℕ, ◌<◌, List, [], ◌∷◌, ◌++◌, length, take, drop, map, true, false, refl, ap, sym, ◌∙◌, subst, append-nil, take-append-drop, arith, inl, inr}
 use Rattle.std.proofs.Math.Seq.{take-append_seam, drop-append_seam}
 use Rattle.std.proofs.lemmas.Bool.{lt-leb, false≢true}
 use Rattle.std.proofs.lemmas.List.{take-map, drop-map, map-append, length-map, take_all}
-use Rattle.std.specs.Prelude.{Option, Some, None, IfSome, nat_le, ◌||◌}
+use Rattle.std.specs.Prelude.{Option, Some, None, IfSome, nat_le}
 use Rattle.std.specs.Io.KnownBytes.{Appends}
 use Rattle.std.proofs.KnownBytes.{Appends-trans}
 use Rattle.fax_walk.specs.declared.begun.Begun.{Begun}
@@ -11,8 +11,6 @@ use Rattle.fax_walk.specs.declared.cursor.Cursor.{Cursor}
 use Rattle.fax_walk.specs.declared.end.End.{End}
 use Rattle.fax_walk.specs.declared.end.End.TheVariants.{Proper, Fault, Outside}
 use Rattle.fax_walk.specs.Items.{Item}
-use Rattle.fax_walk.specs.Tail.{behind_item}
-use Rattle.fax_walk.specs.LongCursor.{LongPlace}
 use Rattle.fax_walk.specs.LongTail.{IsLongNext, begins_at}
 use Rattle.fax_walk.specs.code.Due.{WalkState, IsDue, HasHandedOut, walk_begun}
 use Rattle.fax_tool.specs.declared.refusal.Refusal.{Refusal}
