@@ -1,48 +1,104 @@
 -- A strip that is read row by row.
-use Rattle.std.proofs.Common.{ℕ, ◌<◌, List, [], ◌∷◌, ◌++◌, Option, Some, None, refl, sym, ap, ◌∙◌, subst, append_assoc, append-nil}
+use Rattle.std.proofs.Common.{◌≡◌, ℕ, ◌<◌, List, [], ◌∷◌, ◌++◌, Option, Some, None, Err, refl, sym, ap, ◌∙◌, subst, append_assoc, append-nil, inl, inr}
 use Rattle.fax_bits.specs.declared.Colour.{Colour}
 use Rattle.fax_bits.specs.Bits.{bits}
 use Rattle.fax_page.specs.declared.StripForm.{StripForm}
 use Rattle.fax_page.specs.declared.StripFault.{StripFault}
 use Rattle.fax_page.specs.Lines.{IsLine, IsCause}
-use Rattle.fax_page.specs.Strip.{EndsAt, AreLines, IsStrip, white_row}
-use Rattle.fax_page.specs.code.Reader.{StripState, bits_left, strip_behind, ReadsRow, IsAtEnd, MeetsFault, HasRead}
+use Rattle.fax_page.specs.Strip.{EndsAt, AreLines, IsStrip}
+use Rattle.fax_page.specs.code.Reader.{StripState, bits_left, strip_behind, ReadsRow, IsAtEnd, MeetsFault, IsAdvance, HasRead, HasReadFrom}
 
-pub begins_so : (read : ℕ) (form : StripForm) (bytes : List ℕ) → HasRead form bytes [] (strip_behind read form bytes)
-begins_so read form bytes = record { same_form = refl; same_bytes = refl; followed = λ more end left lines. lines }
+pub begins_on : (start : StripState) → HasReadFrom start [] start
+begins_on start = record { same_form = refl; same_bytes = refl; followed = λ more end left lines. lines }
 
--- the rows so far, and an end behind them
-stopped : (form : StripForm) (bytes : List ℕ) (rows : List (List Colour)) (state : StripState) (end : Option StripFault) → HasRead form bytes rows state
-    → EndsAt form state.row state.reference (bits_left state) end → IsStrip form (bits form.order bytes) rows end
-stopped form bytes rows state end so_far stop = record {
-  left = bits_left state;
-  lines =
-      subst (λ them. AreLines form 0 (white_row form.width) (bits form.order bytes) them end (bits_left state)) (append-nil rows)
-      (so_far.followed [] end (bits_left state) (refl, stop));
-}
-
-pub row_read : (form : StripForm) (bytes : List ℕ) (rows : List (List Colour)) (old new : StripState) → HasRead form bytes rows old → ReadsRow old new
-    → HasRead form bytes (rows ++ new.reference ∷ []) new
-row_read form bytes rows old new so_far reads = record {
+-- one row more
+pub row_read_on : (start : StripState) (rows : List (List Colour)) (old new : StripState) → HasReadFrom start rows old → ReadsRow old new
+    → HasReadFrom start (rows ++ new.reference ∷ []) new
+row_read_on start rows old new so_far reads = record {
   same_form = reads.same_form ∙ so_far.same_form;
   same_bytes = reads.same_bytes ∙ so_far.same_bytes;
   followed = λ more end left lines.
-      let due : old.row < form.rows = subst (λ (f : StripForm). old.row < f.rows) so_far.same_form reads.due in
+      let due : old.row < start.form.rows = subst (λ (f : StripForm). old.row < f.rows) so_far.same_form reads.due in
       let line = subst (λ f. IsLine f old.row old.reference (bits_left old) new.reference (bits_left new)) so_far.same_form reads.line in
-      let behind = subst (λ n. AreLines form n new.reference (bits_left new) more end left) reads.next_row lines in
-      subst (λ them. AreLines form 0 (white_row form.width) (bits form.order bytes) them end left)
+      let behind = subst (λ n. AreLines start.form n new.reference (bits_left new) more end left) reads.next_row lines in
+      subst (λ them. AreLines start.form start.row start.reference (bits_left start) them end left)
       (sym (append_assoc rows (new.reference ∷ []) more))
       (so_far.followed (new.reference ∷ more) end left (bits_left new, due, line, behind));
 }
 
+-- the rows so far, and an end behind them
+stopped_on : (start : StripState) (rows : List (List Colour)) (state : StripState) (end : Option StripFault) → HasReadFrom start rows state
+    → EndsAt start.form state.row state.reference (bits_left state) end
+    → AreLines start.form start.row start.reference (bits_left start) rows end (bits_left state)
+stopped_on start rows state end so_far stop =
+    subst (λ them. AreLines start.form start.row start.reference (bits_left start) them end (bits_left state)) (append-nil rows)
+    (so_far.followed [] end (bits_left state) (refl, stop))
+
+ended_before : (start : StripState) (rows : List (List Colour)) (old new : StripState) → HasReadFrom start rows old → IsAtEnd old new
+    → AreLines start.form start.row start.reference (bits_left start) rows None (bits_left old)
+ended_before start rows old new so_far at_end =
+    stopped_on start rows old None so_far (at_end.all_read ∙ ap (λ (f : StripForm). f.rows) so_far.same_form)
+
+fault_before : (start : StripState) (rows : List (List Colour)) (old new : StripState) (fault : StripFault)
+    → HasReadFrom start rows old → MeetsFault old fault new
+    → AreLines start.form start.row start.reference (bits_left start) rows (Some fault) (bits_left old)
+fault_before start rows old new fault so_far meets =
+    let due : old.row < start.form.rows = subst (λ (f : StripForm). old.row < f.rows) so_far.same_form meets.due in
+    let cause = subst (λ f. IsCause f old.row old.reference (bits_left old) fault) so_far.same_form meets.cause in
+    stopped_on start rows old (Some fault) so_far (due, cause)
+
+pub ended_on : (start : StripState) (rows : List (List Colour)) (old new : StripState) → HasReadFrom start rows old → IsAtEnd old new
+    → AreLines start.form start.row start.reference (bits_left start) rows None (bits_left new)
+ended_on start rows old new so_far at_end =
+    subst (λ state. AreLines start.form start.row start.reference (bits_left start) rows None (bits_left state)) (sym at_end.unchanged)
+    (ended_before start rows old new so_far at_end)
+
+pub fault_met_on : (start : StripState) (rows : List (List Colour)) (old new : StripState) (fault : StripFault)
+    → HasReadFrom start rows old → MeetsFault old fault new
+    → AreLines start.form start.row start.reference (bits_left start) rows (Some fault) (bits_left new)
+fault_met_on start rows old new fault so_far meets =
+    subst (λ state. AreLines start.form start.row start.reference (bits_left start) rows (Some fault) (bits_left state)) (sym meets.told)
+    (fault_before start rows old new fault so_far meets)
+
+-- a fault leaves the reader where it was
+pub stays_there : (old new : StripState) (fault : StripFault) → IsAdvance old (Err fault) new
+    → (new.place ≡ old.place) × (new.row ≡ old.row) × (new.reference ≡ old.reference)
+stays_there old new fault (inl again) = (
+  ap (λ (s : StripState). s.place) again.unchanged,
+  ap (λ (s : StripState). s.row) again.unchanged,
+  ap (λ (s : StripState). s.reference) again.unchanged,
+)
+stays_there old new fault (inr meets) = (
+  ap (λ (s : StripState). s.place) meets.told,
+  ap (λ (s : StripState). s.row) meets.told,
+  ap (λ (s : StripState). s.reference) meets.told,
+)
+
+-- from a strip's beginning on
+from_beginning : (form : StripForm) (bytes : List ℕ) (rows : List (List Colour)) (state : StripState) → HasRead form bytes rows state
+    → HasReadFrom (strip_behind 0 form bytes) rows state
+from_beginning form bytes rows state so_far =
+    record { same_form = so_far.same_form; same_bytes = so_far.same_bytes; followed = so_far.followed }
+
+pub begins_so : (read : ℕ) (form : StripForm) (bytes : List ℕ) → HasRead form bytes [] (strip_behind read form bytes)
+begins_so read form bytes = record { same_form = refl; same_bytes = refl; followed = λ more end left lines. lines }
+
+pub row_read : (form : StripForm) (bytes : List ℕ) (rows : List (List Colour)) (old new : StripState) → HasRead form bytes rows old → ReadsRow old new
+    → HasRead form bytes (rows ++ new.reference ∷ []) new
+row_read form bytes rows old new so_far reads =
+    let on = row_read_on (strip_behind 0 form bytes) rows old new (from_beginning form bytes rows old so_far) reads in
+    record { same_form = on.same_form; same_bytes = on.same_bytes; followed = on.followed }
+
 pub ended : (form : StripForm) (bytes : List ℕ) (rows : List (List Colour)) (old new : StripState) → HasRead form bytes rows old → IsAtEnd old new
     → IsStrip form (bits form.order bytes) rows None
-ended form bytes rows old new so_far at_end =
-    stopped form bytes rows old None so_far (at_end.all_read ∙ ap (λ (f : StripForm). f.rows) so_far.same_form)
+ended form bytes rows old new so_far at_end = record {
+  left = bits_left old;
+  lines = ended_before (strip_behind 0 form bytes) rows old new (from_beginning form bytes rows old so_far) at_end;
+}
 
 pub fault_met : (form : StripForm) (bytes : List ℕ) (rows : List (List Colour)) (old new : StripState) (fault : StripFault)
     → HasRead form bytes rows old → MeetsFault old fault new → IsStrip form (bits form.order bytes) rows (Some fault)
-fault_met form bytes rows old new fault so_far meets =
-    let due : old.row < form.rows = subst (λ (f : StripForm). old.row < f.rows) so_far.same_form meets.due in
-    let cause = subst (λ f. IsCause f old.row old.reference (bits_left old) fault) so_far.same_form meets.cause in
-    stopped form bytes rows old (Some fault) so_far (due, cause)
+fault_met form bytes rows old new fault so_far meets = record {
+  left = bits_left old;
+  lines = fault_before (strip_behind 0 form bytes) rows old new fault (from_beginning form bytes rows old so_far) meets;
+}

@@ -3,7 +3,7 @@ ghost use Rattle.std.specs.Prelude.{ℕ, List};
 ghost use Rattle.fax_bits.specs.declared.Colour.{Colour};
 ghost use Rattle.fax_page.specs.declared.StripForm.{StripForm};
 ghost use Rattle.fax_page.specs.Laws as Law;
-ghost use Rattle.fax_page.specs.code.Reader.{ReadsRowByRow};
+ghost use Rattle.fax_page.specs.code.Reader.{ReadsRowByRow, ReadsOn};
 ghost use Rattle.fax_page.specs.code.Writer.{WritesRowByRow};
 
 /// Bits are read in one way as a row of a strip, in any coding: they begin with one row and one
@@ -59,6 +59,13 @@ pub fn coded_strips_are_read_as_nothing_else()
 /// strip's beginning on, they are the rows of the strip, up to its end.
 pub fn strips_are_read_row_by_row()
     ensures { ReadsRowByRow }
+{}
+
+/// A strip is read on from any place, as from where `StripReader::restart_at` goes: the rows that
+/// `StripReader::advance` reads from there are the lines of the strip from that row on, up to their
+/// end, and a fault leaves the reader where it was before that call.
+pub fn strips_are_read_on()
+    ensures { ReadsOn }
 {}
 
 /// A strip is written row by row: where `StripWriter::put_row` puts rows one behind another, the

@@ -254,3 +254,35 @@ fn lends_no_change_where_the_colour_stays(rt: HostRuntime) -> Result<(), Fail> {
     assert!(rt; row.changes().is_empty());
     Ok(())
 }
+
+#[test]
+fn sets_rows_by_their_longest_runs(rt: HostRuntime) -> Result<(), Fail> {
+    let rows: [(&[u32], u8); 4] = [
+        (&[3, 2, 3], 0x18),
+        (&[0, 2, 6], 0xC0),
+        (&[0, 8], 0xFF),
+        (&[8], 0x00),
+    ];
+    for (runs, pels) in rows {
+        let mut row = Row::from_packed(rt.alloc(), &[0x55], 8)?;
+        assert!(rt; row.set_runs(runs), "{pels}");
+        let mut bytes = [0];
+        row.to_packed(&mut bytes);
+        assert_eq!(rt; bytes, [pels]);
+    }
+    let others: [&[u32]; 7] = [
+        &[],
+        &[7],
+        &[9],
+        &[8, 0],
+        &[3, 0, 5],
+        &[0, 0, 8],
+        &[4_294_967_295, 9],
+    ];
+    for runs in others {
+        let mut row = Row::from_packed(rt.alloc(), &[0x18], 8)?;
+        assert!(rt; !row.set_runs(runs));
+        assert_eq!(rt; row.runs(rt.alloc())?.as_slice(), [3u32, 2, 3].as_slice());
+    }
+    Ok(())
+}

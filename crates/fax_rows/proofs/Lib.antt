@@ -14,14 +14,15 @@ pub mod ChangeLemmas
 pub mod ChoiceLemmas
 pub mod WrittenLemmas
 pub mod StepLaws
-pub mod AheadLemmas
 pub mod PutLemmas
 pub mod PlacedLemmas
 pub mod StepFaultLaws
 pub mod TurnLemmas
 pub mod PlacedRowLemmas
 pub mod PlacedReadLemmas
+pub mod IndexLemmas
 pub mod PlacedB1Lemmas
 pub mod PlacedStepLemmas
 pub mod PlacedExchangeLemmas
 pub mod PaintLemmas
+pub mod WrittenPlaceLemmas

@@ -1,6 +1,9 @@
 -- A row packed by its places of change.
-use Rattle.std.proofs.Common.{◌≡◌, ◌≢◌, ℕ, ◌+◌, ◌-◌, ◌*◌, ◌%◌, ◌<◌, ◌≤◌, List, map, length, take, drop, replicate, get_or, Bool, true, false, if◌then◌else◌, nat_eq, refl, ap, sym, ◌∙◌, arith, inl, inr, length-append, length-drop, get_or-drop, get_or-set_other, get_or-set_same, below_more}
+use Rattle.std.proofs.Common.{◌≡◌, ◌≢◌, ℕ, zero, suc, ◌+◌, ◌-◌, ◌*◌, ◌^◌, ◌%◌, ◌<◌, ◌≤◌, List, map, length, take, drop, replicate, get_or, Bool, true, false, if◌then◌else◌, nat_eq, refl, ap, sym, ◌∙◌, subst, arith, inl, inr, length-append, length-drop, get_or-drop, get_or-set_other, get_or-set_same, below_more}
+use mir.Val.{bool_byte}
 use Rattle.std.proofs.lemmas.Bool.{cases_lt}
+use Rattle.std.proofs.lemmas.Nat.{pow_pos}
+use Rattle.std.proofs.Math.Nat.{pow-succ'}
 use Rattle.std.proofs.Math.ListN.{set}
 use Rattle.std.proofs.lemmas.List.{length-replicate, length-map, get_or-map, get_or-take, get_or_past, length-take-le, ext_get_or}
 use Rattle.std.proofs.lemmas.Simd.{get_or-replicate}
@@ -9,7 +12,7 @@ use Rattle.fax_bits.specs.declared.Colour.TheVariants.{White, Black}
 use Rattle.fax_bits.specs.Bits.{bits_number}
 use Rattle.fax_rows.specs.Packed.{is_black, packed_byte}
 use Rattle.fax_rows.specs.code.Turns.{row_of, alternate, ArePlaces, HasPassed, IsBehind}
-use Rattle.fax_rows.proofs.PackedLemmas.{padded_bits, get_or-padded}
+use Rattle.fax_rows.proofs.PackedLemmas.{padded_bits, get_or-padded, byte_more, byte_fits}
 use Rattle.fax_rows.proofs.PlacedRowLemmas.{end_within}
 use Rattle.fax_rows.proofs.TurnLemmas.{length-pels_by, pel-pels_by, alternate-odd, alternate-even, colour_behind_places}
 
@@ -153,3 +156,91 @@ module _ (places : List ℕ) (end width : ℕ) (all : ArePlaces places end width
     left = omega (arith, passed.left);
     right = λ h. whole;
   }
+
+-- the number of n ones, or of n zeros
+abbrev pub ones : Bool → ℕ → ℕ
+ones bit n = if bit then 2 ^ n - 1 else 0
+
+ones_grow : (bit : Bool) (n : ℕ) → ones bit (suc n) ≡ 2 * ones bit n + bool_byte bit
+ones_grow true n = let double = pow-succ' 2 n in omega (arith, pow_pos n)
+ones_grow false n = refl
+
+run_grows : (byte n : ℕ) (bit : Bool) → byte * 2 ^ suc n + ones bit (suc n) ≡ 2 * (byte * 2 ^ n + ones bit n) + bool_byte bit
+run_grows byte n bit =
+    let double : byte * 2 ^ suc n ≡ byte * (2 * 2 ^ n) = ap (λ p. byte * p) (pow-succ' 2 n) in
+    omega (arith, double, ones_grow bit n)
+
+-- a run of bits behind the first ones of a byte
+module _ (row : List Colour) (from i byte : ℕ) (bit : Bool) (within : from < length row)
+    (byte_is : byte ≡ bits_number (take i (drop from (padded_bits row)))) where
+  pub run_more : (n : ℕ) → i + n ≤ 8 → ((m : ℕ) → i ≤ m → m < i + n → get_or (map is_black row) (from + m) false ≡ bit)
+      → byte * 2 ^ n + ones bit n ≡ bits_number (take (i + n) (drop from (padded_bits row)))
+  run_more zero few each =
+      let none : ones bit 0 ≡ 0 = no_ones bit in
+      let same : i + 0 ≡ i = omega arith in
+      omega (arith, none) ∙ byte_is ∙ ap (λ k. bits_number (take k (drop from (padded_bits row)))) (sym same)
+    where
+      no_ones : (b : Bool) → ones b 0 ≡ 0
+      no_ones true = refl
+      no_ones false = refl
+  run_more (suc n) few each =
+      let next : i + suc n ≡ i + n + 1 = omega arith in
+      run_grows byte n bit
+      ∙ byte_more row from (i + n) (byte * 2 ^ n + ones bit n) (bool_byte bit) bit within (omega arith)
+      (run_more n (omega arith) (λ m h l. each m h (omega arith))) (sym (each (i + n) (omega arith) (omega arith))) refl
+      ∙ ap (λ k. bits_number (take k (drop from (padded_bits row)))) (sym next)
+
+-- such a number fits its bits
+pub run_fits : (byte i n : ℕ) (bit : Bool) → byte < 2 ^ i → i + n ≤ 8 → byte * 2 ^ n + ones bit n < 2 ^ (i + n)
+run_fits byte i zero bit fits few = by bit
+  where
+    same : i + 0 ≡ i
+    same = omega arith
+
+    by : (b : Bool) → byte * 2 ^ 0 + ones b 0 < 2 ^ (i + 0)
+    by true = rw same (omega (arith, fits))
+    by false = rw same (omega (arith, fits))
+run_fits byte i (suc n) bit fits few =
+    let next : i + suc n ≡ i + n + 1 = omega arith in
+    subst (λ m. byte * 2 ^ suc n + ones bit (suc n) < 2 ^ m) (sym next)
+    (rw (run_grows byte n bit) (byte_fits (byte * 2 ^ n + ones bit n) (bool_byte bit) (i + n) bit (run_fits byte i n bit fits (omega arith)) (omega arith) refl))
+
+module _ (places : List ℕ) (end width : ℕ) (all : ArePlaces places end width) where
+  -- the pels up to the next place have one colour
+  pub same_up_to : (from at next k : ℕ) → HasPassed places end at k → from ≤ at → next ≤ width → (k < end → next ≤ get_or places k 0)
+      → (m : ℕ) → at - from ≤ m → m < at - from + (next - at) → get_or (map is_black (row_of places end width)) (from + m) false ≡ nat_eq (k % 2) 0
+  same_up_to from at next k passed order within before m h l =
+      bit_behind places end width all (from + m) k (omega arith) (record {
+        some = passed.some;
+        within = passed.within;
+        left = omega (arith, passed.left);
+        right = λ r. omega (arith, before r);
+      })
+
+  -- a place further right is passed too where none stands between
+  pub still_passed : (at next k : ℕ) → HasPassed places end at k → at ≤ next → (k < end → next ≤ get_or places k 0) → HasPassed places end next k
+  still_passed at next k passed order before = record {
+    some = passed.some;
+    within = passed.within;
+    left = omega (arith, passed.left);
+    right = before;
+  }
+
+  -- the next place is not left of it, nor behind the row
+  pub place_ahead : (at k : ℕ) → HasPassed places end at k → at ≤ width → at ≤ get_or places k 0
+  place_ahead at k passed within =
+      elim (cases_lt k end) [
+        | inl less ↦ passed.right less
+        | inr far ↦ let same : k ≡ end = omega (arith, passed.within) in omega (arith, last_is places end width all, ap (λ m. get_or places m 0) same)
+      ]
+
+  pub place_at_most : (at k : ℕ) → HasPassed places end at k → get_or places k 0 ≤ width
+  place_at_most at k passed =
+      elim (cases_lt k end) [
+        | inl less ↦ omega (arith, all.below k passed.some less)
+        | inr far ↦ let same : k ≡ end = omega (arith, passed.within) in omega (arith, last_is places end width all, ap (λ m. get_or places m 0) same)
+      ]
+
+  -- a place that is reached is passed
+  pub reached_is_passed : (i k : ℕ) → IsBehind places end i k → HasPassed places end i k
+  reached_is_passed i k at = record { some = at.some; within = at.within; left = at.left; right = λ h. omega (arith, at.right h) }

@@ -176,7 +176,7 @@ module _ (places : List ℕ) (end width : ℕ) (all : ArePlaces places end width
           }
 
   -- and b2 is the one behind it
-  behind_b1 : (b : ℕ) → 0 < b → b ≤ end + 1 → get_or places (b + 1) 0 ≡ next_change (pels_by width (take end places)) (Some (get_or places b 0))
+  pub behind_b1 : (b : ℕ) → 0 < b → b ≤ end + 1 → get_or places (b + 1) 0 ≡ next_change (pels_by width (take end places)) (Some (get_or places b 0))
   behind_b1 b some within =
       elim (cases_lt b end) [
         | inl inside ↦

@@ -10,7 +10,7 @@ use Rattle.std.proofs.lemmas.List.{get_or-take, length-take-le, get_or_default, 
 use Rattle.fax_bits.specs.declared.Colour.{Colour}
 use Rattle.fax_bits.specs.declared.Colour.TheVariants.{White, Black}
 use Rattle.fax_rows.specs.Elements.{pel, is_changing, is_right_of, next_change}
-use Rattle.fax_rows.specs.code.Turns.{turned, pels_by, alternate, ArePlaces, IsBehind}
+use Rattle.fax_rows.specs.code.Turns.{turned, pels_by, alternate, ArePlaces, IsBehind, IsFrom}
 use Rattle.fax_rows.proofs.ChangeLemmas.{still_left, both}
 use Rattle.fax_rows.proofs.PlaceLemmas.{next_change_at}
 use Rattle.fax_rows.proofs.TurnLemmas.{length-pels_by, pel-pels_by, alternate-odd, alternate-even, at_least, below_later, pel_behind, changing_at, unchanging}
@@ -45,11 +45,6 @@ take-drop_first [] zero = refl
 take-drop_first [] (suc end) = let same : suc end - 1 ≡ end = omega arith in rw same (take-nil end)
 take-drop_first (p ∷ places) zero = refl
 take-drop_first (p ∷ places) (suc end) = let same : suc end - 1 ≡ end = omega arith in rw same refl
-
--- where the changes right of `from` begin
-abbrev pub IsFrom : List ℕ → ℕ → Option ℕ → ℕ → Type 0
-IsFrom places end None k = k ≡ 1
-IsFrom places end (Some a) k = IsBehind places end a k
 
 -- the next changing element, as `next_change` answers it
 pub record IsNext (row : List Colour) (from : Option ℕ) (r : ℕ) : Type 0 where
@@ -89,7 +84,7 @@ module _ (places : List ℕ) (end width : ℕ) (all : ArePlaces places end width
       ]
 
   -- the place that is read for the next change right of `from`
-  at_from : (from : Option ℕ) (k : ℕ) → IsFrom places end from k → (0 < k) × (k ≤ end)
+  pub at_from : (from : Option ℕ) (k : ℕ) → IsFrom places end from k → (0 < k) × (k ≤ end)
   at_from None k at = (omega arith, omega (arith, all.ascending.started))
   at_from (Some a) k at = (at.some, at.within)
 

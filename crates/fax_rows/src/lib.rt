@@ -10,6 +10,7 @@ mod packed;
 mod pels;
 mod places;
 mod put;
+mod rows;
 mod runs;
 mod turns;
 mod two_dimensional;

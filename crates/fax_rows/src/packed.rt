@@ -1,11 +1,11 @@
 //! Rows as packed bytes, as in a raw PBM (the netpbm format, P4): eight pels in a byte, the
 //! leftmost in its highest bit, where 1 is black.
-ghost use Rattle.std.specs.Prelude.{◌≡◌, ◌+◌, ◌-◌, ◌*◌, ◌<◌, ◌≤◌, ◌^◌, length, map, false, IfOk};
-ghost use Rattle.std.specs.Prelude.{slice_index, slice_index_or};
+ghost use Rattle.std.specs.Prelude.{◌≡◌, ◌+◌, ◌-◌, ◌*◌, ◌<◌, ◌≤◌, ◌^◌, length, IfOk};
+ghost use Rattle.std.specs.Prelude.{ℕ, slice_index, if◌then◌else◌};
 ghost use Rattle.fax_bits.specs.Bits.{bits};
 ghost use Rattle.fax_bits.specs.declared.FillOrder.TheVariants.{MsbFirst};
 ghost use Rattle.fax_rows.specs.Packed as Spec;
-ghost use Rattle.fax_rows.specs.code.Turns.{row_of, ArePlaces, HasPassed, IsAscending, IsBehind};
+ghost use Rattle.fax_rows.specs.code.Turns.{row_of, ArePlaces, HasPassed, IsAscending};
 
 use crate::lanes::first_other;
 use crate::pels::Row;
@@ -64,10 +64,33 @@ fn pack_places(places: &[u32], end: usize, width: u32, out: &mut [u8])
     ensures { out.new ≡ Spec.packed_row (row_of places.now end width) }
 {
     let mut passed = 1;
-    for k in 0..width.div_ceil(8) {
-        let (byte, behind) = packed_byte(places, end, width, 8 * k, passed);
-        out[k as usize] = byte;
-        passed = behind;
+    let mut k = 0;
+    while k < out.len() {
+        let change = (places[passed] / 8) as usize;
+        if k < change {
+            // No colour changes in the bytes before that of the next change.
+            let byte = if passed % 2 == 1 { 0x00 } else { 0xFF };
+            fill(out, k, change, byte);
+            k = change;
+        } else {
+            let (byte, behind) = packed_byte(places, end, width, 8 * k as u32, passed);
+            out[k] = byte;
+            passed = behind;
+            k += 1;
+        }
+    }
+}
+
+/// Writes this byte from a place on up to another.
+fn fill(out: &mut [u8], from: usize, to: usize, byte: u8)
+    requires order { from ≤ to }
+    requires within { to ≤ length out.old }
+    ensures before { (i : ℕ) → i < from → slice_index out.new i ≡ slice_index out.old i }
+    ensures filled { (i : ℕ) → from ≤ i → i < to → slice_index out.new i ≡ byte }
+    ensures same_len { length out.new ≡ length out.old }
+{
+    for at in from..to {
+        out[at] = byte;
     }
 }
 
@@ -80,52 +103,34 @@ fn packed_byte(places: &[u32], end: usize, width: u32, from: u32, passed: usize)
     ensures byte { result.0 ≡ Spec.packed_byte (row_of places.now end width) from }
     ensures so_far { HasPassed places.now end (from + 8) result.1 }
 {
-    if places[passed] < from + 8 {
-        return packed_by_pels(places, end, width, from, passed);
-    }
-    // No colour changes within the byte.
-    let byte = if passed % 2 == 1 { 0x00 } else { 0xFF };
-    (byte, passed)
-}
-
-/// What `packed_byte` says, by each pel.
-fn packed_by_pels(places: &[u32], end: usize, width: u32, from: u32, passed: usize) -> (u8, usize)
-    requires row { ArePlaces places.now end width }
-    requires within { from < width }
-    requires so_far { HasPassed places.now end from passed }
-    ensures byte { result.0 ≡ Spec.packed_byte (row_of places.now end width) from }
-    ensures so_far { HasPassed places.now end (from + 8) result.1 }
-{
+    let to = width.min(from + 8);
     let mut byte = 0;
+    let mut at = from;
     let mut behind = passed;
-    for j in 0..8 {
-        behind = passed_behind(places, end, width, from + j, behind);
-        byte = 2 * byte + u8::from(is_black(places, end, width, from + j, behind));
+    while at < to {
+        let next = to.min(places[behind]);
+        byte = with_run(byte, next - at, behind % 2 == 0);
+        at = next;
+        if at < to {
+            behind += 1;
+        }
     }
-    (byte, behind)
+    let padded = with_run(byte, from + 8 - to, false);
+    (padded as u8, behind)
 }
 
-/// How many places of change are passed behind a pel, where so many are passed before it.
-fn passed_behind(places: &[u32], end: usize, width: u32, i: u32, passed: usize) -> usize
-    requires row { ArePlaces places.now end width }
-    requires so_far { HasPassed places.now end i passed }
-    ensures so_far { HasPassed places.now end (i + 1) result }
-    ensures pel { i < width → IsBehind places.now end i result }
+/// The number of these bits, and `n` bits more of one colour behind them.
+fn with_run(number: u32, n: u32, black: bool) -> u32
+    requires few { n ≤ 8 }
+    requires fits { number < 2 ^ 8 }
+    ensures { result ≡ number * 2 ^ n + (if black then 2 ^ n - 1 else 0) }
 {
-    if i < width && places[passed] == i {
-        passed + 1
+    let power = 1 << n;
+    if black {
+        number * power + (power - 1)
     } else {
-        passed
+        number * power
     }
-}
-
-/// A pel stands at this place, behind so many places of change, and it is black.
-fn is_black(places: &[u32], end: usize, width: u32, i: u32, passed: usize) -> bool
-    requires row { ArePlaces places.now end width }
-    requires pel { i < width → IsBehind places.now end i passed }
-    ensures { result ≡ slice_index_or (map Spec.is_black (row_of places.now end width)) i false }
-{
-    i < width && passed % 2 == 0
 }
 
 /// Puts the places of change of the row of `width` pels that these bytes hold, and answers where

@@ -5,12 +5,14 @@ ghost use Rattle.std.specs.Prelude.{None, OnOk, OnErr, IfOk};
 ghost use Rattle.fax_bits.specs.code.Sink.{Appends, AppendsPrefix};
 ghost use Rattle.fax_rows.specs.code.Ahead as Spec;
 ghost use Rattle.fax_rows.specs.Coded as Coded;
-ghost use Rattle.fax_rows.specs.Elements.{is_right_of, next_change};
+ghost use Rattle.fax_rows.specs.Elements.{is_right_of};
+ghost use Rattle.fax_rows.specs.code.Turns.{alternate, IsFrom};
 
 use crate::longest_runs::LongestRuns;
 use crate::pels::Row;
-use crate::places::b1_b2;
+use crate::rows::Rows;
 use crate::runs::other;
+use crate::turns::places_from;
 use fax_bits::{BitSink, Colour, Memory, ModeCode, put_mode, put_run};
 
 /// Puts a row in one-dimensional coding: the longest runs of white and black pels in turn, white
@@ -33,76 +35,72 @@ pub fn put_1d(row: &Row, sink: &mut BitSink) -> Result<(), Memory>
     Ok(())
 }
 
-/// The changing elements ahead of a0 on the row that is written and on its reference row.
+/// What stands ahead of a0 on the row that is written and on its reference row.
 #[derive(Clone, Copy)]
 struct Ahead {
     /// Where the next step begins: `None` is just before the first pel.
     a0: Option<u32>,
+    /// The colour of a0.
+    colour: Colour,
     a1: u32,
-    /// b1 and b2 where a0 is white.
-    white: (u32, u32),
-    /// b1 and b2 where a0 is black.
-    black: (u32, u32),
+    a2: u32,
+    b1: u32,
+    b2: u32,
+    /// The index of a1 among the row's places.
+    row: usize,
+    /// The index of the first place right of a0 among those of the reference row.
+    reference: usize,
+}
+
+/// The colour behind so many places, the first of which turns black to white.
+fn colour_behind(places: usize) -> Colour
+    ensures { result ≡ alternate Colour.Black places }
+{
+    if places % 2 == 1 {
+        Colour::White
+    } else {
+        Colour::Black
+    }
 }
 
 impl Ahead {
-    /// Ahead of the first pel.
-    fn of_row(reference: &Row, row: &Row) -> Ahead
-        ensures places { Spec.IsAhead reference.now row.now result }
-        ensures start { result.a0 ≡ None }
+    /// Ahead of a0, with the indexes of the first places right of it.
+    #[inline(always)]
+    fn of(rows: Rows, a0: Option<u32>, row: usize, reference: usize) -> Ahead
+        requires row { IsFrom rows.row.now rows.row_end a0 row }
+        requires reference { IsFrom rows.reference.now rows.reference_end a0 reference }
+        ensures places { Spec.IsAhead rows.entry result }
+        ensures start { result.a0 ≡ a0 }
     {
-        Ahead {
-            a0: None,
-            a1: row.next_change(None),
-            white: b1_b2(reference, None, Colour::White),
-            black: b1_b2(reference, None, Colour::Black),
-        }
-    }
-
-    /// b1 and b2 where a0 has this colour.
-    fn known(&self, colour: Colour) -> (u32, u32)
-        ensures { result ≡ Spec.known self.now colour }
-    {
-        match colour {
-            Colour::White => self.white,
-            Colour::Black => self.black,
-        }
-    }
-
-    /// b1 and b2 as seen from a place right of a0. They are looked for only where b1 is not right
-    /// of that place.
-    fn seen_from(&self, reference: &Row, row: &Row, place: u32, colour: Colour) -> (u32, u32)
-        requires places { Spec.IsAhead reference.now row.now self.now }
-        requires right { is_right_of self.now.a0 place ≡ true }
-        ensures { Spec.AreB1B2 reference.now (Some place) colour result.0 result.1 }
-    {
-        let (b1, b2) = self.known(colour);
-        if b1 > place {
-            (b1, b2)
+        // b1 is a change to the opposite colour of a0's.
+        let b1 = if row % 2 == reference % 2 {
+            reference
         } else {
-            b1_b2(reference, Some(place), colour)
-        }
-    }
-
-    /// Ahead of a place right of a0. Each pel of the two rows is looked at a bounded number of
-    /// times while a row is written.
-    fn from_place(self, reference: &Row, row: &Row, place: u32) -> Ahead
-        requires places { Spec.IsAhead reference.now row.now self }
-        requires right { is_right_of self.a0 place ≡ true }
-        ensures places { Spec.IsAhead reference.now row.now result }
-        ensures start { result.a0 ≡ Some place }
-    {
-        let a1 = if self.a1 > place {
-            self.a1
-        } else {
-            row.next_change(Some(place))
+            reference + 1
         };
         Ahead {
-            a0: Some(place),
-            a1,
-            white: self.seen_from(reference, row, place, Colour::White),
-            black: self.seen_from(reference, row, place, Colour::Black),
+            a0,
+            colour: colour_behind(row),
+            a1: rows.row[row],
+            a2: rows.row[row + 1],
+            b1: rows.reference[b1],
+            b2: rows.reference[b1 + 1],
+            row,
+            reference,
         }
+    }
+
+    /// Ahead of a place right of a0. Over a whole row, each of its places is passed once.
+    #[inline(always)]
+    fn from_place(self, rows: Rows, place: u32) -> Ahead
+        requires places { Spec.IsAhead rows self }
+        requires right { is_right_of self.a0 place ≡ true }
+        ensures places { Spec.IsAhead rows.entry result }
+        ensures start { result.a0 ≡ Some place }
+    {
+        let row = places_from(rows.row, rows.row_end, self.row, place);
+        let reference = places_from(rows.reference, rows.reference_end, self.reference, place);
+        Ahead::of(rows, Some(place), row, reference)
     }
 }
 
@@ -124,60 +122,58 @@ fn choose(a1: u32, b1: u32, b2: u32) -> ModeCode
     }
 }
 
-/// The colour of a0: white just before the first pel.
-fn colour_at(row: &Row, a0: Option<u32>) -> Colour
-    requires { unwrap_or a0 0 < length row.now }
-    ensures { result ≡ Coded.colour_of row.now a0 }
-{
-    match a0 {
-        None => Colour::White,
-        Some(place) => row.pel(place),
-    }
-}
-
 /// Puts the two runs of horizontal mode, a0a1 and a1a2, and answers a2 (T.4, section 4.2.1.3.2).
-fn put_run_pair(row: &Row, ahead: Ahead, colour: Colour, sink: &mut BitSink) -> Result<u32, Memory>
+fn put_run_pair(ahead: Ahead, sink: &mut BitSink) -> Result<u32, Memory>
     requires a0 { unwrap_or ahead.a0 0 ≤ ahead.a1 }
-    requires a1 { ahead.a1 ≤ length row.now }
-    requires short { length row.now < 2 ^ 16 }
-    ensures ok { OnOk result
-        (Appends sink.old (Spec.run_pair row.now ahead.a0 colour ahead.a1) sink.new) }
-    ensures a2 { IfOk result (λ a2. a2 ≡ next_change row.now (Some ahead.a1)) }
-    ensures err { OnErr result
-        (AppendsPrefix sink.old (Spec.run_pair row.now ahead.a0 colour ahead.a1) sink.new) }
+    requires a1 { ahead.a1 ≤ ahead.a2 }
+    requires short { ahead.a2 < 2 ^ 16 }
+    ensures ok { OnOk result (Appends sink.old (Spec.run_pair ahead) sink.new) }
+    ensures a2 { IfOk result (λ a2. a2 ≡ ahead.a2) }
+    ensures err { OnErr result (AppendsPrefix sink.old (Spec.run_pair ahead) sink.new) }
 {
-    let a2 = row.next_change(Some(ahead.a1));
-    put_run(sink, colour, ahead.a1 - ahead.a0.unwrap_or(0))?;
-    put_run(sink, other(colour), a2 - ahead.a1)?;
-    Ok(a2)
+    put_run(sink, ahead.colour, ahead.a1 - ahead.a0.unwrap_or(0))?;
+    put_run(sink, other(ahead.colour), ahead.a2 - ahead.a1)?;
+    Ok(ahead.a2)
 }
 
 /// Puts the step from a0, and answers where the next one begins.
-fn put_step(reference: &Row, row: &Row, ahead: Ahead, sink: &mut BitSink) -> Result<u32, Memory>
-    requires same_width { length reference.now ≡ length row.now }
-    requires places { Spec.IsAhead reference.now row.now ahead }
-    requires unfinished { unwrap_or ahead.a0 0 < length row.now }
-    requires short { length row.now < 2 ^ 16 }
-    ensures ok { OnOk result
-        (Appends sink.old (Spec.bits_from reference.now row.now ahead.a0) sink.new) }
-    ensures next { IfOk result (λ place. place ≡ Spec.place_from reference.now row.now ahead.a0) }
-    ensures err { OnErr result
-        (AppendsPrefix sink.old (Spec.bits_from reference.now row.now ahead.a0) sink.new) }
+fn put_step(rows: Rows, ahead: Ahead, sink: &mut BitSink) -> Result<u32, Memory>
+    requires places { Spec.IsAhead rows ahead }
+    requires unfinished { unwrap_or ahead.a0 0 < rows.width }
+    ensures ok { OnOk result (Appends sink.old
+        (Spec.bits_from (Spec.reference_of rows.entry) (Spec.written_of rows.entry) ahead.a0) sink.new) }
+    ensures next { IfOk result (λ place. place
+        ≡ Spec.place_from (Spec.reference_of rows.entry) (Spec.written_of rows.entry) ahead.a0) }
+    ensures err { OnErr result (AppendsPrefix sink.old
+        (Spec.bits_from (Spec.reference_of rows.entry) (Spec.written_of rows.entry) ahead.a0) sink.new) }
 {
-    let colour = colour_at(row, ahead.a0);
-    let (b1, b2) = ahead.known(colour);
-    let mode = choose(ahead.a1, b1, b2);
+    let mode = choose(ahead.a1, ahead.b1, ahead.b2);
     put_mode(sink, mode)?;
     match mode {
-        ModeCode::Pass => Ok(b2),
-        ModeCode::Horizontal => put_run_pair(row, ahead, colour, sink),
+        ModeCode::Pass => Ok(ahead.b2),
+        ModeCode::Horizontal => put_run_pair(ahead, sink),
         // An extension is never chosen.
         ModeCode::Vertical(_) | ModeCode::Extension => Ok(ahead.a1),
     }
 }
 
+/// Puts the steps of a row.
+fn put_steps(rows: Rows, sink: &mut BitSink) -> Result<(), Memory>
+    ensures ok { OnOk result (Appends sink.old (Coded.two_dimensional_bits
+        (Spec.reference_of rows.entry) (Spec.written_of rows.entry)) sink.new) }
+    ensures err { OnErr result (AppendsPrefix sink.old (Coded.two_dimensional_bits
+        (Spec.reference_of rows.entry) (Spec.written_of rows.entry)) sink.new) }
+{
+    let mut ahead = Ahead::of(rows, None, 1, 1);
+    while ahead.a0.unwrap_or(0) < rows.width {
+        let place = put_step(rows, ahead, sink)?;
+        ahead = ahead.from_place(rows, place);
+    }
+    Ok(())
+}
+
 /// Puts a row in two-dimensional coding over its reference row (T.4, section 4.2.1.3.3; T.6,
-/// section 2.2.3). It takes time in proportion to the width.
+/// section 2.2.3). It takes time in proportion to the changing elements of both rows.
 ///
 /// # Errors
 ///
@@ -189,11 +185,12 @@ pub fn put_2d(reference: &Row, row: &Row, sink: &mut BitSink) -> Result<(), Memo
     ensures err { OnErr result
         (AppendsPrefix sink.old (Coded.two_dimensional_bits reference.now row.now) sink.new) }
 {
-    let width = row.width();
-    let mut ahead = Ahead::of_row(reference, row);
-    while ahead.a0.unwrap_or(0) < width {
-        let place = put_step(reference, row, ahead, sink)?;
-        ahead = ahead.from_place(reference, row, place);
-    }
-    Ok(())
+    let rows = Rows {
+        reference: &reference.places,
+        reference_end: reference.end,
+        row: &row.places,
+        row_end: row.end,
+        width: row.width,
+    };
+    put_steps(rows, sink)
 }

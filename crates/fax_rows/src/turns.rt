@@ -23,6 +23,22 @@ pub fn places_up_to(places: &[u32], end: usize, i: u32) -> usize
     low
 }
 
+/// How many of the places before `end` are not right of `i`, from a number on that is not above it.
+#[inline(always)]
+pub fn places_from(places: &[u32], end: usize, from: usize, i: u32) -> usize
+    requires some { 0 < from }
+    requires within { from ≤ end }
+    requires room { end ≤ length places.now }
+    requires left { slice_index places.now (from - 1) ≤ i }
+    ensures { Spec.IsBehind places.now end i result }
+{
+    let mut behind = from;
+    while behind < end && places[behind] <= i {
+        behind += 1;
+    }
+    behind
+}
+
 /// Turns the colour from a place on, and answers where the places end: it puts the place behind the
 /// last one, or takes the last one away where it is the same.
 pub fn turn(places: &mut [u32], end: usize, place: u32) -> usize

@@ -165,3 +165,34 @@ fn restarts_after_a_fault(rt: HostRuntime) -> Result<(), Fail> {
     expect_row(&rt, rt.alloc(), &mut reader, &[8], 14)?;
     Ok(())
 }
+
+#[test]
+fn restarts_at_a_row_inside_a_strip(rt: HostRuntime) -> Result<(), Fail> {
+    let mut reader = StripReader::new(rt.alloc(), &SAME_ROW, form_of(Coding::Mr, 1))?;
+    let mut reference = Row::white(rt.alloc(), 8)?;
+    assert!(rt; reference.set_runs(&[3, 2, 3]));
+    reader.restart_at(&TWO_ROWS, 2, 1, 23, &reference);
+    assert_eq!(rt; reader.bit_place(), 23);
+    assert_eq!(rt;
+        reader.reference().runs(rt.alloc())?.as_slice(),
+        [3u32, 2, 3].as_slice()
+    );
+    expect_row(&rt, rt.alloc(), &mut reader, &[3, 2, 3], 39)?;
+    expect_row(&rt, rt.alloc(), &mut reader, &[], 39)?;
+    assert_eq!(rt; reader.rows_read(), 1);
+    Ok(())
+}
+
+#[test]
+fn stays_before_a_row_at_fault(rt: HostRuntime) -> Result<(), Fail> {
+    // The second row lacks its codes.
+    let mut reader = StripReader::new(rt.alloc(), &TWO_ROWS[..4], form_of(Coding::Mr, 2))?;
+    expect_row(&rt, rt.alloc(), &mut reader, &[3, 2, 3], 23)?;
+    assert_eq!(rt; reader.advance(), Err(StripFault::DataEnds));
+    assert_eq!(rt; reader.bit_place(), 23);
+    assert_eq!(rt;
+        reader.reference().runs(rt.alloc())?.as_slice(),
+        [3u32, 2, 3].as_slice()
+    );
+    Ok(())
+}

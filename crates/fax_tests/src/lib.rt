@@ -6,6 +6,8 @@ mod conversion;
 #[cfg(test)]
 mod files;
 #[cfg(test)]
+mod long_cursors;
+#[cfg(test)]
 mod pbm;
 #[cfg(test)]
 mod reports;

@@ -1,11 +1,15 @@
 -- What the commands that print lines leave where they are refused.
-use Rattle.std.proofs.Common.{◌≡◌, ℕ, ◌≤◌, List, [], ◌++◌, map, inl, inr, refl, sym, ◌∙◌, arith}
+use Rattle.std.proofs.Common.{◌≡◌, ℕ, ◌≤◌, List, [], ◌++◌, map, Bool, true, false, inl, inr, refl, sym, ◌∙◌, subst, arith}
 use Rattle.std.specs.Prelude.{Option, Some, None, IfSome, ◌⊎◌}
 use Rattle.std.specs.Io.KnownBytes.{Appends}
 use Rattle.fax_walk.specs.declared.cursor.Cursor.{Cursor}
 use Rattle.fax_walk.specs.declared.end.End.{End}
 use Rattle.fax_walk.specs.Laws.{CursorsHaveOneTail, CursorsHaveOneFormTail}
-use Rattle.fax_walk.specs.code.Due.{walk_from}
+use Rattle.fax_walk.specs.LongLaws.{PlacesHaveOneTail}
+use Rattle.fax_walk.specs.LongTail.{begins_at}
+use Rattle.fax_walk.specs.declared.begun.Begun.{Begun}
+use Rattle.fax_walk.specs.declared.begun.Begun.TheVariants.{At, Inside}
+use Rattle.fax_walk.specs.code.Due.{WalkState, walk_begun}
 use Rattle.fax_walk.specs.code.Pages.{pages_from}
 use Rattle.fax_tool.specs.declared.refusal.Refusal.{Refusal}
 use Rattle.fax_tool.specs.declared.refusal.Refusal.TheVariants.{Memory, Read, Write}
@@ -13,9 +17,11 @@ use Rattle.fax_tool.specs.declared.words.Command.TheVariants.{List as Forms, Row
 use Rattle.fax_tool.specs.declared.words.Part.{Part}
 use Rattle.fax_tool.specs.Streams.{Counts}
 use Rattle.fax_tool.specs.Text.{Line, Printed, next_line, line_of_row, line_of_page}
-use Rattle.fax_tool.specs.Run.{AreRowLines, ArePageLines, HasReason, IsTextOfFirst, IsTextOfLines, LeavesText}
-use Rattle.fax_tool.specs.code.Outcome.{IsStopped}
-use Rattle.fax_tool.specs.code.Printing.{AreRowsDue, ArePagesDue, StopsAtBeginning, StopsPrinting}
+use Rattle.fax_tool.specs.Run.{AreRowLines, ArePageLines, HasReason, IsTextOfFirst, IsTextOfLines, IsTextOfRows, LeavesText, begun_of}
+use Rattle.fax_tool.specs.code.Outcome.{IsStopped, WritesOutput, fault_of}
+use Rattle.fax_tool.specs.code.Printing.{AreRowsDue, ArePagesDue, PrintsRows, StopsAtBeginning, StopsPrinting, StopsRows}
+use Rattle.fax_tool.proofs.LongTextLemmas.{long_text}
+use Rattle.fax_tool.proofs.TextLemmas.{rows_of_file}
 
 -- what printing of lines leaves where it is refused
 abbrev LeavesLines : (List Line → End → Type 0) → Cursor → Option ℕ → Refusal → Option (List ℕ) → Option (List ℕ) → Type 0
@@ -26,12 +32,15 @@ LeavesLines are_lines at max Write output new_output =
     (text : List ℕ) × ((rest : List ℕ) × (((printed : Printed) × IsTextOfLines are_lines at max printed × (text ++ rest ≡ printed.output))
     ⊎ IsTextOfFirst are_lines at max (text ++ rest))) × Appends output new_output text
 
-rows_left : (file : List ℕ) (part : Part) (refusal : Refusal) (output new_output : Option (List ℕ))
-    → LeavesLines (AreRowLines file part.cursor) part.cursor part.max refusal output new_output
+-- what printing of rows leaves, where no long cursors are printed
+rows_left : (file : List ℕ) (part : Part) (refusal : Refusal) (output new_output : Option (List ℕ)) → part.long ≡ false
+    → LeavesLines (AreRowLines file (begun_of part)) (begins_at (begun_of part)) part.max refusal output new_output
     → LeavesText refusal (Rows part) file output new_output
-rows_left file part Memory output new_output leaves = leaves
-rows_left file part Read output new_output leaves = leaves
-rows_left file part Write output new_output leaves = leaves
+rows_left file part Memory output new_output short leaves = leaves
+rows_left file part Read output new_output short leaves = leaves
+rows_left file part Write output new_output short (text, (rest, inl (printed, is, same)), moved) =
+    (text, (rest, inl (printed, subst (λ long. IsTextOfRows long file (begun_of part) part.max printed) (sym short) is, same)), moved)
+rows_left file part Write output new_output short (text, (rest, inr first), moved) = (text, (rest, inr first), moved)
 
 pages_left : (file : List ℕ) (part : Part) (refusal : Refusal) (output new_output : Option (List ℕ))
     → LeavesLines (ArePageLines file part.cursor) part.cursor part.max refusal output new_output
@@ -102,16 +111,36 @@ pub if_same : {A : Type 0} (P : A → Type 0) (left : Option A) (file : A) → I
 if_same P None file same holds = tt
 if_same P (Some x) file same holds = rw (← same) holds
 
-pub rows_stopped_at_beginning : CursorsHaveOneTail → (left : Option (List ℕ)) (part : Part) (refusal : Refusal) (input : Counts) (taken : ℕ)
-    (counts : Counts) (output new_output : Option (List ℕ)) → StopsAtBeginning refusal part.cursor input taken output new_output counts
+-- what follows what was begun, with its end
+rows_of : CursorsHaveOneTail → PlacesHaveOneTail → (file : List ℕ) (begun : Begun)
+    → (lines : List Line) × (end : End) × AreRowLines file begun lines end
+rows_of cursors places file (At at) =
+    let one = cursors file at in
+    (map line_of_row one.items, one.end, record { items = one.items; tail = one.is; lines_are = refl })
+rows_of cursors places file (Inside place) =
+    let one = places file place in
+    (map line_of_row one.items, one.end, record { items = one.items; tail = one.is; lines_are = refl })
+
+rows_left_at_beginning : (file : List ℕ) (part : Part) (refusal : Refusal) (input : Counts) (taken : ℕ)
+    (output new_output : Option (List ℕ)) (counts : Counts)
+    → ((lines : List Line) × (end : End) × AreRowLines file (begun_of part) lines end)
+    → StopsAtBeginning refusal (begins_at (begun_of part)) input taken output new_output counts
+    → LeavesText refusal (Rows part) file output new_output
+rows_left_at_beginning file part Memory input taken output new_output counts all stops =
+    (next_line (begins_at (begun_of part)), of_none (AreRowLines file (begun_of part)) (begins_at (begun_of part)) part.max all, stops)
+rows_left_at_beginning file part Read input taken output new_output counts all stops = ([], refl, stops.1)
+rows_left_at_beginning file part Write input taken output new_output counts all stops =
+    let front = stops.front in
+    (front.front, (front.rest, inr (rw (← front.parts) (of_none (AreRowLines file (begun_of part)) (begins_at (begun_of part)) part.max all))), front.written)
+
+pub rows_stopped_at_beginning : CursorsHaveOneTail → PlacesHaveOneTail → (left : Option (List ℕ)) (part : Part) (refusal : Refusal)
+    (input : Counts) (taken : ℕ) (counts : Counts) (output new_output : Option (List ℕ))
+    → StopsAtBeginning refusal (begins_at (begun_of part)) input taken output new_output counts
     → IsStopped (Rows part) left refusal input taken counts output new_output
-rows_stopped_at_beginning one_tail left part refusal input taken counts output new_output stops = record {
-  reason = reason_at_beginning part.cursor refusal input taken output new_output counts stops;
+rows_stopped_at_beginning cursors places left part refusal input taken counts output new_output stops = record {
+  reason = reason_at_beginning (begins_at (begun_of part)) refusal input taken output new_output counts stops;
   leaves = if_some (λ file. LeavesText refusal (Rows part) file output new_output) left (λ file.
-      let one = one_tail file part.cursor in
-      rows_left file part refusal output new_output
-      (left_at_beginning (AreRowLines file part.cursor) part.cursor part.max refusal input taken output new_output counts
-      (map line_of_row one.items, one.end, record { items = one.items; tail = one.is; lines_are = refl }) stops));
+      rows_left_at_beginning file part refusal input taken output new_output counts (rows_of cursors places file (begun_of part)) stops);
 }
 
 pub pages_stopped_at_beginning : CursorsHaveOneFormTail → (left : Option (List ℕ)) (part : Part) (refusal : Refusal) (input : Counts)
@@ -127,16 +156,76 @@ pages_stopped_at_beginning one_tail left part refusal input taken counts output 
       (map line_of_page one.items, one.end, record { items = one.items; tail = one.is; lines_are = refl }) stops));
 }
 
+reason_of_rows : (long : Bool) (walk : WalkState) (max : Option ℕ) (refusal : Refusal) (input : Counts) (taken : ℕ)
+    (output new_output : Option (List ℕ)) (counts : Counts) → StopsRows long walk max refusal output new_output counts
+    → HasReason refusal input taken counts
+reason_of_rows false walk max refusal input taken output new_output counts stops =
+    reason_of_printing (AreRowsDue walk) walk.cursor max refusal input taken output new_output counts stops
+reason_of_rows true walk max Memory input taken output new_output counts stops = tt
+reason_of_rows true walk max Read input taken output new_output counts stops = absurd stops
+reason_of_rows true walk max Write input taken output new_output counts stops = stops.0
+
+module _ (file : List ℕ) (part : Part) where
+  lines_of : (lines : List Line) (end : End) → AreRowsDue (walk_begun file (begun_of part)) lines end → AreRowLines file (begun_of part) lines end
+  lines_of lines end due = record { items = due.items; tail = due.due; lines_are = due.lines_are }
+
+  first_rows : (text : List ℕ)
+      → IsTextOfFirst (AreRowsDue (walk_begun file (begun_of part))) (begins_at (begun_of part)) part.max text
+      → IsTextOfFirst (AreRowLines file (begun_of part)) (begins_at (begun_of part)) part.max text
+  first_rows text first =
+      first_of (AreRowsDue (walk_begun file (begun_of part))) (AreRowLines file (begun_of part)) (begins_at (begun_of part)) part.max text lines_of first
+
+  rows_leave : (long : Bool) → part.long ≡ long → (refusal : Refusal) (output new_output : Option (List ℕ)) (counts : Counts)
+      → StopsRows long (walk_begun file (begun_of part)) part.max refusal output new_output counts
+      → LeavesText refusal (Rows part) file output new_output
+  rows_leave false is refusal output new_output counts stops =
+      rows_left file part refusal output new_output is
+      (left_by_printing (AreRowsDue (walk_begun file (begun_of part))) (AreRowLines file (begun_of part)) (begins_at (begun_of part)) part.max
+      refusal output new_output counts lines_of stops)
+  rows_leave true is Memory output new_output counts (text, first, moved) = (text, first_rows text first, moved)
+  rows_leave true is Read output new_output counts stops = absurd stops
+  rows_leave true is Write output new_output counts (failed, (text, inl (ending, long), front)) =
+      let told = long_text file (begun_of part) part.max ending text long in
+      (
+        front.front,
+        (front.rest, inl (told.printed, subst (λ long. IsTextOfRows long file (begun_of part) part.max told.printed) (sym is) told.is, sym front.parts ∙ told.output)),
+        front.written,
+      )
+  rows_leave true is Write output new_output counts (failed, (text, inr first, front)) =
+      (front.front, (front.rest, inr (rw (← front.parts) (first_rows text first))), front.written)
+
 pub rows_stopped : (left : Option (List ℕ)) (file : List ℕ) (part : Part) (refusal : Refusal) (input : Counts) (taken : ℕ)
     (counts : Counts) (output new_output : Option (List ℕ)) → IfSome left (λ bytes. file ≡ bytes)
-    → StopsPrinting (AreRowsDue (walk_from file part.cursor)) part.cursor part.max refusal output new_output counts
+    → StopsRows part.long (walk_begun file (begun_of part)) part.max refusal output new_output counts
     → IsStopped (Rows part) left refusal input taken counts output new_output
 rows_stopped left file part refusal input taken counts output new_output same stops = record {
-  reason = reason_of_printing (AreRowsDue (walk_from file part.cursor)) part.cursor part.max refusal input taken output new_output counts stops;
-  leaves = if_same (λ bytes. LeavesText refusal (Rows part) bytes output new_output) left file same (rows_left file part refusal output new_output
-      (left_by_printing (AreRowsDue (walk_from file part.cursor)) (AreRowLines file part.cursor) part.cursor part.max refusal output new_output counts
-      (λ lines end due. record { items = due.items; tail = due.due; lines_are = due.lines_are }) stops));
+  reason = reason_of_rows part.long (walk_begun file (begun_of part)) part.max refusal input taken output new_output counts stops;
+  leaves = if_same (λ bytes. LeavesText refusal (Rows part) bytes output new_output) left file same
+      (rows_leave file part part.long refl refusal output new_output counts stops);
 }
+
+rows_written : (file : List ℕ) (part : Part) (ending : Option End) (output new_output : Option (List ℕ)) (long : Bool) → part.long ≡ long
+    → PrintsRows long (walk_begun file (begun_of part)) part.max ending output new_output
+    → WritesOutput (Rows part) file output new_output (fault_of ending)
+rows_written file part ending output new_output false is prints = rows_of_file file part ending output new_output is prints
+rows_written file part ending output new_output true is (text, long, moved) =
+    let told = long_text file (begun_of part) part.max ending text long in
+    record {
+      printed = told.printed;
+      is = subst (λ long. IsTextOfRows long file (begun_of part) part.max told.printed) (sym is) told.is;
+      output_is = rw told.output at moved;
+      error_is = told.error;
+      status_is = told.status;
+    }
+
+-- the rows of an input
+pub rows_printed : (left : Option (List ℕ)) (file : List ℕ) (part : Part) (ending : Option End)
+    (output new_output : Option (List ℕ)) → IfSome left (λ bytes. file ≡ bytes)
+    → PrintsRows part.long (walk_begun file (begun_of part)) part.max ending output new_output
+    → IfSome left (λ bytes. WritesOutput (Rows part) bytes output new_output (fault_of ending))
+rows_printed left file part ending output new_output same prints =
+    if_same (λ bytes. WritesOutput (Rows part) bytes output new_output (fault_of ending)) left file same
+    (rows_written file part ending output new_output part.long refl prints)
 
 pub pages_stopped : (left : Option (List ℕ)) (file : List ℕ) (part : Part) (refusal : Refusal) (input : Counts) (taken : ℕ)
     (counts : Counts) (output new_output : Option (List ℕ)) → IfSome left (λ bytes. file ≡ bytes)

@@ -1,7 +1,7 @@
 pub mod TransferLemmas
 pub mod PrintLemmas
 pub mod LineLemmas
-pub mod OutsideLemmas
+pub mod LongTextLemmas
 pub mod TextLemmas
 pub mod RunLemmas
 pub mod ReportLemmas

@@ -1,5 +1,5 @@
 -- Lines of rows and of pages, one after another.
-use Rattle.std.proofs.Common.{◌≡◌, [], ◌∷◌, refl, ap}
+use Rattle.std.proofs.Common.{◌≡◌, ℕ, List, [], ◌∷◌, ◌++◌, length, map, refl, ap, sym, ◌∙◌, arith, length-append}
 use Rattle.std.specs.Prelude.{Some, None, Err}
 use Rattle.fax_walk.specs.declared.end.End.{End}
 use Rattle.fax_walk.specs.declared.end.WalkFault.{WalkFault}
@@ -9,12 +9,27 @@ use Rattle.fax_walk.specs.Forms.{FormItem}
 use Rattle.fax_walk.specs.code.Due.{WalkState, places_left}
 use Rattle.fax_walk.specs.code.Next.{HandsOut, HasEnded, IsNext}
 use Rattle.fax_walk.specs.code.Pages.{PagesState, HandsOutPage, PagesHaveEnded, IsNextPage, pages_left}
-use Rattle.fax_tool.specs.Text.{line_of_row, line_of_page}
-use Rattle.fax_tool.specs.code.Printing.{AreRowsDue, ArePagesDue, PutsLine, end_of}
+use Rattle.fax_walk.specs.declared.begun.Begun.{Begun}
+use Rattle.fax_tool.specs.Text.{Line, line_of_row, line_of_page}
+use Rattle.fax_tool.specs.code.Printing.{AreRowsDue, ArePagesDue, Said, HasSaid, PutsLine, end_of}
+
+-- one row more was handed out
+row_said : (old new : WalkState) (item : Item) → HandsOut old item new
+    → (file : List ℕ) (begun : Begun) (lines : List Line) → HasSaid old file begun lines → HasSaid new file begun (lines ++ line_of_row item ∷ [])
+row_said old new item hands file begun lines said = record {
+  same_file = hands.file ∙ said.same_file;
+  same_begun = hands.begun ∙ said.same_begun;
+  count = omega (arith, length-append lines (line_of_row item ∷ []), hands.one_more, said.count);
+}
+
+-- nothing is told of pages
+abbrev pub said_no_more : Said
+said_no_more file begun lines = Unit {0}
 
 pub row_put : (old new : WalkState) (item : Item) → HandsOut old item new
-    → PutsLine (AreRowsDue old) (AreRowsDue new) (line_of_row item) new.cursor (places_left old) (places_left new)
+    → PutsLine (AreRowsDue old) (AreRowsDue new) (HasSaid old) (HasSaid new) (line_of_row item) new.cursor (places_left old) (places_left new)
 row_put old new item hands = record {
+  said = λ file begun lines said. row_said old new item hands file begun lines said;
   due = λ lines end due. record {
     items = item ∷ due.items;
     due = hands.due due.items end due.due;
@@ -25,8 +40,9 @@ row_put old new item hands = record {
 }
 
 pub page_put : (old new : PagesState) (item : FormItem) → HandsOutPage old item new
-    → PutsLine (ArePagesDue old) (ArePagesDue new) (line_of_page item) new.cursor (pages_left old) (pages_left new)
+    → PutsLine (ArePagesDue old) (ArePagesDue new) said_no_more said_no_more (line_of_page item) new.cursor (pages_left old) (pages_left new)
 page_put old new item hands = record {
+  said = λ file begun lines said. tt;
   due = λ lines end due. record {
     items = item ∷ due.items;
     due = hands.due due.items end due.due;
@@ -36,9 +52,21 @@ page_put old new item hands = record {
   fewer = hands.fewer;
 }
 
-pub rows_ended : (old new : WalkState) (end : End) → HasEnded old end new → AreRowsDue old [] end × (new.cursor ≡ old.cursor)
-rows_ended old new end ended =
-    (record { items = []; due = ended.due; lines_are = refl }, ap (λ (walk : WalkState). walk.cursor) ended.same)
+-- what a walk told before its end it tells still
+abbrev pub StillSaid : WalkState → WalkState → Type 0
+StillSaid old new = (file : List ℕ) (begun : Begun) (lines : List Line) → HasSaid old file begun lines → HasSaid new file begun lines
+
+pub rows_ended : (old new : WalkState) (end : End) → HasEnded old end new
+    → AreRowsDue old [] end × (new.cursor ≡ old.cursor) × StillSaid old new
+rows_ended old new end ended = (
+  record { items = []; due = ended.due; lines_are = refl },
+  ap (λ (walk : WalkState). walk.cursor) ended.same,
+  λ file begun lines said. rw ended.same (record {
+    same_file = said.same_file;
+    same_begun = said.same_begun;
+    count = said.count;
+  }),
+)
 
 pub pages_ended : (old new : PagesState) (end : End) → PagesHaveEnded old end new → ArePagesDue old [] end × (new.cursor ≡ old.cursor)
 pages_ended old new end ended = (record { items = []; due = ended.due; lines_are = refl }, ended.cursor)
@@ -50,7 +78,7 @@ none_is : {a : End} → None ≡ Some a → ⊥
 none_is e = cc e
 
 pub rows_refused : (old new : WalkState) (fault : WalkFault) (end : End) → IsNext old (Err fault) new → end_of fault ≡ Some end
-    → AreRowsDue old [] end × (new.cursor ≡ old.cursor)
+    → AreRowsDue old [] end × (new.cursor ≡ old.cursor) × StillSaid old new
 rows_refused old new (AtRow page row cause) end ended is = rows_ended old new end (rw (some_is is) at ended)
 rows_refused old new CursorOutside end ended is = rows_ended old new end (rw (some_is is) at ended)
 rows_refused old new Memory end ended is = absurd (none_is is)
@@ -59,4 +87,4 @@ pub pages_refused : (old new : PagesState) (fault : WalkFault) (end : End) → I
     → ArePagesDue old [] end × (new.cursor ≡ old.cursor)
 pages_refused old new (AtRow page row cause) end ended is = pages_ended old new end (rw (some_is is) at ended)
 pages_refused old new CursorOutside end ended is = pages_ended old new end (rw (some_is is) at ended)
-pages_refused old new Memory end ended is = absurd ended
+pages_refused old new Memory end ended is = absurd (none_is is)

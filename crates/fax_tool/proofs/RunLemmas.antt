@@ -5,13 +5,13 @@ use Rattle.std.specs.Prelude.{Option, Some, None, nat_le, codes}
 use Rattle.fax_walk.specs.declared.cursor.Cursor.{Cursor}
 use Rattle.fax_walk.specs.declared.end.End.{End}
 use Rattle.fax_walk.specs.declared.end.End.TheVariants.{Proper, Fault, Outside}
+use Rattle.fax_walk.specs.declared.begun.Begun.TheVariants.{At}
 use Rattle.fax_walk.specs.Items.{Item}
 use Rattle.fax_walk.specs.Tail.{IsTail, behind_item}
 use Rattle.fax_walk.specs.Laws.{CursorsHaveOneTail, TailBehindItem}
 use Rattle.fax_tool.specs.Run.{AreRowLines}
 use Rattle.fax_tool.specs.Text.{Line, Printed, line_of_row, texts_of, last_cursor, next_line, output_of, text_of, whole_text}
 use Rattle.fax_tool.specs.Laws.{printed_lines, is_cut, IsRun, AreRuns, AreAsOneRun, RunsGoOn}
-use Rattle.fax_tool.proofs.OutsideLemmas.{row_lines_outside}
 
 texts_of-append : (xs ys : List Line) → texts_of (xs ++ ys) ≡ texts_of xs ++ texts_of ys
 texts_of-append [] ys = refl
@@ -31,16 +31,15 @@ parts lines None = append-nil lines
 parts lines (Some limit) = take-append-drop limit lines
 
 -- an output behind lines that were printed before
-output_behind : (xs ys : List Line) (end : End) (at : Cursor) → (end ≡ Outside → xs ++ ys ≡ [])
+output_behind : (xs ys : List Line) (end : End) (at : Cursor)
     → texts_of xs ++ output_of ys end (last_cursor at xs) ≡ output_of (xs ++ ys) end at
-output_behind xs ys Proper at none =
+output_behind xs ys Proper at =
     sym (append_assoc (texts_of xs) (texts_of ys) (codes "end\n")) ∙ ap (λ text. text ++ codes "end\n") (sym (texts_of-append xs ys))
-output_behind xs ys (Fault page row cause) at none =
+output_behind xs ys (Fault page row cause) at =
     sym (append_assoc (texts_of xs) (texts_of ys) (next_line (last_cursor (last_cursor at xs) ys)))
     ∙ ap (λ text. text ++ next_line (last_cursor (last_cursor at xs) ys)) (sym (texts_of-append xs ys))
     ∙ ap (λ place. texts_of (xs ++ ys) ++ next_line place) (sym (last_cursor-append at xs ys))
-output_behind [] ys Outside at none = refl
-output_behind (x ∷ xs) ys Outside at none = let bad : x ∷ (xs ++ ys) ≡ [] = none refl in absurd (cc bad)
+output_behind xs ys Outside at = sym (texts_of-append xs ys)
 
 not_cut : (lines : List Line) (end : End) (at : Cursor) (max : Option ℕ) → is_cut lines max ≡ false
     → text_of lines end at max ≡ whole_text lines end at
@@ -55,7 +54,7 @@ module _ (one_tail : CursorsHaveOneTail) (behind : TailBehindItem) (file : List 
   items_behind at (x ∷ xs) ys end tail = items_behind (behind_item x) xs ys end (behind file at [] (xs ++ ys) x end tail)
 
   behind_limit : (at : Cursor) (limit : ℕ) (items : List Item) (end : End) → IsTail file at items end
-      → AreRowLines file (last_cursor at (take limit (map line_of_row items))) (drop limit (map line_of_row items)) end
+      → AreRowLines file (At (last_cursor at (take limit (map line_of_row items)))) (drop limit (map line_of_row items)) end
   behind_limit at limit items end tail =
       let split : IsTail file at (take limit items ++ drop limit items) end = rw (take-append-drop limit items) tail in
       record {
@@ -65,17 +64,17 @@ module _ (one_tail : CursorsHaveOneTail) (behind : TailBehindItem) (file : List 
       }
 
   behind_all : (at : Cursor) (items : List Item) (end : End) → IsTail file at items end
-      → AreRowLines file (last_cursor at (map line_of_row items)) [] end
+      → AreRowLines file (At (last_cursor at (map line_of_row items))) [] end
   behind_all at items end tail =
       let split : IsTail file at (items ++ []) end = rw (append-nil items) tail in
       record { items = []; tail = items_behind at items [] end split; lines_are = refl }
 
-  left_behind : (at : Cursor) (max : Option ℕ) (lines : List Line) (end : End) → AreRowLines file at lines end
-      → AreRowLines file (last_cursor at (printed_lines lines max)) (lines_left lines max) end
+  left_behind : (at : Cursor) (max : Option ℕ) (lines : List Line) (end : End) → AreRowLines file (At at) lines end
+      → AreRowLines file (At (last_cursor at (printed_lines lines max))) (lines_left lines max) end
   left_behind at None lines end are = rw are.lines_are (behind_all at are.items end are.tail)
   left_behind at (Some limit) lines end are = rw are.lines_are (behind_limit at limit are.items end are.tail)
 
-  same_lines : (at : Cursor) (lines others : List Line) (end other : End) → AreRowLines file at lines end → AreRowLines file at others other
+  same_lines : (at : Cursor) (lines others : List Line) (end other : End) → AreRowLines file (At at) lines end → AreRowLines file (At at) others other
       → (others ≡ lines) × (other ≡ end)
   same_lines at lines others end other are again =
       let one = one_tail file at in
@@ -84,7 +83,7 @@ module _ (one_tail : CursorsHaveOneTail) (behind : TailBehindItem) (file : List 
       (again.lines_are ∙ ap (λ items. map line_of_row items) (second.0 ∙ sym first.0) ∙ sym are.lines_are, second.1 ∙ sym first.1)
 
   one_run : (at : Cursor) (max : Option ℕ) (rows : List ℕ) (last : Printed) (next : Cursor) (cut : Bool) (lines : List Line) (end : End)
-      → IsRun file at max last rows next cut → AreRowLines file at lines end
+      → IsRun file at max last rows next cut → AreRowLines file (At at) lines end
       → AreAsOneRun [] rows last cut (texts_of lines) (text_of lines end at None)
   one_run at max rows last next cut lines end run are =
       let same = same_lines at lines run.lines end run.end are run.read in
@@ -103,15 +102,13 @@ module _ (one_tail : CursorsHaveOneTail) (behind : TailBehindItem) (file : List 
 
   behind_lines : (at next : Cursor) (limit : Option ℕ) (first others rows : List ℕ) (cut : Bool) (last : Printed) (lines : List Line)
       (end : End) → first ≡ texts_of (printed_lines lines limit) → next ≡ last_cursor at (printed_lines lines limit)
-      → AreRowLines file at lines end
+      → AreRowLines file (At at) lines end
       → AreAsOneRun others rows last cut (texts_of (lines_left lines limit)) (text_of (lines_left lines limit) end next None)
       → AreAsOneRun (first ++ others) rows last cut (texts_of lines) (text_of lines end at None)
   behind_lines at next limit first others rows cut last lines end first_is next_is are all =
       let left = lines_left lines limit in
-      let none : end ≡ Outside → printed_lines lines limit ++ left ≡ [] =
-      λ out. parts lines limit ∙ row_lines_outside file at lines (rw out at are) in
       let whole : first ++ output_of left end next ≡ output_of lines end at =
-      rw (first_is, next_is) (output_behind (printed_lines lines limit) left end at none ∙ ap (λ xs. output_of xs end at) (parts lines limit)) in
+      rw (first_is, next_is) (output_behind (printed_lines lines limit) left end at ∙ ap (λ xs. output_of xs end at) (parts lines limit)) in
       record {
         more = all.more;
         beginning = ap texts_of (sym (parts lines limit)) ∙ texts_of-append (printed_lines lines limit) left
@@ -124,8 +121,8 @@ module _ (one_tail : CursorsHaveOneTail) (behind : TailBehindItem) (file : List 
 
   behind_run : (at : Cursor) (limit : Option ℕ) (text : Printed) (first others rows : List ℕ) (next : Cursor) (was_cut cut : Bool)
       (last : Printed) (lines : List Line) (end : End)
-      → IsRun file at limit text first next was_cut → AreRowLines file at lines end
-      → ((left : List Line) → AreRowLines file next left end → AreAsOneRun others rows last cut (texts_of left) (text_of left end next None))
+      → IsRun file at limit text first next was_cut → AreRowLines file (At at) lines end
+      → ((left : List Line) → AreRowLines file (At next) left end → AreAsOneRun others rows last cut (texts_of left) (text_of left end next None))
       → AreAsOneRun (first ++ others) rows last cut (texts_of lines) (text_of lines end at None)
   behind_run at limit text first others rows next was_cut cut last lines end run are later =
       let same = same_lines at lines run.lines end run.end are run.read in
@@ -135,7 +132,7 @@ module _ (one_tail : CursorsHaveOneTail) (behind : TailBehindItem) (file : List 
       (later (lines_left lines limit) (rw next_is (left_behind at limit lines end are)))
 
   all_runs : (limits : List (Option ℕ)) (at : Cursor) (max : Option ℕ) (before rows : List ℕ) (last : Printed) (cut : Bool)
-      (lines : List Line) (end : End) → AreRuns file at limits max before rows last cut → AreRowLines file at lines end
+      (lines : List Line) (end : End) → AreRuns file at limits max before rows last cut → AreRowLines file (At at) lines end
       → AreAsOneRun before rows last cut (texts_of lines) (text_of lines end at None)
   all_runs [] at max before rows last cut lines end (next, run, before_is) are =
       rw before_is (one_run at max rows last next cut lines end run are)

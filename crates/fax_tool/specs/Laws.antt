@@ -2,6 +2,7 @@
 use Rattle.std.specs.Prelude.{◌≡◌, ℕ, Bool, false, nat_le, List, [], ◌∷◌, ◌++◌, length, take, Option, Some, None}
 use Rattle.fax_walk.specs.declared.cursor.Cursor.{Cursor}
 use Rattle.fax_walk.specs.declared.end.End.{End}
+use Rattle.fax_walk.specs.declared.begun.Begun.TheVariants.{At}
 use Rattle.fax_tool.specs.Text.{Line, Printed, texts_of, last_cursor, next_line, text_of}
 use Rattle.fax_tool.specs.Run.{AreRowLines}
 
@@ -20,7 +21,7 @@ is_cut lines (Some limit) = nat_le limit (length lines)
 pub record IsRun (file : List ℕ) (at : Cursor) (max : Option ℕ) (text : Printed) (rows : List ℕ) (next : Cursor) (cut : Bool) : Type 0 where
   pub lines : List Line
   pub end : End
-  pub read : AreRowLines file at lines end
+  pub read : AreRowLines file (At at) lines end
   pub text_is : text ≡ text_of lines end at max
   pub rows_are : rows ≡ texts_of (printed_lines lines max)
   pub next_is : next ≡ last_cursor at (printed_lines lines max)
@@ -51,5 +52,5 @@ abbrev pub RunsGoOn : Type 0
 RunsGoOn =
     (file : List ℕ) (at : Cursor) (limits : List (Option ℕ)) (max : Option ℕ) (before rows : List ℕ) (last : Printed) (cut : Bool)
     (lines : List Line) (end : End)
-    → AreRuns file at limits max before rows last cut → AreRowLines file at lines end
+    → AreRuns file at limits max before rows last cut → AreRowLines file (At at) lines end
     → AreAsOneRun before rows last cut (texts_of lines) (text_of lines end at None)

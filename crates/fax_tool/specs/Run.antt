@@ -1,10 +1,13 @@
 -- What a run leaves on its streams (this project's profile).
-use Rattle.std.specs.Prelude.{◌≡◌, ℕ, ◌<◌, ◌≤◌, ◌⊎◌, List, [], ◌++◌, length, map, Option, IfSome, codes, ⊤}
+use Rattle.std.specs.Prelude.{◌≡◌, ℕ, ◌<◌, ◌≤◌, ◌⊎◌, Bool, true, false, List, [], ◌++◌, length, map, Option, Some, None, IfSome, codes, ⊤}
 use Rattle.std.specs.Io.KnownBytes.{Appends}
 use Rattle.fax_walk.specs.declared.cursor.Cursor.{Cursor}
 use Rattle.fax_walk.specs.declared.end.End.{End}
 use Rattle.fax_walk.specs.Items.{Item}
-use Rattle.fax_walk.specs.Tail.{IsTail}
+use Rattle.fax_walk.specs.declared.begun.Begun.{Begun}
+use Rattle.fax_walk.specs.declared.begun.Begun.TheVariants.{At, Inside}
+use Rattle.fax_walk.specs.LongCursor.{LongPlace}
+use Rattle.fax_walk.specs.LongTail.{IsTailFrom, IsLongNext, begins_at}
 use Rattle.fax_walk.specs.Forms.{FormItem, IsFormTail}
 use Rattle.fax_walk.specs.Converted.{IsConverted, IsRefused as IsNotConverted}
 use Rattle.fax_walk.specs.Report.{IsReport}
@@ -14,9 +17,10 @@ use Rattle.fax_walk.specs.declared.checking.Report.{Report}
 use Rattle.fax_tool.specs.declared.refusal.Refusal.{Refusal}
 use Rattle.fax_tool.specs.declared.refusal.Refusal.TheVariants.{Memory, Read, Write}
 use Rattle.fax_tool.specs.declared.words.Command.{Command}
+use Rattle.fax_tool.specs.declared.words.Part.{Part}
 use Rattle.fax_tool.specs.declared.words.Command.TheVariants.{List as Forms, Rows, Convert, Check}
 use Rattle.fax_tool.specs.Streams.{Counts}
-use Rattle.fax_tool.specs.Text.{Line, Printed, texts_of, last_cursor, next_line, text_of, line_of_row, line_of_page, convert_fault_line}
+use Rattle.fax_tool.specs.Text.{Line, Printed, texts_of, last_cursor, next_line, text_of, long_text_of, up_to, names_next, line_of_row, line_of_page, convert_fault_line}
 use Rattle.fax_tool.specs.ReportText.{report_text}
 
 -- so many interrupted calls of a stream are made again (this project's profile)
@@ -54,10 +58,11 @@ pub record AppendsText (text : Printed) (output new_output error new_error : Opt
   pub error_is : Appends error new_error text.error
   pub status_is : status ≡ text.status
 
--- these lines and this end are what follows a cursor in a file: the lines of its rows (this project's profile)
-pub record AreRowLines (file : List ℕ) (at : Cursor) (lines : List Line) (end : End) : Type 0 where
+-- these lines and this end are what follows a cursor, or a place inside a strip, in a file: the lines of its rows
+-- (this project's profile)
+pub record AreRowLines (file : List ℕ) (begun : Begun) (lines : List Line) (end : End) : Type 0 where
   pub items : List Item
-  pub tail : IsTail file at items end
+  pub tail : IsTailFrom file begun items end
   pub lines_are : lines ≡ map line_of_row items
 
 -- these lines and this end are what follows a cursor in a file: the lines of its pages (this project's profile)
@@ -80,6 +85,30 @@ pub record IsTextOfFirst (are_lines : List Line → End → Type 0) (at : Cursor
   pub within : IfSome max (λ limit. length lines ≤ limit)
   pub output_is : output ≡ texts_of lines ++ next_line (last_cursor at lines)
 
+-- The text of the rows behind a cursor or a place inside a strip, up to a limit, and of their end, that names the place
+-- inside a strip behind the rows that are written, where there is one (this project's profile)
+pub record IsLongText (file : List ℕ) (begun : Begun) (max : Option ℕ) (printed : Printed) : Type 0 where
+  pub items : List Item
+  pub end : End
+  pub tail : IsTailFrom file begun items end
+  pub place : Option LongPlace
+  pub place_is : names_next (map line_of_row items) end max ≡ true → IsLongNext file begun (up_to max items) place
+  pub text_is : printed ≡ long_text_of (map line_of_row items) end place (begins_at begun) max
+
+-- the text of these rows, with long cursors or without (this project's profile)
+abbrev pub IsTextOfRows : Bool → List ℕ → Begun → Option ℕ → Printed → Type 0
+IsTextOfRows false file begun max printed = IsTextOfLines (AreRowLines file begun) (begins_at begun) max printed
+IsTextOfRows true file begun max printed = IsLongText file begun max printed
+
+-- what the rows begin with: the place inside a strip, where one is named, else the cursor (this project's profile)
+abbrev pub begun_at : Option LongPlace → Cursor → Begun
+begun_at None at = At at
+begun_at (Some place) at = Inside place
+
+-- what the rows of a part begin with (this project's profile)
+abbrev pub begun_of : Part → Begun
+begun_of part = begun_at part.from part.cursor
+
 -- what is written of a file that is converted, or is not (this project's profile)
 abbrev pub IsConversionText : Options → List ℕ → Printed → Type 0
 IsConversionText options file printed =
@@ -90,14 +119,15 @@ IsConversionText options file printed =
 -- what a command writes of a file (this project's profile)
 abbrev pub IsTextOf : Command → List ℕ → Printed → Type 0
 IsTextOf (Forms part) file printed = IsTextOfLines (ArePageLines file part.cursor) part.cursor part.max printed
-IsTextOf (Rows part) file printed = IsTextOfLines (AreRowLines file part.cursor) part.cursor part.max printed
+IsTextOf (Rows part) file printed = IsTextOfRows part.long file (begun_of part) part.max printed
 IsTextOf (Convert options) file printed = IsConversionText options file printed
 IsTextOf Check file printed = (report : Report) × IsReport file report × (printed ≡ report_text report)
 
 -- what a command writes of a file where memory is refused (this project's profile)
 abbrev pub IsTextAfterMemory : Command → List ℕ → List ℕ → Type 0
 IsTextAfterMemory (Forms part) file output = IsTextOfFirst (ArePageLines file part.cursor) part.cursor part.max output
-IsTextAfterMemory (Rows part) file output = IsTextOfFirst (AreRowLines file part.cursor) part.cursor part.max output
+IsTextAfterMemory (Rows part) file output =
+    IsTextOfFirst (AreRowLines file (begun_of part)) (begins_at (begun_of part)) part.max output
 IsTextAfterMemory (Convert options) file output = output ≡ []
 IsTextAfterMemory Check file output = output ≡ []
 

@@ -1,5 +1,5 @@
 -- The text of `rows` and `list` (this project's profile).
-use Rattle.std.specs.Prelude.{ℕ, Bool, nat_le, if◌then◌else◌, List, [], ◌∷◌, ◌++◌, flat_map, length, take, Option, Some, None, codes, decimal}
+use Rattle.std.specs.Prelude.{ℕ, Bool, true, false, ◌||◌, nat_le, if◌then◌else◌, List, [], ◌∷◌, ◌++◌, flat_map, length, take, Option, Some, None, codes, decimal}
 use Rattle.fax_rows.specs.Elements.{runs_of}
 use Rattle.fax_page.specs.declared.Coding.{Coding}
 use Rattle.fax_page.specs.declared.Coding.TheVariants.{Mh, Mr, Mmr}
@@ -14,6 +14,7 @@ use Rattle.fax_walk.specs.declared.end.End.TheVariants.{Proper, Fault, Outside}
 use Rattle.fax_walk.specs.declared.options.ConvertFault.{ConvertFault}
 use Rattle.fax_walk.specs.declared.options.ConvertFault.TheVariants.{UnknownInput, Pbm, Source, OutputTooLarge, Memory}
 use Rattle.fax_walk.specs.Cursor.{cursor_text}
+use Rattle.fax_walk.specs.LongCursor.{LongPlace, long_cursor_text}
 use Rattle.fax_walk.specs.Items.{Item}
 use Rattle.fax_walk.specs.Tail.{behind_item}
 use Rattle.fax_walk.specs.Forms.{FormItem, behind_page}
@@ -102,9 +103,18 @@ convert_fault_line (Source page row cause) = fault_line page row cause
 convert_fault_line OutputTooLarge = codes "fault: OutputTooLarge\n"
 convert_fault_line Memory = codes "fault: Memory\n"
 
+-- where to go on: at a place inside a strip, where there is one, else at a cursor (this project's profile)
+abbrev pub next_text : Option LongPlace → Cursor → List ℕ
+next_text None at = cursor_text at
+next_text (Some place) at = long_cursor_text place
+
+-- `next 2:P:R:B:n,n,..`, where there is a place inside a strip, else `next 1:P:R` (this project's profile)
+abbrev pub long_next_line : Option LongPlace → Cursor → List ℕ
+long_next_line place at = codes "next " ++ next_text place at ++ line_end
+
 -- `next 1:P:R` (this project's profile)
 abbrev pub next_line : Cursor → List ℕ
-next_line at = codes "next " ++ cursor_text at ++ line_end
+next_line at = long_next_line None at
 
 -- what a command writes: its output, its error line, and its status (this project's profile)
 pub record Printed : Type 0 where
@@ -112,11 +122,22 @@ pub record Printed : Type 0 where
   pub error : List ℕ
   pub status : ℕ
 
--- all lines, and `end` or where to go on; for a cursor outside of the file nothing (this project's profile)
+-- all lines, and `end` or where to go on, with this place inside a strip behind them, if there is one; nothing more for
+-- a cursor outside of the file, which has no lines (this project's profile)
+abbrev pub long_output_of : List Line → End → Option LongPlace → Cursor → List ℕ
+long_output_of lines Proper place at = texts_of lines ++ codes "end\n"
+long_output_of lines (Fault page row cause) place at = texts_of lines ++ long_next_line place (last_cursor at lines)
+long_output_of lines Outside place at = texts_of lines
+
+-- the same, with a cursor (this project's profile)
 abbrev pub output_of : List Line → End → Cursor → List ℕ
-output_of lines Proper at = texts_of lines ++ codes "end\n"
-output_of lines (Fault page row cause) at = texts_of lines ++ next_line (last_cursor at lines)
-output_of lines Outside at = []
+output_of lines end at = long_output_of lines end None at
+
+-- an end at a fault (this project's profile)
+abbrev pub is_fault : End → Bool
+is_fault Proper = false
+is_fault (Fault page row cause) = true
+is_fault Outside = false
 
 -- the error line of an end (this project's profile)
 abbrev pub error_text : End → List ℕ
@@ -130,17 +151,44 @@ status_of Proper = 0
 status_of (Fault page row cause) = 1
 status_of Outside = 1
 
--- what is written of all lines and their end, from a cursor on (this project's profile)
-abbrev pub whole_text : List Line → End → Cursor → Printed
-whole_text lines end at = record { output = output_of lines end at; error = error_text end; status = status_of end }
+-- what is written of all lines and their end, from a cursor on, with this place inside a strip behind them, if there
+-- is one (this project's profile)
+abbrev pub long_whole_text : List Line → End → Option LongPlace → Cursor → Printed
+long_whole_text lines end place at =
+    record { output = long_output_of lines end place at; error = error_text end; status = status_of end }
 
--- what is written of these lines where no more are to be (this project's profile)
+-- the same, with a cursor (this project's profile)
+abbrev pub whole_text : List Line → End → Cursor → Printed
+whole_text lines end at = long_whole_text lines end None at
+
+-- what is written of these lines where no more are to be, with this place inside a strip behind them, if there is one
+-- (this project's profile)
+abbrev pub long_cut_text : List Line → Option LongPlace → Cursor → Printed
+long_cut_text lines place at =
+    record { output = texts_of lines ++ long_next_line place (last_cursor at lines); error = []; status = 0 }
+
+-- the same, with a cursor (this project's profile)
 abbrev pub cut_text : List Line → Cursor → Printed
-cut_text lines at = record { output = texts_of lines ++ next_line (last_cursor at lines); error = []; status = 0 }
+cut_text lines at = long_cut_text lines None at
 
 -- What is written of lines and their end, from a cursor on: with a limit, and at least so many lines, the first ones
--- up to it and where to go on; else all of them and their end (this project's profile)
+-- up to it and where to go on; else all of them and their end. Behind the lines that are written there is this place
+-- inside a strip, or none (this project's profile)
+abbrev pub long_text_of : List Line → End → Option LongPlace → Cursor → Option ℕ → Printed
+long_text_of lines end place at None = long_whole_text lines end place at
+long_text_of lines end place at (Some limit) =
+    if nat_le limit (length lines) then long_cut_text (take limit lines) place at else long_whole_text lines end place at
+
+-- the same, with a cursor where to go on (this project's profile)
 abbrev pub text_of : List Line → End → Cursor → Option ℕ → Printed
-text_of lines end at None = whole_text lines end at
-text_of lines end at (Some limit) =
-    if nat_le limit (length lines) then cut_text (take limit lines) at else whole_text lines end at
+text_of lines end at max = long_text_of lines end None at max
+
+-- the first of some, up to a limit, if there is one (this project's profile)
+abbrev pub up_to : {A : Type 0} → Option ℕ → List A → List A
+up_to None items = items
+up_to (Some limit) items = take limit items
+
+-- the text names where to go on: a limit cuts the lines, or they end at a fault (this project's profile)
+abbrev pub names_next : List Line → End → Option ℕ → Bool
+names_next lines end (Some limit) = nat_le limit (length lines) || is_fault end
+names_next lines end None = is_fault end

@@ -7,7 +7,7 @@ use Rattle.fax_tool.specs.declared.words.WordsFault.TheVariants.{Usage, NotACurs
 abbrev pub usage_text : List ℕ
 usage_text =
     codes "usage: faxpages list [--cursor C] [--max N] [FILE]\n"
-    ++ codes "       faxpages rows [--cursor C] [--max N] [FILE]\n"
+    ++ codes "       faxpages rows [--cursor C] [--max N] [--long] [FILE]\n"
     ++ codes "       faxpages convert -o pbm|mh|mr|mmr [--order 1|2] [--k K] [--strip ROWS] [--align] [FILE]\n"
     ++ codes "       faxpages check [FILE]\n"
 

@@ -5,7 +5,7 @@ ghost use Rattle.fax_walk.specs.declared.cursor.Cursor.{Cursor as At};
 ghost use Rattle.fax_walk.specs.declared.end.End.{End as TheEnd};
 ghost use Rattle.fax_tool.specs.Text.{Line};
 ghost use Rattle.fax_tool.specs.code.Printing as Spec;
-ghost use Rattle.fax_tool.specs.code.Printing.{IsLinePut};
+ghost use Rattle.fax_tool.specs.code.Printing.{IsLinePut, Said};
 
 use crate::page_line::put_page_line;
 use crate::row_line::put_row_line;
@@ -13,9 +13,12 @@ use fax_bits::Memory;
 use fax_walk::{Cursor, End, Pages, Walk, WalkFault};
 
 /// Lines that are printed one after another. Contracts see which lines are due, and the end behind
-/// them, the cursor that stands before the first of them, and a number that each line makes less.
+/// them, which were told, the cursor that stands before the first of them that is due, and a number
+/// that each line makes less.
 pub trait Lines {
     ghost are_due: { Self → List Line → TheEnd → Type 0 };
+
+    ghost said: { Self → Said };
 
     ghost place: { Self → At };
 
@@ -27,8 +30,8 @@ pub trait Lines {
 
     /// Collects the next line, or answers how the lines ended.
     fn put_next(&mut self, text: &mut String) -> Result<Option<End>, Memory>
-        ensures put { IsLinePut (are_due self.old) (place self.old) (left self.old) (string_bytes text.old) result
-            (are_due self.new) (place self.new) (left self.new) (string_bytes text.new) };
+        ensures put { IsLinePut (are_due self.old) (said self.old) (place self.old) (left self.old) (string_bytes text.old) result
+            (are_due self.new) (said self.new) (place self.new) (left self.new) (string_bytes text.new) };
 
     /// There are lines that are due, and an end. It computes nothing.
     fn have_an_end(&self)
@@ -49,9 +52,11 @@ fn end_of(fault: WalkFault) -> Result<End, Memory>
 /// A line for each row.
 impl Lines for Walk<'_> {
     ghost use Rattle.fax_walk.specs.code.Due.{places_left};
-    ghost use Rattle.fax_tool.specs.code.Printing.{AreRowsDue};
+    ghost use Rattle.fax_tool.specs.code.Printing.{AreRowsDue, HasSaid};
 
     ghost are_due = { λ walk lines end. AreRowsDue walk lines end };
+
+    ghost said = { λ walk. HasSaid walk };
 
     ghost place = { λ walk. walk.cursor };
 
@@ -80,9 +85,12 @@ impl Lines for Walk<'_> {
 /// A line for each page.
 impl Lines for Pages<'_> {
     ghost use Rattle.fax_walk.specs.code.Pages.{pages_left};
+    ghost use Rattle.std.specs.Prelude.{⊤};
     ghost use Rattle.fax_tool.specs.code.Printing.{ArePagesDue};
 
     ghost are_due = { λ pages lines end. ArePagesDue pages lines end };
+
+    ghost said = { λ pages file begun lines. ⊤ };
 
     ghost place = { λ pages. pages.cursor };
 

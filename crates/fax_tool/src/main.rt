@@ -21,7 +21,9 @@ mod transfer;
 mod words;
 
 pub use fax_bits::{FillOrder, Memory};
-pub use fax_walk::{Cause, Cursor, End, FileFault, NotACursor, Options, StripFault, Target};
+pub use fax_walk::{
+    Begun, Cause, Cursor, End, FileFault, LongCursor, NotACursor, Options, StripFault, Target,
+};
 pub use refusal::Refusal;
 pub use run::run;
 use std::fs::File;

@@ -1,13 +1,17 @@
 //! `rows` and `list`: the runs of each row, or the form of each page, line by line.
-ghost use Rattle.std.specs.Prelude.{◌≡◌, ◌++◌, ◌≤◌, ◌-◌, ◌<◌, IfErr, IfOk, IfSome, OnErr, OnOk, [], option_map, vec_len};
+ghost use Rattle.std.specs.Prelude.{◌≡◌, ℕ, ◌++◌, ◌≤◌, ◌-◌, ◌<◌, Option, List};
+ghost use Rattle.std.specs.Prelude.{IfErr, IfOk, IfSome, OnErr, OnOk, [], option_map, vec_len};
 ghost use Rattle.std.specs.Io.KnownBytes.{Appends};
 ghost use Rattle.std.specs.String.{string_bytes};
 ghost use Rattle.fax_tool.specs.code.Outcome.{IsStopped, WritesOutput};
 ghost use Rattle.fax_tool.specs.code.Printing as Spec;
 ghost use Rattle.fax_tool.specs.code.Transfers.{IsGivenInPart, SendsPart, counted};
 ghost use Rattle.fax_tool.specs.Streams.{no_faults};
-ghost use Rattle.fax_tool.specs.Text.{next_line};
-ghost use Rattle.fax_tool.specs.Run.{most_input};
+ghost use Rattle.fax_tool.specs.Text.{next_line, long_next_line};
+ghost use Rattle.fax_tool.specs.Run.{most_input, begun_of};
+ghost use Rattle.fax_walk.specs.LongCursor.{LongPlace};
+ghost use Rattle.fax_walk.specs.LongTail.{begins_at};
+ghost use Rattle.fax_walk.specs.code.Due.{IsLongNow, walk_begun};
 ghost use Rattle.fax_tool.specs.declared.words.Command.TheVariants.{List as Forms, Rows};
 
 use crate::fault::{InputFault, fault_of};
@@ -18,7 +22,7 @@ use crate::transfer::{Interruptions, give_all, read_whole};
 use crate::words::Part;
 use arrayvec::ArrayString;
 use fax_bits::Memory;
-use fax_walk::{Cursor, End, Pages, Walk};
+use fax_walk::{Begun, Cursor, End, Pages, Walk};
 use std::alloc::Global;
 
 /// How many bytes of text are collected, and a line more, before they are written.
@@ -122,8 +126,8 @@ fn collect_next<L: Lines>(
     line: &mut String,
     text: &mut String,
 ) -> Result<Option<End>, Memory>
-    ensures put { Spec.IsLinePut (L.are_due lines.old) (L.place lines.old) (L.left lines.old) (string_bytes text.old) result
-        (L.are_due lines.new) (L.place lines.new) (L.left lines.new) (string_bytes text.new) }
+    ensures put { Spec.IsLinePut (L.are_due lines.old) (L.said lines.old) (L.place lines.old) (L.left lines.old)
+        (string_bytes text.old) result (L.are_due lines.new) (L.said lines.new) (L.place lines.new) (L.left lines.new) (string_bytes text.new) }
     ensures err { OnErr result (string_bytes text.new ≡ string_bytes text.old) }
 {
     line.clear();
@@ -142,10 +146,10 @@ fn print_lines<L: Lines, W: Sink>(
     interruptions: &mut Interruptions,
 ) -> Result<Option<End>, Refusal>
     requires { W.counts out.old ≡ counted interruptions.old }
-    ensures ok { IfOk result (λ ending. Spec.PrintsLines (L.are_due lines.old) (L.place lines.old) max ending
-        (L.place lines.new) (W.written out.old) (W.written out.new)) }
+    ensures ok { IfOk result (λ ending. Spec.PrintsLines (L.are_due lines.old) (L.said lines.old) (L.said lines.new)
+        (L.place lines.old) max ending (L.place lines.new) (W.written out.old) (W.written out.new)) }
     ensures counts { OnOk result (W.counts out.new ≡ counted interruptions.new) }
-    ensures err { IfErr result (λ refusal. Spec.StopsPrinting (L.are_due lines.old) (L.place lines.old) max refusal
+    ensures err { IfErr result (λ refusal. Spec.StopsLines (L.are_due lines.old) (L.place lines.old) max refusal
         (W.written out.old) (W.written out.new) (W.counts out.new)) }
 {
     let mut text = String::new(alloc);
@@ -244,11 +248,126 @@ fn read_or_stop<R: Source, W: Sink>(
     }
 }
 
+/// The line that a run ends with where rows are left, with the long cursor behind the last of them,
+/// where there is one.
+fn long_next_line(alloc: Global, walk: &Walk) -> Result<String, Memory>
+    ensures { IfOk result (λ line. (place : Option LongPlace)
+        × IsLongNow walk.now place × (string_bytes line ≡ long_next_line place walk.now.cursor)) }
+{
+    let mut line = String::from_str(alloc, "next ").map_err(|_| Memory)?;
+    match walk.long_cursor(alloc)? {
+        Some(place) => place.put_text(&mut line)?,
+        None => walk.cursor().put_text(&mut line)?,
+    }
+    line.push_str("\n").map_err(|_| Memory)?;
+    Ok(line)
+}
+
+/// Writes the last line of rows, as `give_last_line`, with the long cursor behind them, where there
+/// is one.
+fn give_long_last_line<W: Sink>(
+    alloc: Global,
+    walk: &Walk,
+    out: &mut W,
+    interruptions: &mut Interruptions,
+    ending: Option<End>,
+) -> Result<(), Refusal>
+    requires { W.counts out.old ≡ counted interruptions.old }
+    ensures ok { OnOk result ((line : List ℕ) × Spec.IsLongLastLine walk.now ending line
+        × Appends (W.written out.old) (W.written out.new) line) }
+    ensures err { IfErr result (λ refusal. Spec.StopsLastLine walk.now ending refusal
+        (W.written out.old) (W.written out.new) (W.counts out.new)) }
+{
+    match ending {
+        Some(End::Proper | End::Outside) => {
+            give_last_line(out, interruptions, ending, walk.cursor())
+        }
+        Some(End::Fault { .. }) | None => match long_next_line(alloc, walk) {
+            Ok(line) => give_all(out, interruptions, line.as_bytes()),
+            Err(Memory) => {
+                let next = next_line(walk.cursor());
+                Err(stop_for_memory(out, interruptions, b"", &next))
+            }
+        },
+    }
+}
+
+/// Prints the rows that are due, up to the limit, and the last line, with a long cursor where there
+/// is one, and answers how the rows ended, or `None` at the limit.
+fn print_long<W: Sink>(
+    alloc: Global,
+    walk: &mut Walk,
+    max: Option<u32>,
+    out: &mut W,
+) -> Result<Option<End>, Refusal>
+    requires counts { W.counts out.old ≡ no_faults }
+    requires fresh { walk.old.given ≡ 0 }
+    ensures ok { IfOk result (λ ending. Spec.PrintsLong walk.old max ending (W.written out.old) (W.written out.new)) }
+    ensures err { IfErr result (λ refusal. Spec.StopsPrintingLong walk.old max refusal
+        (W.written out.old) (W.written out.new) (W.counts out.new)) }
+{
+    let mut interruptions = Interruptions::NONE;
+    let ending = print_lines(alloc, walk, max, out, &mut interruptions)?;
+    give_long_last_line(alloc, walk, out, &mut interruptions, ending)?;
+    Ok(ending)
+}
+
+/// What the rows of a part begin with. Where memory is refused it writes where to go on: there.
+fn begin_or_stop<W: Sink>(part: &Part, out: &mut W) -> Result<Begun, Refusal>
+    requires { W.counts out.old ≡ no_faults }
+    ensures ok { IfOk result (λ begun. begun ≡ begun_of part.now) }
+    ensures unwritten { OnOk result (out.new ≡ out.old) }
+    ensures err { IfErr result (λ refusal. Spec.StopsAtBeginning refusal (begins_at (begun_of part.now)) no_faults 0
+        (W.written out.old) (W.written out.new) (W.counts out.new)) }
+{
+    match part.begun() {
+        Ok(begun) => Ok(begun),
+        Err(Memory) => {
+            let mut interruptions = Interruptions::NONE;
+            let next = next_line(part.begin());
+            Err(stop_for_memory(out, &mut interruptions, b"", &next))
+        }
+    }
+}
+
+/// A walk over the rows of a file that begins so.
+fn walk_of(alloc: Global, file: &[u8], begun: Begun) -> Walk
+    ensures { result ≡ walk_begun file.now begun }
+{
+    match begun {
+        Begun::At(cursor) => Walk::resume(alloc, file, cursor),
+        Begun::Inside(cursor) => Walk::resume_long(alloc, file, cursor),
+    }
+}
+
+/// Prints the rows that are due and the last line, as the part wants them, and answers how the rows
+/// ended, or `None` at the limit.
+fn print_rows<W: Sink>(
+    alloc: Global,
+    part: &Part,
+    walk: &mut Walk,
+    out: &mut W,
+) -> Result<Option<End>, Refusal>
+    requires counts { W.counts out.old ≡ no_faults }
+    requires fresh { walk.old.given ≡ 0 }
+    ensures ok { IfOk result (λ ending. Spec.PrintsRows part.now.long walk.old part.now.max ending
+        (W.written out.old) (W.written out.new)) }
+    ensures err { IfErr result (λ refusal. Spec.StopsRows part.now.long walk.old part.now.max refusal
+        (W.written out.old) (W.written out.new) (W.counts out.new)) }
+{
+    if part.long {
+        print_long(alloc, walk, part.max, out)
+    } else {
+        print_all(alloc, walk, part.max, out)
+    }
+}
+
 /// Reads the input whole and prints the rows of its pages from the cursor on, up to the limit, and
-/// then `end`, or `next` with the place of the row that was due.
+/// then `end`, or `next` with the place of the row that was due: a long cursor where the part asks
+/// for it and there is one.
 pub fn rows<R: Source, W: Sink>(
     alloc: Global,
-    part: Part,
+    part: &Part,
     input: &mut R,
     out: &mut W,
 ) -> Result<Option<InputFault>, Refusal>
@@ -256,14 +375,16 @@ pub fn rows<R: Source, W: Sink>(
     requires taken { R.taken input.old ≡ 0 }
     requires counts { W.counts out.old ≡ no_faults }
     ensures ok { IfOk result (λ fault. IfSome (R.left input.old) (λ file.
-        WritesOutput (Rows part) file (W.written out.old) (W.written out.new) fault)) }
-    ensures err { IfErr result (λ refusal. IsStopped (Rows part) (R.left input.old) refusal
+        WritesOutput (Rows part.now) file (W.written out.old) (W.written out.new) fault)) }
+    ensures err { IfErr result (λ refusal. IsStopped (Rows part.now) (R.left input.old) refusal
         (R.counts input.new) (R.taken input.new) (W.counts out.new) (W.written out.old) (W.written out.new)) }
 {
     fax_walk::laws::cursors_have_one_tail();
-    let file = read_or_stop(alloc, part.cursor, input, out)?;
-    let mut walk = Walk::resume(alloc, &file, part.cursor);
-    let ending = print_all(alloc, &mut walk, part.max, out)?;
+    fax_walk::laws::places_have_one_tail();
+    let begun = begin_or_stop(part, out)?;
+    let file = read_or_stop(alloc, part.begin(), input, out)?;
+    let mut walk = walk_of(alloc, &file, begun);
+    let ending = print_rows(alloc, part, &mut walk, out)?;
     Ok(fault_of(ending))
 }
 
@@ -271,7 +392,7 @@ pub fn rows<R: Source, W: Sink>(
 /// then `end`, or `next` with the place of the page that was due.
 pub fn list<R: Source, W: Sink>(
     alloc: Global,
-    part: Part,
+    part: &Part,
     input: &mut R,
     out: &mut W,
 ) -> Result<Option<InputFault>, Refusal>
@@ -279,8 +400,8 @@ pub fn list<R: Source, W: Sink>(
     requires taken { R.taken input.old ≡ 0 }
     requires counts { W.counts out.old ≡ no_faults }
     ensures ok { IfOk result (λ fault. IfSome (R.left input.old) (λ file.
-        WritesOutput (Forms part) file (W.written out.old) (W.written out.new) fault)) }
-    ensures err { IfErr result (λ refusal. IsStopped (Forms part) (R.left input.old) refusal
+        WritesOutput (Forms part.now) file (W.written out.old) (W.written out.new) fault)) }
+    ensures err { IfErr result (λ refusal. IsStopped (Forms part.now) (R.left input.old) refusal
         (R.counts input.new) (R.taken input.new) (W.counts out.new) (W.written out.old) (W.written out.new)) }
 {
     fax_walk::laws::cursors_have_one_form_tail();

@@ -9,7 +9,7 @@ use fax_rows::{LongestRuns, Row};
 use fax_walk::Place;
 use itoa::Buffer;
 
-/// How many bytes of runs are collected before they are appended.
+/// How many bytes of numbers are collected before they are appended.
 const COLLECTED: usize = 512;
 
 /// Appends a number in decimals.
@@ -46,10 +46,10 @@ fn put_ascii(text: &mut String, bytes: &[u8]) -> Result<(), Memory>
     }
 }
 
-/// Writes a blank and a number below 1,000 at a place, and answers where they end.
+/// Writes a blank and a number below 10,000 at a place, and answers where they end.
 fn write_short(bytes: &mut [u8], at: usize, number: u32) -> usize
-    requires short { number < 1000 }
-    requires room { at + 4 ≤ length bytes.old }
+    requires short { number < 10000 }
+    requires room { at + 5 ≤ length bytes.old }
     ensures written { take result bytes.new ≡ take at bytes.old ++ and_number number }
     ensures within { result ≤ length bytes.new }
 {
@@ -63,14 +63,22 @@ fn write_short(bytes: &mut [u8], at: usize, number: u32) -> usize
         bytes[at + 2] = b'0' + (number % 10) as u8;
         return at + 3;
     }
-    bytes[at + 1] = b'0' + (number / 100) as u8;
-    bytes[at + 2] = b'0' + (number / 10 % 10) as u8;
-    bytes[at + 3] = b'0' + (number % 10) as u8;
-    at + 4
+    if number < 1000 {
+        bytes[at + 1] = b'0' + (number / 100) as u8;
+        bytes[at + 2] = b'0' + (number / 10 % 10) as u8;
+        bytes[at + 3] = b'0' + (number % 10) as u8;
+        return at + 4;
+    }
+    bytes[at + 1] = b'0' + (number / 1000) as u8;
+    bytes[at + 2] = b'0' + (number / 100 % 10) as u8;
+    bytes[at + 3] = b'0' + (number / 10 % 10) as u8;
+    bytes[at + 4] = b'0' + (number % 10) as u8;
+    at + 5
 }
 
 /// Puts a blank and a number behind the first `at` of the bytes that are collected, and answers how
 /// many are collected then. Where there is no room, or the number is long, they are all appended.
+#[inline(always)]
 fn collect(text: &mut String, bytes: &mut [u8], at: usize, number: u32) -> Result<usize, Memory>
     requires within { at ≤ length bytes.old }
     requires ascii { IsAscii (take at bytes.old) }
@@ -79,7 +87,7 @@ fn collect(text: &mut String, bytes: &mut [u8], at: usize, number: u32) -> Resul
     ensures within { IfOk result (λ end. end ≤ length bytes.new) }
     ensures ascii { IfOk result (λ end. IsAscii (take end bytes.new)) }
 {
-    if number < 1000 && bytes.len() - at >= 4 {
+    if number < 10000 && bytes.len() - at >= 5 {
         return Ok(write_short(bytes, at, number));
     }
     put_ascii(text, &bytes[..at])?;
@@ -87,17 +95,19 @@ fn collect(text: &mut String, bytes: &mut [u8], at: usize, number: u32) -> Resul
     Ok(0)
 }
 
-/// Appends the runs of a row, each behind a blank.
-fn put_runs(text: &mut String, row: &Row) -> Result<(), Memory>
-    ensures ok { OnOk result (string_bytes text.new ≡ string_bytes text.old ++ flat_map and_number (runs_of row.now)) }
+/// Appends the first `at` of the bytes that are collected, and the runs of a row, each behind a blank.
+fn put_runs(text: &mut String, bytes: &mut [u8], at: usize, row: &Row) -> Result<(), Memory>
+    requires within { at ≤ length bytes.old }
+    requires ascii { IsAscii (take at bytes.old) }
+    ensures ok { OnOk result (string_bytes text.new ≡ string_bytes text.old
+        ++ (take at bytes.old ++ flat_map and_number (runs_of row.now))) }
 {
-    let mut bytes = [0; COLLECTED];
-    let mut at = 0;
+    let mut end = at;
     let mut runs = LongestRuns::of_row(row);
     while let Some(run) = runs.next_run() {
-        at = collect(text, &mut bytes, at, run)?;
+        end = collect(text, bytes, end, run)?;
     }
-    put_ascii(text, &bytes[..at])
+    put_ascii(text, &bytes[..end])
 }
 
 /// Appends the line of a row: `row P R` and the row's runs.
@@ -107,8 +117,9 @@ pub fn put_row_line(text: &mut String, place: Place, row: &Row) -> Result<(), Me
         ++ row_line_of place.page place.row (runs_of row.now)) }
 {
     put(text, "row")?;
-    put_number(text, place.page)?;
-    put_number(text, place.row)?;
-    put_runs(text, row)?;
+    let mut bytes = [0; COLLECTED];
+    let page_end = collect(text, &mut bytes, 0, place.page)?;
+    let row_end = collect(text, &mut bytes, page_end, place.row)?;
+    put_runs(text, &mut bytes, row_end, row)?;
     put(text, "\n")
 }

@@ -52,7 +52,7 @@ fn report<E: Sink>(outcome: Result<Option<InputFault>, Refusal>, err: &mut E) ->
 /// input, if any.
 fn carry_out<R: Source, W: Sink>(
     alloc: Global,
-    command: Command,
+    command: &Command,
     input: &mut R,
     out: &mut W,
 ) -> Result<Option<InputFault>, Refusal>
@@ -60,14 +60,14 @@ fn carry_out<R: Source, W: Sink>(
     requires taken { R.taken input.old ≡ 0 }
     requires output_counts { W.counts out.old ≡ no_faults }
     ensures ok { IfOk result (λ fault. IfSome (R.left input.old) (λ file.
-        WritesOutput command file (W.written out.old) (W.written out.new) fault)) }
-    ensures err { IfErr result (λ refusal. IsStopped command (R.left input.old) refusal
+        WritesOutput command.now file (W.written out.old) (W.written out.new) fault)) }
+    ensures err { IfErr result (λ refusal. IsStopped command.now (R.left input.old) refusal
         (R.counts input.new) (R.taken input.new) (W.counts out.new) (W.written out.old) (W.written out.new)) }
 {
     match command {
         Command::List(part) => list(alloc, part, input, out),
         Command::Rows(part) => rows(alloc, part, input, out),
-        Command::Convert(options) => convert(alloc, options, input, out),
+        Command::Convert(options) => convert(alloc, *options, input, out),
         Command::Check => check(alloc, input, out),
     }
 }
@@ -97,6 +97,6 @@ pub fn run<R: Source, W: Sink, E: Sink>(
     ensures refused { result ≡ 3 → IsRefused job.now.command (R.left input.old) (R.counts input.new) (R.taken input.new)
         (W.counts out.new) (E.counts err.new) (W.written out.old) (W.written out.new) (E.written err.old) (E.written err.new) }
 {
-    let outcome = carry_out(alloc, job.command, input, out);
+    let outcome = carry_out(alloc, &job.command, input, out);
     report(outcome, err)
 }

@@ -62,30 +62,32 @@ fn prints_pages(rt: HostRuntime) {
     assert_eq!(rt; printed.status, 0);
 }
 
+/// One line, from a row of the first page on.
+fn first_of(row: u32) -> Part {
+    Part {
+        cursor: Cursor { page: 0, row },
+        max: Some(1),
+        long: false,
+        from: None,
+    }
+}
+
 #[test]
 fn looks_no_further_at_the_limit(rt: HostRuntime) {
-    let one = Part {
-        max: Some(1),
-        ..WHOLE
-    };
-    let rows = printed_by(rt.alloc(), Command::Rows(one), &ONE_MH_PAGE);
+    let rows = printed_by(rt.alloc(), Command::Rows(first_of(0)), &ONE_MH_PAGE);
     assert_eq!(rt;
         rows.output.as_slice(),
         b"row 0 0 3 2 3\nnext 1:0:1\n".as_slice()
     );
     assert_eq!(rt; rows.status, 0);
-    let pages = printed_by(rt.alloc(), Command::List(one), &ONE_MH_PAGE);
+    let pages = printed_by(rt.alloc(), Command::List(first_of(0)), &ONE_MH_PAGE);
     assert!(rt; pages.output.as_slice().ends_with(b"\nnext 1:1:0\n"));
     assert_eq!(rt; pages.status, 0);
 }
 
 #[test]
 fn says_that_a_cursor_is_outside(rt: HostRuntime) {
-    let outside = Part {
-        cursor: Cursor { page: 0, row: 2 },
-        max: None,
-    };
-    for command in [Command::Rows(outside), Command::List(outside)] {
+    for command in [Command::Rows(first_of(2)), Command::List(first_of(2))] {
         let printed = printed_by(rt.alloc(), command, &ONE_MH_PAGE);
         assert!(rt; printed.output.is_empty());
         assert_eq!(rt;

@@ -5,20 +5,20 @@ ghost use Rattle.fax_tool.specs.Words.{words_text, words_status};
 
 use clap::error::ErrorKind;
 use clap::{Arg, ArgAction, ArgMatches, value_parser};
-use fax_bits::FillOrder;
-use fax_walk::{Cursor, NotACursor, Options, Target};
+use fax_bits::{FillOrder, Memory};
+use fax_walk::{Begun, Cursor, LongCursor, LongFault, NotACursor, Options, Target};
 use std::alloc::{AllocError, Global};
 use thiserror::Error;
 
 /// What is to be done, and with which file.
-#[derive(Debug, Drop, PartialEq, Eq)]
+#[derive(Debug, Drop)]
 pub struct Job {
     pub command: Command,
     /// The file to read, or `None` for standard input.
     pub file: Option<String>,
 }
 
-#[derive(Clone, Copy, Debug, PartialEq, Eq)]
+#[derive(Debug, Drop)]
 pub enum Command {
     /// Prints the form of each page.
     List(Part),
@@ -31,12 +31,50 @@ pub enum Command {
 }
 
 /// The part of a file's pages or rows that is printed.
-#[derive(Clone, Copy, Debug, PartialEq, Eq)]
+#[derive(Debug, Drop)]
 pub struct Part {
-    /// Where to begin: at page 0, row 0 where no cursor is named.
+    /// Where to begin: at page 0, row 0 where no cursor is named; where a long one is, at its row.
     pub cursor: Cursor,
     /// The most lines of pages or rows, or `None` for all.
     pub max: Option<u32>,
+    /// Whether `next` names a long cursor where there is one. `list` has none.
+    pub long: bool,
+    /// The long cursor to begin at in its strip, if one is named, in place of `cursor`. `list` has
+    /// none.
+    pub from: Option<LongCursor>,
+}
+
+impl Part {
+    ghost use Rattle.fax_walk.specs.LongTail.{begins_at};
+    ghost use Rattle.fax_tool.specs.Run.{begun_of};
+
+    /// The cursor to begin at, of the long cursor where one is named.
+    pub fn begin(&self) -> Cursor
+        ensures { result ≡ begins_at (begun_of self.now) }
+    {
+        match &self.from {
+            Some(from) => from.at,
+            None => self.cursor,
+        }
+    }
+
+    /// What the rows begin with.
+    ///
+    /// # Errors
+    ///
+    /// `Memory` where a growth was refused.
+    pub fn begun(&self) -> Result<Begun, Memory>
+        ensures { IfOk result (λ begun. begun ≡ begun_of self.now) }
+    {
+        match &self.from {
+            Some(from) => Ok(Begun::Inside(LongCursor {
+                at: from.at,
+                bits: from.bits,
+                runs: from.runs.clone().map_err(|_| Memory)?,
+            })),
+            None => Ok(Begun::At(self.cursor)),
+        }
+    }
 }
 
 /// Why no job was made of the words.
@@ -62,7 +100,7 @@ const USUAL_K: u32 = 4;
 /// The four lines of the usage.
 const USAGE: &str = "\
 usage: faxpages list [--cursor C] [--max N] [FILE]
-       faxpages rows [--cursor C] [--max N] [FILE]
+       faxpages rows [--cursor C] [--max N] [--long] [FILE]
        faxpages convert -o pbm|mh|mr|mmr [--order 1|2] [--k K] [--strip ROWS] [--align] [FILE]
        faxpages check [FILE]
 ";
@@ -102,6 +140,15 @@ impl From<NotACursor> for WordsFault {
     }
 }
 
+impl From<LongFault> for WordsFault {
+    fn from(fault: LongFault) -> Self {
+        match fault {
+            LongFault::NotACursor => WordsFault::NotACursor,
+            LongFault::Memory => WordsFault::Memory,
+        }
+    }
+}
+
 /// A command that prints a part of a file, line by line.
 fn printing<'a>(alloc: Global, name: &'a str) -> Result<clap::Command<'a>, AllocError> {
     let max = Arg::new(alloc, "max")
@@ -112,6 +159,14 @@ fn printing<'a>(alloc: Global, name: &'a str) -> Result<clap::Command<'a>, Alloc
         .arg(Arg::new(alloc, "cursor").long("cursor"))?
         .arg(max)?
         .arg(Arg::new(alloc, "FILE"))
+}
+
+/// The command that prints rows.
+fn printing_rows<'a>(alloc: Global) -> Result<clap::Command<'a>, AllocError> {
+    let long = Arg::new(alloc, "long")
+        .long("long")
+        .action(ArgAction::SetTrue);
+    printing(alloc, "rows")?.arg(long)
 }
 
 /// An option with a number from 1 to the most.
@@ -154,7 +209,7 @@ fn command_line<'a>(alloc: Global) -> Result<clap::Command<'a>, AllocError> {
         .disable_help_subcommand(true)
         .subcommand_required(true)
         .subcommand(printing(alloc, "list")?)?
-        .subcommand(printing(alloc, "rows")?)?
+        .subcommand(printing_rows(alloc)?)?
         .subcommand(converting(alloc)?)?
         .subcommand(checking(alloc)?)
 }
@@ -167,8 +222,8 @@ fn file_of(alloc: Global, matches: &ArgMatches) -> Result<Option<String>, AllocE
     }
 }
 
-/// The part that the words behind a command name.
-fn part_of(matches: &ArgMatches) -> Result<Part, NotACursor> {
+/// The part of a file's pages that the words behind `list` name.
+fn pages_of(matches: &ArgMatches) -> Result<Part, NotACursor> {
     let cursor = match matches.get_str("cursor") {
         Some(text) => Cursor::parse(text)?,
         None => Cursor { page: 0, row: 0 },
@@ -176,6 +231,28 @@ fn part_of(matches: &ArgMatches) -> Result<Part, NotACursor> {
     Ok(Part {
         cursor,
         max: matches.get_one::<u32>("max"),
+        long: false,
+        from: None,
+    })
+}
+
+/// The part of a file's rows that the words behind `rows` name, where the cursor may be a long one.
+fn rows_of(alloc: Global, matches: &ArgMatches) -> Result<Part, WordsFault> {
+    let (cursor, from) = match matches.get_str("cursor") {
+        Some(text) => match Cursor::parse(text) {
+            Ok(cursor) => (cursor, None),
+            Err(NotACursor) => {
+                let from = LongCursor::parse(alloc, text)?;
+                (from.at, Some(from))
+            }
+        },
+        None => (Cursor { page: 0, row: 0 }, None),
+    };
+    Ok(Part {
+        cursor,
+        max: matches.get_one::<u32>("max"),
+        long: matches.get_flag("long"),
+        from,
     })
 }
 
@@ -235,8 +312,8 @@ pub fn parse_words(alloc: Global, words: &[&str]) -> Result<Job, WordsFault> {
         return Err(WordsFault::Usage);
     };
     let command = match name {
-        "list" => Command::List(part_of(of_command)?),
-        "rows" => Command::Rows(part_of(of_command)?),
+        "list" => Command::List(pages_of(of_command)?),
+        "rows" => Command::Rows(rows_of(alloc, of_command)?),
         "convert" => Command::Convert(options_of(of_command)?),
         "check" => Command::Check,
         _ => return Err(WordsFault::Usage),

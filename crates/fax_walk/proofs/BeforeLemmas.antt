@@ -4,8 +4,10 @@ use Rattle.std.specs.Prelude.{slice_get}
 use Rattle.fax_files.specs.declared.FileFault.{FileFault}
 use Rattle.fax_files.specs.Numbers.{Header, header}
 use Rattle.fax_files.specs.Laws.{FilesHaveOneChain}
+use Rattle.fax_walk.specs.declared.begun.Begun.{Begun}
+use Rattle.fax_walk.specs.declared.begun.Begun.TheVariants.{At, Inside}
 use Rattle.fax_walk.specs.declared.cursor.Cursor.{Cursor}
-use Rattle.fax_walk.specs.Before.{rows_before_at, AreRowsBefore, AreRowsBeforeUnder}
+use Rattle.fax_walk.specs.Before.{rows_before_at, AreRowsBefore, AreRowsBeforeUnder, AreRowsBeforeBegun}
 
 some_under : FilesHaveOneChain → (file : List ℕ) (at : Cursor) (answer : Result Header FileFault) → (n : ℕ) × AreRowsBeforeUnder file at answer n
 some_under chains file at (Err fault) = (0, refl)
@@ -15,3 +17,7 @@ some_under chains file at (Ok head) =
 
 pub some_before : FilesHaveOneChain → (file : List ℕ) (at : Cursor) → (n : ℕ) × AreRowsBefore file at n
 some_before chains file at = some_under chains file at (header file)
+
+pub some_before_begun : FilesHaveOneChain → (file : List ℕ) (begun : Begun) → (n : ℕ) × AreRowsBeforeBegun file begun n
+some_before_begun chains file (At at) = some_before chains file at
+some_before_begun chains file (Inside place) = (0, refl)

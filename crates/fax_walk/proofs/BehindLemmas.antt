@@ -3,9 +3,10 @@ use Rattle.std.proofs.Common.{◌≡◌, ℕ, zero, suc, ◌+◌, ◌<◌, List,
 use Rattle.std.specs.Prelude.{slice_get, IfOk, IfErr}
 use Rattle.std.proofs.lemmas.List.{drop_all}
 use Rattle.fax_files.specs.Laws.{HasOneChain, FilesHaveOneChain}
+use Rattle.fax_files.specs.Numbers.{header}
 use Rattle.fax_files.specs.Page.{page}
 use Rattle.fax_files.specs.code.Chain.{ChainState}
-use Rattle.fax_files.specs.code.Tiff.{directory_of}
+use Rattle.fax_files.specs.code.Tiff.{TiffFile, directory_of}
 use Rattle.fax_walk.specs.declared.end.End.{End}
 use Rattle.fax_walk.specs.declared.end.End.TheVariants.{Proper}
 use Rattle.fax_walk.specs.Items.{Item, ArePagesItems}
@@ -13,8 +14,8 @@ use Rattle.fax_walk.specs.Forms.{FormItem, ArePagesForms, IsFormThen}
 use Rattle.fax_walk.specs.declared.opening.OpenFault.{OpenFault}
 use Rattle.fax_walk.specs.declared.opening.OpenFault.TheVariants.{Memory, Ended}
 use Rattle.fax_walk.specs.code.Stages.{PageState}
-use Rattle.fax_walk.specs.code.Due.{ArePagesBehind, IsDueOnPage}
-use Rattle.fax_walk.specs.code.Opening.{PageDue, IsPageDue, AreFormsBehind, AreDueFrom, IsPageAnswer, IsAnswerOver, IsRefusal}
+use Rattle.fax_walk.specs.code.Due.{ArePagesBehind, IsDueOnPage, IsInFile, IsPageIn}
+use Rattle.fax_walk.specs.code.Opening.{PageDue, IsPageDue, AreFormsBehind, AreDueFrom, IsPageAnswer, IsAnswerOver, IsRefusal, IsOpenedBehind}
 use Rattle.fax_walk.proofs.EndingLemmas.{none_past}
 use Rattle.fax_walk.proofs.PageAtLemmas.{from_row_so, form_then_so, behind_one, forms_behind_one}
 
@@ -101,6 +102,25 @@ module _ (chain : ChainState) (chains : FilesHaveOneChain) where
     pub form_next : (forms : List FormItem) (end : End) → IsFormThen due.page due.form (AreFormsBehind due.chain) forms end
         → AreFormsBehind chain forms end
     form_next = form_first chain held due (answers.over held.offsets held.end held.is) answers.next.1 answers.next.0 answers.next.2
+
+-- the next page of a file's chain is the file's page of that number
+pub next_in_file : (chain : ChainState) (due : PageDue) → IsPageAnswer chain (Ok (Some due)) → (file : List ℕ) → header file ≡ Ok chain.tiff.head
+    → chain.tiff.file ≡ file → IsInFile file due.page due.chain due.directory due.form
+next_in_file chain due answers file head file_is =
+    let tiff : due.chain.tiff ≡ chain.tiff = ap (λ (c : ChainState). c.tiff) answers.next.1 in
+    record {
+      head = rw tiff head;
+      file_is = ap (λ (t : TiffFile). t.file) tiff ∙ file_is;
+      there = λ offsets fault chained. rw answers.next.0 (answers.over offsets fault (rw tiff at chained));
+      directory_is = answers.next.2.directory_is;
+      form_is = answers.next.2.form_is;
+    }
+
+-- an opened page behind one of a file's pages is the file's too
+pub opened_in_file : (result : Result PageState OpenFault) (chain : ChainState) (read : ℕ) (file : List ℕ) → header file ≡ Ok chain.tiff.head
+    → chain.tiff.file ≡ file → IfOk result (IsOpenedBehind chain read) → IfOk result (IsPageIn file)
+opened_in_file (Ok page) chain read file head file_is opened = opened.in_file file head file_is
+opened_in_file (Err refused) chain read file head file_is opened = opened
 
 -- what is due of an opened page is due of the pages behind a chain
 pub items_so : (result : Result PageState OpenFault) (due due' : List Item → End → Type 0)

@@ -14,11 +14,11 @@ pub held_on_err : {T E : Type 0} (r : Result T E) (P : Type 0) → P → OnErr r
 held_on_err (Ok x) P h = tt
 held_on_err (Err e) P h = h
 
-numerals : IsNumeralModel (AllDigits 10) (digits_value 10)
+pub numerals : IsNumeralModel (AllDigits 10) (digits_value 10)
 numerals = numerals_by_value _ tells_digits
 
 -- the decimals of a number have no colon
-no_colon : (n : ℕ) → n < 2 ^ 32 → (i : ℕ) → i < length (decimal n) → get_or (decimal n) i 0 ≢ 58
+pub no_colon : (n : ℕ) → n < 2 ^ 32 → (i : ℕ) → i < length (decimal n) → get_or (decimal n) i 0 ≢ 58
 no_colon n small = not_in_digits numerals (decimal n) 58 (digits_decimal numerals n (omega arith)) (λ h. omega arith)
 
 abbrev version : List ℕ

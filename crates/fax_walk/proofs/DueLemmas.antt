@@ -23,7 +23,8 @@ use Rattle.fax_walk.specs.declared.end.End.TheVariants.{Fault}
 use Rattle.fax_walk.specs.Items.{Item, numbered, stop_at, Follows}
 use Rattle.fax_walk.specs.Before.{EndsBefore}
 use Rattle.fax_walk.specs.code.Stages.{PageState, row_of, skipped, row_handed_out}
-use Rattle.fax_walk.specs.code.Due.{AreStripsBehind, IsLeftOnPage, IsDueOnPage, ArePagesBehind, IsOpen, ReadsPageRow, GivesRow, GivesNone, KeepsPage, EndsAtRow}
+use Rattle.fax_walk.specs.code.Due.{AreStripsBehind, IsLeftOnPage, IsDueOnPage, ArePagesBehind, IsOpen, ReadsPageRow, GivesRow, GivesNone, KeepsPage, EndsAtRow, GoesOn}
+use Rattle.fax_walk.proofs.GoesOnLemmas.{stays, goes_further, next_goes_on}
 
 -- rows as they are handed out, one after the other
 pub shown_none : (form : PageForm) → shown form [] ≡ []
@@ -120,6 +121,7 @@ module _ (old : PageState) (strip : StripState) (handed : List Colour) (reads : 
     same_first = refl;
     same_form = refl;
     still_open = record { no_fault = reads.still_no_fault; limits = at.limits; first = at.first; page_number = at.page_number };
+    some_row = omega (arith, reads.next_row);
     one_more = refl;
   }
 
@@ -278,8 +280,12 @@ module _ (page : PageState) (bytes : List ℕ) (handed : List Colour)
     follows = rw same_row at due.follows;
   }
 
+  begins_anew : at_next.strip ≡ strip_behind page.strip.read (strip_form page.form (page.number + 1)) bytes
+  begins_anew = strip_is
+
   pub next_begins : KeepsPage page at_next
   next_begins = record {
+    goes_on = next_goes_on page at_next bytes same_row refl begins_anew there;
     due = still;
     row = same_row;
     same_form = refl;
@@ -310,6 +316,7 @@ kept_read old now later keeps reads =
       same_first = reads.same_first ∙ keeps.same_first;
       same_form = reads.same_form ∙ keeps.same_form;
       still_open = reads.still_open;
+      some_row = reads.some_row;
       one_more = reads.one_more ∙ ap (λ n. n + 1) keeps.same_read;
     }
 
@@ -321,16 +328,17 @@ pub record Skips (old now : PageState) : Type 0 where
   pub some : old.read ≤ now.read
   pub same_page : now.page ≡ old.page
   pub same_first : now.first ≡ old.first
+  pub goes_on : GoesOn old now
   pub is_open : IsOpen now
   pub row_due : row_of now < now.form.rows
 
 pub none_skipped : (page : PageState) → IsOpen page → row_of page < page.form.rows → Skips page page
 none_skipped page at due =
-    record { due = λ items end d. d; to_go = refl; read = refl; some = omega arith; same_page = refl; same_first = refl; is_open = at; row_due = due }
+    record { due = λ items end d. d; to_go = refl; read = refl; some = omega arith; same_page = refl; same_first = refl; goes_on = stays page; is_open = at; row_due = due }
 
 -- one more row before the first that is handed out
-pub one_skipped : (old now new : PageState) → Skips old now → ReadsPageRow now new → row_of new ≤ new.first → Skips old new
-one_skipped old now new skips reads before =
+pub one_skipped : (old now new : PageState) → Skips old now → ReadsPageRow now new → GoesOn now new → row_of new ≤ new.first → Skips old new
+one_skipped old now new skips reads goes before =
     let some : 0 < skipped now = omega (arith, reads.next_row, reads.same_first, before) in
     record {
       due = λ items end due. skips.due items end (reads.due_before items end some due);
@@ -339,6 +347,7 @@ one_skipped old now new skips reads before =
       some = omega (arith, skips.some, reads.one_more);
       same_page = reads.same_page ∙ skips.same_page;
       same_first = reads.same_first ∙ skips.same_first;
+      goes_on = goes_further old now new skips.goes_on goes;
       is_open = reads.still_open;
       row_due = omega (arith, before, reads.still_open.first);
     }
@@ -355,6 +364,7 @@ row_given old now new skips reads behind few =
       none_skipped = omega (arith, behind);
       same_page = reads.same_page ∙ skips.same_page;
       still_open = reads.still_open;
+      some_row = reads.some_row;
       read = omega (arith, skips.read, reads.one_more, none);
       few = few;
     }

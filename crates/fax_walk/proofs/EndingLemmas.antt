@@ -46,7 +46,7 @@ proper_past pages at page row =
 module _ (file : List ℕ) (at : Cursor) where
   -- the header is refused
   pub header_refused : (fault : FileFault) → header file ≡ Err fault → EndsAt file at (Fault 0 0 (File fault))
-  header_refused fault refused = rw refused ((refl, refl), (refl, refl), refl)
+  header_refused fault refused = rw refused ((refl, refl), (refl, refl), refl, λ bits runs. (refl, refl))
 
   module _ (head : Header) (is : header file ≡ Ok head) (one : HasOneChain head file) where
     -- the chain has no page of this number
@@ -55,6 +55,7 @@ module _ (file : List ℕ) (at : Cursor) where
       (one.offsets, one.end, one.is, rw none (refl, refl)),
       (one.offsets, one.end, one.is, rw none (refl, refl)),
       (one.offsets, one.end, one.is, rw none refl),
+      λ bits runs. (one.offsets, one.end, one.is, rw none (refl, refl)),
     )
 
     -- a chain of fewer pages ends properly
@@ -96,6 +97,7 @@ module _ (file : List ℕ) (at : Cursor) where
           (one.offsets, one.end, one.is, rw (some, bad) (refl, refl)),
           (one.offsets, one.end, one.is, rw (some, bad) (refl, refl)),
           (one.offsets, one.end, one.is, rw (some, bad) refl),
+          λ bits runs. (one.offsets, one.end, one.is, rw (some, bad) (refl, refl)),
         )
 
 -- what a file's chain answers for the directory that is due

@@ -9,6 +9,7 @@ pub mod BeforeLemmas
 pub mod BehindLemmas
 pub mod CountLemmas
 pub mod CursorLemmas
+pub mod LongCursorLemmas
 pub mod DueLemmas
 pub mod EndingLemmas
 pub mod OpenLemmas
@@ -30,3 +31,11 @@ pub mod RowLemmas
 pub mod FileLemmas
 pub mod WrittenLemmas
 pub mod CodedLemmas
+pub mod LongLineLemmas
+pub mod LongStripLemmas
+pub mod LongTailLemmas
+pub mod OneLongTailLemmas
+pub mod LongPrintedLemmas
+pub mod OpenInsideLemmas
+pub mod GoesOnLemmas
+pub mod LastLemmas

@@ -9,13 +9,13 @@ use Rattle.fax_files.specs.Numbers.{header}
 use Rattle.fax_files.specs.Laws.{HasOneChain, FilesHaveOneChain}
 use Rattle.fax_files.specs.Page.{page}
 use Rattle.fax_files.specs.code.Chain.{ChainState}
-use Rattle.fax_files.specs.code.Tiff.{directory_of}
+use Rattle.fax_files.specs.code.Tiff.{TiffFile, directory_of}
 use Rattle.fax_walk.specs.declared.cursor.Cursor.{Cursor}
 use Rattle.fax_walk.specs.declared.end.End.{End}
 use Rattle.fax_walk.specs.declared.end.End.TheVariants.{Proper, Outside}
 use Rattle.fax_walk.specs.Items.{Item, AreFromRow, ArePagesItems, Follows}
 use Rattle.fax_walk.specs.Forms.{FormItem, ArePagesForms, IsFormThen}
-use Rattle.fax_walk.specs.code.Due.{ArePagesBehind}
+use Rattle.fax_walk.specs.code.Due.{ArePagesBehind, IsInFile}
 use Rattle.fax_walk.specs.code.Opening.{PageDue, IsPageDue, AreFormsBehind, IsPageAnswer, IsAnswerOver, IsChainBefore, EndsAt, IsPageOf}
 use Rattle.fax_walk.proofs.EndingLemmas.{row_behind, place_behind, fields_refused, fault_before}
 
@@ -108,7 +108,19 @@ module _ (chain : ChainState) (good : header chain.tiff.file ≡ Ok chain.tiff.h
     (one.offsets, one.end, one.is, rw (some, form_is) (inl (above, refl, refl))),
     (one.offsets, one.end, one.is, rw (some, form_is) (inl (above, refl, refl))),
     (one.offsets, one.end, one.is, let below : nat_lt at.row due.form.rows ≡ false = grind (arith, nat_tests, above) in rw (some, form_is, below) refl),
+    λ bits runs. (one.offsets, one.end, one.is, rw (some, form_is) (inr (λ inside. omega (arith, above, inside.0), refl, refl))),
   )
+
+  in_file : IsInFile chain.tiff.file due.page due.chain due.directory due.form
+  in_file = record {
+    head = rw tiff_is good;
+    file_is = ap (λ (t : TiffFile). t.file) tiff_is;
+    there = λ offsets fault chained.
+        let same = one.one offsets fault (rw tiff_is at chained) in
+        rw (same.0, same_page) there;
+    directory_is = is_due.directory_is;
+    form_is = is_due.form_is;
+  }
 
   row_there : at.row ≤ due.form.rows → IsPageOf chain.tiff.file at due
   row_there within = record {
@@ -119,6 +131,12 @@ module _ (chain : ChainState) (good : header chain.tiff.file ≡ Ok chain.tiff.h
         let own = rw (directory_is, same_page, given) at from in
         rw good (one.offsets, one.end, one.is, rw (some, form_is) (inr (inr (below, from_row_so _ _ _ _ _ _ _ _ behind items end own))));
     from_next = λ items end last are. rw good (one.offsets, one.end, one.is, rw (some, form_is) (inr (inl (last, behind items end are))));
+    in_file = in_file;
+    from_any = λ row items end below from.
+        let own = rw (directory_is, same_page, given) at from in
+        rw good (one.offsets, one.end, one.is, rw (some, form_is) (inr (inr (below, from_row_so _ _ _ _ _ _ _ _ behind items end own))));
+    from_behind = λ items end are. rw good (one.offsets, one.end, one.is, rw (some, form_is) (inr (inl (refl, behind items end are))));
+    from_place = λ bits runs items end on. rw good (one.offsets, one.end, one.is, rw (some, form_is) (rw directory_is at on));
     form_first = λ forms end first then.
         let own = rw (same_page, given) at then in
         rw good (one.offsets, one.end, one.is, rw (some, form_is) (inr (inr (first, form_then_so _ _ _ _ forms_behind forms end own))));

@@ -22,7 +22,7 @@ abbrev pub IsCount : {A : Type 0} → Option A → ℕ → ℕ → Type 0
 IsCount None n all = n ≡ all
 IsCount (Some stop) n all = n < all
 
-counted : (form : StripForm) (i : ℕ) (reference : List Colour) (b : List Bool) (rows : List (List Colour)) (end : Option StripFault) (left : List Bool)
+pub counted : (form : StripForm) (i : ℕ) (reference : List Colour) (b : List Bool) (rows : List (List Colour)) (end : Option StripFault) (left : List Bool)
     → AreLines form i reference b rows end left → IsCount end (i + length rows) form.rows
 counted form i reference b [] None left lines = omega (arith, lines.1)
 counted form i reference b [] (Some fault) left lines = omega (arith, lines.1.0)
@@ -137,10 +137,10 @@ module _ (endian : Endian) (file : List ℕ) (q : ℕ) (form : PageForm) (limits
         )
   ]
 
-  shown_length : (rows : List (List Colour)) → length (shown form rows) ≡ length rows
+  pub shown_length : (rows : List (List Colour)) → length (shown form rows) ≡ length rows
   shown_length rows = by_exchange form.exchanged rows
 
-  shown_drop : (n : ℕ) (rows : List (List Colour)) → shown form (drop n rows) ≡ drop n (shown form rows)
+  pub shown_drop : (n : ℕ) (rows : List (List Colour)) → shown form (drop n rows) ≡ drop n (shown form rows)
   shown_drop n rows = drop_exchange form.exchanged n rows
 
   -- where an item of a page stands, and what stands behind it
@@ -150,7 +150,7 @@ module _ (endian : Endian) (file : List ℕ) (q : ℕ) (form : PageForm) (limits
     pub inside : length before < length rows
     pub after_is : after ≡ numbered p (item.row + 1) (drop (length before + 1) rows)
 
-  split : (p r : ℕ) (rows : List (List Colour)) (before after : List Item) (item : Item) → before ++ item ∷ after ≡ numbered p r rows → Split p r rows before after item
+  pub split : (p r : ℕ) (rows : List (List Colour)) (before after : List Item) (item : Item) → before ++ item ∷ after ≡ numbered p r rows → Split p r rows before after item
   split p r [] [] after item e = absurd cc
   split p r [] (x ∷ before) after item e = absurd cc
   split p r (row ∷ rows) [] after item e =

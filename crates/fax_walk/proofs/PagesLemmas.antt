@@ -1,12 +1,13 @@
 -- Steps of a reader of pages.
-use Rattle.std.proofs.Common.{◌≡◌, ℕ, ◌+◌, ◌^◌, ◌<◌, List, Some, Result, Ok, Err, refl, arith}
-use Rattle.std.specs.Prelude.{IfOk}
+use Rattle.std.proofs.Common.{◌≡◌, ℕ, ◌+◌, ◌^◌, ◌<◌, List, [], Some, Result, Ok, Err, refl, arith}
+use Rattle.std.specs.Prelude.{IfOk, IfErr}
 use Rattle.fax_files.specs.Laws.{FilesHaveOneChain}
 use Rattle.fax_files.specs.Page.{IsPageForm}
 use Rattle.fax_files.specs.code.Chain.{ChainState}
 use Rattle.fax_walk.specs.declared.cursor.Cursor.{Cursor}
 use Rattle.fax_walk.specs.declared.end.End.{End}
-use Rattle.fax_walk.specs.code.Opening.{PageDue, IsPageAnswer, IsPageOf}
+use Rattle.fax_walk.specs.Forms.{IsFormTail}
+use Rattle.fax_walk.specs.code.Opening.{PageDue, AreFormsBehind, IsPageAnswer, IsPageOf}
 use Rattle.fax_walk.specs.declared.pages.PagesStage.TheVariants.{Behind}
 use Rattle.fax_walk.specs.code.Due.{place_number}
 use Rattle.fax_walk.specs.code.Pages.{PagesState, IsPageBehind, BeginsWith, IsDueIn, HandsOutPage}
@@ -45,6 +46,12 @@ pub if_behind : (file : List ℕ) (at : Cursor) (due : PageDue) (result : Result
     → 0 < at.row → at.row < 2 ^ 32 → due.chain.given ≡ due.page + 1 → IfOk result (IsPageBehind due.chain) → IfOk result (BeginsWith file at)
 if_behind file at due (Ok next) named some short given behind = first_behind file at due next named some short given behind
 if_behind file at due (Err end) named some short given behind = behind
+
+-- the same where no page stands behind
+pub end_behind : (file : List ℕ) (at : Cursor) (due : PageDue) (result : Result PageDue End) → IsPageOf file at due → 0 < at.row
+    → IfErr result (AreFormsBehind due.chain []) → IfErr result (IsFormTail file at [])
+end_behind file at due (Ok next) named some behind = behind
+end_behind file at due (Err end) named some behind = named.form_next [] end some behind
 
 -- behind a page that was handed out, the page behind it is due
 pub due_behind : (pages : PagesState) (chain : ChainState) (result : Result PageDue End) → pages.stage ≡ Behind chain

@@ -31,7 +31,7 @@ went_at : (old new : WalkState) (stage : Stage) → IsOnPage stage → StepsAs o
     → (item : Item) × (item.pels ≡ shown_at stage) × HandsOut old item new
 went_at old new Before on step = absurd on
 went_at old new (Open page) on step = (record { page = page.page; row = row_of page - 1; pels = page.shown }, refl, step.0)
-went_at old new (Ended end read) on step = absurd on
+went_at old new (Ended end read last) on step = absurd on
 
 pub went : (old new : WalkState) → IsOnPage new.stage × StepsAs old new.stage new → WentTo old new
 went old new is =

@@ -27,13 +27,13 @@ use Rattle.fax_walk.proofs.OneTailLemmas.{one_of_pages}
 use Rattle.fax_walk.proofs.OneFormLemmas.{one_of_pages as one_of_forms}
 
 -- rows of a strip from row i on, and their end
-record Lines (form : StripForm) (i : ℕ) (reference : List Colour) (b : List Bool) : Type 0 where
-  rows : List (List Colour)
-  end : Option StripFault
-  left : List Bool
-  are : AreLines form i reference b rows end left
+pub record Lines (form : StripForm) (i : ℕ) (reference : List Colour) (b : List Bool) : Type 0 where
+  pub rows : List (List Colour)
+  pub end : Option StripFault
+  pub left : List Bool
+  pub are : AreLines form i reference b rows end left
 
-lines_from : ((form : StripForm) (i : ℕ) (reference : List Colour) → ReadsLinesOneWay form i reference)
+pub lines_from : ((form : StripForm) (i : ℕ) (reference : List Colour) → ReadsLinesOneWay form i reference)
     → (form : StripForm) (fuel i : ℕ) (reference : List Colour) (b : List Bool) → i + fuel ≡ form.rows → Lines form i reference b
 lines_from lines_read form zero i reference b count = record { rows = []; end = None; left = b; are = (refl, omega arith) }
 lines_from lines_read form (suc fuel) i reference b count = elim ((lines_read form i reference).line_or_cause b) [

@@ -18,13 +18,13 @@ use Rattle.fax_walk.specs.Laws.{TailBehindItem}
 use Rattle.fax_walk.proofs.PageItemLemmas.{behind_part, page_of_item, row_of_item}
 
 -- an item that stands in a list stands in its front or in the rest
-abbrev InFront : List Item → List Item → List Item → Item → Type 0
+abbrev pub InFront : List Item → List Item → List Item → Item → Type 0
 InFront own others after item = (before middle : List Item) × (own ≡ before ++ item ∷ middle) × (after ≡ middle ++ others)
 
-abbrev InRest : List Item → List Item → Item → Type 0
+abbrev pub InRest : List Item → List Item → Item → Type 0
 InRest others after item = (before : List Item) × (others ≡ before ++ item ∷ after)
 
-divided : (own others before after : List Item) (item : Item) → before ++ item ∷ after ≡ own ++ others → InFront own others after item ⊎ InRest others after item
+pub divided : (own others before after : List Item) (item : Item) → before ++ item ∷ after ≡ own ++ others → InFront own others after item ⊎ InRest others after item
 divided [] others before after item e = inr (before, sym e)
 divided (x ∷ own) others [] after item e =
     let head : item ≡ x = cc in

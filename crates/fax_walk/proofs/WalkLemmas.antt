@@ -1,19 +1,29 @@
 -- Steps of a walk.
-use Rattle.std.proofs.Common.{◌≡◌, ℕ, ◌+◌, ◌-◌, ◌^◌, ◌<◌, List, [], Result, Ok, refl, sym, ap, ◌∙◌, subst, arith}
-use Rattle.std.specs.Prelude.{IfOk}
+use Rattle.std.proofs.Common.{◌≡◌, ℕ, ◌+◌, ◌-◌, ◌^◌, ◌<◌, List, [], Option, None, Result, Ok, Err, refl, sym, ap, ◌∙◌, subst, arith}
+use Rattle.std.specs.Prelude.{IfOk, IfErr}
 use Rattle.fax_bits.specs.declared.Colour.{Colour}
 use Rattle.fax_walk.specs.declared.end.End.{End}
 use Rattle.fax_walk.specs.declared.opening.OpenFault.{OpenFault}
+use Rattle.fax_walk.specs.declared.opening.OpenFault.TheVariants.{Ended as RowsEnd}
 use Rattle.fax_walk.specs.declared.walk.Place.{Place}
 use Rattle.fax_walk.specs.declared.walk.Stage.{Stage}
 use Rattle.fax_walk.specs.declared.walk.Stage.TheVariants.{Before, Open, Ended}
 use Rattle.fax_walk.specs.Items.{Item}
-use Rattle.fax_walk.specs.Tail.{IsTail}
+use Rattle.fax_walk.specs.LongTail.{IsTailFrom, begins_at}
+use Rattle.fax_walk.specs.declared.begun.Begun.{Begun}
+use Rattle.fax_walk.specs.declared.begun.Begun.TheVariants.{At, Inside}
+use Rattle.fax_walk.specs.Laws.{CursorsHaveOneTail}
+use Rattle.fax_walk.specs.LongLaws.{PlacesHaveOneTail}
 use Rattle.fax_walk.specs.code.Stages.{PageState, row_of, skipped}
 use Rattle.fax_walk.specs.declared.cursor.Cursor.{Cursor}
 use Rattle.fax_walk.specs.code.Due.{WalkState, IsDue, IsDueOnPage, IsOpenedFor, IsOpenFrom, GivesRow, place_number, places_left}
-use Rattle.fax_walk.specs.code.Opening.{IsOpenedBehind}
+use Rattle.fax_walk.specs.code.Opening.{IsOpenedBehind, IsRefusal}
 use Rattle.fax_walk.specs.code.Next.{IsEntered, StepsAs, IsOnPage, HandsOut, HasEnded}
+
+-- each walk hands out some items, and an end
+pub begun_items : CursorsHaveOneTail → PlacesHaveOneTail → (file : List ℕ) (begun : Begun) → (items : List Item) × (end : End) × IsTailFrom file begun items end
+begun_items cursors places file (At at) = let one = cursors file at in (one.items, one.end, one.is)
+begun_items cursors places file (Inside place) = let one = places file place in (one.items, one.end, one.is)
 
 -- a page that takes the place of what is due: what it has is due, and a row of it is due
 pub record TakesPlace (walk : WalkState) (page : PageState) : Type 0 where
@@ -25,8 +35,8 @@ entered walk page takes = record { due = takes.due; same = refl; at_row = takes.
 
 -- before the first page
 pub takes_first : (walk : WalkState) (page : PageState) (opened result : Result PageState OpenFault) → walk.stage ≡ Before → opened ≡ result
-    → opened ≡ Ok page → IfOk result (IsOpenedFor walk.cursor)
-    → IfOk result (λ page. (items : List Item) (end : End) → IsDueOnPage page items end → IsTail walk.file walk.cursor items end)
+    → opened ≡ Ok page → IfOk result (IsOpenedFor (begins_at walk.begun))
+    → IfOk result (λ page. (items : List Item) (end : End) → IsDueOnPage page items end → IsTailFrom walk.file walk.begun items end)
     → TakesPlace walk page
 takes_first walk page opened result before same is for_cursor items =
     let is : result ≡ Ok page = rw same at is in
@@ -44,6 +54,24 @@ takes_next walk old page read opened result stage_is same is behind items =
     let behind = rw is at behind in
     let items = rw is at items in
     record { due = λ xs end due. rw stage_is (items xs end due); row = behind.row_due }
+
+-- the rows end before a page is opened
+ended : (walk : WalkState) (end : End) (read : ℕ) → IsDue walk [] end → IsEntered walk (record walk { stage = Ended end read None })
+ended walk end read due = record { due = λ items other are. rw (are.0, are.1) due; same = refl; at_row = tt }
+
+pub ends_first : (walk : WalkState) (end : End) (read : ℕ) (fault : OpenFault) (opened result : Result PageState OpenFault) → walk.stage ≡ Before → opened ≡ result
+    → opened ≡ Err fault → fault ≡ RowsEnd end → IfErr result (IsRefusal (IsTailFrom walk.file walk.begun)) → IsEntered walk (record walk { stage = Ended end read None })
+ends_first walk end read fault opened result before same is fault_is refused =
+    let is : result ≡ Err (RowsEnd end) = rw (same, fault_is) at is in
+    let none = rw is at refused in
+    ended walk end read (rw before none)
+
+pub ends_next : (walk : WalkState) (old : PageState) (end : End) (read : ℕ) (fault : OpenFault) (opened result : Result PageState OpenFault) → walk.stage ≡ Open old → opened ≡ result
+    → opened ≡ Err fault → fault ≡ RowsEnd end → IfErr result (IsRefusal (IsDueOnPage old)) → IsEntered walk (record walk { stage = Ended end read None })
+ends_next walk old end read fault opened result stage_is same is fault_is refused =
+    let is : result ≡ Err (RowsEnd end) = rw (same, fault_is) at is in
+    let none = rw is at refused in
+    ended walk end read (rw stage_is none)
 
 -- the next row that is handed out is read
 module _ (walk : WalkState) (old new : PageState) (cursor : Cursor) (stage_is : walk.stage ≡ Open old) (from : IsOpenFrom walk.cursor old)
@@ -104,9 +132,9 @@ module _ (old middle new : WalkState) (enters : IsEntered old middle) (steps : S
       ) in
       subst (λ (s : Stage). IsOnPage s × StepsAs old s new) (sym stage_is) (tt, gives)
 
-  pub went_to_end : (end : End) (read : ℕ) → new.stage ≡ Ended end read → HasEnded old end new
-  went_to_end end read stage_is =
-      let ended : StepsAs middle (Ended end read) new = steps_at (Ended end read) stage_is in
+  pub went_to_end : (end : End) (read : ℕ) (last : Option PageState) → new.stage ≡ Ended end read last → HasEnded old end new
+  went_to_end end read last stage_is =
+      let ended : StepsAs middle (Ended end read last) new = steps_at (Ended end read last) stage_is in
       record {
         due = enters.due [] end ended.due;
         told = ended.told;

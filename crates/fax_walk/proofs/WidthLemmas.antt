@@ -111,7 +111,7 @@ steps_paint reference old b (next ∷ positions) new rest painted steps =
     let step = steps.2 in
     steps_paint reference next steps.1 positions new rest (step_paints step.mode reference old step.behind next steps.1 painted step.step) steps.3
 
-row_in : (dimension : Dimension) (width : ℕ) (reference : List Colour) (b : List Bool) (row : List Colour) (rest : List Bool)
+pub row_in : (dimension : Dimension) (width : ℕ) (reference : List Colour) (b : List Bool) (row : List Colour) (rest : List Bool)
     → length reference ≡ width → IsRowIn dimension width reference b row rest → length row ≡ width
 row_in OneDimensional width reference b row rest wide is = is.whole
 row_in TwoDimensional width reference b row rest wide is =

@@ -6,6 +6,8 @@ use Rattle.fax_files.specs.declared.Endian.{Endian}
 use Rattle.fax_files.specs.Numbers.{Header, header}
 use Rattle.fax_files.specs.Chain.{IsChain}
 use Rattle.fax_files.specs.Page.{page}
+use Rattle.fax_walk.specs.declared.begun.Begun.{Begun}
+use Rattle.fax_walk.specs.declared.begun.Begun.TheVariants.{At, Inside}
 use Rattle.fax_walk.specs.declared.cursor.Cursor.{Cursor}
 use Rattle.fax_walk.specs.declared.end.End.{End}
 use Rattle.fax_walk.specs.declared.end.End.TheVariants.{Proper, Fault, Outside}
@@ -31,6 +33,11 @@ AreRowsBeforeUnder file at (Ok head) n =
 -- so many rows stand before a cursor's row in its strip (TIFF 6.0, RowsPerStrip)
 abbrev pub AreRowsBefore : List ℕ → Cursor → ℕ → Type 0
 AreRowsBefore file at n = AreRowsBeforeUnder file at (header file) n
+
+-- the same for what a walk began with: none where it began inside a strip (this project's profile)
+abbrev pub AreRowsBeforeBegun : List ℕ → Begun → ℕ → Type 0
+AreRowsBeforeBegun file (At at) n = AreRowsBefore file at n
+AreRowsBeforeBegun file (Inside place) n = n ≡ 0
 
 -- the rows end on the cursor's page, before its row (this project's profile)
 abbrev pub EndsBefore : End → Cursor → Type 0

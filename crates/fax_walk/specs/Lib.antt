@@ -1,6 +1,9 @@
 pub mod Cursor
 pub mod Items
 pub mod Tail
+pub mod LongCursor
+pub mod LongTail
+pub mod LongLaws
 pub mod Before
 pub mod Forms
 pub mod Converted

@@ -24,7 +24,7 @@ pub struct Cursor {
 pub struct NotACursor;
 
 /// The number up to 4,294,967,295 that these decimals spell, without leading zeros.
-fn number(digits: &str) -> Result<u32, NotACursor>
+pub(crate) fn number(digits: &str) -> Result<u32, NotACursor>
     ensures ok { IfOk result (λ number. digits.now ≡ decimal number) }
     ensures err { OnErr result ((number : ℕ) → number < 2 ^ 32 → digits.now ≢ decimal number) }
 {

@@ -4,6 +4,7 @@ ghost use Rattle.std.specs.Prelude.{List};
 ghost use Rattle.fax_walk.specs.Forms.{FormItem};
 ghost use Rattle.fax_walk.specs.Items.{Item};
 ghost use Rattle.fax_walk.specs.Laws as Laws;
+ghost use Rattle.fax_walk.specs.LongLaws as LongLaws;
 ghost use Rattle.fax_walk.specs.code.Due.{IsDue};
 ghost use Rattle.fax_walk.specs.code.Pages.{AreFormsDue};
 ghost use Rattle.fax_walk.specs.declared.end.End.{End};
@@ -56,6 +57,47 @@ pub fn printed_tails_end_behind()
 {
     files_have_one_items();
     tails_of_printed();
+}
+
+/// Each place inside a strip has a tail and an end, and one only.
+pub fn places_have_one_tail()
+    ensures { LongLaws.PlacesHaveOneTail }
+{
+    fax_page::laws::lines_are_read_in_one_way();
+    fax_files::laws::files_have_one_chain();
+    fax_files::laws::forms_are_whole();
+    cursors_have_one_tail();
+}
+
+/// What follows a row is the tail from the place inside a strip behind it, where there is one, with
+/// the same end.
+pub fn long_tails_behind_items()
+    ensures { LongLaws.LongTailBehindItem }
+{
+    fax_page::laws::lines_are_read_in_one_way();
+    fax_files::laws::files_have_one_chain();
+    fax_files::laws::forms_are_whole();
+    tails_behind_items();
+}
+
+/// The tail from a cursor or a place inside a strip that a walk prints is the rest of the file.
+pub fn tails_from_printed()
+    ensures { LongLaws.TailFromPrinted }
+{
+    fax_page::laws::lines_are_read_in_one_way();
+    fax_files::laws::files_have_one_chain();
+    fax_files::laws::forms_are_whole();
+    cursors_have_one_tail();
+    places_have_one_tail();
+    tails_of_printed();
+}
+
+/// The place inside a strip behind a row is printed too, where what the walk began with was printed.
+pub fn places_of_printed()
+    ensures { LongLaws.PlacesOfPrinted }
+{
+    fax_files::laws::files_have_one_chain();
+    tails_from_printed();
 }
 
 /// Each file has forms and an end, and one list of them only.

@@ -1,11 +1,13 @@
 //! The walk over the rows of a TIFF-F file, from its bytes to rows with their places.
 #![tactic(auto)]
 
+mod begun;
 mod checking;
 mod conversion;
 mod cursor;
 mod end;
 pub mod laws;
+mod long_cursor;
 mod open_strips;
 mod opening;
 mod options;
@@ -15,6 +17,7 @@ mod pages;
 mod sheet;
 mod walk;
 
+pub use begun::Begun;
 pub use checking::{Note, NoteKind, Report, check};
 pub use conversion::convert;
 pub use cursor::{Cursor, NotACursor};
@@ -23,6 +26,7 @@ pub use fax_bits::Memory;
 pub use fax_files::{Cause, FileFault};
 pub use fax_page::StripFault;
 pub use fax_rows::Row;
+pub use long_cursor::{LongCursor, LongFault};
 pub use options::{ConvertFault, Options, Target};
 pub use pages::Pages;
 pub use walk::{Place, Walk};

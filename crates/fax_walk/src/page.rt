@@ -1,5 +1,6 @@
 //! A page whose rows are read, strip by strip.
-ghost use Rattle.std.specs.Prelude.{◌≡◌, ◌+◌, ◌*◌, ◌<◌, ◌≤◌, ◌==◌, List, [], IfErr, IfOk, OnErr, OnOk};
+ghost use Rattle.std.specs.Prelude.{◌≡◌, ◌+◌, ◌*◌, ◌<◌, ◌≤◌, ◌==◌, List, [], length, IfErr, IfOk, OnErr, OnOk};
+ghost use Rattle.fax_page.specs.Strip.{IsStripForm};
 ghost use Rattle.fax_files.specs.Page.{IsPageForm};
 ghost use Rattle.fax_walk.specs.Items.{Item, AreFromRow};
 ghost use Rattle.fax_walk.specs.code.Due as Due;
@@ -7,10 +8,10 @@ ghost use Rattle.fax_walk.specs.code.Opening as Opening;
 ghost use Rattle.fax_walk.specs.code.Stages.{IsRoomFor, row_handed_out, row_of};
 
 use crate::opening::{DuePage, OpenFault};
-use crate::{Cursor, End, Place};
+use crate::{Cursor, End, LongCursor, Place};
 use fax_bits::Memory;
 use fax_files::{Cause, Chain, PageForm, Strips};
-use fax_page::StripReader;
+use fax_page::{StripForm, StripReader};
 use fax_rows::Row;
 use std::alloc::Global;
 use std::marker::Model;
@@ -129,6 +130,82 @@ pub(crate) fn open_behind<'a>(
     }
 }
 
+/// A reader of a strip from a place inside it on, before this row of the strip.
+fn strip_at<'a>(
+    alloc: Global,
+    bytes: &'a [u8],
+    form: StripForm,
+    row: u32,
+    place: &LongCursor,
+) -> Result<StripReader<'a>, OpenFault>
+    requires count { length bytes.now ≤ 4294967295 }
+    requires limits { IsStripForm form }
+    requires row { row < form.rows }
+    ensures ok { IfOk result (Opening.IsAtPlace form bytes.now row place.now) }
+    ensures err { IfErr result (Opening.IsNoPlace form bytes.now place.now) }
+{
+    let outside = OpenFault::Ended(End::Outside);
+    if u64::from(place.bits) > 8 * bytes.len() as u64 {
+        return Err(outside);
+    }
+    let mut reference = Row::white(alloc, form.width)?;
+    if !reference.set_runs(&place.runs) {
+        return Err(outside);
+    }
+    let mut strip = StripReader::new(alloc, bytes, form)?;
+    strip.restart_at(bytes, form.rows, row, u64::from(place.bits), &reference);
+    Ok(strip)
+}
+
+/// Opens a page that is due at a place inside a strip of it.
+pub(crate) fn open_inside<'a>(
+    alloc: Global,
+    due: DuePage<'a>,
+    place: &LongCursor,
+) -> Result<OpenPage<'a>, OpenFault>
+    requires { due.page ≡ place.now.at.page }
+    ensures opened { IfOk result (Opening.IsOpenedInside due.entry place.now) }
+    ensures items { IfOk result (λ page. (items : List Item) (end : End)
+        → Due.IsDueOnPage page items end → Opening.IsPlaceDue due.entry place.now items end) }
+    ensures refused { IfErr result (Opening.IsRefusal (Opening.IsPlaceDue due.entry place.now)) }
+{
+    fax_files::laws::forms_are_whole();
+    let form = due.form;
+    let row = place.at.row;
+    if row >= form.rows || row % form.rows_per_strip == 0 {
+        return Err(OpenFault::Ended(End::Outside));
+    }
+    let strips = due.directory.strips(&form);
+    let number = row / form.rows_per_strip;
+    let strip_row = number * form.rows_per_strip;
+    let bytes = match strips.bytes(number) {
+        Ok(bytes) => bytes,
+        Err(fault) => {
+            return Err(OpenFault::Ended(End::of_file(due.page, strip_row, fault)));
+        }
+    };
+    let strip = strip_at(
+        alloc,
+        bytes,
+        form.strip_form(number),
+        row - strip_row,
+        place,
+    )?;
+    let exchanged = row_for_exchange(alloc, &form)?;
+    Ok(OpenPage {
+        page: due.page,
+        chain: due.chain,
+        form,
+        strips,
+        first: row,
+        row,
+        number,
+        strip,
+        exchanged,
+        read: 0,
+    })
+}
+
 impl<'a> OpenPage<'a> {
     /// Opens the page behind this one, all rows of which are read.
     pub(crate) fn open_next(&self, alloc: Global) -> Result<OpenPage<'a>, OpenFault>
@@ -189,6 +266,30 @@ impl<'a> OpenPage<'a> {
         self.read
     }
 
+    /// The place inside the strip behind the row that was read last, if the strip goes on behind it,
+    /// and its bits have a number of 32 bits.
+    ///
+    /// # Errors
+    ///
+    /// `Memory` where a growth was refused.
+    pub(crate) fn long_cursor(&self, alloc: Global) -> Result<Option<LongCursor>, Memory>
+        ensures { IfOk result (Due.IsLongOnPage self.now) }
+    {
+        let place = self.strip.bit_place();
+        let row = self.row - self.number * self.form.rows_per_strip;
+        if row == 0 || row == self.form.strip_form(self.number).rows {
+            return Ok(None);
+        }
+        let Ok(bits) = u32::try_from(place) else {
+            return Ok(None);
+        };
+        Ok(Some(LongCursor {
+            at: self.cursor(),
+            bits,
+            runs: self.strip.reference().runs(alloc)?,
+        }))
+    }
+
     /// Goes to the next strip, or answers how the rows end where it lies outside the file.
     fn next_strip(&mut self) -> Result<(), End>
         requires open { Due.IsOpen self.old }
@@ -199,6 +300,7 @@ impl<'a> OpenPage<'a> {
         ensures same_read { self.new.read ≡ self.old.read }
         ensures place { IfErr result (Due.EndsAtRow self.old) }
         ensures err { IfErr result (Due.IsDueOnPage self.old []) }
+        ensures goes_on { OnErr result (Due.GoesOn self.old self.new) }
     {
         let number = self.number + 1;
         match self.strips.bytes(number) {
@@ -231,6 +333,7 @@ impl<'a> OpenPage<'a> {
         ensures err { IfErr result (Due.IsDueOnPage self.old []) }
         ensures same_read { OnErr result (self.new.read ≡ self.old.read) }
         ensures place { IfErr result (Due.EndsAtRow self.old) }
+        ensures goes_on { Due.GoesOn self.old self.new }
     {
         loop {
             match self.strip.advance() {
@@ -258,6 +361,7 @@ impl<'a> OpenPage<'a> {
         requires due { row_of self.old < self.old.form.rows }
         ensures ok { OnOk result (Due.GivesRow self.old self.new) }
         ensures err { IfErr result (Due.IsDueOnPage self.old []) }
+        ensures goes_on { Due.GoesOn self.old self.new }
         ensures none { IfErr result (Due.GivesNone self.old self.new) }
     {
         loop {

@@ -3,14 +3,17 @@ ghost use Rattle.std.specs.Prelude.{◌≡◌, List, [], IfOk, IfErr};
 ghost use Rattle.std.specs.Borrow.{sem};
 ghost use Rattle.fax_walk.specs.Items.{Item};
 ghost use Rattle.fax_walk.specs.Tail.{IsTail};
+ghost use Rattle.fax_walk.specs.LongCursor.{LongPlace};
+ghost use Rattle.fax_walk.specs.LongTail.{IsLongTail, IsTailFrom, begins_at};
+ghost use Rattle.fax_walk.specs.Before.{AreRowsBefore, AreRowsBeforeBegun};
 ghost use Rattle.fax_walk.specs.code.Due as Due;
-ghost use Rattle.fax_walk.specs.Before.{AreRowsBefore};
-ghost use Rattle.fax_walk.specs.code.Opening.{EndsShortAt, IsRefusal};
+ghost use Rattle.fax_walk.specs.code.Opening.{EndsShortAt, EndsShortFrom, IsRefusal};
+ghost use Rattle.fax_walk.specs.declared.begun.Begun.TheVariants.{Inside};
 ghost use Rattle.fax_walk.specs.code.Stages.{skipped};
 
 use crate::opening::{DuePage, OpenFault};
-use crate::page::{OpenPage, open, open_behind};
-use crate::{Cursor, End, WalkFault};
+use crate::page::{OpenPage, open, open_behind, open_inside};
+use crate::{Begun, Cursor, End, LongCursor, WalkFault};
 use fax_bits::Memory;
 use fax_rows::Row;
 use std::alloc::Global;
@@ -31,18 +34,18 @@ enum Stage<'a> {
     Before,
     /// This page is open.
     Open(OpenPage<'a>),
-    /// The rows have ended, and so many were read.
-    Ended(End, u64),
+    /// The rows have ended, and so many were read; with the page that was open, if one was.
+    Ended(End, u64, Option<OpenPage<'a>>),
 }
 
-/// A walk over the rows of a file. Contracts see its file, the cursor that it began with, how many
-/// rows it handed out, the place behind the last of them, or the one that it began with, and how
-/// far it has come: before its first row, on a page, or at the end.
+/// A walk over the rows of a file. Contracts see its file, what it began with, how many rows it
+/// handed out, the place behind the last of them, or the one that it began with, and how far it has
+/// come: before its first row, on a page, or at the end.
 #[derive(Drop)]
 pub struct Walk<'a> {
     alloc: Global,
     file: &'a [u8],
-    begun: Cursor,
+    begun: Begun,
     /// How many rows were handed out.
     given: u64,
     cursor: Cursor,
@@ -73,6 +76,8 @@ fn open_at<'a>(alloc: Global, file: &'a [u8], cursor: Cursor) -> Result<OpenPage
         → Due.IsDueOnPage page items end → IsTail file.now cursor items end) }
     ensures refused { IfErr result (IsRefusal (IsTail file.now cursor)) }
     ensures short { IfErr result (EndsShortAt file.now cursor) }
+    ensures in_file { IfOk result (Due.IsPageIn file.now) }
+    ensures at_strip { IfOk result Due.IsAtStrip }
 {
     let Some(due) = DuePage::at(file, cursor)? else {
         return Err(OpenFault::Ended(End::Proper));
@@ -84,8 +89,46 @@ fn open_at<'a>(alloc: Global, file: &'a [u8], cursor: Cursor) -> Result<OpenPage
     }
 }
 
+/// Opens the page of a long cursor's row, at its place.
+fn open_at_place<'a>(
+    alloc: Global,
+    file: &'a [u8],
+    place: &LongCursor,
+) -> Result<OpenPage<'a>, OpenFault>
+    ensures opened { IfOk result (Due.IsOpenedFor place.now.at) }
+    ensures none_skipped { IfOk result (λ page. skipped page ≡ 0) }
+    ensures items { IfOk result (λ page. (items : List Item) (end : End)
+        → Due.IsDueOnPage page items end → IsLongTail file.now place.now items end) }
+    ensures refused { IfErr result (IsRefusal (IsLongTail file.now place.now)) }
+    ensures in_file { IfOk result (Due.IsPageIn file.now) }
+    ensures reached { IfOk result (Due.IsReached (Inside place.now)) }
+{
+    let Some(due) = DuePage::at(file, place.at)? else {
+        return Err(OpenFault::Ended(End::Proper));
+    };
+    open_inside(alloc, due, place)
+}
+
+/// Opens the page of the first row of a walk that begins so.
+fn open_first<'a>(alloc: Global, file: &'a [u8], begun: &Begun) -> Result<OpenPage<'a>, OpenFault>
+    ensures opened { IfOk result (Due.IsOpenedFor (begins_at begun.now)) }
+    ensures before { IfOk result (λ page. AreRowsBeforeBegun file.now begun.now (skipped page)) }
+    ensures items { IfOk result (λ page. (items : List Item) (end : End)
+        → Due.IsDueOnPage page items end → IsTailFrom file.now begun.now items end) }
+    ensures refused { IfErr result (IsRefusal (IsTailFrom file.now begun.now)) }
+    ensures short { IfErr result (EndsShortFrom file.now begun.now) }
+    ensures in_file { IfOk result (Due.IsPageIn file.now) }
+    ensures reached { IfOk result (Due.IsReached begun.now) }
+{
+    match begun {
+        Begun::At(cursor) => open_at(alloc, file, *cursor),
+        Begun::Inside(place) => open_at_place(alloc, file, place),
+    }
+}
+
 impl<'a> Walk<'a> {
-    ghost use Rattle.fax_walk.specs.code.Due.{walk_from, walk_start, rows_read_at};
+    ghost use Rattle.fax_walk.specs.code.Due.{walk_from, walk_start, walk_inside};
+    ghost use Rattle.fax_walk.specs.code.Due.{rows_read_at, IsLongNow};
     ghost use Rattle.fax_walk.specs.code.Next.{EndsAs, EntersAs, HasReadRows, IsNext, IsStep, IsAtRow};
     ghost use Rattle.fax_walk.specs.code.Next.{IsAdvance, IsOnPage, shown_at};
 
@@ -101,10 +144,26 @@ impl<'a> Walk<'a> {
     pub fn resume(alloc: Global, file: &'a [u8], cursor: Cursor) -> Self
         ensures { result ≡ walk_from file.now cursor }
     {
+        Walk::begin(alloc, file, Begun::At(cursor))
+    }
+
+    /// A walk over the rows of a file from a place inside a strip on. Nothing is read yet. Then no
+    /// row before it is read.
+    pub fn resume_long(alloc: Global, file: &'a [u8], cursor: LongCursor) -> Self
+        ensures { result ≡ walk_inside file.now cursor }
+    {
+        Walk::begin(alloc, file, Begun::Inside(cursor))
+    }
+
+    /// A walk that begins so.
+    fn begin(alloc: Global, file: &'a [u8], begun: Begun) -> Self
+        ensures { result ≡ Due.walk_begun file.now begun }
+    {
+        let cursor = begun.cursor();
         Walk {
             alloc,
             file,
-            begun: cursor,
+            begun,
             given: 0,
             cursor,
             stage: Stage::Before,
@@ -118,17 +177,41 @@ impl<'a> Walk<'a> {
         self.cursor
     }
 
+    /// The place inside a strip behind the last row that was handed out, or the one that the walk
+    /// began with: `None` where it has none, behind a strip's last row, and where the bits before it
+    /// are more than 4,294,967,295. A fault changes nothing.
+    ///
+    /// # Errors
+    ///
+    /// `Memory` where a growth was refused.
+    pub fn long_cursor(&self, alloc: Global) -> Result<Option<LongCursor>, Memory>
+        ensures { IfOk result (IsLongNow self.now) }
+    {
+        fax_files::laws::files_have_one_chain();
+        fax_files::laws::forms_are_whole();
+        if self.given == 0 {
+            return self.begun.long_cursor();
+        }
+        match &self.stage {
+            Stage::Open(page) => page.long_cursor(alloc),
+            Stage::Ended(_, _, Some(page)) => page.long_cursor(alloc),
+            Stage::Before => unreachable!(),
+            Stage::Ended(_, _, None) => Ok(None),
+        }
+    }
+
     /// How many rows this walk has read: those that it handed out, and those that stand before the
     /// first of them in its strip.
     pub fn rows_read(&self) -> u64
         ensures exact { result ≡ rows_read_at self.now.stage }
         ensures bounded { HasReadRows self.now result }
+        ensures long { (place : LongPlace) → self.now.begun ≡ Inside place → result ≡ self.now.given }
     {
         fax_files::laws::files_have_one_chain();
         match &self.stage {
             Stage::Before => 0,
             Stage::Open(page) => page.read(),
-            Stage::Ended(_, read) => *read,
+            Stage::Ended(_, read, _) => *read,
         }
     }
 
@@ -137,7 +220,10 @@ impl<'a> Walk<'a> {
         ensures { (items : List Item) × (end : End) × Due.IsDue self.now items end }
     {
         match &self.stage {
-            Stage::Before => crate::laws::cursors_have_one_tail(),
+            Stage::Before => {
+                crate::laws::cursors_have_one_tail();
+                crate::laws::places_have_one_tail();
+            }
             Stage::Open(page) => page.has_items(),
             Stage::Ended(..) => {}
         }
@@ -150,16 +236,17 @@ impl<'a> Walk<'a> {
     {
         fax_files::laws::files_have_one_chain();
         let opened = match &self.stage {
-            Stage::Before => open_at(self.alloc, self.file, self.cursor),
+            Stage::Before => open_first(self.alloc, self.file, &self.begun),
             Stage::Open(page) if page.is_read() => page.open_next(self.alloc),
             Stage::Open(_) => return Ok(()),
             Stage::Ended(..) => return Ok(()),
         };
-        match opened {
-            Ok(page) => self.stage = Stage::Open(page),
-            Err(OpenFault::Ended(end)) => self.stage = Stage::Ended(end, self.rows_read()),
+        let stage = match opened {
+            Ok(page) => Stage::Open(page),
+            Err(OpenFault::Ended(end)) => Stage::Ended(end, self.rows_read(), None),
             Err(OpenFault::Memory) => return Err(Memory),
-        }
+        };
+        self.stage = stage;
         Ok(())
     }
 
@@ -168,6 +255,7 @@ impl<'a> Walk<'a> {
         requires { IsAtRow self.old.stage }
         ensures { IsStep self.old self.new }
     {
+        fax_files::laws::files_have_one_chain();
         match replace(&mut self.stage, Stage::Before) {
             Stage::Open(mut page) => match page.next() {
                 Ok(()) => {
@@ -175,7 +263,7 @@ impl<'a> Walk<'a> {
                     self.given += 1;
                     self.stage = Stage::Open(page);
                 }
-                Err(end) => self.stage = Stage::Ended(end, page.read()),
+                Err(end) => self.stage = Stage::Ended(end, page.read(), Some(page)),
             },
             other => self.stage = other,
         }
@@ -197,9 +285,9 @@ impl<'a> Walk<'a> {
         match &self.stage {
             Stage::Before => unreachable!(),
             Stage::Open(_) => Ok(true),
-            Stage::Ended(End::Proper, _) => Ok(false),
-            Stage::Ended(End::Outside, _) => Err(WalkFault::CursorOutside),
-            Stage::Ended(End::Fault { page, row, cause }, _) => Err(WalkFault::AtRow {
+            Stage::Ended(End::Proper, ..) => Ok(false),
+            Stage::Ended(End::Outside, ..) => Err(WalkFault::CursorOutside),
+            Stage::Ended(End::Fault { page, row, cause }, ..) => Err(WalkFault::AtRow {
                 page: *page,
                 row: *row,
                 cause: *cause,

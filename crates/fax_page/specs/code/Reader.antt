@@ -125,3 +125,27 @@ pub record ReadsRowByRow : Type 0 where
       → HasRead form bytes rows old → IsAtEnd old new → IsStrip form (bits form.order bytes) rows None
   pub stops : (form : StripForm) (bytes : List ℕ) (rows : List (List Colour)) (old new : StripState) (fault : StripFault)
       → HasRead form bytes rows old → MeetsFault old fault new → IsStrip form (bits form.order bytes) rows (Some fault)
+
+-- these rows were read, one behind another, from a place of a reader to a later one: whatever lines follow the later
+-- one, they follow these rows from the first place on
+pub record HasReadFrom (start : StripState) (rows : List (List Colour)) (state : StripState) : Type 0 where
+  pub same_form : state.form ≡ start.form
+  pub same_bytes : state.bytes ≡ start.bytes
+  pub followed : (more : List (List Colour)) (end : Option StripFault) (left : List Bool)
+      → AreLines start.form state.row state.reference (bits_left state) more end left
+      → AreLines start.form start.row start.reference (bits_left start) (rows ++ more) end left
+
+-- a reader that reads rows one behind another, from any place on, reads the lines from there, up to their end; a
+-- fault leaves it before the row that could not be read, over the same reference
+pub record ReadsOn : Type 0 where
+  pub begins : (start : StripState) → HasReadFrom start [] start
+  pub goes_on : (start : StripState) (rows : List (List Colour)) (old new : StripState)
+      → HasReadFrom start rows old → ReadsRow old new → HasReadFrom start (rows ++ new.reference ∷ []) new
+  pub ends : (start : StripState) (rows : List (List Colour)) (old new : StripState)
+      → HasReadFrom start rows old → IsAtEnd old new
+      → AreLines start.form start.row start.reference (bits_left start) rows None (bits_left new)
+  pub stops : (start : StripState) (rows : List (List Colour)) (old new : StripState) (fault : StripFault)
+      → HasReadFrom start rows old → MeetsFault old fault new
+      → AreLines start.form start.row start.reference (bits_left start) rows (Some fault) (bits_left new)
+  pub stays : (old new : StripState) (fault : StripFault) → IsAdvance old (Err fault) new
+      → (new.place ≡ old.place) × (new.row ≡ old.row) × (new.reference ≡ old.reference)

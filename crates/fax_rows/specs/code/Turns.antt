@@ -1,5 +1,5 @@
 -- A row as its places of change: each of them turns the colour of the pels from there on.
-use Rattle.std.specs.Prelude.{◌≡◌, ℕ, zero, suc, true, false, Option, ◌+◌, ◌-◌, ◌≤◌, ◌<◌, ◌^◌, nat_le, if◌then◌else◌, List, [], ◌∷◌, map, length, take, slice_index}
+use Rattle.std.specs.Prelude.{◌≡◌, ℕ, zero, suc, true, false, Option, Some, None, ◌+◌, ◌-◌, ◌≤◌, ◌<◌, ◌^◌, nat_le, if◌then◌else◌, List, [], ◌∷◌, map, length, take, slice_index}
 use Rattle.std.specs.List.{range_with_len}
 use Rattle.fax_bits.specs.declared.Colour.{Colour}
 use Rattle.fax_bits.specs.declared.Colour.TheVariants.{Black}
@@ -72,3 +72,8 @@ pub record IsB1At (places : List ℕ) (end : ℕ) (a0 : Option ℕ) (colour : Co
   pub colour_is : alternate Black b ≡ colour
   pub passed : 2 < b → is_right_of a0 (slice_index places (b - 2)) ≡ false
   pub ahead : b < end → is_right_of a0 (slice_index places b) ≡ true
+
+-- k is the index of the first of the places that are right of a0, where None is just before the first pel
+abbrev pub IsFrom : List ℕ → ℕ → Option ℕ → ℕ → Type 0
+IsFrom places end None k = k ≡ 1
+IsFrom places end (Some a) k = IsBehind places end a k

@@ -7,6 +7,8 @@ use std::alloc::Global;
 pub const WHOLE: Part = Part {
     cursor: Cursor { page: 0, row: 0 },
     max: None,
+    long: false,
+    from: None,
 };
 
 /// Into raw PBM.

@@ -209,6 +209,16 @@ fn writes_again_up_to_1023_times(rt: HostRuntime) -> Result<(), Fail> {
     Ok(())
 }
 
+/// The same command once more.
+fn again(command: &Command) -> Command {
+    match command {
+        Command::List(_) => Command::List(WHOLE),
+        Command::Rows(_) => Command::Rows(WHOLE),
+        Command::Convert(options) => Command::Convert(*options),
+        Command::Check => Command::Check,
+    }
+}
+
 #[test]
 fn says_read_where_a_read_fails(rt: HostRuntime) -> Result<(), Fail> {
     for command in commands() {
@@ -218,7 +228,7 @@ fn says_read_where_a_read_fails(rt: HostRuntime) -> Result<(), Fail> {
             input.fails = true;
             let left = run_over(
                 rt.alloc(),
-                command,
+                again(&command),
                 input,
                 roomy(rt.alloc()),
                 roomy(rt.alloc()),
@@ -241,7 +251,7 @@ fn says_write_where_a_write_fails(rt: HostRuntime) -> Result<(), Fail> {
         let input = Scripted::new(rt.alloc(), &ONE_MH_PAGE);
         let whole = run_over(
             rt.alloc(),
-            command,
+            again(&command),
             input,
             roomy(rt.alloc()),
             roomy(rt.alloc()),
@@ -252,7 +262,7 @@ fn says_write_where_a_write_fails(rt: HostRuntime) -> Result<(), Fail> {
                 let mut out = roomy(rt.alloc());
                 out.room = room;
                 out.fails = fails;
-                let left = run_over(rt.alloc(), command, input, out, roomy(rt.alloc()));
+                let left = run_over(rt.alloc(), again(&command), input, out, roomy(rt.alloc()));
                 assert_eq!(rt; left.output.len(), room);
                 assert!(rt;
                     whole.output.starts_with(&left.output),
@@ -295,7 +305,7 @@ fn answers_3_where_the_error_stream_fails(rt: HostRuntime) -> Result<(), Fail> {
         let input = Scripted::new(rt.alloc(), cut);
         let whole = run_over(
             rt.alloc(),
-            command,
+            again(&command),
             input,
             roomy(rt.alloc()),
             roomy(rt.alloc()),
@@ -305,7 +315,7 @@ fn answers_3_where_the_error_stream_fails(rt: HostRuntime) -> Result<(), Fail> {
         let mut err = roomy(rt.alloc());
         err.room = 4;
         err.fails = true;
-        let left = run_over(rt.alloc(), command, input, roomy(rt.alloc()), err);
+        let left = run_over(rt.alloc(), again(&command), input, roomy(rt.alloc()), err);
         assert_eq!(rt; left.output.as_slice(), whole.output.as_slice());
         assert_eq!(rt; left.error.as_slice(), b"faul".as_slice());
         assert_eq!(rt; left.status, 3);

@@ -3,12 +3,13 @@
 ghost use Rattle.std.specs.Prelude.{◌<◌};
 ghost use Rattle.std.specs.Option.{ForSome};
 
-use super::caller::{TO_PBM, WHOLE};
+use super::caller::TO_PBM;
 use crate::{Command, Cursor, FillOrder, Options, Part, Target, WordsFault, parse_words};
+use std::process::Abort;
 use std::test::Fail;
 
 /// Command lines that are refused: wrong, or asking for help or the version.
-static REFUSED: [&[&str]; 35] = [
+static REFUSED: [&[&str]; 37] = [
     &[],
     &["faxpages"],
     &["faxpages", "convert"],
@@ -42,6 +43,8 @@ static REFUSED: [&[&str]; 35] = [
     &["faxpages", "rows", "--cursor"],
     &["faxpages", "list", "--cursor", "none", "--max", "0"],
     &["faxpages", "rows", "--cursor", "none", "a.tif", "b.tif"],
+    &["faxpages", "rows", "--long", "--long"],
+    &["faxpages", "list", "--long"],
     &["faxpages", "rows", "-x"],
     &["faxpages", "rows", "a.tif", "b.tif"],
 ];
@@ -68,6 +71,13 @@ fn refuses_texts_of_no_cursor(rt: HostRuntime) -> Result<(), Fail> {
         "2:0:0",
         "1:0:4294967296",
         "1:0:0 ",
+        "2:0:1:1",
+        "2:0:1:1:",
+        "2:0:1:1:08",
+        "2:0:1:1:8,",
+        "2:0:1:01:8",
+        "3:0:1:1:8",
+        "2:0:1:4294967296:8",
     ] {
         for command in ["rows", "list"] {
             match parse_words(rt.alloc(), &["faxpages", command, "--cursor", text]) {
@@ -79,17 +89,49 @@ fn refuses_texts_of_no_cursor(rt: HostRuntime) -> Result<(), Fail> {
     Ok(())
 }
 
+/// The part whose rows are to be printed.
+fn rows_of(rt: &impl Abort, command: Command) -> Part {
+    match command {
+        Command::Rows(part) => part,
+        _ => panic!(rt; "not rows"),
+    }
+}
+
+/// The part whose pages are to be printed.
+fn pages_of(rt: &impl Abort, command: Command) -> Part {
+    match command {
+        Command::List(part) => part,
+        _ => panic!(rt; "not pages"),
+    }
+}
+
+/// How the pages are to be converted.
+fn options_of(rt: &impl Abort, command: Command) -> Options {
+    match command {
+        Command::Convert(options) => options,
+        _ => panic!(rt; "no conversion"),
+    }
+}
+
+/// A part begins at this cursor, has this limit, and neither has nor wants a long cursor.
+fn assert_part(rt: &impl Abort, part: &Part, page: u32, row: u32, max: Option<u32>) {
+    assert_eq!(rt; part.cursor, Cursor { page, row });
+    assert_eq!(rt; part.max, max);
+    assert!(rt; !part.long);
+    assert!(rt; part.from.is_none());
+}
+
 #[test]
 fn reads_jobs(rt: HostRuntime) -> Result<(), Fail> {
     let from_file = parse_words(rt.alloc(), &["faxpages", "rows", "a.tif"])?;
-    assert_eq!(rt; from_file.command, Command::Rows(WHOLE));
     assert_eq!(rt;
         from_file.file.as_ref().map(|name| name.as_str()),
         Some("a.tif")
     );
+    assert_part(&rt, &rows_of(&rt, from_file.command), 0, 0, None);
     let from_input = parse_words(rt.alloc(), &["faxpages", "list"])?;
-    assert_eq!(rt; from_input.command, Command::List(WHOLE));
     assert!(rt; from_input.file.is_none());
+    assert_part(&rt, &pages_of(&rt, from_input.command), 0, 0, None);
     let dashed = parse_words(rt.alloc(), &["faxpages", "rows", "--", "-x"])?;
     assert_eq!(rt; dashed.file.as_ref().map(|name| name.as_str()), Some("-x"));
     Ok(())
@@ -97,13 +139,6 @@ fn reads_jobs(rt: HostRuntime) -> Result<(), Fail> {
 
 #[test]
 fn reads_parts(rt: HostRuntime) -> Result<(), Fail> {
-    let part = Part {
-        cursor: Cursor {
-            page: 2,
-            row: 4_294_967_295,
-        },
-        max: Some(4_294_967_295),
-    };
     let words = [
         "faxpages",
         "rows",
@@ -111,19 +146,31 @@ fn reads_parts(rt: HostRuntime) -> Result<(), Fail> {
         "1:2:4294967295",
         "--max=4294967295",
     ];
-    assert_eq!(rt;
-        parse_words(rt.alloc(), &words)?.command,
-        Command::Rows(part)
-    );
+    let part = rows_of(&rt, parse_words(rt.alloc(), &words)?.command);
+    assert_part(&rt, &part, 2, 4_294_967_295, Some(4_294_967_295));
     let behind = ["faxpages", "list", "a.tif", "--max", "1", "--cursor=1:0:0"];
-    let first = Part {
-        max: Some(1),
-        ..WHOLE
+    let first = pages_of(&rt, parse_words(rt.alloc(), &behind)?.command);
+    assert_part(&rt, &first, 0, 0, Some(1));
+    Ok(())
+}
+
+#[test]
+fn reads_long_cursors(rt: HostRuntime) -> Result<(), Fail> {
+    let words = ["faxpages", "rows", "--long", "--cursor", "2:3:4:41:0,8"];
+    let part = rows_of(&rt, parse_words(rt.alloc(), &words)?.command);
+    assert!(rt; part.long);
+    assert_eq!(rt; part.cursor, Cursor { page: 3, row: 4 });
+    let Some(from) = part.from else {
+        panic!(rt; "no long cursor");
     };
-    assert_eq!(rt;
-        parse_words(rt.alloc(), &behind)?.command,
-        Command::List(first)
-    );
+    assert_eq!(rt; from.at, Cursor { page: 3, row: 4 });
+    assert_eq!(rt; from.bits, 41);
+    assert_eq!(rt; from.runs.as_slice(), [0u32, 8].as_slice());
+    let of_pages = ["faxpages", "list", "--cursor", "2:3:4:41:0,8"];
+    match parse_words(rt.alloc(), &of_pages) {
+        Ok(_) => assert!(rt; false, "a list has no long cursor"),
+        Err(fault) => assert_eq!(rt; fault, WordsFault::NotACursor),
+    }
     Ok(())
 }
 
@@ -145,8 +192,11 @@ fn options(order: FillOrder, k: u32, strip: Option<u32>) -> Options
 fn reads_options(rt: HostRuntime) -> Result<(), Fail> {
     let usual = options(FillOrder::MsbFirst, 4, None);
     assert_eq!(rt;
-        parse_words(rt.alloc(), &["faxpages", "convert", "-o", "mmr"])?.command,
-        Command::Convert(usual)
+        options_of(
+            &rt,
+            parse_words(rt.alloc(), &["faxpages", "convert", "-o", "mmr"])?.command,
+        ),
+        usual
     );
     let all = [
         "faxpages",
@@ -162,15 +212,15 @@ fn reads_options(rt: HostRuntime) -> Result<(), Fail> {
     ];
     let job = parse_words(rt.alloc(), &all)?;
     let given = options(FillOrder::LsbFirst, 1_000_000, Some(1));
-    assert_eq!(rt; job.command, Command::Convert(given));
     assert_eq!(rt; job.file.as_ref().map(|name| name.as_str()), Some("a.tif"));
+    assert_eq!(rt; options_of(&rt, job.command), given);
     let to_pbm = parse_words(
         rt.alloc(),
         &["faxpages", "convert", "-o", "pbm", "--order", "1"],
     )?;
-    assert_eq!(rt; to_pbm.command, Command::Convert(TO_PBM));
+    assert_eq!(rt; options_of(&rt, to_pbm.command), TO_PBM);
     let check = parse_words(rt.alloc(), &["faxpages", "check", "a.tif"])?;
-    assert_eq!(rt; check.command, Command::Check);
+    assert!(rt; matches!(&check.command, Command::Check));
     Ok(())
 }
 
@@ -185,8 +235,8 @@ fn reads_that_eols_are_aligned(rt: HostRuntime) -> Result<(), Fail> {
         aligned: true,
     };
     let job = parse_words(rt.alloc(), &to_mh)?;
-    assert_eq!(rt; job.command, Command::Convert(into_mh));
     assert_eq!(rt; job.file.as_ref().map(|name| name.as_str()), Some("a.tif"));
+    assert_eq!(rt; options_of(&rt, job.command), into_mh);
     let to_mr = ["faxpages", "convert", "--align", "-o", "mr", "--k", "2"];
     let into_mr = Options {
         target: Target::Mr,
@@ -196,8 +246,8 @@ fn reads_that_eols_are_aligned(rt: HostRuntime) -> Result<(), Fail> {
         aligned: true,
     };
     assert_eq!(rt;
-        parse_words(rt.alloc(), &to_mr)?.command,
-        Command::Convert(into_mr)
+        options_of(&rt, parse_words(rt.alloc(), &to_mr)?.command),
+        into_mr
     );
     Ok(())
 }

@@ -15,7 +15,8 @@ use Rattle.fax_walk.specs.declared.walk.Stage.TheVariants.{Before, Open, Ended}
 use Rattle.fax_walk.specs.contracts.walk.Walk.{the_row}
 use Rattle.fax_walk.specs.Items.{Item}
 use Rattle.fax_walk.specs.Tail.{behind_item}
-use Rattle.fax_walk.specs.Before.{AreRowsBefore, EndsBefore}
+use Rattle.fax_walk.specs.LongTail.{begins_at}
+use Rattle.fax_walk.specs.Before.{AreRowsBeforeBegun, EndsBefore}
 use Rattle.fax_walk.specs.code.Stages.{row_of}
 use Rattle.fax_walk.specs.code.Due.{WalkState, IsDue, places_left}
 
@@ -29,16 +30,16 @@ EndsAs walk P =
 abbrev pub HasTold : Stage → End → Type 0
 HasTold Before end = ⊥
 HasTold (Open page) end = ⊥
-HasTold (Ended ended read) end = ended ≡ end
+HasTold (Ended ended read last) end = ended ≡ end
 
 -- So many rows were read by a walk: those that it handed out, and those before the first of them in its strip. Before
 -- it hands out one it has read at most these; and where it has ended so, all of them, but where one cannot be read
 pub record HasReadRows (walk : WalkState) (read : ℕ) : Type 0 where
   pub before : ℕ
-  pub are_before : AreRowsBefore walk.file walk.begun before
+  pub are_before : AreRowsBeforeBegun walk.file walk.begun before
   pub most : read ≤ walk.given + before
   pub all : 0 < walk.given → read ≡ walk.given + before
-  pub told : (end : End) → HasTold walk.stage end → (read ≡ walk.given + before) ⊎ EndsBefore end walk.begun
+  pub told : (end : End) → HasTold walk.stage end → (read ≡ walk.given + before) ⊎ EndsBefore end (begins_at walk.begun)
 
 -- this item is handed out: it is the first of what was due, and what is due then is the rest
 pub record HandsOut (old : WalkState) (item : Item) (new : WalkState) : Type 0 where
@@ -59,13 +60,13 @@ pub record HasEnded (old : WalkState) (end : End) (new : WalkState) : Type 0 whe
 abbrev pub IsEntering : Stage → Type 0
 IsEntering Before = ⊤
 IsEntering (Open page) = row_of page ≡ page.form.rows
-IsEntering (Ended end read) = ⊥
+IsEntering (Ended end read last) = ⊥
 
 -- a page of which a row is due is open, or the rows have ended
 abbrev pub IsAtRow : Stage → Type 0
 IsAtRow Before = ⊥
 IsAtRow (Open page) = row_of page < page.form.rows
-IsAtRow (Ended end read) = ⊤
+IsAtRow (Ended end read last) = ⊤
 
 -- the page of the row that is due is open, and the same items are due
 pub record IsEntered (old new : WalkState) : Type 0 where
@@ -83,7 +84,7 @@ abbrev pub StepsAs : WalkState → Stage → WalkState → Type 0
 StepsAs old Before new = ⊥
 StepsAs old (Open page) new =
     HandsOut old (record { page = page.page; row = row_of page - 1; pels = page.shown }) new × (0 < row_of page)
-StepsAs old (Ended end read) new = HasEnded old end new
+StepsAs old (Ended end read last) new = HasEnded old end new
 
 abbrev pub IsStep : WalkState → WalkState → Type 0
 IsStep old new = StepsAs old new.stage new
@@ -104,13 +105,13 @@ IsNext old (Err Memory) new = (new ≡ old) × IsEntering old.stage
 abbrev pub IsOnPage : Stage → Type 0
 IsOnPage Before = ⊥
 IsOnPage (Open page) = ⊤
-IsOnPage (Ended end read) = ⊥
+IsOnPage (Ended end read last) = ⊥
 
 -- the row that was read last, where a page is open
 abbrev pub shown_at : Stage → List Colour
 shown_at Before = []
 shown_at (Open page) = page.shown
-shown_at (Ended end read) = []
+shown_at (Ended end read last) = []
 
 -- what a call that goes to the next row answers: memory is refused only where a page is entered
 abbrev pub IsAdvance : WalkState → Result Bool WalkFault → WalkState → Type 0

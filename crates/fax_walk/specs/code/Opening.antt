@@ -1,5 +1,8 @@
 -- Pages as they become due.
 use Rattle.std.specs.Prelude.{◌≡◌, ℕ, ◌+◌, ◌%◌, ◌<◌, ◌≤◌, ◌⊎◌, List, [], length, drop, Option, Some, None, Result, Ok, Err, slice_get, ⊤}
+use Rattle.fax_bits.specs.declared.Colour.{Colour}
+use Rattle.fax_page.specs.declared.StripForm.{StripForm}
+use Rattle.fax_page.specs.code.Reader.{StripState}
 use Rattle.fax_files.specs.declared.FileFault.{FileFault}
 use Rattle.fax_files.specs.declared.Cause.TheVariants.{File}
 use Rattle.fax_files.specs.declared.PageForm.{PageForm}
@@ -8,17 +11,21 @@ use Rattle.fax_files.specs.Chain.{IsChain}
 use Rattle.fax_files.specs.Page.{IsPageForm, page}
 use Rattle.fax_files.specs.code.Chain.{ChainState}
 use Rattle.fax_files.specs.code.Tiff.{TiffDirectory, directory_of, form_of}
+use Rattle.fax_walk.specs.declared.begun.Begun.{Begun}
+use Rattle.fax_walk.specs.declared.begun.Begun.TheVariants.{Inside}
 use Rattle.fax_walk.specs.declared.cursor.Cursor.{Cursor}
 use Rattle.fax_walk.specs.declared.end.End.{End}
-use Rattle.fax_walk.specs.declared.end.End.TheVariants.{Proper, Fault}
+use Rattle.fax_walk.specs.declared.end.End.TheVariants.{Proper, Fault, Outside}
 use Rattle.fax_walk.specs.declared.opening.OpenFault.{OpenFault}
 use Rattle.fax_walk.specs.declared.opening.OpenFault.TheVariants.{Memory, Ended}
 use Rattle.fax_walk.specs.Items.{Item, AreFromRow}
 use Rattle.fax_walk.specs.Tail.{IsTail}
-use Rattle.fax_walk.specs.Before.{AreRowsBefore, EndsBefore, rows_before}
+use Rattle.fax_walk.specs.LongCursor.{LongPlace}
+use Rattle.fax_walk.specs.LongTail.{IsInside, AreOnPage, IsLongTail, begins_at}
+use Rattle.fax_walk.specs.Before.{AreRowsBefore, AreRowsBeforeBegun, EndsBefore, rows_before}
 use Rattle.fax_walk.specs.Forms.{FormItem, ArePagesForms, IsFormThen, IsFormTail}
 use Rattle.fax_walk.specs.code.Stages.{PageState, row_of, skipped}
-use Rattle.fax_walk.specs.code.Due.{ArePagesBehind, IsOpen}
+use Rattle.fax_walk.specs.code.Due.{ArePagesBehind, IsOpen, IsInFile, IsAtStrip, IsReached}
 
 -- a page that is due: its number, the chain behind its directory, its directory and its form
 pub record PageDue : Type 0 where
@@ -72,6 +79,10 @@ pub record IsOpenedAt (due : PageDue) (first read : ℕ) (page : PageState) : Ty
   pub same_first : page.first ≡ first
   pub skipped_is : skipped page ≡ first % due.form.rows_per_strip
   pub read_is : page.read ≡ read
+  pub same_chain : page.chain ≡ due.chain
+  pub same_directory : page.directory ≡ due.directory
+  pub same_form : page.form ≡ due.form
+  pub at_strip : IsAtStrip page
 
 -- the page behind the directories that a chain has handed out is open at its first row, and so many rows were read before
 --
@@ -81,6 +92,9 @@ pub record IsOpenedBehind (chain : ChainState) (read : ℕ) (page : PageState) :
   pub same_page : page.page ≡ chain.given
   pub first_is : row_of page + skipped page ≡ 0
   pub read_is : page.read ≡ read
+  pub at_strip : IsAtStrip page
+  pub in_file : (file : List ℕ) → header file ≡ Ok chain.tiff.head → chain.tiff.file ≡ file
+      → IsInFile file page.page page.chain page.directory page.form
 
 -- what a chain's next page is, in a file with these directories: a page, none behind the last one, or the fault in its
 -- place
@@ -113,9 +127,17 @@ pub record IsChainBefore (file : List ℕ) (number : ℕ) (chain : ChainState) :
   pub within : (offsets : List ℕ) (fault : Option FileFault) → IsChain chain.tiff.head chain.tiff.file offsets fault
       → number ≤ length offsets
 
+-- the place inside a strip that has this cursor, these bits and these runs
+abbrev pub place_at : Cursor → ℕ → List ℕ → LongPlace
+place_at at bits runs = record { at = at; bits = bits; runs = runs }
+
+-- nor are there rows from a place inside a strip on that has this cursor
+abbrev pub EndsInside : List ℕ → Cursor → End → Type 0
+EndsInside file at end = (bits : ℕ) (runs : List ℕ) → IsLongTail file (place_at at bits runs) [] end
+
 -- from a cursor on there are no rows and no pages, and they end so; nor are there rows before it in a strip
 abbrev pub EndsAt : List ℕ → Cursor → End → Type 0
-EndsAt file at end = IsTail file at [] end × IsFormTail file at [] end × AreRowsBefore file at 0
+EndsAt file at end = IsTail file at [] end × IsFormTail file at [] end × AreRowsBefore file at 0 × EndsInside file at end
 
 -- there is no page of this number, and from any row of it on there is nothing but this end
 abbrev pub IsEndBefore : List ℕ → ℕ → End → Type 0
@@ -128,9 +150,52 @@ pub record IsPageOf (file : List ℕ) (at : Cursor) (due : PageDue) : Type 0 whe
   pub before : AreRowsBefore file at (rows_before (Ok due.form) at.row)
   pub from_row : (items : List Item) (end : End) → at.row < due.form.rows → AreDueFrom due at.row items end → IsTail file at items end
   pub from_next : (items : List Item) (end : End) → at.row ≡ due.form.rows → ArePagesBehind due.chain items end → IsTail file at items end
+  pub in_file : IsInFile file due.page due.chain due.directory due.form
+  pub from_any : (row : ℕ) (items : List Item) (end : End) → row < due.form.rows → AreDueFrom due row items end
+      → IsTail file (record { page = at.page; row = row }) items end
+  pub from_behind : (items : List Item) (end : End) → ArePagesBehind due.chain items end
+      → IsTail file (record { page = at.page; row = due.form.rows }) items end
+  pub from_place : (bits : ℕ) (runs : List ℕ) (items : List Item) (end : End)
+      → AreOnPage due.directory.endian file due.directory.offset (place_at at bits runs) (Ok due.form) items end
+      → IsLongTail file (place_at at bits runs) items end
   pub form_first : (forms : List FormItem) (end : End) → at.row ≡ 0 → IsFormThen due.page due.form (AreFormsBehind due.chain) forms end
       → IsFormTail file at forms end
   pub form_next : (forms : List FormItem) (end : End) → 0 < at.row → AreFormsBehind due.chain forms end → IsFormTail file at forms end
+
+-- what is due of a page from a place inside a strip of it is what a walk over its file hands out from there
+abbrev pub IsPlaceDue : PageDue → LongPlace → List Item → End → Type 0
+IsPlaceDue due place items end = (file : List ℕ) → IsPageOf file place.at due → IsLongTail file place items end
+
+-- the page is open at a place inside a strip of it, and no row was read
+pub record IsOpenedInside (due : PageDue) (place : LongPlace) (page : PageState) : Type 0 where
+  pub is_open : IsOpen page
+  pub row_due : row_of page < page.form.rows
+  pub same_page : page.page ≡ due.page
+  pub row_is : row_of page ≡ place.at.row
+  pub same_first : page.first ≡ place.at.row
+  pub read_is : page.read ≡ 0
+  pub same_chain : page.chain ≡ due.chain
+  pub same_directory : page.directory ≡ due.directory
+  pub same_form : page.form ≡ due.form
+  pub reached : IsReached (Inside place) page
+
+-- the reader of a strip stands at a place inside it, before this row of the strip
+abbrev pub IsAtPlace : StripForm → List ℕ → ℕ → LongPlace → StripState → Type 0
+IsAtPlace form bytes row place strip =
+    (reference : List Colour) × IsInside form.width bytes place reference
+    × (strip ≡ record { form = form; bytes = bytes; place = place.bits; row = row; read = 0; reference = reference; fault = None })
+
+-- no strip was opened: where memory was not refused, the place is outside of it
+abbrev pub IsNoPlace : StripForm → List ℕ → LongPlace → OpenFault → Type 0
+IsNoPlace form bytes place Memory = ⊤
+IsNoPlace form bytes place (Ended end) =
+    (end ≡ Outside) × ((reference : List Colour) → IsInside form.width bytes place reference → ⊥)
+
+-- the same as for a cursor, for what a walk began with
+abbrev pub EndsShortFrom : List ℕ → Begun → OpenFault → Type 0
+EndsShortFrom file begun Memory = ⊤
+EndsShortFrom file begun (Ended end) =
+    (n : ℕ) × AreRowsBeforeBegun file begun n × ((n ≡ 0) ⊎ EndsBefore end (begins_at begun))
 
 -- what a cursor names: a page, or the place behind the last one
 abbrev pub IsPageAt : List ℕ → Cursor → Option PageDue → Type 0

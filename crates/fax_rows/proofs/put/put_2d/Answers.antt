@@ -1,46 +1,15 @@
-use Rattle.std.proofs.Common.{◌<◌, ◌≤◌, length, arith}
-use Rattle.fax_rows.proofs.ChangeLemmas.{first_of}
-use Rattle.fax_rows.proofs.ChoiceLemmas.{place_ahead, passed_right}
-use Rattle.fax_rows.proofs.PlacedLemmas.{place_begins, place_goes_on, place_stops, place_ends, step_smaller}
-use Rattle.fax_rows.proofs.PutLemmas.{on_err}
+use Rattle.std.proofs.Common.{◌≡◌, length, sym, subst, arith}
+use Rattle.fax_rows.specs.code.Turns.{ArePlaces}
+use Rattle.fax_rows.proofs.PlacedRowLemmas.{width_is}
 use Rattle.fax_rows.proofs.put.put_2d.Goals as goal
 
-pub loop-ahead-init : goal.loop-ahead-init
-loop-ahead-init c = record {
-  placed = rw c.of_row-ahead.ensures.start (place_begins c.args.reference.now c.args.row.now c.args.sink.now);
-  places = c.of_row-ahead.ensures.places;
-}
-
-pub returns-in_err-place-clause-err : goal.returns-in_err-place-clause-err
-returns-in_err-place-clause-err c =
-    let inside : first_of c.loop-ahead.ahead.a0 < length c.args.row.now = omega arith in
-    on_err c.from_residual.result
-    (place_stops c.args.reference.now c.args.row.now c.requires.same_width c.args.sink.now c.loop-ahead.sink c.put_step.new.sink
-    c.loop-ahead.ahead.a0 c.loop-ahead.invariant.placed inside c.in_err-place.ensures.err)
-
-pub from_place-ahead-requires-clause-right : goal.from_place-ahead-requires-clause-right
-from_place-ahead-requires-clause-right c =
-    let inside : first_of c.loop-ahead.ahead.a0 < length c.args.row.now = omega arith in
-    rw c.in_ok-place.ensures.next
-    (passed_right c.loop-ahead.ahead.a0 _ (place_ahead c.args.reference.now c.args.row.now c.requires.same_width c.loop-ahead.ahead.a0 inside).right)
-
-pub loop-ahead-smaller : goal.loop-ahead-smaller
-loop-ahead-smaller c =
-    let inside : first_of c.loop-ahead.ahead.a0 < length c.args.row.now = omega arith in
-    step_smaller c.args.reference.now c.args.row.now c.requires.same_width c.loop-ahead.ahead.a0 inside c.in_ok-place.place
-    c.in_ok-place.ensures.next c.from_place-ahead.result.a0 c.from_place-ahead.ensures.start
-
-pub loop-ahead-preserved : goal.loop-ahead-preserved
-loop-ahead-preserved c =
-    let inside : first_of c.loop-ahead.ahead.a0 < length c.args.row.now = omega arith in
+pub invariant_of-rows : goal.invariant_of-rows
+invariant_of-rows c =
+    let own : c.row.inside.width ≡ length c.args.row.now = width_is c.row.inside.places.items c.row.inside.end c.row.inside.width c.row.invariant c.args.row.now c.row.view_is in
+    let others : c.reference.inside.width ≡ length c.args.reference.now = width_is c.reference.inside.places.items c.reference.inside.end c.reference.inside.width c.reference.invariant c.args.reference.now c.reference.view_is in
+    let same : c.row.inside.width ≡ c.reference.inside.width = omega arith in
     record {
-      placed = rw c.from_place-ahead.ensures.start
-          (place_goes_on c.args.reference.now c.args.row.now c.requires.same_width c.args.sink.now c.loop-ahead.sink c.put_step.new.sink
-          c.loop-ahead.ahead.a0 c.loop-ahead.invariant.placed inside c.in_ok-place.place c.in_ok-place.ensures.next c.in_ok-place.ensures.ok);
-      places = c.from_place-ahead.ensures.places;
+      reference_placed = rw c.deref.ensures.value
+          (subst (λ width. ArePlaces c.reference.inside.places.items c.reference.inside.end width) (sym same) c.reference.invariant);
+      row_placed = rw c.deref-2.ensures.value c.row.invariant;
     }
-
-pub returns-clause-ok : goal.returns-clause-ok
-returns-clause-ok c =
-    let over : length c.args.row.now ≤ first_of c.loop-ahead.ahead.a0 = omega arith in
-    place_ends c.args.reference.now c.args.row.now c.args.sink.now c.loop-ahead.ahead.a0 c.loop-ahead.sink c.loop-ahead.invariant.placed over

@@ -7,7 +7,7 @@ pub returns-in_err-file-clause-err : goal.returns-in_err-file-clause-err
 returns-in_err-file-clause-err g c =
     let p = err_from_is_err_and c.from_residual.result c.from_residual.ensures.1 in
     rw (p.1, p.2)
-    (pages_stopped_at_beginning c.cursors_have_one_form_tail.ensures (g.R.Source.left c.args.input.now) c.args.part _ _ _ _
+    (pages_stopped_at_beginning c.cursors_have_one_form_tail.ensures (g.R.Source.left c.args.input.now) c.args.part.now _ _ _ _
     (g.W.Sink.written c.args.out.now) _ c.in_err-file.ensures.err)
 
 pub returns-in_err-ending-clause-err : goal.returns-in_err-ending-clause-err
@@ -15,12 +15,12 @@ returns-in_err-ending-clause-err g c =
     let p = err_from_is_err_and c.from_residual-in_err-ending.result c.from_residual-in_err-ending.ensures.1 in
     let stops = rw (c.resume-pages.ensures, c.deref.ensures.value) at c.in_err-ending.ensures.err in
     rw (p.1, p.2)
-    (pages_stopped (g.R.Source.left c.args.input.now) c.in_ok-file.file.items c.args.part _ _ _ _ (g.W.Sink.written c.args.out.now) _
+    (pages_stopped (g.R.Source.left c.args.input.now) c.in_ok-file.file.items c.args.part.now _ _ _ _ (g.W.Sink.written c.args.out.now) _
     c.in_ok-file.ensures.whole (rw c.in_ok-file.ensures.unwritten at stops))
 
 pub returns-clause-ok : goal.returns-clause-ok
 returns-clause-ok g c =
     let prints = rw (c.resume-pages.ensures, c.deref.ensures.value) at c.in_ok-ending.ensures.ok in
     rw c.fault_of.ensures
-    (pages_printed (g.R.Source.left c.args.input.now) c.in_ok-file.file.items c.args.part c.in_ok-ending.ending
+    (pages_printed (g.R.Source.left c.args.input.now) c.in_ok-file.file.items c.args.part.now c.in_ok-ending.ending
     (g.W.Sink.written c.args.out.now) _ c.in_ok-file.ensures.whole (rw c.in_ok-file.ensures.unwritten at prints))

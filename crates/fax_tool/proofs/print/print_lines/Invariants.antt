@@ -6,7 +6,8 @@ use Rattle.fax_tool.proofs.print.print_lines.Given as goal
 
 abbrev pub invariant-loop-left : goal.invariant-loop-left
 invariant-loop-left g l = record {
-  some : PrintsSome (g.L.Lines.are_due l.initial.lines) (g.L.Lines.are_due l.lines) (g.L.Lines.place l.initial.lines)
+  some : PrintsSome (g.L.Lines.are_due l.initial.lines) (g.L.Lines.are_due l.lines) (g.L.Lines.said l.initial.lines)
+      (g.L.Lines.said l.lines) (g.L.Lines.place l.initial.lines)
       (g.L.Lines.place l.lines) l.initial.left l.left (g.W.Sink.written l.initial.out) (g.W.Sink.written l.out) (string_bytes l.text);
   counts : g.W.Sink.counts l.out ≡ counted l.interruptions;
 }

@@ -1,11 +1,12 @@
 use Rattle.std.proofs.Common.{map, refl, sym, ◌∙◌, subst}
 use Rattle.std.proofs.lemmas.List.{length-map}
+use Rattle.std.proofs.lemmas.Result.{err_from_is_err_and}
 use Rattle.fax_walk.specs.Items.{Item}
 use Rattle.fax_walk.specs.Forms.{FormItem}
 use Rattle.fax_walk.specs.Converted.{IsRefused}
 use Rattle.fax_walk.specs.code.Output.{no_rows, form_sheet, IsPartWritten}
 use Rattle.fax_walk.specs.code.Sources.{BeginsWithPage, ConvertsRows, part_of}
-use Rattle.fax_walk.proofs.FileLemmas.{if_ok, if_err, now, page_fewer, page_due, page_written, not_outside, told, all_written, file_converted, file_too_large}
+use Rattle.fax_walk.proofs.FileLemmas.{rows_refused, if_ok, if_err, now, page_fewer, page_due, page_written, not_outside, told, all_written, file_converted, file_too_large}
 use Rattle.fax_walk.proofs.conversion.convert_file.Goals as goal
 
 pub finish-requires : goal.finish-requires
@@ -102,3 +103,11 @@ loop-form-preserved c =
       so_far = page_written c.files_have_one_forms.ensures c.files_have_one_chain.ensures c.forms_are_whole.ensures c.args.file.now c.args.options.now inv.total inv.count inv.counted inv.total_is c.loop-form.pages c.loop-form.walk c.loop-form.output inv.so_far item c.next_page.new.self given c.has_forms.ensures
           c.begin.new.self c.convert_rows.new.walk c.convert_rows.new.output c.end.new.self rows ended;
     }
+
+pub returns-in_err-convert_rows-clause-err : goal.returns-in_err-convert_rows-clause-err
+returns-in_err-convert_rows-clause-err c =
+    let inv = c.loop-form.invariant in
+    let p = err_from_is_err_and c.from_residual-in_err-convert_rows.result c.from_residual-in_err-convert_rows.ensures.1 in
+    rw (p.1, p.2) (λ not_memory.
+    rows_refused c.files_have_one_forms.ensures c.files_have_one_chain.ensures c.forms_are_whole.ensures c.args.file.now c.args.options.now inv.total inv.count inv.counted inv.total_is c.loop-form.pages c.loop-form.walk c.loop-form.output inv.so_far
+    c.requires _ (c.in_err-convert_rows.ensures.err not_memory))

@@ -1,7 +1,5 @@
 use Rattle.std.proofs.Common.{get_or, ◌+◌, pos, arith}
 use Rattle.std.proofs.lemmas.Int.{ints}
-use Rattle.fax_rows.specs.TwoDimensional.{a0_number}
-use Rattle.fax_rows.specs.code.Reached.{position_of}
 use Rattle.fax_rows.proofs.PlacedB1Lemmas.{b1_next}
 use Rattle.fax_rows.proofs.PlacedStepLemmas.{b1_in_room, room_left, vertical_placed, turned_so_far, under_right, under_ahead, under_within, from_start}
 use Rattle.fax_rows.proofs.two_dimensional.quick.under_b1.Goals as goal

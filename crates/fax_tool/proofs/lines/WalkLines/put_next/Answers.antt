@@ -12,4 +12,4 @@ pub returns-in_ok-end_of-in-Err : goal.returns-in_ok-end_of-in-Err
 returns-in_ok-end_of-in-Err c =
     let next = rw c.in-Err.is at c.next_row.follows.holds-at-none in
     let ended = rows_refused _ c.next_row.follows.lender-at-none c.in-Err.fault _ next c.in_ok-end_of-in-Err.ensures in
-    record { put = (ended.0, ended.1, refl) }
+    record { put = (ended.0, ended.1, refl, ended.2) }

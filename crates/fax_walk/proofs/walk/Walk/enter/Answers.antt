@@ -1,26 +1,67 @@
-use Rattle.std.proofs.Common.{sym, ◌∙◌}
-use Rattle.fax_walk.proofs.CountLemmas.{counted_first, counted_next, same_number}
-use Rattle.fax_walk.proofs.WalkLemmas.{TakesPlace, entered, takes_first, takes_next}
+use Rattle.std.proofs.Common.{sym, ◌∙◌, arith}
+use Rattle.fax_walk.proofs.CountLemmas.{counted_first, counted_next, ended_first, ended_next, same_number}
+use Rattle.fax_walk.proofs.LastLemmas.{first_on_page, next_opened, none_behind_page}
+use Rattle.fax_walk.proofs.WalkLemmas.{TakesPlace, entered, takes_first, takes_next, ends_first, ends_next}
 use Rattle.fax_walk.proofs.walk.Walk.enter.Goals as goal
-use Rattle.fax_walk.proofs.walk.Walk.enter.Goals.{in-Open+in-Some-1, in-Open+in-None-1, in-Before-1, in-Before, in-Open}
+use Rattle.fax_walk.proofs.walk.Walk.enter.Goals.{in-Before, in-Open, in-Ok, in-Err-Ended}
 
-pub invariant_of-self-in-Ok-3 : goal.invariant_of-self-in-Ok-3
-invariant_of-self-in-Ok-3 c = elim c.match-self.branch [
-  | in-Before w ↦ counted_first _ _ _ _ c.in-Ok.page _ _ (rw w.in-Before.is at c.self.invariant) w.opened-is c.in-Ok.is w.open_at-opened.ensures.opened
-      w.open_at-opened.ensures.before
-  | in-Open w ↦ counted_next _ _ _ _ w.in-Open.page c.in-Ok.page _ _ (rw w.in-Open.is at c.self.invariant) (same_number _ _ (sym w.is_read.ensures ∙ w.if-is_read.true)) w.open_next-opened.ensures.number
-      w.opened-is c.in-Ok.is w.open_next-opened.ensures.opened
+pub invariant_of-self : goal.invariant_of-self
+invariant_of-self c = elim c.match-opened.branch [
+  | in-Ok o ↦ elim c.match-self.branch [
+    | in-Before w ↦
+        let sound = rw w.in-Before.is at c.self.invariant in
+        let counted = counted_first _ _ _ _ o.in-Ok.page _ _ sound w.opened-is o.in-Ok.is w.open_first-opened.ensures.opened w.open_first-opened.ensures.before in
+        rw o.stage-is (
+          counted.0,
+          counted.1,
+          first_on_page _ _ _ _ o.in-Ok.page _ _ sound.1 w.opened-is o.in-Ok.is w.open_first-opened.ensures.in_file w.open_first-opened.ensures.reached,
+        )
+    | in-Open w ↦
+        let sound = rw w.in-Open.is at c.self.invariant in
+        let all_read = same_number _ _ (sym w.is_read.ensures ∙ w.if-is_read.true) in
+        let counted = counted_next _ _ _ _ w.in-Open.page o.in-Ok.page _ _ (sound.0, sound.1) all_read w.open_next-opened.ensures.number w.opened-is o.in-Ok.is
+        w.open_next-opened.ensures.opened in
+        rw o.stage-is (
+          counted.0,
+          counted.1,
+          next_opened c.files_have_one_chain.ensures _ _ _ _ w.in-Open.page o.in-Ok.page _ _ sound.0.is_open.limits sound.2 all_read w.open_next-opened.ensures.number
+              w.opened-is o.in-Ok.is w.open_next-opened.ensures.opened,
+        )
+  ]
+  | in-Err-Ended o ↦ elim c.match-self.branch [
+    | in-Before w ↦
+        let sound = rw w.in-Before.is at c.self.invariant in
+        let none_read = rw (← c.self.view_is, w.in-Before.is) at o.rows_read.ensures.exact in
+        rw o.stage-is (
+          ended_first _ _ _ o.in-Err-Ended.end o.rows_read.result _ _ _ sound.1 none_read w.opened-is o.in-Err-Ended.is (rw o.in-Err-Ended.is at o.in-Err-Ended.field-0-is)
+              w.open_first-opened.ensures.short,
+          λ some. absurd (omega (arith, some, sound.1)),
+        )
+    | in-Open w ↦
+        let sound = rw w.in-Open.is at c.self.invariant in
+        let all_read = same_number _ _ (sym w.is_read.ensures ∙ w.if-is_read.true) in
+        let read_is = rw (← c.self.view_is, w.in-Open.is) at o.rows_read.ensures.exact in
+        rw o.stage-is (
+          ended_next _ _ _ _ w.in-Open.page o.in-Err-Ended.end o.rows_read.result sound.0 sound.1 all_read read_is,
+          none_behind_page c.files_have_one_chain.ensures _ _ _ _ w.in-Open.page sound.0.is_open.limits sound.2 all_read,
+        )
+  ]
 ]
 
-pub returns-in-Ok : goal.returns-in-Ok
-returns-in-Ok c =
-    let takes : TakesPlace _ c.in-Ok.page = elim c.match-self.branch [
-      | in-Before w ↦ takes_first _ c.in-Ok.page _ _ w.in-Before.is w.opened-is c.in-Ok.is w.open_at-opened.ensures.opened w.open_at-opened.ensures.items
-      | in-Open w ↦ takes_next _ _ c.in-Ok.page _ _ _ w.in-Open.is w.opened-is c.in-Ok.is w.open_next-opened.ensures.opened w.open_next-opened.ensures.items
-    ] in
-    let opens = entered _ c.in-Ok.page takes in
-    elim c.match-self-2.branch [
-      | in-Open+in-Some-1 w ↦ rw (w.self-is, ← c.self.view_is) opens
-      | in-Open+in-None-1 w ↦ rw (w.self-is, ← c.self.view_is) opens
-      | in-Before-1 w ↦ rw (w.self-is, ← c.self.view_is) opens
-    ]
+pub returns : goal.returns
+returns c = elim c.match-opened.branch [
+  | in-Ok o ↦
+      let takes : TakesPlace _ o.in-Ok.page = elim c.match-self.branch [
+        | in-Before w ↦ takes_first _ o.in-Ok.page _ _ w.in-Before.is w.opened-is o.in-Ok.is w.open_first-opened.ensures.opened w.open_first-opened.ensures.items
+        | in-Open w ↦ takes_next _ _ o.in-Ok.page _ _ _ w.in-Open.is w.opened-is o.in-Ok.is w.open_next-opened.ensures.opened w.open_next-opened.ensures.items
+      ] in
+      rw (o.stage-is, ← c.self.view_is) (entered _ o.in-Ok.page takes)
+  | in-Err-Ended o ↦ elim c.match-self.branch [
+    | in-Before w ↦
+        rw (o.stage-is, ← c.self.view_is)
+        (ends_first _ o.in-Err-Ended.end o.rows_read.result _ _ _ w.in-Before.is w.opened-is o.in-Err-Ended.is (rw o.in-Err-Ended.is at o.in-Err-Ended.field-0-is) w.open_first-opened.ensures.refused)
+    | in-Open w ↦
+        rw (o.stage-is, ← c.self.view_is)
+        (ends_next _ w.in-Open.page o.in-Err-Ended.end o.rows_read.result _ _ _ w.in-Open.is w.opened-is o.in-Err-Ended.is (rw o.in-Err-Ended.is at o.in-Err-Ended.field-0-is) w.open_next-opened.ensures.refused)
+  ]
+]

@@ -1,10 +1,10 @@
 use Rattle.std.proofs.Common.{arith}
-use Rattle.fax_walk.proofs.BeforeLemmas.{some_before}
+use Rattle.fax_walk.proofs.BeforeLemmas.{some_before_begun}
 use Rattle.fax_walk.proofs.walk.Walk.rows_read.Goals as goal
 
 pub returns-in-Before-clause-bounded : goal.returns-in-Before-clause-bounded
 returns-in-Before-clause-bounded c =
-    let before = some_before c.files_have_one_chain.ensures c.self.inside.file.now c.self.inside.begun in
+    let before = some_before_begun c.files_have_one_chain.ensures c.self.inside.file.now c.self.inside.begun in
     let sound = rw c.in-Before.is at c.self.invariant in
     rw (← c.self.view_is) (record {
       before = before.0;

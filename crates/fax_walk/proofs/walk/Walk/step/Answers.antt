@@ -1,29 +1,22 @@
-use Rattle.std.proofs.Common.{◌≡◌}
+use Rattle.std.proofs.Common.{◌≡◌, rules, arith}
 use Rattle.fax_walk.specs.declared.walk.Stage.TheVariants.{Open}
 use Rattle.fax_walk.proofs.CountLemmas.{counted_last}
-use Rattle.fax_walk.proofs.WalkLemmas.{stepped}
+use Rattle.fax_walk.proofs.LastLemmas.{row_on_page, ended_on_page}
 use Rattle.fax_walk.proofs.walk.Walk.step.Goals as goal
-use Rattle.fax_walk.proofs.walk.Walk.step.Goals.{in-Open+in-Some-2, in-Open+in-None-2, in-Before-2}
 
-pub invariant_of-self-in-Err : goal.invariant_of-self-in-Err
-invariant_of-self-in-Err c =
+pub invariant_of-self-in-Ok-6 : goal.invariant_of-self-in-Ok-6
+invariant_of-self-in-Ok-6 c =
     let stage_is : c.self.inside.stage ≡ Open c.in-Open.page = cc (c.replace.ensures.value, c.in-Open.is) in
     let sound = rw stage_is at c.self.invariant in
-    counted_last _ _ _ c.in-Open.page c.next.new.self _ _ sound.1 c.in-Err.ensures.none c.read.ensures
+    let gives = c.in-Ok.ensures.ok in
+    (search rules, search rules, row_on_page _ _ _ _ _ _ c.in-Open.page c.next.new.self sound.2 c.in-Ok.ensures.goes_on gives.some_row c.cursor-self-inside.ensures)
 
-pub invariant_of-self-in-Err-2 : goal.invariant_of-self-in-Err-2
-invariant_of-self-in-Err-2 c =
+pub invariant_of-self-in-Err-6 : goal.invariant_of-self-in-Err-6
+invariant_of-self-in-Err-6 c =
     let stage_is : c.self.inside.stage ≡ Open c.in-Open.page = cc (c.replace.ensures.value, c.in-Open.is) in
     let sound = rw stage_is at c.self.invariant in
-    counted_last _ _ _ c.in-Open.page c.next.new.self _ _ sound.1 c.in-Err.ensures.none c.read.ensures
-
-pub returns-in-Ok : goal.returns-in-Ok
-returns-in-Ok c =
-    let stage_is : c.self.inside.stage ≡ Open c.in-Open.page = cc (c.replace.ensures.value, c.in-Open.is) in
-    let sound = rw stage_is at c.self.invariant in
-    let steps = stepped _ c.in-Open.page c.next.new.self _ stage_is sound.0 c.in-Ok.ensures.ok c.cursor-self-inside.ensures in
-    elim c.match-self.branch [
-      | in-Open+in-Some-2 w ↦ rw (w.self-is, ← c.self.view_is) steps
-      | in-Open+in-None-2 w ↦ rw (w.self-is, ← c.self.view_is) steps
-      | in-Before-2 w ↦ rw (w.self-is, ← c.self.view_is) steps
-    ]
+    let none = c.in-Err.ensures.none in (
+      counted_last _ _ _ c.in-Open.page c.next.new.self _ _ sound.1 none c.read.ensures,
+      ended_on_page c.files_have_one_chain.ensures _ _ _ _ c.in-Open.page c.next.new.self sound.0.is_open.limits sound.2 c.in-Err.ensures.goes_on
+          (λ some. omega (arith, none.some, none.most, sound.1.none_left some)),
+    )

@@ -1,0 +1,179 @@
+-- A long cursor's text is cut at its colons and commas, and its numbers are read.
+use Rattle.std.proofs.Common.{◌≡◌, ◌≢◌, ℕ, zero, suc, ◌^◌, ◌<◌, ◌-◌, List, [], ◌∷◌, ◌++◌, length, get_or, refl, ap, sym, ◌∙◌, append_assoc, length-append, arith}
+use Rattle.std.specs.Prelude.{Option, MatchOption, Some, None, decimal, flat_map, codes}
+use Rattle.std.specs.Borrow.{Bor}
+use Rattle.std.specs.List.{All}
+use Rattle.std.proofs.lemmas.Fmt.{digits_decimal, decimal_injective, decimal_digit}
+use Rattle.std.proofs.lemmas.List.{append-nil}
+use Rattle.std.proofs.lemmas.List.Elements.{All-head, All-tail}
+use Rattle.std.proofs.Math.Seq.{get_or-append_right}
+use Rattle.std.proofs.lemmas.Str.Parse.{not_in_digits}
+use Rattle.std.proofs.lemmas.Str.Pattern.{IsSplitOnceResult, split_after, split_parts}
+use Rattle.fax_walk.specs.LongCursor.{LongPlace, and_run, runs_text, long_cursor_text}
+use Rattle.fax_walk.specs.code.LongText.{number_and, IsNumberCut}
+use Rattle.fax_walk.proofs.CursorLemmas.{numerals, no_colon}
+
+-- the decimals of a number have no comma
+no_comma : (n : ℕ) → n < 2 ^ 32 → (i : ℕ) → i < length (decimal n) → get_or (decimal n) i 0 ≢ 44
+no_comma n small = not_in_digits numerals (decimal n) 44 (digits_decimal numerals n (omega arith)) (λ h. omega arith)
+
+-- a run and a comma
+abbrev pub run_and : ℕ → List ℕ
+run_and run = decimal run ++ 44 ∷ []
+
+-- runs behind the first one, and in front of the last
+behind_first : (runs : List ℕ) (last : ℕ) → flat_map and_run (runs ++ last ∷ []) ≡ 44 ∷ (flat_map run_and runs ++ decimal last)
+behind_first [] last = append-nil (44 ∷ decimal last)
+behind_first (run ∷ runs) last =
+    ap (λ more. 44 ∷ (decimal run ++ more)) (behind_first runs last)
+    ∙ ap (λ more. 44 ∷ more)
+    (sym (append_assoc (decimal run) (44 ∷ []) (flat_map run_and runs ++ decimal last))
+    ∙ sym (append_assoc (run_and run) (flat_map run_and runs) (decimal last)))
+
+pub runs_text-push : (runs : List ℕ) (last : ℕ) → runs_text (runs ++ last ∷ []) ≡ flat_map run_and runs ++ decimal last
+runs_text-push [] last = append-nil (decimal last)
+runs_text-push (run ∷ runs) last =
+    ap (λ more. decimal run ++ more) (behind_first runs last)
+    ∙ sym (append_assoc (decimal run) (44 ∷ []) (flat_map run_and runs ++ decimal last))
+    ∙ sym (append_assoc (run_and run) (flat_map run_and runs) (decimal last))
+
+more_cut : (runs : List ℕ) (run : ℕ) (rest : List ℕ) → flat_map run_and (runs ++ run ∷ []) ++ rest ≡ flat_map run_and runs ++ (decimal run ++ 44 ∷ rest)
+more_cut [] run rest =
+    ap (λ front. front ++ rest) (append-nil (run_and run)) ∙ append_assoc (decimal run) (44 ∷ []) rest
+more_cut (first ∷ runs) run rest =
+    append_assoc (run_and first) (flat_map run_and (runs ++ run ∷ [])) rest
+    ∙ ap (λ more. run_and first ++ more) (more_cut runs run rest)
+    ∙ sym (append_assoc (run_and first) (flat_map run_and runs) (decimal run ++ 44 ∷ rest))
+
+-- this is the text of some runs (this project's profile)
+pub record IsRunsText (text : List ℕ) : Type 0 where
+  pub runs : List ℕ
+  pub short : All (λ run. run < 2 ^ 32) runs
+  pub some : 0 < length runs
+  pub text_is : text ≡ runs_text runs
+
+-- the digits of a number (this project's profile)
+pub record IsRunText (text : List ℕ) : Type 0 where
+  pub run : ℕ
+  pub short : run < 2 ^ 32
+  pub text_is : text ≡ decimal run
+
+-- These runs stand in front of the rest of a text, each with a comma behind it; where the text is that of some runs, so
+-- is the rest
+pub record AreRunsCut (text runs rest : List ℕ) : Type 0 where
+  pub parts : text ≡ flat_map run_and runs ++ rest
+  pub others : IsRunsText text → IsRunsText rest
+
+pub none_cut : (text : List ℕ) → AreRunsCut text [] text
+none_cut text = record { parts = refl; others = λ is. is }
+
+-- the text before a comma is a run's, and behind it stand the others
+before_comma : (rest : List ℕ) (run behind : Bor (List ℕ)) → IsSplitOnceResult 44 rest (Some (run, behind))
+    → (runs : List ℕ) → All (λ n. n < 2 ^ 32) runs → 0 < length runs → rest ≡ runs_text runs
+    → IsRunText run.now × IsRunsText behind.now
+before_comma rest run behind cut [] short some is = absurd (omega arith)
+before_comma rest run behind cut (n ∷ []) short some is =
+    let parts = split_parts 44 rest (Some (run, behind)) cut (omega arith) in
+    let whole : run.now ++ 44 ∷ behind.now ≡ decimal n = sym parts.0 ∙ is ∙ append-nil (decimal n) in
+    let small : n < 2 ^ 32 = All-head (λ k. k < 2 ^ 32) n [] short in
+    let zero_more : length run.now - length run.now ≡ 0 = omega arith in
+    let at : get_or (run.now ++ 44 ∷ behind.now) (length run.now) 0 ≡ 44 =
+    get_or-append_right run.now (44 ∷ behind.now) (length run.now) 0 (omega arith)
+    ∙ ap (λ i. get_or (44 ∷ behind.now) i 0) zero_more in
+    absurd
+    (no_comma n small (length run.now)
+    (omega (arith, ap (λ (s : List ℕ). length s) whole, length-append run.now (44 ∷ behind.now)))
+    (ap (λ s. get_or s (length run.now) 0) (sym whole) ∙ at))
+before_comma rest run behind cut (n ∷ m ∷ runs) short some is =
+    let small : n < 2 ^ 32 = All-head (λ k. k < 2 ^ 32) n (m ∷ runs) short in
+    let parts = split_after 44 rest (decimal n) (runs_text (m ∷ runs)) (Some (run, behind)) cut (omega arith) is (no_comma n small) in (
+      record { run = n; short = small; text_is = parts.0 },
+      record {
+        runs = m ∷ runs;
+        short = All-tail (λ k. k < 2 ^ 32) n (m ∷ runs) short;
+        some = omega arith;
+        text_is = parts.1;
+      },
+    )
+
+-- the text of runs without a comma is that of one
+no_comma_left : (rest : List ℕ) → IsSplitOnceResult 44 rest None
+    → (runs : List ℕ) → All (λ n. n < 2 ^ 32) runs → 0 < length runs → rest ≡ runs_text runs → IsRunText rest
+no_comma_left rest cut [] short some is = absurd (omega arith)
+no_comma_left rest cut (n ∷ []) short some is =
+    record { run = n; short = All-head (λ k. k < 2 ^ 32) n [] short; text_is = is ∙ append-nil (decimal n) }
+no_comma_left rest cut (n ∷ m ∷ runs) short some is =
+    let small : n < 2 ^ 32 = All-head (λ k. k < 2 ^ 32) n (m ∷ runs) short in
+    absurd (split_after 44 rest (decimal n) (runs_text (m ∷ runs)) None cut (omega arith) is (no_comma n small))
+
+pub run_before : (rest : List ℕ) (run behind : Bor (List ℕ)) → IsSplitOnceResult 44 rest (Some (run, behind)) → IsRunsText rest
+    → IsRunText run.now × IsRunsText behind.now
+run_before rest run behind cut is = before_comma rest run behind cut is.runs is.short is.some is.text_is
+
+pub run_left : (rest : List ℕ) → IsSplitOnceResult 44 rest None → IsRunsText rest → IsRunText rest
+run_left rest cut is = no_comma_left rest cut is.runs is.short is.some is.text_is
+
+-- one run more is cut
+pub run_cut : (text runs rest : List ℕ) (run behind : Bor (List ℕ)) (n : ℕ) → AreRunsCut text runs rest
+    → IsSplitOnceResult 44 rest (Some (run, behind)) → run.now ≡ decimal n → AreRunsCut text (runs ++ n ∷ []) behind.now
+run_cut text runs rest run behind n so_far cut is = record {
+  parts =
+      so_far.parts ∙ ap (λ more. flat_map run_and runs ++ more) (parts.0 ∙ ap (λ digits. digits ++ 44 ∷ behind.now) is)
+      ∙ sym (more_cut runs n behind.now);
+  others = λ whole. (run_before rest run behind cut (so_far.others whole)).1;
+}
+  where
+    parts : (rest ≡ run.now ++ 44 ∷ behind.now) × ((i : ℕ) → i < length run.now → get_or run.now i 0 ≢ 44)
+    parts = split_parts 44 rest (Some (run, behind)) cut (omega arith)
+
+-- the last run is read
+pub all_cut : (text runs rest : List ℕ) (n : ℕ) → AreRunsCut text runs rest → rest ≡ decimal n → text ≡ runs_text (runs ++ n ∷ [])
+all_cut text runs rest n so_far is =
+    so_far.parts ∙ ap (λ more. flat_map run_and runs ++ more) is ∙ sym (runs_text-push runs n)
+
+-- a text without a colon begins with no number and a colon
+pub none_before_colon : (text : List ℕ) → IsSplitOnceResult 58 text None → IsNumberCut text None
+none_before_colon text cut = λ number rest small is.
+    split_after 58 text (decimal number) rest None cut (omega arith) is (no_colon number small)
+
+-- nor does one where no number stands before the colon
+pub no_number_before : (text : List ℕ) (digits behind : Bor (List ℕ)) → IsSplitOnceResult 58 text (Some (digits, behind))
+    → ((number : ℕ) → number < 2 ^ 32 → digits.now ≢ decimal number) → IsNumberCut text None
+no_number_before text digits behind cut none = λ number rest small is.
+    let parts = split_after 58 text (decimal number) rest (Some (digits, behind)) cut (omega arith) is (no_colon number small) in
+    none number small parts.0
+
+-- the number before the first colon is the only one
+pub number_before : (text : List ℕ) (digits behind : Bor (List ℕ)) (n : ℕ) → IsSplitOnceResult 58 text (Some (digits, behind))
+    → n < 2 ^ 32 → digits.now ≡ decimal n → IsNumberCut text (Some (n, behind))
+number_before text digits behind n cut small is = (
+  (split_parts 58 text (Some (digits, behind)) cut (omega arith)).0 ∙ ap (λ d. d ++ 58 ∷ behind.now) is,
+  λ number rest short text_is.
+      let parts = split_after 58 text (decimal number) rest (Some (digits, behind)) cut (omega arith) text_is (no_colon number short) in
+      (decimal_injective number n (omega arith) (omega arith) (sym parts.0 ∙ is), sym parts.1),
+)
+
+-- where a text begins with this number and a colon, they are cut
+pub cut_so : (text : List ℕ) (r : Option (ℕ × Bor (List ℕ))) → IsNumberCut text r → (number : ℕ) (rest : List ℕ) → number < 2 ^ 32
+    → text ≡ number_and number rest → MatchOption r ⊥ (λ parts. (number ≡ parts.0) × (rest ≡ parts.1.now))
+cut_so text None cut number rest small is = cut number rest small is
+cut_so text (Some parts) cut number rest small is = cut.1 number rest small is
+
+-- the version's number
+two : decimal 2 ≡ 50 ∷ []
+two = decimal_digit 2 (omega arith)
+
+-- a long cursor's text, number by number
+pub text_by_numbers : (place : LongPlace)
+    → long_cursor_text place ≡ number_and 2 (number_and place.at.page (number_and place.at.row (number_and place.bits (runs_text place.runs))))
+text_by_numbers place = rw two (simp append_assoc)
+
+-- a text of these numbers is a long cursor's
+pub is_long_text : (text behind_version behind_page behind_row behind_bits : List ℕ) (version : ℕ) (place : LongPlace)
+    → text ≡ number_and version behind_version → version ≡ 2 → behind_version ≡ number_and place.at.page behind_page
+    → behind_page ≡ number_and place.at.row behind_row → behind_row ≡ number_and place.bits behind_bits
+    → behind_bits ≡ runs_text place.runs → text ≡ long_cursor_text place
+is_long_text text behind_version behind_page behind_row behind_bits version place whole two page row bits runs =
+    whole ∙ ap (λ n. number_and n behind_version) two ∙ ap (number_and 2) (page ∙ ap (number_and place.at.page)
+    (row ∙ ap (number_and place.at.row) (bits ∙ ap (number_and place.bits) runs)))
+    ∙ sym (text_by_numbers place)

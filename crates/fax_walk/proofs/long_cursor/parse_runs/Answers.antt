@@ -1,0 +1,41 @@
+use Rattle.std.proofs.Common.{rules}
+use Rattle.std.proofs.lemmas.Result.{err_from_is_err_and}
+use Rattle.fax_walk.proofs.LongCursorLemmas.{run_cut, all_cut, run_before, run_left}
+use Rattle.fax_walk.proofs.long_cursor.parse_runs.Goals as goal
+
+pub loop-run-preserved : goal.loop-run-preserved
+loop-run-preserved c =
+    let pushed = c.in_ok-push_run.ensures.ok in
+    let cut = rw c.in-Some.is at c.split_once.ensures.cases in
+    record {
+      cut = rw pushed.2
+          (run_cut c.args.text.now c.loop-run.runs.items c.loop-run.rest.now c.in-Some.run' c.in-Some.behind pushed.0
+          c.loop-run.invariant.cut cut pushed.1);
+      utf8 = search rules;
+    }
+
+pub returns-clause-ok : goal.returns-clause-ok
+returns-clause-ok c =
+    let pushed = c.in_ok-push_run-2.ensures.ok in
+    rw pushed.2
+    (all_cut c.args.text.now c.loop-run.runs.items c.loop-run.rest.now pushed.0 c.loop-run.invariant.cut pushed.1)
+
+pub returns-in_err-push_run-clause-err : goal.returns-in_err-push_run-clause-err
+returns-in_err-push_run-clause-err c =
+    let p = err_from_is_err_and c.from_residual.result c.from_residual.ensures.1 in
+    let cut = rw c.in-Some.is at c.split_once.ensures.cases in
+    rw (p.1, p.2)
+    (λ told runs short some is.
+    let rest = c.loop-run.invariant.cut.others (record { runs = runs; short = short; some = some; text_is = is }) in
+    let run = (run_before c.loop-run.rest.now c.in-Some.run' c.in-Some.behind cut rest).0 in
+    c.in_err-push_run.ensures.err told run.run run.short run.text_is)
+
+pub returns-in_err-push_run-2-clause-err : goal.returns-in_err-push_run-2-clause-err
+returns-in_err-push_run-2-clause-err c =
+    let p = err_from_is_err_and c.from_residual-in_err-push_run-2.result c.from_residual-in_err-push_run-2.ensures.1 in
+    let cut = rw c.in_default.is at c.split_once.ensures.cases in
+    rw (p.1, p.2)
+    (λ told runs short some is.
+    let rest = c.loop-run.invariant.cut.others (record { runs = runs; short = short; some = some; text_is = is }) in
+    let run = run_left c.loop-run.rest.now cut rest in
+    c.in_err-push_run-2.ensures.err told run.run run.short run.text_is)

@@ -1,0 +1,13 @@
+use Rattle.std.proofs.Common.{length}
+use Rattle.std.specs.Str.{IsUtf8}
+use Rattle.fax_walk.proofs.LongCursorLemmas.{AreRunsCut}
+use Rattle.fax_walk.proofs.long_cursor.parse_runs.Given as goal
+
+abbrev pub invariant-loop-run : goal.invariant-loop-run
+invariant-loop-run l = record {
+  cut : AreRunsCut l.text l.runs.items l.rest;
+  utf8 : IsUtf8 l.rest;
+}
+
+abbrev pub decreases-loop-run : goal.decreases-loop-run
+decreases-loop-run l = length l.rest
