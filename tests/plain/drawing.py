@@ -91,8 +91,9 @@ def code_two_dimensional(rng, reference, row):
     return codes
 
 
-def code_rows(rng, coding, rows):
-    """The bits of a strip up to its last row."""
+def code_rows(rng, coding, rows, aligned=False):
+    """The bits of a strip up to its last row, each EOL with a drawn fill, or with the fewest zeros that make it
+    end on a byte boundary."""
     bits, reference = "", "W" * len(rows[0])
     for number, row in enumerate(rows):
         if rng.random() < 0.02:
@@ -100,7 +101,8 @@ def code_rows(rng, coding, rows):
             bits += rng.choice([EOL * 6, EOL * 2, "000000001", "0000001", "00000001"])
         one_dimensional = coding == "mh" or coding == "mr" and rng.random() < 0.4
         if coding != "mmr" and not (coding == "mh" and number == 0 and rng.random() < 0.3):
-            bits += "0" * rng.choice([0, 0, 0, 1, 5, 13]) + EOL
+            fill = -(len(bits) + len(EOL)) % 8 if aligned else rng.choice([0, 0, 0, 1, 5, 13])
+            bits += "0" * fill + EOL
         if coding == "mr":
             bits += "1" if one_dimensional else "0"
         if one_dimensional:
@@ -116,10 +118,10 @@ def end_mark(coding):
     return EOL * 2 if coding == "mmr" else (EOL + ("1" if coding == "mr" else "")) * 6
 
 
-def code_strip(rng, coding, rows):
+def code_strip(rng, coding, rows, aligned=False):
     """The bits of a strip, and what stands behind its last row."""
     tail = rng.choice(["", "", EOL * 2, end_mark(coding), EOL, "0" * 11, "1"])
-    return code_rows(rng, coding, rows) + tail
+    return code_rows(rng, coding, rows, aligned) + tail
 
 
 def to_bytes(bits, order):
@@ -186,15 +188,16 @@ class Builder:
 
 def draw_page(rng, builder):
     width, coding, order = draw_width(rng), rng.choice(["mh", "mr", "mmr"]), rng.choice([1, 1, 2])
-    rows = rng.choice([1, 2, 3, rng.randrange(1, 12)])
-    height = rng.choice([rows, rows, 1, 2, rng.randrange(1, rows + 3)])
+    rows = rng.choice([1, 2, 3, rng.randrange(2, 12)])
+    height = rng.choice([rows, rows, rows, 1, 2, rng.randrange(1, rows + 3)])
+    aligned = coding != "mmr" and rng.random() < 0.4
     pels, reference = [], "W" * width
     for _ in range(rows):
         reference = draw_row(rng, width, reference)
         pels.append(reference)
     strips = []
     for first in range(0, rows, height):
-        data = to_bytes(code_strip(rng, coding, pels[first : first + height]), order)
+        data = to_bytes(code_strip(rng, coding, pels[first : first + height], aligned), order)
         strips.append(damage_strip(rng, data) if rng.random() < 0.15 else data)
     places = [builder.put(data) for data in strips]
     put, entries = builder.numbers, []
@@ -215,8 +218,8 @@ def draw_page(rng, builder):
     entries.append(put(279, counts))
     if rng.random() < 0.7:
         entries += [builder.rational(282, (rng.choice([204, 0]), 1)), builder.rational(283, (196, rng.choice([1, 0, 2])))]
-    options = (1 if coding == "mr" else 0) | rng.choice([0, 2, 4])
-    if coding == "mr" or rng.random() < 0.5:
+    options = (1 if coding == "mr" else 0) | (4 if aligned else rng.choice([0, 2, 4]))
+    if coding == "mr" or aligned or rng.random() < 0.5:
         entries.append(put(292, [options]))
     if rng.random() < 0.5:
         entries.append(put(296, [rng.choice([1, 2, 3, 4])]))
@@ -280,8 +283,11 @@ def draw_cursor(rng, lines, pages):
     return rng.randrange(3), rng.randrange(3)
 
 
+def limit_near(rng, lines):
+    """A limit on the number of lines, where there are so many."""
+    return rng.choice([1, max(lines, 1), lines + 1, rng.randrange(1, lines + 2), 2**32 - 1])
+
+
 def draw_limit(rng, lines):
     """None, or a limit on the number of lines, where there are so many."""
-    if rng.random() < 0.3:
-        return None
-    return rng.choice([1, max(lines, 1), lines + 1, rng.randrange(1, lines + 2), 2**32 - 1])
+    return None if rng.random() < 0.3 else limit_near(rng, lines)

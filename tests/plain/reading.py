@@ -1,6 +1,10 @@
 """A plain reading of strips and of whole files, over text of bits and lists of rows, written from
 docs/FORMAT.md. It shares no code with the program, and takes its time."""
 
+import functools
+import itertools
+import re
+
 from tables import EXTENSION, MODES, RUNS
 
 
@@ -121,16 +125,29 @@ def read_row(coding, number, reference, bits, at):
     return read_two_dimensional(reference, bits, at)
 
 
-def read_strip(coding, order, width, rows, data):
-    """The rows of a strip, and the fault that ends them, if one does."""
-    bits, at, reference, done = bits_of(data, order), 0, "W" * width, []
-    for number in range(rows):
+def read_lines(coding, number, rows, reference, bits, at):
+    """The rows of a strip of so many from this number on, each with the place behind it, and the fault that
+    ends them, if one does."""
+    done = []
+    for due in range(number, rows):
         try:
-            reference, at = read_row(coding, number, reference, bits, at)
+            reference, at = read_row(coding, due, reference, bits, at)
         except Fault as fault:
             return done, fault
-        done.append(reference)
+        done.append((reference, at))
     return done, None
+
+
+@functools.lru_cache(64)
+def read_whole(coding, order, width, rows, data):
+    """The lines of a strip, read from its beginning: commands that read the same strip share them."""
+    return read_lines(coding, 0, rows, "W" * width, bits_of(data, order), 0)
+
+
+def read_strip(coding, order, width, rows, data):
+    """The rows of a strip, and the fault that ends them, if one does."""
+    lines, fault = read_whole(coding, order, width, rows, data)
+    return [row for row, _ in lines], fault
 
 
 # Files.
@@ -236,30 +253,62 @@ def read_form(file, entries):
     check(height > 0, "BadField", 278)
     form["height"] = min(height, form["rows"])
     form["strips"] = -(-form["rows"] // form["height"])
-    form["coding"] = "mmr"
+    form["coding"], form["aligned"] = "mmr", False
     if compression == 3:
-        form["coding"] = "mr" if scalar(file, entries, 292, 0) % 2 == 1 else "mh"
+        options = scalar(file, entries, 292, 0)
+        form["coding"], form["aligned"] = "mr" if options % 2 == 1 else "mh", options & 4 > 0
     form["offsets"] = values(file, entries, 273, form["strips"])
     form["counts"] = values(file, entries, 279, form["strips"])
     form["resolution"] = resolution(file, entries)
     return form
 
 
-def read_page(file, form, first_strip):
-    """The rows of a page from a strip on, as they are handed out, and its end: a fault or none."""
-    done = []
-    for strip in range(first_strip, form["strips"]):
+def row_of(runs, width):
+    """The row of this width that has these longest runs, or none."""
+    if sum(runs) != width:
+        return None
+    row = "".join(colour * length for colour, length in zip(itertools.cycle("WB"), runs))
+    return row if runs_of(row) == runs else None
+
+
+def read_from_place(form, strip, rows, data, due, inside):
+    """The lines of a strip of so many rows, from this place inside it on, before the row of the page that is due,
+    with their fault; or none where the strip has no such place."""
+    bits, (at, runs) = bits_of(data, form["order"]), inside
+    reference = row_of(runs, form["width"])
+    if at > len(bits) or reference is None:
+        return None
+    return read_lines(form["coding"], due - strip * form["height"], rows, reference, bits, at)
+
+
+def shown(form, row):
+    """A row as it is handed out."""
+    return "".join(other(pel) for pel in row) if form["photometric"] == 1 else row
+
+
+def read_page(file, form, due, inside):
+    """The rows of a page from one row on, or from a place inside its strip before it, as (row's number, row,
+    place behind it, which is none behind a strip's last row), and the end: the row that was due and its fault,
+    or none, or that there is no such place. A place is the bits before it, and the runs of the row before it."""
+    done, height = [], form["height"]
+    for strip in range(due // height, form["strips"]):
         offset, count = form["offsets"][strip], form["counts"][strip]
+        first, behind = strip * height, min((strip + 1) * height, form["rows"])
         if not file.has(offset, count):
-            return done, Fault("StripOutside")
-        left = min(form["height"], form["rows"] - strip * form["height"])
+            return done, (first, Fault("StripOutside"))
         data = file.data[offset : offset + count]
-        rows, fault = read_strip(form["coding"], form["order"], form["width"], left, data)
-        if form["photometric"] == 1:
-            rows = ["".join(other(pel) for pel in row) for row in rows]
-        done += rows
+        if inside and strip == due // height:
+            first, read = due, read_from_place(form, strip, behind - strip * height, data, due, inside)
+            if read is None:
+                return [], OUTSIDE
+        else:
+            read = read_whole(form["coding"], form["order"], form["width"], behind - first, data)
+        lines, fault = read
+        for number, (row, at) in enumerate(lines, first):
+            if number >= due:
+                done.append((number, shown(form, row), (at, runs_of(row)) if number + 1 < behind else None))
         if fault:
-            return done, fault
+            return done, (first + len(lines), fault)
     return done, None
 
 
@@ -278,13 +327,22 @@ def chain(file):
     return done, None
 
 
-# What follows a cursor. An end is none behind the last page, a fault with the place that was due, or
-# that the cursor names no place of the file.
+# What follows a cursor, which is a page and a row, or a long one: a page, a row and a place inside the row's
+# strip. An end is none behind the last page, a fault with the place that was due, or that the cursor names no
+# place of the file.
 
+START = 0, 0
 OUTSIDE = "CursorOutside"
 
 
-def pages_from(data, page, row):
+def names_row(form, row, inside):
+    """Whether a cursor may name this row of a page: with a place, one that is not its strip's first."""
+    if inside is None:
+        return row <= form["rows"]
+    return row < form["rows"] and row % form["height"] > 0
+
+
+def pages_from(data, page, row, inside=None):
     """The pages from the one that a cursor names, as (file, number, form), and the end behind them. A
     page whose fields are refused is such an end, and so is a cursor that names no place."""
     try:
@@ -300,26 +358,24 @@ def pages_from(data, page, row):
             form = read_form(file, directories[number])
         except Fault as refused:
             return found, (number, 0, refused)
-        if number == page and row > form["rows"]:
+        if number == page and not names_row(form, row, inside):
             return [], OUTSIDE
         found.append((file, number, form))
     return found, (count, 0, fault) if fault else None
 
 
-def rows_from(data, page, row):
-    """The rows from a cursor on, as (page, row, row's text), and their end."""
-    pages, end = pages_from(data, page, row)
+def rows_from(data, page, row, inside=None):
+    """The rows from a cursor on, as (page, row, row's text, place behind it or none), and their end."""
+    pages, end = pages_from(data, page, row, inside)
     done = []
     for file, number, form in pages:
-        due = row if number == page else 0
+        due, place = (row, inside) if number == page else (0, None)
         if due == form["rows"]:
             continue
-        strip = due // form["height"]
-        first = strip * form["height"]
-        rows, stop = read_page(file, form, strip)
-        done += [(number, first + i, pels) for i, pels in enumerate(rows) if first + i >= due]
+        rows, stop = read_page(file, form, due, place)
+        done += [(number, *item) for item in rows]
         if stop:
-            return done, (number, first + len(rows), stop)
+            return done, stop if stop == OUTSIDE else (number, *stop)
     return done, end
 
 
@@ -334,13 +390,8 @@ def forms_from(data, page, row):
 
 def runs_of(row):
     """The lengths of the longest runs of a row, white first."""
-    lengths, colour = [0], "W"
-    for pel in row:
-        if pel != colour:
-            colour = pel
-            lengths.append(0)
-        lengths[-1] += 1
-    return lengths
+    lengths = [len(run) for run in re.findall("W+|B+", row)]
+    return lengths if row.startswith("W") else [0, *lengths]
 
 
 def row_line(page, number, row):
@@ -354,29 +405,57 @@ def page_line(page, form):
     return " ".join(map(str, [*words, f"{over[0]}/{over[1]}", f"{under[0]}/{under[1]}", unit]))
 
 
-def lines_from(command, data, page, row):
-    """The lines of a command from a cursor on, each with the cursor behind it, and their end."""
-    if command == "rows":
-        rows, end = rows_from(data, page, row)
-        return [(row_line(*item), (item[0], item[1] + 1)) for item in rows], end
-    forms, end = forms_from(data, page, row)
-    return [(page_line(*item), (item[0] + 1, 0)) for item in forms], end
+def cursor_text(page, row, inside=None):
+    if inside is None:
+        return f"1:{page}:{row}"
+    bits, runs = inside
+    return f"2:{page}:{row}:{bits}:{','.join(map(str, runs))}"
+
+
+def cursor_of(text):
+    """The cursor that has this text, or none."""
+    number = "(?:0|[1-9][0-9]{0,9})"
+    if not re.fullmatch(f"1:{number}:{number}|2:{number}:{number}:{number}:{number}(?:,{number})*", text):
+        return None
+    version, *numbers = map(int, re.split("[:,]", text))
+    if max(numbers) >= 2**32:
+        return None
+    page, row, *place = numbers
+    return (page, row) if version == 1 else (page, row, (place[0], place[1:]))
+
+
+def lines_from(command, data, *cursor):
+    """The lines of a command from a cursor on, each with the cursor behind it and the long cursor behind it,
+    which is the same where there is none, and their end."""
+    if command == "list":
+        forms, end = forms_from(data, *cursor)
+        return [(page_line(*item), (item[0] + 1, 0), (item[0] + 1, 0)) for item in forms], end
+    rows, end = rows_from(data, *cursor)
+    lines = []
+    for page, number, row, place in rows:
+        behind = page, number + 1
+        lines.append((row_line(page, number, row), behind, (*behind, place) if place else behind))
+    return lines, end
 
 
 def fault_line(page, row, fault):
     return f"fault page {page} row {row}: {' '.join(map(str, fault.args))}\n"
 
 
-def text_of(lines, end, cursor, limit):
-    """What is written of these lines and their end: the output, the error line and the status."""
+def text_of(lines, end, cursor, limit, is_long=False):
+    """What is written of these lines and their end, with long cursors or without: the output, the error line
+    and the status."""
     is_cut = limit is not None and len(lines) >= limit
     if is_cut:
         lines = lines[:limit]
     elif end == OUTSIDE:
         return "", "fault cursor: CursorOutside\n", 1
-    page, row = lines[-1][1] if lines else cursor
-    last = "end" if end is None and not is_cut else f"next 1:{page}:{row}"
-    output = "\n".join([*(text for text, _ in lines), last, ""])
+    _, short, long = lines[-1] if lines else (None, cursor[:2], cursor)
+    last = "end" if end is None and not is_cut else f"next {cursor_text(*(long if is_long else short))}"
+    output = "\n".join([*(text for text, *_ in lines), last, ""])
     if is_cut or end is None:
         return output, "", 0
     return output, fault_line(*end), 1
+
+
+NOT_A_CURSOR = "", "fault cursor: NotACursor\n", 2

@@ -1,0 +1,61 @@
+"""Runs a program with files in memory as its streams, which costs less than pipes."""
+
+import os
+import signal
+
+LIMIT = 60
+
+
+class Streams:
+    """The three streams of a process: files without names, used for one run behind another."""
+
+    def __init__(self):
+        self.files = [os.memfd_create(name) for name in ("input", "output", "error")]
+
+    def fill(self, contents):
+        for file, content in zip(self.files, contents):
+            os.ftruncate(file, 0)
+            os.pwrite(file, content, 0)
+            os.lseek(file, 0, os.SEEK_SET)
+
+    def text(self, number):
+        file = self.files[number]
+        return os.pread(file, os.fstat(file).st_size, 0).decode()
+
+
+class Overtime(Exception):
+    """A run that took too long."""
+
+
+def stop(_signal, _frame):
+    raise Overtime(f"no end in {LIMIT} seconds")
+
+
+def wait(process):
+    """The status that a process ends with; it is killed where that takes too long."""
+    signal.signal(signal.SIGALRM, stop)
+    signal.alarm(LIMIT)
+    try:
+        status = os.waitpid(process, 0)[1]
+        return -os.WTERMSIG(status) if os.WIFSIGNALED(status) else os.WEXITSTATUS(status)
+    except Overtime:
+        os.kill(process, signal.SIGKILL)
+        os.waitpid(process, 0)
+        raise
+    finally:
+        signal.alarm(0)
+
+
+STREAMS = []
+
+
+def run(program, words, data):
+    """What the program writes: its output, its error line and its status."""
+    if not STREAMS:
+        STREAMS.append(Streams())
+    streams = STREAMS[0]
+    streams.fill([data, b"", b""])
+    places = [(os.POSIX_SPAWN_DUP2, file, number) for number, file in enumerate(streams.files)]
+    process = os.posix_spawn(program, [program, *words], os.environ, file_actions=places)
+    status = wait(process)
+    return streams.text(1), streams.text(2), status
