@@ -36,6 +36,8 @@ pub mod LongStripLemmas
 pub mod LongTailLemmas
 pub mod OneLongTailLemmas
 pub mod LongPrintedLemmas
+pub mod ReachedLemmas
+pub mod OnePlaceLemmas
 pub mod OpenInsideLemmas
 pub mod GoesOnLemmas
 pub mod LastLemmas

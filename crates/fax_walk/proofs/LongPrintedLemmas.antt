@@ -15,7 +15,7 @@ use Rattle.fax_walk.specs.declared.end.End.{End}
 use Rattle.fax_walk.specs.Cursor.{start}
 use Rattle.fax_walk.specs.LongCursor.{LongPlace}
 use Rattle.fax_walk.specs.Items.{Item}
-use Rattle.fax_walk.specs.Tail.{behind_item, is_from, IsPrinted, IsRest, IsTail}
+use Rattle.fax_walk.specs.Tail.{is_from, IsPrinted, IsRest, IsTail}
 use Rattle.fax_walk.specs.LongTail.{strip_at, row_in_strip, IsInside, IsInStrip, IsAtBeginning, AreLinesUpTo, ReadsFrom, HasReadTo, IsLongBehind, IsLongAfter, IsLongTail, IsTailFrom, IsPrintedPlace, IsPrintedBegun, begins_at}
 use Rattle.fax_walk.specs.Laws.{CursorsHaveOneTail, TailOfPrinted}
 use Rattle.fax_walk.specs.LongLaws.{PlacesHaveOneTail, TailFromPrinted, PlacesOfPrinted}
@@ -28,26 +28,15 @@ at_behind : (at : Cursor) (file : List ℕ) (p r : ℕ) (place : LongPlace) → 
 at_behind at file p r place is = ap (λ (c : LongPlace). c.at) (some_behind is.form p r is.n is.row place is.place_is).1
 
 module _ (lines_read : LinesAreRead) (chains : FilesHaveOneChain) (forms : FormsAreWhole) (one_tail : CursorsHaveOneTail) (one_long : PlacesHaveOneTail)
-    (printed : TailOfPrinted) (file : List ℕ) where
-  module _ (place : LongPlace) (is_printed : IsPrintedPlace file place) where
-    abbrev item : Item
-    item = is_printed.2
-
-    after : IsLongAfter file (At start) item (Some place)
-    after = is_printed.5
-
-    at_is : place.at ≡ behind_item item
-    at_is = at_behind start file item.page item.row place after
-
-    cursor_printed : IsPrinted file place.at
-    cursor_printed = inr (is_printed.0, is_printed.1, item, is_printed.3, is_printed.4, at_is)
-
-    -- what the cursor has is what the place has
+    (file : List ℕ) where
+  -- what a cursor has is what the place has that stands there, behind a row
+  module _ (at : Cursor) (item : Item) (place : LongPlace) (after : IsLongAfter file (At at) item (Some place)) where
     long_of_tail : (items : List Item) (end : End) → IsTail file place.at items end → IsLongTail file place items end
     long_of_tail items end tail =
-        behind_beginning lines_read chains forms file start item.page item.row place items end after (subst (λ (c : Cursor). IsTail file c items end) at_is tail)
+        behind_beginning lines_read chains forms file at item.page item.row place items end after
+        (subst (λ (c : Cursor). IsTail file c items end) (at_behind at file item.page item.row place after) tail)
 
-    tail_of_long : (items : List Item) (end : End) → IsLongTail file place items end → IsTail file place.at items end
+    pub tail_of_long : (items : List Item) (end : End) → IsLongTail file place items end → IsTail file place.at items end
     tail_of_long items end tail =
         let one = one_tail file place.at in
         let long = one_long file place in
@@ -56,23 +45,34 @@ module _ (lines_read : LinesAreRead) (chains : FilesHaveOneChain) (forms : Forms
         subst (λ (l : List Item). IsTail file place.at l end) (that.0 ∙ sym this.0)
         (subst (λ (e : End). IsTail file place.at one.items e) (that.1 ∙ sym this.1) one.is)
 
+  module _ (printed : TailOfPrinted) (place : LongPlace) (is_printed : IsPrintedPlace file place) where
+    abbrev item : Item
+    item = is_printed.2
+
+    after : IsLongAfter file (At start) item (Some place)
+    after = is_printed.5
+
+    cursor_printed : IsPrinted file place.at
+    cursor_printed = inr (is_printed.0, is_printed.1, item, is_printed.3, is_printed.4, at_behind start file item.page item.row place after)
+
     rest_of_place : (items : List Item) (end : End) → IsLongTail file place items end ↔ IsRest file place.at items end
     rest_of_place items end =
         let cursor = printed file place.at items end cursor_printed in
-        (λ tail. cursor.0 (tail_of_long items end tail), λ rest. long_of_tail items end (cursor.1 rest))
+        (λ tail. cursor.0 (tail_of_long start item place after items end tail), λ rest. long_of_tail start item place after items end (cursor.1 rest))
 
-  tail_from : (begun : Begun) (items : List Item) (end : End) → IsPrintedBegun file begun → IsTailFrom file begun items end ↔ IsRest file (begins_at begun) items end
-  tail_from (At at) items end is_printed = printed file at items end is_printed
-  tail_from (Inside place) items end is_printed = rest_of_place place is_printed items end
+  tail_from : TailOfPrinted → (begun : Begun) (items : List Item) (end : End) → IsPrintedBegun file begun
+      → IsTailFrom file begun items end ↔ IsRest file (begins_at begun) items end
+  tail_from printed (At at) items end is_printed = printed file at items end is_printed
+  tail_from printed (Inside place) items end is_printed = rest_of_place printed place is_printed items end
 
 pub tail_from_printed : LinesAreRead → FilesHaveOneChain → FormsAreWhole → CursorsHaveOneTail → PlacesHaveOneTail → TailOfPrinted → TailFromPrinted
 tail_from_printed lines_read chains forms one_tail one_long printed file begun items end is_printed =
-    tail_from lines_read chains forms one_tail one_long printed file begun items end is_printed
+    tail_from lines_read chains forms one_tail one_long file printed begun items end is_printed
 
 -- a row that was read from its strip's beginning on, whatever the walk began with
-from_start : (begun : Begun) (file : List ℕ) (p r : ℕ) (place : Option LongPlace) (is : IsLongBehind file begun p r place)
-    → HasReadTo (At start) p is.form (strip_at is.form r) is.bytes (row_in_strip is.form r + 1) is.row is.n → IsLongBehind file (At start) p r place
-from_start begun file p r place is read = record {
+from_beginning : (begun : Begun) (at : Cursor) (file : List ℕ) (p r : ℕ) (place : Option LongPlace) (is : IsLongBehind file begun p r place)
+    → HasReadTo (At at) p is.form (strip_at is.form r) is.bytes (row_in_strip is.form r + 1) is.row is.n → IsLongBehind file (At at) p r place
+from_beginning begun at file p r place is read = record {
   head = is.head;
   q = is.q;
   form = is.form;
@@ -158,16 +158,17 @@ module _ (chains : FilesHaveOneChain) (file : List ℕ) (first : LongPlace) (fro
     }
 
   by_from : ReadsFrom (Inside first) p is.form (strip_at is.form r) is.bytes read.first read.reference read.b → IsLongBehind file (At start) p r place
-  by_from (inl (there, within, first_is, b_is)) = from_start (Inside first) file p r place is (joined_read there within first_is b_is)
-  by_from (inr (not_there, beginning)) = from_start (Inside first) file p r place is (whole_strip beginning)
+  by_from (inl (there, within, first_is, b_is)) = from_beginning (Inside first) start file p r place is (joined_read there within first_is b_is)
+  by_from (inr (not_there, beginning)) = from_beginning (Inside first) start file p r place is (whole_strip beginning)
 
   pub from_place : IsLongBehind file (At start) p r place
   from_place = by_from read.from
 
-behind_start : FilesHaveOneChain → (file : List ℕ) (begun : Begun) (p r : ℕ) (place : Option LongPlace) → IsPrintedBegun file begun
-    → IsLongBehind file begun p r place → IsLongBehind file (At start) p r place
-behind_start chains file (At at) p r place printed is =
-    from_start (At at) file p r place is (record {
+-- a row that was read from a cursor on, and so from any other
+pub from_cursor : (file : List ℕ) (at other : Cursor) (p r : ℕ) (place : Option LongPlace) → IsLongBehind file (At at) p r place
+    → IsLongBehind file (At other) p r place
+from_cursor file at other p r place is =
+    from_beginning (At at) other file p r place is (record {
       first = is.read.first;
       reference = is.read.reference;
       b = is.read.b;
@@ -176,6 +177,10 @@ behind_start chains file (At at) p r place printed is =
       lines = is.read.lines;
       count = is.read.count;
     })
+
+behind_start : FilesHaveOneChain → (file : List ℕ) (begun : Begun) (p r : ℕ) (place : Option LongPlace) → IsPrintedBegun file begun
+    → IsLongBehind file begun p r place → IsLongBehind file (At start) p r place
+behind_start chains file (At at) p r place printed is = from_cursor file at start p r place is
 behind_start chains file (Inside first) p r place printed is = from_place chains file first printed.2 printed.5 p r place is
 
 -- what a test keeps stood in the list

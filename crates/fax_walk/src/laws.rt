@@ -100,6 +100,41 @@ pub fn places_of_printed()
     tails_from_printed();
 }
 
+/// The place inside a strip behind a row is one that a walk from a cursor prints, where what the
+/// walk began with was a cursor or such a place.
+pub fn places_of_reached()
+    ensures { LongLaws.PlacesOfReached }
+{
+    fax_page::laws::lines_are_read_in_one_way();
+    fax_files::laws::files_have_one_chain();
+    fax_files::laws::forms_are_whole();
+    cursors_have_one_tail();
+    places_have_one_tail();
+}
+
+/// What follows a row is the tail from the cursor behind it, with the same end, also where the walk
+/// began at a place inside a strip that a walk from a cursor prints.
+pub fn tails_behind_reached()
+    ensures { LongLaws.TailBehindReached }
+{
+    fax_page::laws::lines_are_read_in_one_way();
+    fax_files::laws::files_have_one_chain();
+    fax_files::laws::forms_are_whole();
+    cursors_have_one_tail();
+    places_have_one_tail();
+    tails_behind_items();
+}
+
+/// There is one place inside a strip behind a row, or none, whichever cursor, or place that a walk
+/// from a cursor prints, the walk began at.
+pub fn items_have_one_place()
+    ensures { LongLaws.ItemsHaveOnePlace }
+{
+    fax_bits::laws::bits_stand_by_place();
+    fax_page::laws::lines_are_read_in_one_way();
+    fax_files::laws::files_have_one_chain();
+}
+
 /// Each file has forms and an end, and one list of them only.
 pub fn files_have_one_forms()
     ensures { Laws.FilesHaveOneForms }
