@@ -4,6 +4,7 @@ pub mod LineLemmas
 pub mod LongTextLemmas
 pub mod TextLemmas
 pub mod RunLemmas
+pub mod LongRunLemmas
 pub mod ReportLemmas
 pub mod StopLemmas
 pub mod CommandLemmas
