@@ -57,32 +57,6 @@ fn reads_the_texts_of_long_cursors(rt: HostRuntime) -> Result<(), Fail> {
 }
 
 #[test]
-fn goes_on_inside_a_strip(rt: HostRuntime) -> Result<(), Fail> {
-    let mut walk = Walk::start(rt.alloc(), &THREE_STRIPS);
-    assert!(rt; matches!(walk.next_row(), Ok(Some(_))));
-    let Some(cursor) = walk.long_cursor(rt.alloc())? else {
-        panic!(rt; "the second row stands inside its strip");
-    };
-    assert_eq!(rt; cursor.at, Cursor { page: 0, row: 1 });
-    assert_eq!(rt; cursor.bits, 1);
-    assert_eq!(rt; cursor.runs.as_slice(), [8u32].as_slice());
-    let mut rest = Walk::resume_long(rt.alloc(), &THREE_STRIPS, cursor);
-    match rest.next_row() {
-        Ok(Some((place, row))) => {
-            assert_eq!(rt; place.row, 1);
-            assert_eq!(rt; row.runs(rt.alloc())?.as_slice(), [3u32, 2, 3].as_slice());
-        }
-        _ => assert!(rt; false, "a row is there"),
-    }
-    assert_eq!(rt; rest.rows_read(), 1);
-    assert!(rt;
-        rest.long_cursor(rt.alloc())?.is_none(),
-        "it was its strip's last row"
-    );
-    Ok(())
-}
-
-#[test]
 fn names_no_place_outside(rt: HostRuntime) -> Result<(), Fail> {
     let outside: [(u32, u32, &[u32]); 6] = [
         (1, 41, &[8]),

@@ -259,13 +259,24 @@ fn reads_a_cursor(rt: HostRuntime) {
 }
 
 /// A page of 8 pels by 2 rows in MMR, in one strip, with black as 0: the first row has ten bits.
-fn one_strip() -> [u8; 126] {
-    let mut file = MMR;
-    file[64] = 1;
-    file[88] = 2;
-    file[9] = 0xf8;
-    file
-}
+#[rattlefmt::skip]
+static ONE_STRIP: [u8; 102] = [
+    // Header: II, 42, the directory at 12.
+    0x49, 0x49, 42, 0, 12, 0, 0, 0,
+    // 001 1000 11 1, and 1 1 1: WWWBBWWW twice, before any exchange.
+    0x31, 0xf8, 0x00, 0x00,
+    // Seven entries: ImageWidth, ImageLength, Compression, PhotometricInterpretation,
+    // StripOffsets, RowsPerStrip, StripByteCounts.
+    7, 0,
+    0x00, 0x01, 3, 0, 1, 0, 0, 0, 8, 0, 0, 0,
+    0x01, 0x01, 3, 0, 1, 0, 0, 0, 2, 0, 0, 0,
+    0x03, 0x01, 3, 0, 1, 0, 0, 0, 4, 0, 0, 0,
+    0x06, 0x01, 3, 0, 1, 0, 0, 0, 1, 0, 0, 0,
+    0x11, 0x01, 4, 0, 1, 0, 0, 0, 8, 0, 0, 0,
+    0x16, 0x01, 3, 0, 1, 0, 0, 0, 2, 0, 0, 0,
+    0x17, 0x01, 4, 0, 1, 0, 0, 0, 4, 0, 0, 0,
+    0, 0, 0, 0,
+];
 
 /// The place inside a strip behind the rows that the walk has handed out has this text, or none
 /// where the text is empty.
@@ -280,15 +291,14 @@ fn assert_place(rt: &impl Abort, alloc: Global, walk: &Walk, text: &str) -> Resu
 
 #[test]
 fn goes_on_inside_a_strip(rt: HostRuntime) -> Result<(), Fail> {
-    let file = one_strip();
-    let mut walk = Walk::start(rt.alloc(), &file);
+    let mut walk = Walk::start(rt.alloc(), &ONE_STRIP);
     assert_place(&rt, rt.alloc(), &walk, "")?;
     let first = Place { page: 0, row: 0 };
     assert_row(&rt, rt.alloc(), &mut walk, first, &[0, 3, 2, 3])?;
     assert_place(&rt, rt.alloc(), &walk, "2:0:1:10:3,2,3")?;
 
     let place = LongCursor::parse(rt.alloc(), "2:0:1:10:3,2,3")?;
-    let mut walk = Walk::resume_long(rt.alloc(), &file, place);
+    let mut walk = Walk::resume_long(rt.alloc(), &ONE_STRIP, place);
     assert_eq!(rt; walk.cursor(), Cursor { page: 0, row: 1 });
     assert_place(&rt, rt.alloc(), &walk, "2:0:1:10:3,2,3")?;
     let second = Place { page: 0, row: 1 };
@@ -314,28 +324,5 @@ fn keeps_its_place_behind_a_fault(rt: HostRuntime) -> Result<(), Fail> {
         assert_fault(&rt, &mut behind, second, Cause::Strip(StripFault::DataEnds));
     }
     assert_eq!(rt; behind.rows_read(), 0);
-    Ok(())
-}
-
-#[test]
-fn needs_a_place_inside_a_strip(rt: HostRuntime) -> Result<(), Fail> {
-    let file = one_strip();
-    let outside = [
-        "2:0:1:41:8",
-        "2:0:1:10:7",
-        "2:0:1:10:3,0,5",
-        "2:0:0:0:8",
-        "2:0:2:10:8",
-        "2:1:1:0:8",
-    ];
-    for text in outside {
-        let place = LongCursor::parse(rt.alloc(), text)?;
-        let mut walk = Walk::resume_long(rt.alloc(), &file, place);
-        assert_eq!(rt; walk.next_row().err(), Some(WalkFault::CursorOutside));
-    }
-    let place = LongCursor::parse(rt.alloc(), "2:0:1:40:8")?;
-    let mut walk = Walk::resume_long(rt.alloc(), &file, place);
-    let second = Cursor { page: 0, row: 1 };
-    assert_fault(&rt, &mut walk, second, Cause::Strip(StripFault::DataEnds));
     Ok(())
 }
