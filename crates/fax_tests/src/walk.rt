@@ -290,23 +290,40 @@ fn assert_place(rt: &impl Abort, alloc: Global, walk: &Walk, text: &str) -> Resu
 }
 
 #[test]
-fn goes_on_inside_a_strip(rt: HostRuntime) -> Result<(), Fail> {
+fn names_the_place_behind_a_row(rt: HostRuntime) -> Result<(), Fail> {
     let mut walk = Walk::start(rt.alloc(), &ONE_STRIP);
     assert_place(&rt, rt.alloc(), &walk, "")?;
     let first = Place { page: 0, row: 0 };
     assert_row(&rt, rt.alloc(), &mut walk, first, &[0, 3, 2, 3])?;
-    assert_place(&rt, rt.alloc(), &walk, "2:0:1:10:3,2,3")?;
+    assert_place(&rt, rt.alloc(), &walk, "2:0:1:10:3,2,3")
+}
 
-    let place = LongCursor::parse(rt.alloc(), "2:0:1:10:3,2,3")?;
-    let mut walk = Walk::resume_long(rt.alloc(), &ONE_STRIP, place);
+/// A walk that begins behind the first row of that page hands out the second row, and then ends.
+fn assert_second_row(rt: &impl Abort, alloc: Global, walk: &mut Walk) -> Result<(), Fail> {
     assert_eq!(rt; walk.cursor(), Cursor { page: 0, row: 1 });
-    assert_place(&rt, rt.alloc(), &walk, "2:0:1:10:3,2,3")?;
-    let second = Place { page: 0, row: 1 };
-    assert_row(&rt, rt.alloc(), &mut walk, second, &[0, 3, 2, 3])?;
-    assert_place(&rt, rt.alloc(), &walk, "")?;
-    assert_end(&rt, &mut walk, Cursor { page: 0, row: 2 });
+    assert_place(rt, alloc, walk, "2:0:1:10:3,2,3")?;
+    assert_row(rt, alloc, walk, Place { page: 0, row: 1 }, &[0, 3, 2, 3])?;
+    assert_place(rt, alloc, walk, "")?;
+    assert_end(rt, walk, Cursor { page: 0, row: 2 });
     assert_eq!(rt; walk.rows_read(), 1);
     Ok(())
+}
+
+#[test]
+fn goes_on_inside_a_strip(rt: HostRuntime) -> Result<(), Fail> {
+    let place = LongCursor::parse(rt.alloc(), "2:0:1:10:3,2,3")?;
+    let mut walk = Walk::resume_long(rt.alloc(), &ONE_STRIP, place);
+    assert_second_row(&rt, rt.alloc(), &mut walk)
+}
+
+/// A walk whose second row is cut answers its fault again and again, and stays where it is.
+fn assert_stays(rt: &impl Abort, alloc: Global, walk: &mut Walk) -> Result<(), Fail> {
+    for _ in 0..2 {
+        assert_place(rt, alloc, walk, "2:0:1:10:3,2,3")?;
+        let second = Cursor { page: 0, row: 1 };
+        assert_fault(rt, walk, second, Cause::Strip(StripFault::DataEnds));
+    }
+    assert_place(rt, alloc, walk, "2:0:1:10:3,2,3")
 }
 
 #[test]
@@ -314,15 +331,14 @@ fn keeps_its_place_behind_a_fault(rt: HostRuntime) -> Result<(), Fail> {
     let mut walk = Walk::start(rt.alloc(), &TWO_ROWS);
     let first = Place { page: 0, row: 0 };
     assert_row(&rt, rt.alloc(), &mut walk, first, &[3, 2, 3])?;
-    let second = Cursor { page: 0, row: 1 };
+    assert_stays(&rt, rt.alloc(), &mut walk)
+}
+
+#[test]
+fn keeps_its_place_before_the_first_row(rt: HostRuntime) -> Result<(), Fail> {
     let place = LongCursor::parse(rt.alloc(), "2:0:1:10:3,2,3")?;
-    let mut behind = Walk::resume_long(rt.alloc(), &TWO_ROWS, place);
-    for _ in 0..2 {
-        assert_place(&rt, rt.alloc(), &walk, "2:0:1:10:3,2,3")?;
-        assert_fault(&rt, &mut walk, second, Cause::Strip(StripFault::DataEnds));
-        assert_place(&rt, rt.alloc(), &behind, "2:0:1:10:3,2,3")?;
-        assert_fault(&rt, &mut behind, second, Cause::Strip(StripFault::DataEnds));
-    }
-    assert_eq!(rt; behind.rows_read(), 0);
+    let mut walk = Walk::resume_long(rt.alloc(), &TWO_ROWS, place);
+    assert_stays(&rt, rt.alloc(), &mut walk)?;
+    assert_eq!(rt; walk.rows_read(), 0);
     Ok(())
 }
