@@ -1,12 +1,14 @@
 -- The longest runs of a row, pel by pel.
-use Rattle.std.proofs.Common.{◌≡◌, ◌≢◌, ℕ, zero, suc, ◌+◌, ◌-◌, ◌<◌, ◌≤◌, List, [], ◌∷◌, length, drop, get_or, Bool, true, false, not, refl, ap, sym, ◌∙◌, subst, arith, drop-cons}
+use Rattle.std.proofs.Common.{◌≡◌, ◌≢◌, ℕ, zero, suc, ◌+◌, ◌-◌, ◌<◌, ◌≤◌, List, [], ◌∷◌, length, take, drop, get_or, Bool, true, false, not, refl, ap, sym, ◌∙◌, subst, arith, drop-cons, get_or-drop, length-drop}
 use Rattle.std.proofs.Math.Numerals.{suc-eq-add-one}
-use Rattle.std.proofs.lemmas.List.{drop_all}
+use Rattle.std.proofs.lemmas.List.{drop_all, get_or-take, length-take-le}
 use Rattle.fax_bits.specs.declared.Colour.{Colour}
 use Rattle.fax_bits.specs.declared.Colour.TheVariants.{White, Black}
 use Rattle.std.specs.List.{filter, range_with_len}
 use Rattle.fax_rows.specs.Elements.{other, same_colour, pel, pel_before, is_changing, runs_behind, runs_of}
 use Rattle.fax_rows.specs.code.LongestRuns.{gaps, AreAheadOf}
+use Rattle.fax_rows.specs.code.Turns.{ArePlaces}
+use Rattle.fax_rows.proofs.PlacedRowLemmas.{end_within}
 
 -- behind the last pel stands the run so far
 pub runs_behind-nil : (colour : Colour) (n : ℕ) → runs_behind colour n [] ≡ n ∷ []
@@ -118,6 +120,11 @@ pub gaps_are_runs : (row : List Colour) (changes : List ℕ) → changes ≡ fil
 gaps_are_runs row changes is =
     ap (λ places. gaps 0 places (length row)) is ∙ gaps_from row (length row) 0 0 (omega arith) (omega arith)
 
+-- one more than the places that are left
+pub length-gaps : (from : ℕ) (changes : List ℕ) (width : ℕ) → length (gaps from changes width) ≡ length changes + 1
+length-gaps from [] width = refl
+length-gaps from (next ∷ changes) width = omega (arith, length-gaps next changes width)
+
 -- each place further on is no less
 ascend_on : (next : ℕ) (changes : List ℕ)
     → ((i : ℕ) → i + 1 < length (next ∷ changes) → get_or (next ∷ changes) i 0 ≤ get_or (next ∷ changes) (i + 1) 0)
@@ -140,6 +147,7 @@ ahead_of_next from next changes width all =
     let up = ascend_on next changes all.steps in
     record {
       short = all.short;
+      few = omega (arith, all.few);
       within = all.left 0 (omega arith);
       right = below_all next changes up;
       left = λ i h. all.left (suc i) (omega arith);
@@ -147,3 +155,28 @@ ahead_of_next from next changes width all =
           let same : i + 1 ≡ suc i = omega arith in
           subst (λ k. get_or changes i 0 ≤ get_or changes k 0) (sym same) (up (suc i) (omega arith));
     }
+
+-- the changes of a row are ahead of its first pel
+module _ (places : List ℕ) (end width : ℕ) (all : ArePlaces places end width) where
+  few_changes : length (take (end - 1) (drop 1 places)) ≡ end - 1
+  few_changes = length-take-le (end - 1) (drop 1 places) (omega (arith, length-drop 1 places, all.ascending.within))
+
+  change_at : (i j : ℕ) → i + 1 ≡ j → i < end - 1 → get_or (take (end - 1) (drop 1 places)) i 0 ≡ get_or places j 0
+  change_at i j at within =
+      let next : 1 + i ≡ j = omega arith in
+      get_or-take (end - 1) (drop 1 places) i 0 within ∙ get_or-drop 1 places i 0 ∙ ap (λ k. get_or places k 0) next
+
+  pub ahead_of_row : AreAheadOf 0 (take (end - 1) (drop 1 places)) width
+  ahead_of_row = record {
+    short = all.short;
+    few = omega (arith, few_changes, all.short, end_within places end width all, all.some);
+    within = omega arith;
+    right = λ i h. omega arith;
+    left = λ i h.
+        let inside : i < end - 1 = omega (arith, few_changes) in
+        omega (arith, change_at i (i + 1) refl inside, all.below (i + 1) (omega arith) (omega arith));
+    steps = λ i h.
+        let inside : i + 1 < end - 1 = omega (arith, few_changes) in
+        let step = all.ascending.steps (i + 1) (omega arith) (omega arith) in
+        omega (arith, change_at i (i + 1) refl (omega arith), change_at (i + 1) (i + 1 + 1) refl inside, step);
+  }

@@ -47,7 +47,20 @@ impl<'a> LongestRuns<'a> {
         }
     }
 
+    /// How many runs are still to come.
+    pub fn len(&self) -> usize
+        ensures count { result ≡ length self.now }
+        ensures few { result ≤ 2 ^ 16 }
+    {
+        if self.ended {
+            0
+        } else {
+            self.changes.len() + 1
+        }
+    }
+
     /// How many pels the next run has. `None` where no run is left.
+    #[inline(always)]
     pub fn next_run(&mut self) -> Option<u32>
         ensures first { MatchOption result (self.old ≡ []) (λ n. self.old ≡ n ∷ self.new) }
         ensures short { IfSome result (λ n. n < 2 ^ 16) }

@@ -1,16 +1,15 @@
 //! `check`: what is worth a note in a file.
 ghost use Rattle.std.specs.Prelude.{◌≡◌, ◌≤◌, ◌+◌, ◌++◌, IfErr, IfOk, IfSome};
 ghost use Rattle.arrayvec.specs.ArrayString.{array_string_len};
-ghost use Rattle.std.specs.String.{string_bytes};
 ghost use Rattle.fax_tool.specs.ReportText as Text;
 ghost use Rattle.fax_tool.specs.code.Outcome as Outcome;
 ghost use Rattle.fax_tool.specs.code.Outcome.{IsStopped, WritesOutput};
 ghost use Rattle.fax_tool.specs.Streams.{no_faults};
 ghost use Rattle.fax_tool.specs.declared.words.Command.TheVariants.{Check};
 
+use crate::collected::Collected;
 use crate::fault::InputFault;
 use crate::refusal::Refusal;
-use crate::row_line::put;
 use crate::short::push_number;
 use crate::streams::{Sink, Source};
 use crate::transfer::{Interruptions, give_all, read_whole};
@@ -68,14 +67,14 @@ fn counts_line(pages: u64, rows: u64) -> ReportLine
 }
 
 /// The text of a report: its notes, line by line, and its counts.
-fn report_text(alloc: Global, report: &Report) -> Result<String, Memory>
-    ensures { IfOk result (λ text. string_bytes text ≡ Text.report_output report.now) }
+fn report_text(alloc: Global, report: &Report) -> Result<Collected, Memory>
+    ensures { IfOk result (λ text. text ≡ Text.report_output report.now) }
 {
-    let mut text = String::new(alloc);
+    let mut text = Collected::new(alloc);
     for note in &report.notes {
-        put(&mut text, note_line(*note).as_str())?;
+        text.put(note_line(*note).as_str())?;
     }
-    put(&mut text, counts_line(report.pages, report.rows).as_str())?;
+    text.put(counts_line(report.pages, report.rows).as_str())?;
     Ok(text)
 }
 

@@ -1,12 +1,12 @@
 //! What is printed line by line: the rows of a file, or its pages.
 ghost use Rattle.std.specs.Prelude.{◌≡◌, ℕ, List, IfOk, OnErr};
-ghost use Rattle.std.specs.String.{string_bytes};
 ghost use Rattle.fax_walk.specs.declared.cursor.Cursor.{Cursor as At};
 ghost use Rattle.fax_walk.specs.declared.end.End.{End as TheEnd};
 ghost use Rattle.fax_tool.specs.Text.{Line};
 ghost use Rattle.fax_tool.specs.code.Printing as Spec;
 ghost use Rattle.fax_tool.specs.code.Printing.{IsLinePut, Said};
 
+use crate::collected::Collected;
 use crate::page_line::put_page_line;
 use crate::row_line::put_row_line;
 use fax_bits::Memory;
@@ -28,10 +28,11 @@ pub trait Lines {
     fn cursor(&self) -> Cursor
         ensures { result ≡ place self.now };
 
-    /// Collects the next line, or answers how the lines ended.
-    fn put_next(&mut self, text: &mut String) -> Result<Option<End>, Memory>
-        ensures put { IsLinePut (are_due self.old) (said self.old) (place self.old) (left self.old) (string_bytes text.old) result
-            (are_due self.new) (said self.new) (place self.new) (left self.new) (string_bytes text.new) };
+    /// Collects the next line behind the text, or answers how the lines ended. Where memory is
+    /// refused the text is as it was.
+    fn put_next(&mut self, text: &mut Collected) -> Result<Option<End>, Memory>
+        ensures put { IsLinePut (are_due self.old) (said self.old) (place self.old) (left self.old) text.old result
+            (are_due self.new) (said self.new) (place self.new) (left self.new) text.new };
 
     /// There are lines that are due, and an end. It computes nothing.
     fn have_an_end(&self)
@@ -66,7 +67,7 @@ impl Lines for Walk<'_> {
         Walk::cursor(self)
     }
 
-    fn put_next(&mut self, text: &mut String) -> Result<Option<End>, Memory> {
+    fn put_next(&mut self, text: &mut Collected) -> Result<Option<End>, Memory> {
         match self.next_row() {
             Ok(Some((place, row))) => {
                 put_row_line(text, place, row)?;
@@ -100,7 +101,7 @@ impl Lines for Pages<'_> {
         Pages::cursor(self)
     }
 
-    fn put_next(&mut self, text: &mut String) -> Result<Option<End>, Memory> {
+    fn put_next(&mut self, text: &mut Collected) -> Result<Option<End>, Memory> {
         match self.next_page() {
             Ok(Some((page, form))) => {
                 put_page_line(text, page, &form)?;

@@ -4,6 +4,7 @@
 #![tactic(auto)]
 
 mod check;
+mod collected;
 mod convert;
 mod fault;
 pub mod laws;

@@ -1,11 +1,10 @@
 //! The line of a page.
-ghost use Rattle.std.specs.Prelude.{◌≡◌, ◌++◌, ◌+◌, ◌≤◌, OnOk};
-ghost use Rattle.std.specs.String.{string_bytes};
+ghost use Rattle.std.specs.Prelude.{◌≡◌, ◌++◌, ◌+◌, ◌≤◌, OnErr, OnOk};
 ghost use Rattle.arrayvec.specs.ArrayString.{array_string_len};
 ghost use Rattle.fax_files.specs.Written.{fill_order_of};
 ghost use Rattle.fax_tool.specs.Text.{and_coding, and_fraction, page_line_of};
 
-use crate::row_line::put;
+use crate::collected::Collected;
 use crate::short::push_number;
 use arrayvec::ArrayString;
 use fax_bits::Memory;
@@ -71,8 +70,9 @@ fn page_line(page: u32, form: &PageForm) -> PageLine
 }
 
 /// Appends the line of a page.
-pub fn put_page_line(text: &mut String, page: u32, form: &PageForm) -> Result<(), Memory>
-    ensures ok { OnOk result (string_bytes text.new ≡ string_bytes text.old ++ page_line_of page form.now) }
+pub fn put_page_line(text: &mut Collected, page: u32, form: &PageForm) -> Result<(), Memory>
+    ensures ok { OnOk result (text.new ≡ text.old ++ page_line_of page form.now) }
+    ensures err { OnErr result (text.new ≡ text.old) }
 {
-    put(text, page_line(page, form).as_str())
+    text.put(page_line(page, form).as_str())
 }

@@ -14,6 +14,7 @@ ghost use Rattle.fax_walk.specs.LongTail.{begins_at};
 ghost use Rattle.fax_walk.specs.code.Due.{IsLongNow, walk_begun};
 ghost use Rattle.fax_tool.specs.declared.words.Command.TheVariants.{List as Forms, Rows};
 
+use crate::collected::Collected;
 use crate::fault::{InputFault, fault_of};
 use crate::lines::Lines;
 use crate::refusal::Refusal;
@@ -78,13 +79,13 @@ fn stop_for_memory<W: Sink>(
 fn write_out<W: Sink>(
     out: &mut W,
     interruptions: &mut Interruptions,
-    text: &mut String,
+    text: &mut Collected,
 ) -> Result<(), Refusal>
     requires { W.counts out.old ≡ counted interruptions.old }
-    ensures ok { OnOk result (Appends (W.written out.old) (W.written out.new) (string_bytes text.old)) }
-    ensures emptied { OnOk result (string_bytes text.new ≡ []) }
+    ensures ok { OnOk result (Appends (W.written out.old) (W.written out.new) text.old) }
+    ensures emptied { OnOk result (text.new ≡ []) }
     ensures counts { OnOk result (W.counts out.new ≡ counted interruptions.new) }
-    ensures err { IfErr result (IsGivenInPart (W.written out.old) (W.written out.new) (string_bytes text.old) (W.counts out.new)) }
+    ensures err { IfErr result (IsGivenInPart (W.written out.old) (W.written out.new) text.old (W.counts out.new)) }
 {
     give_all(out, interruptions, text.as_bytes())?;
     text.clear();
@@ -95,12 +96,12 @@ fn write_out<W: Sink>(
 fn write_where_long<W: Sink>(
     out: &mut W,
     interruptions: &mut Interruptions,
-    text: &mut String,
+    text: &mut Collected,
 ) -> Result<(), Refusal>
     requires { W.counts out.old ≡ counted interruptions.old }
-    ensures ok { OnOk result (SendsPart (W.written out.old) (W.written out.new) (string_bytes text.old) (string_bytes text.new)) }
+    ensures ok { OnOk result (SendsPart (W.written out.old) (W.written out.new) text.old text.new) }
     ensures counts { OnOk result (W.counts out.new ≡ counted interruptions.new) }
-    ensures err { IfErr result (IsGivenInPart (W.written out.old) (W.written out.new) (string_bytes text.old) (W.counts out.new)) }
+    ensures err { IfErr result (IsGivenInPart (W.written out.old) (W.written out.new) text.old (W.counts out.new)) }
 {
     if text.len() < ENOUGH_TEXT {
         return Ok(());
@@ -119,23 +120,6 @@ fn behind_one(left: Option<u32>) -> Option<u32>
     }
 }
 
-/// Collects the next line behind the text, or answers how the lines ended. The line is made apart,
-/// so that no part of it is collected where memory is refused.
-fn collect_next<L: Lines>(
-    lines: &mut L,
-    line: &mut String,
-    text: &mut String,
-) -> Result<Option<End>, Memory>
-    ensures put { Spec.IsLinePut (L.are_due lines.old) (L.said lines.old) (L.place lines.old) (L.left lines.old)
-        (string_bytes text.old) result (L.are_due lines.new) (L.said lines.new) (L.place lines.new) (L.left lines.new) (string_bytes text.new) }
-    ensures err { OnErr result (string_bytes text.new ≡ string_bytes text.old) }
-{
-    line.clear();
-    let ending = lines.put_next(line)?;
-    text.push_str(line.as_str()).map_err(|_| Memory)?;
-    Ok(ending)
-}
-
 /// Prints the lines that are due, up to the limit, and answers how they ended, or `None` at the
 /// limit.
 fn print_lines<L: Lines, W: Sink>(
@@ -152,8 +136,7 @@ fn print_lines<L: Lines, W: Sink>(
     ensures err { IfErr result (λ refusal. Spec.StopsLines (L.are_due lines.old) (L.place lines.old) max refusal
         (W.written out.old) (W.written out.new) (W.counts out.new)) }
 {
-    let mut text = String::new(alloc);
-    let mut line = String::new(alloc);
+    let mut text = Collected::new(alloc);
     let mut left = max;
     loop {
         lines.have_an_end();
@@ -163,7 +146,7 @@ fn print_lines<L: Lines, W: Sink>(
         }
         write_where_long(out, interruptions, &mut text)?;
         let cursor = lines.cursor();
-        match collect_next(lines, &mut line, &mut text) {
+        match lines.put_next(&mut text) {
             Ok(None) => left = behind_one(left),
             Ok(Some(end)) => {
                 write_out(out, interruptions, &mut text)?;

@@ -1,125 +1,106 @@
 //! The line of a row.
-ghost use Rattle.std.specs.Prelude.{◌≡◌, ◌+◌, ◌≤◌, ◌<◌, ◌++◌, IfOk, IsAscii, OnOk, decimal, flat_map, length, take};
-ghost use Rattle.std.specs.String.{string_bytes};
+ghost use Rattle.std.specs.Prelude.{◌≡◌, ◌+◌, ◌*◌, ◌≤◌, ◌++◌, OnErr, OnOk, decimal, flat_map, length, take};
 ghost use Rattle.fax_rows.specs.Elements.{runs_of};
 ghost use Rattle.fax_tool.specs.Text.{and_number, row_line_of};
 
+use crate::collected::{Collected, make_room, write_bytes};
 use fax_bits::Memory;
 use fax_rows::{LongestRuns, Row};
 use fax_walk::Place;
 use itoa::Buffer;
 
-/// How many bytes of numbers are collected before they are appended.
-const COLLECTED: usize = 512;
+/// The most bytes of a line but for its runs: a word, two numbers behind a blank each, and the line
+/// end.
+const LINE_BYTES: usize = 26;
 
-/// Appends a number in decimals.
-fn put_decimal(text: &mut String, number: u32) -> Result<(), Memory>
-    ensures ok { OnOk result (string_bytes text.new ≡ string_bytes text.old ++ decimal number) }
-{
-    let mut digits = Buffer::new();
-    put(text, digits.format(number))
-}
+/// The most bytes of a run behind a blank.
+const RUN_BYTES: usize = 6;
 
-/// Appends a blank and a number in decimals.
-fn put_number(text: &mut String, number: u32) -> Result<(), Memory>
-    ensures ok { OnOk result (string_bytes text.new ≡ string_bytes text.old ++ and_number number) }
+/// Writes a number of two digits or more at a place, and answers where it ends.
+#[tactic(auto, using(crate::proofs::NumberLemmas::length_two, crate::proofs::NumberLemmas::length_three, crate::proofs::NumberLemmas::length_four))]
+fn write_digits(bytes: &mut [u8], at: usize, number: u32) -> usize
+    requires long { 10 ≤ number }
+    requires room { at + length (decimal number) ≤ length bytes.old }
+    ensures written { take result bytes.new ≡ take at bytes.old ++ decimal number }
+    ensures end { result ≡ at + length (decimal number) }
 {
-    put(text, " ")?;
-    put_decimal(text, number)
-}
-
-/// Appends a text.
-pub fn put(text: &mut String, more: &str) -> Result<(), Memory>
-    ensures ok { OnOk result (string_bytes text.new ≡ string_bytes text.old ++ more.now) }
-{
-    text.push_str(more).map_err(|_| Memory)
-}
-
-/// Appends a text of ASCII bytes.
-fn put_ascii(text: &mut String, bytes: &[u8]) -> Result<(), Memory>
-    requires { IsAscii bytes.now }
-    ensures ok { OnOk result (string_bytes text.new ≡ string_bytes text.old ++ bytes.now) }
-{
-    match str::from_utf8(bytes) {
-        Ok(more) => put(text, more),
-        Err(_) => unreachable!(),
+    if number < 100 {
+        bytes[at] = b'0' + (number / 10) as u8;
+        bytes[at + 1] = b'0' + (number % 10) as u8;
+        return at + 2;
     }
+    if number < 1000 {
+        bytes[at] = b'0' + (number / 100) as u8;
+        bytes[at + 1] = b'0' + (number / 10 % 10) as u8;
+        bytes[at + 2] = b'0' + (number % 10) as u8;
+        return at + 3;
+    }
+    if number < 10000 {
+        bytes[at] = b'0' + (number / 1000) as u8;
+        bytes[at + 1] = b'0' + (number / 100 % 10) as u8;
+        bytes[at + 2] = b'0' + (number / 10 % 10) as u8;
+        bytes[at + 3] = b'0' + (number % 10) as u8;
+        return at + 4;
+    }
+    let mut digits = Buffer::new();
+    write_bytes(bytes, at, digits.format(number).as_bytes())
 }
 
-/// Writes a blank and a number below 10,000 at a place, and answers where they end.
-fn write_short(bytes: &mut [u8], at: usize, number: u32) -> usize
-    requires short { number < 10000 }
-    requires room { at + 5 ≤ length bytes.old }
+/// Writes a blank and a number at a place, and answers where they end.
+#[inline(always)]
+#[tactic(auto, using(crate::proofs::NumberLemmas::length_one))]
+fn write_number(bytes: &mut [u8], at: usize, number: u32) -> usize
+    requires { at + length (and_number number) ≤ length bytes.old }
     ensures written { take result bytes.new ≡ take at bytes.old ++ and_number number }
-    ensures within { result ≤ length bytes.new }
+    ensures end { result ≡ at + length (and_number number) }
 {
     bytes[at] = b' ';
     if number < 10 {
         bytes[at + 1] = b'0' + number as u8;
         return at + 2;
     }
-    if number < 100 {
-        bytes[at + 1] = b'0' + (number / 10) as u8;
-        bytes[at + 2] = b'0' + (number % 10) as u8;
-        return at + 3;
-    }
-    if number < 1000 {
-        bytes[at + 1] = b'0' + (number / 100) as u8;
-        bytes[at + 2] = b'0' + (number / 10 % 10) as u8;
-        bytes[at + 3] = b'0' + (number % 10) as u8;
-        return at + 4;
-    }
-    bytes[at + 1] = b'0' + (number / 1000) as u8;
-    bytes[at + 2] = b'0' + (number / 100 % 10) as u8;
-    bytes[at + 3] = b'0' + (number / 10 % 10) as u8;
-    bytes[at + 4] = b'0' + (number % 10) as u8;
-    at + 5
+    write_digits(bytes, at + 1, number)
 }
 
-/// Puts a blank and a number behind the first `at` of the bytes that are collected, and answers how
-/// many are collected then. Where there is no room, or the number is long, they are all appended.
-#[inline(always)]
-fn collect(text: &mut String, bytes: &mut [u8], at: usize, number: u32) -> Result<usize, Memory>
-    requires within { at ≤ length bytes.old }
-    requires ascii { IsAscii (take at bytes.old) }
-    ensures ok { IfOk result (λ end. string_bytes text.new ++ take end bytes.new
-        ≡ string_bytes text.old ++ (take at bytes.old ++ and_number number)) }
-    ensures within { IfOk result (λ end. end ≤ length bytes.new) }
-    ensures ascii { IfOk result (λ end. IsAscii (take end bytes.new)) }
-{
-    if number < 10000 && bytes.len() - at >= 5 {
-        return Ok(write_short(bytes, at, number));
-    }
-    put_ascii(text, &bytes[..at])?;
-    put_number(text, number)?;
-    Ok(0)
-}
-
-/// Appends the first `at` of the bytes that are collected, and the runs of a row, each behind a blank.
-fn put_runs(text: &mut String, bytes: &mut [u8], at: usize, row: &Row) -> Result<(), Memory>
-    requires within { at ≤ length bytes.old }
-    requires ascii { IsAscii (take at bytes.old) }
-    ensures ok { OnOk result (string_bytes text.new ≡ string_bytes text.old
-        ++ (take at bytes.old ++ flat_map and_number (runs_of row.now))) }
+/// Writes the runs of a row at a place, each behind a blank, and answers where they end.
+fn write_runs(bytes: &mut [u8], at: usize, row: &Row) -> usize
+    requires { at + 6 * length (runs_of row.now) ≤ length bytes.old }
+    ensures written { take result bytes.new ≡ take at bytes.old ++ flat_map and_number (runs_of row.now) }
+    ensures within { result ≤ at + 6 * length (runs_of row.now) }
 {
     let mut end = at;
     let mut runs = LongestRuns::of_row(row);
     while let Some(run) = runs.next_run() {
-        end = collect(text, bytes, end, run)?;
+        end = write_number(bytes, end, run);
     }
-    put_ascii(text, &bytes[..end])
+    end
+}
+
+/// Writes the line of a row at a place, and answers where it ends.
+fn write_line(bytes: &mut [u8], at: usize, place: Place, row: &Row) -> usize
+    requires { at + (26 + 6 * length (runs_of row.now)) ≤ length bytes.old }
+    ensures written { take result bytes.new
+        ≡ take at bytes.old ++ row_line_of place.page place.row (runs_of row.now) }
+    ensures within { result ≤ length bytes.new }
+{
+    bytes[at] = b'r';
+    bytes[at + 1] = b'o';
+    bytes[at + 2] = b'w';
+    let page_end = write_number(bytes, at + 3, place.page);
+    let row_end = write_number(bytes, page_end, place.row);
+    let end = write_runs(bytes, row_end, row);
+    bytes[end] = b'\n';
+    end + 1
 }
 
 /// Appends the line of a row: `row P R` and the row's runs.
-#[tactic(auto, unfolding(crate::specs::Text::row_line_of))]
-pub fn put_row_line(text: &mut String, place: Place, row: &Row) -> Result<(), Memory>
-    ensures ok { OnOk result (string_bytes text.new ≡ string_bytes text.old
-        ++ row_line_of place.page place.row (runs_of row.now)) }
+pub fn put_row_line(text: &mut Collected, place: Place, row: &Row) -> Result<(), Memory>
+    ensures ok { OnOk result (text.new ≡ text.old ++ row_line_of place.page place.row (runs_of row.now)) }
+    ensures err { OnErr result (text.new ≡ text.old) }
 {
-    put(text, "row")?;
-    let mut bytes = [0; COLLECTED];
-    let page_end = collect(text, &mut bytes, 0, place.page)?;
-    let row_end = collect(text, &mut bytes, page_end, place.row)?;
-    put_runs(text, &mut bytes, row_end, row)?;
-    put(text, "\n")
+    let runs = LongestRuns::of_row(row).len();
+    let end = text.end;
+    make_room(&mut text.bytes, end, LINE_BYTES + RUN_BYTES * runs)?;
+    text.end = write_line(text.bytes.as_mut_slice(), end, place, row);
+    Ok(())
 }

@@ -11,9 +11,10 @@ abbrev pub runs_ahead : Bool → ℕ → List ℕ → ℕ → List ℕ
 runs_ahead true from changes width = []
 runs_ahead false from changes width = gaps from changes width
 
--- the changes ascend from a place on up to the width
+-- the changes ascend from a place on up to the width, and are fewer than the greatest width
 pub record AreAheadOf (from : ℕ) (changes : List ℕ) (width : ℕ) : Type 0 where
   pub short : width < 2 ^ 16
+  pub few : length changes < 2 ^ 16
   pub within : from ≤ width
   pub right : (i : ℕ) → i < length changes → from ≤ slice_index changes i
   pub left : (i : ℕ) → i < length changes → slice_index changes i ≤ width

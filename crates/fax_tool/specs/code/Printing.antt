@@ -57,14 +57,14 @@ pub record PutsLine (old new : List Line → End → Type 0) (old_said new_said 
   pub place_is : place ≡ line.cursor
   pub fewer : new_left < old_left
 
--- the next line is collected, or the lines have ended; nothing is said where memory was refused
+-- the next line is collected, or the lines have ended; where memory was refused the text is as it was
 abbrev pub IsLinePut : (List Line → End → Type 0) → Said → Cursor → ℕ → List ℕ → Result (Option End) NoMemory → (List Line → End → Type 0) → Said → Cursor → ℕ → List ℕ → Type 0
 IsLinePut old old_said place left text (Ok None) new new_said new_place new_left new_text =
     (line : Line) × PutsLine old new old_said new_said line new_place left new_left × (new_text ≡ text ++ line.text)
 IsLinePut old old_said place left text (Ok (Some end)) new new_said new_place new_left new_text =
     old [] end × (new_place ≡ place) × (new_text ≡ text)
     × ((file : List ℕ) (begun : Begun) (lines : List Line) → old_said file begun lines → new_said file begun lines)
-IsLinePut old old_said place left text (Err memory) new new_said new_place new_left new_text = ⊤
+IsLinePut old old_said place left text (Err memory) new new_said new_place new_left new_text = new_text ≡ text
 
 -- printing ended so: with the end of the lines, of which there are fewer than the limit, or at the limit
 abbrev pub EndsWith : List Line → List Line → End → Option ℕ → Option End → Type 0

@@ -23,7 +23,7 @@ returns-in_err-give_all-clause-err g c =
     let is = rw c.deref.ensures.value at c.in_ok-report.ensures in
     rw (p.1, p.2)
     (check_stopped (g.R.Source.left c.args.input.now) c.in_ok-file.file.items (g.W.Sink.written c.args.out.now) _ _ _ _
-    c.in_ok-report.report c.as_bytes.result.now _ c.in_ok-file.ensures.whole is (c.as_bytes.ensures.value ∙ c.in_ok-text.ensures)
+    c.in_ok-report.report c.as_bytes.result.now _ c.in_ok-file.ensures.whole is (c.as_bytes.ensures ∙ c.in_ok-text.ensures)
     c.in_err-give_all.ensures.err)
 
 pub returns-clause-ok : goal.returns-clause-ok
@@ -31,5 +31,5 @@ returns-clause-ok g c =
     let is = rw c.deref.ensures.value at c.in_ok-report.ensures in
     checked (g.R.Source.left c.args.input.now) c.in_ok-file.file.items (g.W.Sink.written c.args.out.now) _
     (g.R.Source.counts c.args.input.now) 0 (g.W.Sink.counts c.args.out.now)
-    c.in_ok-report.report c.as_bytes.result.now _ c.in_ok-file.ensures.whole is (c.as_bytes.ensures.value ∙ c.in_ok-text.ensures)
+    c.in_ok-report.report c.as_bytes.result.now _ c.in_ok-file.ensures.whole is (c.as_bytes.ensures ∙ c.in_ok-text.ensures)
     c.in_ok-give_all.ensures.ok c.fault_of.ensures.error c.fault_of.ensures.status

@@ -1,5 +1,4 @@
 use Rattle.std.proofs.Common.{◌≡◌}
-use Rattle.std.specs.String.{string_bytes}
 use Rattle.fax_tool.specs.code.Transfers.{counted}
 use Rattle.fax_tool.proofs.PrintLemmas.{PrintsSome}
 use Rattle.fax_tool.proofs.print.print_lines.Given as goal
@@ -8,7 +7,7 @@ abbrev pub invariant-loop-left : goal.invariant-loop-left
 invariant-loop-left g l = record {
   some : PrintsSome (g.L.Lines.are_due l.initial.lines) (g.L.Lines.are_due l.lines) (g.L.Lines.said l.initial.lines)
       (g.L.Lines.said l.lines) (g.L.Lines.place l.initial.lines)
-      (g.L.Lines.place l.lines) l.initial.left l.left (g.W.Sink.written l.initial.out) (g.W.Sink.written l.out) (string_bytes l.text);
+      (g.L.Lines.place l.lines) l.initial.left l.left (g.W.Sink.written l.initial.out) (g.W.Sink.written l.out) l.text;
   counts : g.W.Sink.counts l.out ≡ counted l.interruptions;
 }
 
