@@ -126,6 +126,20 @@ fn open_first<'a>(alloc: Global, file: &'a [u8], begun: &Begun) -> Result<OpenPa
     }
 }
 
+impl Stage<'_> {
+    ghost use Rattle.fax_walk.specs.code.Next.{ended_at};
+
+    /// The stage behind a page that is open, where the rows end so.
+    fn ended_at(self, end: End) -> Self
+        ensures { result ≡ ended_at self.entry end }
+    {
+        match self {
+            Stage::Open(page) => Stage::Ended(end, page.read(), Some(page)),
+            other => other,
+        }
+    }
+}
+
 impl<'a> Walk<'a> {
     ghost use Rattle.fax_walk.specs.code.Due.{walk_from, walk_start, walk_inside};
     ghost use Rattle.fax_walk.specs.code.Due.{rows_read_at, IsLongNow};
@@ -256,16 +270,15 @@ impl<'a> Walk<'a> {
         ensures { IsStep self.old self.new }
     {
         fax_files::laws::files_have_one_chain();
-        match replace(&mut self.stage, Stage::Before) {
-            Stage::Open(mut page) => match page.next() {
-                Ok(()) => {
-                    self.cursor = page.cursor();
-                    self.given += 1;
-                    self.stage = Stage::Open(page);
-                }
-                Err(end) => self.stage = Stage::Ended(end, page.read(), Some(page)),
-            },
-            other => self.stage = other,
+        let Stage::Open(page) = &mut self.stage else {
+            return;
+        };
+        match page.next() {
+            Ok(()) => {
+                self.cursor = page.cursor();
+                self.given += 1;
+            }
+            Err(end) => self.stage = replace(&mut self.stage, Stage::Before).ended_at(end),
         }
     }
 

@@ -50,6 +50,12 @@ pub record HandsOut (old : WalkState) (item : Item) (new : WalkState) : Type 0 w
   pub one_more : new.given ≡ old.given + 1
   pub fewer : places_left new < places_left old
 
+-- the stage behind a page that is open, where the rows end so
+abbrev pub ended_at : Stage → End → Stage
+ended_at Before end = Before
+ended_at (Open page) end = Ended end page.read (Some page)
+ended_at (Ended ended read last) end = Ended ended read last
+
 -- nothing more is due, and the rows have ended so for good
 pub record HasEnded (old : WalkState) (end : End) (new : WalkState) : Type 0 where
   pub due : IsDue old [] end
