@@ -2,6 +2,7 @@ pub mod FirstOtherLemmas
 pub mod PackedLemmas
 pub mod PackedLaws
 pub mod PackingLemmas
+pub mod PackedWordLemmas
 pub mod PlaceLemmas
 pub mod StepLemmas
 pub mod RunLemmas

@@ -23,7 +23,7 @@ get_or-packed_row row q within =
 -- by the laws of the bits of bytes
 module _ (places : AreBitsByPlace) (one_byte : AreBitsOfOneByte) where
   -- bit r of the byte that begins with the pel `from`
-  bit-packed_byte : (row : List Colour) (from r : ℕ) → from < length row → r < 8
+  pub bit-packed_byte : (row : List Colour) (from r : ℕ) → from < length row → r < 8
       → nat_eq (bit_at (packed_byte row from) (7 - r)) 1 ≡ get_or (map is_black row) (from + r) false
   unfolding packed_byte
   bit-packed_byte row from r within in_byte =

@@ -5,3 +5,4 @@ pub mod LongestRuns
 pub mod Reached
 pub mod Turns
 pub mod PlacedReached
+pub mod PackedWord

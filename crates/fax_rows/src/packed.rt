@@ -1,19 +1,23 @@
 //! Rows as packed bytes, as in a raw PBM (the netpbm format, P4): eight pels in a byte, the
 //! leftmost in its highest bit, where 1 is black.
 ghost use Rattle.std.specs.Prelude.{◌≡◌, ◌+◌, ◌-◌, ◌*◌, ◌<◌, ◌≤◌, ◌^◌, length, IfOk};
-ghost use Rattle.std.specs.Prelude.{ℕ, slice_index, if◌then◌else◌};
+ghost use Rattle.std.specs.Prelude.{◌/◌, ◌%◌, ℕ, slice_index, if◌then◌else◌};
 ghost use Rattle.fax_bits.specs.Bits.{bits};
 ghost use Rattle.fax_bits.specs.declared.FillOrder.TheVariants.{MsbFirst};
 ghost use Rattle.fax_rows.specs.Packed as Spec;
+ghost use Rattle.fax_rows.specs.code.PackedWord.{IsPackedWord};
 ghost use Rattle.fax_rows.specs.code.Turns.{row_of, ArePlaces, HasPassed, IsAscending};
 
 use crate::lanes::first_other;
 use crate::pels::Row;
 use crate::runs::other;
 use crate::turns::{close, turn};
-use fax_bits::laws::bits_stand_by_place;
+use fax_bits::laws::{bits_stand_by_place, eight_bits_are_a_byte};
 use fax_bits::{Colour, Memory};
 use std::alloc::Global;
+
+/// How many pels a word has.
+const WORD: u32 = 64;
 
 impl Row {
     /// The row of `width` pels, 1 to 65,535, that these bytes hold: pel `i` is black where bit `i`
@@ -63,8 +67,93 @@ fn pack_places(places: &[u32], end: usize, width: u32, out: &mut [u8])
     requires whole { length out.old ≡ Spec.packed_len width }
     ensures { out.new ≡ Spec.packed_row (row_of places.now end width) }
 {
+    let words = (width / WORD) as usize;
+    let passed = pack_words(places, end, width, words, out);
+    pack_rest(places, end, width, 8 * words, passed, out);
+}
+
+/// Writes so many words of 64 pels, and answers how many places of change are passed behind them.
+fn pack_words(places: &[u32], end: usize, width: u32, words: usize, out: &mut [u8]) -> usize
+    requires row { ArePlaces places.now end width }
+    requires within { words ≡ width / 64 }
+    requires room { 8 * words ≤ length out.old }
+    ensures written { (i : ℕ) → i < 8 * words
+        → slice_index out.new i ≡ Spec.packed_byte (row_of places.now end width) (8 * i) }
+    ensures so_far { HasPassed places.now end (64 * words) result }
+    ensures same_len { length out.new ≡ length out.old }
+{
+    bits_stand_by_place();
+    eight_bits_are_a_byte();
     let mut passed = 1;
     let mut k = 0;
+    while k < words {
+        let change = (places[passed] / WORD) as usize;
+        if k < change {
+            // No colour changes in the words before that of the next change.
+            let byte = if passed % 2 == 1 { 0x00 } else { 0xFF };
+            fill(out, 8 * k, 8 * change, byte);
+            k = change;
+        } else {
+            let (word, behind) = packed_word(places, end, width, k as u32, passed);
+            write_word(out, 8 * k, word);
+            passed = behind;
+            k += 1;
+        }
+    }
+    passed
+}
+
+/// Word `k` of 64 pels, before which so many places of change are passed; and how many are passed
+/// behind it.
+#[inline(always)]
+fn packed_word(places: &[u32], end: usize, width: u32, k: u32, passed: usize) -> (u64, usize)
+    requires row { ArePlaces places.now end width }
+    requires within { 64 * k + 64 ≤ width }
+    requires so_far { HasPassed places.now end (64 * k) passed }
+    ensures word { IsPackedWord (row_of places.now end width) (64 * k) result.0 }
+    ensures so_far { HasPassed places.now end (64 * k + 64) result.1 }
+{
+    let to = WORD * k + WORD;
+    let mut word = if passed % 2 == 1 { 0 } else { u64::MAX };
+    let mut behind = passed;
+    while places[behind] < to {
+        word ^= u64::MAX >> (places[behind] % WORD);
+        behind += 1;
+    }
+    (word, behind)
+}
+
+/// Writes a word at a place, the highest byte first.
+#[inline(always)]
+fn write_word(out: &mut [u8], at: usize, word: u64)
+    requires { at + 8 ≤ length out.old }
+    ensures before { (i : ℕ) → i < at → slice_index out.new i ≡ slice_index out.old i }
+    ensures written { (i : ℕ) → i < 8 → slice_index out.new (at + i) ≡ word / 2 ^ (8 * (7 - i)) % 256 }
+    ensures same_len { length out.new ≡ length out.old }
+{
+    let [a, b, c, d, e, f, g, h] = word.to_be_bytes();
+    out[at] = a;
+    out[at + 1] = b;
+    out[at + 2] = c;
+    out[at + 3] = d;
+    out[at + 4] = e;
+    out[at + 5] = f;
+    out[at + 6] = g;
+    out[at + 7] = h;
+}
+
+/// Writes the bytes of a row from one on, where so many places of change are passed before it.
+fn pack_rest(places: &[u32], end: usize, width: u32, from: usize, passed: usize, out: &mut [u8])
+    requires row { ArePlaces places.now end width }
+    requires whole { length out.old ≡ Spec.packed_len width }
+    requires written { (i : ℕ) → i < from
+        → slice_index out.old i ≡ Spec.packed_byte (row_of places.now end width) (8 * i) }
+    requires within { from ≤ length out.old }
+    requires so_far { HasPassed places.now end (8 * from) passed }
+    ensures { out.new ≡ Spec.packed_row (row_of places.now end width) }
+{
+    let mut passed = passed;
+    let mut k = from;
     while k < out.len() {
         let change = (places[passed] / 8) as usize;
         if k < change {

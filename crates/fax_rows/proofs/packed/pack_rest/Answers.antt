@@ -3,18 +3,18 @@ use Rattle.std.proofs.lemmas.Bool.{cases_lt}
 use Rattle.fax_rows.specs.Packed.{packed_byte}
 use Rattle.fax_rows.specs.code.Turns.{row_of, HasPassed}
 use Rattle.fax_rows.proofs.PackedLemmas.{packed_at}
-use Rattle.fax_rows.proofs.PackingLemmas.{passed_none, passed-lt, whole_white, whole_black, still_passed, place_at_most}
+use Rattle.fax_rows.proofs.PackingLemmas.{passed-lt, whole_white, whole_black, still_passed, place_at_most}
 use Rattle.fax_rows.proofs.TurnLemmas.{length-pels_by}
-use Rattle.fax_rows.proofs.packed.pack_places.Goals as goal
-use Rattle.fax_rows.proofs.packed.pack_places.Goals.{then-passed-eq1, else-passed-eq1}
+use Rattle.fax_rows.proofs.packed.pack_rest.Goals as goal
+use Rattle.fax_rows.proofs.packed.pack_rest.Goals.{then-passed-eq1, else-passed-eq1}
 
 pub bounds-places-passed : goal.bounds-places-passed
 bounds-places-passed c = passed-lt c.args.places.now c.args.end c.args.width c.requires.row (8 * c.loop-k.k) c.loop-k.passed c.loop-k.invariant.so_far
 
 pub loop-k-init : goal.loop-k-init
 loop-k-init c = record {
-  done = λ i h. absurd (omega arith);
-  so_far = passed_none c.args.places.now c.args.end c.args.width c.requires.row;
+  done = c.requires.written;
+  so_far = c.requires.so_far;
   len = refl;
 }
 

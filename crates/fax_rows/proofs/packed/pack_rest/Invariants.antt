@@ -1,7 +1,7 @@
 use Rattle.std.proofs.Common.{◌≡◌, ℕ, ◌*◌, ◌-◌, ◌<◌, length, get_or}
 use Rattle.fax_rows.specs.Packed.{packed_byte}
 use Rattle.fax_rows.specs.code.Turns.{row_of, HasPassed}
-use Rattle.fax_rows.proofs.packed.pack_places.Given as goal
+use Rattle.fax_rows.proofs.packed.pack_rest.Given as goal
 
 abbrev pub invariant-loop-k : goal.invariant-loop-k
 invariant-loop-k l = record {

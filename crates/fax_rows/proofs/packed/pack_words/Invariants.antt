@@ -1,0 +1,15 @@
+use Rattle.std.proofs.Common.{◌≡◌, ℕ, ◌*◌, ◌-◌, ◌<◌, ◌≤◌, length, get_or}
+use Rattle.fax_rows.specs.Packed.{packed_byte}
+use Rattle.fax_rows.specs.code.Turns.{row_of, HasPassed}
+use Rattle.fax_rows.proofs.packed.pack_words.Given as goal
+
+abbrev pub invariant-loop-k : goal.invariant-loop-k
+invariant-loop-k l = record {
+  within : l.k ≤ l.words;
+  done : (i : ℕ) → i < 8 * l.k → get_or l.out i 0 ≡ packed_byte (row_of l.places l.end l.width) (8 * i);
+  so_far : HasPassed l.places l.end (64 * l.k) l.passed;
+  len : length l.out ≡ length l.initial.out;
+}
+
+abbrev pub decreases-loop-k : goal.decreases-loop-k
+decreases-loop-k l = l.words - l.k

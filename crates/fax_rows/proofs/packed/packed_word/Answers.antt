@@ -1,0 +1,32 @@
+use Rattle.std.proofs.Common.{◌*◌, ◌%◌, get_or, arith}
+use Rattle.fax_rows.proofs.PackedWordLemmas.{begun_white, begun_black, word_done, word_turned}
+use Rattle.fax_rows.proofs.PlacedRowLemmas.{end_within}
+use Rattle.fax_rows.proofs.packed.packed_word.Goals as goal
+use Rattle.fax_rows.proofs.packed.packed_word.Goals.{then-passed-eq1, else-passed-eq1}
+
+pub loop-behind-init : goal.loop-behind-init
+loop-behind-init c =
+    elim c.if-passed-eq1.branch [
+      | then-passed-eq1 w ↦ rw w.word-is
+          (begun_white c.args.places.now c.args.end c.args.width c.requires.row (64 * c.args.k) c.args.passed c.requires.so_far (omega (arith, w.if-passed-eq1)))
+      | else-passed-eq1 w ↦ rw w.word-is
+          (begun_black c.args.places.now c.args.end c.args.width c.requires.row (64 * c.args.k) c.args.passed c.requires.so_far (omega (arith, w.if-passed-eq1)))
+    ]
+
+pub bounds-places-behind : goal.bounds-places-behind
+bounds-places-behind c =
+    omega (arith, c.loop-behind.invariant.within, c.requires.row.room, end_within c.args.places.now c.args.end c.args.width c.requires.row)
+
+pub bounds-places-behind-in-loop-behind : goal.bounds-places-behind-in-loop-behind
+bounds-places-behind-in-loop-behind c =
+    omega (arith, c.loop-behind.invariant.within, c.requires.row.room, end_within c.args.places.now c.args.end c.args.width c.requires.row)
+
+pub loop-behind-preserved : goal.loop-behind-preserved
+loop-behind-preserved c =
+    word_turned c.args.places.now c.args.end c.args.width c.requires.row (64 * c.args.k) c.loop-behind.word c.loop-behind.behind
+    (get_or c.args.places.now c.loop-behind.behind 0 % 64) c.loop-behind.invariant (omega arith) c.requires.within (λ ahead. omega arith)
+
+pub returns-clause-word : goal.returns-clause-word
+returns-clause-word c =
+    word_done c.args.places.now c.args.end c.args.width c.requires.row (64 * c.args.k) c.loop-behind.word c.loop-behind.behind c.loop-behind.invariant
+    c.requires.within (λ h. omega arith)
