@@ -3,6 +3,7 @@ pub mod PackedLemmas
 pub mod PackedLaws
 pub mod PackingLemmas
 pub mod PackedWordLemmas
+pub mod UnpackedWordLemmas
 pub mod PlaceLemmas
 pub mod StepLemmas
 pub mod RunLemmas

@@ -13,6 +13,7 @@ use Rattle.fax_bits.specs.Bits.{bits, bits_number}
 use Rattle.fax_bits.specs.Laws.{AreBitsByPlace}
 use Rattle.fax_rows.specs.Elements.{other}
 use Rattle.fax_rows.specs.code.Turns.{turned, IsTurnedFrom}
+use Rattle.fax_rows.specs.code.Unpacked.{IsUnpackedTo}
 use Rattle.fax_rows.proofs.PlacedRowLemmas.{turned-first}
 use Rattle.fax_rows.specs.Packed.{packed_len, is_black, colour_of_bit, packed_byte, packed_row, unpacked_row}
 
@@ -35,11 +36,6 @@ module _ (law : AreBitsByPlace) where
       let within : k < length (bits MsbFirst bytes) = omega arith in
       each k inside ∙ sym (get_or-map colour_of_bit (bits MsbFirst bytes) k false White within)
       ∙ sym (get_or-take width (map colour_of_bit (bits MsbFirst bytes)) k White inside))
-
--- the places that are put are those of the pels of the first i bits, behind which the row has this colour
-pub record IsUnpackedTo (b : List Bool) (places : List ℕ) (i : ℕ) (colour : Colour) : Type 0 where
-  pub before : (k : ℕ) → k < i → turned Black places k ≡ colour_of_bit (get_or b k false)
-  pub behind : (k : ℕ) → i ≤ k → turned Black places k ≡ colour
 
 pub unpacked_none : (b : List Bool) (places : List ℕ) → places ≡ 0 ∷ [] → IsUnpackedTo b places 0 White
 unpacked_none b places is = record {

@@ -180,7 +180,7 @@ module _ (places : List ℕ) (end width : ℕ) (all : ArePlaces places end width
       ]
 
 -- a byte of a word
-byte_bit : (word j r : ℕ) → j < 8 → r < 8 → bit_at (word / 2 ^ (8 * (7 - j)) % 256) (7 - r) ≡ bit_at word (63 - (8 * j + r))
+pub byte_bit : (word j r : ℕ) → j < 8 → r < 8 → bit_at (word / 2 ^ (8 * (7 - j)) % 256) (7 - r) ≡ bit_at word (63 - (8 * j + r))
 byte_bit word j r few in_byte =
     let high = word / 2 ^ (8 * (7 - j)) in
     let place : 8 * (7 - j) + (7 - r) ≡ 63 - (8 * j + r) = omega arith in

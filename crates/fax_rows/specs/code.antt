@@ -6,3 +6,4 @@ pub mod Reached
 pub mod Turns
 pub mod PlacedReached
 pub mod PackedWord
+pub mod Unpacked

@@ -14,6 +14,7 @@ mod rows;
 mod runs;
 mod turns;
 mod two_dimensional;
+mod unpacked;
 
 use fax_bits::CodeFault;
 pub use fax_bits::{BitSink, BitSource, Colour, FillOrder, Memory};

@@ -8,16 +8,15 @@ ghost use Rattle.fax_rows.specs.Packed as Spec;
 ghost use Rattle.fax_rows.specs.code.PackedWord.{IsPackedWord};
 ghost use Rattle.fax_rows.specs.code.Turns.{row_of, ArePlaces, HasPassed, IsAscending};
 
-use crate::lanes::first_other;
 use crate::pels::Row;
-use crate::runs::other;
-use crate::turns::{close, turn};
+use crate::turns::close;
+use crate::unpacked::places_of_bits;
+use fax_bits::Memory;
 use fax_bits::laws::{bits_stand_by_place, eight_bits_are_a_byte};
-use fax_bits::{Colour, Memory};
 use std::alloc::Global;
 
 /// How many pels a word has.
-const WORD: u32 = 64;
+pub(crate) const WORD: u32 = 64;
 
 impl Row {
     /// The row of `width` pels, 1 to 65,535, that these bytes hold: pel `i` is black where bit `i`
@@ -220,29 +219,4 @@ fn with_run(number: u32, n: u32, black: bool) -> u32
     } else {
         number * power
     }
-}
-
-/// Puts the places of change of the row of `width` pels that these bytes hold, and answers where
-/// they end.
-fn places_of_bits(bytes: &[u8], places: &mut [u32], width: u32) -> usize
-    requires some { 0 < width }
-    requires short { width < 2 ^ 16 }
-    requires whole { length bytes.now ≡ Spec.packed_len width }
-    requires room { length places.old ≡ width + 4 }
-    requires first { slice_index places.old 0 ≡ 0 }
-    ensures ascending { IsAscending places.new result }
-    ensures last { slice_index places.new (result - 1) ≤ width }
-    ensures pels { row_of places.new result width ≡ Spec.unpacked_row width bytes.now }
-    ensures same_len { length places.new ≡ length places.old }
-{
-    bits_stand_by_place();
-    let mut end = 1;
-    let mut colour = Colour::White;
-    let mut at = first_other(bytes, 0, colour);
-    while at < u64::from(width) {
-        end = turn(places, end, at as u32);
-        colour = other(colour);
-        at = first_other(bytes, at + 1, colour);
-    }
-    end
 }

@@ -57,6 +57,21 @@ pub fn turn(places: &mut [u32], end: usize, place: u32) -> usize
     end + 1
 }
 
+/// Turns the colour from a place right of the last one on, and answers where the places end.
+#[inline(always)]
+pub fn turn_on(places: &mut [u32], end: usize, place: u32) -> usize
+    requires ascending { Spec.IsAscending places.old end }
+    requires right { 1 < end → slice_index places.old (end - 1) < place }
+    requires room { end < length places.old }
+    ensures ascending { Spec.IsAscending places.new result }
+    ensures last { slice_index places.new (result - 1) ≡ place }
+    ensures turned { Spec.IsTurnedFrom (take end places.old) (take result places.new) place }
+    ensures same_len { length places.new ≡ length places.old }
+{
+    places[end] = place;
+    end + 1
+}
+
 /// Where the places below the width end: the last of them may be the width, where no row changes.
 fn end_below(places: &[u32], end: usize, width: u32) -> usize
     requires ascending { Spec.IsAscending places.now end }

@@ -4,8 +4,8 @@ use Rattle.fax_bits.specs.Bits.{bits}
 use Rattle.std.specs.Prelude.{true}
 use Rattle.fax_rows.specs.code.Turns.{IsAscending}
 use Rattle.fax_rows.proofs.FirstOtherLemmas.{is_other}
-use Rattle.fax_rows.proofs.PackedLemmas.{IsUnpackedTo}
-use Rattle.fax_rows.proofs.packed.places_of_bits.Given as goal
+use Rattle.fax_rows.specs.code.Unpacked.{IsUnpackedTo}
+use Rattle.fax_rows.proofs.unpacked.places_of_bits.Given as goal
 
 -- the places before the next change are put
 abbrev pub invariant-loop-at : goal.invariant-loop-at

@@ -1,27 +1,27 @@
-use Rattle.std.proofs.Common.{◌+◌, take, get_or, false, ◌∙◌, arith}
-use Rattle.fax_bits.specs.declared.Colour.TheVariants.{White}
+use Rattle.std.proofs.Common.{◌+◌, ◌*◌, ◌/◌, take, get_or, false, ◌∙◌, arith}
 use Rattle.fax_bits.specs.declared.FillOrder.TheVariants.{MsbFirst}
 use Rattle.fax_bits.specs.Bits.{bits}
 use Rattle.fax_rows.specs.Packed.{colour_of_bit}
 use Rattle.fax_rows.proofs.FirstOtherLemmas.{first_other_stands, plain_pel, other_pel}
-use Rattle.fax_rows.proofs.PackedLemmas.{unpacked_none, unpacked_run, unpacked_turned, unpacked_at}
+use Rattle.fax_rows.proofs.PackedLemmas.{unpacked_run, unpacked_turned, unpacked_at}
 use Rattle.fax_rows.proofs.PlacedReadLemmas.{places_within}
-use Rattle.fax_rows.proofs.PlacedRowLemmas.{take-first}
+use Rattle.fax_rows.proofs.UnpackedWordLemmas.{last_below}
 use Rattle.fax_rows.proofs.TurnLemmas.{length-pels_by, pel-pels_by}
-use Rattle.fax_rows.proofs.packed.places_of_bits.Goals as goal
+use Rattle.fax_rows.proofs.unpacked.places_of_bits.Goals as goal
 
 pub loop-at-init : goal.loop-at-init
 loop-at-init c =
-    let bytes = c.args.bytes.now in
-    let b = bits MsbFirst bytes in
-    let first = first_other_stands bytes 0 c.first_other-at.result White c.first_other-at.ensures in
-    let none = unpacked_none b (take 1 c.args.places.now) (take-first c.args.places.now (omega (arith, c.requires.room)) c.requires.first) in
+    let b = bits MsbFirst c.args.bytes.now in
+    let words = c.places_of_words-end.ensures in
+    let from = 64 * (c.args.width / 64) in
+    let first = first_other_stands c.args.bytes.now from c.first_other-at.result c.places_of_words-end.result.1
+    (rw c.from.ensures at c.first_other-at.ensures) in
     record {
-      ascending = record { started = omega arith; within = omega (arith, c.requires.room); first = c.requires.first; steps = λ i h l. absurd (omega arith) };
-      last = omega (arith, c.requires.first);
-      below = omega (arith, c.requires.first, c.requires.some);
-      unpacked = unpacked_run b (take 1 c.args.places.now) 0 c.first_other-at.result White none (omega arith)
-          (λ k l h. plain_pel (colour_of_bit (get_or b k false)) White (first.before k l h));
+      ascending = words.ascending;
+      last = omega (arith, last_below _ _ (from + 1) words.ascending (λ h. omega (arith, words.left h)) (omega arith), first.from);
+      below = last_below _ _ c.args.width words.ascending (λ h. omega (arith, words.left h)) c.requires.some;
+      unpacked = unpacked_run b _ from c.first_other-at.result c.places_of_words-end.result.1 words.unpacked first.from
+          (λ k l h. plain_pel (colour_of_bit (get_or b k false)) c.places_of_words-end.result.1 (first.before k l h));
       turns = λ h. first.there (omega (arith, c.requires.whole));
     }
 

@@ -1,0 +1,15 @@
+use Rattle.std.proofs.Common.{◌*◌, ◌-◌, ◌<◌, take, get_or}
+use Rattle.fax_bits.specs.declared.FillOrder.TheVariants.{MsbFirst}
+use Rattle.fax_bits.specs.Bits.{bits}
+use Rattle.fax_rows.specs.Packed.{colour_of_bit}
+use Rattle.fax_rows.specs.code.PackedWord.{word_bit}
+use Rattle.fax_rows.specs.code.Turns.{IsAscending}
+use Rattle.fax_rows.specs.code.Unpacked.{IsUnpackedTo}
+use Rattle.fax_rows.proofs.unpacked.places_of_words.Given as goal
+
+abbrev pub invariant-loop-k : goal.invariant-loop-k
+invariant-loop-k l = record {
+  ascending : IsAscending l.places l.end;
+  left : 1 < l.end → get_or l.places (l.end - 1) 0 < 64 * l.k;
+  unpacked : IsUnpackedTo (bits MsbFirst l.bytes) (take l.end l.places) (64 * l.k) (colour_of_bit (word_bit l.before 63));
+}

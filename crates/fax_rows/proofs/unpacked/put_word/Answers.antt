@@ -1,0 +1,56 @@
+use Rattle.std.proofs.Common.{◌+◌, take, refl, arith}
+use Rattle.fax_rows.proofs.UnpackedWordLemmas.{highest, less_without, put_none, put_more, put_pels, put_behind, not_gone, room_behind}
+use Rattle.fax_rows.proofs.unpacked.put_word.Goals as goal
+use lib.Count.{count_leading_zeros}
+
+pub loop-left-init : goal.loop-left-init
+loop-left-init c = (
+  0,
+  record {
+    put = put_none (take c.args.end c.args.places.now) c.args.from c.args.before c.args.word (omega arith) c.requires.colour;
+    ascending = c.requires.ascending;
+    last = λ h. omega (arith, c.requires.left h);
+  },
+)
+
+pub turn_on-end-requires-clause-right : goal.turn_on-end-requires-clause-right
+turn_on-end-requires-clause-right c =
+    let at = count_leading_zeros 64 c.loop-left.left in
+    let top = highest c.loop-left.left at (omega arith) (omega (arith, c.loop-left.auto.left-fits)) refl in
+    let so_far = c.loop-left.invariant.1 in
+    λ h. omega (arith, so_far.last h, not_gone _ _ _ _ _ _ _ so_far.put at top)
+
+pub turn_on-end-requires-clause-room : goal.turn_on-end-requires-clause-room
+turn_on-end-requires-clause-room c =
+    let so_far = c.loop-left.invariant.1 in
+    omega (
+      arith,
+      room_behind c.loop-left.places c.loop-left.end c.args.from c.loop-left.invariant.0 so_far.ascending so_far.last,
+      so_far.put.within,
+      c.requires.room,
+      c.loop-left.auto.places,
+    )
+
+pub loop-left-smaller : goal.loop-left-smaller
+loop-left-smaller c =
+    less_without c.loop-left.left (count_leading_zeros 64 c.loop-left.left)
+    (highest c.loop-left.left (count_leading_zeros 64 c.loop-left.left) (omega arith) (omega (arith, c.loop-left.auto.left-fits)) refl)
+
+pub loop-left-preserved : goal.loop-left-preserved
+loop-left-preserved c =
+    let at = count_leading_zeros 64 c.loop-left.left in
+    let top = highest c.loop-left.left at (omega arith) (omega (arith, c.loop-left.auto.left-fits)) refl in
+    let so_far = c.loop-left.invariant.1 in (
+      at + 1,
+      record {
+        put = put_more _ _ _ _ _ _ _ so_far.put _ at (c.args.from + at) (at + 1) top refl refl c.turn_on-end.ensures.turned;
+        ascending = c.turn_on-end.ensures.ascending;
+        last = λ h. omega (arith, c.turn_on-end.ensures.last);
+      },
+    )
+
+pub returns-clause-pels : goal.returns-clause-pels
+returns-clause-pels c = put_pels _ _ _ _ _ _ _ c.loop-left.invariant.1.put (omega arith)
+
+pub returns-clause-behind : goal.returns-clause-behind
+returns-clause-behind c = put_behind _ _ _ _ _ _ _ c.loop-left.invariant.1.put (omega arith)

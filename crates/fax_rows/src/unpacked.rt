@@ -1,0 +1,127 @@
+//! The places of change of a row of packed bytes: eight pels in a byte, the leftmost in its highest
+//! bit, where 1 is black.
+ghost use Rattle.std.specs.Prelude.{◌≡◌, ◌+◌, ◌-◌, ◌*◌, ◌<◌, ◌≤◌, ◌^◌, ℕ, false, length, take};
+ghost use Rattle.std.specs.Prelude.{slice_index, slice_index_or};
+ghost use Rattle.fax_bits.specs.Bits.{bits};
+ghost use Rattle.fax_bits.specs.declared.Colour.TheVariants.{Black as TurnsFrom};
+ghost use Rattle.fax_bits.specs.declared.FillOrder.TheVariants.{MsbFirst};
+ghost use Rattle.fax_rows.specs.Packed as Spec;
+ghost use Rattle.fax_rows.specs.code.PackedWord.{word_bit};
+ghost use Rattle.fax_rows.specs.code.Turns.{row_of, turned, IsAscending};
+ghost use Rattle.fax_rows.specs.code.Unpacked.{IsUnpackedTo};
+
+use crate::lanes::first_other;
+use crate::packed::WORD;
+use crate::runs::other;
+use crate::turns::{turn, turn_on};
+use fax_bits::Colour;
+use fax_bits::laws::bits_stand_by_place;
+
+/// The word of eight bytes from a place on, the highest first.
+#[inline(always)]
+fn word_at(bytes: &[u8], at: usize) -> u64
+    requires { at + 8 ≤ length bytes.now }
+    ensures { (i : ℕ) → i < 64
+        → word_bit result i ≡ slice_index_or (bits MsbFirst bytes.now) (8 * at + i) false }
+{
+    bits_stand_by_place();
+    u64::from_be_bytes([
+        bytes[at],
+        bytes[at + 1],
+        bytes[at + 2],
+        bytes[at + 3],
+        bytes[at + 4],
+        bytes[at + 5],
+        bytes[at + 6],
+        bytes[at + 7],
+    ])
+}
+
+/// The colour of the last pel of a word.
+fn last_colour(word: u64) -> Colour
+    ensures { result ≡ Spec.colour_of_bit (word_bit word 63) }
+{
+    if word % 2 == 1 {
+        Colour::Black
+    } else {
+        Colour::White
+    }
+}
+
+/// Puts the places of change of a word of 64 pels, the first of them at place `from`, behind another
+/// word, and answers where they end.
+#[inline(always)]
+fn put_word(places: &mut [u32], end: usize, from: u32, before: u64, word: u64) -> usize
+    requires ascending { IsAscending places.old end }
+    requires left { 1 < end → slice_index places.old (end - 1) < from }
+    requires room { from + 68 ≤ length places.old }
+    requires short { from + 64 < 2 ^ 32 }
+    requires colour { (k : ℕ) → from ≤ k
+        → turned TurnsFrom (take end places.old) k ≡ Spec.colour_of_bit (word_bit before 63) }
+    ensures ascending { IsAscending places.new result }
+    ensures left { 1 < result → slice_index places.new (result - 1) < from + 64 }
+    ensures kept { (k : ℕ) → k < from
+        → turned TurnsFrom (take result places.new) k ≡ turned TurnsFrom (take end places.old) k }
+    ensures pels { (i : ℕ) → i < 64
+        → turned TurnsFrom (take result places.new) (from + i) ≡ Spec.colour_of_bit (word_bit word i) }
+    ensures behind { (k : ℕ) → from + 64 ≤ k
+        → turned TurnsFrom (take result places.new) k ≡ Spec.colour_of_bit (word_bit word 63) }
+    ensures same_len { length places.new ≡ length places.old }
+{
+    // A bit is 1 where a pel has another colour than the one before it.
+    let mut left = word ^ (word >> 1) ^ (before << 63);
+    let mut end = end;
+    while left != 0 {
+        let at = left.leading_zeros();
+        end = turn_on(places, end, from + at);
+        left ^= 1 << (63 - at);
+    }
+    end
+}
+
+/// Puts the places of change of so many words of 64 pels, and answers where they end, and the colour
+/// of the last pel: white where there is no word.
+fn places_of_words(bytes: &[u8], places: &mut [u32], words: u32) -> (usize, Colour)
+    requires short { words < 1024 }
+    requires whole { 8 * words ≤ length bytes.now }
+    requires room { 64 * words + 4 ≤ length places.old }
+    requires first { slice_index places.old 0 ≡ 0 }
+    ensures ascending { IsAscending places.new result.0 }
+    ensures left { 1 < result.0 → slice_index places.new (result.0 - 1) < 64 * words }
+    ensures unpacked { IsUnpackedTo (bits MsbFirst bytes.now) (take result.0 places.new) (64 * words) result.1 }
+    ensures same_len { length places.new ≡ length places.old }
+{
+    let mut end = 1;
+    let mut before = 0;
+    for k in 0..words {
+        let word = word_at(bytes, 8 * k as usize);
+        end = put_word(places, end, WORD * k, before, word);
+        before = word;
+    }
+    (end, last_colour(before))
+}
+
+/// Puts the places of change of the row of `width` pels that these bytes hold, and answers where
+/// they end.
+pub(crate) fn places_of_bits(bytes: &[u8], places: &mut [u32], width: u32) -> usize
+    requires some { 0 < width }
+    requires short { width < 2 ^ 16 }
+    requires whole { length bytes.now ≡ Spec.packed_len width }
+    requires room { length places.old ≡ width + 4 }
+    requires first { slice_index places.old 0 ≡ 0 }
+    ensures ascending { IsAscending places.new result }
+    ensures last { slice_index places.new (result - 1) ≤ width }
+    ensures pels { row_of places.new result width ≡ Spec.unpacked_row width bytes.now }
+    ensures same_len { length places.new ≡ length places.old }
+{
+    bits_stand_by_place();
+    let words = width / WORD;
+    let (mut end, mut colour) = places_of_words(bytes, places, words);
+    let mut at = first_other(bytes, u64::from(WORD * words), colour);
+    while at < u64::from(width) {
+        end = turn(places, end, at as u32);
+        colour = other(colour);
+        at = first_other(bytes, at + 1, colour);
+    }
+    end
+}
