@@ -1,14 +1,15 @@
 -- The longest runs of a row, pel by pel.
-use Rattle.std.proofs.Common.{◌≡◌, ◌≢◌, ℕ, zero, suc, ◌+◌, ◌-◌, ◌<◌, ◌≤◌, List, [], ◌∷◌, length, take, drop, get_or, Bool, true, false, not, refl, ap, sym, ◌∙◌, subst, arith, drop-cons, get_or-drop, length-drop}
+use Rattle.std.proofs.Common.{◌≡◌, ◌≢◌, ℕ, zero, suc, ◌+◌, ◌-◌, ◌<◌, ◌≤◌, List, [], ◌∷◌, ◌++◌, length, take, drop, get_or, Bool, true, false, not, refl, ap, sym, ◌∙◌, subst, arith, inl, inr, drop-cons, get_or-drop, length-drop}
 use Rattle.std.proofs.Math.Numerals.{suc-eq-add-one}
-use Rattle.std.proofs.lemmas.List.{drop_all, get_or-take, length-take-le}
+use Rattle.std.proofs.lemmas.List.{take_more, drop_all, get_or-take, length-take-le}
 use Rattle.fax_bits.specs.declared.Colour.{Colour}
 use Rattle.fax_bits.specs.declared.Colour.TheVariants.{White, Black}
 use Rattle.std.specs.List.{filter, range_with_len}
 use Rattle.fax_rows.specs.Elements.{other, same_colour, pel, pel_before, is_changing, runs_behind, runs_of}
 use Rattle.fax_rows.specs.code.LongestRuns.{gaps, AreAheadOf}
 use Rattle.fax_rows.specs.code.Turns.{ArePlaces}
-use Rattle.fax_rows.proofs.PlacedRowLemmas.{end_within}
+use Rattle.std.proofs.lemmas.Bool.{cases_lt}
+use Rattle.fax_rows.proofs.PlacedRowLemmas.{at_end, end_within}
 
 -- behind the last pel stands the run so far
 pub runs_behind-nil : (colour : Colour) (n : ℕ) → runs_behind colour n [] ≡ n ∷ []
@@ -81,14 +82,25 @@ changes_so Black White h e = cc
 before_next : (row : List Colour) (i : ℕ) → pel_before row (i + 1) ≡ pel row i
 before_next row i = let same : i + 1 ≡ suc i = omega arith in ap (λ k. pel_before row k) same
 
+-- how far it is from a place to each of the next ones, and at last to the width
+gaps_to : ℕ → List ℕ → ℕ → List ℕ
+gaps_to from [] width = (width - from) ∷ []
+gaps_to from (place ∷ places) width = (place - from) ∷ gaps_to place places width
+
+gaps_to-gaps : (from : ℕ) (changes : List ℕ) (width : ℕ) → gaps from (changes ++ width ∷ []) ≡ gaps_to from changes width
+unfolding gaps_to
+gaps_to-gaps from [] width = refl
+gaps_to-gaps from (next ∷ changes) width = ap (λ runs. (next - from) ∷ runs) (gaps_to-gaps next changes width)
+
 -- the gaps between the changing elements behind place i
 abbrev GapsFrom : List Colour → ℕ → ℕ → ℕ → Type 0
 GapsFrom row n i from =
-    gaps from (filter (is_changing row) (range_with_len i n)) (length row) ≡ runs_behind (pel_before row i) (i - from) (drop i row)
+    gaps_to from (filter (is_changing row) (range_with_len i n)) (length row) ≡ runs_behind (pel_before row i) (i - from) (drop i row)
 
 -- one place more
 gaps_more : (row : List Colour) (n i from : ℕ) (b : Bool) → is_changing row i ≡ b → i < length row → from ≤ i
     → ((next : ℕ) → next ≤ i + 1 → GapsFrom row n (i + 1) next) → GapsFrom row (suc n) i from
+unfolding gaps_to
 gaps_more row n i from true is inside order more =
     let one : i + 1 - i ≡ 1 = omega arith in
     rw is
@@ -106,6 +118,7 @@ gaps_more row n i from false is inside order more =
 
 -- they are the runs that are left
 gaps_from : (row : List Colour) (n i from : ℕ) → from ≤ i → i + n ≡ length row → GapsFrom row n i from
+unfolding gaps_to
 gaps_from row zero i from order all =
     let end : i ≡ length row = omega arith in
     ap (λ k. (k - from) ∷ []) (sym end)
@@ -114,16 +127,17 @@ gaps_from row (suc n) i from order all =
     gaps_more row n i from (is_changing row i) refl (omega arith) order
     (λ next near. gaps_from row n (i + 1) next near (omega arith))
 
--- the gaps between the changing elements of a row are its runs
-pub gaps_are_runs : (row : List Colour) (changes : List ℕ) → changes ≡ filter (is_changing row) (range_with_len 0 (length row))
-    → gaps 0 changes (length row) ≡ runs_of row
-gaps_are_runs row changes is =
-    ap (λ places. gaps 0 places (length row)) is ∙ gaps_from row (length row) 0 0 (omega arith) (omega arith)
+-- the gaps between the changing elements of a row, and up to its width, are its runs
+pub gaps_are_runs : (row : List Colour) (changes : List ℕ) (width : ℕ)
+    → changes ≡ filter (is_changing row) (range_with_len 0 (length row)) → width ≡ length row → gaps 0 (changes ++ width ∷ []) ≡ runs_of row
+gaps_are_runs row changes width is wide =
+    gaps_to-gaps 0 changes width ∙ ap (λ n. gaps_to 0 changes n) wide
+    ∙ ap (λ places. gaps_to 0 places (length row)) is ∙ gaps_from row (length row) 0 0 (omega arith) (omega arith)
 
--- one more than the places that are left
-pub length-gaps : (from : ℕ) (changes : List ℕ) (width : ℕ) → length (gaps from changes width) ≡ length changes + 1
-length-gaps from [] width = refl
-length-gaps from (next ∷ changes) width = omega (arith, length-gaps next changes width)
+-- as many as there are ends
+pub length-gaps : (from : ℕ) (ends : List ℕ) → length (gaps from ends) ≡ length ends
+length-gaps from [] = refl
+length-gaps from (next ∷ ends) = omega (arith, length-gaps next ends)
 
 -- each place further on is no less
 ascend_on : (next : ℕ) (changes : List ℕ)
@@ -142,41 +156,58 @@ below_all next changes up (suc i) h =
     omega arith
 
 -- the places behind the next one are ahead of it
-pub ahead_of_next : (from next : ℕ) (changes : List ℕ) (width : ℕ) → AreAheadOf from (next ∷ changes) width → AreAheadOf next changes width
-ahead_of_next from next changes width all =
-    let up = ascend_on next changes all.steps in
+pub ahead_of_next : (from next : ℕ) (ends : List ℕ) → AreAheadOf from (next ∷ ends) → AreAheadOf next ends
+ahead_of_next from next ends all =
+    let up = ascend_on next ends all.steps in
     record {
-      short = all.short;
       few = omega (arith, all.few);
-      within = all.left 0 (omega arith);
-      right = below_all next changes up;
+      right = below_all next ends up;
       left = λ i h. all.left (suc i) (omega arith);
       steps = λ i h.
           let same : i + 1 ≡ suc i = omega arith in
-          subst (λ k. get_or changes i 0 ≤ get_or changes k 0) (sym same) (up (suc i) (omega arith));
+          subst (λ k. get_or ends i 0 ≤ get_or ends k 0) (sym same) (up (suc i) (omega arith));
     }
 
--- the changes of a row are ahead of its first pel
+-- the changes of a row, and its width, are ahead of its first pel
 module _ (places : List ℕ) (end width : ℕ) (all : ArePlaces places end width) where
-  few_changes : length (take (end - 1) (drop 1 places)) ≡ end - 1
-  few_changes = length-take-le (end - 1) (drop 1 places) (omega (arith, length-drop 1 places, all.ascending.within))
+  few_ends : length (take end (drop 1 places)) ≡ end
+  few_ends = length-take-le end (drop 1 places) (omega (arith, length-drop 1 places, all.room, end_within places end width all))
 
-  change_at : (i j : ℕ) → i + 1 ≡ j → i < end - 1 → get_or (take (end - 1) (drop 1 places)) i 0 ≡ get_or places j 0
-  change_at i j at within =
+  end_at : (i j : ℕ) → i + 1 ≡ j → i < end → get_or (take end (drop 1 places)) i 0 ≡ get_or places j 0
+  end_at i j at within =
       let next : 1 + i ≡ j = omega arith in
-      get_or-take (end - 1) (drop 1 places) i 0 within ∙ get_or-drop 1 places i 0 ∙ ap (λ k. get_or places k 0) next
+      get_or-take end (drop 1 places) i 0 within ∙ get_or-drop 1 places i 0 ∙ ap (λ k. get_or places k 0) next
 
-  pub ahead_of_row : AreAheadOf 0 (take (end - 1) (drop 1 places)) width
+  pub ahead_of_row : AreAheadOf 0 (take end (drop 1 places))
   ahead_of_row = record {
-    short = all.short;
-    few = omega (arith, few_changes, all.short, end_within places end width all, all.some);
-    within = omega arith;
+    few = omega (arith, few_ends, all.short, end_within places end width all);
     right = λ i h. omega arith;
     left = λ i h.
-        let inside : i < end - 1 = omega (arith, few_changes) in
-        omega (arith, change_at i (i + 1) refl inside, all.below (i + 1) (omega arith) (omega arith));
+        let inside : i < end = omega (arith, few_ends) in
+        omega (arith, end_at i (i + 1) refl inside, all.short, not_behind (i + 1) (omega arith) (omega arith));
     steps = λ i h.
-        let inside : i + 1 < end - 1 = omega (arith, few_changes) in
-        let step = all.ascending.steps (i + 1) (omega arith) (omega arith) in
-        omega (arith, change_at i (i + 1) refl (omega arith), change_at (i + 1) (i + 1 + 1) refl inside, step);
+        let inside : i + 1 < end = omega (arith, few_ends) in
+        let step : get_or places (i + 1) 0 ≤ get_or places (i + 1 + 1) 0 = elim (cases_lt (i + 1 + 1) end) [
+          | inl less ↦ omega (arith, all.ascending.steps (i + 1) (omega arith) less)
+          | inr last ↦
+              let same : i + 1 + 1 ≡ end = omega arith in
+              omega (arith, not_behind (i + 1) (omega arith) (omega arith), ap (λ k. get_or places k 0) same, at_end places end width all)
+        ] in
+        omega (arith, end_at i (i + 1) refl (omega arith), end_at (i + 1) (i + 1 + 1) refl inside, step);
   }
+    where
+      not_behind : (k : ℕ) → 0 < k → k ≤ end → get_or places k 0 ≤ width
+      not_behind k some within =
+          elim (cases_lt k end) [
+            | inl less ↦ omega (arith, all.below k some less)
+            | inr last ↦ let same : k ≡ end = omega arith in omega (arith, ap (λ j. get_or places j 0) same, at_end places end width all)
+          ]
+
+  -- the width stands behind the changes
+  pub ends_are : take end (drop 1 places) ≡ take (end - 1) (drop 1 places) ++ width ∷ []
+  ends_are =
+      let next : end - 1 + 1 ≡ end = omega (arith, all.ascending.started) in
+      let last : get_or (drop 1 places) (end - 1) 0 ≡ width =
+      get_or-drop 1 places (end - 1) 0 ∙ ap (λ k. get_or places k 0) (let same : 1 + (end - 1) ≡ end = omega (arith, all.ascending.started) in same) ∙ at_end places end width all in
+      ap (λ n. take n (drop 1 places)) (sym next)
+      ∙ take_more (drop 1 places) (end - 1) 0 (omega (arith, next, length-drop 1 places, all.ascending.within, all.room, end_within places end width all)) ∙ ap (λ n. take (end - 1) (drop 1 places) ++ n ∷ []) last

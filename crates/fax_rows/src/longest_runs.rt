@@ -16,22 +16,19 @@ use std::marker::Model;
 pub struct LongestRuns<'a> {
     /// Where the next run begins.
     from: u32,
-    /// Where the runs behind it begin.
-    changes: &'a [u32],
-    width: u32,
-    /// The last run was given.
-    ended: bool,
+    /// Where these runs end.
+    ends: &'a [u32],
 }
 
 impl<'a> Model for LongestRuns<'a> {
     ghost use Rattle.std.specs.Prelude.{ℕ, List};
-    ghost use Rattle.fax_rows.specs.code.LongestRuns.{runs_ahead, AreAheadOf};
+    ghost use Rattle.fax_rows.specs.code.LongestRuns.{gaps, AreAheadOf};
 
     ghost Value = { List ℕ };
 
-    ghost view = { λ s. runs_ahead s.ended s.from s.changes.now s.width };
+    ghost view = { λ s. gaps s.from s.ends.now };
 
-    ghost invariant = { λ s. AreAheadOf s.from s.changes.now s.width };
+    ghost invariant = { λ s. AreAheadOf s.from s.ends.now };
 }
 
 impl<'a> LongestRuns<'a> {
@@ -41,9 +38,7 @@ impl<'a> LongestRuns<'a> {
     {
         LongestRuns {
             from: 0,
-            changes: &row.places[1..row.end],
-            width: row.width,
-            ended: false,
+            ends: &row.places[1..row.end + 1],
         }
     }
 
@@ -52,11 +47,7 @@ impl<'a> LongestRuns<'a> {
         ensures count { result ≡ length self.now }
         ensures few { result ≤ 2 ^ 16 }
     {
-        if self.ended {
-            0
-        } else {
-            self.changes.len() + 1
-        }
+        self.ends.len()
     }
 
     /// How many pels the next run has. `None` where no run is left.
@@ -65,20 +56,14 @@ impl<'a> LongestRuns<'a> {
         ensures first { MatchOption result (self.old ≡ []) (λ n. self.old ≡ n ∷ self.new) }
         ensures short { IfSome result (λ n. n < 2 ^ 16) }
     {
-        if self.ended {
-            return None;
-        }
         let from = self.from;
-        match self.changes.split_first() {
+        match self.ends.split_first() {
             Some((to, behind)) => {
                 self.from = *to;
-                self.changes = behind;
+                self.ends = behind;
                 Some(*to - from)
             }
-            None => {
-                self.ended = true;
-                Some(self.width - from)
-            }
+            None => None,
         }
     }
 }
