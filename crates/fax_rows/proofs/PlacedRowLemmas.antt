@@ -241,3 +241,32 @@ module _ (places : List ℕ) (end width : ℕ) (all : ArePlaces places end width
 -- rows of one width by the same places
 pub same_row : (width wide : ℕ) (places : List ℕ) (row : List Colour) → width ≡ wide → pels_by wide places ≡ row → pels_by width places ≡ row
 same_row width wide places row same is = ap (λ n. pels_by n places) same ∙ is
+
+-- the same places elsewhere
+module _ (places other : List ℕ) (end width : ℕ) (all : ArePlaces other end width) (room : length places ≡ width + 4)
+    (same : (i : ℕ) → i < end + 3 → get_or places i 0 ≡ get_or other i 0) where
+  pub same_places : ArePlaces places end width
+  same_places = record {
+    some = all.some;
+    short = all.short;
+    room = room;
+    ascending = record {
+      started = all.ascending.started;
+      within = omega (arith, room, end_within other end width all);
+      first = same 0 (omega arith) ∙ all.ascending.first;
+      steps = λ i h l. omega (arith, same i (omega arith), same (i + 1) (omega arith), all.ascending.steps i h l);
+    };
+    below = λ i h l. omega (arith, same i (omega arith), all.below i h l);
+    behind = λ i h. same (end + i) (omega arith) ∙ all.behind i h;
+  }
+
+  pub same_pels : pels_by width (take end places) ≡ pels_by width (take end other)
+  same_pels =
+      ap (pels_by width)
+      (ext_get_or 0 (take end places) (take end other) (long places (omega (arith, room, end_within other end width all)) ∙ sym (long other all.ascending.within))
+      (λ k h.
+      let inside : k < end = omega (arith, long places (omega (arith, room, end_within other end width all))) in
+      get_or-take end places k 0 inside ∙ same k (omega arith) ∙ sym (get_or-take end other k 0 inside)))
+    where
+      long : (xs : List ℕ) → end ≤ length xs → length (take end xs) ≡ end
+      long xs within = length-take-le end xs within

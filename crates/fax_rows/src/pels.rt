@@ -5,7 +5,7 @@ ghost use Rattle.std.specs.List.{filter, range_with_len};
 ghost use Rattle.fax_rows.specs.Elements.{other as other_than, runs_of, is_changing, pel as pel_of};
 
 use crate::longest_runs::{LongestRuns, are_longest, put_runs};
-use crate::turns::{close, places_up_to, turn_first};
+use crate::turns::{close, copy_places, places_up_to, turn_first};
 use fax_bits::{Colour, Memory};
 use std::alloc::Global;
 use std::marker::Model;
@@ -113,7 +113,8 @@ impl Row {
         requires { length self.old ≡ length row.now }
         ensures { self.new ≡ row.now }
     {
-        self.places.copy_from_slice(&row.places);
+        let places = self.places.as_mut_slice();
+        copy_places(places, &row.places, row.end, self.width);
         self.end = row.end;
     }
 

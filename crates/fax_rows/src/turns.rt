@@ -120,3 +120,15 @@ pub fn turn_first(places: &mut [u32], end: usize, width: u32) -> usize
     places[0] = 0;
     end + 1
 }
+
+/// Takes the places of another row of the same width.
+pub fn copy_places(places: &mut [u32], other: &[u32], end: usize, width: u32)
+    requires row { Spec.ArePlaces other.now end width }
+    requires room { length places.old ≡ width + 4 }
+    ensures placed { Spec.ArePlaces places.new end width }
+    ensures pels { Spec.row_of places.new end width ≡ Spec.row_of other.now end width }
+{
+    for i in 0..end + 3 {
+        places[i] = other[i];
+    }
+}
