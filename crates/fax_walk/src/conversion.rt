@@ -42,8 +42,9 @@ fn convert_raster(alloc: Global, image: &PbmImage, output: &mut Output) -> Resul
     if let Output::TooLarge = output {
         return Ok(());
     }
+    let mut row = Row::white(alloc, image.width)?;
     for i in 0..image.rows {
-        let row = Row::from_packed(alloc, image.row(i), image.width)?;
+        row.set_packed(image.row(i));
         output.put_row(&row)?;
     }
     Ok(())
