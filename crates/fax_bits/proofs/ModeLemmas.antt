@@ -1,5 +1,5 @@
 -- The codes of modes by their places in the mode table.
-use Rattle.std.proofs.Common.{◌≡◌, List, ◌++◌, Bool, lit<, ℕ, zero, suc, ◌+◌, ◌^◌, ◌<◌, ℤ, pos, negsuc, unsigned_abs, int_le, to_z, of_z, w8, true, false, refl, ap, sym, ◌∙◌, subst, arith}
+use Rattle.std.proofs.Common.{◌≡◌, List, ◌++◌, Bool, lit<, ℕ, zero, suc, ◌+◌, ◌-◌, ◌/◌, ◌^◌, ◌<◌, ◌≤◌, ℤ, pos, negsuc, unsigned_abs, int_le, to_z, of_z, w8, true, false, refl, ap, sym, ◌∙◌, subst, arith}
 use Rattle.std.specs.Prelude.{Some, slice_get}
 use Rattle.std.proofs.lemmas.Int.{ints, to_z-of_z, fits_signed_from_abs}
 use Rattle.std.proofs.lemmas.Bool.Decides.{nat_tests}
@@ -7,10 +7,11 @@ use Rattle.fax_bits.specs.declared.codes.CodeEntry.{CodeEntry}
 use Rattle.fax_bits.specs.declared.modes.ModeCode.{ModeCode}
 use Rattle.fax_bits.specs.declared.modes.ModeCode.TheVariants.{Pass, Horizontal, Vertical, Extension as ModeExtension}
 use Rattle.fax_bits.specs.Bits.{code_bits}
-use Rattle.fax_bits.specs.Codes.{bits_at, Takes}
+use Rattle.fax_bits.specs.Codes.{BeginsWith, bits_at, Takes}
 use Rattle.fax_bits.specs.Runs.{mode_bits, IsWritten}
 use Rattle.fax_bits.specs.Laws.{ModeBitsAreRead}
 use Rattle.fax_bits.specs.Tables.{modes}
+use Rattle.fax_bits.proofs.FindLemmas.{code_ahead}
 use Rattle.fax_bits.proofs.RunCodeLemmas.{bits_at-found}
 use Rattle.fax_bits.proofs.TableLemmas.{listed}
 
@@ -102,3 +103,14 @@ mode_bits_are_read (Vertical (negsuc (suc zero))) more written = takes_mode 7 _ 
 mode_bits_are_read (Vertical (negsuc (suc (suc zero)))) more written = takes_mode 8 _ (Vertical (negsuc 2)) more refl refl (bits_at-left 2 (lit< tt))
 mode_bits_are_read (Vertical (negsuc (suc (suc (suc n))))) more written = absurd (omega (arith, few (negsuc (suc (suc (suc n)))) written))
 mode_bits_are_read ModeExtension more written = absurd written
+
+-- a code of the table that is the first of thirteen bits
+pub mode_begins : (number place : ℕ) (entry : CodeEntry ModeCode) → slice_get modes place ≡ Some entry → entry.len ≤ 13
+    → number / 2 ^ (13 - entry.len) ≡ entry.code → BeginsWith modes (code_bits 13 number) entry.len entry.meaning
+mode_begins number place entry found short is = record {
+  entry = entry;
+  listed = listed modes place entry found;
+  length = refl;
+  means = refl;
+  ahead = code_ahead 13 number entry.len entry.code short is;
+}

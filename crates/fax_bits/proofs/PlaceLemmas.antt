@@ -70,6 +70,19 @@ place_begins (first ∷ table) width number entry at =
           (ap (slice_get (first ∷ table)) (sym (later_place first table width number other)) ∙ at)
     ]
 
+-- a code that begins thirteen bits, by its place
+pub found_at_place : {M : Type 0} (table : List (CodeEntry M)) (number place : ℕ) (entry : CodeEntry M) → place ≡ place_of table 13 number
+    → slice_get table place ≡ Some entry → BeginsWith table (code_bits 13 number) entry.len entry.meaning
+found_at_place table number place entry place_is found =
+    let is = begins_true entry 13 number (place_begins table 13 number entry (ap (slice_get table) (sym place_is) ∙ found)) in
+    record {
+      entry = entry;
+      listed = listed table place entry found;
+      length = refl;
+      means = refl;
+      ahead = code_ahead 13 number entry.len entry.code is.0 is.1;
+    }
+
 -- where the place is past the table, no entry begins the bits
 past_begins_none : {M : Type 0} (table : List (CodeEntry M)) (width number : ℕ) → length table ≤ place_of table width number
     → (k : ℕ) (entry : CodeEntry M) → k < length table → get_or table k entry ≡ entry → begins entry width number ≡ true → ⊥

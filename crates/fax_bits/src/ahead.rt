@@ -8,9 +8,8 @@ ghost use Rattle.fax_bits.specs.Tables.{modes, run_table};
 ghost use Rattle.fax_bits.specs.code.BitsAhead.{bits_ahead};
 ghost use Rattle.fax_bits.specs.code.Source.{KeepsEnd, IsPlaced, source_of};
 
-use crate::codes::CodeTable;
-use crate::modes::{ModeCode, Modes};
-use crate::runs::{BlackRuns, RunCode, WhiteRuns};
+use crate::modes::{ModeCode, find_mode};
+use crate::runs::{RunCode, find_run_code};
 use crate::window::Window;
 use crate::{BitSource, Colour, FillOrder};
 use std::marker::Model;
@@ -84,22 +83,6 @@ impl<'a> Ahead<'a> {
         BitSource::at(self.bytes, self.order, place)
     }
 
-    /// Reads a code of the table.
-    #[inline(always)]
-    fn code<T: CodeTable>(self) -> Option<(Ahead<'a>, T::Meaning)>
-        ensures takes { IfSome result (λ read. Takes T.table self.entry.left read.1 read.0.left) }
-        ensures same_end { IfSome result (λ read. KeepsEnd self.entry read.0) }
-        ensures shorter { IfSome result (λ read. length read.0.left < length self.entry.left) }
-    {
-        let window = loaded(self.bytes, self.order, self.window)?;
-        let (len, meaning) = T::find(window.number(LONGEST_CODE), LONGEST_CODE)?;
-        let behind = Ahead {
-            window: window.behind(len),
-            ..self
-        };
-        Some((behind, meaning))
-    }
-
     /// Reads a mode (T.4, table 4).
     #[inline(always)]
     pub fn mode(self) -> Option<(Ahead<'a>, ModeCode)>
@@ -114,7 +97,23 @@ impl<'a> Ahead<'a> {
             };
             return Some((behind, ModeCode::Vertical(0)));
         }
-        self.code::<Modes>()
+        self.looked_up_mode()
+    }
+
+    /// Reads a mode by the number that the next bits spell.
+    #[inline(always)]
+    fn looked_up_mode(self) -> Option<(Ahead<'a>, ModeCode)>
+        ensures takes { IfSome result (λ read. Takes modes self.entry.left read.1 read.0.left) }
+        ensures same_end { IfSome result (λ read. KeepsEnd self.entry read.0) }
+        ensures shorter { IfSome result (λ read. length read.0.left < length self.entry.left) }
+    {
+        let window = loaded(self.bytes, self.order, self.window)?;
+        let (len, mode) = find_mode(window.number(LONGEST_CODE))?;
+        let behind = Ahead {
+            window: window.behind(len),
+            ..self
+        };
+        Some((behind, mode))
     }
 
     /// Reads a code for a run of the colour (T.4, tables 2, 3a and 3b).
@@ -124,10 +123,13 @@ impl<'a> Ahead<'a> {
         ensures same_end { IfSome result (λ read. KeepsEnd self.entry read.0) }
         ensures shorter { IfSome result (λ read. length read.0.left < length self.entry.left) }
     {
-        match colour {
-            Colour::White => self.code::<WhiteRuns>(),
-            Colour::Black => self.code::<BlackRuns>(),
-        }
+        let window = loaded(self.bytes, self.order, self.window)?;
+        let (len, code) = find_run_code(colour, window.number(LONGEST_CODE))?;
+        let behind = Ahead {
+            window: window.behind(len),
+            ..self
+        };
+        Some((behind, code))
     }
 
     /// Reads a run of the colour, of one make-up code at most, and how many pels it has (T.4, section

@@ -1,6 +1,7 @@
 //! The modes of two-dimensional coding (ITU-T T.4, table 4).
-ghost use Rattle.std.specs.Prelude.{◌≡◌, ◌<◌, length, IfOk, IfErr, OnOk, OnErr};
-ghost use Rattle.fax_bits.specs.Codes.{Takes, IsFaultOf};
+ghost use Rattle.std.specs.Prelude.{◌≡◌, ◌<◌, ◌^◌, length, IfOk, IfErr, IfSome, OnOk, OnErr};
+ghost use Rattle.fax_bits.specs.Bits.{code_bits};
+ghost use Rattle.fax_bits.specs.Codes.{BeginsWith, Takes, IsFaultOf};
 ghost use Rattle.fax_bits.specs.Tables.{modes};
 ghost use Rattle.fax_bits.specs.code.Source.{KeepsEnd};
 
@@ -103,6 +104,50 @@ impl CodeTable for Modes {
     ghost short_codes = { Laws.modes_has_short_codes };
 
     ghost prefix_free = { Laws.modes_is_prefix_free };
+}
+
+/// The length and the meaning of the code of a mode that begins thirteen bits, which are loaded. The
+/// short codes, which most modes have, are tried first; of the extension it says nothing.
+#[inline(always)]
+pub(crate) fn find_mode(bits: u32) -> Option<(u32, ModeCode)>
+    requires { bits < 2 ^ 13 }
+    ensures { IfSome result (λ found. BeginsWith modes (code_bits 13 bits) found.0 found.1) }
+{
+    match bits >> 10 {
+        0b011 => Some((3, ModeCode::Vertical(1))),
+        0b010 => Some((3, ModeCode::Vertical(-1))),
+        0b001 => Some((3, ModeCode::Horizontal)),
+        _ => find_long_mode(bits),
+    }
+}
+
+/// What `find_mode` says of codes of more than three bits.
+#[inline(always)]
+fn find_long_mode(bits: u32) -> Option<(u32, ModeCode)>
+    requires { bits < 2 ^ 13 }
+    ensures { IfSome result (λ found. BeginsWith modes (code_bits 13 bits) found.0 found.1) }
+{
+    if bits >> 9 == 0b0001 {
+        return Some((4, ModeCode::Pass));
+    }
+    match bits >> 7 {
+        0b000011 => Some((6, ModeCode::Vertical(2))),
+        0b000010 => Some((6, ModeCode::Vertical(-2))),
+        _ => find_longest_mode(bits),
+    }
+}
+
+/// What `find_mode` says of codes of more than six bits.
+#[inline(always)]
+fn find_longest_mode(bits: u32) -> Option<(u32, ModeCode)>
+    requires { bits < 2 ^ 13 }
+    ensures { IfSome result (λ found. BeginsWith modes (code_bits 13 bits) found.0 found.1) }
+{
+    match bits >> 6 {
+        0b0000011 => Some((7, ModeCode::Vertical(3))),
+        0b0000010 => Some((7, ModeCode::Vertical(-3))),
+        _ => None,
+    }
 }
 
 /// Reads a mode: what `read_code` does, without a look-up where a1 is under b1. After an `Err` the

@@ -1,7 +1,10 @@
 //! The codes of runs (ITU-T T.4, tables 2, 3a and 3b).
-ghost use Rattle.std.specs.Prelude.{◌≡◌, ◌<◌};
-ghost use Rattle.fax_bits.specs.Tables.{run_meaning};
+ghost use Rattle.std.specs.Prelude.{◌≡◌, ◌<◌, ◌^◌, IfSome};
+ghost use Rattle.fax_bits.specs.Bits.{code_bits};
+ghost use Rattle.fax_bits.specs.Codes.{BeginsWith};
+ghost use Rattle.fax_bits.specs.Tables.{black_runs, run_meaning, run_table, white_runs};
 
+use crate::Colour;
 use crate::codes::{CodeEntry, CodeTable};
 use crate::indexes::{BLACK_LONG, BLACK_SHORT, WHITE_LONG, WHITE_SHORT};
 
@@ -19,6 +22,9 @@ pub enum RunCode {
 /// How many entries a run table has: 64 terminating codes, 27 make-up codes of its own, 13 that
 /// both colours share, and the extension prefix.
 const RUN_ENTRIES: usize = 105;
+
+/// How many of them are terminating codes, which stand first.
+const TERMINATING_CODES: u8 = 64;
 
 // The codes in the order of their meaning, which `meaning_at` gives, and their lengths in bits.
 
@@ -331,6 +337,66 @@ impl CodeTable for BlackRuns {
     ghost short_codes = { Laws.run_table_has_short_codes Black };
 
     ghost prefix_free = { Laws.run_table_is_prefix_free Black };
+}
+
+impl WhiteRuns {
+    /// The terminating code of few bits that begins thirteen bits: its length and its meaning. `None`
+    /// where no such code does.
+    #[inline(always)]
+    fn find_short(bits: u32) -> Option<(u32, RunCode)>
+        requires { bits < 2 ^ 13 }
+        ensures { IfSome result
+            (λ found. BeginsWith white_runs (code_bits 13 bits) found.0 found.1) }
+    {
+        let place = WHITE_SHORT[(bits >> 4) as usize];
+        if place >= TERMINATING_CODES {
+            return None;
+        }
+        let entry = Self::entry(usize::from(place));
+        Some((u32::from(entry.len), entry.meaning))
+    }
+}
+
+impl BlackRuns {
+    /// The terminating code of few bits that begins thirteen bits: its length and its meaning. `None`
+    /// where no such code does.
+    #[inline(always)]
+    fn find_short(bits: u32) -> Option<(u32, RunCode)>
+        requires { bits < 2 ^ 13 }
+        ensures { IfSome result
+            (λ found. BeginsWith black_runs (code_bits 13 bits) found.0 found.1) }
+    {
+        let place = BLACK_SHORT[(bits >> 7) as usize];
+        if place >= TERMINATING_CODES {
+            return None;
+        }
+        let entry = Self::entry(usize::from(place));
+        Some((u32::from(entry.len), entry.meaning))
+    }
+}
+
+/// The length and the meaning of the code for a run of the colour that begins thirteen bits, which
+/// are loaded. Most runs are of short codes.
+#[inline(always)]
+pub(crate) fn find_run_code(colour: Colour, bits: u32) -> Option<(u32, RunCode)>
+    requires { bits < 2 ^ 13 }
+    ensures { IfSome result
+        (λ found. BeginsWith (run_table colour) (code_bits 13 bits) found.0 found.1) }
+{
+    match colour {
+        Colour::White => {
+            match WhiteRuns::find_short(bits) {
+                Some(found) => Some(found),
+                None => WhiteRuns::find(bits, 13),
+            }
+        }
+        Colour::Black => {
+            match BlackRuns::find_short(bits) {
+                Some(found) => Some(found),
+                None => BlackRuns::find(bits, 13),
+            }
+        }
+    }
 }
 
 /// What the code at a place of a run table means.

@@ -1,41 +1,58 @@
 use Rattle.std.proofs.Common.{arith}
+use Rattle.fax_bits.specs.Tables.{modes}
+use Rattle.fax_bits.specs.code.TableLaws.{modes_has_short_codes}
+use Rattle.fax_bits.specs.Bits.{code_bits}
+use Rattle.fax_bits.proofs.MeetingLemmas.{length-code_bits}
+use Rattle.fax_bits.proofs.ReadLemmas.{found_is_short}
 use Rattle.fax_bits.proofs.AheadLemmas.{number-below, taken_ahead, end_kept_ahead, shorter_ahead}
-use Rattle.fax_bits.proofs.ahead.Ahead.code.Goals as goal
+use Rattle.fax_bits.proofs.ahead.Ahead.looked_up_mode.Goals as goal
 
-pub find-requires-clause-fits : goal.find-requires-clause-fits
-find-requires-clause-fits g c =
+pub find_mode-requires : goal.find_mode-requires
+find_mode-requires c =
     let order = c.self.inside.order in
     let bytes = c.self.inside.bytes.now in
     let w = c.in_ok-window in
     number-below order bytes c.self.inside.window w.window c.args.self c.self.invariant c.self.view_is w.ensures.ahead w.ensures.place w.ensures.within w.ensures.many
     c.number.result (c.number.ensures.number order bytes)
 
+pub behind-requires-clause-loaded : goal.behind-requires-clause-loaded
+behind-requires-clause-loaded c =
+    omega (
+      arith,
+      found_is_short modes (code_bits 13 c.number.result) c.in_ok-len.len c.in_ok-len.mode c.in_ok-len.ensures,
+      length-code_bits 13 c.number.result,
+      c.in_ok-window.ensures.many,
+    )
+
+pub behind-requires-clause-short : goal.behind-requires-clause-short
+behind-requires-clause-short c = omega (arith, found_is_short modes (code_bits 13 c.number.result) c.in_ok-len.len c.in_ok-len.mode c.in_ok-len.ensures, length-code_bits 13 c.number.result)
+
 pub returns-clause-takes : goal.returns-clause-takes
-returns-clause-takes g c =
+returns-clause-takes c =
     let order = c.self.inside.order in
     let bytes = c.self.inside.bytes.now in
     let w = c.in_ok-window in
     taken_ahead order bytes c.self.inside.window w.window c.args.self c.self.invariant c.self.view_is w.ensures.ahead w.ensures.place w.ensures.within w.ensures.many
     c.number.result (c.number.ensures.number order bytes)
-    g.T.CodeTable.table c.in_ok-len.len c.in_ok-len.meaning c.in_ok-len.ensures c.behind.result c.behind.ensures.count c.behind.ensures.at
+    modes c.in_ok-len.len c.in_ok-len.mode c.in_ok-len.ensures c.behind.result c.behind.ensures.count c.behind.ensures.at
 
 pub returns-clause-same_end : goal.returns-clause-same_end
-returns-clause-same_end g c =
+returns-clause-same_end c =
     let order = c.self.inside.order in
     let bytes = c.self.inside.bytes.now in
     let w = c.in_ok-window in
     end_kept_ahead order bytes c.self.inside.window w.window c.args.self c.self.invariant c.self.view_is w.ensures.ahead w.ensures.place w.ensures.within w.ensures.many
     c.number.result (c.number.ensures.number order bytes)
-    g.T.CodeTable.table c.in_ok-len.len c.in_ok-len.meaning c.in_ok-len.ensures c.behind.result c.behind.ensures.count c.behind.ensures.at
+    modes c.in_ok-len.len c.in_ok-len.mode c.in_ok-len.ensures c.behind.result c.behind.ensures.count c.behind.ensures.at
 
 pub returns-clause-shorter : goal.returns-clause-shorter
-returns-clause-shorter g c =
+returns-clause-shorter c =
     let order = c.self.inside.order in
     let bytes = c.self.inside.bytes.now in
     let w = c.in_ok-window in
     let found = c.in_ok-len.ensures in
-    let some = (g.met.T.CodeTable.short_codes found.entry found.listed).0 in
+    let some = (modes_has_short_codes found.entry found.listed).0 in
     shorter_ahead order bytes c.self.inside.window w.window c.args.self c.self.invariant c.self.view_is w.ensures.ahead w.ensures.place w.ensures.within w.ensures.many
     c.number.result (c.number.ensures.number order bytes)
-    g.T.CodeTable.table c.in_ok-len.len c.in_ok-len.meaning c.in_ok-len.ensures c.behind.result c.behind.ensures.count c.behind.ensures.at
+    modes c.in_ok-len.len c.in_ok-len.mode c.in_ok-len.ensures c.behind.result c.behind.ensures.count c.behind.ensures.at
     (omega (arith, some, found.length))
