@@ -9,7 +9,7 @@ ghost use Rattle.fax_bits.specs.code.BitsAhead.{bits_ahead};
 ghost use Rattle.fax_bits.specs.code.Source.{KeepsEnd, IsPlaced, source_of};
 
 use crate::modes::{ModeCode, find_mode};
-use crate::runs::{RunCode, find_run_code};
+use crate::runs::{RunCode, find_run_code, find_short_run};
 use crate::window::Window;
 use crate::{BitSource, Colour, FillOrder};
 use std::marker::Model;
@@ -133,9 +133,29 @@ impl<'a> Ahead<'a> {
     }
 
     /// Reads a run of the colour, of one make-up code at most, and how many pels it has (T.4, section
-    /// 4.1.1).
+    /// 4.1.1). Most runs are one short code.
     #[inline(always)]
     pub fn run(self, colour: Colour) -> Option<(Ahead<'a>, u32)>
+        ensures run { IfSome result (λ read. IsRun colour self.entry.left read.1 read.0.left) }
+        ensures same_end { IfSome result (λ read. KeepsEnd self.entry read.0) }
+        ensures shorter { IfSome result (λ read. length read.0.left < length self.entry.left) }
+    {
+        let window = loaded(self.bytes, self.order, self.window)?;
+        match find_short_run(colour, window.number(LONGEST_CODE)) {
+            None => self.long_run(colour),
+            Some((len, pels)) => {
+                let behind = Ahead {
+                    window: window.behind(len),
+                    ..self
+                };
+                Some((behind, pels))
+            }
+        }
+    }
+
+    /// What `run` does, by any codes.
+    #[inline(always)]
+    fn long_run(self, colour: Colour) -> Option<(Ahead<'a>, u32)>
         ensures run { IfSome result (λ read. IsRun colour self.entry.left read.1 read.0.left) }
         ensures same_end { IfSome result (λ read. KeepsEnd self.entry read.0) }
         ensures shorter { IfSome result (λ read. length read.0.left < length self.entry.left) }

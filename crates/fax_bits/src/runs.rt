@@ -340,43 +340,56 @@ impl CodeTable for BlackRuns {
 }
 
 impl WhiteRuns {
-    /// The terminating code of few bits that begins thirteen bits: its length and its meaning. `None`
-    /// where no such code does.
+    /// The terminating code of few bits that begins thirteen bits: its length, and how many pels it
+    /// means, which is its place. `None` where no such code does.
     #[inline(always)]
-    fn find_short(bits: u32) -> Option<(u32, RunCode)>
+    fn find_short(bits: u32) -> Option<(u32, u32)>
         requires { bits < 2 ^ 13 }
-        ensures { IfSome result
-            (λ found. BeginsWith white_runs (code_bits 13 bits) found.0 found.1) }
+        ensures { IfSome result (λ found. BeginsWith white_runs (code_bits 13 bits) found.0
+            (RunCode.Terminating found.1)) }
     {
-        let place = WHITE_SHORT[(bits >> 4) as usize];
-        if place >= TERMINATING_CODES {
+        let pels = WHITE_SHORT[(bits >> 4) as usize];
+        if pels >= TERMINATING_CODES {
             return None;
         }
-        let entry = Self::entry(usize::from(place));
-        Some((u32::from(entry.len), entry.meaning))
+        let len = WHITE_LENS[usize::from(pels)];
+        Some((u32::from(len), u32::from(pels)))
     }
 }
 
 impl BlackRuns {
-    /// The terminating code of few bits that begins thirteen bits: its length and its meaning. `None`
-    /// where no such code does.
+    /// The terminating code of few bits that begins thirteen bits: its length, and how many pels it
+    /// means, which is its place. `None` where no such code does.
     #[inline(always)]
-    fn find_short(bits: u32) -> Option<(u32, RunCode)>
+    fn find_short(bits: u32) -> Option<(u32, u32)>
         requires { bits < 2 ^ 13 }
-        ensures { IfSome result
-            (λ found. BeginsWith black_runs (code_bits 13 bits) found.0 found.1) }
+        ensures { IfSome result (λ found. BeginsWith black_runs (code_bits 13 bits) found.0
+            (RunCode.Terminating found.1)) }
     {
-        let place = BLACK_SHORT[(bits >> 7) as usize];
-        if place >= TERMINATING_CODES {
+        let pels = BLACK_SHORT[(bits >> 7) as usize];
+        if pels >= TERMINATING_CODES {
             return None;
         }
-        let entry = Self::entry(usize::from(place));
-        Some((u32::from(entry.len), entry.meaning))
+        let len = BLACK_LENS[usize::from(pels)];
+        Some((u32::from(len), u32::from(pels)))
     }
 }
 
-/// The length and the meaning of the code for a run of the colour that begins thirteen bits, which
-/// are loaded. Most runs are of short codes.
+/// The terminating code of few bits for a run of the colour that begins thirteen bits: its length,
+/// and how many pels it means. `None` where no such code does.
+#[inline(always)]
+pub(crate) fn find_short_run(colour: Colour, bits: u32) -> Option<(u32, u32)>
+    requires { bits < 2 ^ 13 }
+    ensures { IfSome result (λ found. BeginsWith (run_table colour) (code_bits 13 bits) found.0
+        (RunCode.Terminating found.1)) }
+{
+    match colour {
+        Colour::White => WhiteRuns::find_short(bits),
+        Colour::Black => BlackRuns::find_short(bits),
+    }
+}
+
+/// The length and the meaning of the code for a run of the colour that begins thirteen bits.
 #[inline(always)]
 pub(crate) fn find_run_code(colour: Colour, bits: u32) -> Option<(u32, RunCode)>
     requires { bits < 2 ^ 13 }
@@ -384,18 +397,8 @@ pub(crate) fn find_run_code(colour: Colour, bits: u32) -> Option<(u32, RunCode)>
         (λ found. BeginsWith (run_table colour) (code_bits 13 bits) found.0 found.1) }
 {
     match colour {
-        Colour::White => {
-            match WhiteRuns::find_short(bits) {
-                Some(found) => Some(found),
-                None => WhiteRuns::find(bits, 13),
-            }
-        }
-        Colour::Black => {
-            match BlackRuns::find_short(bits) {
-                Some(found) => Some(found),
-                None => BlackRuns::find(bits, 13),
-            }
-        }
+        Colour::White => WhiteRuns::find(bits, 13),
+        Colour::Black => BlackRuns::find(bits, 13),
     }
 }
 
