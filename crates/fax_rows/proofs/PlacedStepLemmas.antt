@@ -87,6 +87,7 @@ module _ (reference : List ℕ) (end width : ℕ) (all : ArePlaces reference end
   pass_so_far = record {
     room = so_far.room;
     within = b2_within;
+    started = λ h. cc;
     ascending = so_far.ascending;
     last = let order = b2_order in omega (arith, so_far.last);
     behind = λ i h. so_far.behind i (let order = b2_order in omega arith);
@@ -104,6 +105,7 @@ module _ (reference : List ℕ) (end width : ℕ) (all : ArePlaces reference end
   turned_so_far new next_end a1 next_b1 order within len up last turn b1 colour is = record {
     room = len ∙ so_far.room;
     within = within;
+    started = λ h. cc;
     ascending = up;
     last = last;
     behind = λ i h. turn.right i h ∙ ap other (so_far.behind i (omega arith)) ∙ sym is;
@@ -116,6 +118,15 @@ module _ (reference : List ℕ) (end width : ℕ) (all : ArePlaces reference end
       → position_of (record { a0 = Some a1; colour = at.reached.colour }) (pels_by width (take next_end new)) ≡ coloured_up_to (placed_position width places at) a1
   turned_position new next_end a1 order within turn =
       coloured width (take at.end places) (take next_end new) at.reached a1 order within turn.left so_far.behind
+
+  -- a place right of a0 is right of the last place that is put
+  pub right_of_last : (place : ℕ) → is_right_of at.reached.a0 place ≡ true → 1 < at.end → get_or places (at.end - 1) 0 < place
+  right_of_last place right some = by at.reached.a0 so_far.started so_far.last right
+    where
+      by : (a0 : Option ℕ) → (a0 ≡ None → at.end ≡ 1) → get_or places (at.end - 1) 0 ≤ unwrap_or a0 0 → is_right_of a0 place ≡ true
+          → get_or places (at.end - 1) 0 < place
+      by None started last h = absurd (omega (arith, started refl))
+      by (Some a) started last h = omega (arith, last, ltb-true a place h)
 
   -- there is room for a place
   pub room_left : at.end + 1 < length places
@@ -162,6 +173,10 @@ module _ (reference : List ℕ) (end width : ℕ) (all : ArePlaces reference end
             | inl less ↦ omega (arith, ints, ltb-true a (get_or reference at.b1 0) (b1.ahead less.0))
             | inr over ↦ omega (arith, ints, over.1)
           ]
+
+  -- and right of the last place that is put
+  pub under_right_of_last : 1 < at.end → get_or places (at.end - 1) 0 < get_or reference at.b1 0
+  under_right_of_last = right_of_last (get_or reference at.b1 0) (number_right at.reached (get_or reference at.b1 0) under_right)
 
   pub under_ahead : reached_pel at.reached ≤ get_or reference at.b1 0
   under_ahead = b1_ahead reference end width all at.reached.a0 at.reached.colour at.b1 (so_far.b1 unfinished) unfinished
@@ -220,6 +235,7 @@ module _ (reference : List ℕ) (end width : ℕ) (all : ArePlaces reference end
   horizontal_so_far first second between new middle_end next_end next_b1 within len up last turn again b1 = record {
     room = len ∙ so_far.room;
     within = within;
+    started = λ h. cc;
     ascending = up;
     last = last;
     behind = λ i h.
@@ -234,6 +250,7 @@ pub nothing_read : (reference : List ℕ) (end width : ℕ) → ArePlaces refere
 nothing_read reference end width all places room first = record {
   room = room;
   within = omega arith;
+  started = λ h. refl;
   ascending = record { started = omega arith; within = omega arith; first = first; steps = λ i h l. absurd (omega arith) };
   last = omega (arith, first);
   behind = λ i h. ap (λ ps. turned Black ps i) (take-first places (omega arith) first) ∙ turned-first i;

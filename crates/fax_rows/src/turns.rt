@@ -23,22 +23,6 @@ pub fn places_up_to(places: &[u32], end: usize, i: u32) -> usize
     low
 }
 
-/// How many of the places before `end` are not right of `i`, from a number on that is not above it.
-#[inline(always)]
-pub fn places_from(places: &[u32], end: usize, from: usize, i: u32) -> usize
-    requires some { 0 < from }
-    requires within { from ≤ end }
-    requires room { end ≤ length places.now }
-    requires left { slice_index places.now (from - 1) ≤ i }
-    ensures { Spec.IsBehind places.now end i result }
-{
-    let mut behind = from;
-    while behind < end && places[behind] <= i {
-        behind += 1;
-    }
-    behind
-}
-
 /// Turns the colour from a place on, and answers where the places end: it puts the place behind the
 /// last one, or takes the last one away where it is the same.
 pub fn turn(places: &mut [u32], end: usize, place: u32) -> usize
@@ -57,14 +41,32 @@ pub fn turn(places: &mut [u32], end: usize, place: u32) -> usize
     end + 1
 }
 
-/// Turns the colour from a place right of the last one on, and answers where the places end.
+/// What `turn` does, behind a run of pels that ends at the place: where it has some, the last place is
+/// another one.
 #[inline(always)]
-pub fn turn_on(places: &mut [u32], end: usize, place: u32) -> usize
+pub fn turn_behind(places: &mut [u32], end: usize, place: u32, run: u32) -> usize
+    requires ascending { Spec.IsAscending places.old end }
+    requires last { slice_index places.old (end - 1) + run ≤ place }
+    requires room { end < length places.old }
+    ensures ascending { Spec.IsAscending places.new result }
+    ensures last { slice_index places.new (result - 1) ≤ place }
+    ensures turned { Spec.IsTurnedFrom (take end places.old) (take result places.new) place }
+    ensures same_len { length places.new ≡ length places.old }
+{
+    if run == 0 {
+        return turn(places, end, place);
+    }
+    turn_right(places, end, place)
+}
+
+/// Turns the colour from a place on that is right of the last one, and answers where the places end.
+#[inline(always)]
+pub fn turn_right(places: &mut [u32], end: usize, place: u32) -> usize
     requires ascending { Spec.IsAscending places.old end }
     requires right { 1 < end → slice_index places.old (end - 1) < place }
     requires room { end < length places.old }
     ensures ascending { Spec.IsAscending places.new result }
-    ensures last { slice_index places.new (result - 1) ≡ place }
+    ensures last { slice_index places.new (result - 1) ≤ place }
     ensures turned { Spec.IsTurnedFrom (take end places.old) (take result places.new) place }
     ensures same_len { length places.new ≡ length places.old }
 {

@@ -1,6 +1,6 @@
 //! Rows in two-dimensional coding (ITU-T T.4, section 4.2.1.3, and T.6, section 2.2), read into
 //! places of change over a reference row's places.
-ghost use Rattle.std.specs.Prelude.{◌≡◌, ◌+◌, ◌-◌, ◌≤◌, ◌<◌, negsuc, ◌≤ℤ◌, ℕ, Option, Some, true};
+ghost use Rattle.std.specs.Prelude.{◌≡◌, ◌+◌, ◌-◌, ◌≤◌, ◌<◌, ◌^◌, pos, negsuc, ◌+ℤ◌, ◌≤ℤ◌, ℕ, Option, Some, true};
 ghost use Rattle.std.specs.Prelude.{[], length, slice_index, OnOk, IfOk, IfErr};
 ghost use Rattle.fax_bits.specs.declared.Colour.{Colour};
 ghost use Rattle.fax_bits.specs.code.Source.{KeepsEnd};
@@ -35,6 +35,18 @@ impl Reached {
         ensures { result ≡ reached_pel self }
     {
         self.a0.unwrap_or(0)
+    }
+
+    /// The first pel right of a0.
+    #[inline(always)]
+    fn next_pel(self) -> u32
+        requires { reached_pel self < 2 ^ 16 }
+        ensures { pos result ≡ Spec.a0_number (position_of self []) +ℤ pos 1 }
+    {
+        match self.a0 {
+            None => 0,
+            Some(place) => place + 1,
+        }
     }
 
     /// a0 as a number: -1 just before the first pel (T.4, section 4.2.1.3.4).

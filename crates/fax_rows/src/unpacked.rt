@@ -13,7 +13,7 @@ ghost use Rattle.fax_rows.specs.code.Unpacked.{IsUnpackedTo};
 use crate::lanes::first_other;
 use crate::packed::WORD;
 use crate::runs::other;
-use crate::turns::{turn, turn_on};
+use crate::turns::{turn, turn_right};
 use fax_bits::Colour;
 use fax_bits::laws::bits_stand_by_place;
 
@@ -73,7 +73,7 @@ fn put_word(places: &mut [u32], end: usize, from: u32, before: u64, word: u64) -
     let mut end = end;
     while left != 0 {
         let at = left.leading_zeros();
-        end = turn_on(places, end, from + at);
+        end = turn_right(places, end, from + at);
         left ^= 1 << (63 - at);
     }
     end

@@ -6,7 +6,7 @@ ghost use Rattle.fax_rows.specs.OneDimensional.{IsOneDimensionalRow};
 ghost use Rattle.fax_rows.specs.code.Turns.{row_of, IsAscending};
 
 use crate::runs::other;
-use crate::turns::turn;
+use crate::turns::turn_behind;
 use fax_bits::{Ahead, BitSource, Colour};
 
 /// Reads the runs of a row from the bits ahead.
@@ -37,7 +37,7 @@ fn read_ahead<'a>(
             return None;
         }
         total += run;
-        end = turn(places, end, total);
+        end = turn_behind(places, end, total, run);
         colour = other(colour);
         ahead = behind;
     }

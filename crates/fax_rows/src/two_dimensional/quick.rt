@@ -1,15 +1,15 @@
 //! A row in two-dimensional coding that has no fault, read quickly: the bits ahead stand in a value.
 //! Each function gives up, with `None`, at any doubt, and the row is read again from its source.
-ghost use Rattle.std.specs.Prelude.{◌≡◌, ◌+◌, ◌-◌, ◌≤◌, ◌<◌, pos, IfSome, length, None, slice_index};
+ghost use Rattle.std.specs.Prelude.{◌≡◌, ◌+◌, ◌-◌, ◌≤◌, ◌<◌, ◌≤ℤ◌, pos, negsuc, IfSome, length, None, slice_index};
 ghost use Rattle.fax_bits.specs.code.Source.{KeepsEnd};
 ghost use Rattle.fax_rows.specs.TwoDimensional as Spec;
 ghost use Rattle.fax_rows.specs.code.Turns as Turns;
 ghost use Rattle.fax_rows.specs.code.Reached.{reached_pel};
 ghost use Rattle.fax_rows.specs.code.PlacedReached.{placed_position, IsReadTo};
 
-use super::{PlacedReached, Reached, find_b1, pass, vertical};
+use super::{PlacedReached, Reached, find_b1, pass};
 use crate::runs::other;
-use crate::turns::turn;
+use crate::turns::{turn_behind, turn_right};
 use fax_bits::{Ahead, BitSource, Colour, ModeCode};
 
 /// Vertical mode with a1 just under b1, which is always right of a0 and in the row (T.4, section
@@ -32,7 +32,7 @@ fn under_b1(
     ensures same_len { length places.new ≡ length places.old }
 {
     let place = reference[at.b1];
-    let end = turn(places, at.end, place);
+    let end = turn_right(places, at.end, place);
     PlacedReached {
         reached: Reached {
             a0: Some(place),
@@ -40,6 +40,115 @@ fn under_b1(
         },
         end,
         b1: at.b1 + 1,
+    }
+}
+
+/// Vertical mode with a1 right of b1, by `d` pels (T.4, section 4.2.1.3.2).
+#[inline(always)]
+fn right_of_b1(
+    reference: &[u32],
+    reference_end: usize,
+    places: &mut [u32],
+    width: u32,
+    at: PlacedReached,
+    d: i8,
+) -> Option<PlacedReached>
+    requires reference { Turns.ArePlaces reference.now reference_end width }
+    requires so_far { IsReadTo reference.now reference_end width places.old at }
+    requires unfinished { reached_pel at.reached < width }
+    requires right { pos 0 ≤ℤ d }
+    ensures step { IfSome result (λ next. Spec.IsVerticalStep
+        (Turns.row_of reference.now reference_end width) (placed_position width places.old at) d
+        (placed_position width places.new next)) }
+    ensures so_far { IfSome result
+        (λ next. IsReadTo reference.now reference_end width places.new next) }
+    ensures first { slice_index places.new 0 ≡ 0 }
+    ensures same_len { length places.new ≡ length places.old }
+{
+    let place = reference[at.b1] + u32::from(d.unsigned_abs());
+    if place > width {
+        return None;
+    }
+    let end = turn_right(places, at.end, place);
+    let b1 = if place < width {
+        find_b1(reference, reference_end, width, at.b1 + 1, place)
+    } else {
+        at.b1
+    };
+    Some(PlacedReached {
+        reached: Reached {
+            a0: Some(place),
+            colour: other(at.reached.colour),
+        },
+        end,
+        b1,
+    })
+}
+
+/// Vertical mode with a1 left of b1, by `-d` pels (T.4, section 4.2.1.3.2).
+#[inline(always)]
+fn left_of_b1(
+    reference: &[u32],
+    reference_end: usize,
+    places: &mut [u32],
+    width: u32,
+    at: PlacedReached,
+    d: i8,
+) -> Option<PlacedReached>
+    requires reference { Turns.ArePlaces reference.now reference_end width }
+    requires so_far { IsReadTo reference.now reference_end width places.old at }
+    requires unfinished { reached_pel at.reached < width }
+    requires left { d ≤ℤ negsuc 0 }
+    ensures step { IfSome result (λ next. Spec.IsVerticalStep
+        (Turns.row_of reference.now reference_end width) (placed_position width places.old at) d
+        (placed_position width places.new next)) }
+    ensures so_far { IfSome result
+        (λ next. IsReadTo reference.now reference_end width places.new next) }
+    ensures first { slice_index places.new 0 ≡ 0 }
+    ensures same_len { length places.new ≡ length places.old }
+{
+    let back = u32::from(d.unsigned_abs());
+    let b1 = reference[at.b1];
+    if b1 < back + at.reached.next_pel() {
+        return None;
+    }
+    let place = b1 - back;
+    let end = turn_right(places, at.end, place);
+    Some(PlacedReached {
+        reached: Reached {
+            a0: Some(place),
+            colour: other(at.reached.colour),
+        },
+        end,
+        b1: find_b1(reference, reference_end, width, at.b1 - 1, place),
+    })
+}
+
+/// Vertical mode with a1 `d` pels right of b1, or left of it (T.4, section 4.2.1.3.2).
+#[inline(always)]
+fn beside_b1(
+    reference: &[u32],
+    reference_end: usize,
+    places: &mut [u32],
+    width: u32,
+    at: PlacedReached,
+    d: i8,
+) -> Option<PlacedReached>
+    requires reference { Turns.ArePlaces reference.now reference_end width }
+    requires so_far { IsReadTo reference.now reference_end width places.old at }
+    requires unfinished { reached_pel at.reached < width }
+    ensures step { IfSome result (λ next. Spec.IsVerticalStep
+        (Turns.row_of reference.now reference_end width) (placed_position width places.old at) d
+        (placed_position width places.new next)) }
+    ensures so_far { IfSome result
+        (λ next. IsReadTo reference.now reference_end width places.new next) }
+    ensures first { slice_index places.new 0 ≡ 0 }
+    ensures same_len { length places.new ≡ length places.old }
+{
+    if d >= 0 {
+        right_of_b1(reference, reference_end, places, width, at, d)
+    } else {
+        left_of_b1(reference, reference_end, places, width, at, d)
     }
 }
 
@@ -75,8 +184,8 @@ fn horizontal<'a>(
     }
     let middle = from + first;
     let to = middle + second;
-    let between = turn(places, at.end, middle);
-    let end = turn(places, between, to);
+    let between = turn_behind(places, at.end, middle, first);
+    let end = turn_behind(places, between, to, second);
     let b1 = if to < width {
         find_b1(reference, reference_end, width, at.b1, to)
     } else {
@@ -125,10 +234,8 @@ fn step<'a>(
             ))
         }
         ModeCode::Vertical(d) => {
-            match vertical(reference, reference_end, places, width, at, d) {
-                Ok(next) => Some((behind, next)),
-                Err(_) => None,
-            }
+            let next = beside_b1(reference, reference_end, places, width, at, d)?;
+            Some((behind, next))
         }
         ModeCode::Pass => Some((behind, pass(reference, reference_end, places, width, at))),
         ModeCode::Horizontal => horizontal(behind, reference, reference_end, places, width, at),

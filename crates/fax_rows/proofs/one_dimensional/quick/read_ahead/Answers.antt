@@ -7,8 +7,8 @@ use Rattle.fax_rows.proofs.RowLemmas.{row_begins, row_done}
 use Rattle.fax_rows.proofs.TurnLemmas.{length-pels_by}
 use Rattle.fax_rows.proofs.one_dimensional.quick.read_ahead.Goals as goal
 
-pub turn-end-requires-clause-room : goal.turn-end-requires-clause-room
-turn-end-requires-clause-room c =
+pub turn_behind-end-requires-clause-room : goal.turn_behind-end-requires-clause-room
+turn_behind-end-requires-clause-room c =
     omega (arith, places_within c.loop-total.places c.loop-total.end c.loop-total.total c.loop-total.invariant.ascending c.loop-total.invariant.last)
 
 pub loop-total-init : goal.loop-total-init
@@ -27,16 +27,16 @@ pub loop-total-preserved : goal.loop-total-preserved
 loop-total-preserved c =
     let n = c.in_ok-behind.run' in
     let old = take c.loop-total.end c.loop-total.places in
-    let new = take c.turn-end.result c.turn-end.new.places in
+    let new = take c.turn_behind-end.result c.turn_behind-end.new.places in
     record {
       so_far = rw c.other-colour.ensures
           (run_turned c.args.width c.args.ahead.left c.loop-total.total n c.loop-total.colour old new c.loop-total.ahead.left
           c.in_ok-behind.behind.left c.loop-total.invariant.so_far c.loop-total-test.true (omega arith)
-          c.in_ok-behind.ensures.run c.loop-total.invariant.behind c.turn-end.ensures.turned);
+          c.in_ok-behind.ensures.run c.loop-total.invariant.behind c.turn_behind-end.ensures.turned);
       behind = rw c.other-colour.ensures
-          (run_behind c.loop-total.total n c.loop-total.colour old new c.loop-total.invariant.behind c.turn-end.ensures.turned);
-      ascending = c.turn-end.ensures.ascending;
-      last = c.turn-end.ensures.last;
+          (run_behind c.loop-total.total n c.loop-total.colour old new c.loop-total.invariant.behind c.turn_behind-end.ensures.turned);
+      ascending = c.turn_behind-end.ensures.ascending;
+      last = c.turn_behind-end.ensures.last;
       within = omega arith;
       same_end = omega (arith, c.in_ok-behind.ensures.same_end);
     }

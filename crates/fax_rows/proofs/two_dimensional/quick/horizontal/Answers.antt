@@ -5,16 +5,16 @@ use Rattle.fax_rows.proofs.PlacedStepLemmas.{room_left, horizontal_placed, horiz
 use Rattle.fax_rows.proofs.two_dimensional.quick.horizontal.Goals as goal
 use Rattle.fax_rows.proofs.two_dimensional.quick.horizontal.Goals.{then-to-width, else-to-width}
 
-pub turn-between-requires-clause-room : goal.turn-between-requires-clause-room
-turn-between-requires-clause-room c = omega (arith, room_left c.args.reference.now c.args.reference_end c.args.width c.requires.reference c.args.places.now c.args.at c.requires.so_far c.requires.unfinished)
+pub turn_behind-between-requires-clause-room : goal.turn_behind-between-requires-clause-room
+turn_behind-between-requires-clause-room c = omega (arith, room_left c.args.reference.now c.args.reference_end c.args.width c.requires.reference c.args.places.now c.args.at c.requires.so_far c.requires.unfinished)
 
-pub turn-end-requires-clause-room : goal.turn-end-requires-clause-room
-turn-end-requires-clause-room c =
+pub turn_behind-end-requires-clause-room : goal.turn_behind-end-requires-clause-room
+turn_behind-end-requires-clause-room c =
     omega (
       arith,
       c.requires.so_far.room,
-      places_within c.turn-between.new.places c.turn-between.result _ c.turn-between.ensures.ascending c.turn-between.ensures.last,
-      c.turn-between.ensures.same_len,
+      places_within c.turn_behind-between.new.places c.turn_behind-between.result _ c.turn_behind-between.ensures.ascending c.turn_behind-between.ensures.last,
+      c.turn_behind-between.ensures.same_len,
     )
 
 pub returns-clause-step : goal.returns-clause-step
@@ -22,18 +22,18 @@ returns-clause-step c =
     rw c.first_pel-from.ensures
     (horizontal_placed c.args.reference.now c.args.reference_end c.args.width c.requires.reference c.args.places.now c.args.at c.requires.so_far c.requires.unfinished
     c.args.ahead.left c.in_ok-behind.behind.left c.in_ok-behind-2.behind.left c.in_ok-behind.first c.in_ok-behind-2.second c.other.result
-    c.turn-between.new.places c.turn-end.new.places c.turn-between.result c.turn-end.result c.if-to-width.b1
+    c.turn_behind-between.new.places c.turn_behind-end.new.places c.turn_behind-between.result c.turn_behind-end.result c.if-to-width.b1
     c.in_ok-behind.ensures.run c.in_ok-behind-2.ensures.run c.other.ensures (omega (arith, c.first_pel-from.ensures))
-    (rw (← c.first_pel-from.ensures) c.turn-between.ensures.turned) (rw (← c.first_pel-from.ensures) c.turn-end.ensures.turned))
+    (rw (← c.first_pel-from.ensures) c.turn_behind-between.ensures.turned) (rw (← c.first_pel-from.ensures) c.turn_behind-end.ensures.turned))
 
 pub returns-clause-so_far : goal.returns-clause-so_far
 returns-clause-so_far c =
     let from = c.first_pel-from.ensures in
     rw from
     (horizontal_so_far c.args.reference.now c.args.reference_end c.args.width c.requires.reference c.args.places.now c.args.at c.requires.so_far c.requires.unfinished
-    c.in_ok-behind.first c.in_ok-behind-2.second c.turn-between.new.places c.turn-end.new.places c.turn-between.result c.turn-end.result c.if-to-width.b1
-    (omega (arith, from)) (c.turn-end.ensures.same_len ∙ c.turn-between.ensures.same_len) c.turn-end.ensures.ascending
-    (omega (arith, c.turn-end.ensures.last, from)) (rw (← from) c.turn-between.ensures.turned) (rw (← from) c.turn-end.ensures.turned)
+    c.in_ok-behind.first c.in_ok-behind-2.second c.turn_behind-between.new.places c.turn_behind-end.new.places c.turn_behind-between.result c.turn_behind-end.result c.if-to-width.b1
+    (omega (arith, from)) (c.turn_behind-end.ensures.same_len ∙ c.turn_behind-between.ensures.same_len) c.turn_behind-end.ensures.ascending
+    (omega (arith, c.turn_behind-end.ensures.last, from)) (rw (← from) c.turn_behind-between.ensures.turned) (rw (← from) c.turn_behind-end.ensures.turned)
     (λ h. elim c.if-to-width.branch [
       | then-to-width w ↦
           rw (← from, w.b1-is)
