@@ -142,7 +142,7 @@ impl<'a> Ahead<'a> {
     {
         let window = loaded(self.bytes, self.order, self.window)?;
         match find_short_run(colour, window.number(LONGEST_CODE)) {
-            None => self.long_run(colour),
+            None => Ahead { window, ..self }.long_run(colour),
             Some((len, pels)) => {
                 let behind = Ahead {
                     window: window.behind(len),
