@@ -107,6 +107,30 @@ pub run_behind : (total n : ℕ) (colour : Colour) (old new : List ℕ) → ((i 
     → IsTurnedFrom old new (total + n) → (i : ℕ) → total + n ≤ i → turned Black new i ≡ other colour
 run_behind total n colour old new behind turn i h = turn.right i h ∙ ap other (behind i (omega arith))
 
+-- the places of the runs that are read, behind which the row has a colour
+pub record HasRead (width : ℕ) (b : List Bool) (total : ℕ) (colour : Colour) (places : List ℕ) (end : ℕ) (rest : List Bool) : Type 0 where
+  pub so_far : IsRowSoFar width b total colour (pels_by width (take end places)) rest
+  pub behind : (i : ℕ) → total ≤ i → turned Black (take end places) i ≡ colour
+  pub ascending : IsAscending places end
+  pub last : get_or places (end - 1) 0 ≤ total
+  pub within : total ≤ width
+
+pub read_on : (width : ℕ) (b : List Bool) (total place : ℕ) (colour : Colour) (old new : List ℕ) (end next : ℕ) (mid rest : List Bool)
+    → HasRead width b total colour old end mid → total < width → IsRun colour mid (place - total) rest → total ≤ place → place ≤ width
+    → IsTurnedFrom (take end old) (take next new) place → IsAscending new next → get_or new (next - 1) 0 ≤ place
+    → HasRead width b place (other colour) new next rest
+read_on width b total place colour old new end next mid rest read unfinished run right within turn up last =
+    let sum : total + (place - total) ≡ place = omega arith in
+    let turn_there : IsTurnedFrom (take end old) (take next new) (total + (place - total)) = subst (λ n. IsTurnedFrom (take end old) (take next new) n) (sym sum) turn in
+    record {
+      so_far = subst (λ n. IsRowSoFar width b n (other colour) (pels_by width (take next new)) rest) sum
+          (run_turned width b total (place - total) colour (take end old) (take next new) mid rest read.so_far unfinished (omega (arith, sum)) run read.behind turn_there);
+      behind = λ i h. turn.right i h ∙ ap other (read.behind i (omega arith));
+      ascending = up;
+      last = last;
+      within = within;
+    }
+
 -- the width that is put three times behind the places
 abbrev pub closed : List ℕ → ℕ → ℕ → List ℕ
 closed places end width = set (set (set places end width) (end + 1) width) (end + 2) width

@@ -53,7 +53,7 @@ struct Ahead {
 }
 
 /// The colour behind so many places, the first of which turns black to white.
-fn colour_behind(places: usize) -> Colour
+pub fn colour_behind(places: usize) -> Colour
     ensures { result ≡ alternate Colour.Black places }
 {
     if places % 2 == 1 {

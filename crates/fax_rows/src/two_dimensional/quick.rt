@@ -8,6 +8,7 @@ ghost use Rattle.fax_rows.specs.code.Reached.{reached_pel};
 ghost use Rattle.fax_rows.specs.code.PlacedReached.{placed_position, IsReadTo};
 
 use super::{PlacedReached, Reached, find_b1, pass};
+use crate::put::colour_behind;
 use crate::runs::other;
 use crate::turns::{turn_behind, turn_right};
 use fax_bits::{Ahead, BitSource, Colour, ModeCode};
@@ -155,17 +156,19 @@ fn beside_b1(
 /// Horizontal mode: two runs from a0 on, the first of a0's colour, which stays (T.4, section
 /// 4.2.1.3.2).
 #[inline(always)]
-fn horizontal<'a>(
+fn two_runs<'a>(
     ahead: Ahead<'a>,
     reference: &[u32],
     reference_end: usize,
     places: &mut [u32],
     width: u32,
     at: PlacedReached,
+    colour: Colour,
 ) -> Option<(Ahead<'a>, PlacedReached)>
     requires reference { Turns.ArePlaces reference.now reference_end width }
     requires so_far { IsReadTo reference.now reference_end width places.old at }
     requires unfinished { reached_pel at.reached < width }
+    requires colour { colour ≡ at.reached.colour }
     ensures step { IfSome result (λ next. Spec.IsHorizontalStep
         (Turns.row_of reference.now reference_end width) (placed_position width places.old at)
         ahead.entry.left (placed_position width places.new next.1) next.0.left) }
@@ -177,8 +180,8 @@ fn horizontal<'a>(
     ensures no_longer { IfSome result (λ next. length next.0.left ≤ length ahead.entry.left) }
 {
     let from = at.reached.first_pel();
-    let (behind, first) = ahead.run(at.reached.colour)?;
-    let (behind, second) = behind.run(other(at.reached.colour))?;
+    let (behind, first) = ahead.run(colour)?;
+    let (behind, second) = behind.run(other(colour))?;
     if first > width - from || second > width - from - first {
         return None;
     }
@@ -200,6 +203,41 @@ fn horizontal<'a>(
         b1,
     };
     Some((behind, next))
+}
+
+/// Horizontal mode (T.4, section 4.2.1.3.2). The index of b1 tells a0's colour.
+#[inline(always)]
+fn horizontal<'a>(
+    ahead: Ahead<'a>,
+    reference: &[u32],
+    reference_end: usize,
+    places: &mut [u32],
+    width: u32,
+    at: PlacedReached,
+) -> Option<(Ahead<'a>, PlacedReached)>
+    requires reference { Turns.ArePlaces reference.now reference_end width }
+    requires so_far { IsReadTo reference.now reference_end width places.old at }
+    requires unfinished { reached_pel at.reached < width }
+    ensures step { IfSome result (λ next. Spec.IsHorizontalStep
+        (Turns.row_of reference.now reference_end width) (placed_position width places.old at)
+        ahead.entry.left (placed_position width places.new next.1) next.0.left) }
+    ensures so_far { IfSome result
+        (λ next. IsReadTo reference.now reference_end width places.new next.1) }
+    ensures first { slice_index places.new 0 ≡ 0 }
+    ensures same_len { length places.new ≡ length places.old }
+    ensures same_end { IfSome result (λ next. KeepsEnd ahead.entry next.0) }
+    ensures no_longer { IfSome result (λ next. length next.0.left ≤ length ahead.entry.left) }
+{
+    match colour_behind(at.b1) {
+        Colour::White => {
+            let colour = Colour::White;
+            two_runs(ahead, reference, reference_end, places, width, at, colour)
+        }
+        Colour::Black => {
+            let colour = Colour::Black;
+            two_runs(ahead, reference, reference_end, places, width, at, colour)
+        }
+    }
 }
 
 /// Reads one mode, and goes on by what it says (T.4, section 4.2.1.3.3).

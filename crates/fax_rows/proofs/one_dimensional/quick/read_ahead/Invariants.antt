@@ -1,16 +1,14 @@
-use Rattle.std.proofs.Common.{◌≡◌, ℕ, ◌+◌, ◌-◌, ◌≤◌, length, take, get_or}
-use Rattle.fax_bits.specs.declared.Colour.TheVariants.{Black}
-use Rattle.fax_rows.specs.code.Turns.{turned, pels_by, IsAscending}
-use Rattle.fax_rows.proofs.RowLemmas.{IsRowSoFar}
+use Rattle.std.proofs.Common.{◌≡◌, ◌+◌, ◌<◌, length}
+use Rattle.fax_bits.specs.declared.Colour.{Colour}
+use Rattle.fax_bits.specs.declared.Colour.TheVariants.{White}
+use Rattle.fax_rows.proofs.PlacedReadLemmas.{HasRead}
 use Rattle.fax_rows.proofs.one_dimensional.quick.read_ahead.Given as goal
 
 abbrev pub invariant-loop-total : goal.invariant-loop-total
 invariant-loop-total l = record {
-  so_far : IsRowSoFar l.width l.initial.ahead.left l.total l.colour (pels_by l.width (take l.end l.places)) l.ahead.left;
-  behind : (i : ℕ) → l.total ≤ i → turned Black (take l.end l.places) i ≡ l.colour;
-  ascending : IsAscending l.places l.end;
-  last : get_or l.places (l.end - 1) 0 ≤ l.total;
-  within : l.total ≤ l.width;
+  colour : Colour;
+  read : HasRead l.width l.initial.ahead.left l.total colour l.places l.end l.ahead.left;
+  white : l.total < l.width → colour ≡ White;
   same_end : l.ahead.place + length l.ahead.left ≡ l.initial.ahead.place + length l.initial.ahead.left;
 }
 

@@ -1,9 +1,11 @@
-use Rattle.std.proofs.Common.{◌∙◌, arith}
+use Rattle.std.proofs.Common.{◌∙◌, ap, subst, arith}
+use Rattle.fax_bits.specs.Runs.{IsRun}
+use Rattle.fax_rows.specs.Elements.{other}
 use Rattle.fax_rows.proofs.PlacedReadLemmas.{places_within}
 use Rattle.fax_rows.proofs.PlacedB1Lemmas.{same_start}
 use Rattle.fax_rows.proofs.PlacedStepLemmas.{room_left, horizontal_placed, horizontal_so_far}
-use Rattle.fax_rows.proofs.two_dimensional.quick.horizontal.Goals as goal
-use Rattle.fax_rows.proofs.two_dimensional.quick.horizontal.Goals.{then-to-width, else-to-width}
+use Rattle.fax_rows.proofs.two_dimensional.quick.two_runs.Goals as goal
+use Rattle.fax_rows.proofs.two_dimensional.quick.two_runs.Goals.{then-to-width, else-to-width}
 
 pub turn_behind-between-requires-clause-room : goal.turn_behind-between-requires-clause-room
 turn_behind-between-requires-clause-room c = omega (arith, room_left c.args.reference.now c.args.reference_end c.args.width c.requires.reference c.args.places.now c.args.at c.requires.so_far c.requires.unfinished)
@@ -23,7 +25,8 @@ returns-clause-step c =
     (horizontal_placed c.args.reference.now c.args.reference_end c.args.width c.requires.reference c.args.places.now c.args.at c.requires.so_far c.requires.unfinished
     c.args.ahead.left c.in_ok-behind.behind.left c.in_ok-behind-2.behind.left c.in_ok-behind.first c.in_ok-behind-2.second c.other.result
     c.turn_behind-between.new.places c.turn_behind-end.new.places c.turn_behind-between.result c.turn_behind-end.result c.if-to-width.b1
-    c.in_ok-behind.ensures.run c.in_ok-behind-2.ensures.run c.other.ensures (omega (arith, c.first_pel-from.ensures))
+    (subst (λ colour. IsRun colour c.args.ahead.left c.in_ok-behind.first c.in_ok-behind.behind.left) c.requires.colour c.in_ok-behind.ensures.run)
+    c.in_ok-behind-2.ensures.run (c.other.ensures ∙ ap other c.requires.colour) (omega (arith, c.first_pel-from.ensures))
     (rw (← c.first_pel-from.ensures) c.turn_behind-between.ensures.turned) (rw (← c.first_pel-from.ensures) c.turn_behind-end.ensures.turned))
 
 pub returns-clause-so_far : goal.returns-clause-so_far
