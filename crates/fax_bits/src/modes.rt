@@ -137,12 +137,16 @@ fn find_long_mode(bits: u32) -> Option<(u32, ModeCode)>
     }
 }
 
-/// What `find_mode` says of codes of more than six bits.
+/// What `find_mode` says of codes of more than six bits, and of a lone 1, which comes here only where
+/// no bit was loaded before.
 #[inline(always)]
 fn find_longest_mode(bits: u32) -> Option<(u32, ModeCode)>
     requires { bits < 2 ^ 13 }
     ensures { IfSome result (λ found. BeginsWith modes (code_bits 13 bits) found.0 found.1) }
 {
+    if bits >> 12 == 0b1 {
+        return Some((1, ModeCode::Vertical(0)));
+    }
     match bits >> 6 {
         0b0000011 => Some((7, ModeCode::Vertical(3))),
         0b0000010 => Some((7, ModeCode::Vertical(-3))),
