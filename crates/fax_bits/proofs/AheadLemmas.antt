@@ -21,6 +21,7 @@ use Rattle.fax_bits.proofs.MeetingLemmas.{length-code_bits}
 use Rattle.fax_bits.proofs.TableLemmas.{listed}
 use Rattle.fax_bits.proofs.PeekLemmas.{padded}
 use Rattle.fax_bits.proofs.ReadLemmas.{peeked_bits, peeked-below, takes_found, found_is_short}
+use Rattle.fax_bits.proofs.TakeLemmas.{spelled}
 use Rattle.fax_bits.proofs.WindowLemmas.{length-first_bits}
 
 takes_one : (left rest : List Bool) → left ≡ replicate 0 false ++ true ∷ rest → Takes modes left (Vertical (pos 0)) (drop 1 left)
@@ -50,7 +51,7 @@ module _ (order : FillOrder) (bytes : List ℕ) (old window : Window) (source : 
       )
 
   -- behind some of its bits
-  module _ (n : ℕ) (behind : Window) (some : n ≤ 13) (count : behind.count + n ≡ window.count) (at : behind.at ≡ window.at) where
+  module _ (n : ℕ) (behind : Window) (short : n ≤ 32) (count : behind.count + n ≡ window.count) (at : behind.at ≡ window.at) where
     place_behind : place_before old + n ≡ place_before behind
     place_behind = omega (arith, is.behind)
 
@@ -87,6 +88,15 @@ module _ (order : FillOrder) (bytes : List ℕ) (old window : Window) (source : 
     one_shorter =
         omega (arith, loaded-left, count, ap length (left_behind_code 1 behind (omega arith) count at), length-drop 1 source.left)
 
+  -- bits that stand next
+  pub bits_taken : (len number : ℕ) (short : len ≤ 32) → 32 ≤ window.count → number ≡ bits_number (take len (padded (bits_ahead order bytes window) len))
+      → (behind : Window) → behind.count + len ≡ window.count → behind.at ≡ window.at
+      → source.left ≡ code_bits len number ++ drop (place_before behind) (bits order bytes)
+  bits_taken len number short many number_is behind count at =
+      spelled source.left len number (omega (arith, many, loaded-left, short))
+      (ap (λ b. bits_number (take len (padded b len))) (sym loaded_left) ∙ sym number_is)
+      ∙ ap (λ rest. code_bits len number ++ rest) (sym (left_behind_code len behind short count at))
+
   -- a code that begins the next thirteen bits, which are loaded
   module _ (many : 32 ≤ window.count) (number : ℕ) (number_is : number ≡ bits_number (take 13 (padded (bits_ahead order bytes window) 13))) where
     spelled_is : number ≡ bits_number (take 13 (padded source.left 13))
@@ -102,15 +112,15 @@ module _ (order : FillOrder) (bytes : List ℕ) (old window : Window) (source : 
 
       pub taken_ahead : Takes table source.left meaning (drop (place_before behind) (bits order bytes))
       taken_ahead =
-          subst (λ rest. Takes table source.left meaning rest) (sym (left_behind_code len behind short count at))
+          subst (λ rest. Takes table source.left meaning rest) (sym (left_behind_code len behind (omega (arith, short)) count at))
           (takes_found table source.left (code_bits 13 number) 13 len meaning (peeked_bits source.left 13 (omega (arith, many, loaded-left)) number spelled_is) found)
 
       pub end_kept_ahead : KeepsEnd source (source_of order bytes (place_before behind))
-      end_kept_ahead = end_kept len behind short count at
+      end_kept_ahead = end_kept len behind (omega (arith, short)) count at
 
       pub shorter_ahead : 0 < len → length (drop (place_before behind) (bits order bytes)) < length source.left
       shorter_ahead some =
-          omega (arith, short, some, many, loaded-left, ap length (left_behind_code len behind short count at), length-drop len source.left)
+          omega (arith, short, some, many, loaded-left, ap length (left_behind_code len behind (omega (arith, short)) count at), length-drop len source.left)
 
 -- a run of a terminating code alone
 pub short_run : (colour : Colour) (b : List Bool) (n : ℕ) (rest : List Bool) → Takes (run_table colour) b (Terminating n) rest → IsRun colour b n rest

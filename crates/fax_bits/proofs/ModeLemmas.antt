@@ -1,8 +1,8 @@
 -- The codes of modes by their places in the mode table.
-use Rattle.std.proofs.Common.{◌≡◌, List, ◌++◌, Bool, lit<, ℕ, zero, suc, ◌+◌, ◌-◌, ◌/◌, ◌^◌, ◌<◌, ◌≤◌, ℤ, pos, negsuc, unsigned_abs, int_le, to_z, of_z, w8, true, false, refl, ap, sym, ◌∙◌, subst, arith}
-use Rattle.std.specs.Prelude.{Some, slice_get}
-use Rattle.std.proofs.lemmas.Int.{ints, to_z-of_z, fits_signed_from_abs}
-use Rattle.std.proofs.lemmas.Bool.Decides.{nat_tests}
+use Rattle.std.proofs.Common.{◌≡◌, List, ◌++◌, Bool, lit<, ℕ, zero, suc, ◌+◌, ◌-◌, ◌/◌, ◌^◌, ◌<◌, ◌≤◌, ℤ, pos, negsuc, unsigned_abs, get_or, to_z, of_z, w8, refl, ap, sym, ◌∙◌, arith}
+use Rattle.std.specs.Prelude.{Some, slice_get, nat_abs, ◌+ℤ◌}
+use Rattle.fax_bits.specs.declared.put.TheConstants.{VERTICAL_CODES, VERTICAL_LENS}
+use Rattle.std.proofs.lemmas.Int.{ints}
 use Rattle.fax_bits.specs.declared.codes.CodeEntry.{CodeEntry}
 use Rattle.fax_bits.specs.declared.modes.ModeCode.{ModeCode}
 use Rattle.fax_bits.specs.declared.modes.ModeCode.TheVariants.{Pass, Horizontal, Vertical, Extension as ModeExtension}
@@ -45,39 +45,22 @@ few : (d : ℤ) → IsWritten (Vertical d) → unsigned_abs d < 4
 few (pos n) written = omega (arith, ints, written.1)
 few (negsuc n) written = omega (arith, ints, written.0)
 
--- the distance, as the program reads it
-read_back : (d : ℤ) → IsWritten (Vertical d) → to_z w8 (of_z w8 d) ≡ d
-read_back d written =
-    let small : unsigned_abs d < 2 ^ 7 = omega (arith, few d written) in
-    to_z-of_z w8 d (fits_signed_from_abs w8 d small)
+-- where the code of a distance stands, as the program finds it
+abbrev place_of_distance : ℤ → ℕ
+place_of_distance d = nat_abs (to_z w8 (of_z w8 (to_z w8 (of_z w8 d) +ℤ pos 3)))
 
-vertical_right : (d : ℤ) (n : ℕ) → IsWritten (Vertical d) → int_le (pos 0) d ≡ true → n ≡ unsigned_abs d → bits_at modes (2 + n) ≡ mode_bits (Vertical d)
-vertical_right (pos k) n written right is = ap (λ m. bits_at modes (2 + m)) is ∙ bits_at-right k (few (pos k) written)
-vertical_right (negsuc k) n written right is = cc
-
-vertical_left : (d : ℤ) (n : ℕ) → IsWritten (Vertical d) → int_le (pos 0) d ≡ false → n ≡ unsigned_abs d → bits_at modes (5 + n) ≡ mode_bits (Vertical d)
-vertical_left (pos k) n written left is =
-    let right : int_le (pos 0) (pos k) ≡ true = grind (arith, ints, nat_tests) in
-    let differ : true ≡ false = sym right ∙ left in
-    absurd cc
-vertical_left (negsuc k) n written left is =
-    let place : 5 + suc k ≡ 6 + k = omega arith in
-    ap (λ m. bits_at modes (5 + m)) is ∙ ap (bits_at modes) place ∙ bits_at-left k (omega (arith, few (negsuc k) written))
-
--- the place of a vertical mode, as the program finds it
-module _ (mode : ModeCode) (d : ℤ) (n : ℕ) (is : mode ≡ Vertical d) (written : IsWritten mode) (n_is : n ≡ unsigned_abs (to_z w8 (of_z w8 d))) where
-  written_is : IsWritten (Vertical d)
-  written_is = subst IsWritten is written
-
-  pub right_at : int_le (pos 0) (to_z w8 (of_z w8 d)) ≡ true → bits_at modes (2 + n) ≡ mode_bits mode
-  right_at right =
-      vertical_right d n written_is (ap (int_le (pos 0)) (sym (read_back d written_is)) ∙ right) (n_is ∙ ap unsigned_abs (read_back d written_is))
-      ∙ ap mode_bits (sym is)
-
-  pub left_at : int_le (pos 0) (to_z w8 (of_z w8 d)) ≡ false → bits_at modes (5 + n) ≡ mode_bits mode
-  left_at left =
-      vertical_left d n written_is (ap (int_le (pos 0)) (sym (read_back d written_is)) ∙ left) (n_is ∙ ap unsigned_abs (read_back d written_is))
-      ∙ ap mode_bits (sym is)
+pub vertical_bits : (d : ℤ) → IsWritten (Vertical d)
+    → code_bits (get_or VERTICAL_LENS (place_of_distance d) 0) (get_or VERTICAL_CODES (place_of_distance d) 0) ≡ mode_bits (Vertical d)
+unfolding modes mode_bits code_bits
+vertical_bits (pos zero) written = refl
+vertical_bits (pos (suc zero)) written = refl
+vertical_bits (pos (suc (suc zero))) written = refl
+vertical_bits (pos (suc (suc (suc zero)))) written = refl
+vertical_bits (pos (suc (suc (suc (suc n))))) written = absurd (omega (arith, few (pos (suc (suc (suc (suc n))))) written))
+vertical_bits (negsuc zero) written = refl
+vertical_bits (negsuc (suc zero)) written = refl
+vertical_bits (negsuc (suc (suc zero))) written = refl
+vertical_bits (negsuc (suc (suc (suc n)))) written = absurd (omega (arith, few (negsuc (suc (suc (suc n)))) written))
 
 -- a mode that is written is read again
 takes_mode : (place : ℕ) (listed_entry : CodeEntry ModeCode) (mode : ModeCode) (more : List Bool) → slice_get modes place ≡ Some listed_entry

@@ -1,5 +1,5 @@
 -- Codes that are put one after another.
-use Rattle.std.proofs.Common.{◌≡◌, ℕ, ◌+◌, ◌-◌, ◌*◌, ◌/◌, ◌%◌, ◌<◌, ◌≤◌, List, [], ◌∷◌, ◌++◌, replicate, Bool, true, false, nat_eq, ap, sym, ◌∙◌, subst, arith, append_assoc, append-nil}
+use Rattle.std.proofs.Common.{◌≡◌, ℕ, ◌+◌, ◌-◌, ◌*◌, ◌/◌, ◌%◌, ◌<◌, ◌≤◌, List, [], ◌∷◌, ◌++◌, replicate, Bool, true, false, nat_eq, refl, ap, sym, ◌∙◌, subst, arith, append_assoc, append-nil}
 use Rattle.std.specs.Prelude.{flat_map, Result, Ok, Err, OnErr}
 use Rattle.std.proofs.lemmas.Bool.Decides.{nat_tests}
 use Rattle.std.proofs.lemmas.List.{replicate-append-replicate}
@@ -70,6 +70,25 @@ pub put-terminating : (colour : Colour) (n : ℕ) (old mid new : Sink) → Put c
     → Appends mid (run_code_bits colour (Terminating (n % 64))) new → Appends old (run_bits colour n) new
 unfolding run_bits
 put-terminating colour n old mid new one two = put-more colour old mid new _ (Terminating (n % 64)) one two
+
+-- a run of fewer than 64 pels is one code
+short_codes : (n : ℕ) → n < 64 → run_codes n ≡ Terminating n ∷ []
+short_codes n short =
+    let often : n / 2560 ≡ 0 = omega arith in
+    let more : n % 2560 / 64 ≡ 0 = omega arith in
+    let rest : n % 64 ≡ n = omega arith in
+    ap (λ k. replicate k (MakeUp 2560) ++ one_make_up (n % 2560 / 64) ++ Terminating (n % 64) ∷ []) often
+    ∙ ap (λ k. one_make_up k ++ Terminating (n % 64) ∷ []) more ∙ ap (λ k. Terminating k ∷ []) rest
+
+pub short_bits : (colour : Colour) (n : ℕ) → n < 64 → run_code_bits colour (Terminating n) ≡ run_bits colour n
+unfolding run_bits
+short_bits colour n short =
+    sym (ap (flat_map (run_code_bits colour)) (short_codes n short) ∙ append-nil (run_code_bits colour (Terminating n)))
+
+-- none of a run's codes was put
+pub none_put : (colour : Colour) (n : ℕ) (old new : Sink) → new ≡ old → AppendsCodes old colour (run_codes n) new
+none_put colour n old new same =
+    put-prefix colour n old new [] (run_codes n) (same ∙ ap (λ b. record { order = old.order; bits = b }) (sym (append-nil old.bits))) refl
 
 pub on_err-of : {T E P : Type 0} (result : Result T E) → P → OnErr result P
 on_err-of (Ok x) p = tt

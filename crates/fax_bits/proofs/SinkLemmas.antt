@@ -1,10 +1,11 @@
 -- Bits that are put behind others: into the pending bits, and from there into bytes.
-use Rattle.std.proofs.Common.{◌≡◌, ℕ, ◌+◌, ◌-◌, ◌*◌, ◌/◌, ◌%◌, ◌^◌, ◌<◌, ◌≤◌, List, [], ◌∷◌, ◌++◌, length, map, take, drop, replicate, Bool, true, false, refl, ap, sym, ◌∙◌, subst, arith, append_assoc, append-nil, add-zero, length-append}
-use Rattle.std.specs.Prelude.{bit_and, bit_or, Result, Ok, Err, OnOk, is_ok}
+use Rattle.std.proofs.Common.{◌≡◌, ℕ, ◌+◌, ◌-◌, ◌*◌, ◌/◌, ◌%◌, ◌^◌, ◌<◌, ◌≤◌, List, [], ◌∷◌, ◌++◌, length, get_or, map, take, drop, replicate, Bool, true, false, refl, ap, sym, ◌∙◌, subst, arith, append_assoc, append-nil, add-zero, length-append}
+use Rattle.std.specs.Prelude.{flat_map, bit_and, bit_or, Result, Ok, Err, OnOk, is_ok}
 use Rattle.std.proofs.Math.Seq.{take-length}
 use Rattle.std.proofs.lemmas.List.{take-append-le}
 use Rattle.std.proofs.lemmas.List.Concat.{flat_map-append}
-use Rattle.std.proofs.lemmas.Nat.{pow-add, pow_pos, or_shifted, shl_whole, one_shl, and_mask, mul-add-lt, shr_below, shr_split, mod_below, shl_below}
+use Rattle.fax_bits.proofs.WordLemmas.{be_bits}
+use Rattle.std.proofs.lemmas.Nat.{from_be_bytes-to_be_bytes_4, pow-add, pow_pos, or_shifted, shl_whole, one_shl, and_mask, mul-add-lt, shr_below, shr_split, mod_below, shl_below}
 use Rattle.std.specs.Int.{reverse_bits, w8}
 use Rattle.fax_bits.specs.declared.FillOrder.{FillOrder}
 use Rattle.fax_bits.specs.declared.FillOrder.TheVariants.{MsbFirst, LsbFirst}
@@ -26,40 +27,40 @@ bits-push order bytes byte =
     flat_map-append (byte_bits order) bytes (byte ∷ []) ∙ ap (λ b. bits order bytes ++ b) (append-nil (byte_bits order byte))
 
 -- pending bits and those that are put, as one number
-module _ (count pending len number : ℕ) (pending_fits : pending < 2 ^ count) (number_fits : number < 2 ^ len) (short : count + len < 32) where
-  pub joined : bit_or (pending * 2 ^ len % 4294967296) number ≡ pending * 2 ^ len + number
+module _ (count pending len number : ℕ) (pending_fits : pending < 2 ^ count) (number_fits : number < 2 ^ len) (short : count + len ≤ 64) where
+  pub joined : bit_or (pending * 2 ^ len % 2 ^ 64) number ≡ pending * 2 ^ len + number
   joined =
-      ap (λ n. bit_or n number) (shl_whole pending count len 32 pending_fits (omega arith))
+      ap (λ n. bit_or n number) (shl_whole pending count len 64 pending_fits (omega arith))
       ∙ or_shifted pending len number number_fits
 
-  pub joined-lt : bit_or (pending * 2 ^ len % 4294967296) number < 2 ^ (count + len)
+  pub joined-lt : bit_or (pending * 2 ^ len % 2 ^ 64) number < 2 ^ (count + len)
   joined-lt =
       rw joined (omega (arith, mul-add-lt pending (2 ^ len) number (2 ^ count) pending_fits number_fits, pow-add 2 count len))
 
-  pub joined_bits : code_bits (count + len) (bit_or (pending * 2 ^ len % 4294967296) number) ≡ code_bits count pending ++ code_bits len number
+  pub joined_bits : code_bits (count + len) (bit_or (pending * 2 ^ len % 2 ^ 64) number) ≡ code_bits count pending ++ code_bits len number
   joined_bits = ap (code_bits (count + len)) joined ∙ code_bits-add count len pending number number_fits
 
--- a number of pending bits, of which the first eight become a byte
-module _ (count pending : ℕ) (whole : 8 ≤ count) (short : count < 32) (fits : pending < 2 ^ count) where
-  pub first_byte-lt : pending / 2 ^ (count - 8) < 2 ^ 8
-  first_byte-lt =
-      let e : 8 + (count - 8) ≡ count = omega arith in
-      shr_below pending 8 (count - 8) (subst (λ n. pending < 2 ^ n) (sym e) fits)
+-- a number of pending bits, of which the first k are stored
+module _ (k count pending : ℕ) (some : 0 < k) (whole : k ≤ count) (short : count ≤ 64) (fits : pending < 2 ^ count) where
+  pub first_part-lt : pending / 2 ^ (count - k) < 2 ^ k
+  first_part-lt =
+      let e : k + (count - k) ≡ count = omega arith in
+      shr_below pending k (count - k) (subst (λ n. pending < 2 ^ n) (sym e) fits)
 
-  pub masked : bit_and pending (1 * 2 ^ (count - 8) % 4294967296 - 1) ≡ pending % 2 ^ (count - 8)
+  pub masked : bit_and pending (1 * 2 ^ (count - k) % 2 ^ 64 - 1) ≡ pending % 2 ^ (count - k)
   masked =
-      ap (λ n. bit_and pending (n - 1)) (one_shl (count - 8) 32 (omega arith)) ∙ and_mask pending (count - 8)
+      ap (λ n. bit_and pending (n - 1)) (one_shl (count - k) 64 (omega arith)) ∙ and_mask pending (count - k)
 
-  pub masked-lt : bit_and pending (1 * 2 ^ (count - 8) % 4294967296 - 1) < 2 ^ (count - 8)
-  masked-lt = rw masked (mod_below pending (2 ^ (count - 8)) (pow_pos (count - 8)))
+  pub masked-lt : bit_and pending (1 * 2 ^ (count - k) % 2 ^ 64 - 1) < 2 ^ (count - k)
+  masked-lt = rw masked (mod_below pending (2 ^ (count - k)) (pow_pos (count - k)))
 
-  -- the pending bits, and those behind the byte
-  pub split_bits : code_bits count pending ≡ code_bits 8 (pending / 2 ^ (count - 8)) ++ code_bits (count - 8) (bit_and pending (1 * 2 ^ (count - 8) % 4294967296 - 1))
+  -- the stored bits, and those behind them
+  pub split_bits : code_bits count pending ≡ code_bits k (pending / 2 ^ (count - k)) ++ code_bits (count - k) (bit_and pending (1 * 2 ^ (count - k) % 2 ^ 64 - 1))
   split_bits =
-      let e : 8 + (count - 8) ≡ count = omega arith in
-      sym (ap (λ n. code_bits n pending) e) ∙ ap (code_bits (8 + (count - 8))) (sym (shr_split pending (count - 8)))
-      ∙ code_bits-add 8 (count - 8) (pending / 2 ^ (count - 8)) (pending % 2 ^ (count - 8)) (mod_below pending (2 ^ (count - 8)) (pow_pos (count - 8)))
-      ∙ ap (λ n. code_bits 8 (pending / 2 ^ (count - 8)) ++ code_bits (count - 8) n) (sym masked)
+      let e : k + (count - k) ≡ count = omega arith in
+      sym (ap (λ n. code_bits n pending) e) ∙ ap (code_bits (k + (count - k))) (sym (shr_split pending (count - k)))
+      ∙ code_bits-add k (count - k) (pending / 2 ^ (count - k)) (pending % 2 ^ (count - k)) (mod_below pending (2 ^ (count - k)) (pow_pos (count - k)))
+      ∙ ap (λ n. code_bits k (pending / 2 ^ (count - k)) ++ code_bits (count - k) n) (sym masked)
 
 -- a byte whose highest bit is first
 pub byte_bits-msb : (byte : ℕ) → byte_bits MsbFirst byte ≡ code_bits 8 byte
@@ -88,6 +89,32 @@ pushed_bits order bytes pushed byte n all rest pushed_is byte_is all_is =
     ∙ append_assoc (bits order bytes) (byte_bits order byte) rest
     ∙ ap (λ b. bits order bytes ++ (b ++ rest)) byte_is ∙ ap (λ b. bits order bytes ++ b) (sym all_is)
 
+-- four bytes that are pushed
+four_items : (xs : List ℕ) → length xs ≡ 4 → get_or xs 0 0 ∷ get_or xs 1 0 ∷ get_or xs 2 0 ∷ get_or xs 3 0 ∷ [] ≡ xs
+four_items [] four = absurd (omega arith)
+four_items (a ∷ []) four = absurd (omega arith)
+four_items (a ∷ b ∷ []) four = absurd (omega arith)
+four_items (a ∷ b ∷ c ∷ []) four = absurd (omega arith)
+four_items (a ∷ b ∷ c ∷ d ∷ []) four = refl
+four_items (a ∷ b ∷ c ∷ d ∷ e ∷ xs) four = absurd (omega arith)
+
+pub bits-pushed : (order : FillOrder) (bytes xs : List ℕ) → length xs ≡ 4
+    → bits order ((((bytes ++ get_or xs 0 0 ∷ []) ++ get_or xs 1 0 ∷ []) ++ get_or xs 2 0 ∷ []) ++ get_or xs 3 0 ∷ []) ≡ bits order bytes ++ bits order xs
+unfolding bits
+bits-pushed order bytes xs four =
+    ap (flat_map (byte_bits order))
+    (append_assoc ((bytes ++ get_or xs 0 0 ∷ []) ++ get_or xs 1 0 ∷ []) (get_or xs 2 0 ∷ []) (get_or xs 3 0 ∷ [])
+    ∙ append_assoc (bytes ++ get_or xs 0 0 ∷ []) (get_or xs 1 0 ∷ []) (get_or xs 2 0 ∷ get_or xs 3 0 ∷ [])
+    ∙ append_assoc bytes (get_or xs 0 0 ∷ []) (get_or xs 1 0 ∷ get_or xs 2 0 ∷ get_or xs 3 0 ∷ [])
+    ∙ ap (λ more. bytes ++ more) (four_items xs four))
+    ∙ flat_map-append (byte_bits order) bytes xs
+
+-- the bytes of a word, the highest first
+pub be_coded : (n : ℕ) → n < 2 ^ 32 → bits MsbFirst (n / 16777216 % 256 ∷ n / 65536 % 256 ∷ n / 256 % 256 ∷ n % 256 ∷ []) ≡ code_bits 32 n
+be_coded n fits =
+    sym (be_bits (n / 16777216 % 256) (n / 65536 % 256) (n / 256 % 256) (n % 256) (omega arith) (omega arith) (omega arith))
+    ∙ ap (code_bits 32) (from_be_bytes-to_be_bytes_4 n fits)
+
 -- how many bits a sink has
 pub length-sink : (order : FillOrder) (bytes : List ℕ) (count pending : ℕ) (sink : Sink) → sink_of order bytes count pending ≡ sink
     → length sink.bits ≡ 8 * length bytes + count
@@ -109,48 +136,57 @@ all_whole order bytes count pending sink is whole short =
     let none : count ≡ 0 = omega (arith, length-sink order bytes count pending sink is) in
     sym (none_pending MsbFirst bytes count pending none) ∙ ap (λ (s : Sink). s.bits) is
 
--- the last byte, filled with zeros
-module _ (count pending : ℕ) (some : 0 < count) (short : count < 8) (fits : pending < 2 ^ count) where
-  filled : pending * 2 ^ (8 - count) < 2 ^ 8
-  filled =
-      let e : count + (8 - count) ≡ 8 = omega arith in
-      subst (λ n. pending * 2 ^ (8 - count) < 2 ^ n) e (shl_below pending count (8 - count) fits)
+-- and of one whose pending bits were pushed
+pub all_pushed : (order : FillOrder) (bytes pushed : List ℕ) (count pending left rest : ℕ) (sink : Sink) → sink_of order bytes count pending ≡ sink
+    → bits MsbFirst pushed ++ code_bits left rest ≡ bits MsbFirst bytes ++ code_bits count pending
+    → length sink.bits % 8 ≡ 0 → left < 8 → bits MsbFirst pushed ≡ sink.bits
+all_pushed order bytes pushed count pending left rest sink is same whole short =
+    all_whole order pushed left rest sink (ap (λ b. record { order = order; bits = b }) same ∙ is) whole short
 
-  pub padded-lt : pending * 2 ^ (8 - count) % 4294967296 < 256
-  padded-lt = rw (shl_whole pending count (8 - count) 32 fits (omega arith)) filled
+-- bits that are put behind the pending ones of a sink
+pub put_behind : (order : FillOrder) (bytes : List ℕ) (count pending len number : ℕ) (old : Sink) → pending < 2 ^ count → number < 2 ^ len → count + len ≤ 64
+    → sink_of order bytes count pending ≡ old
+    → sink_of order bytes (count + len) (bit_or (pending * 2 ^ len % 2 ^ 64) number) ≡ record { order = old.order; bits = old.bits ++ code_bits len number }
+put_behind order bytes count pending len number old fits number_fits short old_is =
+    ap (λ b. record { order = order; bits = bits MsbFirst bytes ++ b }) (joined_bits count pending len number fits number_fits short)
+    ∙ ap (λ b. record { order = order; bits = b }) (sym (append_assoc (bits MsbFirst bytes) (code_bits count pending) (code_bits len number)))
+    ∙ ap (λ (s : Sink). record { order = s.order; bits = s.bits ++ code_bits len number }) old_is
 
-  pub padded_bits : code_bits 8 (pending * 2 ^ (8 - count) % 4294967296) ≡ code_bits count pending ++ replicate (8 - count) false
-  padded_bits =
-      let e : count + (8 - count) ≡ 8 = omega arith in
-      ap (code_bits 8) (shl_whole pending count (8 - count) 32 fits (omega arith) ∙ sym (add-zero (pending * 2 ^ (8 - count))))
-      ∙ sym (ap (λ n. code_bits n (pending * 2 ^ (8 - count) + 0)) e)
-      ∙ code_bits-add count (8 - count) pending 0 (pow_pos (8 - count))
-      ∙ ap (λ b. code_bits count pending ++ b) (code_bits-zeros (8 - count))
+-- the first 32 of the pending bits are stored
+pub word_stored : (order : FillOrder) (bytes pushed : List ℕ) (count pending : ℕ) (sink : Sink) → 32 ≤ count → count ≤ 64 → pending < 2 ^ count
+    → sink_of order bytes count pending ≡ sink → bits MsbFirst pushed ≡ bits MsbFirst bytes ++ code_bits 32 (pending / 2 ^ (count - 32))
+    → sink_of order pushed (count - 32) (bit_and pending (1 * 2 ^ (count - 32) % 2 ^ 64 - 1)) ≡ sink
+word_stored order bytes pushed count pending sink whole short fits is pushed_is =
+    let left = code_bits (count - 32) (bit_and pending (1 * 2 ^ (count - 32) % 2 ^ 64 - 1)) in
+    ap (λ b. record { order = order; bits = b })
+    (ap (λ b. b ++ left) pushed_is ∙ append_assoc (bits MsbFirst bytes) (code_bits 32 (pending / 2 ^ (count - 32))) left
+    ∙ ap (λ b. bits MsbFirst bytes ++ b) (sym (split_bits 32 count pending (omega arith) whole short fits)))
+    ∙ is
 
-pub pads : (order : FillOrder) (bytes pushed : List ℕ) (count pending byte : ℕ) (old : Sink) → 0 < count → count < 8 → pending < 2 ^ count
-    → sink_of order bytes count pending ≡ old → pushed ≡ bytes ++ byte ∷ []
-    → byte_bits MsbFirst byte ≡ code_bits 8 (pending * 2 ^ (8 - count) % 4294967296) → IsPadded old (sink_of order pushed 0 0)
-unfolding code_bits
-pads order bytes pushed count pending byte old some short fits old_is pushed_is byte_is =
-    let zeros = replicate (8 - count) false in
-    let eight : code_bits count pending ++ zeros ≡ code_bits 8 (pending * 2 ^ (8 - count) % 4294967296) ++ code_bits 0 0 =
-    sym (append-nil (code_bits 8 (pending * 2 ^ (8 - count) % 4294967296)) ∙ padded_bits count pending some short fits) in
-    let bits_are : bits MsbFirst pushed ++ code_bits 0 0 ≡ bits MsbFirst bytes ++ code_bits count pending ++ zeros =
-    pushed_bits MsbFirst bytes pushed byte _ _ (code_bits 0 0) pushed_is byte_is eight
-    ∙ sym (append_assoc (bits MsbFirst bytes) (code_bits count pending) zeros) in
+-- pending bits with zeros behind them, up to a whole byte
+padded_bits : (count pending zeros : ℕ) → pending < 2 ^ count → count + zeros ≤ 64
+    → code_bits (count + zeros) (pending * 2 ^ zeros % 2 ^ 64) ≡ code_bits count pending ++ replicate zeros false
+padded_bits count pending zeros fits short =
+    ap (code_bits (count + zeros)) (shl_whole pending count zeros 64 fits short ∙ sym (add-zero (pending * 2 ^ zeros)))
+    ∙ code_bits-add count zeros pending 0 (pow_pos zeros)
+    ∙ ap (λ b. code_bits count pending ++ b) (code_bits-zeros zeros)
+
+pub padded-lt : (count pending zeros : ℕ) → pending < 2 ^ count → count + zeros ≤ 64 → pending * 2 ^ zeros % 2 ^ 64 < 2 ^ (count + zeros)
+padded-lt count pending zeros fits short = rw (shl_whole pending count zeros 64 fits short) (shl_below pending count zeros fits)
+
+pub pads : (order : FillOrder) (bytes : List ℕ) (count pending zeros : ℕ) (old : Sink) → count ≤ 40 → pending < 2 ^ count
+    → zeros ≡ (40 - count) % 8 → sink_of order bytes count pending ≡ old
+    → IsPadded old (sink_of order bytes (count + zeros) (pending * 2 ^ zeros % 2 ^ 64))
+pads order bytes count pending zeros old short fits zeros_are old_is =
+    let bits_are : bits MsbFirst bytes ++ code_bits (count + zeros) (pending * 2 ^ zeros % 2 ^ 64)
+    ≡ (bits MsbFirst bytes ++ code_bits count pending) ++ replicate zeros false =
+    ap (λ b. bits MsbFirst bytes ++ b) (padded_bits count pending zeros fits (omega arith))
+    ∙ sym (append_assoc (bits MsbFirst bytes) (code_bits count pending) (replicate zeros false)) in
     record {
-      zeros = 8 - count;
+      zeros = zeros;
       few = omega arith;
       appended =
           ap (λ b. record { order = order; bits = b }) bits_are
-          ∙ ap (λ (s : Sink). record { order = s.order; bits = s.bits ++ zeros }) old_is;
-      whole = omega (arith, length-sink order pushed 0 0 _ refl);
+          ∙ ap (λ (s : Sink). record { order = s.order; bits = s.bits ++ replicate zeros false }) old_is;
+      whole = omega (arith, length-sink order bytes (count + zeros) (pending * 2 ^ zeros % 2 ^ 64) _ refl);
     }
-
-pub pads_none : (order : FillOrder) (bytes : List ℕ) (count pending : ℕ) (old : Sink) → count ≡ 0 → sink_of order bytes count pending ≡ old → IsPadded old old
-pads_none order bytes count pending old none old_is = record {
-  zeros = 0;
-  few = omega arith;
-  appended = ap (λ b. record { order = old.order; bits = b }) (sym (append-nil old.bits));
-  whole = omega (arith, length-sink order bytes count pending old old_is);
-}

@@ -1,7 +1,10 @@
 -- Bits that stand next in a source.
-use Rattle.std.proofs.Common.{◌≡◌, ℕ, suc, ◌+◌, ◌^◌, ◌<◌, ◌≤◌, List, ◌∷◌, ◌++◌, length, take, drop, replicate, get_or, Bool, true, false, ◌↔◌, IsTrue, add-one, refl, ap, sym, ◌∙◌, arith, append_assoc, length-append, drop-cons}
+use Rattle.std.proofs.Common.{◌≡◌, ℕ, suc, ◌+◌, ◌-◌, ◌*◌, ◌/◌, ◌%◌, ◌^◌, ◌<◌, ◌≤◌, subst, List, ◌∷◌, ◌++◌, length, take, drop, replicate, get_or, Bool, true, false, ◌↔◌, IsTrue, add-one, refl, ap, sym, ◌∙◌, arith, append_assoc, length-append, drop-cons}
+use Rattle.std.specs.Prelude.{bit_and}
+use Rattle.std.proofs.lemmas.Nat.{one_shl, and_mask, shr_below, shr_split, mod_below, pow_pos}
+use Rattle.fax_bits.proofs.CodeBitsLemmas.{code_bits-add}
 use Rattle.std.proofs.lemmas.List.{append_cancel_left, take-append-le, take-append-drop, length-take-le}
-use Rattle.std.proofs.Math.Seq.{take-append_seam, take-length, take-suc}
+use Rattle.std.proofs.Math.Seq.{take-append_seam, take-length, take-suc, take-add}
 use Rattle.std.proofs.lemmas.List.Concat.{flat_map-append}
 use Rattle.fax_bits.specs.declared.FillOrder.TheVariants.{MsbFirst}
 use Rattle.fax_bits.specs.Bits.{bits, byte_bits, code_bits, bits_number}
@@ -51,6 +54,38 @@ pub taken_iff : (front b : List Bool) (result : Bool) (rest : List Bool) → IsT
 taken_iff front b true rest taken = (λ is. (rest, taken), λ begins. refl)
 taken_iff front b false rest taken = (λ is. absurd (cc is), λ begins. absurd (taken.1 begins))
 
+-- whether bits begin with two parts, the first of which stands next
+pub both_taken : (b middle front back : List Bool) (result : Bool) (rest : List Bool) → b ≡ front ++ middle → IsTaken back middle result rest
+    → IsTrue result ↔ BeginsWith b (front ++ back)
+both_taken b middle front back result rest is taken =
+    let here = taken_iff back middle result rest taken in
+    let whole = begins_behind b middle front back is in
+    (λ yes. whole.0 (here.0 yes), λ begins. here.1 (whole.1 begins))
+
+-- and where it does not
+pub first_other : (b front back : List Bool) → (BeginsWith b front → ⊥) → BeginsWith b (front ++ back) → ⊥
+first_other b front back other begins = other (back ++ begins.0, begins.1 ∙ append_assoc front back begins.0)
+
+-- a number in two parts
+module _ (len low number : ℕ) (within : low ≤ len) (short : len ≤ 48) (fits : number < 2 ^ len) where
+  parts_are : len - low + low ≡ len
+  parts_are = omega arith
+
+  pub high_part-lt : number / 2 ^ low < 2 ^ (len - low)
+  high_part-lt = shr_below number (len - low) low (subst (λ n. number < 2 ^ n) (sym parts_are) fits)
+
+  pub low_part : bit_and number (1 * 2 ^ low % 2 ^ 64 - 1) ≡ number % 2 ^ low
+  low_part = ap (λ n. bit_and number (n - 1)) (one_shl low 64 (omega arith)) ∙ and_mask number low
+
+  pub low_part-lt : bit_and number (1 * 2 ^ low % 2 ^ 64 - 1) < 2 ^ low
+  low_part-lt = rw low_part (mod_below number (2 ^ low) (pow_pos low))
+
+  pub two_parts : code_bits len number ≡ code_bits (len - low) (number / 2 ^ low) ++ code_bits low (bit_and number (1 * 2 ^ low % 2 ^ 64 - 1))
+  two_parts =
+      sym (ap (λ n. code_bits n number) parts_are) ∙ ap (code_bits (len - low + low)) (sym (shr_split number low))
+      ∙ code_bits-add (len - low) low (number / 2 ^ low) (number % 2 ^ low) (mod_below number (2 ^ low) (pow_pos low))
+      ∙ ap (λ n. code_bits (len - low) (number / 2 ^ low) ++ code_bits low n) (sym low_part)
+
 -- the bits of bytes that stand one behind another
 bits-append : (bytes more : List ℕ) → bits MsbFirst (bytes ++ more) ≡ bits MsbFirst bytes ++ bits MsbFirst more
 unfolding bits
@@ -87,10 +122,18 @@ module _ (bytes : List ℕ) (i : ℕ) (source ahead : List Bool) (so_far : sourc
       let more = (begins_behind source ahead front (here ++ (behind ++ pending)) so_far).1 (begins.0, begins.1 ∙ ap (λ b. b ++ begins.0) all) in
       other (behind ++ pending ++ more.0, more.1 ∙ append_assoc here (behind ++ pending) more.0)
 
-  pub last_bits : (pending : List Bool) (result : Bool) (rest : List Bool) → i ≡ length bytes → IsTaken pending ahead result rest
+  pub last_bits : (pending : List Bool) (result : Bool) → i ≡ length bytes → IsTrue result ↔ BeginsWith ahead pending
       → IsTrue result ↔ BeginsWith source (bits MsbFirst bytes ++ pending)
-  last_bits pending result rest all taken =
+  last_bits pending result all here =
       let is : source ≡ bits MsbFirst bytes ++ ahead = so_far ∙ ap (λ n. bits MsbFirst (take n bytes) ++ ahead) all ∙ ap (λ xs. bits MsbFirst xs ++ ahead) (take-length bytes) in
-      let here = taken_iff pending ahead result rest taken in
       let whole = begins_behind source ahead (bits MsbFirst bytes) pending is in
       (λ yes. whole.0 (here.0 yes), λ begins. here.1 (whole.1 begins))
+
+-- four bytes more
+pub next_word : (bytes : List ℕ) (i : ℕ) (source ahead rest : List Bool) (word : ℕ) → source ≡ bits MsbFirst (take i bytes) ++ ahead
+    → ahead ≡ code_bits 32 word ++ rest → code_bits 32 word ≡ bits MsbFirst (take 4 (drop i bytes))
+    → source ≡ bits MsbFirst (take (i + 4) bytes) ++ rest
+next_word bytes i source ahead rest word so_far taken word_is =
+    so_far ∙ ap (λ b. bits MsbFirst (take i bytes) ++ b) (taken ∙ ap (λ b. b ++ rest) word_is)
+    ∙ sym (append_assoc (bits MsbFirst (take i bytes)) (bits MsbFirst (take 4 (drop i bytes))) rest)
+    ∙ ap (λ b. b ++ rest) (sym (ap (bits MsbFirst) (take-add i 4 bytes) ∙ bits-append (take i bytes) (take 4 (drop i bytes))))

@@ -1,7 +1,8 @@
 //! The bits ahead of a source, by value: what a row that has no fault is read from quickly. Every
 //! function gives up, with `None`, where fewer bits are loaded than it may need, or at any doubt: then
 //! the row is read again from its source.
-ghost use Rattle.std.specs.Prelude.{◌≡◌, ◌+◌, ◌*◌, ◌<◌, ◌≤◌, length, IfSome};
+ghost use Rattle.std.specs.Prelude.{◌≡◌, ◌+◌, ◌*◌, ◌<◌, ◌≤◌, ◌++◌, length, IfSome};
+ghost use Rattle.fax_bits.specs.Bits.{code_bits};
 ghost use Rattle.fax_bits.specs.Codes.{Takes};
 ghost use Rattle.fax_bits.specs.Runs.{IsRun};
 ghost use Rattle.fax_bits.specs.Tables.{modes, run_table};
@@ -81,6 +82,24 @@ impl<'a> Ahead<'a> {
     {
         let place = self.window.at as u64 * 8 - u64::from(self.window.count);
         BitSource::at(self.bytes, self.order, place)
+    }
+
+    /// Goes behind the lowest `len` bits of `bits`, 1 to 32 of them, the highest first, where they
+    /// stand next.
+    #[inline(always)]
+    pub(crate) fn behind(self, bits: u32, len: u32) -> Option<Ahead<'a>>
+        requires some { 0 < len }
+        requires short { len ≤ 32 }
+        ensures { IfSome result (λ behind. self.entry.left ≡ code_bits len bits ++ behind.left) }
+    {
+        let window = loaded(self.bytes, self.order, self.window)?;
+        if window.number(len) != bits {
+            return None;
+        }
+        Some(Ahead {
+            window: window.behind(len),
+            ..self
+        })
     }
 
     /// Reads a mode (T.4, table 4).

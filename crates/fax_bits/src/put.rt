@@ -1,18 +1,50 @@
 //! The codes of runs and modes, put into a sink (ITU-T T.4, sections 4.1.1 and 4.2.1.3.2).
 ghost use Rattle.std.specs.Prelude.{◌≡◌, ◌*◌, ◌<◌, ◌≤◌, ◌^◌, OnOk, OnErr};
+ghost use Rattle.fax_bits.specs.declared.modes.ModeCode.TheVariants.{Vertical};
 ghost use Rattle.fax_bits.specs.declared.runs.RunCode.TheVariants.{Terminating, MakeUp};
 ghost use Rattle.fax_bits.specs.Codes.{bits_at};
 ghost use Rattle.fax_bits.specs.Runs.{run_codes, run_code_bits, run_bits, mode_bits, IsWritten};
 ghost use Rattle.fax_bits.specs.code.Sink.{Appends, AppendsCodes};
-ghost use Rattle.fax_bits.specs.Tables.{run_meaning, modes};
+ghost use Rattle.fax_bits.specs.Tables.{run_meaning};
 
 use crate::codes::CodeTable;
 use crate::{BitSink, BlackRuns, Colour, Memory, ModeCode, Modes, WhiteRuns};
 
+/// The codes of vertical modes, from a1 three pels left of b1 to three pels right of it, and their
+/// lengths in bits (T.4, table 4).
+const VERTICAL_CODES: [u8; 7] = [0b0000010, 0b000010, 0b010, 0b1, 0b011, 0b000011, 0b0000011];
+
+const VERTICAL_LENS: [u8; 7] = [7, 6, 3, 1, 3, 6, 7];
+
 /// Puts a run of `n` pels, below 65,536, as codes of its colour: 2560 as often as it fits, at most
 /// one other make-up code, a terminating code (T.4, section 4.1.1). After an `Err` some of these
 /// codes may have been put, from the first on and each of them whole.
+#[inline(always)]
 pub fn put_run(sink: &mut BitSink, colour: Colour, n: u32) -> Result<(), Memory>
+    requires { n < 2 ^ 16 }
+    ensures ok { OnOk result (Appends sink.old (run_bits colour n) sink.new) }
+    ensures err { OnErr result (AppendsCodes sink.old colour (run_codes n) sink.new) }
+{
+    if n < 64 {
+        return put_short_run(sink, colour, n);
+    }
+    put_long_run(sink, colour, n)
+}
+
+/// Puts a run of fewer than 64 pels, which is one terminating code. After an `Err` the sink is as it
+/// was.
+#[inline(always)]
+fn put_short_run(sink: &mut BitSink, colour: Colour, n: u32) -> Result<(), Memory>
+    requires { n < 64 }
+    ensures ok { OnOk result (Appends sink.old (run_bits colour n) sink.new) }
+    ensures err { OnErr result (AppendsCodes sink.old colour (run_codes n) sink.new) }
+{
+    put_terminating(sink, colour, n)
+}
+
+/// What `put_run` does for any run.
+#[inline(never)]
+fn put_long_run(sink: &mut BitSink, colour: Colour, n: u32) -> Result<(), Memory>
     requires { n < 2 ^ 16 }
     ensures ok { OnOk result (Appends sink.old (run_bits colour n) sink.new) }
     ensures err { OnErr result (AppendsCodes sink.old colour (run_codes n) sink.new) }
@@ -41,6 +73,7 @@ fn put_make_up(sink: &mut BitSink, colour: Colour, steps: u32) -> Result<(), Mem
 
 /// Puts the terminating code of `pels` pels, 0 to 63 (T.4, table 2). After an `Err` the sink is as
 /// it was.
+#[inline(always)]
 fn put_terminating(sink: &mut BitSink, colour: Colour, pels: u32) -> Result<(), Memory>
     requires { pels < 64 }
     ensures ok { OnOk result (Appends sink.old (run_code_bits colour (Terminating pels)) sink.new) }
@@ -50,6 +83,7 @@ fn put_terminating(sink: &mut BitSink, colour: Colour, pels: u32) -> Result<(), 
 }
 
 /// Puts the code at a place of the run table of a colour. After an `Err` the sink is as it was.
+#[inline(always)]
 fn put_run_code(sink: &mut BitSink, colour: Colour, place: usize) -> Result<(), Memory>
     requires { place < 105 }
     ensures ok { OnOk result
@@ -64,30 +98,38 @@ fn put_run_code(sink: &mut BitSink, colour: Colour, place: usize) -> Result<(), 
 
 /// Puts a mode: pass, horizontal, or vertical with a1 at most 3 pels from b1 (T.4, section
 /// 4.2.1.3.2 and table 4). After an `Err` the sink is as it was.
+#[inline(always)]
 pub fn put_mode(sink: &mut BitSink, mode: ModeCode) -> Result<(), Memory>
     requires { IsWritten mode }
     ensures ok { OnOk result (Appends sink.old (mode_bits mode) sink.new) }
     ensures err { OnErr result (sink.new ≡ sink.old) }
 {
-    put_code::<Modes>(sink, mode_place(mode))
-}
-
-/// The place of a mode in the mode table.
-fn mode_place(mode: ModeCode) -> usize
-    requires { IsWritten mode }
-    ensures within { result < 10 }
-    ensures found { bits_at modes result ≡ mode_bits mode }
-{
     match mode {
-        ModeCode::Pass => 0,
-        ModeCode::Horizontal => 1,
-        ModeCode::Vertical(right) if right >= 0 => 2 + usize::from(right.unsigned_abs()),
-        ModeCode::Vertical(left) => 5 + usize::from(left.unsigned_abs()),
-        ModeCode::Extension => 9,
+        ModeCode::Pass => put_code::<Modes>(sink, 0),
+        ModeCode::Horizontal => put_code::<Modes>(sink, 1),
+        ModeCode::Vertical(d) => put_vertical(sink, d),
+        // An extension is not written.
+        ModeCode::Extension => Ok(()),
     }
 }
 
+/// Puts vertical mode with a1 `d` pels right of b1, -3 to 3 (T.4, section 4.2.1.3.2 and table 4). After
+/// an `Err` the sink is as it was.
+#[inline(always)]
+fn put_vertical(sink: &mut BitSink, d: i8) -> Result<(), Memory>
+    requires { IsWritten (Vertical d) }
+    ensures ok { OnOk result (Appends sink.old (mode_bits (Vertical d)) sink.new) }
+    ensures err { OnErr result (sink.new ≡ sink.old) }
+{
+    let place = (d + 3) as usize;
+    sink.put(
+        u32::from(VERTICAL_CODES[place]),
+        u32::from(VERTICAL_LENS[place]),
+    )
+}
+
 /// Puts the code at a place of the table. After an `Err` the sink is as it was.
+#[inline(always)]
 fn put_code<T: CodeTable>(sink: &mut BitSink, place: usize) -> Result<(), Memory>
     requires { place < T.COUNT }
     ensures ok { OnOk result (Appends sink.old (bits_at T.table place) sink.new) }

@@ -1,27 +1,100 @@
 //! Bits that are put one behind another into bytes.
-ghost use Rattle.std.specs.Prelude.{◌≡◌, ◌<◌, ◌≤◌, ◌%◌, ◌^◌, ◌↔◌, [], length, OnOk, OnErr};
-ghost use Rattle.std.specs.Prelude.{IsTrue};
+ghost use Rattle.std.specs.Prelude.{◌≡◌, ◌+◌, ◌*◌, ◌<◌, ◌≤◌, ◌%◌, ◌^◌, ◌++◌, ◌↔◌, [], length, take};
+ghost use Rattle.std.specs.Prelude.{OnOk, OnErr, IfSome, IsTrue, vec_len, vec_capacity};
 ghost use Rattle.fax_bits.specs.Bits.{bits, code_bits};
 ghost use Rattle.fax_bits.specs.code.Sink.{Appends, IsPadded};
 ghost use Rattle.fax_bits.specs.code.Source.{BeginsWith};
+ghost use Rattle.fax_bits.specs.declared.FillOrder.TheVariants.{MsbFirst};
 
+use crate::ahead::Ahead;
 use crate::lanes::reverse_bits;
+use crate::window::word_at;
 use crate::{BitSource, FillOrder, Memory};
 use std::alloc::Global;
 use std::marker::Model;
+
+/// The most bits that are pending between two calls.
+const MOST_PENDING: u32 = 40;
+
+/// Pushes the whole bytes of pending bits behind bytes that have room for them, and answers the bits
+/// that are pending then, fewer than eight, and how many they are.
+fn push_whole(bytes: &mut Vec<u8>, pending: u64, count: u32) -> (u64, u32)
+    requires few { count ≤ 64 }
+    requires fits { pending < 2 ^ count }
+    requires room { 8 * vec_len bytes.old + count ≤ 8 * vec_capacity bytes.old }
+    ensures pushed { bits MsbFirst bytes.new.items ++ code_bits result.1 result.0
+        ≡ bits MsbFirst bytes.old.items ++ code_bits count pending }
+    ensures fewer { result.1 < 8 }
+    ensures fits { result.0 < 2 ^ result.1 }
+    ensures len { 8 * vec_len bytes.new + result.1 ≡ 8 * vec_len bytes.old + count }
+    ensures room { vec_capacity bytes.new ≡ vec_capacity bytes.old }
+{
+    let mut rest = pending;
+    let mut left = count;
+    while left >= 8 {
+        left -= 8;
+        let byte = (rest >> left) as u8;
+        bytes.push_reserved(byte);
+        rest &= (1 << left) - 1;
+    }
+    (rest, left)
+}
+
+/// Pushes the four bytes of a word, the highest first, behind bytes that have room for them.
+#[inline(always)]
+fn push_word(bytes: &mut Vec<u8>, word: u32)
+    requires room { vec_len bytes.old + 4 ≤ vec_capacity bytes.old }
+    ensures pushed { bits MsbFirst bytes.new.items ≡ bits MsbFirst bytes.old.items ++ code_bits 32 word }
+    ensures len { vec_len bytes.new ≡ vec_len bytes.old + 4 }
+    ensures room { vec_capacity bytes.new ≡ vec_capacity bytes.old }
+{
+    let [a, b, c, d] = word.to_be_bytes();
+    bytes.push_reserved(a);
+    bytes.push_reserved(b);
+    bytes.push_reserved(c);
+    bytes.push_reserved(d);
+}
+
+/// Goes behind the bits of as many bytes as make up words of four, where these stand next, and answers
+/// how many bytes they are.
+fn behind_words<'a>(mut ahead: Ahead<'a>, bytes: &[u8]) -> Option<(Ahead<'a>, usize)>
+    ensures within { IfSome result (λ read. read.1 ≤ length bytes.now) }
+    ensures words { IfSome result
+        (λ read. ahead.entry.left ≡ bits MsbFirst (take read.1 bytes.now) ++ read.0.left) }
+{
+    let mut i = 0;
+    while bytes.len() - i >= 4 {
+        ahead = ahead.behind(word_at(bytes, i, FillOrder::MsbFirst), 32)?;
+        i += 4;
+    }
+    Some((ahead, i))
+}
+
+/// Goes behind the bits of all bytes, where these stand next.
+fn behind_bytes<'a>(ahead: Ahead<'a>, bytes: &[u8]) -> Option<Ahead<'a>>
+    ensures { IfSome result (λ behind. ahead.entry.left ≡ bits MsbFirst bytes.now ++ behind.left) }
+{
+    let (mut behind, words) = behind_words(ahead, bytes)?;
+    for i in words..bytes.len() {
+        behind = behind.behind(u32::from(bytes[i]), 8)?;
+    }
+    Some(behind)
+}
 
 /// Bits, and the bytes that hold them. Contracts see the order of the bits in a byte and the list
 /// of the bits.
 #[derive(Drop)]
 pub struct BitSink {
     order: FillOrder,
-    /// The whole bytes, the highest bit of each first. While bits are pending there is room for one
+    /// Whole bytes, the highest bit of each first. Where bits may be pending there is room for five
     /// more.
     bytes: Vec<u8>,
-    /// The bits behind the whole bytes, as a number: the highest was put first.
-    pending: u32,
-    /// How many bits are pending, 0 to 7.
+    /// The bits behind the bytes, as a number: the highest was put first.
+    pending: u64,
+    /// How many bits are pending.
     count: u32,
+    /// How many bits may be pending: none before the first of them are put, and then 40.
+    most: u32,
 }
 
 impl Model for BitSink {
@@ -32,7 +105,7 @@ impl Model for BitSink {
 
     ghost view = { λ s. sink_of s.order s.bytes.items s.count s.pending };
 
-    ghost invariant = { λ s. IsPending s.count s.pending (vec_len s.bytes) (vec_capacity s.bytes) };
+    ghost invariant = { λ s. IsPending s.count s.pending s.most (vec_len s.bytes) (vec_capacity s.bytes) };
 }
 
 impl BitSink {
@@ -45,6 +118,7 @@ impl BitSink {
             bytes: Vec::new(alloc),
             pending: 0,
             count: 0,
+            most: 0,
         }
     }
 
@@ -68,35 +142,76 @@ impl BitSink {
     pub fn begins(&self, source: &BitSource) -> bool
         ensures { IsTrue result ↔ BeginsWith source.now.left self.now.bits }
     {
+        match source.ahead() {
+            Some(ahead) => self.begins_quickly(ahead) || self.begins_exactly(source),
+            None => self.begins_exactly(source),
+        }
+    }
+
+    /// Whether the bits ahead are seen to begin with these, word by word. At any doubt they are not.
+    fn begins_quickly(&self, ahead: Ahead) -> bool
+        ensures { IsTrue result → BeginsWith ahead.entry.left self.now.bits }
+    {
+        match behind_bytes(ahead, &self.bytes) {
+            Some(behind) => behind.source().begins(self.pending, self.count),
+            None => false,
+        }
+    }
+
+    /// What `begins` says, byte by byte.
+    #[inline(never)]
+    fn begins_exactly(&self, source: &BitSource) -> bool
+        ensures { IsTrue result ↔ BeginsWith source.now.left self.now.bits }
+    {
         let mut ahead = source.again();
         for byte in &self.bytes {
             if !ahead.take(u32::from(*byte), 8) {
                 return false;
             }
         }
-        ahead.take(self.pending, self.count)
+        ahead.begins(self.pending, self.count)
     }
 
     /// Puts the lowest `len` bits of `bits`, 0 to 24 of them, the highest first. After an `Err` the
     /// sink is as it was.
+    #[inline(always)]
     pub fn put(&mut self, bits: u32, len: u32) -> Result<(), Memory>
         requires short { len ≤ 24 }
         requires fits { bits < 2 ^ len }
         ensures ok { OnOk result (Appends self.old (code_bits len bits) self.new) }
         ensures err { OnErr result (self.new ≡ self.old) }
     {
-        // At most 31 bits are pending now, so three bytes become whole, and a fourth has room.
-        self.bytes.reserve(4).map_err(|_| Memory)?;
-        let mut pending = (self.pending << len) | bits;
-        let mut count = self.count + len;
-        while count >= 8 {
-            count -= 8;
-            let byte = (pending >> count) as u8;
-            self.bytes.push_reserved(byte);
-            pending &= (1 << count) - 1;
+        let count = self.count + len;
+        if count > self.most {
+            return self.store(bits, len);
         }
-        self.pending = pending;
+        self.pending = (self.pending << len) | u64::from(bits);
         self.count = count;
+        Ok(())
+    }
+
+    /// What `put` does where the pending bits have to become bytes, or have no room yet.
+    #[inline(never)]
+    fn store(&mut self, bits: u32, len: u32) -> Result<(), Memory>
+        requires short { len ≤ 24 }
+        requires fits { bits < 2 ^ len }
+        ensures ok { OnOk result (Appends self.old (code_bits len bits) self.new) }
+        ensures err { OnErr result (self.new ≡ self.old) }
+    {
+        // Four bytes are stored, and five more have room behind them.
+        self.bytes.reserve(9).map_err(|_| Memory)?;
+        let pending = (self.pending << len) | u64::from(bits);
+        let count = self.count + len;
+        self.most = MOST_PENDING;
+        if count < 32 {
+            self.pending = pending;
+            self.count = count;
+            return Ok(());
+        }
+        let left = count - 32;
+        push_word(&mut self.bytes, (pending >> left) as u32);
+        self.pending = pending & ((1 << left) - 1);
+        self.count = left;
         Ok(())
     }
 
@@ -104,12 +219,9 @@ impl BitSink {
     pub fn pad(&mut self)
         ensures { IsPadded self.old self.new }
     {
-        if self.count > 0 {
-            let byte = (self.pending << (8 - self.count)) as u8;
-            self.bytes.push_reserved(byte);
-            self.pending = 0;
-            self.count = 0;
-        }
+        let zeros = (MOST_PENDING - self.count) % 8;
+        self.pending <<= zeros;
+        self.count += zeros;
     }
 
     /// The bytes of the bits, which make up whole bytes.
@@ -117,8 +229,9 @@ impl BitSink {
         requires whole { length self.bits % 8 ≡ 0 }
         ensures { bits self.order result.items ≡ self.bits }
     {
-        // No bits are pending.
         let mut bytes = self.bytes;
+        // No bits are pending behind these bytes.
+        push_whole(&mut bytes, self.pending, self.count);
         match self.order {
             FillOrder::MsbFirst => {}
             FillOrder::LsbFirst => reverse_bits(&mut bytes),

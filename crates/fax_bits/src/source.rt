@@ -1,10 +1,10 @@
 //! Bits of bytes, read from a place on.
 ghost use Rattle.std.specs.Prelude.{◌≡◌, ◌+◌, ◌≤◌, ◌<◌, ◌++◌, length, take, drop, replicate};
-ghost use Rattle.std.specs.Prelude.{slice_index_or, false, IfSome, MatchOption, IsTrue};
+ghost use Rattle.std.specs.Prelude.{slice_index_or, false, IfSome, MatchOption, IsTrue, ◌↔◌};
 ghost use Rattle.std.specs.Prelude.{◌^◌};
 ghost use Rattle.fax_bits.specs.Bits.{bits, bits_number, bit_in_byte, IsAllZeros, HasZerosAhead};
 ghost use Rattle.fax_bits.specs.Bits.{code_bits};
-ghost use Rattle.fax_bits.specs.code.Source.{IsPlaced, IsZeroByteAt, IsTaken};
+ghost use Rattle.fax_bits.specs.code.Source.{IsPlaced, IsZeroByteAt, IsTaken, BeginsWith};
 
 use crate::FillOrder;
 use crate::ahead::Ahead;
@@ -200,6 +200,20 @@ impl<'a> BitSource<'a> {
         }
         self.skip(u64::from(len));
         true
+    }
+
+    /// Whether the lowest `len` bits of `bits`, 0 to 48 of them, the highest first, stand next.
+    pub(crate) fn begins(&self, bits: u64, len: u32) -> bool
+        requires short { len ≤ 48 }
+        requires fits { bits < 2 ^ len }
+        ensures { IsTrue result ↔ BeginsWith self.now.left (code_bits len bits) }
+    {
+        let low = len / 2;
+        let mut ahead = self.again();
+        if !ahead.take((bits >> low) as u32, len - low) {
+            return false;
+        }
+        ahead.take((bits & ((1 << low) - 1)) as u32, low)
     }
 
     /// Goes on by `n` bits.

@@ -93,7 +93,7 @@ impl Window {
     #[inline(always)]
     pub fn number(self, n: u32) -> u32
         requires some { 0 < n }
-        requires few { n ≤ 24 }
+        requires few { n ≤ 32 }
         requires loaded { n ≤ self.count }
         ensures number { (order : FillOrder) (bytes : List ℕ)
             → result ≡ bits_number (take n (bits_ahead order bytes self ++ replicate n false)) }
@@ -104,7 +104,7 @@ impl Window {
 
 /// The bits of four bytes as a number, the first bit highest.
 #[inline(always)]
-fn word_at(bytes: &[u8], at: usize, order: FillOrder) -> u32
+pub(crate) fn word_at(bytes: &[u8], at: usize, order: FillOrder) -> u32
     requires { at + 4 ≤ length bytes.now }
     ensures { code_bits 32 result ≡ bits order (take 4 (drop at bytes.now)) }
 {

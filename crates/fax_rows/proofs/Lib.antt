@@ -28,3 +28,4 @@ pub mod PlacedStepLemmas
 pub mod PlacedExchangeLemmas
 pub mod PaintLemmas
 pub mod WrittenPlaceLemmas
+pub mod WrittenStepLemmas

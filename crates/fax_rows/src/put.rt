@@ -5,14 +5,13 @@ ghost use Rattle.std.specs.Prelude.{None, OnOk, OnErr, IfOk};
 ghost use Rattle.fax_bits.specs.code.Sink.{Appends, AppendsPrefix};
 ghost use Rattle.fax_rows.specs.code.Ahead as Spec;
 ghost use Rattle.fax_rows.specs.Coded as Coded;
-ghost use Rattle.fax_rows.specs.Elements.{is_right_of};
-ghost use Rattle.fax_rows.specs.code.Turns.{alternate, IsFrom};
+ghost use Rattle.fax_rows.specs.code.Turns.{alternate};
 
 use crate::longest_runs::LongestRuns;
 use crate::pels::Row;
 use crate::rows::Rows;
 use crate::runs::other;
-use crate::turns::places_from;
+use crate::two_dimensional::{find_b1, find_turned_b1};
 use fax_bits::{BitSink, Colour, Memory, ModeCode, put_mode, put_run};
 
 /// Puts a row in one-dimensional coding: the longest runs of white and black pels in turn, white
@@ -35,6 +34,17 @@ pub fn put_1d(row: &Row, sink: &mut BitSink) -> Result<(), Memory>
     Ok(())
 }
 
+/// How far a row is written (T.4, section 4.2.1.3.1).
+#[derive(Clone, Copy)]
+struct Written {
+    /// The place of a0, where `None` is just before the first pel.
+    a0: Option<u32>,
+    /// The index of a1 among the row's places.
+    row: usize,
+    /// The index of b1 among those of the reference row.
+    reference: usize,
+}
+
 /// What stands ahead of a0 on the row that is written and on its reference row.
 #[derive(Clone, Copy)]
 struct Ahead {
@@ -48,11 +58,12 @@ struct Ahead {
     b2: u32,
     /// The index of a1 among the row's places.
     row: usize,
-    /// The index of the first place right of a0 among those of the reference row.
+    /// The index of b1 among those of the reference row.
     reference: usize,
 }
 
 /// The colour behind so many places, the first of which turns black to white.
+#[inline(always)]
 pub fn colour_behind(places: usize) -> Colour
     ensures { result ≡ alternate Colour.Black places }
 {
@@ -64,48 +75,114 @@ pub fn colour_behind(places: usize) -> Colour
 }
 
 impl Ahead {
-    /// Ahead of a0, with the indexes of the first places right of it.
+    /// What stands ahead inside a row.
     #[inline(always)]
-    fn of(rows: Rows, a0: Option<u32>, row: usize, reference: usize) -> Ahead
-        requires row { IsFrom rows.row.now rows.row_end a0 row }
-        requires reference { IsFrom rows.reference.now rows.reference_end a0 reference }
+    fn of(rows: Rows, at: Written) -> Ahead
+        requires places { Spec.IsWrittenTo rows at }
+        requires unfinished { unwrap_or at.a0 0 < rows.width }
         ensures places { Spec.IsAhead rows.entry result }
-        ensures start { result.a0 ≡ a0 }
+        ensures start { result.a0 ≡ at.a0 }
     {
-        // b1 is a change to the opposite colour of a0's.
-        let b1 = if row % 2 == reference % 2 {
-            reference
-        } else {
-            reference + 1
-        };
         Ahead {
-            a0,
-            colour: colour_behind(row),
-            a1: rows.row[row],
-            a2: rows.row[row + 1],
-            b1: rows.reference[b1],
-            b2: rows.reference[b1 + 1],
-            row,
+            a0: at.a0,
+            colour: colour_behind(at.row),
+            a1: rows.row[at.row],
+            a2: rows.row[at.row + 1],
+            b1: rows.reference[at.reference],
+            b2: rows.reference[at.reference + 1],
+            row: at.row,
+            reference: at.reference,
+        }
+    }
+
+    /// Behind pass mode: a0 is put under b2.
+    #[inline(always)]
+    fn behind_pass(self, rows: Rows) -> Written
+        requires places { Spec.IsAhead rows self }
+        requires unfinished { unwrap_or self.a0 0 < rows.width }
+        requires left { self.b2 < self.a1 }
+        ensures places { Spec.IsWrittenTo rows.entry result }
+        ensures start { result.a0 ≡ Some self.b2 }
+    {
+        Written {
+            a0: Some(self.b2),
+            row: self.row,
+            reference: self.reference + 2,
+        }
+    }
+
+    /// Behind a1 that is under b1: the next b1 is the reference row's next changing element.
+    #[inline(always)]
+    fn behind_b1(self, rows: Rows) -> Written
+        requires places { Spec.IsAhead rows self }
+        requires unfinished { unwrap_or self.a0 0 < rows.width }
+        requires same { self.a1 ≡ self.b1 }
+        ensures places { Spec.IsWrittenTo rows.entry result }
+        ensures start { result.a0 ≡ Some self.a1 }
+    {
+        Written {
+            a0: Some(self.a1),
+            row: self.row + 1,
+            reference: self.reference + 1,
+        }
+    }
+
+    /// Behind any a1.
+    #[inline(always)]
+    fn behind_a1(self, rows: Rows) -> Written
+        requires places { Spec.IsAhead rows self }
+        requires unfinished { unwrap_or self.a0 0 < rows.width }
+        ensures places { Spec.IsWrittenTo rows.entry result }
+        ensures start { result.a0 ≡ Some self.a1 }
+    {
+        let reference = if self.a1 < rows.width {
+            find_turned_b1(
+                rows.reference,
+                rows.reference_end,
+                rows.width,
+                self.reference,
+                self.a1,
+            )
+        } else {
+            self.reference
+        };
+        Written {
+            a0: Some(self.a1),
+            row: self.row + 1,
             reference,
         }
     }
 
-    /// Ahead of a place right of a0. Over a whole row, each of its places is passed once.
+    /// Behind horizontal mode: a0 is put on a2.
     #[inline(always)]
-    fn from_place(self, rows: Rows, place: u32) -> Ahead
+    fn behind_a2(self, rows: Rows) -> Written
         requires places { Spec.IsAhead rows self }
-        requires right { is_right_of self.a0 place ≡ true }
-        ensures places { Spec.IsAhead rows.entry result }
-        ensures start { result.a0 ≡ Some place }
+        requires unfinished { unwrap_or self.a0 0 < rows.width }
+        ensures places { Spec.IsWrittenTo rows.entry result }
+        ensures start { result.a0 ≡ Some self.a2 }
     {
-        let row = places_from(rows.row, rows.row_end, self.row, place);
-        let reference = places_from(rows.reference, rows.reference_end, self.reference, place);
-        Ahead::of(rows, Some(place), row, reference)
+        let reference = if self.a2 < rows.width {
+            find_b1(
+                rows.reference,
+                rows.reference_end,
+                rows.width,
+                self.reference,
+                self.a2,
+            )
+        } else {
+            self.reference
+        };
+        Written {
+            a0: Some(self.a2),
+            row: self.row + 2,
+            reference,
+        }
     }
 }
 
 /// The mode that T.4 chooses: pass where b2 is left of a1, else vertical where a1 and b1 differ by
 /// at most 3 pels, else horizontal (T.4, section 4.2.1.3.3).
+#[inline(always)]
 fn choose(a1: u32, b1: u32, b2: u32) -> ModeCode
     requires a1 { a1 < 2 ^ 16 }
     requires b1 { b1 < 2 ^ 16 }
@@ -122,39 +199,71 @@ fn choose(a1: u32, b1: u32, b2: u32) -> ModeCode
     }
 }
 
-/// Puts the two runs of horizontal mode, a0a1 and a1a2, and answers a2 (T.4, section 4.2.1.3.2).
-fn put_run_pair(ahead: Ahead, sink: &mut BitSink) -> Result<u32, Memory>
+/// Puts the two runs of horizontal mode, a0a1 and a1a2 (T.4, section 4.2.1.3.2).
+#[inline(always)]
+fn put_run_pair(ahead: Ahead, sink: &mut BitSink) -> Result<(), Memory>
     requires a0 { unwrap_or ahead.a0 0 ≤ ahead.a1 }
     requires a1 { ahead.a1 ≤ ahead.a2 }
     requires short { ahead.a2 < 2 ^ 16 }
     ensures ok { OnOk result (Appends sink.old (Spec.run_pair ahead) sink.new) }
-    ensures a2 { IfOk result (λ a2. a2 ≡ ahead.a2) }
     ensures err { OnErr result (AppendsPrefix sink.old (Spec.run_pair ahead) sink.new) }
 {
     put_run(sink, ahead.colour, ahead.a1 - ahead.a0.unwrap_or(0))?;
     put_run(sink, other(ahead.colour), ahead.a2 - ahead.a1)?;
-    Ok(ahead.a2)
+    Ok(())
 }
 
-/// Puts the step from a0, and answers where the next one begins.
-fn put_step(rows: Rows, ahead: Ahead, sink: &mut BitSink) -> Result<u32, Memory>
+/// Puts the step from a0 where a1 is not under b1, and answers how far the row is written then.
+#[inline(always)]
+fn put_far_step(rows: Rows, ahead: Ahead, sink: &mut BitSink) -> Result<Written, Memory>
     requires places { Spec.IsAhead rows ahead }
     requires unfinished { unwrap_or ahead.a0 0 < rows.width }
     ensures ok { OnOk result (Appends sink.old
         (Spec.bits_from (Spec.reference_of rows.entry) (Spec.written_of rows.entry) ahead.a0) sink.new) }
-    ensures next { IfOk result (λ place. place
-        ≡ Spec.place_from (Spec.reference_of rows.entry) (Spec.written_of rows.entry) ahead.a0) }
+    ensures next { IfOk result (λ next. next.a0
+        ≡ Some (Spec.place_from (Spec.reference_of rows.entry) (Spec.written_of rows.entry) ahead.a0)) }
+    ensures places { IfOk result (λ next. Spec.IsWrittenTo rows.entry next) }
     ensures err { OnErr result (AppendsPrefix sink.old
         (Spec.bits_from (Spec.reference_of rows.entry) (Spec.written_of rows.entry) ahead.a0) sink.new) }
 {
     let mode = choose(ahead.a1, ahead.b1, ahead.b2);
-    put_mode(sink, mode)?;
     match mode {
-        ModeCode::Pass => Ok(ahead.b2),
-        ModeCode::Horizontal => put_run_pair(ahead, sink),
+        ModeCode::Pass => {
+            put_mode(sink, ModeCode::Pass)?;
+            Ok(ahead.behind_pass(rows))
+        }
+        ModeCode::Horizontal => {
+            put_mode(sink, ModeCode::Horizontal)?;
+            put_run_pair(ahead, sink)?;
+            Ok(ahead.behind_a2(rows))
+        }
         // An extension is never chosen.
-        ModeCode::Vertical(_) | ModeCode::Extension => Ok(ahead.a1),
+        ModeCode::Vertical(_) | ModeCode::Extension => {
+            put_mode(sink, mode)?;
+            Ok(ahead.behind_a1(rows))
+        }
     }
+}
+
+/// Puts the next step, and answers how far the row is written then.
+#[inline(always)]
+fn put_step(rows: Rows, at: Written, sink: &mut BitSink) -> Result<Written, Memory>
+    requires places { Spec.IsWrittenTo rows at }
+    requires unfinished { unwrap_or at.a0 0 < rows.width }
+    ensures ok { OnOk result (Appends sink.old
+        (Spec.bits_from (Spec.reference_of rows.entry) (Spec.written_of rows.entry) at.a0) sink.new) }
+    ensures next { IfOk result (λ next. next.a0
+        ≡ Some (Spec.place_from (Spec.reference_of rows.entry) (Spec.written_of rows.entry) at.a0)) }
+    ensures places { IfOk result (λ next. Spec.IsWrittenTo rows.entry next) }
+    ensures err { OnErr result (AppendsPrefix sink.old
+        (Spec.bits_from (Spec.reference_of rows.entry) (Spec.written_of rows.entry) at.a0) sink.new) }
+{
+    let ahead = Ahead::of(rows, at);
+    if ahead.a1 == ahead.b1 {
+        put_mode(sink, ModeCode::Vertical(0))?;
+        return Ok(ahead.behind_b1(rows));
+    }
+    put_far_step(rows, ahead, sink)
 }
 
 /// Puts the steps of a row.
@@ -164,10 +273,13 @@ fn put_steps(rows: Rows, sink: &mut BitSink) -> Result<(), Memory>
     ensures err { OnErr result (AppendsPrefix sink.old (Coded.two_dimensional_bits
         (Spec.reference_of rows.entry) (Spec.written_of rows.entry)) sink.new) }
 {
-    let mut ahead = Ahead::of(rows, None, 1, 1);
-    while ahead.a0.unwrap_or(0) < rows.width {
-        let place = put_step(rows, ahead, sink)?;
-        ahead = ahead.from_place(rows, place);
+    let mut at = Written {
+        a0: None,
+        row: 1,
+        reference: 1,
+    };
+    while at.a0.unwrap_or(0) < rows.width {
+        at = put_step(rows, at, sink)?;
     }
     Ok(())
 }

@@ -73,7 +73,7 @@ struct PlacedReached {
 }
 
 /// The index of b1 as seen from the pel `place`, from an index on that is not behind it.
-fn find_b1(reference: &[u32], end: usize, width: u32, from: usize, place: u32) -> usize
+pub(crate) fn find_b1(reference: &[u32], end: usize, width: u32, from: usize, place: u32) -> usize
     requires reference { Turns.ArePlaces reference.now end width }
     requires inside { place < width }
     requires within { from ≤ end + 1 }
@@ -116,7 +116,13 @@ fn pass(
 
 /// The index of b1 as seen from the pel `place`, where the colour turned, from that of the b1
 /// before.
-fn find_turned_b1(reference: &[u32], end: usize, width: u32, b1: usize, place: u32) -> usize
+pub(crate) fn find_turned_b1(
+    reference: &[u32],
+    end: usize,
+    width: u32,
+    b1: usize,
+    place: u32,
+) -> usize
     requires reference { Turns.ArePlaces reference.now end width }
     requires inside { place < width }
     requires some { 0 < b1 }

@@ -1,5 +1,5 @@
 -- Bits that are appended one after another.
-use Rattle.std.specs.Prelude.{◌≡◌, ℕ, ◌<◌, ◌%◌, ◌^◌, Bool, false, List, ◌++◌, length, replicate, flat_map}
+use Rattle.std.specs.Prelude.{◌≡◌, ℕ, ◌+◌, ◌<◌, ◌≤◌, ◌%◌, ◌^◌, Bool, false, List, ◌++◌, length, replicate, flat_map}
 use Rattle.fax_bits.specs.declared.FillOrder.{FillOrder}
 use Rattle.fax_bits.specs.declared.FillOrder.TheVariants.{MsbFirst}
 use Rattle.fax_bits.specs.declared.Colour.{Colour}
@@ -41,8 +41,10 @@ pub record IsPadded (old new : Sink) : Type 0 where
 abbrev pub sink_of : FillOrder → List ℕ → ℕ → ℕ → Sink
 sink_of order bytes count pending = record { order = order; bits = bits MsbFirst bytes ++ code_bits count pending }
 
--- fewer than eight bits are pending, and while some are there is room for one more byte
-pub record IsPending (count pending bytes capacity : ℕ) : Type 0 where
-  pub short : count < 8
+-- no more bits are pending than may be, which are none, or forty where there is room for five bytes more
+pub record IsPending (count pending most bytes capacity : ℕ) : Type 0 where
+  pub within : count ≤ most
+  pub few : most ≤ 40
   pub fits : pending < 2 ^ count
-  pub room : 0 < count → bytes < capacity
+  pub forty : 0 < most → most ≡ 40
+  pub room : 0 < most → bytes + 5 ≤ capacity

@@ -1,24 +1,19 @@
-use Rattle.std.proofs.Common.{arith}
-use Rattle.fax_rows.proofs.WrittenPlaceLemmas.{known_bounds}
+use Rattle.std.proofs.Common.{◌<◌, ◌∙◌, ap}
+use Rattle.std.specs.Prelude.{Some, unwrap_or}
+use Rattle.fax_rows.specs.code.Ahead.{reference_of, written_of, place_from}
+use Rattle.fax_rows.proofs.WrittenStepLemmas.{under_bits, under_place}
 use Rattle.fax_rows.proofs.put.put_step.Goals as goal
 
-pub choose-mode-requires-clause-a1 : goal.choose-mode-requires-clause-a1
-choose-mode-requires-clause-a1 c =
-    let known = known_bounds c.args.rows c.args.ahead c.requires.places c.requires.unfinished in
-    omega (arith, known.a2, known.a1_a2, c.args.rows.row_placed.short)
+pub returns-then-ahead-clause-ok : goal.returns-then-ahead-clause-ok
+returns-then-ahead-clause-ok c =
+    let ahead = c.of-ahead.result in
+    let inside : unwrap_or c.of-ahead.result.a0 0 < c.args.rows.width = rw c.of-ahead.ensures.start c.requires.unfinished in
+    rw (← c.of-ahead.ensures.start, under_bits c.args.rows ahead c.of-ahead.ensures.places inside c.if-ahead.true) c.in_ok-put_mode.ensures.ok
 
-pub choose-mode-requires-clause-b1 : goal.choose-mode-requires-clause-b1
-choose-mode-requires-clause-b1 c =
-    let known = known_bounds c.args.rows c.args.ahead c.requires.places c.requires.unfinished in
-    omega (arith, known.b1, c.args.rows.row_placed.short)
-
-pub put_run_pair-requires-clause-a0 : goal.put_run_pair-requires-clause-a0
-put_run_pair-requires-clause-a0 c = (known_bounds c.args.rows c.args.ahead c.requires.places c.requires.unfinished).a0
-
-pub put_run_pair-requires-clause-a1 : goal.put_run_pair-requires-clause-a1
-put_run_pair-requires-clause-a1 c = (known_bounds c.args.rows c.args.ahead c.requires.places c.requires.unfinished).a1_a2
-
-pub put_run_pair-requires-clause-short : goal.put_run_pair-requires-clause-short
-put_run_pair-requires-clause-short c =
-    let known = known_bounds c.args.rows c.args.ahead c.requires.places c.requires.unfinished in
-    omega (arith, known.a2, c.args.rows.row_placed.short)
+pub returns-then-ahead-clause-next : goal.returns-then-ahead-clause-next
+returns-then-ahead-clause-next c =
+    let ahead = c.of-ahead.result in
+    let inside : unwrap_or c.of-ahead.result.a0 0 < c.args.rows.width = rw c.of-ahead.ensures.start c.requires.unfinished in
+    c.behind_b1.ensures.start
+    ∙ ap (λ p. Some p) (under_place c.args.rows ahead c.of-ahead.ensures.places inside c.if-ahead.true)
+    ∙ ap (λ a0. Some (place_from (reference_of c.args.rows) (written_of c.args.rows) a0)) c.of-ahead.ensures.start

@@ -1,20 +1,24 @@
-use Rattle.std.proofs.Common.{arith}
-use Rattle.fax_bits.proofs.SinkLemmas.{padded-lt, pads, pads_none, byte_bits-msb}
+use Rattle.std.proofs.Common.{inl, inr, ◌-◌, ◌%◌, refl, arith}
+use Rattle.std.proofs.lemmas.Bool.{cases_lt}
+use Rattle.fax_bits.proofs.SinkLemmas.{padded-lt, pads}
 use Rattle.fax_bits.proofs.sink.BitSink.pad.Goals as goal
 
-pub overflow_cast-byte : goal.overflow_cast-byte
-overflow_cast-byte c =
+pub invariant_of-self : goal.invariant_of-self
+invariant_of-self c =
     let inside = c.self.inside in
-    let fits = padded-lt inside.count inside.pending c.if-self-gt0.true c.self.invariant.short c.self.invariant.fits in
-    omega (arith, fits)
+    record {
+      within = elim (cases_lt 0 inside.most) [
+        | inl some ↦ omega (arith, c.self.invariant.forty some, c.self.invariant.within)
+        | inr none ↦ omega (arith, c.self.invariant.within)
+      ];
+      few = c.self.invariant.few;
+      forty = c.self.invariant.forty;
+      fits = padded-lt inside.count inside.pending ((40 - inside.count) % 8) c.self.invariant.fits (omega (arith, c.self.invariant.within, c.self.invariant.few));
+      room = c.self.invariant.room;
+    }
 
-pub returns-then-self-gt0 : goal.returns-then-self-gt0
-returns-then-self-gt0 c =
+pub returns : goal.returns
+returns c =
     let inside = c.self.inside in
-    pads inside.order inside.bytes.items _ inside.count inside.pending _ _ c.if-self-gt0.true c.self.invariant.short c.self.invariant.fits
-    c.self.view_is c.push_reserved.ensures.items (byte_bits-msb _)
-
-pub returns-else-self-gt0 : goal.returns-else-self-gt0
-returns-else-self-gt0 c =
-    let inside = c.self.inside in
-    pads_none inside.order inside.bytes.items inside.count inside.pending _ (omega (arith, c.if-self-gt0.false)) c.self.view_is
+    pads inside.order inside.bytes.items inside.count inside.pending ((40 - inside.count) % 8) c.args.self.now (omega (arith, c.self.invariant.within, c.self.invariant.few)) c.self.invariant.fits refl
+    c.self.view_is

@@ -3,7 +3,7 @@ use Rattle.fax_bits.specs.Bits.{bits}
 use Rattle.fax_bits.specs.code.Source.{Source}
 use Rattle.fax_bits.specs.code.Sink.{Sink}
 use Rattle.fax_bits.proofs.TakeLemmas.{next_byte, other_byte, last_bits}
-use Rattle.fax_bits.proofs.sink.BitSink.begins.Goals as goal
+use Rattle.fax_bits.proofs.sink.BitSink.begins_exactly.Goals as goal
 
 pub loop-byte-init : goal.loop-byte-init
 unfolding bits
@@ -31,7 +31,7 @@ pub returns : goal.returns
 returns c =
     let bytes = c.self.inside.bytes.items in
     let all : c.loop-byte.byte-index ≡ length bytes = omega (arith, ap length c.deref-byte-items.ensures.value) in
-    let same = last_bits bytes c.loop-byte.byte-index _ _ c.loop-byte.invariant _ c.take-2.result _ all c.take-2.ensures in
+    let same = last_bits bytes c.loop-byte.byte-index _ _ c.loop-byte.invariant _ c.begins.result all c.begins.ensures in
     let bits_are = ap (λ (s : Sink). s.bits) c.self.view_is in (
       λ is. ((same.0 is).0, (same.0 is).1 ∙ ap (λ b. b ++ (same.0 is).0) bits_are),
       λ begins. same.1 (begins.0, begins.1 ∙ ap (λ b. b ++ begins.0) (sym bits_are)),

@@ -1,0 +1,23 @@
+use Rattle.std.proofs.Common.{◌∙◌, arith}
+use Rattle.fax_bits.specs.declared.FillOrder.TheVariants.{MsbFirst}
+use Rattle.fax_bits.proofs.SinkLemmas.{first_part-lt, masked-lt, split_bits, pushed_bits, byte_bits-msb}
+use Rattle.fax_bits.proofs.sink.push_whole.Goals as goal
+
+pub overflow_cast-byte-in-loop-left : goal.overflow_cast-byte-in-loop-left
+overflow_cast-byte-in-loop-left c =
+    let fits = first_part-lt 8 c.loop-left.left c.loop-left.rest (omega arith) (omega arith) c.loop-left.invariant.few c.loop-left.invariant.fits in
+    omega (arith, fits)
+
+pub loop-left-preserved : goal.loop-left-preserved
+loop-left-preserved c =
+    let at = c.loop-left in
+    record {
+      few = omega arith;
+      fits = masked-lt 8 at.left at.rest (omega arith) (omega arith) at.invariant.few at.invariant.fits;
+      len = omega arith;
+      room = omega arith;
+      put =
+          pushed_bits MsbFirst at.bytes.items _ _ _ _ _ c.push_reserved.ensures.items (byte_bits-msb _)
+          (split_bits 8 at.left at.rest (omega arith) (omega arith) at.invariant.few at.invariant.fits)
+          ∙ at.invariant.put;
+    }
