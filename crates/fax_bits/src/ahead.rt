@@ -42,9 +42,11 @@ impl<'a> Model for Ahead<'a> {
 #[inline(always)]
 fn loaded(bytes: &[u8], order: FillOrder, window: Window) -> Option<Window>
     requires { window.at ≤ length bytes.now }
-    ensures ahead { IfSome result (λ more. bits_ahead order bytes.now more ≡ bits_ahead order bytes.now window) }
+    ensures ahead { IfSome result (λ more. bits_ahead order bytes.now more
+        ≡ bits_ahead order bytes.now window) }
     ensures many { IfSome result (λ more. 32 ≤ more.count) }
-    ensures place { IfSome result (λ more. 8 * more.at + window.count ≡ 8 * window.at + more.count) }
+    ensures place { IfSome result (λ more. 8 * more.at + window.count
+        ≡ 8 * window.at + more.count) }
     ensures within { IfSome result (λ more. more.at ≤ length bytes.now) }
 {
     if window.count >= 32 {
@@ -138,7 +140,8 @@ impl<'a> Ahead<'a> {
     /// Reads a code for a run of the colour (T.4, tables 2, 3a and 3b).
     #[inline(always)]
     fn run_code(self, colour: Colour) -> Option<(Ahead<'a>, RunCode)>
-        ensures takes { IfSome result (λ read. Takes (run_table colour) self.entry.left read.1 read.0.left) }
+        ensures takes { IfSome result
+            (λ read. Takes (run_table colour) self.entry.left read.1 read.0.left) }
         ensures same_end { IfSome result (λ read. KeepsEnd self.entry read.0) }
         ensures shorter { IfSome result (λ read. length read.0.left < length self.entry.left) }
     {

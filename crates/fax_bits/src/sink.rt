@@ -44,7 +44,8 @@ fn push_whole(bytes: &mut Vec<u8>, pending: u64, count: u32) -> (u64, u32)
 #[inline(always)]
 fn push_word(bytes: &mut Vec<u8>, word: u32)
     requires room { vec_len bytes.old + 4 ≤ vec_capacity bytes.old }
-    ensures pushed { bits MsbFirst bytes.new.items ≡ bits MsbFirst bytes.old.items ++ code_bits 32 word }
+    ensures pushed { bits MsbFirst bytes.new.items ≡ bits MsbFirst bytes.old.items
+        ++ code_bits 32 word }
     ensures len { vec_len bytes.new ≡ vec_len bytes.old + 4 }
     ensures room { vec_capacity bytes.new ≡ vec_capacity bytes.old }
 {
@@ -105,7 +106,8 @@ impl Model for BitSink {
 
     ghost view = { λ s. sink_of s.order s.bytes.items s.count s.pending };
 
-    ghost invariant = { λ s. IsPending s.count s.pending s.most (vec_len s.bytes) (vec_capacity s.bytes) };
+    ghost invariant = { λ s. IsPending s.count s.pending s.most (vec_len s.bytes)
+        (vec_capacity s.bytes) };
 }
 
 impl BitSink {

@@ -34,7 +34,8 @@ impl Model for Entry {
 
     ghost view = { λ e. record { tag = e.tag; kind = e.kind; count = e.count; place = e.place } };
 
-    ghost inverse = { λ e. record { tag = e.tag; kind = e.kind; count = e.count; place = e.place } };
+    ghost inverse = { λ e.
+        record { tag = e.tag; kind = e.kind; count = e.count; place = e.place } };
 }
 
 impl Entry {
@@ -111,7 +112,8 @@ impl<'a> File<'a> {
     #[tactic(auto, unfolding(crate::specs::Directory::value_at))]
     pub fn value_at(&self, entry: &Entry, i: u32) -> u32
         requires place { entry.now.place + 4 ≤ length self.now.bytes.now }
-        requires there { IsTrue (Spec.has_integers self.now.endian self.now.bytes.now entry.now (i + 1)) }
+        requires there { IsTrue
+            (Spec.has_integers self.now.endian self.now.bytes.now entry.now (i + 1)) }
         ensures { result ≡ Spec.value_at self.now.endian self.now.bytes.now entry.now i }
     {
         let place = self.values_place(entry) + i as usize * entry.value_len();

@@ -124,7 +124,8 @@ impl<'d, 'a> Fields<'d, 'a> {
     #[tactic(auto, unfolding(crate::specs::Directory::needed_scalar))]
     pub fn needed_scalar(&self, tag: u16) -> Result<u32, FileFault>
         requires { IsTrue (is_sought tag) }
-        ensures { result ≡ Spec.needed_scalar self.now.endian self.now.file (entries_of self.now) tag }
+        ensures { result
+            ≡ Spec.needed_scalar self.now.endian self.now.file (entries_of self.now) tag }
     {
         let entry = self.needed(tag)?;
         self.file().scalar(&entry)
@@ -134,7 +135,8 @@ impl<'d, 'a> Fields<'d, 'a> {
     #[tactic(auto, unfolding(crate::specs::Directory::scalar_or))]
     pub fn scalar_or(&self, tag: u16, absent: u32) -> Result<u32, FileFault>
         requires { IsTrue (is_sought tag) }
-        ensures { result ≡ Spec.scalar_or self.now.endian self.now.file (entries_of self.now) tag absent }
+        ensures { result
+            ≡ Spec.scalar_or self.now.endian self.now.file (entries_of self.now) tag absent }
     {
         match self.first(tag) {
             Some(entry) => self.file().scalar(&entry),
@@ -146,7 +148,8 @@ impl<'d, 'a> Fields<'d, 'a> {
     #[tactic(auto, unfolding(crate::specs::Page::rational_of))]
     pub fn rational_of(&self, tag: u16) -> Option<(u32, u32)>
         requires { IsTrue (is_sought tag) }
-        ensures exact { result ≡ rational_of self.now.endian self.now.file (entries_of self.now) tag }
+        ensures exact { result
+            ≡ rational_of self.now.endian self.now.file (entries_of self.now) tag }
         ensures good { IfSome result IsGoodRational }
     {
         let entry = self.first(tag)?;

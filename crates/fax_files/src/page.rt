@@ -141,7 +141,8 @@ pub fn page_form(fields: &Fields) -> Result<PageForm, FileFault>
 /// The width and the rows of a page.
 #[tactic(auto, unfolding(crate::specs::Page::page_size))]
 fn page_size(fields: &Fields) -> Result<(u32, u32), FileFault>
-    ensures exact { result ≡ Spec.page_size fields.now.endian fields.now.file (entries_of fields.now) }
+    ensures exact { result
+        ≡ Spec.page_size fields.now.endian fields.now.file (entries_of fields.now) }
     ensures some_width { IfOk result (λ size. 1 ≤ size.0) }
     ensures width { IfOk result (λ size. size.0 ≤ 65535) }
     ensures some_rows { IfOk result (λ size. 1 ≤ size.1) }
@@ -185,7 +186,8 @@ fn pel_format(fields: &Fields) -> Result<PelFormat, FileFault>
 /// Whether black is coded as white, and white as black.
 #[tactic(auto, unfolding(crate::specs::Page::are_exchanged))]
 fn are_exchanged(fields: &Fields) -> Result<bool, FileFault>
-    ensures { result ≡ Spec.are_exchanged fields.now.endian fields.now.file (entries_of fields.now) }
+    ensures { result
+        ≡ Spec.are_exchanged fields.now.endian fields.now.file (entries_of fields.now) }
 {
     match fields.needed_scalar(PHOTOMETRIC_INTERPRETATION)? {
         0 => Ok(false),
@@ -210,7 +212,8 @@ fn fill_order(fields: &Fields) -> Result<FillOrder, FileFault>
 #[tactic(auto, unfolding(crate::specs::Page::strip_rows))]
 fn strip_rows(fields: &Fields, rows: u32) -> Result<u32, FileFault>
     requires { 1 ≤ rows }
-    ensures exact { result ≡ Spec.strip_rows fields.now.endian fields.now.file (entries_of fields.now) rows }
+    ensures exact { result
+        ≡ Spec.strip_rows fields.now.endian fields.now.file (entries_of fields.now) rows }
     ensures some_rows { IfOk result (λ rows_per_strip. 1 ≤ rows_per_strip) }
     ensures within { IfOk result (λ rows_per_strip. rows_per_strip ≤ rows) }
 {
@@ -249,7 +252,8 @@ fn page_coding(fields: &Fields, compression: u32) -> Result<RowCoding, FileFault
 /// The resolution of a page: 204 by 196 dots an inch where its fields have no good one.
 #[tactic(auto, unfolding(crate::specs::Page::resolution))]
 fn page_resolution(fields: &Fields) -> Resolution
-    ensures exact { result ≡ Spec.resolution fields.now.endian fields.now.file (entries_of fields.now) }
+    ensures exact { result
+        ≡ Spec.resolution fields.now.endian fields.now.file (entries_of fields.now) }
     ensures x { Spec.IsGoodRational result.x }
     ensures y { Spec.IsGoodRational result.y }
     ensures some_unit { 1 ≤ result.unit }

@@ -210,7 +210,8 @@ fn page_fields(form: &PageForm, at: &Layout) -> [Field; 16]
 /// Appends a directory of these fields, with the next offset 0.
 fn put_directory(out: &mut Vec<u8>, fields: &[Field]) -> Result<(), AllocError>
     requires { length fields.now < 65536 }
-    ensures { OnOk result (out.new.items ≡ out.old.items ++ Spec.fields_bytes fields.now ++ Spec.four 0) }
+    ensures { OnOk result (out.new.items ≡ out.old.items ++ Spec.fields_bytes fields.now
+        ++ Spec.four 0) }
 {
     put_two(out, fields.len() as u16)?;
     for field in fields {
@@ -343,9 +344,11 @@ fn set_four(bytes: &mut [u8], place: usize, n: u32)
 /// The place behind strips that begin at a place, if it is within the limit of a file.
 pub fn strips_end(start: u32, strips: &[Vec<u8>]) -> Option<u32>
     requires { start ≤ 268435456 }
-    ensures found { IfSome result (λ end. end ≡ start + length (Spec.joined_strips (contents strips.now))) }
+    ensures found { IfSome result (λ end. end
+        ≡ start + length (Spec.joined_strips (contents strips.now))) }
     ensures limit { IfSome result (λ end. end ≤ 268435456) }
-    ensures none { IfNone result (268435456 < start + length (Spec.joined_strips (contents strips.now))) }
+    ensures none { IfNone result (268435456
+        < start + length (Spec.joined_strips (contents strips.now))) }
 {
     let mut end = start;
     for strip in strips {

@@ -127,7 +127,8 @@ fn packed_word(places: &[u32], end: usize, width: u32, k: u32, passed: usize) ->
 fn write_word(out: &mut [u8], at: usize, word: u64)
     requires { at + 8 ≤ length out.old }
     ensures before { (i : ℕ) → i < at → slice_index out.new i ≡ slice_index out.old i }
-    ensures written { (i : ℕ) → i < 8 → slice_index out.new (at + i) ≡ word / 2 ^ (8 * (7 - i)) % 256 }
+    ensures written { (i : ℕ) → i < 8 → slice_index out.new (at + i)
+        ≡ word / 2 ^ (8 * (7 - i)) % 256 }
     ensures same_len { length out.new ≡ length out.old }
 {
     let [a, b, c, d, e, f, g, h] = word.to_be_bytes();

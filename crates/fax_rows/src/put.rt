@@ -219,12 +219,15 @@ fn put_far_step(rows: Rows, ahead: Ahead, sink: &mut BitSink) -> Result<Written,
     requires places { Spec.IsAhead rows ahead }
     requires unfinished { unwrap_or ahead.a0 0 < rows.width }
     ensures ok { OnOk result (Appends sink.old
-        (Spec.bits_from (Spec.reference_of rows.entry) (Spec.written_of rows.entry) ahead.a0) sink.new) }
+        (Spec.bits_from (Spec.reference_of rows.entry)
+        (Spec.written_of rows.entry) ahead.a0) sink.new) }
     ensures next { IfOk result (λ next. next.a0
-        ≡ Some (Spec.place_from (Spec.reference_of rows.entry) (Spec.written_of rows.entry) ahead.a0)) }
+        ≡ Some (Spec.place_from (Spec.reference_of rows.entry)
+        (Spec.written_of rows.entry) ahead.a0)) }
     ensures places { IfOk result (λ next. Spec.IsWrittenTo rows.entry next) }
     ensures err { OnErr result (AppendsPrefix sink.old
-        (Spec.bits_from (Spec.reference_of rows.entry) (Spec.written_of rows.entry) ahead.a0) sink.new) }
+        (Spec.bits_from (Spec.reference_of rows.entry)
+        (Spec.written_of rows.entry) ahead.a0) sink.new) }
 {
     let mode = choose(ahead.a1, ahead.b1, ahead.b2);
     match mode {
@@ -251,12 +254,15 @@ fn put_step(rows: Rows, at: Written, sink: &mut BitSink) -> Result<Written, Memo
     requires places { Spec.IsWrittenTo rows at }
     requires unfinished { unwrap_or at.a0 0 < rows.width }
     ensures ok { OnOk result (Appends sink.old
-        (Spec.bits_from (Spec.reference_of rows.entry) (Spec.written_of rows.entry) at.a0) sink.new) }
+        (Spec.bits_from (Spec.reference_of rows.entry)
+        (Spec.written_of rows.entry) at.a0) sink.new) }
     ensures next { IfOk result (λ next. next.a0
-        ≡ Some (Spec.place_from (Spec.reference_of rows.entry) (Spec.written_of rows.entry) at.a0)) }
+        ≡ Some (Spec.place_from (Spec.reference_of rows.entry)
+        (Spec.written_of rows.entry) at.a0)) }
     ensures places { IfOk result (λ next. Spec.IsWrittenTo rows.entry next) }
     ensures err { OnErr result (AppendsPrefix sink.old
-        (Spec.bits_from (Spec.reference_of rows.entry) (Spec.written_of rows.entry) at.a0) sink.new) }
+        (Spec.bits_from (Spec.reference_of rows.entry)
+        (Spec.written_of rows.entry) at.a0) sink.new) }
 {
     let ahead = Ahead::of(rows, at);
     if ahead.a1 == ahead.b1 {

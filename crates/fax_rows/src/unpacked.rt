@@ -63,7 +63,8 @@ fn put_word(places: &mut [u32], end: usize, from: u32, before: u64, word: u64) -
     ensures kept { (k : ℕ) → k < from
         → turned TurnsFrom (take result places.new) k ≡ turned TurnsFrom (take end places.old) k }
     ensures pels { (i : ℕ) → i < 64
-        → turned TurnsFrom (take result places.new) (from + i) ≡ Spec.colour_of_bit (word_bit word i) }
+        → turned TurnsFrom (take result places.new) (from + i)
+        ≡ Spec.colour_of_bit (word_bit word i) }
     ensures behind { (k : ℕ) → from + 64 ≤ k
         → turned TurnsFrom (take result places.new) k ≡ Spec.colour_of_bit (word_bit word 63) }
     ensures same_len { length places.new ≡ length places.old }
@@ -88,7 +89,8 @@ fn places_of_words(bytes: &[u8], places: &mut [u32], words: u32) -> (usize, Colo
     requires first { slice_index places.old 0 ≡ 0 }
     ensures ascending { IsAscending places.new result.0 }
     ensures left { 1 < result.0 → slice_index places.new (result.0 - 1) < 64 * words }
-    ensures unpacked { IsUnpackedTo (bits MsbFirst bytes.now) (take result.0 places.new) (64 * words) result.1 }
+    ensures unpacked { IsUnpackedTo (bits MsbFirst bytes.now) (take result.0 places.new)
+        (64 * words) result.1 }
     ensures same_len { length places.new ≡ length places.old }
 {
     let mut end = 1;

@@ -104,7 +104,8 @@ pub fn check<R: Source, W: Sink>(
     ensures ok { IfOk result (λ fault. IfSome (R.left input.old) (λ file.
         WritesOutput Check file (W.written out.old) (W.written out.new) fault)) }
     ensures err { IfErr result (λ refusal. IsStopped Check (R.left input.old) refusal
-        (R.counts input.new) (R.taken input.new) (W.counts out.new) (W.written out.old) (W.written out.new)) }
+        (R.counts input.new) (R.taken input.new) (W.counts out.new) (W.written out.old)
+        (W.written out.new)) }
 {
     let file = read_whole(alloc, input)?;
     let report = fax_walk::check(alloc, &file)?;

@@ -25,7 +25,8 @@ pub fn convert<R: Source, W: Sink>(
     ensures ok { IfOk result (λ fault. IfSome (R.left input.old) (λ file.
         WritesOutput (Convert options) file (W.written out.old) (W.written out.new) fault)) }
     ensures err { IfErr result (λ refusal. IsStopped (Convert options) (R.left input.old) refusal
-        (R.counts input.new) (R.taken input.new) (W.counts out.new) (W.written out.old) (W.written out.new)) }
+        (R.counts input.new) (R.taken input.new) (W.counts out.new) (W.written out.old)
+        (W.written out.new)) }
 {
     let file = read_whole(alloc, input)?;
     match fax_walk::convert(alloc, &file, &options) {

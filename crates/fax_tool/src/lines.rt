@@ -31,7 +31,8 @@ pub trait Lines {
     /// Collects the next line behind the text, or answers how the lines ended. Where memory is
     /// refused the text is as it was.
     fn put_next(&mut self, text: &mut Collected) -> Result<Option<End>, Memory>
-        ensures put { IsLinePut (are_due self.old) (said self.old) (place self.old) (left self.old) text.old result
+        ensures put { IsLinePut (are_due self.old) (said self.old) (place self.old)
+            (left self.old) text.old result
             (are_due self.new) (said self.new) (place self.new) (left self.new) text.new };
 
     /// There are lines that are due, and an end. It computes nothing.

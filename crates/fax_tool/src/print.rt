@@ -49,8 +49,10 @@ fn give_two<W: Sink>(
     second: &[u8],
 ) -> Result<(), Refusal>
     requires { W.counts out.old ≡ counted interruptions.old }
-    ensures ok { OnOk result (Appends (W.written out.old) (W.written out.new) (first.now ++ second.now)) }
-    ensures err { IfErr result (IsGivenInPart (W.written out.old) (W.written out.new) (first.now ++ second.now)
+    ensures ok { OnOk result (Appends (W.written out.old) (W.written out.new)
+        (first.now ++ second.now)) }
+    ensures err { IfErr result (IsGivenInPart (W.written out.old) (W.written out.new)
+        (first.now ++ second.now)
         (W.counts out.new)) }
 {
     match give_all(out, interruptions, first) {
@@ -67,7 +69,8 @@ fn stop_for_memory<W: Sink>(
     next: &str,
 ) -> Refusal
     requires { W.counts out.old ≡ counted interruptions.old }
-    ensures { Spec.StopsForMemory result (W.written out.old) (W.written out.new) (lines.now ++ next.now) (W.counts out.new) }
+    ensures { Spec.StopsForMemory result (W.written out.old) (W.written out.new)
+        (lines.now ++ next.now) (W.counts out.new) }
 {
     match give_two(out, interruptions, lines, next.as_bytes()) {
         Ok(()) => Refusal::Memory,
@@ -85,7 +88,8 @@ fn write_out<W: Sink>(
     ensures ok { OnOk result (Appends (W.written out.old) (W.written out.new) text.old) }
     ensures emptied { OnOk result (text.new ≡ []) }
     ensures counts { OnOk result (W.counts out.new ≡ counted interruptions.new) }
-    ensures err { IfErr result (IsGivenInPart (W.written out.old) (W.written out.new) text.old (W.counts out.new)) }
+    ensures err { IfErr result (IsGivenInPart (W.written out.old) (W.written out.new) text.old
+        (W.counts out.new)) }
 {
     give_all(out, interruptions, text.as_bytes())?;
     text.clear();
@@ -101,7 +105,8 @@ fn write_where_long<W: Sink>(
     requires { W.counts out.old ≡ counted interruptions.old }
     ensures ok { OnOk result (SendsPart (W.written out.old) (W.written out.new) text.old text.new) }
     ensures counts { OnOk result (W.counts out.new ≡ counted interruptions.new) }
-    ensures err { IfErr result (IsGivenInPart (W.written out.old) (W.written out.new) text.old (W.counts out.new)) }
+    ensures err { IfErr result (IsGivenInPart (W.written out.old) (W.written out.new) text.old
+        (W.counts out.new)) }
 {
     if text.len() < ENOUGH_TEXT {
         return Ok(());
@@ -130,10 +135,13 @@ fn print_lines<L: Lines, W: Sink>(
     interruptions: &mut Interruptions,
 ) -> Result<Option<End>, Refusal>
     requires { W.counts out.old ≡ counted interruptions.old }
-    ensures ok { IfOk result (λ ending. Spec.PrintsLines (L.are_due lines.old) (L.said lines.old) (L.said lines.new)
-        (L.place lines.old) max ending (L.place lines.new) (W.written out.old) (W.written out.new)) }
+    ensures ok { IfOk result (λ ending. Spec.PrintsLines (L.are_due lines.old)
+        (L.said lines.old) (L.said lines.new)
+        (L.place lines.old) max ending (L.place lines.new) (W.written out.old)
+        (W.written out.new)) }
     ensures counts { OnOk result (W.counts out.new ≡ counted interruptions.new) }
-    ensures err { IfErr result (λ refusal. Spec.StopsLines (L.are_due lines.old) (L.place lines.old) max refusal
+    ensures err { IfErr result (λ refusal. Spec.StopsLines (L.are_due lines.old)
+        (L.place lines.old) max refusal
         (W.written out.old) (W.written out.new) (W.counts out.new)) }
 {
     let mut text = Collected::new(alloc);
@@ -169,8 +177,10 @@ fn give_last_line<W: Sink>(
     cursor: Cursor,
 ) -> Result<(), Refusal>
     requires { W.counts out.old ≡ counted interruptions.old }
-    ensures ok { OnOk result (Appends (W.written out.old) (W.written out.new) (Spec.last_line ending cursor)) }
-    ensures err { IfErr result (IsGivenInPart (W.written out.old) (W.written out.new) (Spec.last_line ending cursor)
+    ensures ok { OnOk result (Appends (W.written out.old) (W.written out.new)
+        (Spec.last_line ending cursor)) }
+    ensures err { IfErr result (IsGivenInPart (W.written out.old) (W.written out.new)
+        (Spec.last_line ending cursor)
         (W.counts out.new)) }
 {
     match ending {
@@ -193,9 +203,11 @@ fn print_all<L: Lines, W: Sink>(
     out: &mut W,
 ) -> Result<Option<End>, Refusal>
     requires { W.counts out.old ≡ no_faults }
-    ensures ok { IfOk result (λ ending. Spec.PrintsAll (L.are_due lines.old) (L.place lines.old) max ending
+    ensures ok { IfOk result (λ ending. Spec.PrintsAll (L.are_due lines.old)
+        (L.place lines.old) max ending
         (W.written out.old) (W.written out.new)) }
-    ensures err { IfErr result (λ refusal. Spec.StopsPrinting (L.are_due lines.old) (L.place lines.old) max refusal
+    ensures err { IfErr result (λ refusal. Spec.StopsPrinting (L.are_due lines.old)
+        (L.place lines.old) max refusal
         (W.written out.old) (W.written out.new) (W.counts out.new)) }
 {
     let mut interruptions = Interruptions::NONE;
@@ -217,7 +229,8 @@ fn read_or_stop<R: Source, W: Sink>(
     ensures whole { IfOk result (λ file. IfSome (R.left input.old) (λ bytes. file.items ≡ bytes)) }
     ensures limit { IfOk result (λ file. vec_len file ≤ most_input) }
     ensures unwritten { OnOk result (out.new ≡ out.old) }
-    ensures err { IfErr result (λ refusal. Spec.StopsAtBeginning refusal cursor (R.counts input.new) (R.taken input.new)
+    ensures err { IfErr result (λ refusal. Spec.StopsAtBeginning refusal cursor
+        (R.counts input.new) (R.taken input.new)
         (W.written out.old) (W.written out.new) (W.counts out.new)) }
 {
     match read_whole(alloc, input) {
@@ -285,7 +298,8 @@ fn print_long<W: Sink>(
 ) -> Result<Option<End>, Refusal>
     requires counts { W.counts out.old ≡ no_faults }
     requires fresh { walk.old.given ≡ 0 }
-    ensures ok { IfOk result (λ ending. Spec.PrintsLong walk.old max ending (W.written out.old) (W.written out.new)) }
+    ensures ok { IfOk result (λ ending. Spec.PrintsLong walk.old max ending
+        (W.written out.old) (W.written out.new)) }
     ensures err { IfErr result (λ refusal. Spec.StopsPrintingLong walk.old max refusal
         (W.written out.old) (W.written out.new) (W.counts out.new)) }
 {
@@ -300,7 +314,8 @@ fn begin_or_stop<W: Sink>(part: &Part, out: &mut W) -> Result<Begun, Refusal>
     requires { W.counts out.old ≡ no_faults }
     ensures ok { IfOk result (λ begun. begun ≡ begun_of part.now) }
     ensures unwritten { OnOk result (out.new ≡ out.old) }
-    ensures err { IfErr result (λ refusal. Spec.StopsAtBeginning refusal (begins_at (begun_of part.now)) no_faults 0
+    ensures err { IfErr result (λ refusal. Spec.StopsAtBeginning refusal
+        (begins_at (begun_of part.now)) no_faults 0
         (W.written out.old) (W.written out.new) (W.counts out.new)) }
 {
     match part.begun() {
@@ -335,7 +350,8 @@ fn print_rows<W: Sink>(
     requires fresh { walk.old.given ≡ 0 }
     ensures ok { IfOk result (λ ending. Spec.PrintsRows part.now.long walk.old part.now.max ending
         (W.written out.old) (W.written out.new)) }
-    ensures err { IfErr result (λ refusal. Spec.StopsRows part.now.long walk.old part.now.max refusal
+    ensures err { IfErr result
+        (λ refusal. Spec.StopsRows part.now.long walk.old part.now.max refusal
         (W.written out.old) (W.written out.new) (W.counts out.new)) }
 {
     if part.long {
@@ -360,7 +376,8 @@ pub fn rows<R: Source, W: Sink>(
     ensures ok { IfOk result (λ fault. IfSome (R.left input.old) (λ file.
         WritesOutput (Rows part.now) file (W.written out.old) (W.written out.new) fault)) }
     ensures err { IfErr result (λ refusal. IsStopped (Rows part.now) (R.left input.old) refusal
-        (R.counts input.new) (R.taken input.new) (W.counts out.new) (W.written out.old) (W.written out.new)) }
+        (R.counts input.new) (R.taken input.new) (W.counts out.new) (W.written out.old)
+        (W.written out.new)) }
 {
     fax_walk::laws::cursors_have_one_tail();
     fax_walk::laws::places_have_one_tail();
@@ -385,7 +402,8 @@ pub fn list<R: Source, W: Sink>(
     ensures ok { IfOk result (λ fault. IfSome (R.left input.old) (λ file.
         WritesOutput (Forms part.now) file (W.written out.old) (W.written out.new) fault)) }
     ensures err { IfErr result (λ refusal. IsStopped (Forms part.now) (R.left input.old) refusal
-        (R.counts input.new) (R.taken input.new) (W.counts out.new) (W.written out.old) (W.written out.new)) }
+        (R.counts input.new) (R.taken input.new) (W.counts out.new) (W.written out.old)
+        (W.written out.new)) }
 {
     fax_walk::laws::cursors_have_one_form_tail();
     let file = read_or_stop(alloc, part.cursor, input, out)?;

@@ -65,7 +65,8 @@ fn write_number(bytes: &mut [u8], at: usize, number: u32) -> usize
 /// Writes the runs of a row at a place, each behind a blank, and answers where they end.
 fn write_runs(bytes: &mut [u8], at: usize, row: &Row) -> usize
     requires { at + 6 * length (runs_of row.now) ≤ length bytes.old }
-    ensures written { take result bytes.new ≡ take at bytes.old ++ flat_map and_number (runs_of row.now) }
+    ensures written { take result bytes.new ≡ take at bytes.old
+        ++ flat_map and_number (runs_of row.now) }
     ensures within { result ≤ at + 6 * length (runs_of row.now) }
 {
     let mut end = at;
@@ -95,7 +96,8 @@ fn write_line(bytes: &mut [u8], at: usize, place: Place, row: &Row) -> usize
 
 /// Appends the line of a row: `row P R` and the row's runs.
 pub fn put_row_line(text: &mut Collected, place: Place, row: &Row) -> Result<(), Memory>
-    ensures ok { OnOk result (text.new ≡ text.old ++ row_line_of place.page place.row (runs_of row.now)) }
+    ensures ok { OnOk result (text.new ≡ text.old
+        ++ row_line_of place.page place.row (runs_of row.now)) }
     ensures err { OnErr result (text.new ≡ text.old) }
 {
     let runs = LongestRuns::of_row(row).len();

@@ -26,7 +26,8 @@ const REFUSED: u8 = 3;
 /// Says a line on the error stream, and answers this status, or 3 where the stream fails.
 fn say<E: Sink>(err: &mut E, line: &str, status: u8) -> u8
     requires { E.counts err.old ≡ no_faults }
-    ensures { IsSaid (E.written err.old) (E.written err.new) (E.counts err.new) line.now status result }
+    ensures { IsSaid (E.written err.old) (E.written err.new)
+        (E.counts err.new) line.now status result }
 {
     let mut interruptions = Interruptions::NONE;
     match give_all(err, &mut interruptions, line.as_bytes()) {
@@ -62,7 +63,8 @@ fn carry_out<R: Source, W: Sink>(
     ensures ok { IfOk result (λ fault. IfSome (R.left input.old) (λ file.
         WritesOutput command.now file (W.written out.old) (W.written out.new) fault)) }
     ensures err { IfErr result (λ refusal. IsStopped command.now (R.left input.old) refusal
-        (R.counts input.new) (R.taken input.new) (W.counts out.new) (W.written out.old) (W.written out.new)) }
+        (R.counts input.new) (R.taken input.new) (W.counts out.new) (W.written out.old)
+        (W.written out.new)) }
 {
     match command {
         Command::List(part) => list(alloc, part, input, out),
@@ -89,13 +91,16 @@ pub fn run<R: Source, W: Sink, E: Sink>(
     ensures status { IsStatus result }
 
     // What was done is the text of what the job's command tells of the input.
-    ensures written { result < 3 → WritesText job.now.command (R.left input.old) (W.written out.old) (W.written out.new)
+    ensures written { result < 3
+        → WritesText job.now.command (R.left input.old) (W.written out.old) (W.written out.new)
         (E.written err.old) (E.written err.new) result }
 
     // What was refused was refused for a reason that the streams' counts show, and the output is
     // what it has to be then.
-    ensures refused { result ≡ 3 → IsRefused job.now.command (R.left input.old) (R.counts input.new) (R.taken input.new)
-        (W.counts out.new) (E.counts err.new) (W.written out.old) (W.written out.new) (E.written err.old) (E.written err.new) }
+    ensures refused { result ≡ 3
+        → IsRefused job.now.command (R.left input.old) (R.counts input.new) (R.taken input.new)
+        (W.counts out.new) (E.counts err.new) (W.written out.old) (W.written out.new)
+        (E.written err.old) (E.written err.new) }
 {
     let outcome = carry_out(alloc, &job.command, input, out);
     report(outcome, err)

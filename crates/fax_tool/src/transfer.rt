@@ -32,8 +32,10 @@ impl Interruptions {
     /// Whether a call with this fault is made again: an interrupted one, up to 1,023 times on a
     /// stream.
     fn allow(&mut self, fault: StreamFault) -> bool
-        ensures again { IsTrue result → counted self.new ≡ counts_after (Err fault) (counted self.old) }
-        ensures fewer { IsTrue result → most_interrupted - self.new.count < most_interrupted - self.old.count }
+        ensures again { IsTrue result → counted self.new
+            ≡ counts_after (Err fault) (counted self.old) }
+        ensures fewer { IsTrue result → most_interrupted - self.new.count
+            < most_interrupted - self.old.count }
         ensures failed { result ≡ false → HasFailed (counts_after (Err fault) (counted self.old)) }
     {
         match fault {
@@ -65,7 +67,8 @@ pub fn read_whole<R: Source>(alloc: Global, input: &mut R) -> Result<Vec<u8>, Re
     requires taken { R.taken input.old ≡ 0 }
     ensures whole { IfOk result (λ file. IfSome (R.left input.old) (λ bytes. file.items ≡ bytes)) }
     ensures limit { IfOk result (λ file. vec_len file ≤ most_input) }
-    ensures reason { IfErr result (λ refusal. HasReason refusal (R.counts input.new) (R.taken input.new) no_faults) }
+    ensures reason { IfErr result (λ refusal. HasReason refusal (R.counts input.new)
+        (R.taken input.new) no_faults) }
 {
     let mut interruptions = Interruptions::NONE;
     let mut file = Vec::new(alloc);
@@ -104,7 +107,8 @@ pub fn give_all<W: Sink>(
     requires counts { W.counts out.old ≡ counted interruptions.old }
     ensures ok { OnOk result (Appends (W.written out.old) (W.written out.new) bytes.now) }
     ensures counts { OnOk result (W.counts out.new ≡ counted interruptions.new) }
-    ensures err { IfErr result (IsGivenInPart (W.written out.old) (W.written out.new) bytes.now (W.counts out.new)) }
+    ensures err { IfErr result (IsGivenInPart (W.written out.old)
+        (W.written out.new) bytes.now (W.counts out.new)) }
 {
     let mut rest = bytes;
     while !rest.is_empty() {

@@ -36,7 +36,8 @@ fn count_images(bytes: &[u8]) -> Result<u64, ConvertFault>
 /// Puts the rows of an image, or none where the output is too large.
 fn convert_raster(alloc: Global, image: &PbmImage, output: &mut Output) -> Result<(), Memory>
     requires { Reads.HasBegun output.old (image_sheet image.now.width image.now.rows) }
-    ensures { OnOk result (Reads.PutsImage output.old image.now.width image.now.rows image.now.raster.now
+    ensures { OnOk result
+        (Reads.PutsImage output.old image.now.width image.now.rows image.now.raster.now
         output.new) }
 {
     if let Output::TooLarge = output {
@@ -108,8 +109,10 @@ fn convert_rows(walk: &mut Walk, sheet: &Sheet, output: &mut Output) -> Result<(
     requires due { (items : List Item) (end : End) → IsDue walk.old items end
         → Reads.BeginsWithPage sheet.now.width sheet.now.rows items end }
     requires begun { Reads.HasBegun output.old sheet.now }
-    ensures ok { OnOk result (Reads.ConvertsRows walk.old output.old sheet.now walk.new output.new) }
-    ensures err { IfErr result (λ fault. fault ≢ ConvertFault.Memory → Reads.EndsWith walk.old fault) }
+    ensures ok { OnOk result
+        (Reads.ConvertsRows walk.old output.old sheet.now walk.new output.new) }
+    ensures err { IfErr result (λ fault. fault ≢ ConvertFault.Memory
+        → Reads.EndsWith walk.old fault) }
 {
     for _ in 0..sheet.rows {
         match walk.advance() {

@@ -51,7 +51,8 @@ impl Cursor {
     /// `NotACursor` where the text is no cursor's.
     pub fn parse(text: &str) -> Result<Cursor, NotACursor>
         ensures ok { IfOk result (λ cursor. text.now ≡ cursor_text cursor) }
-        ensures err { OnErr result ((cursor : Cursor) → IsCursor cursor → text.now ≢ cursor_text cursor) }
+        ensures err { OnErr result
+            ((cursor : Cursor) → IsCursor cursor → text.now ≢ cursor_text cursor) }
     {
         let Some((version, place)) = text.split_once(':') else {
             return Err(NotACursor);
@@ -87,7 +88,8 @@ impl Cursor {
     ///
     /// `Memory` where a growth was refused; the text is then as it was.
     pub fn put_text(&self, text: &mut String) -> Result<(), Memory>
-        ensures ok { OnOk result (string_bytes text.new ≡ string_bytes text.old ++ cursor_text self.now) }
+        ensures ok { OnOk result (string_bytes text.new ≡ string_bytes text.old
+            ++ cursor_text self.now) }
         ensures err { OnErr result (string_bytes text.new ≡ string_bytes text.old) }
     {
         text.push_str(self.text().as_str()).map_err(|_| Memory)

@@ -60,7 +60,8 @@ fn cut_number(text: &str) -> Option<(u32, &str)>
 
 /// Appends the run of these digits.
 fn push_run(runs: &mut Vec<u32>, digits: &str) -> Result<(), LongFault>
-    ensures ok { OnOk result ((run : ℕ) × (digits.now ≡ decimal run) × (runs.new.items ≡ runs.old.items ++ run ∷ [])) }
+    ensures ok { OnOk result ((run : ℕ) × (digits.now ≡ decimal run)
+        × (runs.new.items ≡ runs.old.items ++ run ∷ [])) }
     ensures err { IfErr result (λ fault. fault ≡ LongFault.NotACursor
         → (run : ℕ) → run < 2 ^ 32 → digits.now ≢ decimal run) }
 {
@@ -154,7 +155,8 @@ impl LongCursor {
 
     /// Appends the text to an empty one; where a growth was refused, some of it.
     fn put_parts(&self, text: &mut String) -> Result<(), Memory>
-        ensures ok { OnOk result (string_bytes text.new ≡ string_bytes text.old ++ long_cursor_text self.now) }
+        ensures ok { OnOk result (string_bytes text.new ≡ string_bytes text.old
+            ++ long_cursor_text self.now) }
     {
         put(text, "2:")?;
         put_number(text, self.at.page)?;
@@ -173,7 +175,8 @@ impl LongCursor {
     ///
     /// `Memory` where a growth was refused; the text is then as it was.
     pub fn put_text(&self, text: &mut String) -> Result<(), Memory>
-        ensures ok { OnOk result (string_bytes text.new ≡ string_bytes text.old ++ long_cursor_text self.now) }
+        ensures ok { OnOk result (string_bytes text.new ≡ string_bytes text.old
+            ++ long_cursor_text self.now) }
         ensures err { OnErr result (string_bytes text.new ≡ string_bytes text.old) }
     {
         let mut own = String::new(*text.allocator());

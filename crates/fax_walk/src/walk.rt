@@ -219,7 +219,8 @@ impl<'a> Walk<'a> {
     pub fn rows_read(&self) -> u64
         ensures exact { result ≡ rows_read_at self.now.stage }
         ensures bounded { HasReadRows self.now result }
-        ensures long { (place : LongPlace) → self.now.begun ≡ Inside place → result ≡ self.now.given }
+        ensures long { (place : LongPlace) → self.now.begun ≡ Inside place
+            → result ≡ self.now.given }
     {
         fax_files::laws::files_have_one_chain();
         match &self.stage {
