@@ -99,8 +99,9 @@ static void send_page(const char *coding, const char *least, const char *file, c
 
 int main(int count, char **word)
 {
-    if (count > 4 && strcmp(word[1], "decode") == 0)
-        receive(word[2], word[3], "mmr", "/dev/null", word + 4, 1);
+    if (count > 5 && strcmp(word[1], "decode") == 0)
+        /* spandsp wants a file, and takes it away where it has no page: never name a device. */
+        receive(word[2], word[3], "mmr", word[4], word + 5, 1);
     else if (count > 6 && strcmp(word[1], "receive") == 0)
         receive(word[2], word[3], word[4], word[5], word + 6, 0);
     else if (count == 6 && strcmp(word[1], "send") == 0)

@@ -76,7 +76,7 @@ def decoded(program, room, width, source, rasters):
         numbers = ["--k", str(rng.randint(1, 5)), "--strip", str(rng.randint(1, 13))]
         words = ["-o", coding, "--order", "2", *numbers, *aligned]
         lines = lines_of(room, coding, pages.converted(program, words, source))
-        yield f"{' '.join(words)}: spandsp decodes", spandsp("decode", coding, str(width), *lines), rasters
+        yield f"{' '.join(words)}: spandsp decodes", spandsp("decode", coding, str(width), f"{room}/unused.tif", *lines), rasters
 
 
 def received(program, room, width, drawn, source):
