@@ -19,6 +19,8 @@ COMPARISONS = 2376
 CODINGS = ["mh", "mr", "mmr"]
 SEED = 3
 SOURCE = os.path.join(os.path.dirname(os.path.abspath(__file__)), "spandsp.c")
+# Later versions name the codings otherwise.
+PROBE = b"#include <spandsp.h>\nint coding = T4_COMPRESSION_ITU_T4_1D;\n"
 BUILT = None
 
 
@@ -27,9 +29,9 @@ def missing(room):
     global BUILT
     if not shutil.which("cc"):
         return "cc missing"
-    looked = ["cc", "-E", "-include", "spandsp.h", "-x", "c", os.devnull]
-    if subprocess.run(looked, capture_output=True).returncode:
-        return "spandsp.h missing (libspandsp-dev)"
+    looked = ["cc", "-fsyntax-only", "-x", "c", "-"]
+    if subprocess.run(looked, input=PROBE, capture_output=True).returncode:
+        return "spandsp.h of version 0.0.6 missing (libspandsp-dev)"
     BUILT = f"{room}/spandsp"
     subprocess.run(["cc", "-O1", "-Wall", "-Wextra", "-o", BUILT, SOURCE, "-lspandsp"], check=True)
     return ""
