@@ -4,8 +4,8 @@ It decodes the strips that `convert` writes, in fill order 2, to the same raster
 comes the return to control, which TIFF-F leaves out and spandsp waits for. It receives the pages of a document
 into a TIFF file, as a gateway does, and what it sends is framed as it stands: both must be converted to the same
 PBM. Of a file that it keeps `check` has no note. What it sends in MH and MR ends with a return to control,
-note N2, and its last byte is filled with ones, note N3, where T.6 has zeros. Its rows are whole bytes, so that
-all widths are multiples of 8."""
+note N2, and its last byte is filled with ones, note N3, where T.6 has zeros. It sends pages of any width, but
+receives those alone whose rows are whole bytes: of other widths it does not read its own pages either."""
 
 import os
 import shutil
@@ -14,8 +14,8 @@ import subprocess
 import pages
 from files import directories_of, framed, put, read, strips_of
 
-WIDTHS = [8, 16, 32, 64, 864, 1728, 2048, 2432, 2560, 2624, 4864, 65528]
-COMPARISONS = 2376
+WIDTHS = [1, 7, 8, 9, 31, 32, 33, 64, 864, 1728, 2048, 2432, 2560, 2624, 4864, 65528, 65535]
+COMPARISONS = 2538
 CODINGS = ["mh", "mr", "mmr"]
 SEED = 3
 SOURCE = os.path.join(os.path.dirname(os.path.abspath(__file__)), "spandsp.c")
@@ -114,7 +114,8 @@ def raster_of(width, rows):
 def compare(program, room, width, drawn, source):
     """The comparisons of a document: a name, what came, and what is wanted."""
     rasters = b"".join(raster_of(width, rows) for rows in drawn)
-    yield from decoded(program, room, width, source, rasters)
-    yield from received(program, room, width, drawn, source)
+    if width % 8 == 0:
+        yield from decoded(program, room, width, source, rasters)
+        yield from received(program, room, width, drawn, source)
     if len(drawn) == 1:
         yield from sent(program, room, width, drawn[0], source)
