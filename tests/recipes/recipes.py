@@ -1,0 +1,17 @@
+"""The recipes of docs/RECIPES.md."""
+
+import os
+import re
+
+ROOT = os.path.abspath(os.path.join(os.path.dirname(os.path.abspath(__file__)), "..", ".."))
+
+
+def recipes():
+    """The commands of each recipe, by its heading: a recipe has one block of them."""
+    with open(f"{ROOT}/docs/RECIPES.md") as document:
+        sections = re.split(r"^## ", document.read(), flags=re.MULTILINE)[1:]
+    found = {}
+    for section in sections:
+        heading, _, text = section.partition("\n")
+        (found[heading],) = re.findall(r"^```sh\n(.*?)^```$", text, flags=re.MULTILINE | re.DOTALL)
+    return found
