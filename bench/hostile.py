@@ -20,7 +20,7 @@ def tiff(width, rows, compression, strip):
 
 
 def packed(bits):
-    """The bytes of bits, the first one highest, with zeros behind them."""
+    """The bytes of bits, the first one highest, with zeros after them."""
     whole = bits + "0" * (-len(bits) % 8)
     return int(whole, 2).to_bytes(len(whole) // 8, "big")
 

@@ -50,7 +50,7 @@ def report(drawn, notes=""):
 
 
 def image(width, rows, spare=0):
-    """The raw PBM image of these rows, with these bits (ones or none) behind the last pel of each."""
+    """The raw PBM image of these rows, with these bits (ones or none) after the last pel of each."""
     size = -(-width // 8)
     pad = 8 * size - width
     fill = spare & (1 << pad) - 1

@@ -265,7 +265,7 @@ ENDS = {
         "Unsupported": 53,
         "MissingField": 38,
     },
-    "forged: row behind the page": {
+    "forged: row after the page": {
         "CursorOutside": 2_834,
         "DirectoryOutside": 278,
         "ShortHeader": 126,
@@ -276,7 +276,7 @@ ENDS = {
         "Unsupported": 39,
         "MissingField": 33,
     },
-    "forged: bits behind the strip": {
+    "forged: bits after the strip": {
         "CursorOutside": 2_783,
         "DirectoryOutside": 251,
         "ShortHeader": 134,
@@ -367,7 +367,7 @@ ENDS = {
         "MissingField": 43,
         "EndMarker": 37,
     },
-    "forged: page behind the last": {
+    "forged: page after the last": {
         "CursorOutside": 1_835,
         "proper": 596,
         "DirectoryOutside": 424,

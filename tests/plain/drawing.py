@@ -119,7 +119,7 @@ def end_mark(coding):
 
 
 def code_strip(rng, coding, rows, aligned=False):
-    """The bits of a strip, and what stands behind its last row."""
+    """The bits of a strip, and what stands after its last row."""
     tail = rng.choice(["", "", EOL * 2, end_mark(coding), EOL, "0" * 11, "1"])
     return code_rows(rng, coding, rows, aligned) + tail
 
@@ -149,7 +149,7 @@ class Builder:
         return (value % 256**size).to_bytes(size, self.endian)
 
     def put(self, data):
-        """Bytes somewhere behind the file, and their place."""
+        """Bytes somewhere after the file, and their place."""
         self.data += bytes(self.rng.choice([0, 0, 1, 2]))
         self.data += data
         return len(self.data) - len(data)

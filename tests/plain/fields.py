@@ -6,7 +6,7 @@ from tables import EOL
 BYTE, ASCII, SHORT, LONG, RATIONAL = 1, 2, 3, 4, 5
 
 # A page of 8 pels by 2 rows, WWWBBWWW, in MH and in two strips: type, count and value of each field. A
-# value that is a list of numbers stands behind the directory.
+# value that is a list of numbers stands after the directory.
 FIELDS = {
     256: (LONG, 1, 8),
     257: (LONG, 1, 2),
@@ -85,14 +85,14 @@ def file_of(endian, tag, change):
     fields = dict(FIELDS)
     fields[tag] = change
     fields = {tag: field for tag, field in fields.items() if field is not ABSENT}
-    entries, behind, place = b"", b"", len(data) + 6 + 12 * len(fields)
+    entries, after, place = b"", b"", len(data) + 6 + 12 * len(fields)
     for tag, (kind, count, value) in sorted(fields.items()):
         if isinstance(value, list):
             more = b"".join(number(one, 4) for one in value)
-            value, behind = place + len(behind), behind + more
+            value, after = place + len(after), after + more
         size = 2 if kind == SHORT and count == 1 else 4
         entries += number(tag, 2) + number(kind, 2) + number(count, 4) + number(value, size).ljust(4, b"\0")
-    return data + number(len(fields), 2) + entries + number(0, 4) + behind
+    return data + number(len(fields), 2) + entries + number(0, 4) + after
 
 
 def refused_fields():

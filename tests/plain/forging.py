@@ -50,12 +50,12 @@ def first_row(rng, form, cursor):
     return page, form["height"] * rng.randrange(form["strips"]), place
 
 
-def row_behind(rng, form, cursor):
+def row_after(rng, form, cursor):
     page, _, place = cursor
     return page, rng.choice([form["rows"], form["rows"] + 1, form["rows"] + form["height"] + 1, GREATEST]), place
 
 
-def bits_behind(rng, form, cursor):
+def bits_after(rng, form, cursor):
     page, row, (_, runs) = cursor
     bits = bits_of_strip(form, row)
     return page, row, (rng.choice([min(bits + 1, GREATEST), min(bits + 8, GREATEST), GREATEST]), runs)
@@ -103,8 +103,8 @@ def another_reference(rng, form, cursor):
 KINDS = {
     "another row": another_row,
     "first row of a strip": first_row,
-    "row behind the page": row_behind,
-    "bits behind the strip": bits_behind,
+    "row after the page": row_after,
+    "bits after the strip": bits_after,
     "any bits": any_bits,
     "no bits left": no_bits,
     "run of zero": zero_inside,
@@ -122,8 +122,8 @@ def draw_changed(rng, kind, forms, printed):
     return KINDS[kind](rng, form, cursor) if form else cursor
 
 
-def draw_page_behind(rng, forms, printed):
-    """A cursor behind the last page that can be read, or far behind."""
+def draw_page_after(rng, forms, printed):
+    """A cursor after the last page that can be read, or far after."""
     (_, row, place), _ = draw_base(rng, forms, printed)
     return rng.choice([len(forms), len(forms), len(forms) + 1, GREATEST]), rng.choice([0, row]), place
 
@@ -150,7 +150,7 @@ def draw_damaged(rng, forms, printed, end):
 
 
 def number_at(rng, text):
-    """The place of one of the numbers of a cursor's text behind its version."""
+    """The place of one of the numbers of a cursor's text after its version."""
     return rng.choice([place for place, mark in enumerate(text) if mark in ":,"]) + 1
 
 
@@ -194,13 +194,13 @@ TEXT_KINDS = {
     "another mark": another_mark,
 }
 
-ALL_KINDS = [*KINDS, "page behind the last", *TEXT_KINDS, "list"]
+ALL_KINDS = [*KINDS, "page after the last", *TEXT_KINDS, "list"]
 
 
 def draw_cursor_text(rng, kind, forms, printed):
     """The text of a forged cursor of a kind; for `list` it is one that `rows` may take."""
-    if kind == "page behind the last":
-        return cursor_text(*draw_page_behind(rng, forms, printed))
+    if kind == "page after the last":
+        return cursor_text(*draw_page_after(rng, forms, printed))
     if kind in KINDS:
         return cursor_text(*draw_changed(rng, kind, forms, printed))
     text = cursor_text(*draw_base(rng, forms, printed)[0])

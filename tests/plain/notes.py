@@ -1,4 +1,4 @@
-"""What a check reports of a file, by a plain reading of its strips and of what stands behind their rows."""
+"""What a check reports of a file, by a plain reading of its strips and of what stands after their rows."""
 
 import itertools
 
@@ -43,11 +43,11 @@ def chosen_two_dimensional(reference, row):
     return codes
 
 
-# What stands behind the last row.
+# What stands after the last row.
 
 
-def behind_mark(coding, left):
-    """What stands behind the end mark at the front of the bits, or None where there is none."""
+def after_mark(coding, left):
+    """What stands after the end mark at the front of the bits, or None where there is none."""
     if coding == "mmr":
         return left[24:] if left.startswith(EOL * 2) else None
     for _ in range(6):
@@ -68,19 +68,19 @@ def notes_of_strip(coding, order, width, rows, data):
     for number in range(rows):
         is_one_dimensional, at = read_start(coding, number, bits, at)
         if is_one_dimensional:
-            row, behind = read_one_dimensional(width, bits, at)
+            row, after = read_one_dimensional(width, bits, at)
             chosen = chosen_one_dimensional(row)
         else:
-            row, behind = read_two_dimensional(reference, bits, at)
+            row, after = read_two_dimensional(reference, bits, at)
             chosen = chosen_two_dimensional(reference, row)
-        is_choice = is_choice and bits[at:behind] == chosen
-        reference, at = row, behind
+        is_choice = is_choice and bits[at:after] == chosen
+        reference, at = row, after
     left = bits[at:]
-    behind = behind_mark(coding, left)
+    after = after_mark(coding, left)
     holds = [
-        coding == "mmr" and behind is None,
-        coding != "mmr" and behind is not None,
-        "1" in (left if behind is None else behind),
+        coding == "mmr" and after is None,
+        coding != "mmr" and after is not None,
+        "1" in (left if after is None else after),
         not is_choice,
     ]
     return list(itertools.compress(NAMES, holds))
@@ -102,7 +102,7 @@ def is_in_order(file, offset):
 
 
 def check_page(file, offset, entries, page):
-    """The note lines of a page, its rows that can be read, and the fault behind them, if there is one."""
+    """The note lines of a page, its rows that can be read, and the fault after them, if there is one."""
     try:
         form = read_form(file, entries)
     except Fault as fault:

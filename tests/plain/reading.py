@@ -20,7 +20,7 @@ def other(colour):
 
 
 def read_code(table, bits, at):
-    """The meaning of the code at a place, and the place behind it."""
+    """The meaning of the code at a place, and the place after it."""
     for length in range(1, 14):
         code = bits[at : at + length]
         if len(code) == length and code in table:
@@ -32,7 +32,7 @@ def read_code(table, bits, at):
 
 
 def read_run(colour, bits, at, most):
-    """The length of a run of at most so many pels, and the place behind it."""
+    """The length of a run of at most so many pels, and the place after it."""
     length = 0
     while True:
         meaning, at = read_code(RUNS[colour], bits, at)
@@ -57,7 +57,7 @@ def read_one_dimensional(width, bits, at):
 
 def next_changing(row, place, colour=None):
     """The next changing element right of a place, of another colour than this one if one is given:
-    a pel behind one of the other colour, where a white one stands before the first."""
+    a pel after one of the other colour, where a white one stands before the first."""
     edges = ["WB", "BW"] if colour is None else [colour + other(colour)]
     found = [("W" + row).find(edge, place + 1) for edge in edges]
     return min((place for place in found if place >= 0), default=len(row))
@@ -126,7 +126,7 @@ def read_row(coding, number, reference, bits, at):
 
 
 def read_lines(coding, number, rows, reference, bits, at):
-    """The rows of a strip of so many from this number on, each with the place behind it, and the fault that
+    """The rows of a strip of so many from this number on, each with the place after it, and the fault that
     ends them, if one does."""
     done = []
     for due in range(number, rows):
@@ -288,25 +288,25 @@ def shown(form, row):
 
 def read_page(file, form, due, inside):
     """The rows of a page from one row on, or from a place inside its strip before it, as (row's number, row,
-    place behind it, which is none behind a strip's last row), and the end: the row that was due and its fault,
+    place after it, which is none after a strip's last row), and the end: the row that was due and its fault,
     or none, or that there is no such place. A place is the bits before it, and the runs of the row before it."""
     done, height = [], form["height"]
     for strip in range(due // height, form["strips"]):
         offset, count = form["offsets"][strip], form["counts"][strip]
-        first, behind = strip * height, min((strip + 1) * height, form["rows"])
+        first, after = strip * height, min((strip + 1) * height, form["rows"])
         if not file.has(offset, count):
             return done, (first, Fault("StripOutside"))
         data = file.data[offset : offset + count]
         if inside and strip == due // height:
-            first, read = due, read_from_place(form, strip, behind - strip * height, data, due, inside)
+            first, read = due, read_from_place(form, strip, after - strip * height, data, due, inside)
             if read is None:
                 return [], OUTSIDE
         else:
-            read = read_whole(form["coding"], form["order"], form["width"], behind - first, data)
+            read = read_whole(form["coding"], form["order"], form["width"], after - first, data)
         lines, fault = read
         for number, (row, at) in enumerate(lines, first):
             if number >= due:
-                done.append((number, shown(form, row), (at, runs_of(row)) if number + 1 < behind else None))
+                done.append((number, shown(form, row), (at, runs_of(row)) if number + 1 < after else None))
         if fault:
             return done, (first + len(lines), fault)
     return done, None
@@ -328,7 +328,7 @@ def chain(file):
 
 
 # What follows a cursor, which is a page and a row, or a long one: a page, a row and a place inside the row's
-# strip. An end is none behind the last page, a fault with the place that was due, or that the cursor names no
+# strip. An end is none after the last page, a fault with the place that was due, or that the cursor names no
 # place of the file.
 
 START = 0, 0
@@ -343,7 +343,7 @@ def names_row(form, row, inside):
 
 
 def pages_from(data, page, row, inside=None):
-    """The pages from the one that a cursor names, as (file, number, form), and the end behind them. A
+    """The pages from the one that a cursor names, as (file, number, form), and the end after them. A
     page whose fields are refused is such an end, and so is a cursor that names no place."""
     try:
         file = File(data)
@@ -365,7 +365,7 @@ def pages_from(data, page, row, inside=None):
 
 
 def rows_from(data, page, row, inside=None):
-    """The rows from a cursor on, as (page, row, row's text, place behind it or none), and their end."""
+    """The rows from a cursor on, as (page, row, row's text, place after it or none), and their end."""
     pages, end = pages_from(data, page, row, inside)
     done = []
     for file, number, form in pages:
@@ -425,7 +425,7 @@ def cursor_of(text):
 
 
 def lines_from(command, data, *cursor):
-    """The lines of a command from a cursor on, each with the cursor behind it and the long cursor behind it,
+    """The lines of a command from a cursor on, each with the cursor after it and the long cursor after it,
     which is the same where there is none, and their end."""
     if command == "list":
         forms, end = forms_from(data, *cursor)
@@ -433,8 +433,8 @@ def lines_from(command, data, *cursor):
     rows, end = rows_from(data, *cursor)
     lines = []
     for page, number, row, place in rows:
-        behind = page, number + 1
-        lines.append((row_line(page, number, row), behind, (*behind, place) if place else behind))
+        after = page, number + 1
+        lines.append((row_line(page, number, row), after, (*after, place) if place else after))
     return lines, end
 
 

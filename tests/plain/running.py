@@ -7,7 +7,7 @@ LIMIT = 60
 
 
 class Streams:
-    """The three streams of a process: files without names, used for one run behind another."""
+    """The three streams of a process: files without names, used for one run after another."""
 
     def __init__(self):
         self.files = [os.memfd_create(name) for name in ("input", "output", "error")]

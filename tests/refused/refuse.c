@@ -1,10 +1,10 @@
 /* Preloaded under the program by the tests: calls of one kind are refused. A tool of the tests alone.
  *
- *   REFUSE_KIND   words (malloc and realloc before a file is opened), memory (behind that), read, write
+ *   REFUSE_KIND   words (malloc and realloc before a file is opened), memory (after that), read, write
  *                 (standard output) or error (the error stream)
  *   REFUSE_HOW    fail (no memory, or EIO), short (1 byte) or interrupt (EINTR)
  *   REFUSE_FROM   the first call of this kind that is refused, from 1
- *   REFUSE_CALLS  how many are, one behind another
+ *   REFUSE_CALLS  how many are, one after another
  *   REFUSE_BYTES  at most so many bytes go through any call of this kind that is not refused
  *   REFUSE_MARK   a descriptor that gets one byte at the first call that is refused
  */
