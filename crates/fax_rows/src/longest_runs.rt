@@ -1,6 +1,6 @@
 //! The longest runs of a row, one after another (ITU-T T.4, section 4.1.1).
 ghost use Rattle.std.specs.Prelude.{◌≡◌, ◌+◌, ◌-◌, ◌<◌, ◌≤◌, ◌^◌, ◌↔◌, [], ◌∷◌};
-ghost use Rattle.std.specs.Prelude.{MatchOption, IfSome, IsTrue, length, slice_index, sum};
+ghost use Rattle.std.specs.Prelude.{MatchOption, IfNone, IfSome, IsTrue, length, slice_index, sum};
 ghost use Rattle.fax_rows.specs.Elements.{runs_of, pels_of};
 ghost use Rattle.fax_rows.specs.code.LongestRuns.{AreLongest};
 ghost use Rattle.fax_rows.specs.code.Turns.{row_of, IsAscending};
@@ -54,13 +54,14 @@ impl<'a> LongestRuns<'a> {
     #[inline(always)]
     pub fn next_run(&mut self) -> Option<u32>
         ensures first { MatchOption result (self.old ≡ []) (λ n. self.old ≡ n ∷ self.new) }
+        ensures none_left { IfNone result (self.new ≡ []) }
         ensures short { IfSome result (λ n. n < 2 ^ 16) }
     {
         let from = self.from;
         match self.ends.split_first() {
-            Some((to, behind)) => {
+            Some((to, after)) => {
                 self.from = *to;
-                self.ends = behind;
+                self.ends = after;
                 Some(*to - from)
             }
             None => None,
