@@ -12,6 +12,7 @@ use Rattle.fax_files.specs.Directory.{Entry, entries, field, value_at, has_integ
 use Rattle.fax_files.specs.Page.{PelFormat, RowCoding, page, page_size, pel_format, strip_rows, strip_count, page_coding, strip_field, resolution}
 use Rattle.fax_files.specs.StripBytes.{strip_bytes, bytes_at}
 use Rattle.fax_files.specs.code.Tiff.{TiffDirectory, AreStripPlaces, bytes_of}
+use Rattle.fax_files.specs.Tags
 
 -- the value of a step that did not fail
 pub bind_ok : {A B : Type 0} (r : Result A FileFault) (next : A → Result B FileFault) (y : B) → (r >>= next) ≡ Ok y → (x : A) × (r ≡ Ok x) × (next x ≡ Ok y)
@@ -43,12 +44,12 @@ module _ (endian : Endian) (file : List ℕ) (fields : List Entry) where
 
   abbrev pub after_offsets : ℕ × ℕ → PelFormat → ℕ → RowCoding → Result PageForm FileFault
   after_offsets size pels rows_per_strip coding =
-      strip_field endian file fields 279 (strip_count size.1 rows_per_strip)
+      strip_field endian file fields Tags.STRIP_BYTE_COUNTS (strip_count size.1 rows_per_strip)
       >>= λ _. Ok (form_of size pels rows_per_strip coding)
 
   abbrev pub after_coding : ℕ × ℕ → PelFormat → ℕ → RowCoding → Result PageForm FileFault
   after_coding size pels rows_per_strip coding =
-      strip_field endian file fields 273 (strip_count size.1 rows_per_strip)
+      strip_field endian file fields Tags.STRIP_OFFSETS (strip_count size.1 rows_per_strip)
       >>= λ _. after_offsets size pels rows_per_strip coding
 
   abbrev pub after_rows : ℕ × ℕ → PelFormat → ℕ → Result PageForm FileFault
@@ -63,9 +64,9 @@ module _ (endian : Endian) (file : List ℕ) (fields : List Entry) where
 -- the fields of a page's strips
 pub record StripFields (endian : Endian) (file : List ℕ) (q strips : ℕ) : Type 0 where
   pub offsets : Entry
-  pub offsets_are : strip_field endian file (entries endian file q) 273 strips ≡ Ok offsets
+  pub offsets_are : strip_field endian file (entries endian file q) Tags.STRIP_OFFSETS strips ≡ Ok offsets
   pub counts : Entry
-  pub counts_are : strip_field endian file (entries endian file q) 279 strips ≡ Ok counts
+  pub counts_are : strip_field endian file (entries endian file q) Tags.STRIP_BYTE_COUNTS strips ≡ Ok counts
 
 -- a page with a form has them
 pub strip_fields : (endian : Endian) (file : List ℕ) (q : ℕ) (form : PageForm) → page endian file q ≡ Ok form → StripFields endian file q form.strips
@@ -76,8 +77,8 @@ strip_fields endian file q form e =
     let pels = bind_ok (pel_format endian file fields) (after_pels endian file fields size.0) form size.2 in
     let rows = bind_ok (strip_rows endian file fields size.0.1) (after_rows endian file fields size.0 pels.0) form pels.2 in
     let coding = bind_ok (page_coding endian file fields pels.0.compression) (after_coding endian file fields size.0 pels.0 rows.0) form rows.2 in
-    let offsets = bind_ok (strip_field endian file fields 273 (strip_count size.0.1 rows.0)) (λ _. after_offsets endian file fields size.0 pels.0 rows.0 coding.0) form coding.2 in
-    let counts = bind_ok (strip_field endian file fields 279 (strip_count size.0.1 rows.0)) (λ _. Ok (form_of endian file fields size.0 pels.0 rows.0 coding.0)) form offsets.2 in
+    let offsets = bind_ok (strip_field endian file fields Tags.STRIP_OFFSETS (strip_count size.0.1 rows.0)) (λ _. after_offsets endian file fields size.0 pels.0 rows.0 coding.0) form coding.2 in
+    let counts = bind_ok (strip_field endian file fields Tags.STRIP_BYTE_COUNTS (strip_count size.0.1 rows.0)) (λ _. Ok (form_of endian file fields size.0 pels.0 rows.0 coding.0)) form offsets.2 in
     let strips : strip_count size.0.1 rows.0 ≡ form.strips = same_strips (form_of endian file fields size.0 pels.0 rows.0 coding.0) form counts.2 in
     let found : StripFields endian file q (strip_count size.0.1 rows.0) = record {
       offsets = offsets.0;
@@ -122,35 +123,35 @@ some_injective x y e = cc
 
 -- a page with a form has both entries
 pub strip_entries : (directory : TiffDirectory) (form : PageForm) → page directory.endian directory.file directory.offset ≡ Ok form
-    → IsSome (field (entries directory.endian directory.file directory.offset) 273)
-    × IsSome (field (entries directory.endian directory.file directory.offset) 279)
+    → IsSome (field (entries directory.endian directory.file directory.offset) Tags.STRIP_OFFSETS)
+    × IsSome (field (entries directory.endian directory.file directory.offset) Tags.STRIP_BYTE_COUNTS)
 strip_entries directory form e =
     let there = strip_fields directory.endian directory.file directory.offset form e in (
-      rw (strip_entry directory.endian directory.file _ 273 form.strips there.offsets there.offsets_are) refl,
-      rw (strip_entry directory.endian directory.file _ 279 form.strips there.counts there.counts_are) refl,
+      rw (strip_entry directory.endian directory.file _ Tags.STRIP_OFFSETS form.strips there.offsets there.offsets_are) refl,
+      rw (strip_entry directory.endian directory.file _ Tags.STRIP_BYTE_COUNTS form.strips there.counts there.counts_are) refl,
     )
 
 -- and they are the places of its strips
 pub strip_places : (directory : TiffDirectory) (form : PageForm) (count : ℕ) (offsets counts : Entry)
     → page directory.endian directory.file directory.offset ≡ Ok form → form.strips ≡ count
-    → field (entries directory.endian directory.file directory.offset) 273 ≡ Some offsets
-    → field (entries directory.endian directory.file directory.offset) 279 ≡ Some counts
+    → field (entries directory.endian directory.file directory.offset) Tags.STRIP_OFFSETS ≡ Some offsets
+    → field (entries directory.endian directory.file directory.offset) Tags.STRIP_BYTE_COUNTS ≡ Some counts
     → offsets.place + 4 ≤ length directory.file → counts.place + 4 ≤ length directory.file
     → AreStripPlaces directory count offsets counts
 strip_places directory form count offsets counts e counted offsets_are counts_are offsets_inside counts_inside =
     let there = strip_fields directory.endian directory.file directory.offset form e in
     let fields = entries directory.endian directory.file directory.offset in
     let offsets_same : there.offsets ≡ offsets =
-    some_injective _ _ (sym (strip_entry directory.endian directory.file fields 273 form.strips there.offsets there.offsets_are) ∙ offsets_are) in
+    some_injective _ _ (sym (strip_entry directory.endian directory.file fields Tags.STRIP_OFFSETS form.strips there.offsets there.offsets_are) ∙ offsets_are) in
     let counts_same : there.counts ≡ counts =
-    some_injective _ _ (sym (strip_entry directory.endian directory.file fields 279 form.strips there.counts there.counts_are) ∙ counts_are) in
+    some_injective _ _ (sym (strip_entry directory.endian directory.file fields Tags.STRIP_BYTE_COUNTS form.strips there.counts there.counts_are) ∙ counts_are) in
     record {
       offsets_are = offsets_are;
       counts_are = counts_are;
       offsets_inside = offsets_inside;
       counts_inside = counts_inside;
-      offsets_there = rw (← offsets_same, ← counted) (strip_values directory.endian directory.file fields 273 form.strips there.offsets there.offsets_are);
-      counts_there = rw (← counts_same, ← counted) (strip_values directory.endian directory.file fields 279 form.strips there.counts there.counts_are);
+      offsets_there = rw (← offsets_same, ← counted) (strip_values directory.endian directory.file fields Tags.STRIP_OFFSETS form.strips there.offsets there.offsets_are);
+      counts_there = rw (← counts_same, ← counted) (strip_values directory.endian directory.file fields Tags.STRIP_BYTE_COUNTS form.strips there.counts there.counts_are);
     }
 
 -- a page's strip begins before the page's last row

@@ -11,38 +11,15 @@ ghost use Rattle.fax_files.specs.code.Tiff.{form_of};
 use crate::entries::Entry;
 use crate::fields::Fields;
 use crate::strips::Strips;
+use crate::tags::{
+    BITS_PER_SAMPLE, COMPRESSION, FILL_ORDER, IMAGE_LENGTH, IMAGE_WIDTH,
+    PHOTOMETRIC_INTERPRETATION, RESOLUTION_UNIT, ROWS_PER_STRIP, SAMPLES_PER_PIXEL,
+    STRIP_BYTE_COUNTS, STRIP_OFFSETS, T4_OPTIONS, X_RESOLUTION, Y_RESOLUTION,
+};
 use crate::{FileFault, PageForm};
 use fax_bits::FillOrder;
 use fax_page::Coding;
 use std::marker::Model;
-
-const IMAGE_WIDTH: u16 = 256;
-
-const IMAGE_LENGTH: u16 = 257;
-
-const BITS_PER_SAMPLE: u16 = 258;
-
-const COMPRESSION: u16 = 259;
-
-const PHOTOMETRIC_INTERPRETATION: u16 = 262;
-
-const FILL_ORDER: u16 = 266;
-
-const STRIP_OFFSETS: u16 = 273;
-
-const SAMPLES_PER_PIXEL: u16 = 277;
-
-const ROWS_PER_STRIP: u16 = 278;
-
-const STRIP_BYTE_COUNTS: u16 = 279;
-
-const X_RESOLUTION: u16 = 282;
-
-const Y_RESOLUTION: u16 = 283;
-
-const T4_OPTIONS: u16 = 292;
-
-const RESOLUTION_UNIT: u16 = 296;
 
 /// Compression by T.4.
 const COMPRESSION_T4: u32 = 3;
