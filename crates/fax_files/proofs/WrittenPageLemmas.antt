@@ -114,13 +114,13 @@ page_fits q start total k written w =
 pub length-page_fields : (q start total k : ℕ) (written : WrittenPage) → IsWritable written → length (fields_bytes (page_fields q start total k written)) ≡ to_link
 length-page_fields q start total k written w =
     let fields = page_fields q start total k written in
-    omega (arith, length-append (two 16) (flat_map field_bytes fields), length-fields fields (page_fits q start total k written w))
+    omega (arith, length-append (two field_count) (flat_map field_bytes fields), length-fields fields (page_fits q start total k written w))
 
--- the number of entries, which is always sixteen
+-- the number of entries
 count_there : (file : List ℕ) (q start total k : ℕ) (written : WrittenPage) → IsPageAt file q start total k written
-    → entry_count Little file q ≡ 16
+    → entry_count Little file q ≡ field_count
 count_there file q start total k written here =
-    number_there 2 (at_left (two 16) (flat_map field_bytes (page_fields q start total k written)) here.fields) (omega arith)
+    number_there 2 (at_left (two field_count) (flat_map field_bytes (page_fields q start total k written)) here.fields) (omega arith)
 
 -- the parts of what stands behind a directory
 record ValuesThere (file : List ℕ) (q : ℕ) (form : PageForm) (offsets lengths : List ℕ) : Type 0 where
@@ -174,7 +174,7 @@ module _ (file : List ℕ) (q start total k : ℕ) (written : WrittenPage) (know
 
   what_is_read : (entries Little file q ≡ entries_read) × HasValues file (q + 2) fields
   what_is_read =
-      let behind = at_right (two 16) (flat_map field_bytes fields) known.here.fields in
+      let behind = at_right (two field_count) (flat_map field_bytes fields) known.here.fields in
       let read = entries_there file (q + 2) fields (page_fits q start total k written known.writable) behind in
       (rw (count_there file q start total k written known.here) read.0, read.1)
 
