@@ -44,15 +44,15 @@ rising (a ∷ rest) up zero (suc j) lt inside = first_is_least a rest up j (omeg
 rising (a ∷ rest) up (suc i) (suc j) lt inside = rising rest (rises_behind a rest up) i j (omega arith) (omega arith)
 
 -- the tags that are looked for rise
-tags_rise : (i j : ℕ) → i < j → j < 14 → get_or TAGS i 0 < get_or TAGS j 0
+tags_rise : (i j : ℕ) → i < j → j < length TAGS → get_or TAGS i 0 < get_or TAGS j 0
 unfolding rises
 tags_rise i j lt inside = rising TAGS refl i j lt inside
 
-not_below : (i j : ℕ) → i ≤ j → j < 14 → get_or TAGS i 0 ≤ get_or TAGS j 0
+not_below : (i j : ℕ) → i ≤ j → j < length TAGS → get_or TAGS i 0 ≤ get_or TAGS j 0
 not_below i j le inside = elim (eq-or-lt_of_le le) [ inl e ↦ rw e (omega arith) | inr lt ↦ (let up = tags_rise i j lt inside in omega arith) ]
 
 -- so no two of them are the same
-apart : (i j : ℕ) → i < 14 → j < 14 → i ≢ j → get_or TAGS i 0 ≢ get_or TAGS j 0
+apart : (i j : ℕ) → i < length TAGS → j < length TAGS → i ≢ j → get_or TAGS i 0 ≢ get_or TAGS j 0
 apart i j i_inside j_inside ne e = elim (cases_lt i j) [
   | inl lt ↦ (let up = tags_rise i j lt j_inside in absurd (omega arith))
   | inr le ↦ (let up = tags_rise j i (omega arith) i_inside in absurd (omega arith))
@@ -60,15 +60,15 @@ apart i j i_inside j_inside ne e = elim (cases_lt i j) [
 
 -- where a tag stands among them, or that it does not
 abbrev pub IsSearched : ℕ → Result ℕ ℕ → Type 0
-IsSearched tag (Ok i) = (i < 14) × (get_or TAGS i 0 ≡ tag)
-IsSearched tag (Err i) = (k : ℕ) → k < 14 → get_or TAGS k 0 ≢ tag
+IsSearched tag (Ok i) = (i < length TAGS) × (get_or TAGS i 0 ≡ tag)
+IsSearched tag (Err i) = (k : ℕ) → k < length TAGS → get_or TAGS k 0 ≢ tag
 
 pub tag_searched : (tag : ℕ) (found : Result ℕ ℕ) → IsBinarySearchResult (λ y. nat_cmp y tag) TAGS found
     → IsSearched tag found
 tag_searched tag found h = answer found (searched TAGS tag found h not_below)
   where
     answer : (r : Result ℕ ℕ)
-        → MatchResult r (λ i. (i < 14) × (get_or TAGS i 0 ≡ tag)) (λ i. (i ≤ 14) × ((k : ℕ) → k < i → get_or TAGS k 0 < tag) × ((k : ℕ) → i ≤ k → k < 14 → tag < get_or TAGS k 0))
+        → MatchResult r (λ i. (i < length TAGS) × (get_or TAGS i 0 ≡ tag)) (λ i. (i ≤ length TAGS) × ((k : ℕ) → k < i → get_or TAGS k 0 < tag) × ((k : ℕ) → i ≤ k → k < length TAGS → tag < get_or TAGS k 0))
         → IsSearched tag r
     answer (Ok i) there = there
     answer (Err i) apart = λ k inside e. elim (cases_lt k i) [
@@ -77,11 +77,11 @@ tag_searched tag found h = answer found (searched TAGS tag found h not_below)
     ]
 
 -- nothing is found before an entry was seen
-pub none_seen : (first : List (Option Entry)) → length first ≡ 14 → ((i : ℕ) → i < 14 → get_or first i None ≡ None) → AreFirst [] first
+pub none_seen : (first : List (Option Entry)) → length first ≡ length TAGS → ((i : ℕ) → i < length TAGS → get_or first i None ≡ None) → AreFirst [] first
 none_seen first count none = record { count = count; first_is = none }
 
 -- an entry of a tag that is looked for
-pub seen : (entry : Entry) (fields : List Entry) (first : List (Option Entry)) (slot : ℕ) → slot < 14 → get_or TAGS slot 0 ≡ entry.tag
+pub seen : (entry : Entry) (fields : List Entry) (first : List (Option Entry)) (slot : ℕ) → slot < length TAGS → get_or TAGS slot 0 ≡ entry.tag
     → AreFirst fields first → AreFirst (entry ∷ fields) (set first slot (Some entry))
 seen entry fields first slot inside same h = record {
   count = length-set first slot (Some entry) ∙ h.count;
@@ -97,7 +97,7 @@ seen entry fields first slot inside same h = record {
 }
 
 -- an entry of another tag
-pub passed : (entry : Entry) (fields : List Entry) (first : List (Option Entry)) → ((k : ℕ) → k < 14 → get_or TAGS k 0 ≢ entry.tag)
+pub passed : (entry : Entry) (fields : List Entry) (first : List (Option Entry)) → ((k : ℕ) → k < length TAGS → get_or TAGS k 0 ≢ entry.tag)
     → AreFirst fields first → AreFirst (entry ∷ fields) first
 passed entry fields first other h = record {
   count = h.count;
@@ -107,14 +107,14 @@ passed entry fields first other h = record {
 }
 
 -- the entry at the place of a tag is the first of that tag
-pub found_first : (fields : List Entry) (first : List (Option Entry)) (slot tag : ℕ) (other : Option Entry) → slot < 14 → get_or TAGS slot 0 ≡ tag
+pub found_first : (fields : List Entry) (first : List (Option Entry)) (slot tag : ℕ) (other : Option Entry) → slot < length TAGS → get_or TAGS slot 0 ≡ tag
     → AreFirst fields first → get_or first slot other ≡ field fields tag
 found_first fields first slot tag other inside is h =
     let there : slot < length first = omega (arith, h.count) in
     get_or_default first slot other None there ∙ h.first_is slot inside ∙ ap (field fields) is
 
 -- a tag that is looked for stands among them
-pub sought_stands : (tag : ℕ) → IsTrue (is_sought tag) → ((k : ℕ) → k < 14 → get_or TAGS k 0 ≢ tag) → ⊥
+pub sought_stands : (tag : ℕ) → IsTrue (is_sought tag) → ((k : ℕ) → k < length TAGS → get_or TAGS k 0 ≢ tag) → ⊥
 sought_stands tag sought none =
     let there = Any-from_list_any (λ (known : ℕ). known == tag) TAGS sought in
     none there.0 there.2 (sym (get_or_default_zero TAGS there.0 there.1 there.2) ∙ there.3 ∙ eqb-true there.1 tag there.4)

@@ -7,7 +7,7 @@ use Rattle.std.proofs.lemmas.List.{length-append, take-append-le, drop-append-le
 use Rattle.fax_files.specs.declared.PageForm.{PageForm}
 use Rattle.fax_files.specs.declared.written.Layout.{Layout}
 use Rattle.fax_files.specs.Page.{IsPageForm}
-use Rattle.fax_files.specs.Written.{four, offsets_from, lengths_of, one_or_place, joined_strips, directory_place, fields_of, fields_bytes, values_bytes, with_four_at, page_bytes, Written, with_page}
+use Rattle.fax_files.specs.Written.{max_file, to_link, to_offsets, four, offsets_from, lengths_of, one_or_place, joined_strips, directory_place, fields_of, fields_bytes, values_bytes, with_four_at, page_bytes, Written, with_page}
 use Rattle.fax_files.specs.Laws.{IsWritable}
 use Rattle.fax_files.specs.code.Writing.{contents, IsWriting, IsLayout, laid_out_fields, tail_bytes, page_end}
 use Rattle.fax_files.proofs.WritingLemmas.{length-contents}
@@ -67,11 +67,11 @@ module _ (bytes : List ℕ) (link total added end : ℕ) (form : PageForm) (stri
   count : length (contents strips) ≡ form.strips
   count = length-contents strips ∙ counted
 
-  new_length : length new.bytes ≡ directory_place (length bytes) (contents strips) + 214
+  new_length : length new.bytes ≡ directory_place (length bytes) (contents strips) + to_offsets
       + 2 * (if nat_le (length (contents strips)) 1 then 0 else (4 * length (contents strips)))
   new_length = length-with_page old total added (record { form = form; strips = contents strips }) inside writable
 
-  pub too_long : 268435456 < length bytes + length (joined_strips (contents strips)) → 268435456 < length new.bytes
+  pub too_long : max_file < length bytes + length (joined_strips (contents strips)) → max_file < length new.bytes
   too_long long = omega (arith, new_length)
 
   -- its strips end there
@@ -98,8 +98,8 @@ module _ (bytes : List ℕ) (link total added end : ℕ) (form : PageForm) (stri
       fields_are : laid_out_fields at form
           ≡ fields_of (directory_place (length bytes) (contents strips)) total added form (offsets_from (length bytes) (contents strips)) (lengths_of (contents strips))
       fields_are =
-          let offsets = laid.offsets_are ∙ offsets_value (length bytes) (at.directory + 214) form.strips (contents strips) count in
-          let counts = laid.byte_counts_are ∙ lengths_value (length bytes) end (at.directory + 214 + 4 * form.strips) form.strips (contents strips) count end_is in
+          let offsets = laid.offsets_are ∙ offsets_value (length bytes) (at.directory + to_offsets) form.strips (contents strips) count in
+          let counts = laid.byte_counts_are ∙ lengths_value (length bytes) end (at.directory + to_offsets + 4 * form.strips) form.strips (contents strips) count end_is in
           let offsets_len : length (offsets_from (length bytes) (contents strips)) ≡ form.strips = length-offsets_from (length bytes) (contents strips) ∙ count in
           let counts_len : length (lengths_of (contents strips)) ≡ form.strips = length-lengths_of (contents strips) ∙ count in
           rw (laid.total_is, laid.number_is, offsets, counts, laid.strips_are, place, offsets_len, counts_len) refl
@@ -122,11 +122,11 @@ module _ (bytes : List ℕ) (link total added end : ℕ) (form : PageForm) (stri
           ∙ ap (λ (n : ℕ). with_four_at bytes link n ++ (all ++ (pad ++ (fields_bytes fields ++ four 0 ++ values)))) place
           ∙ ap (λ (l : List ℕ). with_four_at bytes link q ++ l) (regrouped all pad (fields_bytes fields) (four 0) values)
 
-      pub new_link : at.directory + 194 ≡ new.link
+      pub new_link : at.directory + to_link ≡ new.link
       unfolding with_page
-      new_link = ap (λ n. n + 194) place
+      new_link = ap (λ n. n + to_link) place
 
-      pub still_writing : (now : List ℕ) → now ≡ new.bytes → page_end (end + end % 2) form.strips ≤ 268435456 → IsWriting now (at.directory + 194)
+      pub still_writing : (now : List ℕ) → now ≡ new.bytes → page_end (end + end % 2) form.strips ≤ max_file → IsWriting now (at.directory + to_link)
       still_writing now now_is short = record {
         link_inside = rw now_is (omega (arith, size, laid.directory_is));
         limit = rw now_is (omega (arith, size, short));

@@ -11,7 +11,7 @@ use Rattle.fax_files.specs.Numbers.{is_inside, number_at}
 use Rattle.fax_files.specs.Directory.{is_directory, next_offset}
 use Rattle.fax_files.specs.Numbers.{endian_of, header}
 use Rattle.fax_files.specs.Chain.{IsChainFrom}
-use Rattle.fax_files.specs.Written.{two, four, offsets_from, lengths_of, fields_bytes, values_bytes, joined_strips, directory_place, page_bytes, with_four_at, Written, with_page, with_pages, WrittenPage, empty_file, file_of, longs, array_bytes, rational_bytes}
+use Rattle.fax_files.specs.Written.{to_link, to_x, to_offsets, two, four, offsets_from, lengths_of, fields_bytes, values_bytes, joined_strips, directory_place, page_bytes, with_four_at, Written, with_page, with_pages, WrittenPage, empty_file, file_of, longs, array_bytes, rational_bytes}
 use Rattle.fax_files.specs.Laws.{IsWritable, AreWritable, IsReadAt, AppendedPagesAreRead, WrittenFilesAreRead}
 use Rattle.fax_files.proofs.PlaceLemmas.{HasBytesAt, at_place, at_left, at_right, at_inside, at_drop, at_start, at_slice, length-slice, slice_there, at_end, at_grown, at_patch, at_before_patch, at_behind_patch, length-patched, number_there}
 use Rattle.fax_files.proofs.WrittenStripLemmas.{length-offsets_from, length-lengths_of, length-longs}
@@ -40,7 +40,7 @@ appended old total k written open' =
 -- the parts of a page that was appended
 record Appended (old new : Written) (total k : ℕ) (written : WrittenPage) : Type 0 where
   page_is : IsPageAt new.bytes (place_of old written) (length old.bytes) total k written
-  new_link : new.link ≡ place_of old written + 194
+  new_link : new.link ≡ place_of old written + to_link
   is_open : HasOpenLink new
   old_link : HasBytesAt new.bytes old.link (four (place_of old written))
   kept : (p : ℕ) (bytes : List ℕ) → (p + length bytes ≤ old.link) ⊎ (old.link + 4 ≤ p) → HasBytesAt old.bytes p bytes → HasBytesAt new.bytes p bytes
@@ -60,7 +60,7 @@ linked old total k written open' =
     at_grown (four (place_of old written)) (page_bytes (length old.bytes) total k written.form written.strips)
     (at_patch old.bytes old.link (place_of old written) (at_inside (four 0) open'))
 
-link_of : (old : Written) (total k : ℕ) (written : WrittenPage) → (with_written old total k written).link ≡ place_of old written + 194
+link_of : (old : Written) (total k : ℕ) (written : WrittenPage) → (with_written old total k written).link ≡ place_of old written + to_link
 unfolding with_page
 link_of old total k written = refl
 
@@ -81,8 +81,8 @@ is_appended old total k written open' w =
     let all = appended old total k written open' in
     let with_zero = at_left (strips ++ pad ++ fields ++ four 0) values all in
     let with_fields = at_left (strips ++ pad ++ fields) (four 0) with_zero in
-    let zero_place : start + length (strips ++ pad ++ fields) ≡ q + 194 = omega (arith, place, fields_len, length-append (strips ++ pad) fields) in
-    let values_place : start + length (strips ++ pad ++ fields ++ four 0) ≡ q + 198 =
+    let zero_place : start + length (strips ++ pad ++ fields) ≡ q + to_link = omega (arith, place, fields_len, length-append (strips ++ pad) fields) in
+    let values_place : start + length (strips ++ pad ++ fields ++ four 0) ≡ q + to_x =
     omega (arith, zero_place, length-append (strips ++ pad ++ fields) (four 0)) in
     record {
       page_is = record {
@@ -107,7 +107,7 @@ length-array (m ∷ n ∷ numbers) =
 
 pub length-with_page : (old : Written) (total k : ℕ) (written : WrittenPage) → old.link + 4 ≤ length old.bytes → IsWritable written
     → length (with_written old total k written).bytes
-    ≡ place_of old written + 214 + 2 * (if nat_le (length written.strips) 1 then 0 else 4 * length written.strips)
+    ≡ place_of old written + to_offsets + 2 * (if nat_le (length written.strips) 1 then 0 else 4 * length written.strips)
 unfolding with_page page_bytes
 length-with_page old total k written inside w =
     let start = length old.bytes in
@@ -222,7 +222,7 @@ page_stays old total k written pages open' w rest =
     let fields_len = length-page_fields q (length old.bytes) total k written w in
     record {
       fields = keep q fields (inl (omega (arith, one.new_link, fields_len))) one.page_is.fields;
-      values = keep (q + 198) _ (inr (omega (arith, one.new_link))) one.page_is.values;
+      values = keep (q + to_x) _ (inr (omega (arith, one.new_link))) one.page_is.values;
       strips = keep (length old.bytes) (joined_strips written.strips) (inl (omega (arith, one.new_link))) one.page_is.strips;
     }
 

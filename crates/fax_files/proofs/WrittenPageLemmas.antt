@@ -18,11 +18,12 @@ use Rattle.fax_files.specs.Directory.{SHORT, entry_count, entries, is_directory,
 use Rattle.fax_files.specs.declared.PageForm.{PageForm}
 use Rattle.fax_files.specs.Page.{page_size, pel_format, strip_rows, strip_count, are_exchanged, fill_order, t4_coding, page_coding, resolution, page}
 use Rattle.fax_files.specs.StripBytes.{strip_bytes}
-use Rattle.fax_files.specs.Written.{two, WrittenField, short_field, field_bytes, compression_of, fill_order_of, options_field, offsets_from, lengths_of, array_bytes, rational_bytes, fields_of, fields_bytes, values_bytes, joined_strips, WrittenPage}
+use Rattle.fax_files.specs.Written.{field_count, to_link, to_x, to_y, to_offsets, two, WrittenField, short_field, field_bytes, compression_of, fill_order_of, options_field, offsets_from, lengths_of, array_bytes, rational_bytes, fields_of, fields_bytes, values_bytes, joined_strips, WrittenPage}
 use Rattle.fax_files.specs.Laws.{IsWritable, IsReadAt}
 use Rattle.fax_files.proofs.PlaceLemmas.{HasBytesAt, at_place, at_left, at_right, at_inside, number_there}
 use Rattle.fax_files.proofs.WrittenFieldLemmas.{AllFit, fits, all_fit, length-fields, read_fields, HasValues, written_field, entries_there, needed_long, needed_short, long_or, short_or, rational_back}
 use Rattle.fax_files.proofs.WrittenStripLemmas.{ArrayThere, array_back, array_checked, array_is_longs, length-longs, length-offsets_from, length-lengths_of, strip_there}
+use Rattle.fax_files.specs.Tags
 
 -- the fields of page k of `total`, of which the strips begin at `start` and the directory stands at q
 abbrev pub page_fields : ℕ → ℕ → ℕ → ℕ → WrittenPage → List WrittenField
@@ -31,7 +32,7 @@ page_fields q start total k written = fields_of q total k written.form (offsets_
 -- what stands in a file of a page that was written: all of it but the offset of the next directory
 pub record IsPageAt (file : List ℕ) (q start total k : ℕ) (written : WrittenPage) : Type 0 where
   pub fields : HasBytesAt file q (fields_bytes (page_fields q start total k written))
-  pub values : HasBytesAt file (q + 198) (values_bytes written.form (offsets_from start written.strips) (lengths_of written.strips))
+  pub values : HasBytesAt file (q + to_x) (values_bytes written.form (offsets_from start written.strips) (lengths_of written.strips))
   pub strips : HasBytesAt file start (joined_strips written.strips)
 
 -- the fields fit their bytes, where the strips can be counted
@@ -46,30 +47,30 @@ fields_fit Mmr aligned q total k form offsets lengths o l = rw (o, l) refl
 
 -- the last two fields
 abbrev last_fields : ℕ → ℕ → PageForm → List WrittenField
-last_fields total k form = short_field 296 form.unit ∷ record { tag = 297; kind = SHORT; count = 2; value = two k ++ two total } ∷ []
+last_fields total k form = short_field Tags.RESOLUTION_UNIT form.unit ∷ record { tag = Tags.PAGE_NUMBER; kind = SHORT; count = 2; value = two k ++ two total } ∷ []
 
 -- T4Options among fields, of which the one for options is the only one with its tag
 coding_from : (coding : Coding) (aligned : Bool) (file : List ℕ) (place : ℕ) (fields : List WrittenField) → HasValues file place fields
     → (aligned ≡ true → coding ≢ Mmr)
-    → written_field fields 292 ≡ written_field (options_field coding aligned ∷ []) 292
+    → written_field fields Tags.T4_OPTIONS ≡ written_field (options_field coding aligned ∷ []) Tags.T4_OPTIONS
     → page_coding Little file (read_fields place fields) (compression_of coding) ≡ Ok (record { coding = coding; aligned = aligned })
 unfolding page_coding t4_coding
-coding_from Mh true file place fields values has_eols found = rw (long_or file place 292 4 0 fields values found (omega arith)) refl
-coding_from Mh false file place fields values has_eols found = rw (long_or file place 292 0 0 fields values found (omega arith)) refl
-coding_from Mr true file place fields values has_eols found = rw (long_or file place 292 5 0 fields values found (omega arith)) refl
-coding_from Mr false file place fields values has_eols found = rw (long_or file place 292 1 0 fields values found (omega arith)) refl
+coding_from Mh true file place fields values has_eols found = rw (long_or file place Tags.T4_OPTIONS 4 0 fields values found (omega arith)) refl
+coding_from Mh false file place fields values has_eols found = rw (long_or file place Tags.T4_OPTIONS 0 0 fields values found (omega arith)) refl
+coding_from Mr true file place fields values has_eols found = rw (long_or file place Tags.T4_OPTIONS 5 0 fields values found (omega arith)) refl
+coding_from Mr false file place fields values has_eols found = rw (long_or file place Tags.T4_OPTIONS 1 0 fields values found (omega arith)) refl
 coding_from Mmr true file place fields values has_eols found = absurd (has_eols refl refl)
 coding_from Mmr false file place fields values has_eols found = refl
 
 -- which it is
 options_found : (coding : Coding) (aligned : Bool) (total k : ℕ) (form : PageForm)
-    → written_field (options_field coding aligned ∷ last_fields total k form) 292 ≡ written_field (options_field coding aligned ∷ []) 292
+    → written_field (options_field coding aligned ∷ last_fields total k form) Tags.T4_OPTIONS ≡ written_field (options_field coding aligned ∷ []) Tags.T4_OPTIONS
 options_found Mh aligned total k form = refl
 options_found Mr aligned total k form = refl
 options_found Mmr aligned total k form = refl
 
 unit_found : (coding : Coding) (aligned : Bool) (total k : ℕ) (form : PageForm)
-    → written_field (options_field coding aligned ∷ last_fields total k form) 296 ≡ Some (short_field 296 form.unit)
+    → written_field (options_field coding aligned ∷ last_fields total k form) Tags.RESOLUTION_UNIT ≡ Some (short_field Tags.RESOLUTION_UNIT form.unit)
 unit_found Mh aligned total k form = refl
 unit_found Mr aligned total k form = refl
 unit_found Mmr aligned total k form = refl
@@ -110,25 +111,25 @@ page_fits q start total k written w =
     (fields_fit written.form.coding written.form.aligned q total k written.form (offsets_from start written.strips) (lengths_of written.strips)
     (lt-ltb _ _ (omega (arith, many, length-offsets_from start written.strips))) (lt-ltb _ _ (omega (arith, many, length-lengths_of written.strips))))
 
-pub length-page_fields : (q start total k : ℕ) (written : WrittenPage) → IsWritable written → length (fields_bytes (page_fields q start total k written)) ≡ 194
+pub length-page_fields : (q start total k : ℕ) (written : WrittenPage) → IsWritable written → length (fields_bytes (page_fields q start total k written)) ≡ to_link
 length-page_fields q start total k written w =
     let fields = page_fields q start total k written in
-    omega (arith, length-append (two 16) (flat_map field_bytes fields), length-fields fields (page_fits q start total k written w))
+    omega (arith, length-append (two field_count) (flat_map field_bytes fields), length-fields fields (page_fits q start total k written w))
 
--- the number of entries, which is always sixteen
+-- the number of entries
 count_there : (file : List ℕ) (q start total k : ℕ) (written : WrittenPage) → IsPageAt file q start total k written
-    → entry_count Little file q ≡ 16
+    → entry_count Little file q ≡ field_count
 count_there file q start total k written here =
-    number_there 2 (at_left (two 16) (flat_map field_bytes (page_fields q start total k written)) here.fields) (omega arith)
+    number_there 2 (at_left (two field_count) (flat_map field_bytes (page_fields q start total k written)) here.fields) (omega arith)
 
 -- the parts of what stands behind a directory
 record ValuesThere (file : List ℕ) (q : ℕ) (form : PageForm) (offsets lengths : List ℕ) : Type 0 where
-  x : HasBytesAt file (q + 198) (rational_bytes form.x)
-  y : HasBytesAt file (q + 206) (rational_bytes form.y)
-  offsets_there : HasBytesAt file (q + 214) (array_bytes offsets)
-  lengths_there : HasBytesAt file (q + 214 + length (array_bytes offsets)) (array_bytes lengths)
+  x : HasBytesAt file (q + to_x) (rational_bytes form.x)
+  y : HasBytesAt file (q + to_y) (rational_bytes form.y)
+  offsets_there : HasBytesAt file (q + to_offsets) (array_bytes offsets)
+  lengths_there : HasBytesAt file (q + to_offsets + length (array_bytes offsets)) (array_bytes lengths)
 
-values_there : (file : List ℕ) (q : ℕ) (form : PageForm) (offsets lengths : List ℕ) → HasBytesAt file (q + 198) (values_bytes form offsets lengths)
+values_there : (file : List ℕ) (q : ℕ) (form : PageForm) (offsets lengths : List ℕ) → HasBytesAt file (q + to_x) (values_bytes form offsets lengths)
     → ValuesThere file q form offsets lengths
 values_there file q form offsets lengths h =
     let x = rational_bytes form.x in
@@ -173,7 +174,7 @@ module _ (file : List ℕ) (q start total k : ℕ) (written : WrittenPage) (know
 
   what_is_read : (entries Little file q ≡ entries_read) × HasValues file (q + 2) fields
   what_is_read =
-      let behind = at_right (two 16) (flat_map field_bytes fields) known.here.fields in
+      let behind = at_right (two field_count) (flat_map field_bytes fields) known.here.fields in
       let read = entries_there file (q + 2) fields (page_fits q start total k written known.writable) behind in
       (rw (count_there file q start total k written known.here) read.0, read.1)
 
@@ -184,8 +185,8 @@ module _ (file : List ℕ) (q start total k : ℕ) (written : WrittenPage) (know
   unfolding page_size
   size_there =
       let w = known.writable in
-      let width = needed_long file (q + 2) 256 written.form.width fields values refl (omega (arith, w.limits.width)) in
-      let rows = needed_long file (q + 2) 257 written.form.rows fields values refl (omega (arith, w.limits.rows)) in
+      let width = needed_long file (q + 2) Tags.IMAGE_WIDTH written.form.width fields values refl (omega (arith, w.limits.width)) in
+      let rows = needed_long file (q + 2) Tags.IMAGE_LENGTH written.form.rows fields values refl (omega (arith, w.limits.rows)) in
       let width_low : nat_le 1 written.form.width ≡ true = le-leb _ _ w.limits.some_width in
       let width_high : nat_le written.form.width 65535 ≡ true = le-leb _ _ w.limits.width in
       let rows_low : nat_le 1 written.form.rows ≡ true = le-leb _ _ w.limits.some_rows in
@@ -194,13 +195,13 @@ module _ (file : List ℕ) (q start total k : ℕ) (written : WrittenPage) (know
 
   exchanged_there : are_exchanged Little file entries_read ≡ Ok false
   unfolding are_exchanged
-  exchanged_there = rw (needed_short file (q + 2) 262 0 fields values refl (omega arith)) refl
+  exchanged_there = rw (needed_short file (q + 2) Tags.PHOTOMETRIC_INTERPRETATION 0 fields values refl (omega arith)) refl
 
   order_there : fill_order Little file entries_read ≡ Ok written.form.order
   unfolding fill_order
   order_there =
       let order = written.form.order in
-      let number = short_or file (q + 2) 266 (fill_order_of order) 1 fields values refl (order_small order) in
+      let number = short_or file (q + 2) Tags.FILL_ORDER (fill_order_of order) 1 fields values refl (order_small order) in
       rw (number, order_known order, order_back order) refl
 
   format_there : pel_format Little file entries_read
@@ -208,16 +209,16 @@ module _ (file : List ℕ) (q start total k : ℕ) (written : WrittenPage) (know
   unfolding pel_format
   format_there =
       let coding = written.form.coding in
-      let bits = short_or file (q + 2) 258 1 1 fields values refl (omega arith) in
-      let compression = needed_short file (q + 2) 259 (compression_of coding) fields values refl (compression_small coding) in
-      let samples = short_or file (q + 2) 277 1 1 fields values refl (omega arith) in
+      let bits = short_or file (q + 2) Tags.BITS_PER_SAMPLE 1 1 fields values refl (omega arith) in
+      let compression = needed_short file (q + 2) Tags.COMPRESSION (compression_of coding) fields values refl (compression_small coding) in
+      let samples = short_or file (q + 2) Tags.SAMPLES_PER_PIXEL 1 1 fields values refl (omega arith) in
       rw (bits, compression, compression_known coding, exchanged_there, order_there, samples) refl
 
   rows_there : strip_rows Little file entries_read written.form.rows ≡ Ok written.form.rows_per_strip
   unfolding strip_rows
   rows_there =
       let w = known.writable in
-      let rows = long_or file (q + 2) 278 written.form.rows_per_strip (2 ^ 32 - 1) fields values refl (omega (arith, w.limits.rows_per_strip, w.limits.rows)) in
+      let rows = long_or file (q + 2) Tags.ROWS_PER_STRIP written.form.rows_per_strip (2 ^ 32 - 1) fields values refl (omega (arith, w.limits.rows_per_strip, w.limits.rows)) in
       let above : (written.form.rows_per_strip == 0) ≡ false = ne_eqb _ _ (λ e. absurd (omega (arith, e, w.limits.some_rows_per_strip))) in
       let least : min written.form.rows_per_strip written.form.rows ≡ written.form.rows_per_strip = omega (arith, w.limits.rows_per_strip) in
       rw (rows, above, least) refl
@@ -236,29 +237,29 @@ module _ (file : List ℕ) (q start total k : ℕ) (written : WrittenPage) (know
   resolution_there =
       let w = known.writable in
       let inside = at_inside (rational_bytes written.form.y) parts.y in
-      let x = rational_back file (q + 2) 282 (q + 198) written.form.x fields values refl (omega (arith, inside, known.small)) w.limits.x parts.x in
-      let y = rational_back file (q + 2) 283 (q + 206) written.form.y fields values refl (omega (arith, inside, known.small)) w.limits.y parts.y in
-      let unit = short_or file (q + 2) 296 written.form.unit 2 fields values (unit_found written.form.coding written.form.aligned total k written.form) (omega (arith, w.limits.unit)) in
+      let x = rational_back file (q + 2) Tags.X_RESOLUTION (q + to_x) written.form.x fields values refl (omega (arith, inside, known.small)) w.limits.x parts.x in
+      let y = rational_back file (q + 2) Tags.Y_RESOLUTION (q + to_y) written.form.y fields values refl (omega (arith, inside, known.small)) w.limits.y parts.y in
+      let unit = short_or file (q + 2) Tags.RESOLUTION_UNIT written.form.unit 2 fields values (unit_found written.form.coding written.form.aligned total k written.form) (omega (arith, w.limits.unit)) in
       let unit_low : nat_le 1 written.form.unit ≡ true = le-leb _ _ w.limits.some_unit in
       let unit_high : nat_le written.form.unit 3 ≡ true = le-leb _ _ w.limits.unit in
       rw (x, y, unit, unit_low, unit_high) refl
 
-  offsets_there : ArrayThere file entries_read 273 (offsets_from start written.strips)
+  offsets_there : ArrayThere file entries_read Tags.STRIP_OFFSETS (offsets_from start written.strips)
   offsets_there =
       let some = some_strips written known.writable in
-      array_back file (q + 2) 273 (q + 214) (offsets_from start written.strips) fields values refl
+      array_back file (q + 2) Tags.STRIP_OFFSETS (q + to_offsets) (offsets_from start written.strips) fields values refl
       (omega (arith, some, length-offsets_from start written.strips)) known.small (λ _. parts.offsets_there)
 
-  lengths_there : ArrayThere file entries_read 279 (lengths_of written.strips)
+  lengths_there : ArrayThere file entries_read Tags.STRIP_BYTE_COUNTS (lengths_of written.strips)
   lengths_there =
       let offsets = offsets_from start written.strips in
       let lengths = lengths_of written.strips in
       let offsets_len = length-offsets_from start written.strips in
       let lengths_len = length-lengths_of written.strips in
       let some = some_strips written known.writable in
-      let place : 2 ≤ length lengths → q + 214 + length (array_bytes offsets) ≡ q + 214 + 4 * length lengths =
+      let place : 2 ≤ length lengths → q + to_offsets + length (array_bytes offsets) ≡ q + to_offsets + 4 * length lengths =
       λ many. omega (arith, many, ap length (array_is_longs offsets (omega (arith, many, offsets_len, lengths_len))), length-longs offsets, offsets_len, lengths_len) in
-      array_back file (q + 2) 279 (q + 214 + 4 * length lengths) lengths fields values refl
+      array_back file (q + 2) Tags.STRIP_BYTE_COUNTS (q + to_offsets + 4 * length lengths) lengths fields values refl
       (omega (arith, some, lengths_len)) known.small (λ many. at_place (place many) parts.lengths_there)
 
   -- so the page has the form that was written
@@ -268,8 +269,8 @@ module _ (file : List ℕ) (q start total k : ℕ) (written : WrittenPage) (know
       let w = known.writable in
       let strips = strip_count written.form.rows written.form.rows_per_strip in
       let counted : strips ≡ length written.strips = sym w.limits.strips ∙ sym w.strips in
-      let offsets = array_checked file entries_read 273 strips _ offsets_there (counted ∙ sym (length-offsets_from start written.strips)) in
-      let lengths = array_checked file entries_read 279 strips _ lengths_there (counted ∙ sym (length-lengths_of written.strips)) in
+      let offsets = array_checked file entries_read Tags.STRIP_OFFSETS strips _ offsets_there (counted ∙ sym (length-offsets_from start written.strips)) in
+      let lengths = array_checked file entries_read Tags.STRIP_BYTE_COUNTS strips _ lengths_there (counted ∙ sym (length-lengths_of written.strips)) in
       let exchanged : false ≡ written.form.exchanged = sym w.exchanged in
       rw (what_is_read.0, size_there, format_there, rows_there, coding_there)
       (checked_on _ _ offsets ∙ checked_on _ _ lengths
@@ -292,12 +293,12 @@ pub directory_whole : (file : List ℕ) (q start total k : ℕ) (written : Writt
 directory_whole file q start total k written here =
     let behind = at_inside (values_bytes written.form (offsets_from start written.strips) (lengths_of written.strips)) here.values in
     let count : is_inside file q 2 ≡ true = le-leb _ _ (omega (arith, behind)) in
-    let all : is_inside file q 198 ≡ true = le-leb _ _ (omega (arith, behind)) in
+    let all : is_inside file q to_x ≡ true = le-leb _ _ (omega (arith, behind)) in
     rw (count_there file q start total k written here, count, all) refl
 
 -- and its next offset is the number at its last four bytes
 pub next_there : (file : List ℕ) (q start total k : ℕ) (written : WrittenPage) → IsPageAt file q start total k written
-    → next_offset Little file q ≡ number_at Little 4 file (q + 194)
+    → next_offset Little file q ≡ number_at Little 4 file (q + to_link)
 next_there file q start total k written here =
-    let place : q + 2 + 192 ≡ q + 194 = omega arith in
+    let place : q + 2 + 12 * field_count ≡ q + to_link = omega arith in
     rw (count_there file q start total k written here, place) refl

@@ -13,6 +13,7 @@ use Rattle.fax_files.specs.StripBytes.{placed_bytes}
 use Rattle.fax_files.specs.Written.{four, WrittenField, long_field, offsets_from, lengths_of, longs, one_or_place, array_bytes, joined_strips}
 use Rattle.fax_files.proofs.PlaceLemmas.{HasBytesAt, at_place, at_left, at_right, at_inside, number_there, bytes_there}
 use Rattle.fax_files.proofs.WrittenFieldLemmas.{read_fields, HasValues, written_field, field_there}
+use Rattle.fax_files.specs.Tags
 
 -- the entry of LONGs at a place
 abbrev pub longs_entry : ℕ → ℕ → ℕ → Entry
@@ -116,12 +117,12 @@ strip_length (strip ∷ strips) (suc s) = strip_length strips s
 
 -- a strip is found by the entries of the offsets and of the byte counts
 pub strip_there : (file : List ℕ) (start : ℕ) (fields : List Entry) (strips : List (List ℕ)) (s : ℕ) → s < length strips → length file < 4294967296
-    → HasBytesAt file start (joined_strips strips) → ArrayThere file fields 273 (offsets_from start strips) → ArrayThere file fields 279 (lengths_of strips)
-    → placed_bytes Little file (field fields 273) (field fields 279) s ≡ Some (get_or strips s [])
+    → HasBytesAt file start (joined_strips strips) → ArrayThere file fields Tags.STRIP_OFFSETS (offsets_from start strips) → ArrayThere file fields Tags.STRIP_BYTE_COUNTS (lengths_of strips)
+    → placed_bytes Little file (field fields Tags.STRIP_OFFSETS) (field fields Tags.STRIP_BYTE_COUNTS) s ≡ Some (get_or strips s [])
 strip_there file start fields strips s lt small stand offsets lengths =
     let here = strip_at file start strips s lt stand in
     let inside = at_inside (get_or strips s []) here in
     let len = strip_length strips s in
-    let offset = long_value file offsets.at_entry 273 (offsets_from start strips) s (omega (arith, lt, length-offsets_from start strips)) (omega (arith, inside, small)) offsets.stands in
-    let count = long_value file lengths.at_entry 279 (lengths_of strips) s (omega (arith, lt, length-lengths_of strips)) (omega (arith, inside, small, len)) lengths.stands in
+    let offset = long_value file offsets.at_entry Tags.STRIP_OFFSETS (offsets_from start strips) s (omega (arith, lt, length-offsets_from start strips)) (omega (arith, inside, small)) offsets.stands in
+    let count = long_value file lengths.at_entry Tags.STRIP_BYTE_COUNTS (lengths_of strips) s (omega (arith, lt, length-lengths_of strips)) (omega (arith, inside, small, len)) lengths.stands in
     rw (offsets.entry_is, lengths.entry_is, offset, count, len) (bytes_there (get_or strips s []) here)

@@ -15,7 +15,7 @@ use Rattle.fax_files.specs.declared.PageForm.{PageForm}
 use Rattle.fax_files.specs.Page.{IsPageForm, page}
 use Rattle.fax_files.specs.StripBytes.{strip_bytes}
 use Rattle.fax_files.specs.PageRows.{strip_form, joined, ArePageRows}
-use Rattle.fax_files.specs.Written.{four, directory_place, Written, with_page, WrittenPage, file_of}
+use Rattle.fax_files.specs.Written.{four, directory_place, Written, with_page, WrittenPage, file_of, max_file}
 
 -- a page that can be written: a form within the limits, of which white is 0, with the bytes of each strip
 -- (this project's profile)
@@ -66,7 +66,7 @@ pub record IsAppended (old new : Written) (q : ℕ) (written : WrittenPage) : Ty
 
 abbrev pub AppendedPagesAreRead : Type 0
 AppendedPagesAreRead = (old : Written) (total k : ℕ) (written : WrittenPage) → IsOpen old → IsWritable written
-    → length (with_page old total k written.form written.strips).bytes ≤ 268435456
+    → length (with_page old total k written.form written.strips).bytes ≤ max_file
     → IsAppended old (with_page old total k written.form written.strips) (directory_place (length old.bytes) written.strips) written
 
 -- a file is read as these pages: its chain is the pages' directories and ends properly
@@ -81,7 +81,7 @@ pub record IsReadAs (file : List ℕ) (pages : List WrittenPage) : Type 0 where
 -- the file of some pages, at most 65,535, is read as these pages where it has at most 268,435,456 bytes
 abbrev pub WrittenFilesAreRead : Type 0
 WrittenFilesAreRead = (pages : List WrittenPage) → 1 ≤ length pages → length pages ≤ 65535 → AreWritable pages
-    → length (file_of pages) ≤ 268435456 → IsReadAs (file_of pages) pages
+    → length (file_of pages) ≤ max_file → IsReadAs (file_of pages) pages
 
 -- a file has one chain of directories, which has one end (TIFF 6.0, section 2)
 pub record HasOneChain (head : Header) (file : List ℕ) : Type 0 where

@@ -1,4 +1,5 @@
 pub mod Numbers
+pub mod Tags
 pub mod Directory
 pub mod Chain
 pub mod Page

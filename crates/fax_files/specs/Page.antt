@@ -13,6 +13,7 @@ use Rattle.fax_files.specs.declared.PageForm.{PageForm}
 use Rattle.fax_files.specs.Numbers.{check, is_inside, number_at, ◌>>=◌}
 use Rattle.fax_files.specs.Directory.{Entry, RATIONAL, entries, field, values_place, has_integers}
 use Rattle.fax_files.specs.Directory.{needed, needed_scalar, scalar_or}
+use Rattle.fax_files.specs.Tags
 
 -- the number lies between these two (this project's profile)
 abbrev pub is_between : ℕ → ℕ → ℕ → Bool
@@ -21,27 +22,25 @@ is_between low high n = nat_le low n && nat_le n high
 -- a page's width and its rows (TIFF 6.0, ImageWidth and ImageLength, in the limits of this project's profile)
 unfoldable pub page_size : Endian → List ℕ → List Entry → Result (ℕ × ℕ) FileFault
 page_size endian file fields = do
-  -- ImageWidth
-  width ← needed_scalar endian file fields 256
-  _ ← check (is_between 1 65535 width) (OutOfLimits 256)
-  -- ImageLength
-  rows ← needed_scalar endian file fields 257
-  _ ← check (is_between 1 1000000 rows) (OutOfLimits 257)
+  width ← needed_scalar endian file fields Tags.IMAGE_WIDTH
+  _ ← check (is_between 1 65535 width) (OutOfLimits Tags.IMAGE_WIDTH)
+  rows ← needed_scalar endian file fields Tags.IMAGE_LENGTH
+  _ ← check (is_between 1 1000000 rows) (OutOfLimits Tags.IMAGE_LENGTH)
   Ok (width, rows)
 
 -- whether black is coded as white, and white as black: 0 where white is 0, 1 where black is
 -- (TIFF 6.0, PhotometricInterpretation)
 unfoldable pub are_exchanged : Endian → List ℕ → List Entry → Result Bool FileFault
 are_exchanged endian file fields = do
-  number ← needed_scalar endian file fields 262
-  _ ← check ((number == 0) || (number == 1)) (Unsupported 262)
+  number ← needed_scalar endian file fields Tags.PHOTOMETRIC_INTERPRETATION
+  _ ← check ((number == 0) || (number == 1)) (Unsupported Tags.PHOTOMETRIC_INTERPRETATION)
   Ok (number == 1)
 
 -- which bit of a byte comes first (TIFF 6.0, FillOrder)
 unfoldable pub fill_order : Endian → List ℕ → List Entry → Result FillOrder FileFault
 fill_order endian file fields = do
-  number ← scalar_or endian file fields 266 1
-  _ ← check ((number == 1) || (number == 2)) (Unsupported 266)
+  number ← scalar_or endian file fields Tags.FILL_ORDER 1
+  _ ← check ((number == 1) || (number == 2)) (Unsupported Tags.FILL_ORDER)
   Ok (if number == 2 then LsbFirst else MsbFirst)
 
 -- how pels are coded (TIFF 6.0, Compression, PhotometricInterpretation and FillOrder)
@@ -53,27 +52,22 @@ pub record PelFormat : Type 0 where
 -- how pels are coded: by Compression, one bit for each, either colour as 0, in a fill order (this project's profile)
 unfoldable pub pel_format : Endian → List ℕ → List Entry → Result PelFormat FileFault
 pel_format endian file fields = do
-  -- BitsPerSample
-  bits_per_sample ← scalar_or endian file fields 258 1
-  _ ← check (bits_per_sample == 1) (Unsupported 258)
-  -- Compression
-  compression ← needed_scalar endian file fields 259
-  _ ← check ((compression == 3) || (compression == 4)) (Unsupported 259)
-  -- PhotometricInterpretation
+  bits_per_sample ← scalar_or endian file fields Tags.BITS_PER_SAMPLE 1
+  _ ← check (bits_per_sample == 1) (Unsupported Tags.BITS_PER_SAMPLE)
+  compression ← needed_scalar endian file fields Tags.COMPRESSION
+  _ ← check ((compression == 3) || (compression == 4)) (Unsupported Tags.COMPRESSION)
   exchanged ← are_exchanged endian file fields
-  -- FillOrder
   order ← fill_order endian file fields
-  -- SamplesPerPixel
-  samples_per_pixel ← scalar_or endian file fields 277 1
-  _ ← check (samples_per_pixel == 1) (Unsupported 277)
+  samples_per_pixel ← scalar_or endian file fields Tags.SAMPLES_PER_PIXEL 1
+  _ ← check (samples_per_pixel == 1) (Unsupported Tags.SAMPLES_PER_PIXEL)
   Ok (record { compression = compression; exchanged = exchanged; order = order })
 
 -- the rows of each strip but the last of a page of so many rows (TIFF 6.0, RowsPerStrip; more than the page's rows
 -- means the page's rows)
 unfoldable pub strip_rows : Endian → List ℕ → List Entry → ℕ → Result ℕ FileFault
 strip_rows endian file fields rows = do
-  rows_per_strip ← scalar_or endian file fields 278 (2 ^ 32 - 1)
-  _ ← check (not (rows_per_strip == 0)) (BadField 278)
+  rows_per_strip ← scalar_or endian file fields Tags.ROWS_PER_STRIP (2 ^ 32 - 1)
+  _ ← check (not (rows_per_strip == 0)) (BadField Tags.ROWS_PER_STRIP)
   Ok (min rows_per_strip rows)
 
 -- the number of strips: the rows divided by those of a strip, rounded up (TIFF 6.0, RowsPerStrip)
@@ -89,7 +83,7 @@ pub record RowCoding : Type 0 where
 -- bit 2 is set; its other bits are ignored (TIFF 6.0, T4Options)
 unfoldable pub t4_coding : Endian → List ℕ → List Entry → Result RowCoding FileFault
 t4_coding endian file fields = do
-  options ← scalar_or endian file fields 292 0
+  options ← scalar_or endian file fields Tags.T4_OPTIONS 0
   Ok (record { coding = if options % 2 == 1 then Mr else Mh; aligned = options / 4 % 2 == 1 })
 
 -- how the rows are coded: in MMR where Compression is 4, for which T4Options is not read (TIFF 6.0, Compression)
@@ -150,8 +144,8 @@ resolution_from _ _ _ = usual_resolution
 -- a page's resolution (TIFF 6.0, XResolution, YResolution and ResolutionUnit)
 unfoldable pub resolution : Endian → List ℕ → List Entry → Resolution
 resolution endian file fields =
-    resolution_from (rational_of endian file fields 282) (rational_of endian file fields 283)
-    (scalar_or endian file fields 296 2)
+    resolution_from (rational_of endian file fields Tags.X_RESOLUTION) (rational_of endian file fields Tags.Y_RESOLUTION)
+    (scalar_or endian file fields Tags.RESOLUTION_UNIT 2)
 
 -- the form of the page whose directory stands whole at offset q, or its first fault: the fields in the order of
 -- this project's profile, each with what stands for it where it is absent, and what is refused
@@ -163,10 +157,8 @@ page endian file q = do
   rows_per_strip ← strip_rows endian file fields size.1
   let strips = strip_count size.1 rows_per_strip
   coded ← page_coding endian file fields pels.compression
-  -- StripOffsets
-  _ ← strip_field endian file fields 273 strips
-  -- StripByteCounts
-  _ ← strip_field endian file fields 279 strips
+  _ ← strip_field endian file fields Tags.STRIP_OFFSETS strips
+  _ ← strip_field endian file fields Tags.STRIP_BYTE_COUNTS strips
   let found = resolution endian file fields
   Ok (record {
     width = size.0;

@@ -3,6 +3,7 @@ use Rattle.std.specs.Prelude.{ℕ, if◌then◌else◌, List, take, drop, Option
 use Rattle.fax_files.specs.declared.Endian.{Endian}
 use Rattle.fax_files.specs.Numbers.{is_inside}
 use Rattle.fax_files.specs.Directory.{Entry, entries, field, value_at}
+use Rattle.fax_files.specs.Tags
 
 -- the bytes of a length at an offset, where they lie in the file (TIFF 6.0, StripOffsets and StripByteCounts)
 abbrev pub bytes_at : List ℕ → ℕ → ℕ → Option (List ℕ)
@@ -17,4 +18,4 @@ placed_bytes endian file _ _ s = None
 -- the bytes of strip s of the page at q, where they lie in the file (TIFF 6.0, StripOffsets and StripByteCounts)
 unfoldable pub strip_bytes : Endian → List ℕ → ℕ → ℕ → Option (List ℕ)
 strip_bytes endian file q s =
-    placed_bytes endian file (field (entries endian file q) 273) (field (entries endian file q) 279) s
+    placed_bytes endian file (field (entries endian file q) Tags.STRIP_OFFSETS) (field (entries endian file q) Tags.STRIP_BYTE_COUNTS) s

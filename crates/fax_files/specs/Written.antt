@@ -5,9 +5,13 @@ use Rattle.fax_bits.specs.declared.FillOrder.{FillOrder}
 use Rattle.fax_bits.specs.declared.FillOrder.TheVariants.{MsbFirst, LsbFirst}
 use Rattle.fax_page.specs.declared.Coding.{Coding}
 use Rattle.fax_page.specs.declared.Coding.TheVariants.{Mh, Mr, Mmr}
-use Rattle.fax_files.specs.Directory.{SHORT, LONG}
-use Rattle.fax_files.specs.Directory.{RATIONAL}
+use Rattle.fax_files.specs.Directory.{SHORT, LONG, RATIONAL}
+use Rattle.fax_files.specs.Tags
 use Rattle.fax_files.specs.declared.PageForm.{PageForm}
+
+-- the most bytes of a file that is written (this project's profile)
+abbrev pub max_file : ℕ
+max_file = 268435456
 
 -- numbers of two and of four bytes, all little-endian
 abbrev pub two : ℕ → List ℕ
@@ -50,9 +54,9 @@ fill_order_of LsbFirst = 2
 
 -- T4Options for MH and MR, with bit 2 where EOLs are aligned, T6Options for MMR
 abbrev pub options_field : Coding → Bool → WrittenField
-options_field Mh aligned = long_field 292 1 (if aligned then 4 else 0)
-options_field Mr aligned = long_field 292 1 (if aligned then 5 else 1)
-options_field Mmr aligned = long_field 293 1 0
+options_field Mh aligned = long_field Tags.T4_OPTIONS 1 (if aligned then 4 else 0)
+options_field Mr aligned = long_field Tags.T4_OPTIONS 1 (if aligned then 5 else 1)
+options_field Mmr aligned = long_field Tags.T6_OPTIONS 1 0
 
 -- the strips' offsets, the first of which is `start`
 abbrev pub offsets_from : ℕ → List (List ℕ) → List ℕ
@@ -77,36 +81,54 @@ abbrev pub array_bytes : List ℕ → List ℕ
 array_bytes (n ∷ []) = []
 array_bytes numbers = longs numbers
 
--- the fields of the directory at q of page k of `total`, of which the strips have these offsets and lengths
+-- the number of fields of a directory that is written
+abbrev pub field_count : ℕ
+field_count = 16
+
+-- how far after a directory's place stand its next offset, after the number of its fields and twelve bytes of each,
+-- and then XResolution, YResolution, and the strips' offsets where there are more than one
+abbrev pub to_link : ℕ
+to_link = 2 + 12 * field_count
+
+abbrev pub to_x : ℕ
+to_x = to_link + 4
+
+abbrev pub to_y : ℕ
+to_y = to_x + 8
+
+abbrev pub to_offsets : ℕ
+to_offsets = to_y + 8
+
+-- the fields of the directory at q of page k of `total`, of which these two place the strips
+abbrev pub fields_with : ℕ → ℕ → ℕ → PageForm → WrittenField → WrittenField → List WrittenField
+fields_with q total k form offsets byte_counts =
+    -- 2: one page of several
+    long_field Tags.NEW_SUBFILE_TYPE 1 2
+    ∷ long_field Tags.IMAGE_WIDTH 1 form.width
+    ∷ long_field Tags.IMAGE_LENGTH 1 form.rows
+    ∷ short_field Tags.BITS_PER_SAMPLE 1
+    ∷ short_field Tags.COMPRESSION (compression_of form.coding)
+    ∷ short_field Tags.PHOTOMETRIC_INTERPRETATION 0
+    ∷ short_field Tags.FILL_ORDER (fill_order_of form.order)
+    ∷ offsets
+    ∷ short_field Tags.SAMPLES_PER_PIXEL 1
+    ∷ long_field Tags.ROWS_PER_STRIP 1 form.rows_per_strip
+    ∷ byte_counts
+    ∷ rational_field Tags.X_RESOLUTION (q + to_x)
+    ∷ rational_field Tags.Y_RESOLUTION (q + to_y)
+    ∷ options_field form.coding form.aligned
+    ∷ short_field Tags.RESOLUTION_UNIT form.unit
+    ∷ record { tag = Tags.PAGE_NUMBER; kind = SHORT; count = 2; value = two k ++ two total }
+    ∷ []
+
+-- the same, of which the strips have these offsets and lengths
 abbrev pub fields_of : ℕ → ℕ → ℕ → PageForm → List ℕ → List ℕ → List WrittenField
 fields_of q total k form offsets lengths =
-    -- NewSubfileType: one page of several
-    long_field 254 1 2
-    -- ImageWidth, ImageLength
-    ∷ long_field 256 1 form.width
-    ∷ long_field 257 1 form.rows
-    -- BitsPerSample, Compression, PhotometricInterpretation, FillOrder
-    ∷ short_field 258 1
-    ∷ short_field 259 (compression_of form.coding)
-    ∷ short_field 262 0
-    ∷ short_field 266 (fill_order_of form.order)
-    -- StripOffsets
-    ∷ long_field 273 (length offsets) (one_or_place offsets (q + 214))
-    -- SamplesPerPixel, RowsPerStrip
-    ∷ short_field 277 1
-    ∷ long_field 278 1 form.rows_per_strip
-    -- StripByteCounts
-    ∷ long_field 279 (length lengths) (one_or_place lengths (q + 214 + 4 * length lengths))
-    -- XResolution, YResolution
-    ∷ rational_field 282 (q + 198)
-    ∷ rational_field 283 (q + 206)
-    -- T4Options or T6Options
-    ∷ options_field form.coding form.aligned
-    -- ResolutionUnit
-    ∷ short_field 296 form.unit
-    -- PageNumber
-    ∷ record { tag = 297; kind = SHORT; count = 2; value = two k ++ two total }
-    ∷ []
+    let offsets_place = q + to_offsets in
+    let lengths_place = offsets_place + 4 * length lengths in
+    fields_with q total k form
+    (long_field Tags.STRIP_OFFSETS (length offsets) (one_or_place offsets offsets_place))
+    (long_field Tags.STRIP_BYTE_COUNTS (length lengths) (one_or_place lengths lengths_place))
 
 -- a directory of these fields without its last four bytes, the next offset
 abbrev pub fields_bytes : List WrittenField → List ℕ
@@ -154,7 +176,7 @@ unfoldable pub with_page : Written → ℕ → ℕ → PageForm → List (List �
 with_page old total k form strips = record {
   bytes = with_four_at old.bytes old.link (directory_place (length old.bytes) strips)
       ++ page_bytes (length old.bytes) total k form strips;
-  link = directory_place (length old.bytes) strips + 194;
+  link = directory_place (length old.bytes) strips + to_link;
 }
 
 -- a page to be written: its form and the bytes of its strips

@@ -8,7 +8,7 @@ ghost use Rattle.fax_files.specs.code.Tiff.{form_of};
 
 use crate::fields::{Fields, FirstEntries};
 use crate::numbers::File;
-use crate::page::{page_form, page_strips};
+use crate::page::read_page;
 use crate::strips::Strips;
 use crate::{Endian, FileFault, PageForm};
 use std::marker::Model;
@@ -106,7 +106,7 @@ impl<'a> Directory<'a> {
         ensures exact { result ≡ form_of self.now }
         ensures limits { IfOk result IsPageForm }
     {
-        page_form(&Fields::new(self))
+        Ok(read_page(&Fields::new(self))?.0)
     }
 
     /// The places of the page's strips, where this is the page's form.
@@ -115,7 +115,7 @@ impl<'a> Directory<'a> {
         ensures directory { result.directory ≡ self.now }
         ensures count { result.count ≡ form.now.strips }
     {
-        page_strips(&Fields::new(self), form.strips)
+        read_page(&Fields::new(self)).unwrap().1
     }
 
     /// Whether the tags of the entries ascend, none standing twice (TIFF 6.0, section 2).

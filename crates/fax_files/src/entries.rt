@@ -9,11 +9,11 @@ use crate::numbers::{File, is_inside};
 use std::marker::Model;
 
 /// The type of values of two bytes.
-const SHORT_TYPE: u16 = 3;
+pub const SHORT_TYPE: u16 = 3;
 /// The type of values of four bytes.
-const LONG_TYPE: u16 = 4;
+pub const LONG_TYPE: u16 = 4;
 /// The type of fractions: two numbers of four bytes.
-const RATIONAL_TYPE: u16 = 5;
+pub const RATIONAL_TYPE: u16 = 5;
 
 /// An entry of a directory.
 #[derive(Clone, Copy)]

@@ -5,22 +5,37 @@ ghost use Rattle.fax_files.specs.Directory as Spec;
 ghost use Rattle.fax_files.specs.Page.{rational_of, IsGoodRational};
 ghost use Rattle.fax_files.specs.code.Fields.{is_sought, entries_of};
 
-use crate::FileFault;
 use crate::directory::Directory;
 use crate::entries::Entry;
 use crate::numbers::File;
+use crate::{FileFault, tags};
 use std::marker::Model;
 
+/// The number of tags that are looked for.
+const SOUGHT: usize = 14;
+
 /// The tags that are looked for, in order.
-#[rattlefmt::skip]
-pub const TAGS: [u16; 14] = [
-    256, 257, 258, 259, 262, 266, 273, 277, 278, 279, 282, 283, 292, 296,
+pub const TAGS: [u16; SOUGHT] = [
+    tags::IMAGE_WIDTH,
+    tags::IMAGE_LENGTH,
+    tags::BITS_PER_SAMPLE,
+    tags::COMPRESSION,
+    tags::PHOTOMETRIC_INTERPRETATION,
+    tags::FILL_ORDER,
+    tags::STRIP_OFFSETS,
+    tags::SAMPLES_PER_PIXEL,
+    tags::ROWS_PER_STRIP,
+    tags::STRIP_BYTE_COUNTS,
+    tags::X_RESOLUTION,
+    tags::Y_RESOLUTION,
+    tags::T4_OPTIONS,
+    tags::RESOLUTION_UNIT,
 ];
 
 /// The first entry of each tag of `TAGS`.
 #[derive(Drop)]
 pub struct FirstEntries {
-    entries: [Option<Entry>; 14],
+    entries: [Option<Entry>; SOUGHT],
 }
 
 impl FirstEntries {
@@ -31,7 +46,7 @@ impl FirstEntries {
         ensures { AreFirst [] result.entries }
     {
         FirstEntries {
-            entries: [None; 14],
+            entries: [None; SOUGHT],
         }
     }
 

@@ -13,6 +13,7 @@ mod numbers;
 mod page;
 mod pbm;
 mod strips;
+mod tags;
 mod tiff;
 mod writer;
 mod written;

@@ -1,48 +1,24 @@
 //! The form of a page, from the fields of its directory (TIFF 6.0; RFC 2306).
 
-ghost use Rattle.std.specs.Prelude.{◌≡◌, ◌≢◌, ◌+◌, ◌≤◌, length, true, Ok, IsTrue, IfOk};
+ghost use Rattle.std.specs.Prelude.{◌≡◌, ◌≢◌, ◌+◌, ◌≤◌, length, true, Ok, Err, Some, IsTrue, IfOk, IfErr};
 ghost use Rattle.fax_page.specs.declared.Coding.TheVariants.{Mmr};
 ghost use Rattle.fax_files.specs.Directory as Entries;
 ghost use Rattle.fax_files.specs.Page as Spec;
-ghost use Rattle.fax_files.specs.declared.PageForm.{PageForm};
 ghost use Rattle.fax_files.specs.code.Fields.{entries_of, is_sought};
 ghost use Rattle.fax_files.specs.code.Tiff.{form_of};
 
 use crate::entries::Entry;
 use crate::fields::Fields;
 use crate::strips::Strips;
+use crate::tags::{
+    BITS_PER_SAMPLE, COMPRESSION, FILL_ORDER, IMAGE_LENGTH, IMAGE_WIDTH,
+    PHOTOMETRIC_INTERPRETATION, RESOLUTION_UNIT, ROWS_PER_STRIP, SAMPLES_PER_PIXEL,
+    STRIP_BYTE_COUNTS, STRIP_OFFSETS, T4_OPTIONS, X_RESOLUTION, Y_RESOLUTION,
+};
 use crate::{FileFault, PageForm};
 use fax_bits::FillOrder;
 use fax_page::Coding;
 use std::marker::Model;
-
-const IMAGE_WIDTH: u16 = 256;
-
-const IMAGE_LENGTH: u16 = 257;
-
-const BITS_PER_SAMPLE: u16 = 258;
-
-const COMPRESSION: u16 = 259;
-
-const PHOTOMETRIC_INTERPRETATION: u16 = 262;
-
-const FILL_ORDER: u16 = 266;
-
-const STRIP_OFFSETS: u16 = 273;
-
-const SAMPLES_PER_PIXEL: u16 = 277;
-
-const ROWS_PER_STRIP: u16 = 278;
-
-const STRIP_BYTE_COUNTS: u16 = 279;
-
-const X_RESOLUTION: u16 = 282;
-
-const Y_RESOLUTION: u16 = 283;
-
-const T4_OPTIONS: u16 = 292;
-
-const RESOLUTION_UNIT: u16 = 296;
 
 /// Compression by T.4.
 const COMPRESSION_T4: u32 = 3;
@@ -105,11 +81,14 @@ impl Model for Resolution {
     ghost view = { λ r. record { x = r.x; y = r.y; unit = r.unit } };
 }
 
-/// The form of the page whose directory stands at an offset, or its first fault.
+/// The form of a page and the places of its strips, or its first fault.
 #[tactic(auto, unfolding(crate::specs::Page::page))]
-pub fn page_form(fields: &Fields) -> Result<PageForm, FileFault>
-    ensures exact { result ≡ Spec.page fields.now.endian fields.now.file fields.now.offset }
-    ensures limits { IfOk result Spec.IsPageForm }
+pub fn read_page<'a>(fields: &Fields<'_, 'a>) -> Result<(PageForm, Strips<'a>), FileFault>
+    ensures form { IfOk result (λ page. form_of fields.now ≡ Ok page.0) }
+    ensures fault { IfErr result (λ fault. form_of fields.now ≡ Err fault) }
+    ensures limits { IfOk result (λ page. Spec.IsPageForm page.0) }
+    ensures directory { IfOk result (λ page. page.1.directory ≡ fields.now) }
+    ensures count { IfOk result (λ page. page.1.count ≡ page.0.strips) }
 {
     let (width, rows) = page_size(fields)?;
     let PelFormat {
@@ -120,10 +99,10 @@ pub fn page_form(fields: &Fields) -> Result<PageForm, FileFault>
     let rows_per_strip = strip_rows(fields, rows)?;
     let strips = rows.div_ceil(rows_per_strip);
     let RowCoding { coding, aligned } = page_coding(fields, compression)?;
-    strip_field(fields, STRIP_OFFSETS, strips)?;
-    strip_field(fields, STRIP_BYTE_COUNTS, strips)?;
+    let offsets = strip_field(fields, STRIP_OFFSETS, strips)?;
+    let byte_counts = strip_field(fields, STRIP_BYTE_COUNTS, strips)?;
     let Resolution { x, y, unit } = page_resolution(fields);
-    Ok(PageForm {
+    let form = PageForm {
         width,
         rows,
         coding,
@@ -135,7 +114,9 @@ pub fn page_form(fields: &Fields) -> Result<PageForm, FileFault>
         x,
         y,
         unit,
-    })
+    };
+    let strips = Strips::new(fields.directory(), strips, offsets, byte_counts);
+    Ok((form, strips))
 }
 
 /// The width and the rows of a page.
@@ -276,23 +257,13 @@ fn page_resolution(fields: &Fields) -> Resolution
     }
 }
 
-/// The strips of a page whose form this is.
-pub fn page_strips<'a>(fields: &Fields<'_, 'a>, count: u32) -> Strips<'a>
-    requires { (form : PageForm) × (form_of fields.now ≡ Ok form) × (form.strips ≡ count) }
-    ensures directory { result.directory ≡ fields.now }
-    ensures count { result.count ≡ count }
-{
-    let offsets = fields.first(STRIP_OFFSETS).unwrap();
-    let byte_counts = fields.first(STRIP_BYTE_COUNTS).unwrap();
-    Strips::new(fields.directory(), count, offsets, byte_counts)
-}
-
 /// The entry of a tag, which has to have a value for each strip.
 #[tactic(auto, unfolding(crate::specs::Page::strip_field))]
 fn strip_field(fields: &Fields, tag: u16, strips: u32) -> Result<Entry, FileFault>
     requires { IsTrue (is_sought tag) }
     ensures exact { result
         ≡ Spec.strip_field fields.now.endian fields.now.file (entries_of fields.now) tag strips }
+    ensures found { IfOk result (λ entry. Entries.field (entries_of fields.now) tag ≡ Some entry) }
     ensures inside { IfOk result (λ entry. entry.place + 4 ≤ length fields.now.file) }
     ensures enough { IfOk result (λ entry.
         IsTrue (Entries.has_integers fields.now.endian fields.now.file entry strips)) }

@@ -2,10 +2,13 @@
 
 ghost use Rattle.std.specs.Prelude.{◌≡◌, ◌+◌, ◌<◌, ◌≤◌, length, false, IfOk, OnOk, OnErr, Err, ◌↔◌};
 ghost use Rattle.fax_files.specs.Page.{IsPageForm};
+ghost use Rattle.fax_files.specs.Written.{max_file};
 ghost use Rattle.fax_files.specs.code.Writing as Spec;
 
 use crate::PageForm;
-use crate::written::{MAX_FILE, append, laid_out, page_end, page_tail, set_link, strips_end};
+use crate::written::{
+    MAX_FILE, TO_LINK, append, laid_out, page_end, page_tail, set_link, strips_end,
+};
 use fax_bits::Memory;
 use std::alloc::Global;
 use std::marker::Model;
@@ -85,7 +88,7 @@ impl TiffWriter {
         ensures ok { OnOk result (self.new ≡ Spec.with_one_more self.old form.now strips.now) }
         ensures err { OnErr result (self.new ≡ self.old) }
         ensures too_large { (result ≡ Err WriteFault.OutputTooLarge)
-            ↔ (268435456 < Spec.length_with self.old form.now strips.now) }
+            ↔ (max_file < Spec.length_with self.old form.now strips.now) }
     {
         let start = self.bytes.len() as u32;
         let Some(end) = strips_end(start, strips) else {
@@ -111,7 +114,7 @@ impl TiffWriter {
             return Err(WriteFault::Memory);
         }
         set_link(&mut self.bytes, self.link as usize, at.directory);
-        self.link = at.directory + 194;
+        self.link = at.directory + TO_LINK;
         self.added += 1;
         Ok(())
     }

@@ -3,10 +3,12 @@
 ghost use Rattle.std.specs.Prelude.{◌≡◌, ◌+◌, ◌%◌, ◌<◌, ◌≤◌, ◌++◌, length, take, IfOk, OnOk, OnErr, IfSome};
 ghost use Rattle.std.specs.Option.{IfNone};
 ghost use Rattle.fax_files.specs.Written as Spec;
+ghost use Rattle.fax_files.specs.Written.{max_file};
 ghost use Rattle.fax_files.specs.code.Writing.{IsLayout, contents, laid_out_fields, tail_bytes};
 ghost use Rattle.fax_files.specs.code.Writing.{page_end as end_of_page};
 
-use crate::PageForm;
+use crate::entries::{LONG_TYPE, RATIONAL_TYPE, SHORT_TYPE};
+use crate::{PageForm, tags};
 use byteorder::{ByteOrder, LittleEndian};
 use fax_bits::FillOrder;
 use fax_page::Coding;
@@ -16,11 +18,17 @@ use std::marker::Model;
 /// The most bytes of a file that is written.
 pub const MAX_FILE: u32 = 268_435_456;
 
-const SHORT_TYPE: u16 = 3;
-
-const LONG_TYPE: u16 = 4;
-
-const RATIONAL_TYPE: u16 = 5;
+/// The number of fields of a directory.
+const FIELDS: usize = 16;
+/// How far after a directory's place its next offset stands: after the number of its fields, and
+/// twelve bytes of each.
+pub const TO_LINK: u32 = 2 + 12 * FIELDS as u32;
+/// How far after it the fraction of XResolution stands.
+const TO_X: u32 = TO_LINK + 4;
+/// How far after it the fraction of YResolution stands.
+const TO_Y: u32 = TO_X + 8;
+/// How far after it the strips' offsets stand, where there are more than one.
+const TO_OFFSETS: u32 = TO_Y + 8;
 
 /// The four bytes of a number.
 pub fn four_bytes(n: u32) -> [u8; 4]
@@ -115,9 +123,9 @@ fn options_field(coding: Coding, aligned: bool) -> Field
     ensures { result ≡ Spec.options_field coding aligned }
 {
     match coding {
-        Coding::Mh => long_field(292, 1, if aligned { 4 } else { 0 }),
-        Coding::Mr => long_field(292, 1, if aligned { 5 } else { 1 }),
-        Coding::Mmr => long_field(293, 1, 0),
+        Coding::Mh => long_field(tags::T4_OPTIONS, 1, if aligned { 4 } else { 0 }),
+        Coding::Mr => long_field(tags::T4_OPTIONS, 1, if aligned { 5 } else { 1 }),
+        Coding::Mmr => long_field(tags::T6_OPTIONS, 1, 0),
     }
 }
 
@@ -178,28 +186,28 @@ fn put_rational(out: &mut Vec<u8>, value: (u32, u32)) -> Result<(), AllocError>
 }
 
 /// The fields of a page.
-fn page_fields(form: &PageForm, at: &Layout) -> [Field; 16]
-    requires { at.now.directory ≤ 268435456 }
+fn page_fields(form: &PageForm, at: &Layout) -> [Field; FIELDS]
+    requires { at.now.directory ≤ max_file }
     ensures { result ≡ laid_out_fields at.now form.now }
 {
     [
-        long_field(254, 1, 2),
-        long_field(256, 1, form.width),
-        long_field(257, 1, form.rows),
-        short_field(258, 1),
-        short_field(259, compression(form.coding)),
-        short_field(262, 0),
-        short_field(266, fill_order(form.order)),
-        long_field(273, at.strips, at.offsets),
-        short_field(277, 1),
-        long_field(278, 1, form.rows_per_strip),
-        long_field(279, at.strips, at.byte_counts),
-        rational_field(282, at.directory + 198),
-        rational_field(283, at.directory + 206),
+        long_field(tags::NEW_SUBFILE_TYPE, 1, 2),
+        long_field(tags::IMAGE_WIDTH, 1, form.width),
+        long_field(tags::IMAGE_LENGTH, 1, form.rows),
+        short_field(tags::BITS_PER_SAMPLE, 1),
+        short_field(tags::COMPRESSION, compression(form.coding)),
+        short_field(tags::PHOTOMETRIC_INTERPRETATION, 0),
+        short_field(tags::FILL_ORDER, fill_order(form.order)),
+        long_field(tags::STRIP_OFFSETS, at.strips, at.offsets),
+        short_field(tags::SAMPLES_PER_PIXEL, 1),
+        long_field(tags::ROWS_PER_STRIP, 1, form.rows_per_strip),
+        long_field(tags::STRIP_BYTE_COUNTS, at.strips, at.byte_counts),
+        rational_field(tags::X_RESOLUTION, at.directory + TO_X),
+        rational_field(tags::Y_RESOLUTION, at.directory + TO_Y),
         options_field(form.coding, form.aligned),
-        short_field(296, form.unit),
+        short_field(tags::RESOLUTION_UNIT, form.unit),
         Field {
-            tag: 297,
+            tag: tags::PAGE_NUMBER,
             kind: SHORT_TYPE,
             count: 2,
             value: two_and_two(at.number, at.total),
@@ -269,7 +277,7 @@ pub fn page_tail(
     at: &Layout,
 ) -> Result<Vec<u8>, AllocError>
     requires end { end ≡ start + length (Spec.joined_strips (contents strips.now)) }
-    requires limit { at.now.directory ≤ 268435456 }
+    requires limit { at.now.directory ≤ max_file }
     requires strips { at.now.strips ≡ length strips.now }
     ensures { IfOk result (λ tail. tail.items
         ≡ tail_bytes end (laid_out_fields at.now form.now) form.now start (contents strips.now)) }
@@ -297,20 +305,21 @@ pub fn page_end(directory: u32, strips: u32) -> u64
     } else {
         8 * u64::from(strips)
     };
-    u64::from(directory) + 214 + arrays
+    u64::from(directory) + u64::from(TO_OFFSETS) + arrays
 }
 
 /// How a page is laid out whose strips begin at `start` and end at `end`.
 pub fn laid_out(strips: u32, start: u32, end: u32, number: u16, total: u16) -> Layout
     requires order { start ≤ end }
-    requires limit { end_of_page (end + end % 2) strips ≤ 268435456 }
+    requires limit { end_of_page (end + end % 2) strips ≤ max_file }
     ensures { IsLayout result strips start end number total }
 {
     let directory = end + end % 2;
     let (offsets, byte_counts) = if strips == 1 {
         (start, end - start)
     } else {
-        (directory + 214, directory + 214 + 4 * strips)
+        let offsets = directory + TO_OFFSETS;
+        (offsets, offsets + 4 * strips)
     };
     Layout {
         total,
@@ -343,11 +352,11 @@ fn set_four(bytes: &mut [u8], place: usize, n: u32)
 
 /// The place behind strips that begin at a place, if it is within the limit of a file.
 pub fn strips_end(start: u32, strips: &[Vec<u8>]) -> Option<u32>
-    requires { start ≤ 268435456 }
+    requires { start ≤ max_file }
     ensures found { IfSome result (λ end. end
         ≡ start + length (Spec.joined_strips (contents strips.now))) }
-    ensures limit { IfSome result (λ end. end ≤ 268435456) }
-    ensures none { IfNone result (268435456
+    ensures limit { IfSome result (λ end. end ≤ max_file) }
+    ensures none { IfNone result (max_file
         < start + length (Spec.joined_strips (contents strips.now))) }
 {
     let mut end = start;

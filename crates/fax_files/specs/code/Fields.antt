@@ -15,8 +15,8 @@ entries_of directory = entries directory.endian directory.file directory.offset
 
 -- for each tag that is looked for, the first of these entries
 pub record AreFirst (fields : List Entry) (first : List (Option Entry)) : Type 0 where
-  pub count : length first ≡ 14
-  pub first_is : (i : ℕ) → i < 14 → get_or first i None ≡ field fields (get_or TAGS i 0)
+  pub count : length first ≡ length TAGS
+  pub first_is : (i : ℕ) → i < length TAGS → get_or first i None ≡ field fields (get_or TAGS i 0)
 
 -- the same for the entries of a directory that lies whole in its file
 pub record AreFieldsOf (directory : TiffDirectory) (first : List (Option Entry)) : Type 0 where

@@ -7,6 +7,7 @@ use Rattle.fax_files.specs.declared.PageForm.{PageForm}
 use Rattle.fax_files.specs.Directory.{Entry, entries, field, has_integers, is_directory}
 use Rattle.fax_files.specs.Page.{page}
 use Rattle.fax_files.specs.StripBytes.{strip_bytes}
+use Rattle.fax_files.specs.Tags
 
 -- a file and what its header says
 pub record TiffFile : Type 0 where
@@ -42,8 +43,8 @@ pub record PageStrips : Type 0 where
 
 -- the entries of a page's strips, each with a value for each strip
 pub record AreStripPlaces (directory : TiffDirectory) (count : ℕ) (offsets counts : Entry) : Type 0 where
-  pub offsets_are : field (entries directory.endian directory.file directory.offset) 273 ≡ Some offsets
-  pub counts_are : field (entries directory.endian directory.file directory.offset) 279 ≡ Some counts
+  pub offsets_are : field (entries directory.endian directory.file directory.offset) Tags.STRIP_OFFSETS ≡ Some offsets
+  pub counts_are : field (entries directory.endian directory.file directory.offset) Tags.STRIP_BYTE_COUNTS ≡ Some counts
   pub offsets_inside : offsets.place + 4 ≤ length directory.file
   pub counts_inside : counts.place + 4 ≤ length directory.file
   pub offsets_there : IsTrue (has_integers directory.endian directory.file offsets count)

@@ -1,10 +1,10 @@
 use Rattle.std.proofs.Common.{◌≡◌, ◌+◌, ◌≤◌, length, take}
-use Rattle.fax_files.specs.Written.{joined_strips}
+use Rattle.fax_files.specs.Written.{max_file, joined_strips}
 use Rattle.fax_files.specs.code.Writing.{contents}
 use Rattle.fax_files.proofs.written.strips_end.Given as goal
 
 abbrev pub invariant-loop-strip : goal.invariant-loop-strip
 invariant-loop-strip l = record {
   end : l.end ≡ l.start + length (joined_strips (contents (take l.strip-index l.strips)));
-  limit : l.end ≤ 268435456;
+  limit : l.end ≤ max_file;
 }
