@@ -5,6 +5,7 @@ ghost use Rattle.fax_walk.specs.Forms.{FormItem};
 ghost use Rattle.fax_walk.specs.Items.{Item};
 ghost use Rattle.fax_walk.specs.Laws as Laws;
 ghost use Rattle.fax_walk.specs.LongLaws as LongLaws;
+ghost use Rattle.fax_walk.specs.PageLaws as PageLaws;
 ghost use Rattle.fax_walk.specs.code.Due.{IsDue};
 ghost use Rattle.fax_walk.specs.code.Pages.{AreFormsDue};
 ghost use Rattle.fax_walk.specs.declared.end.End.{End};
@@ -197,4 +198,54 @@ pub fn pages_have_forms(pages: &Pages)
     ensures { (forms : List FormItem) × (end : End) × AreFormsDue pages.now forms end }
 {
     pages.has_forms();
+}
+
+/// Whatever a walk begins with has a tail and an end, and one only.
+pub fn beginnings_have_one_tail()
+    ensures { PageLaws.BeginningsHaveOneTail }
+{
+    fax_bits::laws::bits_stand_by_place();
+    fax_page::laws::lines_are_read_in_one_way();
+    fax_files::laws::files_have_one_chain();
+    fax_files::laws::forms_are_whole();
+}
+
+/// Each cursor has a tail of forms and an end, and one only. From a page's first row it is the forms
+/// from that page on, and what follows a form is the tail from the cursor after it.
+pub fn form_tails_are_one()
+    ensures one { PageLaws.CursorsHaveOneFormTail }
+    ensures first { PageLaws.FormTailOfPage }
+    ensures after { PageLaws.FormTailsGoOn }
+    ensures same { PageLaws.FormTailsAreAsBefore }
+{
+    fax_files::laws::files_have_one_chain();
+    cursors_have_one_form_tail();
+}
+
+/// What follows item number n is the tail from the cursor after it, and from the place inside a
+/// strip after it, if there is one. Rows of its strip lead to that place. The tail from the first
+/// cursor is all items of the file.
+pub fn tails_go_on()
+    ensures cursors { PageLaws.TailsGoOn }
+    ensures places { PageLaws.LongTailsGoOn }
+    ensures reached { PageLaws.PlacesAreReached }
+    ensures start { PageLaws.TailOfStart }
+{
+    fax_bits::laws::bits_stand_by_place();
+    fax_page::laws::lines_are_read_in_one_way();
+    fax_files::laws::files_have_one_chain();
+    fax_files::laws::forms_are_whole();
+}
+
+/// What a walk still hands out is one list with one end. Each item that it hands out is the first of
+/// it, and what is left is the tail from the walk's cursor, and from its place inside a strip.
+pub fn walks_go_on()
+    ensures one { PageLaws.LeftIsOne }
+    ensures items { PageLaws.LeftGoesOn }
+    ensures ends { PageLaws.LeftEnds }
+    ensures cursor { PageLaws.LeftIsTail }
+    ensures place { PageLaws.LeftIsLongTail }
+{
+    beginnings_have_one_tail();
+    tails_go_on();
 }
