@@ -22,12 +22,12 @@ use Rattle.fax_walk.specs.Pages.{IsPageAt, IsForm, IsFormTail, page_or_end, end_
 use Rattle.fax_walk.specs.PageLaws.{FormTailsAreAsBefore}
 use Rattle.fax_walk.proofs.PageLawLemmas.{one_form_tail, no_page, some_page, next_dropped, page_here}
 
-dropped_at : (n : ℕ) (xs : List ℕ) (y : ℕ) → slice_get xs n ≡ Some y → drop n xs ≡ y ∷ drop (n + 1) xs
+pub dropped_at : (n : ℕ) (xs : List ℕ) (y : ℕ) → slice_get xs n ≡ Some y → drop n xs ≡ y ∷ drop (n + 1) xs
 dropped_at n [] y e = absurd cc
 dropped_at zero (x ∷ xs) y e = let same : x ≡ y = cc in ap (λ (i : ℕ). i ∷ xs) same
 dropped_at (suc n) (x ∷ xs) y e = let m : suc n + 1 ≡ suc (n + 1) = omega arith in rw m (dropped_at n xs y e)
 
-proper_end : (pages : ℕ) (fault : Option FileFault) → chain_end pages fault ≡ end_past_chain pages fault (record { page = pages; row = 0 })
+pub proper_end : (pages : ℕ) (fault : Option FileFault) → chain_end pages fault ≡ end_past_chain pages fault (record { page = pages; row = 0 })
 proper_end pages None = let test : (pages == pages) ≡ true = grind (arith, nat_tests) in rw test refl
 proper_end pages (Some fault) = refl
 

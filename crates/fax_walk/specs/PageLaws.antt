@@ -1,5 +1,5 @@
 -- Laws of what the pages of a file hand out, which the functions of the module `laws` prove.
-use Rattle.std.specs.Prelude.{◌≡◌, ◌↔◌, ℕ, ◌+◌, ◌*◌, ◌<◌, List, [], ◌∷◌, length, drop, Some, None, Ok, slice_get, ⊤}
+use Rattle.std.specs.Prelude.{◌≡◌, ◌↔◌, ℕ, ◌+◌, ◌*◌, ◌<◌, List, [], ◌∷◌, map, length, drop, Some, None, Ok, slice_get, ⊤}
 use Rattle.fax_walk.specs.declared.begun.Begun.{Begun}
 use Rattle.fax_walk.specs.declared.begun.Begun.TheVariants.{At, Inside}
 use Rattle.fax_walk.specs.declared.cursor.Cursor.{Cursor}
@@ -9,6 +9,8 @@ use Rattle.fax_walk.specs.LongCursor.{LongPlace}
 use Rattle.fax_walk.specs.Laws.{IsOne}
 use Rattle.fax_walk.specs.InOrder.{AreFrom, LeadTo}
 use Rattle.fax_walk.specs.Forms as OfReader
+use Rattle.fax_walk.specs.Items as Items
+use Rattle.fax_walk.specs.LongTail as LongTail
 use Rattle.fax_walk.specs.Forms.{FormItem}
 use Rattle.fax_walk.specs.Pages.{IsForm, IsFormTail, FilePage, IsPageAt}
 use Rattle.fax_walk.specs.Left.{WalkView, IsLeft, IsItemNumber, EndsAfter, IsCursorOf, IsLongOf}
@@ -111,3 +113,22 @@ LeftIsLongTail =
 -- these forms are the ones that the definitions for a reader of pages alone give (this project's profile)
 abbrev pub FormTailsAreAsBefore : Type 0
 FormTailsAreAsBefore = (file : List ℕ) (at : Cursor) (forms : List FormItem) (end : End) → OfReader.IsFormTail file at forms end ↔ IsFormTail file at forms end
+
+-- an item of the definitions by strips: one without its bits (this project's profile)
+abbrev pub plain : Item → Items.Item
+plain item = record { page = item.page; row = item.row; pels = item.pels }
+
+-- these items without their bits (this project's profile)
+abbrev pub HasPlain : (List Item → End → Type 0) → List Items.Item → End → Type 0
+HasPlain holds items end = (all : List Item) × holds all end × (items ≡ map plain all)
+
+-- a walk that begins so hands out the items of the definitions by strips (this project's profile)
+abbrev pub RowTailsAreAsBefore : Type 0
+RowTailsAreAsBefore =
+    (file : List ℕ) (begun : Begun) (items : List Items.Item) (end : End)
+    → LongTail.IsTailFrom file begun items end ↔ HasPlain (IsTailFrom file begun) items end
+
+-- a file has the items of the definitions by strips (this project's profile)
+abbrev pub RowsAreAsBefore : Type 0
+RowsAreAsBefore =
+    (file : List ℕ) (items : List Items.Item) (end : End) → Items.AreItems file items end ↔ HasPlain (AreItems file) items end

@@ -237,6 +237,22 @@ pub fn tails_go_on()
     fax_files::laws::forms_are_whole();
 }
 
+/// The tails of rows, and the rows of a file, are those of the definitions by strips, but for the
+/// bits after each row.
+pub fn rows_are_as_before()
+    ensures tails { PageLaws.RowTailsAreAsBefore }
+    ensures all { PageLaws.RowsAreAsBefore }
+{
+    fax_bits::laws::bits_stand_by_place();
+    fax_files::laws::files_have_one_chain();
+    fax_files::laws::forms_are_whole();
+    cursors_have_one_tail();
+    places_have_one_tail();
+    tail_of_start();
+    beginnings_have_one_tail();
+    tails_go_on();
+}
+
 /// What a walk still hands out is one list with one end. Each item that it hands out is the first of
 /// it, and what is left is the tail from the walk's cursor, and from its place inside a strip.
 pub fn walks_go_on()
