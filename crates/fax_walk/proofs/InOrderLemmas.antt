@@ -15,7 +15,7 @@ pub record IsOneAnswer {A : Type 0} (holds : A → Type 0) : Type 0 where
 pub same_answer : {A : Type 0} {holds : A → Type 0} → IsOneAnswer holds → (x y : A) → holds x → holds y → x ≡ y
 same_answer only x y is is_too = only.one x is ∙ sym (only.one y is_too)
 
-same_step : {S A : Type 0} {next : Result (A × S) End → Type 0} → IsOneAnswer next → (x y : A) (to place : S)
+pub same_step : {S A : Type 0} {next : Result (A × S) End → Type 0} → IsOneAnswer next → (x y : A) (to place : S)
     → next (Ok (x, to)) → next (Ok (y, place)) → (x ≡ y) × (to ≡ place)
 same_step {S} {A} only x y to place is is_too =
     let same = same_answer only (Ok (x, to)) (Ok (y, place)) is is_too in

@@ -1,6 +1,7 @@
 -- What is asked of a file's pages has one answer, and so have its forms.
-use Rattle.std.proofs.Common.{◌≡◌, ℕ, zero, suc, ◌+◌, List, [], ◌∷◌, length, drop, Option, Some, None, Result, Ok, Err, refl, sym, ap, ◌∙◌, subst, arith}
-use Rattle.std.specs.Prelude.{slice_get}
+use Rattle.std.proofs.Common.{◌≡◌, ℕ, zero, suc, ◌+◌, List, [], ◌∷◌, length, drop, Option, Some, None, Result, Ok, Err, refl, sym, ap, ◌∙◌, subst, arith, true}
+use Rattle.std.specs.Prelude.{slice_get, ◌==◌}
+use Rattle.std.proofs.lemmas.Bool.Decides.{nat_tests}
 use Rattle.fax_files.specs.declared.FileFault.{FileFault}
 use Rattle.fax_files.specs.declared.Cause.TheVariants.{File}
 use Rattle.fax_files.specs.declared.PageForm.{PageForm}
@@ -12,10 +13,10 @@ use Rattle.fax_walk.specs.declared.cursor.Cursor.{Cursor}
 use Rattle.fax_walk.specs.declared.end.End.{End}
 use Rattle.fax_walk.specs.declared.end.End.TheVariants.{Fault}
 use Rattle.fax_walk.specs.InOrder.{AreFrom, AreBegun}
-use Rattle.fax_walk.specs.Forms.{FormItem}
-use Rattle.fax_walk.specs.Pages.{FilePage, page_over, IsPageUnder, IsPageAt, IsAsked, IsOnPage, IsForm, first_form, IsFormTail, end_past_chain, page_or_end}
-use Rattle.fax_walk.specs.PageLaws.{CursorsHaveOneFormTail, FormTailOfPage, FormTailsGoOn}
-use Rattle.fax_walk.proofs.InOrderLemmas.{IsOneAnswer, IsListed, one_begun, split_at_number}
+use Rattle.fax_walk.specs.Items as Items
+use Rattle.fax_walk.specs.Pages.{FormItem, FilePage, page_over, IsPageUnder, IsPageAt, IsAsked, IsOnPage, IsForm, first_form, IsFormTail, end_past_chain, page_or_end}
+use Rattle.fax_walk.specs.PageLaws.{FilesHaveOneForms, CursorsHaveOneFormTail, FormTailOfPage, FormTailOfStart, FormsStandByNumber, FormTailsGoOn}
+use Rattle.fax_walk.proofs.InOrderLemmas.{IsOneAnswer, IsListed, same_answer, same_step, one_list, one_begun, split_at_number}
 
 -- an equation has one answer
 pub only_it : {A : Type 0} (it : A) → IsOneAnswer (λ (other : A). other ≡ it)
@@ -39,6 +40,15 @@ next_dropped zero [] y ys e = absurd cc
 next_dropped (suc n) [] y ys e = absurd cc
 next_dropped zero (x ∷ xs) y ys e = cc
 next_dropped (suc n) (x ∷ xs) y ys e = let m : suc n + 1 ≡ suc (n + 1) = omega arith in rw m (next_dropped n xs y ys e)
+
+pub dropped_at : (n : ℕ) (xs : List ℕ) (y : ℕ) → slice_get xs n ≡ Some y → drop n xs ≡ y ∷ drop (n + 1) xs
+dropped_at n [] y e = absurd cc
+dropped_at zero (x ∷ xs) y e = let same : x ≡ y = cc in ap (λ (i : ℕ). i ∷ xs) same
+dropped_at (suc n) (x ∷ xs) y e = let m : suc n + 1 ≡ suc (n + 1) = omega arith in rw m (dropped_at n xs y e)
+
+pub proper_end : (pages : ℕ) (fault : Option FileFault) → Items.chain_end pages fault ≡ end_past_chain pages fault (record { page = pages; row = 0 })
+proper_end pages None = let test : (pages == pages) ≡ true = grind (arith, nat_tests) in rw test refl
+proper_end pages (Some fault) = refl
 
 module _ (chains : FilesHaveOneChain) (file : List ℕ) where
   page_under : (at : Cursor) (answer : Result Header FileFault) → IsOneAnswer (IsPageUnder file at answer)
@@ -74,8 +84,30 @@ module _ (chains : FilesHaveOneChain) (file : List ℕ) where
         one = λ other is. only.one other (subst (λ (f : Result FilePage End). IsAsked asked f other) (found.one is.0 is.1) is.2);
       }
 
-  one_form : (p : ℕ) → IsOneAnswer (IsForm file p)
+  pub one_form : (p : ℕ) → IsOneAnswer (IsForm file p)
   one_form p = one_on_page (record { page = p; row = 0 }) _ (λ here. only_it (Ok (record { page = p; form = here.form }, p + 1)))
+
+-- the forms from page p on, with what is at the page
+abbrev pub FormsAt : List ℕ → ℕ → Result FilePage End → List FormItem → End → Type 0
+FormsAt file p (Err none) forms end = (forms ≡ []) × (end ≡ none)
+FormsAt file p (Ok here) forms end =
+    (others : List FormItem) × (forms ≡ record { page = p; form = here.form } ∷ others) × AreFrom (IsForm file) (p + 1) others end
+
+module _ (chains : FilesHaveOneChain) (file : List ℕ) where
+  pub forms_at : (p : ℕ) (found : Result FilePage End) → IsPageAt file (record { page = p; row = 0 }) found → (forms : List FormItem) (end : End)
+      → AreFrom (IsForm file) p forms end → FormsAt file p found forms end
+  forms_at p (Err none) is [] end step =
+      let same = same_answer (one_form chains file p) (Err end) (Err none) step (Err none, is, refl) in
+      (refl, cc)
+  forms_at p (Err none) is (x ∷ forms) end (to, step, rest) =
+      let same = same_answer (one_form chains file p) (Ok (x, to)) (Err none) step (Err none, is, refl) in
+      absurd cc
+  forms_at p (Ok here) is [] end step =
+      let same = same_answer (one_form chains file p) (Err end) (Ok (record { page = p; form = here.form }, p + 1)) step (Ok here, is, refl) in
+      absurd cc
+  forms_at p (Ok here) is (x ∷ forms) end (to, step, rest) =
+      let same = same_step (one_form chains file p) x (record { page = p; form = here.form }) to (p + 1) step (Ok here, is, refl) in
+      (forms, ap (λ (i : FormItem). i ∷ forms) same.0, subst (λ (n : ℕ). AreFrom (IsForm file) n forms end) same.1 rest)
 
 -- the pages after a directory that stands in the chain
 module _ (file : List ℕ) (head : Header) (is_head : header file ≡ Ok head) (offsets : List ℕ) (fault : Option FileFault) (chain : IsChain head file offsets fault) where
@@ -116,6 +148,9 @@ module _ (chains : FilesHaveOneChain) (file : List ℕ) where
       let chain = chains head file in
       forms_after file head e chain.offsets chain.end chain.is (drop p chain.offsets) p refl
 
+pub one_forms : FilesHaveOneChain → FilesHaveOneForms
+one_forms chains file = one_list (IsForm file) (one_form chains file) 0 (forms_listed chains file 0 (header file) refl)
+
 pub one_form_tail : FilesHaveOneChain → CursorsHaveOneFormTail
 one_form_tail chains file at =
     let begin = one_on_page chains file at (λ here b. b ≡ first_form at here.form) (λ here. only_it (first_form at here.form)) in
@@ -155,6 +190,39 @@ module _ (file : List ℕ) where
       item_of : Result (FormItem × ℕ) End → FormItem
       item_of (Ok step) = step.0
       item_of (Err none) = item
+
+module _ (file : List ℕ) where
+  form_page : (p : ℕ) (item : FormItem) (to : ℕ) → IsForm file p (Ok (item, to)) → (item.page ≡ p) × (to ≡ p + 1)
+  form_page p item to (Err none, page, e) = absurd cc
+  form_page p item to (Ok here, page, e) = (ap (λ (i : FormItem). i.page) (ap item_of e), ap to_of e)
+    where
+      to_of : Result (FormItem × ℕ) End → ℕ
+      to_of (Ok step) = step.1
+      to_of (Err none) = to
+
+      item_of : Result (FormItem × ℕ) End → FormItem
+      item_of (Ok step) = step.0
+      item_of (Err none) = item
+
+  stand_by_number : (forms : List FormItem) (p n : ℕ) (item : FormItem) (end : End) → AreFrom (IsForm file) p forms end → slice_get forms n ≡ Some item
+      → item.page ≡ p + n
+  stand_by_number [] p n item end are there = absurd cc
+  stand_by_number (x ∷ forms) p zero item end (to, step, rest) there =
+      let same : x ≡ item = cc in
+      let none : p ≡ p + 0 = omega arith in
+      ap (λ (i : FormItem). i.page) (sym same) ∙ (form_page p x to step).0 ∙ none
+  stand_by_number (x ∷ forms) p (suc n) item end (to, step, rest) there =
+      let here = form_page p x to step in
+      let later = stand_by_number forms to n item end rest there in
+      omega (arith, later, here.1)
+
+pub forms_stand_by_number : FormsStandByNumber
+forms_stand_by_number file forms end n item are there =
+    let none : 0 + n ≡ n = omega arith in
+    stand_by_number file forms 0 n item end are there ∙ none
+
+pub form_tail_of_start : FormTailOfStart
+form_tail_of_start file forms end = (to_forms file 0 forms end, of_forms file 0 forms end)
 
 pub form_tail_of_page : FormTailOfPage
 form_tail_of_page file p forms end = (to_forms file p forms end, of_forms file p forms end)

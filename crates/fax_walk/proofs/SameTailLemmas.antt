@@ -29,8 +29,7 @@ use Rattle.fax_walk.specs.Rows.{Item, Place, first_at, IsTailFrom}
 use Rattle.fax_walk.specs.PageLaws.{plain}
 use Rattle.fax_walk.proofs.LongStripLemmas.{in_strip}
 use Rattle.fax_walk.proofs.PageItemLemmas.{total, shown_length}
-use Rattle.fax_walk.proofs.PageLawLemmas.{no_page, some_page, next_dropped, page_here}
-use Rattle.fax_walk.proofs.SameFormLemmas.{dropped_at, proper_end}
+use Rattle.fax_walk.proofs.PageLawLemmas.{dropped_at, proper_end, no_page, some_page, next_dropped, page_here}
 use Rattle.fax_walk.proofs.SameRowLemmas.{HasItems, place_of, strips_from}
 
 -- these items, with the bits after each, are what a walk hands out that begins so

@@ -1,5 +1,5 @@
 -- What a walk still hands out.
-use Rattle.std.specs.Prelude.{◌≡◌, ℕ, ◌+◌, ◌<◌, ◌≤◌, ◌⊎◌, List, [], length, drop, Option, Some, None, Result, Ok, Err, slice_get}
+use Rattle.std.specs.Prelude.{◌≡◌, ℕ, ◌+◌, ◌<◌, ◌≤◌, ◌⊎◌, List, Option, Some, None, Result, Ok, Err}
 use Rattle.std.specs.Borrow.{Bor}
 use Rattle.fax_bits.specs.declared.Colour.{Colour}
 use Rattle.fax_walk.specs.declared.begun.Begun.{Begun}
@@ -11,6 +11,7 @@ use Rattle.fax_walk.specs.declared.end.WalkFault.{WalkFault}
 use Rattle.fax_walk.specs.declared.end.WalkFault.TheVariants.{Memory, AtRow, CursorOutside}
 use Rattle.fax_walk.specs.declared.walk.Place.{Place}
 use Rattle.fax_walk.specs.LongCursor.{LongPlace}
+use Rattle.fax_walk.specs.InOrder.{IsNumber, EndsAfter, HasToldNoOther, IsLeftOf}
 use Rattle.fax_walk.specs.Pages.{FilePage, IsPageAt}
 use Rattle.fax_walk.specs.Rows as Rows
 use Rattle.fax_walk.specs.Rows.{Begins, Item, IsTailFrom, begins_at, cursor_after, long_after}
@@ -22,26 +23,17 @@ pub record WalkView : Type 0 where
   pub given : ℕ
   pub told : Option End
 
--- the rows have not ended yet, or they have, so, and none is left
-abbrev pub IsTold : Option End → List Item → End → Type 0
-IsTold None items end = Unit {0}
-IsTold (Some told) items end = (items ≡ []) × (end ≡ told)
+-- what a walk hands out in all
+abbrev pub IsTailOf : WalkView → List Item → End → Type 0
+IsTailOf walk = IsTailFrom walk.file walk.begun
 
 -- what a walk still hands out: these items in order, and then this end
-pub record IsLeft (walk : WalkView) (items : List Item) (end : End) : Type 0 where
-  pub all : List Item
-  pub tail : IsTailFrom walk.file walk.begun all end
-  pub within : walk.given ≤ length all
-  pub rest : items ≡ drop walk.given all
-  pub told : IsTold walk.told items end
+abbrev pub IsLeft : WalkView → List Item → End → Type 0
+IsLeft walk = IsLeftOf (IsTailOf walk) walk.given walk.told
 
 -- item number n of what a walk hands out that began so
 abbrev pub IsItemNumber : List ℕ → Begun → ℕ → Item → Type 0
-IsItemNumber file begun n item = (all : List Item) × (end : End) × IsTailFrom file begun all end × (slice_get all n ≡ Some item)
-
--- a walk that began so hands out n items, and then the rows end so
-abbrev pub EndsAfter : List ℕ → Begun → ℕ → End → Type 0
-EndsAfter file begun n end = (all : List Item) × IsTailFrom file begun all end × (length all ≡ n)
+IsItemNumber file begun n item = IsNumber (IsTailFrom file begun) n item
 
 -- a page is entered with item number n: it is the first one, or the one before it was its page's last row
 abbrev pub EntersPage : List ℕ → Begun → ℕ → Type 0
@@ -52,7 +44,8 @@ EntersPage file begun n =
 
 -- the rows have ended so
 abbrev pub HasEndedAs : WalkView → End → WalkView → Type 0
-HasEndedAs old end new = EndsAfter old.file old.begun old.given end × (new ≡ record old { told = Some end })
+HasEndedAs old end new =
+    EndsAfter (IsTailOf old) old.given end × HasToldNoOther old.told end × (new ≡ record old { told = Some end })
 
 -- a row that is lent, with its place, is this item
 abbrev pub IsLent : Place × Bor (List Colour) → Item → Type 0

@@ -7,13 +7,12 @@ use Rattle.fax_walk.specs.declared.end.End.{End}
 use Rattle.fax_walk.specs.Cursor.{start}
 use Rattle.fax_walk.specs.LongCursor.{LongPlace}
 use Rattle.fax_walk.specs.Laws.{IsOne}
-use Rattle.fax_walk.specs.InOrder.{AreFrom, LeadTo}
-use Rattle.fax_walk.specs.Forms as OfReader
 use Rattle.fax_walk.specs.Items as Items
 use Rattle.fax_walk.specs.LongTail as LongTail
-use Rattle.fax_walk.specs.Forms.{FormItem}
-use Rattle.fax_walk.specs.Pages.{IsForm, IsFormTail, FilePage, IsPageAt}
-use Rattle.fax_walk.specs.Left.{WalkView, IsLeft, IsItemNumber, EndsAfter, IsCursorOf, IsLongOf}
+use Rattle.fax_walk.specs.Pages.{FormItem, IsForm, IsFormTail, AreForms, FilePage, IsPageAt, cursor_after_page}
+use Rattle.fax_walk.specs.PagesLeft.{PagesView, AreFormsLeft, HandsOutPage, PagesHaveEnded}
+use Rattle.fax_walk.specs.InOrder.{AreFrom, LeadTo, EndsAfter}
+use Rattle.fax_walk.specs.Left.{WalkView, IsTailOf, IsLeft, IsItemNumber, IsCursorOf, IsLongOf}
 use Rattle.fax_walk.specs.Rows.{Item, first_at, strip_at, row_in_strip, inner_at, IsRow, AreItems, IsTailFrom, cursor_after, long_after}
 
 -- whatever a walk begins with has a tail and an end, and one only (this project's profile)
@@ -61,6 +60,10 @@ PlacesAreReached =
     → IsPageAt file (record { page = item.page; row = item.row }) (Ok here) → long_after here.form item ≡ Some place
     → IsReached file (Inside place)
 
+-- each file has forms and an end, and one list of them only (this project's profile)
+abbrev pub FilesHaveOneForms : Type 0
+FilesHaveOneForms = (file : List ℕ) → IsOne (AreForms file)
+
 -- each cursor has a tail of forms and an end, and one only (this project's profile)
 abbrev pub CursorsHaveOneFormTail : Type 0
 CursorsHaveOneFormTail = (file : List ℕ) (at : Cursor) → IsOne (IsFormTail file at)
@@ -71,12 +74,22 @@ FormTailOfPage =
     (file : List ℕ) (p : ℕ) (forms : List FormItem) (end : End)
     → IsFormTail file (record { page = p; row = 0 }) forms end ↔ AreFrom (IsForm file) p forms end
 
+-- the forms from the first cursor on are all forms of the file (this project's profile)
+abbrev pub FormTailOfStart : Type 0
+FormTailOfStart = (file : List ℕ) (forms : List FormItem) (end : End) → IsFormTail file start forms end ↔ AreForms file forms end
+
+-- page number n of a file has the number n (this project's profile)
+abbrev pub FormsStandByNumber : Type 0
+FormsStandByNumber =
+    (file : List ℕ) (forms : List FormItem) (end : End) (n : ℕ) (item : FormItem)
+    → AreForms file forms end → slice_get forms n ≡ Some item → item.page ≡ n
+
 -- what follows page number n is the forms from the cursor after it on, with the same end (this project's profile)
 abbrev pub FormTailsGoOn : Type 0
 FormTailsGoOn =
     (file : List ℕ) (at : Cursor) (all : List FormItem) (end : End) (n : ℕ) (item : FormItem)
     → IsFormTail file at all end → slice_get all n ≡ Some item
-    → IsFormTail file (record { page = item.page + 1; row = 0 }) (drop (n + 1) all) end
+    → IsFormTail file (cursor_after_page item) (drop (n + 1) all) end
 
 -- what a walk still hands out is one list with one end (this project's profile)
 abbrev pub LeftIsOne : Type 0
@@ -94,7 +107,7 @@ LeftGoesOn =
 -- where the rows end after `given` items, nothing was left but that end (this project's profile)
 abbrev pub LeftEnds : Type 0
 LeftEnds =
-    (walk : WalkView) (end : End) → walk.told ≡ None → EndsAfter walk.file walk.begun walk.given end
+    (walk : WalkView) (end : End) → walk.told ≡ None → EndsAfter (IsTailOf walk) walk.given end
     → IsLeft walk [] end × IsLeft (record walk { told = Some end }) [] end
 
 -- what a walk still hands out after its first item is the tail from its cursor (this project's profile)
@@ -110,9 +123,15 @@ LeftIsLongTail =
     (walk : WalkView) (items : List Item) (end : End) (place : LongPlace)
     → IsLeft walk items end → IsLongOf walk (Some place) → IsTailFrom walk.file (Inside place) items end
 
--- these forms are the ones that the definitions for a reader of pages alone give (this project's profile)
-abbrev pub FormTailsAreAsBefore : Type 0
-FormTailsAreAsBefore = (file : List ℕ) (at : Cursor) (forms : List FormItem) (end : End) → OfReader.IsFormTail file at forms end ↔ IsFormTail file at forms end
+-- where a reader of pages hands out a page, what was left is that page, and then what is left (this project's profile)
+abbrev pub FormsLeftGoOn : Type 0
+FormsLeftGoOn =
+    (old new : PagesView) (item : FormItem) (forms : List FormItem) (end : End)
+    → HandsOutPage old item new → AreFormsLeft new forms end → AreFormsLeft old (item ∷ forms) end
+
+-- where its pages end, nothing was left but that end (this project's profile)
+abbrev pub FormsLeftEnd : Type 0
+FormsLeftEnd = (old new : PagesView) (end : End) → PagesHaveEnded old end new → AreFormsLeft old [] end × AreFormsLeft new [] end
 
 -- an item of the definitions by strips: one without its bits (this project's profile)
 abbrev pub plain : Item → Items.Item

@@ -10,7 +10,6 @@ use Rattle.fax_files.specs.Page.{page}
 use Rattle.fax_walk.specs.declared.cursor.Cursor.{Cursor}
 use Rattle.fax_walk.specs.declared.end.End.{End}
 use Rattle.fax_walk.specs.declared.end.End.TheVariants.{Proper, Fault, Outside}
-use Rattle.fax_walk.specs.Forms.{FormItem}
 use Rattle.fax_walk.specs.InOrder.{AreFrom, AreBegun}
 
 -- a page of a file: the byte order, its directory's offset and its form (TIFF 6.0, section 2)
@@ -56,6 +55,11 @@ IsAsked asked (Ok here) answer = asked here answer
 abbrev pub IsOnPage : {A : Type 0} → List ℕ → Cursor → (FilePage → Result A End → Type 0) → Result A End → Type 0
 IsOnPage file at asked answer = (found : Result FilePage End) × IsPageAt file at found × IsAsked asked found answer
 
+-- the form of a page with its number, from 0 (this project's profile)
+pub record FormItem : Type 0 where
+  pub page : ℕ
+  pub form : PageForm
+
 -- the form of page p, and the page after it; its strips are not looked at (TIFF 6.0, section 2)
 abbrev pub IsForm : List ℕ → ℕ → Result (FormItem × ℕ) End → Type 0
 IsForm file p =
@@ -78,3 +82,7 @@ IsFormTail file at forms end =
 -- the forms of a file's pages and their end (TIFF 6.0, section 2)
 abbrev pub AreForms : List ℕ → List FormItem → End → Type 0
 AreForms file forms end = AreFrom (IsForm file) 0 forms end
+
+-- the cursor after a page (this project's profile)
+abbrev pub cursor_after_page : FormItem → Cursor
+cursor_after_page item = record { page = item.page + 1; row = 0 }

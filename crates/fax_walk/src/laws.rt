@@ -1,13 +1,13 @@
 //! Laws of a file's rows and of its forms. The functions compute nothing: each has a law as its
 //! contract.
 ghost use Rattle.std.specs.Prelude.{List};
-ghost use Rattle.fax_walk.specs.Forms.{FormItem};
+ghost use Rattle.fax_walk.specs.Pages.{FormItem};
+ghost use Rattle.fax_walk.specs.PagesLeft.{AreFormsLeft};
 ghost use Rattle.fax_walk.specs.Items.{Item};
 ghost use Rattle.fax_walk.specs.Laws as Laws;
 ghost use Rattle.fax_walk.specs.LongLaws as LongLaws;
 ghost use Rattle.fax_walk.specs.PageLaws as PageLaws;
 ghost use Rattle.fax_walk.specs.code.Due.{IsDue};
-ghost use Rattle.fax_walk.specs.code.Pages.{AreFormsDue};
 ghost use Rattle.fax_walk.specs.declared.end.End.{End};
 
 use crate::{Pages, Walk};
@@ -136,38 +136,6 @@ pub fn items_have_one_place()
     fax_files::laws::files_have_one_chain();
 }
 
-/// Each file has forms and an end, and one list of them only.
-pub fn files_have_one_forms()
-    ensures { Laws.FilesHaveOneForms }
-{
-    fax_files::laws::files_have_one_chain();
-}
-
-/// Each cursor has a tail of forms and an end, and one only.
-pub fn cursors_have_one_form_tail()
-    ensures { Laws.CursorsHaveOneFormTail }
-{
-    fax_files::laws::files_have_one_chain();
-}
-
-/// The forms from the first cursor on are all forms of the file.
-pub fn form_tail_of_start()
-    ensures { Laws.FormTailOfStart }
-{}
-
-/// What follows a page is the forms from the cursor behind it on, with the same end.
-pub fn form_tails_behind_pages()
-    ensures { Laws.FormTailBehindPage }
-{}
-
-/// The forms from a cursor that a reader of pages prints are the rest of the file.
-pub fn form_tails_of_printed()
-    ensures { Laws.FormTailOfPrinted }
-{
-    files_have_one_forms();
-    cursors_have_one_form_tail();
-}
-
 /// A written file has the rows and the forms of its pages, in their order, and a proper end
 /// (TIFF 6.0).
 pub fn written_files_are_walked()
@@ -193,9 +161,9 @@ pub fn walks_have_items(walk: &Walk)
     walk.has_items();
 }
 
-/// Each reader of pages has pages that are due, and an end, also where it has handed out some.
+/// Each reader of pages has pages that are left, and an end, also where it has handed out some.
 pub fn pages_have_forms(pages: &Pages)
-    ensures { (forms : List FormItem) × (end : End) × AreFormsDue pages.now forms end }
+    ensures { (forms : List FormItem) × (end : End) × AreFormsLeft pages.now forms end }
 {
     pages.has_forms();
 }
@@ -210,16 +178,26 @@ pub fn beginnings_have_one_tail()
     fax_files::laws::forms_are_whole();
 }
 
-/// Each cursor has a tail of forms and an end, and one only. From a page's first row it is the forms
-/// from that page on, and what follows a form is the tail from the cursor after it.
+/// Each file and each cursor has forms and an end, and one list of them only. From a page's first
+/// row it is the forms from that page on, and what follows a form is the tail from the cursor after
+/// it. Page number n of a file has the number n.
 pub fn form_tails_are_one()
+    ensures all { PageLaws.FilesHaveOneForms }
     ensures one { PageLaws.CursorsHaveOneFormTail }
     ensures first { PageLaws.FormTailOfPage }
+    ensures start { PageLaws.FormTailOfStart }
     ensures after { PageLaws.FormTailsGoOn }
-    ensures same { PageLaws.FormTailsAreAsBefore }
+    ensures numbers { PageLaws.FormsStandByNumber }
 {
     fax_files::laws::files_have_one_chain();
-    cursors_have_one_form_tail();
+}
+
+/// Each page that a reader hands out is the first of what was left of it, and then the rest is left.
+pub fn pages_go_on()
+    ensures forms { PageLaws.FormsLeftGoOn }
+    ensures ends { PageLaws.FormsLeftEnd }
+{
+    form_tails_are_one();
 }
 
 /// What follows item number n is the tail from the cursor after it, and from the place inside a
