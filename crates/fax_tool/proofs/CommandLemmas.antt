@@ -4,13 +4,14 @@ use Rattle.std.specs.Prelude.{Option, Some, None, IfSome, ◌⊎◌}
 use Rattle.std.specs.Io.KnownBytes.{Appends}
 use Rattle.fax_walk.specs.declared.cursor.Cursor.{Cursor}
 use Rattle.fax_walk.specs.declared.end.End.{End}
-use Rattle.fax_walk.specs.Laws.{CursorsHaveOneTail, CursorsHaveOneFormTail}
+use Rattle.fax_walk.specs.Laws.{CursorsHaveOneTail}
+use Rattle.fax_walk.specs.PageLaws.{CursorsHaveOneFormTail}
 use Rattle.fax_walk.specs.LongLaws.{PlacesHaveOneTail}
 use Rattle.fax_walk.specs.LongTail.{begins_at}
 use Rattle.fax_walk.specs.declared.begun.Begun.{Begun}
 use Rattle.fax_walk.specs.declared.begun.Begun.TheVariants.{At, Inside}
 use Rattle.fax_walk.specs.code.Due.{WalkState, walk_begun}
-use Rattle.fax_walk.specs.code.Pages.{pages_from}
+use Rattle.fax_walk.specs.PagesLeft.{pages_from}
 use Rattle.fax_tool.specs.declared.refusal.Refusal.{Refusal}
 use Rattle.fax_tool.specs.declared.refusal.Refusal.TheVariants.{Memory, Read, Write}
 use Rattle.fax_tool.specs.declared.words.Command.TheVariants.{List as Forms, Rows}
@@ -21,7 +22,7 @@ use Rattle.fax_tool.specs.Run.{AreRowLines, ArePageLines, HasReason, IsTextOfFir
 use Rattle.fax_tool.specs.code.Outcome.{IsStopped, WritesOutput, fault_of}
 use Rattle.fax_tool.specs.code.Printing.{AreRowsDue, ArePagesDue, PrintsRows, StopsAtBeginning, StopsPrinting, StopsRows}
 use Rattle.fax_tool.proofs.LongTextLemmas.{long_text}
-use Rattle.fax_tool.proofs.TextLemmas.{rows_of_file}
+use Rattle.fax_tool.proofs.TextLemmas.{rows_of_file, page_lines}
 
 -- what printing of lines leaves where it is refused
 abbrev LeavesLines : (List Line → End → Type 0) → Cursor → Option ℕ → Refusal → Option (List ℕ) → Option (List ℕ) → Type 0
@@ -234,5 +235,5 @@ pages_stopped left file part refusal input taken counts output new_output same s
   reason = reason_of_printing (ArePagesDue (pages_from file part.cursor)) part.cursor part.max refusal input taken output new_output counts stops;
   leaves = if_same (λ bytes. LeavesText refusal (Forms part) bytes output new_output) left file same (pages_left file part refusal output new_output
       (left_by_printing (ArePagesDue (pages_from file part.cursor)) (ArePageLines file part.cursor) part.cursor part.max refusal output new_output counts
-      (λ lines end due. record { items = due.items; tail = due.due; lines_are = due.lines_are }) stops));
+      (page_lines file part.cursor) stops));
 }

@@ -10,7 +10,8 @@ use Rattle.fax_walk.specs.declared.end.End.TheVariants.{Proper, Fault, Outside}
 use Rattle.fax_walk.specs.LongCursor.{LongPlace}
 use Rattle.fax_walk.specs.LongTail.{begins_at}
 use Rattle.fax_walk.specs.code.Due.{walk_begun}
-use Rattle.fax_walk.specs.code.Pages.{pages_from}
+use Rattle.fax_walk.specs.Pages.{FormItem, IsFormTail}
+use Rattle.fax_walk.specs.PagesLeft.{pages_from}
 use Rattle.fax_tool.specs.declared.words.Command.TheVariants.{List as Forms, Rows}
 use Rattle.fax_tool.specs.declared.words.Part.{Part}
 use Rattle.fax_tool.specs.Run.{AreRowLines, ArePageLines, IsTextOfLines, IsTextOfRows, begun_of}
@@ -113,6 +114,14 @@ rows_of_file file part ending output new_output short prints =
       status_is = text.4;
     }
 
+-- what is left of a reader of pages at its beginning is what its cursor has
+pub page_lines : (file : List ℕ) (at : Cursor) (lines : List Line) (end : End) → ArePagesDue (pages_from file at) lines end → ArePageLines file at lines end
+page_lines file at lines end due = record {
+  items = due.items;
+  tail = subst (λ (l : List FormItem). IsFormTail file at l end) (sym due.due.rest) due.due.is;
+  lines_are = due.lines_are;
+}
+
 pages_of_file : (file : List ℕ) (part : Part) (ending : Option End) (output new_output : Option (List ℕ))
     → PrintsAll (ArePagesDue (pages_from file part.cursor)) part.cursor part.max ending output new_output
     → WritesOutput (Forms part) file output new_output (fault_of ending)
@@ -122,7 +131,7 @@ pages_of_file file part ending output new_output prints =
       lines = prints.lines;
       others = prints.others;
       end = prints.end;
-      due = record { items = prints.due.items; tail = prints.due.due; lines_are = prints.due.lines_are };
+      due = page_lines file part.cursor (prints.lines ++ prints.others) prints.end prints.due;
       ends = prints.ends;
       printed = prints.printed;
     }) in

@@ -8,7 +8,7 @@ use Rattle.fax_walk.specs.declared.begun.Begun.{Begun}
 use Rattle.fax_walk.specs.declared.begun.Begun.TheVariants.{At, Inside}
 use Rattle.fax_walk.specs.LongCursor.{LongPlace}
 use Rattle.fax_walk.specs.LongTail.{IsTailFrom, IsLongNext, begins_at}
-use Rattle.fax_walk.specs.Forms.{FormItem, IsFormTail}
+use Rattle.fax_walk.specs.Pages.{FormItem, IsFormTail}
 use Rattle.fax_walk.specs.Converted.{IsConverted, IsRefused as IsNotConverted}
 use Rattle.fax_walk.specs.Report.{IsReport}
 use Rattle.fax_walk.specs.declared.options.Options.{Options}

@@ -17,7 +17,7 @@ use Rattle.fax_walk.specs.Cursor.{cursor_text}
 use Rattle.fax_walk.specs.LongCursor.{LongPlace, long_cursor_text}
 use Rattle.fax_walk.specs.Items.{Item}
 use Rattle.fax_walk.specs.Tail.{behind_item}
-use Rattle.fax_walk.specs.Forms.{FormItem, behind_page}
+use Rattle.fax_walk.specs.Pages.{FormItem, cursor_after_page}
 
 -- a line end (this project's profile)
 abbrev pub line_end : List ℕ
@@ -66,9 +66,9 @@ pub record Line : Type 0 where
 abbrev pub line_of_row : Item → Line
 line_of_row item = record { text = row_line item; cursor = behind_item item }
 
--- the line of a page, and the cursor behind the page (this project's profile)
+-- the line of a page, and the cursor after the page (this project's profile)
 abbrev pub line_of_page : FormItem → Line
-line_of_page item = record { text = page_line_of item.page item.form; cursor = behind_page item }
+line_of_page item = record { text = page_line_of item.page item.form; cursor = cursor_after_page item }
 
 -- the texts of these lines (this project's profile)
 abbrev pub texts_of : List Line → List ℕ

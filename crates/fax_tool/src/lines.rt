@@ -86,8 +86,7 @@ impl Lines for Walk<'_> {
 
 /// A line for each page.
 impl Lines for Pages<'_> {
-    ghost use Rattle.fax_walk.specs.code.Pages.{pages_left};
-    ghost use Rattle.std.specs.Prelude.{⊤};
+    ghost use Rattle.std.specs.Prelude.{◌-◌, ◌^◌, ⊤};
     ghost use Rattle.fax_tool.specs.code.Printing.{ArePagesDue};
 
     ghost are_due = { λ pages lines end. ArePagesDue pages lines end };
@@ -96,13 +95,14 @@ impl Lines for Pages<'_> {
 
     ghost place = { λ pages. pages.cursor };
 
-    ghost left = { λ pages. pages_left pages };
+    ghost left = { λ pages. 2 ^ 32 - pages.given };
 
     fn cursor(&self) -> Cursor {
         Pages::cursor(self)
     }
 
     fn put_next(&mut self, text: &mut Collected) -> Result<Option<End>, Memory> {
+        fax_walk::laws::pages_go_on();
         match self.next_page() {
             Ok(Some((page, form))) => {
                 put_page_line(text, page, &form)?;

@@ -405,7 +405,7 @@ pub fn list<R: Source, W: Sink>(
         (R.counts input.new) (R.taken input.new) (W.counts out.new) (W.written out.old)
         (W.written out.new)) }
 {
-    fax_walk::laws::cursors_have_one_form_tail();
+    fax_walk::laws::form_tails_are_one();
     let file = read_or_stop(alloc, part.cursor, input, out)?;
     let mut pages = Pages::resume(&file, part.cursor);
     let ending = print_all(alloc, &mut pages, part.max, out)?;

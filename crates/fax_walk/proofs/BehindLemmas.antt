@@ -10,14 +10,13 @@ use Rattle.fax_files.specs.code.Tiff.{directory_of}
 use Rattle.fax_walk.specs.declared.end.End.{End}
 use Rattle.fax_walk.specs.declared.end.End.TheVariants.{Proper}
 use Rattle.fax_walk.specs.Items.{Item, ArePagesItems}
-use Rattle.fax_walk.specs.Forms.{FormItem, ArePagesForms, IsFormThen}
 use Rattle.fax_walk.specs.declared.opening.OpenFault.{OpenFault}
 use Rattle.fax_walk.specs.declared.opening.OpenFault.TheVariants.{Memory, Ended}
 use Rattle.fax_walk.specs.code.Stages.{PageState}
 use Rattle.fax_walk.specs.code.Due.{ArePagesBehind, IsDueOnPage, IsPageIn}
-use Rattle.fax_walk.specs.code.Opening.{PageDue, IsPageDue, AreFormsBehind, AreDueFrom, IsPageAnswer, IsAnswerOver, IsRefusal, IsOpenedBehind}
+use Rattle.fax_walk.specs.code.Opening.{PageDue, IsPageDue, AreDueFrom, IsPageAnswer, IsAnswerOver, IsRefusal, IsOpenedBehind}
 use Rattle.fax_walk.proofs.EndingLemmas.{none_past}
-use Rattle.fax_walk.proofs.PageAtLemmas.{from_row_so, form_then_so, behind_one, forms_behind_one}
+use Rattle.fax_walk.proofs.PageAtLemmas.{from_row_so, behind_one}
 
 -- the list from an element on
 pub drop_there : (offsets : List ℕ) (n q : ℕ) → slice_get offsets n ≡ Some q → drop n offsets ≡ q ∷ drop (n + 1) offsets
@@ -32,21 +31,14 @@ module _ (chain : ChainState) (one : HasOneChain chain.tiff.head chain.tiff.file
   none_left : slice_get one.offsets chain.given ≡ None → drop chain.given one.offsets ≡ []
   none_left none = drop_all chain.given one.offsets (none_past one.offsets chain.given none)
 
-  refused_behind : (end : End) → IsAnswerOver chain one.offsets one.end (Err end) → ArePagesBehind chain [] end × AreFormsBehind chain [] end
-  refused_behind end (inl (met, none, stops, end_is)) = (
-    (one.offsets, one.end, one.is, rw (none_left none, stops, end_is) (refl, refl)),
-    (one.offsets, one.end, one.is, rw (none_left none, stops, end_is) (refl, refl)),
-  )
-  refused_behind end (inr (q, refused, some, bad, end_is)) = (
-    (one.offsets, one.end, one.is, rw (drop_there one.offsets chain.given q some, bad, end_is) (refl, refl)),
-    (one.offsets, one.end, one.is, rw (drop_there one.offsets chain.given q some, bad, end_is) (refl, refl)),
-  )
+  refused_behind : (end : End) → IsAnswerOver chain one.offsets one.end (Err end) → ArePagesBehind chain [] end
+  refused_behind end (inl (met, none, stops, end_is)) =
+      (one.offsets, one.end, one.is, rw (none_left none, stops, end_is) (refl, refl))
+  refused_behind end (inr (q, refused, some, bad, end_is)) =
+      (one.offsets, one.end, one.is, rw (drop_there one.offsets chain.given q some, bad, end_is) (refl, refl))
 
-  last_behind : IsAnswerOver chain one.offsets one.end (Ok None) → ArePagesBehind chain [] Proper × AreFormsBehind chain [] Proper
-  last_behind last = (
-    (one.offsets, one.end, one.is, rw (none_left last.0, last.1) (refl, refl)),
-    (one.offsets, one.end, one.is, rw (none_left last.0, last.1) (refl, refl)),
-  )
+  last_behind : IsAnswerOver chain one.offsets one.end (Ok None) → ArePagesBehind chain [] Proper
+  last_behind last = (one.offsets, one.end, one.is, rw (none_left last.0, last.1) (refl, refl))
 
   module _ (due : PageDue) (there : slice_get one.offsets chain.given ≡ Some due.directory.offset)
       (next : due.chain ≡ record chain { given = chain.given + 1 }) (same_page : due.page ≡ chain.given)
@@ -67,30 +59,20 @@ module _ (chain : ChainState) (one : HasOneChain chain.tiff.head chain.tiff.file
         → ArePagesItems chain.tiff.head.endian chain.tiff.file one.end (chain.given + 1) (drop (chain.given + 1) one.offsets) items end
     behind items end are = behind_one (record chain { given = chain.given + 1 }) one items end (rw next at are)
 
-    forms_behind : (forms : List FormItem) (end : End) → AreFormsBehind due.chain forms end
-        → ArePagesForms chain.tiff.head.endian chain.tiff.file one.end (chain.given + 1) (drop (chain.given + 1) one.offsets) forms end
-    forms_behind forms end are = forms_behind_one (record chain { given = chain.given + 1 }) one forms end (rw next at are)
-
     page_first : 0 < due.form.rows → (items : List Item) (end : End) → AreDueFrom due 0 items end → ArePagesBehind chain items end
     page_first some items end from =
         let own = rw (directory_is, same_page) at from in
         (one.offsets, one.end, one.is, rw (first_left, form_is) (inr (inr (some, from_row_so _ _ _ _ _ _ _ _ behind items end own))))
-
-    form_first : (forms : List FormItem) (end : End) → IsFormThen due.page due.form (AreFormsBehind due.chain) forms end
-        → AreFormsBehind chain forms end
-    form_first forms end then =
-        let own = rw same_page at then in
-        (one.offsets, one.end, one.is, rw (first_left, form_is) (form_then_so _ _ _ _ forms_behind forms end own))
 
 -- what the next page of a chain is
 module _ (chain : ChainState) (chains : FilesHaveOneChain) where
   abbrev held : HasOneChain chain.tiff.head chain.tiff.file
   held = chains chain.tiff.head chain.tiff.file
 
-  pub refused_next : (end : End) → IsPageAnswer chain (Err end) → ArePagesBehind chain [] end × AreFormsBehind chain [] end
+  pub refused_next : (end : End) → IsPageAnswer chain (Err end) → ArePagesBehind chain [] end
   refused_next end answers = refused_behind chain held end (answers.over held.offsets held.end held.is)
 
-  pub last_next : IsPageAnswer chain (Ok None) → ArePagesBehind chain [] Proper × AreFormsBehind chain [] Proper
+  pub last_next : IsPageAnswer chain (Ok None) → ArePagesBehind chain [] Proper
   last_next answers = last_behind chain held (answers.over held.offsets held.end held.is)
 
   module _ (due : PageDue) (answers : IsPageAnswer chain (Ok (Some due))) where
@@ -98,10 +80,6 @@ module _ (chain : ChainState) (chains : FilesHaveOneChain) where
     page_next =
         page_first chain held due (answers.over held.offsets held.end held.is) answers.next.1 answers.next.0 answers.next.2
         (omega (arith, answers.next.2.limits.some_rows))
-
-    pub form_next : (forms : List FormItem) (end : End) → IsFormThen due.page due.form (AreFormsBehind due.chain) forms end
-        → AreFormsBehind chain forms end
-    form_next = form_first chain held due (answers.over held.offsets held.end held.is) answers.next.1 answers.next.0 answers.next.2
 
 -- an opened page behind one of a file's pages is the file's too
 pub opened_in_file : (result : Result PageState OpenFault) (chain : ChainState) (read : ℕ) (file : List ℕ) → header file ≡ Ok chain.tiff.head

@@ -46,14 +46,14 @@ proper_past pages at page row =
 module _ (file : List ℕ) (at : Cursor) where
   -- the header is refused
   pub header_refused : (fault : FileFault) → header file ≡ Err fault → EndsAt file at (Fault 0 0 (File fault))
-  header_refused fault refused = rw refused ((refl, refl), (refl, refl), refl, λ bits runs. (refl, refl))
+  header_refused fault refused = rw refused ((refl, refl), (Err (Fault 0 0 (File fault)), (Err (Fault 0 0 (File fault)), refl, refl), (refl, refl)), refl, λ bits runs. (refl, refl))
 
   module _ (head : Header) (is : header file ≡ Ok head) (one : HasOneChain head file) where
     -- the chain has no page of this number
     past_chain : slice_get one.offsets at.page ≡ None → EndsAt file at (end_past_chain (length one.offsets) one.end at)
     past_chain none = rw is (
       (one.offsets, one.end, one.is, rw none (refl, refl)),
-      (one.offsets, one.end, one.is, rw none (refl, refl)),
+      (Err _, (Err (end_past_chain (length one.offsets) one.end at), (one.offsets, one.end, one.is, rw none refl), refl), (refl, refl)),
       (one.offsets, one.end, one.is, rw none refl),
       λ bits runs. (one.offsets, one.end, one.is, rw none (refl, refl)),
     )
@@ -95,7 +95,7 @@ module _ (file : List ℕ) (at : Cursor) where
     fields_refused q refused some bad =
         rw is (
           (one.offsets, one.end, one.is, rw (some, bad) (refl, refl)),
-          (one.offsets, one.end, one.is, rw (some, bad) (refl, refl)),
+          (Err _, (Err (Fault at.page 0 (File refused)), (one.offsets, one.end, one.is, rw (some, bad) refl), refl), (refl, refl)),
           (one.offsets, one.end, one.is, rw (some, bad) refl),
           λ bits runs. (one.offsets, one.end, one.is, rw (some, bad) (refl, refl)),
         )

@@ -1,6 +1,6 @@
 -- The page that a cursor names.
 use Rattle.std.proofs.Common.{◌≡◌, ℕ, ◌+◌, ◌<◌, ◌≤◌, List, length, drop, Option, Some, None, Result, Ok, Err, inl, inr, refl, ap, ◌∙◌, arith}
-use Rattle.std.specs.Prelude.{slice_get, nat_lt, false}
+use Rattle.std.specs.Prelude.{slice_get, nat_lt, false, nat_le, ◌==◌}
 use Rattle.std.proofs.lemmas.Bool.Decides.{nat_tests}
 use Rattle.fax_files.specs.declared.Cause.{Cause}
 use Rattle.fax_files.specs.declared.PageForm.{PageForm}
@@ -14,9 +14,8 @@ use Rattle.fax_walk.specs.declared.cursor.Cursor.{Cursor}
 use Rattle.fax_walk.specs.declared.end.End.{End}
 use Rattle.fax_walk.specs.declared.end.End.TheVariants.{Proper, Outside}
 use Rattle.fax_walk.specs.Items.{Item, AreFromRow, ArePagesItems, Follows}
-use Rattle.fax_walk.specs.Forms.{FormItem, ArePagesForms, IsFormThen}
 use Rattle.fax_walk.specs.code.Due.{ArePagesBehind, IsInFile}
-use Rattle.fax_walk.specs.code.Opening.{PageDue, IsPageDue, AreFormsBehind, IsPageAnswer, IsAnswerOver, IsChainBefore, EndsAt, IsPageOf}
+use Rattle.fax_walk.specs.code.Opening.{PageDue, IsPageDue, IsPageAnswer, IsAnswerOver, IsChainBefore, EndsAt, IsPageOf}
 use Rattle.fax_walk.proofs.EndingLemmas.{row_behind, place_behind, fields_refused, fault_before}
 
 -- what follows a page, with another word for what the pages behind it have
@@ -37,24 +36,12 @@ from_row_so endian file q form p r behind behind' same items end from = record {
   follows = follows_so p behind behind' same from.stop from.others end from.follows;
 }
 
-pub form_then_so : (p : ℕ) (form : PageForm) (behind behind' : List FormItem → End → Type 0)
-    → ((forms : List FormItem) (end : End) → behind forms end → behind' forms end)
-    → (forms : List FormItem) (end : End) → IsFormThen p form behind forms end → IsFormThen p form behind' forms end
-form_then_so p form behind behind' same forms end first =
-    record { others = first.others; forms_are = first.forms_are; follows = same first.others end first.follows }
-
 -- the chain of a file, before this directory, and what it answers
 module _ (chain : ChainState) (one : HasOneChain chain.tiff.head chain.tiff.file) where
   -- the pages behind are those of the one chain
   pub behind_one : (items : List Item) (end : End) → ArePagesBehind chain items end
       → ArePagesItems chain.tiff.head.endian chain.tiff.file one.end chain.given (drop chain.given one.offsets) items end
   behind_one items end (offsets, fault, chained, are) =
-      let same = one.one offsets fault chained in
-      rw (same.0, same.1) at are
-
-  pub forms_behind_one : (forms : List FormItem) (end : End) → AreFormsBehind chain forms end
-      → ArePagesForms chain.tiff.head.endian chain.tiff.file one.end chain.given (drop chain.given one.offsets) forms end
-  forms_behind_one forms end (offsets, fault, chained, are) =
       let same = one.one offsets fault chained in
       rw (same.0, same.1) at are
 
@@ -99,14 +86,20 @@ module _ (chain : ChainState) (good : header chain.tiff.file ≡ Ok chain.tiff.h
       → ArePagesItems chain.tiff.head.endian chain.tiff.file one.end (at.page + 1) (drop (at.page + 1) one.offsets) items end
   behind items end are = rw given at (behind_one (record chain { given = chain.given + 1 }) one items end (rw next at are))
 
-  forms_behind : (forms : List FormItem) (end : End) → AreFormsBehind due.chain forms end
-      → ArePagesForms chain.tiff.head.endian chain.tiff.file one.end (at.page + 1) (drop (at.page + 1) one.offsets) forms end
-  forms_behind forms end are = rw given at (forms_behind_one (record chain { given = chain.given + 1 }) one forms end (rw next at are))
-
   row_outside : due.form.rows < at.row → EndsAt chain.tiff.file at Outside
   row_outside above = rw good (
     (one.offsets, one.end, one.is, rw (some, form_is) (inl (above, refl, refl))),
-    (one.offsets, one.end, one.is, rw (some, form_is) (inl (above, refl, refl))),
+    (
+      Err Outside,
+      (
+        Ok (record { endian = chain.tiff.head.endian; offset = due.directory.offset; form = due.form }),
+        (one.offsets, one.end, one.is, rw (some, form_is) refl),
+        let later : (at.row == 0) ≡ false = grind (arith, nat_tests, above) in
+            let far : nat_le at.row due.form.rows ≡ false = grind (arith, nat_tests, above) in
+            rw (later, far) refl,
+      ),
+      (refl, refl),
+    ),
     (one.offsets, one.end, one.is, let below : nat_lt at.row due.form.rows ≡ false = grind (arith, nat_tests, above) in rw (some, form_is, below) refl),
     λ bits runs. (one.offsets, one.end, one.is, rw (some, form_is) (inr (λ inside. omega (arith, above, inside.0), refl, refl))),
   )
@@ -125,6 +118,7 @@ module _ (chain : ChainState) (good : header chain.tiff.file ≡ Ok chain.tiff.h
   row_there : at.row ≤ due.form.rows → IsPageOf chain.tiff.file at due
   row_there within = record {
     same_page = same_page ∙ given;
+    given = is_due.behind;
     within = within;
     before = rw good (one.offsets, one.end, one.is, rw (some, form_is) refl);
     from_row = λ items end below from.
@@ -137,11 +131,6 @@ module _ (chain : ChainState) (good : header chain.tiff.file ≡ Ok chain.tiff.h
         rw good (one.offsets, one.end, one.is, rw (some, form_is) (inr (inr (below, from_row_so _ _ _ _ _ _ _ _ behind items end own))));
     from_behind = λ items end are. rw good (one.offsets, one.end, one.is, rw (some, form_is) (inr (inl (refl, behind items end are))));
     from_place = λ bits runs items end on. rw good (one.offsets, one.end, one.is, rw (some, form_is) (rw directory_is at on));
-    form_first = λ forms end first then.
-        let own = rw (same_page, given) at then in
-        rw good (one.offsets, one.end, one.is, rw (some, form_is) (inr (inr (first, form_then_so _ _ _ _ forms_behind forms end own))));
-    form_next = λ forms end later are.
-        rw good (one.offsets, one.end, one.is, rw (some, form_is) (inr (inl (later, within, forms_behind forms end are))));
   }
 
 -- the chain of a file, before the directory of a cursor's page, and what its next page is

@@ -1,5 +1,5 @@
--- The tail from a printed cursor is the rest of the file, for rows as for forms.
-use Rattle.std.proofs.Common.{◌≡◌, ℕ, zero, suc, ◌+◌, ◌<◌, ◌≤◌, ◌⊎◌, ◌↔◌, inl, inr, Bool, true, false, List, [], ◌∷◌, ◌++◌, refl, sym, ap, ◌∙◌, subst, arith, append_assoc}
+-- The tail from a printed cursor is the rest of the file.
+use Rattle.std.proofs.Common.{◌≡◌, ℕ, zero, suc, ◌+◌, ◌⊎◌, ◌↔◌, inl, inr, Bool, true, false, List, [], ◌∷◌, ◌++◌, refl, sym, ap, ◌∙◌, subst, arith, append_assoc}
 use Rattle.std.specs.Prelude.{nat_lt, nat_le, ◌==◌}
 use Rattle.std.specs.List.{filter, Contains}
 use Rattle.std.proofs.lemmas.Bool.{cases_lt}
@@ -10,12 +10,10 @@ use Rattle.fax_walk.specs.declared.end.End.{End}
 use Rattle.fax_walk.specs.Cursor.{start}
 use Rattle.fax_walk.specs.Items.{Item, AreItems}
 use Rattle.fax_walk.specs.Tail.{behind_item, is_from, IsTail}
-use Rattle.fax_walk.specs.Forms.{FormItem, AreForms, IsFormTail, behind_page}
-use Rattle.fax_walk.specs.Laws.{IsOne, FilesHaveOneItems, CursorsHaveOneTail, TailOfPrinted, is_page_from, FilesHaveOneForms, CursorsHaveOneFormTail, FormTailOfPrinted}
+use Rattle.fax_walk.specs.Laws.{IsOne, FilesHaveOneItems, CursorsHaveOneTail, TailOfPrinted}
 use Rattle.fax_files.specs.Laws.{FormsAreWhole}
 use Rattle.fax_walk.proofs.StartLemmas.{tail_of_start}
 use Rattle.fax_walk.proofs.TailLemmas.{StandsFrom, stands_from, tail_behind_item}
-use Rattle.fax_walk.proofs.FormLemmas.{form_tail_of_start, form_stands_from, form_tail_behind_page}
 
 module _ {A : Type 0} where
   -- a test keeps each item of a list, or none
@@ -170,33 +168,4 @@ tail_of_printed forms one_items one_tail file at items end printed =
     let walked = items_are_walked forms one_items one_tail file in (
       to_rest behind_item is_from (AreItems file) (IsTail file) walked at items end printed,
       to_tail behind_item is_from (AreItems file) (IsTail file) walked at items end printed,
-    )
-
--- the same of forms
-page_test : (at : Cursor) (item : FormItem) → at.page ≤ item.page → is_page_from at item ≡ true
-page_test at item later = grind (arith, nat_tests)
-
-not_page_test : (at : Cursor) (item : FormItem) → item.page < at.page → is_page_from at item ≡ false
-not_page_test at item earlier = grind (arith, nat_tests)
-
-module _ (one_forms : FilesHaveOneForms) (one_tail : CursorsHaveOneFormTail) (file : List ℕ) where
-  forms_are_walked : IsWalked behind_page is_page_from (AreForms file) (IsFormTail file)
-  forms_are_walked = record {
-    one_whole = one_forms file;
-    one_tail = one_tail file;
-    at_start = form_tail_of_start file;
-    goes_on = form_tail_behind_page file;
-    from_start = λ item. page_test start item (omega arith);
-    later = λ at before after item end tail. page_test at item (form_stands_from file at before after item end tail);
-    earlier = λ x before after item end tail.
-        let later = form_stands_from file (behind_page x) before after item end tail in
-        not_page_test (behind_page item) x (omega (arith, later));
-    itself = λ item. not_page_test (behind_page item) item (omega arith);
-  }
-
-pub form_tail_of_printed : FilesHaveOneForms → CursorsHaveOneFormTail → FormTailOfPrinted
-form_tail_of_printed one_forms one_tail file at forms end printed =
-    let walked = forms_are_walked one_forms one_tail file in (
-      to_rest behind_page is_page_from (AreForms file) (IsFormTail file) walked at forms end printed,
-      to_tail behind_page is_page_from (AreForms file) (IsFormTail file) walked at forms end printed,
     )

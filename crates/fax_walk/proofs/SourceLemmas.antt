@@ -5,6 +5,8 @@ use Rattle.std.proofs.lemmas.List.{length-map, take_at, drop_at}
 use Rattle.fax_bits.specs.declared.Colour.{Colour}
 use Rattle.fax_rows.specs.Elements.{other}
 use Rattle.fax_files.specs.declared.Cause.{Cause}
+use Rattle.fax_files.specs.declared.Cause.TheVariants.{File}
+use Rattle.fax_files.specs.Chain.{IsChain}
 use Rattle.fax_files.specs.declared.FileFault.{FileFault}
 use Rattle.fax_files.specs.declared.PageForm.{PageForm}
 use Rattle.fax_files.specs.declared.Endian.{Endian}
@@ -16,7 +18,10 @@ use Rattle.fax_files.specs.Laws.{FilesHaveOneChain, FormsAreWhole, IsWholeForm}
 use Rattle.fax_walk.specs.declared.end.End.{End}
 use Rattle.fax_walk.specs.declared.end.End.TheVariants.{Fault, Outside}
 use Rattle.fax_walk.specs.Items.{Item, numbered, chain_end, stop_at, Follows, ArePageItems, AreFromRow, AreFromPage, ArePagesItems, AreItemsUnder, AreItems}
-use Rattle.fax_walk.specs.Forms.{FormItem, AreFormsFrom, ArePagesForms, AreFormsUnder, AreForms}
+use Rattle.fax_walk.specs.InOrder.{AreFrom}
+use Rattle.fax_walk.specs.declared.cursor.Cursor.{Cursor}
+use Rattle.fax_walk.specs.Pages.{FormItem, FilePage, IsForm, AreForms, page_or_end, end_past_chain}
+use Rattle.fax_walk.proofs.PageLawLemmas.{FormsAt, forms_at, no_page, some_page, next_dropped, proper_end}
 use Rattle.fax_walk.specs.Converted.{SourcePage, page_of_form, pages_of}
 use Rattle.fax_walk.specs.code.Sources.{AreWide, IsPageEnd, BeginsWithPage, ArePagesOf, AreWholePages}
 use Rattle.fax_walk.proofs.PageItemLemmas.{IsCount, total}
@@ -58,7 +63,7 @@ page_items endian file q form p own stop limits part =
       subst (λ (s : Option (ℕ × Cause)). IsCount s (length own) form.rows) (sym part.stop_is) (count_at _ (length own) form.rows part.end count),
     )
 
-module _ (endian : Endian) (file : List ℕ) (fault : Option FileFault) (whole : FormsAreWhole) where
+module _ (endian : Endian) (file : List ℕ) (whole : FormsAreWhole) where
   by_stop : (p : ℕ) (form : PageForm) (behind : List Item → End → Type 0) (own others : List Item) (end : End) (stop : Option (ℕ × Cause))
       → IsCount stop (length own) form.rows → Follows p behind stop others end → IsPageEnd form.rows own others end
   by_stop p form behind own others end None count follows = inl count
@@ -85,52 +90,97 @@ module _ (endian : Endian) (file : List ℕ) (fault : Option FileFault) (whole :
         λ all. later from.others (behind_whole p form behind from.own from.others end from.stop first.1 from.follows all),
       )
 
-  by_answer : (p q : ℕ) (behind_forms : List FormItem → End → Type 0) (behind : List Item → End → Type 0) (answer : Result PageForm FileFault)
+  by_answer : (p q : ℕ) (behind : List Item → End → Type 0) (answer : Result PageForm FileFault)
       (forms : List FormItem) (form_end : End) (items : List Item) (end : End) → page endian file q ≡ answer
-      → ((forms : List FormItem) (others : List Item) → behind_forms forms form_end → behind others end → ArePagesOf forms form_end others end)
-      → AreFormsFrom p behind_forms answer forms form_end → AreFromPage endian file q p 0 behind answer items end
+      → ((forms : List FormItem) (others : List Item) → AreFrom (IsForm file) (p + 1) forms form_end → behind others end → ArePagesOf forms form_end others end)
+      → FormsAt file p (page_or_end endian q p answer) forms form_end → AreFromPage endian file q p 0 behind answer items end
       → ArePagesOf forms form_end items end
-  by_answer p q behind_forms behind (Err refused) forms form_end items end is later from_forms from =
+  by_answer p q behind (Err refused) forms form_end items end is later from_forms from =
       subst (λ (l : List FormItem). ArePagesOf l form_end items end) (sym from_forms.0) (from.0, from.1 ∙ sym from_forms.1)
-  by_answer p q behind_forms behind (Ok form) forms form_end items end is later from_forms from =
+  by_answer p q behind (Ok form) forms form_end items end is later (others, forms_are, follows) from =
       let limits = whole endian file q form is in
-      let rest = λ (others : List Item) (left : behind others end). later from_forms.others others from_forms.follows left in
-      subst (λ (l : List FormItem). ArePagesOf l form_end items end) (sym from_forms.forms_are)
+      let rest = λ (more : List Item) (left : behind more end). later others more follows left in
+      subst (λ (l : List FormItem). ArePagesOf l form_end items end) (sym forms_are)
       (elim from [
         | inl above ↦ absurd (omega (arith, above.0))
         | inr (inl none) ↦ absurd (omega (arith, none.0, limits.some_rows))
-        | inr (inr here) ↦ from_first p q form behind from_forms.others form_end items end limits rest here.1
+        | inr (inr here) ↦ from_first p q form behind others form_end items end limits rest here.1
       ])
 
-  pages_from : (p : ℕ) (offsets : List ℕ) (forms : List FormItem) (form_end : End) (items : List Item) (end : End)
-      → ArePagesForms endian file fault p offsets forms form_end → ArePagesItems endian file fault p offsets items end
-      → ArePagesOf forms form_end items end
-  pages_from p [] forms form_end items end are_forms are =
-      subst (λ (l : List FormItem). ArePagesOf l form_end items end) (sym are_forms.0) (are.0, are.1 ∙ sym are_forms.1)
-  pages_from p (q ∷ offsets) forms form_end items end are_forms are =
-      by_answer p q (ArePagesForms endian file fault (p + 1) offsets) (ArePagesItems endian file fault (p + 1) offsets) (page endian file q)
+-- how a chain ends after its last page
+abbrev EndsProperly : ℕ → Option FileFault → ℕ → Type 0
+EndsProperly all fault p = chain_end p fault ≡ end_past_chain all fault (record { page = p; row = 0 })
+
+no_chain_end : (p : ℕ) (some : Option FileFault) → chain_end p some ≡ Outside → ⊥
+no_chain_end p None is = cc
+no_chain_end p (Some stop) is = cc
+
+module _ (chains : FilesHaveOneChain) (file : List ℕ) (head : Header) (is_head : header file ≡ Ok head) (offsets : List ℕ) (fault : Option FileFault)
+    (chain : IsChain head file offsets fault) where
+  abbrev page_answer : ℕ → ℕ → Result FilePage End
+  page_answer q p = page_or_end head.endian q p (page head.endian file q)
+
+  none_there : (p : ℕ) (forms : List FormItem) (end : End) → drop p offsets ≡ [] → EndsProperly (length offsets) fault (p + 0)
+      → AreFrom (IsForm file) p forms end → (forms ≡ []) × (end ≡ chain_end p fault)
+  none_there p forms end e ends are =
+      let at : Cursor = record { page = p; row = 0 } in
+      let none : p + 0 ≡ p = omega arith in
+      let here = forms_at chains file p (Err (end_past_chain (length offsets) fault at)) (no_page file head is_head offsets fault chain at e) forms end are in
+      (here.0, here.1 ∙ sym (rw none at ends))
+
+  one_there : (p q : ℕ) (later : List ℕ) (forms : List FormItem) (end : End) → drop p offsets ≡ q ∷ later → AreFrom (IsForm file) p forms end
+      → FormsAt file p (page_answer q p) forms end
+  one_there p q later forms end e are =
+      forms_at chains file p (page_answer q p) (some_page file head is_head offsets fault chain (record { page = p; row = 0 }) q later e) forms end are
+
+  pages_from : FormsAreWhole → (later : List ℕ) (p : ℕ) → drop p offsets ≡ later → EndsProperly (length offsets) fault (p + length later)
+      → (forms : List FormItem) (form_end : End) (items : List Item) (end : End)
+      → AreFrom (IsForm file) p forms form_end → ArePagesItems head.endian file fault p later items end → ArePagesOf forms form_end items end
+  pages_from whole [] p e ends forms form_end items end are_forms are =
+      let none = none_there p forms form_end e ends are_forms in
+      subst (λ (l : List FormItem). ArePagesOf l form_end items end) (sym none.0) (are.0, are.1 ∙ sym none.1)
+  pages_from whole (q ∷ later) p e ends forms form_end items end are_forms are =
+      let n : p + length (q ∷ later) ≡ p + 1 + length later = omega arith in
+      by_answer head.endian file whole p q (ArePagesItems head.endian file fault (p + 1) later) (page head.endian file q)
       forms form_end items end refl
-      (λ later others left_forms left. pages_from (p + 1) offsets later form_end others end left_forms left) are_forms are
+      (λ more others left_forms left.
+      pages_from whole later (p + 1) (next_dropped p offsets q later e) (rw n at ends) more form_end others end left_forms left)
+      (one_there p q later forms form_end e are_forms) are
+
+  inside_page : (p q : ℕ) (answer : Result PageForm FileFault) (forms : List FormItem)
+      → ((forms : List FormItem) → AreFrom (IsForm file) (p + 1) forms Outside → ⊥) → FormsAt file p (page_or_end head.endian q p answer) forms Outside → ⊥
+  inside_page p q (Err refused) forms never are = let is = are.1 in cc
+  inside_page p q (Ok form) forms never (others, forms_are, follows) = never others follows
+
+  -- no list of forms ends outside of its file
+  inside_pages : (later : List ℕ) (p : ℕ) → drop p offsets ≡ later → EndsProperly (length offsets) fault (p + length later) → (forms : List FormItem)
+      → AreFrom (IsForm file) p forms Outside → ⊥
+  inside_pages [] p e ends forms are = no_chain_end p fault (sym (none_there p forms Outside e ends are).1)
+  inside_pages (q ∷ later) p e ends forms are =
+      let n : p + length (q ∷ later) ≡ p + 1 + length later = omega arith in
+      inside_page p q (page head.endian file q) forms
+      (λ more left. inside_pages later (p + 1) (next_dropped p offsets q later e) (rw n at ends) more left) (one_there p q later forms Outside e are)
+
+  all_proper : EndsProperly (length offsets) fault (0 + length offsets)
+  all_proper = let n : 0 + length offsets ≡ length offsets = omega arith in rw n (proper_end (length offsets) fault)
+
+-- no page is there where the header is refused
+refused_forms : FilesHaveOneChain → (file : List ℕ) (fault : FileFault) → header file ≡ Err fault → (forms : List FormItem) (end : End) → AreForms file forms end
+    → (forms ≡ []) × (end ≡ Fault 0 0 (File fault))
+refused_forms chains file fault is forms end are = forms_at chains file 0 (Err (Fault 0 0 (File fault))) (rw is refl) forms end are
 
 -- the rows of a file are those of its pages
 module _ (chains : FilesHaveOneChain) (whole : FormsAreWhole) (file : List ℕ) (forms : List FormItem) (form_end : End) (items : List Item) (end : End) where
-  under : (answer : Result Header FileFault) → AreFormsUnder file answer forms form_end → AreItemsUnder file answer items end
+  under : (answer : Result Header FileFault) → header file ≡ answer → AreForms file forms form_end → AreItemsUnder file answer items end
       → ArePagesOf forms form_end items end
-  under (Err fault) are_forms are =
-      subst (λ (l : List FormItem). ArePagesOf l form_end items end) (sym are_forms.0) (are.0, are.1 ∙ sym are_forms.1)
-  under (Ok head) are_forms are =
-      let chain = chains head file in
-      let first = chain.one are_forms.0 are_forms.1 are_forms.2 in
-      let second = chain.one are.0 are.1 are.2 in
-      let offsets_are : are.0 ≡ are_forms.0 = second.0 ∙ sym first.0 in
-      let faults_are : are.1 ≡ are_forms.1 = second.1 ∙ sym first.1 in
-      let here : ArePagesItems head.endian file are_forms.1 0 are_forms.0 items end =
-      subst (λ (f : Option FileFault). ArePagesItems head.endian file f 0 are_forms.0 items end) faults_are
-      (subst (λ (l : List ℕ). ArePagesItems head.endian file are.1 0 l items end) offsets_are are.3) in
-      pages_from head.endian file are_forms.1 whole 0 are_forms.0 forms form_end items end are_forms.3 here
+  under (Err fault) is are_forms are =
+      let none = refused_forms chains file fault is forms form_end are_forms in
+      subst (λ (l : List FormItem). ArePagesOf l form_end items end) (sym none.0) (are.0, are.1 ∙ sym none.1)
+  under (Ok head) is are_forms (offsets, fault, chain, are) =
+      pages_from chains file head is offsets fault chain whole offsets 0 refl (all_proper chains file head is offsets fault chain) forms form_end items end are_forms are
 
   pub file_pages : AreForms file forms form_end → AreItems file items end → ArePagesOf forms form_end items end
-  file_pages are_forms are = under (header file) are_forms are
+  file_pages are_forms are = under (header file) refl are_forms are
 
 -- an item among the first is as wide as they are
 wide_item : (width : ℕ) (own others before after : List Item) (item : Item) → own ++ others ≡ before ++ item ∷ after → length before < length own
@@ -232,26 +282,11 @@ pages_are (one ∷ forms) items pages (own, others, later, items_are, count, is,
     ∙ ap (λ (l : List SourcePage). page_of_form one.form (map (λ item. item.pels) (take one.form.rows items)) ∷ l)
     (pages_are forms others later rest ∙ ap (pages_of forms) (sym second))
 
--- no list of forms ends outside of its file
-module _ (endian : Endian) (file : List ℕ) (fault : Option FileFault) where
-  no_chain_end : (p : ℕ) (some : Option FileFault) → chain_end p some ≡ Outside → ⊥
-  no_chain_end p None is = cc
-  no_chain_end p (Some stop) is = cc
+inside_under : FilesHaveOneChain → (file : List ℕ) (answer : Result Header FileFault) → header file ≡ answer → (forms : List FormItem) → AreForms file forms Outside → ⊥
+inside_under chains file (Err fault) is forms are = let ends = (refused_forms chains file fault is forms Outside are).1 in cc
+inside_under chains file (Ok head) is forms are =
+    let one = chains head file in
+    inside_pages chains file head is one.offsets one.end one.is one.offsets 0 refl (all_proper chains file head is one.offsets one.end one.is) forms are
 
-  inside_page : (p : ℕ) (behind : List FormItem → End → Type 0) (answer : Result PageForm FileFault) (forms : List FormItem)
-      → ((forms : List FormItem) → behind forms Outside → ⊥) → AreFormsFrom p behind answer forms Outside → ⊥
-  inside_page p behind (Err refused) forms never are = let is = are.1 in cc
-  inside_page p behind (Ok form) forms never are = never are.others are.follows
-
-  inside_pages : (p : ℕ) (offsets : List ℕ) (forms : List FormItem) → ArePagesForms endian file fault p offsets forms Outside → ⊥
-  inside_pages p [] forms are = no_chain_end p fault (sym are.1)
-  inside_pages p (q ∷ offsets) forms are =
-      inside_page p (ArePagesForms endian file fault (p + 1) offsets) (page endian file q) forms
-      (λ later left. inside_pages (p + 1) offsets later left) are
-
-inside_under : (file : List ℕ) (answer : Result Header FileFault) (forms : List FormItem) → AreFormsUnder file answer forms Outside → ⊥
-inside_under file (Err fault) forms are = let is = are.1 in cc
-inside_under file (Ok head) forms are = inside_pages head.endian file are.1 0 are.0 forms are.3
-
-pub forms_inside : (file : List ℕ) (forms : List FormItem) → AreForms file forms Outside → ⊥
-forms_inside file forms are = inside_under file (header file) forms are
+pub forms_inside : FilesHaveOneChain → (file : List ℕ) (forms : List FormItem) → AreForms file forms Outside → ⊥
+forms_inside chains file forms are = inside_under chains file (header file) refl forms are

@@ -19,12 +19,9 @@ use Rattle.fax_files.specs.code.Chain.{ChainState}
 use Rattle.fax_walk.specs.declared.end.End.{End}
 use Rattle.fax_walk.specs.declared.end.End.TheVariants.{Fault}
 use Rattle.fax_walk.specs.Items.{Item, numbered, stop_at, Follows}
-use Rattle.fax_walk.specs.Forms.{FormItem}
 use Rattle.fax_walk.specs.code.Stages.{PageState, row_of, skipped}
 use Rattle.fax_walk.specs.code.Due.{AreStripsBehind, ArePagesBehind, IsDueOnPage}
-use Rattle.fax_walk.specs.code.Opening.{AreFormsBehind}
 use Rattle.fax_walk.proofs.OneTailLemmas.{one_of_pages}
-use Rattle.fax_walk.proofs.OneFormLemmas.{one_of_pages as one_of_forms}
 
 -- rows of a strip from row i on, and their end
 pub record Lines (form : StripForm) (i : ℕ) (reference : List Colour) (b : List Bool) : Type 0 where
@@ -110,9 +107,3 @@ module _ (lines_read : (form : StripForm) (i : ℕ) (reference : List Colour) �
           follows = then.2;
         },
       )
-
-pub forms_due : FilesHaveOneChain → (chain : ChainState) → (forms : List FormItem) × (end : End) × AreFormsBehind chain forms end
-forms_due chains chain =
-    let one = chains chain.tiff.head chain.tiff.file in
-    let all = one_of_forms chain.tiff.head.endian chain.tiff.file one.end chain.given (drop chain.given one.offsets) in
-    (all.items, all.end, (one.offsets, one.end, one.is, all.is))

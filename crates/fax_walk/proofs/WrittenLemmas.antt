@@ -1,12 +1,13 @@
 -- A written file has the rows and the forms of its pages.
-use Rattle.std.proofs.Common.{◌≡◌, ℕ, ◌+◌, ◌/◌, ◌%◌, ◌≤◌, inr, List, [], ◌∷◌, ◌++◌, drop, None, Result, refl, sym, ap, ◌∙◌, subst, arith}
+use Rattle.std.proofs.Common.{◌≡◌, ℕ, ◌+◌, ◌/◌, ◌%◌, ◌≤◌, inr, List, [], ◌∷◌, ◌++◌, length, drop, None, Result, Ok, Err, refl, sym, ap, ◌∙◌, subst, arith}
 use Rattle.std.specs.List.{AllZip}
 use Rattle.fax_bits.specs.declared.Colour.{Colour}
 use Rattle.fax_files.specs.declared.FileFault.{FileFault}
 use Rattle.fax_files.specs.declared.PageForm.{PageForm}
 use Rattle.fax_files.specs.declared.Endian.{Endian}
 use Rattle.fax_files.specs.declared.Endian.TheVariants.{Little}
-use Rattle.fax_files.specs.Numbers.{Header}
+use Rattle.fax_files.specs.Numbers.{Header, header}
+use Rattle.fax_files.specs.Chain.{IsChain}
 use Rattle.fax_files.specs.Page.{page}
 use Rattle.fax_files.specs.PageRows.{AreStrips, ArePageRows, joined, shown}
 use Rattle.fax_files.specs.Written.{WrittenPage, file_of}
@@ -14,7 +15,10 @@ use Rattle.fax_files.specs.Laws.{IsWritable, AreWritable, IsReadAt, IsReadAs, Wr
 use Rattle.fax_walk.specs.declared.end.End.{End}
 use Rattle.fax_walk.specs.declared.end.End.TheVariants.{Proper}
 use Rattle.fax_walk.specs.Items.{Item, numbered, ArePageItems, AreFromRow, AreFromPage, ArePagesItems, AreItemsUnder, AreItems}
-use Rattle.fax_walk.specs.Forms.{AreFormsFrom, ArePagesForms, AreFormsUnder, AreForms}
+use Rattle.fax_walk.specs.declared.cursor.Cursor.{Cursor}
+use Rattle.fax_walk.specs.InOrder.{AreFrom}
+use Rattle.fax_walk.specs.Pages.{IsForm, AreForms, end_past_chain}
+use Rattle.fax_walk.proofs.PageLawLemmas.{no_page, some_page, next_dropped, proper_end}
 use Rattle.fax_walk.specs.Laws.{HoldsRows, items_of, forms_of, IsWalkedAs, WrittenFilesAreWalked}
 
 -- the items of a page from its first row on, where no strip has a fault
@@ -64,15 +68,22 @@ module _ (law : WrittenRowsAreRead) (file : List ℕ) where
       page_walked p q written first (ArePagesItems Little file None (p + 1) offsets) (items_of (p + 1) rows) writable.0 read.0 holds.0
       (pages_walked (p + 1) offsets pages rows writable.1 read.1 holds.1)
 
-  forms_read : (p : ℕ) (offsets : List ℕ) (pages : List WrittenPage) → AllZip (IsReadAt file) offsets pages
-      → ArePagesForms Little file None p offsets (forms_of p pages) Proper
-  forms_read p [] [] read = (refl, refl)
-  forms_read p [] (written ∷ pages) read = absurd read
-  forms_read p (q ∷ offsets) [] read = absurd read
-  forms_read p (q ∷ offsets) (written ∷ pages) read =
-      let behind = ArePagesForms Little file None (p + 1) offsets in
-      subst (λ (answer : Result PageForm FileFault). AreFormsFrom p behind answer (forms_of p (written ∷ pages)) Proper) (sym read.0.form)
-      (record { others = forms_of (p + 1) pages; forms_are = refl; follows = forms_read (p + 1) offsets pages read.1 })
+  forms_read : (head : Header) → header file ≡ Ok head → head.endian ≡ Little → (offsets : List ℕ) → IsChain head file offsets None → (later : List ℕ) (p : ℕ)
+      → drop p offsets ≡ later → p + length later ≡ length offsets → (pages : List WrittenPage) → AllZip (IsReadAt file) later pages
+      → AreFrom (IsForm file) p (forms_of p pages) Proper
+  forms_read head is little offsets chain [] p e count [] read =
+      let at : Cursor = record { page = p; row = 0 } in
+      let all : p ≡ length offsets = omega (arith, count) in
+      let proper : end_past_chain (length offsets) None at ≡ Proper = ap (λ (n : ℕ). end_past_chain n None at) (sym all) ∙ sym (proper_end p None) in
+      (Err Proper, rw proper at (no_page file head is offsets None chain at e), refl)
+  forms_read head is little offsets chain [] p e count (written ∷ pages) read = absurd read
+  forms_read head is little offsets chain (q ∷ later) p e count [] read = absurd read
+  forms_read head is little offsets chain (q ∷ later) p e count (written ∷ pages) read =
+      let here = some_page file head is offsets None chain (record { page = p; row = 0 }) q later e in (
+        p + 1,
+        (Ok (record { endian = Little; offset = q; form = written.form }), rw (little, read.0.form) at here, refl),
+        forms_read head is little offsets chain later (p + 1) (next_dropped p offsets q later e) (omega (arith, count)) pages read.1,
+      )
 
   module _ (pages : List WrittenPage) (rows : List (List (List Colour))) (writable : AreWritable pages) (holds : AllZip HoldsRows pages rows)
       (read : IsReadAs file pages) where
@@ -85,12 +96,7 @@ module _ (law : WrittenRowsAreRead) (file : List ℕ) where
         (read.offsets, None, read.chain, here)
 
     all_forms : AreForms file (forms_of 0 pages) Proper
-    all_forms =
-        let here : ArePagesForms read.head.endian file None 0 read.offsets (forms_of 0 pages) Proper =
-        subst (λ (e : Endian). ArePagesForms e file None 0 read.offsets (forms_of 0 pages) Proper) (sym read.little)
-        (forms_read 0 read.offsets pages read.read) in
-        subst (λ (answer : Result Header FileFault). AreFormsUnder file answer (forms_of 0 pages) Proper) (sym read.head_is)
-        (read.offsets, None, read.chain, here)
+    all_forms = forms_read read.head read.head_is read.little read.offsets read.chain read.offsets 0 refl (omega arith) pages read.read
 
     walked : IsWalkedAs file pages rows
     walked = record { items = all_items; forms = all_forms }

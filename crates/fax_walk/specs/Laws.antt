@@ -1,6 +1,6 @@
 -- Laws of items and tails, of forms, and of written files, which the functions of the module `laws` prove.
-use Rattle.std.specs.Prelude.{◌≡◌, ◌≢◌, ℕ, ◌+◌, ◌<◌, ◌≤◌, nat_le, Bool, true, ◌↔◌, List, [], ◌∷◌, ◌++◌, length, map, All}
-use Rattle.std.specs.List.{filter, AllZip}
+use Rattle.std.specs.Prelude.{◌≡◌, ◌≢◌, ℕ, ◌+◌, ◌<◌, ◌≤◌, true, ◌↔◌, List, [], ◌∷◌, ◌++◌, length, map, All}
+use Rattle.std.specs.List.{AllZip}
 use Rattle.std.specs.Option.{ForSome}
 use Rattle.fax_bits.specs.declared.Colour.{Colour}
 use Rattle.fax_page.specs.declared.Coding.{Coding}
@@ -18,7 +18,7 @@ use Rattle.fax_walk.specs.declared.options.Options.{Options}
 use Rattle.fax_walk.specs.Items.{Item, numbered, AreItems}
 use Rattle.fax_walk.specs.Tail.{behind_item, IsPrinted, IsRest, IsTail}
 use Rattle.fax_walk.specs.Before.{EndsBefore}
-use Rattle.fax_walk.specs.Forms.{FormItem, AreForms, IsFormTail, behind_page, IsPrintedPage}
+use Rattle.fax_walk.specs.Pages.{FormItem, AreForms}
 use Rattle.fax_walk.specs.Converted.{SourcePage, written_page}
 
 -- there is one list of which this holds, with one end (this project's profile)
@@ -55,38 +55,6 @@ TailOfPrinted =
 -- a tail from a printed cursor that has no rows ends behind the rows before the cursor's (this project's profile)
 abbrev pub PrintedTailsEndBehind : Type 0
 PrintedTailsEndBehind = (file : List ℕ) (at : Cursor) (end : End) → IsPrinted file at → IsTail file at [] end → EndsBefore end at → ⊥
-
--- each file has forms and an end, and one list of them only (this project's profile)
-abbrev pub FilesHaveOneForms : Type 0
-FilesHaveOneForms = (file : List ℕ) → IsOne (AreForms file)
-
--- each cursor has a tail of forms and an end, and one only (this project's profile)
-abbrev pub CursorsHaveOneFormTail : Type 0
-CursorsHaveOneFormTail = (file : List ℕ) (at : Cursor) → IsOne (IsFormTail file at)
-
--- the forms from the first cursor on are all forms of the file (this project's profile)
-abbrev pub FormTailOfStart : Type 0
-FormTailOfStart = (file : List ℕ) (forms : List FormItem) (end : End) → IsFormTail file start forms end ↔ AreForms file forms end
-
--- what follows a page is the forms from the cursor behind it on, with the same end (this project's profile)
-abbrev pub FormTailBehindPage : Type 0
-FormTailBehindPage =
-    (file : List ℕ) (at : Cursor) (before after : List FormItem) (item : FormItem) (end : End)
-    → IsFormTail file at (before ++ item ∷ after) end → IsFormTail file (behind_page item) after end
-
--- the page is the cursor's or a later one (this project's profile)
-abbrev pub is_page_from : Cursor → FormItem → Bool
-is_page_from at item = nat_le at.page item.page
-
--- the forms of a file from the cursor's page on, and the same end (this project's profile)
-abbrev pub IsFormRest : List ℕ → Cursor → List FormItem → End → Type 0
-IsFormRest file at rest end = (forms : List FormItem) × AreForms file forms end × (rest ≡ filter (is_page_from at) forms)
-
--- the forms from a printed cursor on are the rest of the file (this project's profile)
-abbrev pub FormTailOfPrinted : Type 0
-FormTailOfPrinted =
-    (file : List ℕ) (at : Cursor) (forms : List FormItem) (end : End)
-    → IsPrintedPage file at → IsFormTail file at forms end ↔ IsFormRest file at forms end
 
 -- the strips of a page hold these rows, each strip all of its own (TIFF 6.0, RowsPerStrip)
 abbrev pub HoldsRows : WrittenPage → List (List Colour) → Type 0

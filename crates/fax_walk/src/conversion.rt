@@ -92,7 +92,8 @@ fn source_fault(fault: WalkFault) -> ConvertFault
 fn count_pages(file: &[u8]) -> u64
     ensures { Reads.IsPageCount file.now result }
 {
-    crate::laws::form_tail_of_start();
+    crate::laws::form_tails_are_one();
+    crate::laws::pages_go_on();
     let mut pages = Pages::start(file);
     let mut count = 0;
     loop {
@@ -135,8 +136,8 @@ fn convert_file(alloc: Global, file: &[u8], options: &Options) -> Result<Vec<u8>
         → Spec.IsRefused file.now options.now fault) }
 {
     crate::laws::tail_of_start();
-    crate::laws::form_tail_of_start();
-    crate::laws::files_have_one_forms();
+    crate::laws::form_tails_are_one();
+    crate::laws::pages_go_on();
     fax_files::laws::files_have_one_chain();
     fax_files::laws::forms_are_whole();
     let count = count_pages(file);

@@ -1,12 +1,13 @@
 //! Laws of a file's rows and of its forms. The functions compute nothing: each has a law as its
 //! contract.
 ghost use Rattle.std.specs.Prelude.{List};
-ghost use Rattle.fax_walk.specs.Forms.{FormItem};
+ghost use Rattle.fax_walk.specs.Pages.{FormItem};
+ghost use Rattle.fax_walk.specs.PagesLeft.{AreFormsLeft};
 ghost use Rattle.fax_walk.specs.Items.{Item};
 ghost use Rattle.fax_walk.specs.Laws as Laws;
 ghost use Rattle.fax_walk.specs.LongLaws as LongLaws;
+ghost use Rattle.fax_walk.specs.PageLaws as PageLaws;
 ghost use Rattle.fax_walk.specs.code.Due.{IsDue};
-ghost use Rattle.fax_walk.specs.code.Pages.{AreFormsDue};
 ghost use Rattle.fax_walk.specs.declared.end.End.{End};
 
 use crate::{Pages, Walk};
@@ -135,38 +136,6 @@ pub fn items_have_one_place()
     fax_files::laws::files_have_one_chain();
 }
 
-/// Each file has forms and an end, and one list of them only.
-pub fn files_have_one_forms()
-    ensures { Laws.FilesHaveOneForms }
-{
-    fax_files::laws::files_have_one_chain();
-}
-
-/// Each cursor has a tail of forms and an end, and one only.
-pub fn cursors_have_one_form_tail()
-    ensures { Laws.CursorsHaveOneFormTail }
-{
-    fax_files::laws::files_have_one_chain();
-}
-
-/// The forms from the first cursor on are all forms of the file.
-pub fn form_tail_of_start()
-    ensures { Laws.FormTailOfStart }
-{}
-
-/// What follows a page is the forms from the cursor behind it on, with the same end.
-pub fn form_tails_behind_pages()
-    ensures { Laws.FormTailBehindPage }
-{}
-
-/// The forms from a cursor that a reader of pages prints are the rest of the file.
-pub fn form_tails_of_printed()
-    ensures { Laws.FormTailOfPrinted }
-{
-    files_have_one_forms();
-    cursors_have_one_form_tail();
-}
-
 /// A written file has the rows and the forms of its pages, in their order, and a proper end
 /// (TIFF 6.0).
 pub fn written_files_are_walked()
@@ -192,9 +161,85 @@ pub fn walks_have_items(walk: &Walk)
     walk.has_items();
 }
 
-/// Each reader of pages has pages that are due, and an end, also where it has handed out some.
+/// Each reader of pages has pages that are left, and an end, also where it has handed out some.
 pub fn pages_have_forms(pages: &Pages)
-    ensures { (forms : List FormItem) × (end : End) × AreFormsDue pages.now forms end }
+    ensures { (forms : List FormItem) × (end : End) × AreFormsLeft pages.now forms end }
 {
     pages.has_forms();
+}
+
+/// Whatever a walk begins with has a tail and an end, and one only.
+pub fn beginnings_have_one_tail()
+    ensures { PageLaws.BeginningsHaveOneTail }
+{
+    fax_bits::laws::bits_stand_by_place();
+    fax_page::laws::lines_are_read_in_one_way();
+    fax_files::laws::files_have_one_chain();
+    fax_files::laws::forms_are_whole();
+}
+
+/// Each file and each cursor has forms and an end, and one list of them only. From a page's first
+/// row it is the forms from that page on, and what follows a form is the tail from the cursor after
+/// it. Page number n of a file has the number n.
+pub fn form_tails_are_one()
+    ensures all { PageLaws.FilesHaveOneForms }
+    ensures one { PageLaws.CursorsHaveOneFormTail }
+    ensures first { PageLaws.FormTailOfPage }
+    ensures start { PageLaws.FormTailOfStart }
+    ensures after { PageLaws.FormTailsGoOn }
+    ensures numbers { PageLaws.FormsStandByNumber }
+{
+    fax_files::laws::files_have_one_chain();
+}
+
+/// Each page that a reader hands out is the first of what was left of it, and then the rest is left.
+pub fn pages_go_on()
+    ensures forms { PageLaws.FormsLeftGoOn }
+    ensures ends { PageLaws.FormsLeftEnd }
+{
+    form_tails_are_one();
+}
+
+/// What follows item number n is the tail from the cursor after it, and from the place inside a
+/// strip after it, if there is one. Rows of its strip lead to that place. The tail from the first
+/// cursor is all items of the file.
+pub fn tails_go_on()
+    ensures cursors { PageLaws.TailsGoOn }
+    ensures places { PageLaws.LongTailsGoOn }
+    ensures reached { PageLaws.PlacesAreReached }
+    ensures start { PageLaws.TailOfStart }
+{
+    fax_bits::laws::bits_stand_by_place();
+    fax_page::laws::lines_are_read_in_one_way();
+    fax_files::laws::files_have_one_chain();
+    fax_files::laws::forms_are_whole();
+}
+
+/// The tails of rows, and the rows of a file, are those of the definitions by strips, but for the
+/// bits after each row.
+pub fn rows_are_as_before()
+    ensures tails { PageLaws.RowTailsAreAsBefore }
+    ensures all { PageLaws.RowsAreAsBefore }
+{
+    fax_bits::laws::bits_stand_by_place();
+    fax_files::laws::files_have_one_chain();
+    fax_files::laws::forms_are_whole();
+    cursors_have_one_tail();
+    places_have_one_tail();
+    tail_of_start();
+    beginnings_have_one_tail();
+    tails_go_on();
+}
+
+/// What a walk still hands out is one list with one end. Each item that it hands out is the first of
+/// it, and what is left is the tail from the walk's cursor, and from its place inside a strip.
+pub fn walks_go_on()
+    ensures one { PageLaws.LeftIsOne }
+    ensures items { PageLaws.LeftGoesOn }
+    ensures ends { PageLaws.LeftEnds }
+    ensures cursor { PageLaws.LeftIsTail }
+    ensures place { PageLaws.LeftIsLongTail }
+{
+    beginnings_have_one_tail();
+    tails_go_on();
 }

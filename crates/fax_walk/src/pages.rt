@@ -1,7 +1,7 @@
 //! The pages of a file in the order of their chain, with their forms.
-ghost use Rattle.std.specs.Prelude.{◌≡◌, List, [], IfErr, IfOk};
-ghost use Rattle.fax_walk.specs.Forms.{FormItem, IsFormTail};
-ghost use Rattle.fax_walk.specs.code.Opening as Opening;
+ghost use Rattle.std.specs.Prelude.{◌≡◌, List, [], IfErr, IfOk, Err};
+ghost use Rattle.fax_walk.specs.Pages.{FormItem, IsFormTail};
+ghost use Rattle.fax_walk.specs.code.Opening.{IsFormNext};
 ghost use Rattle.fax_walk.specs.code.Pages as Spec;
 
 use crate::opening::DuePage;
@@ -14,36 +14,46 @@ use std::marker::Model;
 enum PagesStage<'a> {
     /// Nothing is read yet.
     Before,
-    /// The page behind these directories is due.
-    Behind(Chain<'a>),
+    /// The page after these directories is due.
+    After(Chain<'a>),
     /// The pages have ended.
     Ended(End),
 }
 
-/// A reader of a file's pages, without their strips. Contracts see its file, the place behind the
-/// last page that was handed out, or the one that it began with, and how far it has come. It takes
-/// no memory.
+/// A reader of a file's pages, without their strips. Contracts see its file, the cursor that it
+/// began with, how many pages it handed out, the cursor after the last of them, and how the pages
+/// ended, once it told that. It takes no memory.
 #[derive(Drop)]
 pub struct Pages<'a> {
     file: &'a [u8],
+    begun: Cursor,
+    /// How many pages were handed out.
+    given: u32,
     cursor: Cursor,
     stage: PagesStage<'a>,
 }
 
 impl<'a> Model for Pages<'a> {
-    ghost use Rattle.fax_walk.specs.code.Pages.{PagesState, IsSoundReader};
+    ghost use Rattle.fax_walk.specs.PagesLeft.{PagesView};
+    ghost use Rattle.fax_walk.specs.code.Pages.{IsSoundReader, told_of};
 
-    ghost Value = { PagesState };
+    ghost Value = { PagesView };
 
-    ghost view = { λ p. record { file = p.file.now; cursor = p.cursor; stage = p.stage } };
+    ghost view = { λ p. record {
+      file = p.file.now;
+      begun = p.begun;
+      given = p.given;
+      cursor = p.cursor;
+      told = told_of p.stage;
+    } };
 
-    ghost invariant = { λ p. IsSoundReader p.stage p.cursor };
+    ghost invariant = { λ p. IsSoundReader p.file.now p.begun p.given p.cursor p.stage };
 }
 
-/// The page behind the directories that a chain has handed out, or how the pages end there.
-fn page_behind<'a>(chain: Chain<'a>) -> Result<DuePage<'a>, End>
-    ensures ok { IfOk result (Spec.IsPageBehind chain.entry) }
-    ensures err { IfErr result (Opening.AreFormsBehind chain.entry []) }
+/// The page after the directories that a chain has handed out, or how the pages end there.
+fn page_after<'a>(chain: Chain<'a>) -> Result<DuePage<'a>, End>
+    ensures ok { IfOk result (λ due. Spec.IsPageAfter chain.entry due) }
+    ensures err { IfErr result (λ end. IsFormNext chain.entry (Err end)) }
 {
     fax_files::laws::files_have_one_chain();
     match DuePage::behind(chain) {
@@ -53,24 +63,25 @@ fn page_behind<'a>(chain: Chain<'a>) -> Result<DuePage<'a>, End>
     }
 }
 
-/// The first page from a cursor on: the one that it names at row 0, else the one behind it; or how
+/// The first page from a cursor on: the one that it names at row 0, else the one after it; or how
 /// the pages end there.
 fn first_page<'a>(file: &'a [u8], cursor: Cursor) -> Result<DuePage<'a>, End>
     ensures ok { IfOk result (Spec.BeginsWith file.now cursor) }
     ensures err { IfErr result (IsFormTail file.now cursor []) }
 {
+    fax_files::laws::files_have_one_chain();
     let Some(page) = DuePage::at(file, cursor)? else {
         return Err(End::Proper);
     };
     if cursor.row == 0 {
         Ok(page)
     } else {
-        page_behind(page.chain)
+        page_after(page.chain)
     }
 }
 
 impl<'a> Pages<'a> {
-    ghost use Rattle.fax_walk.specs.code.Pages.{AreFormsDue, IsNextPage, pages_from, pages_start};
+    ghost use Rattle.fax_walk.specs.PagesLeft.{AreFormsLeft, IsNextPage, pages_from, pages_start};
 
     /// A reader of all pages of a file, from any bytes. Nothing is read yet.
     pub fn start(file: &'a [u8]) -> Self
@@ -80,18 +91,20 @@ impl<'a> Pages<'a> {
     }
 
     /// A reader of the pages of a file from a cursor on: from the page that it names at row 0, else
-    /// from the one behind it. Nothing is read yet.
+    /// from the one after it. Nothing is read yet.
     pub fn resume(file: &'a [u8], cursor: Cursor) -> Self
         ensures { result ≡ pages_from file.now cursor }
     {
         Pages {
             file,
+            begun: cursor,
+            given: 0,
             cursor,
             stage: PagesStage::Before,
         }
     }
 
-    /// The place behind the last page that was handed out, or the one that the reader began with.
+    /// The cursor after the last page that was handed out, or the one that the reader began with.
     pub fn cursor(&self) -> Cursor
         ensures { result ≡ self.now.cursor }
     {
@@ -101,22 +114,23 @@ impl<'a> Pages<'a> {
     /// The page that is due, or how the pages end.
     fn due(&self) -> Result<DuePage<'a>, End>
         ensures ok { IfOk result (Spec.IsDueIn self.now) }
-        ensures err { IfErr result (Spec.AreFormsDue self.now []) }
+        ensures err { IfErr result (Spec.EndsNow self.now) }
     {
         match &self.stage {
-            PagesStage::Before => first_page(self.file, self.cursor),
-            PagesStage::Behind(chain) => page_behind(chain.again()),
+            PagesStage::Before => first_page(self.file, self.begun),
+            PagesStage::After(chain) => page_after(chain.again()),
             PagesStage::Ended(end) => Err(*end),
         }
     }
 
-    /// Pages are due, and an end. It computes nothing.
+    /// Pages are left, and an end. It computes nothing.
     pub(crate) fn has_forms(&self)
-        ensures { (forms : List FormItem) × (end : End) × AreFormsDue self.now forms end }
+        ensures { (forms : List FormItem) × (end : End) × AreFormsLeft self.now forms end }
     {
+        crate::laws::form_tails_are_one();
         match &self.stage {
-            PagesStage::Before => crate::laws::cursors_have_one_form_tail(),
-            PagesStage::Behind(_) => fax_files::laws::files_have_one_chain(),
+            PagesStage::Before => {}
+            PagesStage::After(_) => {}
             PagesStage::Ended(_) => {}
         }
     }
@@ -131,13 +145,15 @@ impl<'a> Pages<'a> {
     pub fn next_page(&mut self) -> Result<Option<(u32, PageForm)>, WalkFault>
         ensures { IsNextPage self.old result self.new }
     {
+        crate::laws::form_tails_are_one();
         let end = match self.due() {
             Ok(page) => {
+                self.given += 1;
                 self.cursor = Cursor {
                     page: page.chain.given(),
                     row: 0,
                 };
-                self.stage = PagesStage::Behind(page.chain);
+                self.stage = PagesStage::After(page.chain);
                 return Ok(Some((page.page, page.form)));
             }
             Err(end) => end,

@@ -53,7 +53,7 @@ pub struct Walk<'a> {
 }
 
 impl<'a> Model for Walk<'a> {
-    ghost use Rattle.fax_walk.specs.code.Due.{WalkState, IsSound};
+    ghost use Rattle.fax_walk.specs.code.Due.{WalkState, IsSoundWalk};
 
     ghost Value = { WalkState };
 
@@ -65,7 +65,7 @@ impl<'a> Model for Walk<'a> {
       stage = w.stage;
     } };
 
-    ghost invariant = { λ w. IsSound w.file.now w.begun w.given w.cursor w.stage };
+    ghost invariant = { λ w. IsSoundWalk w.file.now w.begun w.given w.cursor w.stage };
 }
 
 /// Opens the page of a cursor's row, or the next one where it stands behind a page's last row.
@@ -242,6 +242,14 @@ impl<'a> Walk<'a> {
             Stage::Open(page) => page.has_items(),
             Stage::Ended(..) => {}
         }
+    }
+
+    /// What was handed out, and then what is due, is all that the walk hands out. It computes
+    /// nothing.
+    fn has_come(&self)
+        ensures { Due.HasCome self.now.file self.now.begun self.now.given self.now.stage }
+    {
+        let _ = &self.stage;
     }
 
     /// Opens the page of the row that is due, where it is not open. Where memory is refused the

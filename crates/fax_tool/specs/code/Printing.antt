@@ -8,12 +8,12 @@ use Rattle.fax_walk.specs.declared.end.End.TheVariants.{Proper, Fault, Outside}
 use Rattle.fax_walk.specs.declared.end.WalkFault.{WalkFault}
 use Rattle.fax_walk.specs.declared.end.WalkFault.TheVariants.{AtRow, CursorOutside, Memory as NoRoom}
 use Rattle.fax_walk.specs.Items.{Item}
-use Rattle.fax_walk.specs.Forms.{FormItem}
+use Rattle.fax_walk.specs.Pages.{FormItem}
 use Rattle.fax_walk.specs.declared.begun.Begun.{Begun}
 use Rattle.fax_walk.specs.LongCursor.{LongPlace}
 use Rattle.fax_walk.specs.LongTail.{IsLongNext}
 use Rattle.fax_walk.specs.code.Due.{WalkState, IsDue, IsLongNow}
-use Rattle.fax_walk.specs.code.Pages.{PagesState, AreFormsDue}
+use Rattle.fax_walk.specs.PagesLeft.{PagesView, AreFormsLeft}
 use Rattle.fax_tool.specs.declared.refusal.Refusal.{Refusal}
 use Rattle.fax_tool.specs.declared.refusal.Refusal.TheVariants.{Memory, Read, Write}
 use Rattle.fax_tool.specs.Streams.{Counts}
@@ -28,9 +28,9 @@ pub record AreRowsDue (walk : WalkState) (lines : List Line) (end : End) : Type 
   pub lines_are : lines ≡ map line_of_row items
 
 -- the lines of the pages that a reader still hands out, and their end
-pub record ArePagesDue (pages : PagesState) (lines : List Line) (end : End) : Type 0 where
+pub record ArePagesDue (pages : PagesView) (lines : List Line) (end : End) : Type 0 where
   pub items : List FormItem
-  pub due : AreFormsDue pages items end
+  pub due : AreFormsLeft pages items end
   pub lines_are : lines ≡ map line_of_page items
 
 -- how lines end where a walk or a reader of pages answers so; want of memory is no end

@@ -87,6 +87,12 @@ IsDueAt file begun (Ended ended read last) items end = (items ≡ []) × (end �
 abbrev pub IsDue : WalkState → List Item → End → Type 0
 IsDue walk items end = IsDueAt walk.file walk.begun walk.stage items end
 
+-- what a walk handed out that began so, and then what is due of it, is all that it hands out
+abbrev pub HasCome : List ℕ → Begun → ℕ → Stage → Type 0
+HasCome file begun given stage =
+    (items : List Item) (end : End) → IsDueAt file begun stage items end
+    → (before : List Item) × (length before ≡ given) × IsTailFrom file begun (before ++ items) end
+
 -- a walk that begins so, before its first item
 abbrev pub walk_begun : List ℕ → Begun → WalkState
 walk_begun file begun = record { file = file; begun = begun; given = 0; cursor = begins_at begun; stage = Before }
@@ -295,6 +301,10 @@ pub record HasHandedOut (walk : WalkState) (items : List Item) : Type 0 where
 
 abbrev pub IsLongNow : WalkState → Option LongPlace → Type 0
 IsLongNow walk place = (items : List Item) → HasHandedOut walk items → IsLongNext walk.file walk.begun items place
+
+-- a walk is sound, and has handed out the first of its items
+abbrev pub IsSoundWalk : List ℕ → Begun → ℕ → Cursor → Stage → Type 0
+IsSoundWalk file begun given cursor stage = IsSound file begun given cursor stage × HasCome file begun given stage
 
 -- no more places of rows than these are left behind a cursor
 abbrev pub places_left : WalkState → ℕ

@@ -1,5 +1,5 @@
 -- Pages as they become due.
-use Rattle.std.specs.Prelude.{◌≡◌, ℕ, ◌+◌, ◌%◌, ◌<◌, ◌≤◌, ◌⊎◌, List, [], length, drop, Option, Some, None, Result, Ok, Err, slice_get, ⊤}
+use Rattle.std.specs.Prelude.{◌≡◌, ℕ, ◌+◌, ◌%◌, ◌<◌, ◌≤◌, ◌⊎◌, List, [], length, Option, Some, None, Result, Ok, Err, slice_get, ⊤}
 use Rattle.fax_bits.specs.declared.Colour.{Colour}
 use Rattle.fax_page.specs.declared.StripForm.{StripForm}
 use Rattle.fax_page.specs.code.Reader.{StripState}
@@ -23,7 +23,7 @@ use Rattle.fax_walk.specs.Tail.{IsTail}
 use Rattle.fax_walk.specs.LongCursor.{LongPlace}
 use Rattle.fax_walk.specs.LongTail.{IsInside, AreOnPage, IsLongTail, begins_at}
 use Rattle.fax_walk.specs.Before.{AreRowsBefore, AreRowsBeforeBegun, EndsBefore, rows_before}
-use Rattle.fax_walk.specs.Forms.{FormItem, ArePagesForms, IsFormThen, IsFormTail}
+use Rattle.fax_walk.specs.Pages.{FormItem, IsForm, IsFormTail}
 use Rattle.fax_walk.specs.code.Stages.{PageState, row_of, skipped}
 use Rattle.fax_walk.specs.code.Due.{ArePagesBehind, IsOpen, IsInFile, IsAtStrip, IsReached}
 
@@ -40,12 +40,6 @@ pub record IsPageDue (number : ℕ) (chain : ChainState) (directory : TiffDirect
   pub directory_is : directory ≡ directory_of chain.tiff directory.offset
   pub form_is : form_of directory ≡ Ok form
   pub limits : IsPageForm form
-
--- the forms of the pages behind the directories that a chain has handed out
-abbrev pub AreFormsBehind : ChainState → List FormItem → End → Type 0
-AreFormsBehind chain forms end =
-    (offsets : List ℕ) × (fault : Option FileFault) × IsChain chain.tiff.head chain.tiff.file offsets fault
-    × ArePagesForms chain.tiff.head.endian chain.tiff.file fault chain.given (drop chain.given offsets) forms end
 
 -- the items of a page that is due, from this row on, and of those behind it
 abbrev pub AreDueFrom : PageDue → ℕ → List Item → End → Type 0
@@ -127,6 +121,16 @@ pub record IsChainBefore (file : List ℕ) (number : ℕ) (chain : ChainState) :
   pub within : (offsets : List ℕ) (fault : Option FileFault) → IsChain chain.tiff.head chain.tiff.file offsets fault
       → number ≤ length offsets
 
+-- what stands at the next directory of a chain: the form of a page, or the end
+abbrev pub IsFormNext : ChainState → Result (FormItem × ℕ) End → Type 0
+IsFormNext chain answer = (file : List ℕ) → IsChainBefore file chain.given chain → IsForm file chain.given answer
+
+-- a page that is due is the file's page of its number, and so is the chain after it
+pub record IsFormOf (file : List ℕ) (due : PageDue) : Type 0 where
+  pub step : IsForm file due.page (Ok (record { page = due.page; form = due.form }, due.page + 1))
+  pub given : due.chain.given ≡ due.page + 1
+  pub before : IsChainBefore file due.chain.given due.chain
+
 -- the place inside a strip that has this cursor, these bits and these runs
 abbrev pub place_at : Cursor → ℕ → List ℕ → LongPlace
 place_at at bits runs = record { at = at; bits = bits; runs = runs }
@@ -146,6 +150,7 @@ IsEndBefore file number end = (row : ℕ) → EndsAt file (record { page = numbe
 -- a page is the one that a cursor names
 pub record IsPageOf (file : List ℕ) (at : Cursor) (due : PageDue) : Type 0 where
   pub same_page : due.page ≡ at.page
+  pub given : due.chain.given ≡ due.page + 1
   pub within : at.row ≤ due.form.rows
   pub before : AreRowsBefore file at (rows_before (Ok due.form) at.row)
   pub from_row : (items : List Item) (end : End) → at.row < due.form.rows → AreDueFrom due at.row items end → IsTail file at items end
@@ -158,9 +163,6 @@ pub record IsPageOf (file : List ℕ) (at : Cursor) (due : PageDue) : Type 0 whe
   pub from_place : (bits : ℕ) (runs : List ℕ) (items : List Item) (end : End)
       → AreOnPage due.directory.endian file due.directory.offset (place_at at bits runs) (Ok due.form) items end
       → IsLongTail file (place_at at bits runs) items end
-  pub form_first : (forms : List FormItem) (end : End) → at.row ≡ 0 → IsFormThen due.page due.form (AreFormsBehind due.chain) forms end
-      → IsFormTail file at forms end
-  pub form_next : (forms : List FormItem) (end : End) → 0 < at.row → AreFormsBehind due.chain forms end → IsFormTail file at forms end
 
 -- what is due of a page from a place inside a strip of it is what a walk over its file hands out from there
 abbrev pub IsPlaceDue : PageDue → LongPlace → List Item → End → Type 0

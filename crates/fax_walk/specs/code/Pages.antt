@@ -1,100 +1,51 @@
--- A reader of a file's pages.
-use Rattle.std.specs.Prelude.{◌≡◌, ℕ, ◌+◌, ◌-◌, ◌^◌, ◌<◌, ◌≤◌, List, [], ◌∷◌, Option, Some, None, Result, Ok, Err}
-use Rattle.fax_files.specs.declared.PageForm.{PageForm}
-use Rattle.fax_files.specs.Page.{IsPageForm}
+-- How far a reader of a file's pages has come.
+use Rattle.std.specs.Prelude.{◌≡◌, ℕ, ◌≤◌, List, length, Option, Some, None, Ok}
 use Rattle.fax_files.specs.code.Chain.{ChainState}
 use Rattle.fax_walk.specs.declared.cursor.Cursor.{Cursor}
 use Rattle.fax_walk.specs.declared.end.End.{End}
-use Rattle.fax_walk.specs.declared.end.End.TheVariants.{Proper, Fault, Outside}
-use Rattle.fax_walk.specs.declared.end.WalkFault.{WalkFault}
-use Rattle.fax_walk.specs.declared.end.WalkFault.TheVariants.{Memory, AtRow, CursorOutside}
 use Rattle.fax_walk.specs.declared.pages.PagesStage.{PagesStage}
-use Rattle.fax_walk.specs.declared.pages.PagesStage.TheVariants.{Before, Behind, Ended}
-use Rattle.fax_walk.specs.Cursor.{start}
-use Rattle.fax_walk.specs.Forms.{FormItem, IsFormThen, IsFormTail, behind_page}
-use Rattle.fax_walk.specs.code.Due.{place_number}
-use Rattle.fax_walk.specs.code.Opening.{PageDue, AreFormsBehind}
+use Rattle.fax_walk.specs.declared.pages.PagesStage.TheVariants.{Before, After, Ended}
+use Rattle.fax_walk.specs.InOrder.{LeadTo, EndsAfter, HasToldNoOther}
+use Rattle.fax_walk.specs.Pages.{FormItem, IsForm, AreFormsBegun, IsFormTail}
+use Rattle.fax_walk.specs.PagesLeft.{PagesView, IsTailOf}
+use Rattle.fax_walk.specs.code.Opening.{PageDue, IsChainBefore, IsFormOf}
 
--- a reader of a file's pages: the file, the place behind the last page that was handed out, or the one that it began
--- with, and how far it has come
-pub record PagesState : Type 0 where
-  pub file : List ℕ
-  pub cursor : Cursor
-  pub stage : PagesStage
+-- how the pages ended, once that was told
+abbrev pub told_of : PagesStage → Option End
+told_of Before = None
+told_of (After chain) = None
+told_of (Ended end) = Some end
 
--- what is due of a file where a reader of pages with this cursor has come this far: these forms in order, and then this
--- end
-abbrev pub AreFormsDueAt : List ℕ → Cursor → PagesStage → List FormItem → End → Type 0
-AreFormsDueAt file cursor Before forms end = IsFormTail file cursor forms end
-AreFormsDueAt file cursor (Behind chain) forms end = AreFormsBehind chain forms end
-AreFormsDueAt file cursor (Ended ended) forms end = (forms ≡ []) × (end ≡ ended)
+-- so many forms lead to page p, for a reader from a cursor
+pub record HasGiven (file : List ℕ) (begun : Cursor) (given p : ℕ) : Type 0 where
+  pub first : ℕ
+  pub begins : AreFormsBegun file begun (Ok (first, 0))
+  pub forms : List FormItem
+  pub lead : LeadTo (IsForm file) first forms p
+  pub count : length forms ≡ given
+  pub few : given ≤ p
 
--- what a reader of pages still hands out: these forms in order, and then this end
-abbrev pub AreFormsDue : PagesState → List FormItem → End → Type 0
-AreFormsDue pages forms end = AreFormsDueAt pages.file pages.cursor pages.stage forms end
+-- a reader of pages has come as far as its chain, or to its end
+abbrev pub IsSoundReader : List ℕ → Cursor → ℕ → Cursor → PagesStage → Type 0
+IsSoundReader file begun given cursor Before = (given ≡ 0) × (cursor ≡ begun)
+IsSoundReader file begun given cursor (After chain) = HasGiven file begun given chain.given × IsChainBefore file chain.given chain
+IsSoundReader file begun given cursor (Ended end) = EndsAfter (IsFormTail file begun) given end
 
--- a reader of pages from a cursor, before its first page
-abbrev pub pages_from : List ℕ → Cursor → PagesState
-pages_from file cursor = record { file = file; cursor = cursor; stage = Before }
+-- a page is the one after the directories that a chain has handed out
+abbrev pub IsPageAfter : ChainState → PageDue → Type 0
+IsPageAfter chain due = (due.page ≡ chain.given) × ((file : List ℕ) → IsChainBefore file chain.given chain → IsFormOf file due)
 
--- a reader of pages before the first one of its file
-abbrev pub pages_start : List ℕ → PagesState
-pages_start file = pages_from file start
-
--- the chain goes on at the cursor's page
-abbrev pub IsSoundReader : PagesStage → Cursor → Type 0
-IsSoundReader Before cursor = Unit {0}
-IsSoundReader (Behind chain) cursor = (chain.given ≡ cursor.page) × (cursor.row ≡ 0)
-IsSoundReader (Ended end) cursor = Unit {0}
-
--- a page is the one behind the directories that a chain has handed out
-pub record IsPageBehind (chain : ChainState) (due : PageDue) : Type 0 where
-  pub forms : (forms : List FormItem) (end : End) → IsFormThen due.page due.form (AreFormsBehind due.chain) forms end
-      → AreFormsBehind chain forms end
-  pub number : due.page ≡ chain.given
-  pub given : due.chain.given ≡ due.page + 1
-
--- a reader of pages from a cursor begins with this page
+-- a reader from a cursor begins with this page
 pub record BeginsWith (file : List ℕ) (at : Cursor) (due : PageDue) : Type 0 where
-  pub forms : (forms : List FormItem) (end : End) → IsFormThen due.page due.form (AreFormsBehind due.chain) forms end
-      → IsFormTail file at forms end
-  pub behind : place_number at.page at.row ≤ place_number due.page 0
-  pub given : due.chain.given ≡ due.page + 1
+  pub begins : AreFormsBegun file at (Ok (due.page, 0))
+  pub its : IsFormOf file due
 
 -- a reader of pages hands out this page next
-pub record IsDueIn (pages : PagesState) (due : PageDue) : Type 0 where
-  pub forms : (forms : List FormItem) (end : End) → IsFormThen due.page due.form (AreFormsBehind due.chain) forms end
-      → AreFormsDue pages forms end
-  pub behind : place_number pages.cursor.page pages.cursor.row ≤ place_number due.page 0
-  pub given : due.chain.given ≡ due.page + 1
+pub record IsDueIn (pages : PagesView) (due : PageDue) : Type 0 where
+  pub untold : pages.told ≡ None
+  pub come : HasGiven pages.file pages.begun pages.given due.page
+  pub its : IsFormOf pages.file due
 
--- no more places of pages than these are left behind a cursor
-abbrev pub pages_left : PagesState → ℕ
-pages_left pages = 2 ^ 64 - place_number pages.cursor.page pages.cursor.row
-
--- this page is handed out: it is the first of what was due, and what is due then is the rest
-pub record HandsOutPage (old : PagesState) (item : FormItem) (new : PagesState) : Type 0 where
-  pub due : (forms : List FormItem) (end : End) → AreFormsDue new forms end → AreFormsDue old (item ∷ forms) end
-  pub cursor : new.cursor ≡ behind_page item
-  pub limits : IsPageForm item.form
-  pub fewer : pages_left new < pages_left old
-
--- the pages have ended so
-abbrev pub HasToldPages : PagesStage → End → Type 0
-HasToldPages Before end = ⊥
-HasToldPages (Behind chain) end = ⊥
-HasToldPages (Ended ended) end = ended ≡ end
-
--- nothing more is due, and the pages have ended so for good
-pub record PagesHaveEnded (old : PagesState) (end : End) (new : PagesState) : Type 0 where
-  pub due : AreFormsDue old [] end
-  pub told : HasToldPages new.stage end
-  pub cursor : new.cursor ≡ old.cursor
-
--- what a call for the next page answers, and what it leaves; memory is never refused
-abbrev pub IsNextPage : PagesState → Result (Option (ℕ × PageForm)) WalkFault → PagesState → Type 0
-IsNextPage old (Ok (Some found)) new = HandsOutPage old (record { page = found.0; form = found.1 }) new
-IsNextPage old (Ok None) new = PagesHaveEnded old Proper new
-IsNextPage old (Err (AtRow page row cause)) new = PagesHaveEnded old (Fault page row cause) new
-IsNextPage old (Err CursorOutside) new = PagesHaveEnded old Outside new
-IsNextPage old (Err Memory) new = ⊥
+-- the pages of a reader end so
+abbrev pub EndsNow : PagesView → End → Type 0
+EndsNow pages end = EndsAfter (IsTailOf pages) pages.given end × HasToldNoOther pages.told end

@@ -14,10 +14,10 @@ use Rattle.fax_walk.specs.declared.options.ConvertFault.TheVariants.{Source, Mem
 use Rattle.fax_walk.specs.declared.output.Output.{Output}
 use Rattle.fax_walk.specs.declared.sheet.Sheet.{Sheet}
 use Rattle.fax_walk.specs.Items.{Item, AreItems}
-use Rattle.fax_walk.specs.Forms.{FormItem, AreForms}
+use Rattle.fax_walk.specs.Pages.{FormItem, AreForms}
 use Rattle.fax_walk.specs.Converted.{SourcePage, page_of_image, page_of_form}
 use Rattle.fax_walk.specs.code.Due.{WalkState, IsDue}
-use Rattle.fax_walk.specs.code.Pages.{PagesState, AreFormsDue}
+use Rattle.fax_walk.specs.PagesLeft.{PagesView, AreFormsLeft}
 use Rattle.fax_walk.specs.code.Output.{Progress, Part, no_rows, image_sheet, IsPartWritten, IsWrittenTo}
 
 -- a page that is being written, of which these rows were put
@@ -114,11 +114,11 @@ pub record IsPageCount (file : List ℕ) (count : ℕ) : Type 0 where
   pub count_is : length forms ≡ count
 
 -- the pages are written whose forms and rows were read
-pub record ArePagesWritten (file : List ℕ) (options : Options) (total : ℕ) (pages : PagesState) (walk : WalkState) (output : Output) : Type 0 where
+pub record ArePagesWritten (file : List ℕ) (options : Options) (total : ℕ) (pages : PagesView) (walk : WalkState) (output : Output) : Type 0 where
   pub forms : List FormItem
   pub items : List Item
   pub converted : List SourcePage
   pub whole : AreWholePages forms items converted
-  pub forms_due : (more : List FormItem) (end : End) → AreFormsDue pages more end → AreForms file (forms ++ more) end
+  pub forms_due : (more : List FormItem) (end : End) → AreFormsLeft pages more end → AreForms file (forms ++ more) end
   pub items_due : (more : List Item) (end : End) → IsDue walk more end → AreItems file (items ++ more) end
   pub written : IsWrittenTo output (record { options = options; total = total; pages = converted })

@@ -7,7 +7,7 @@ pub returns-in_err-file-clause-err : goal.returns-in_err-file-clause-err
 returns-in_err-file-clause-err g c =
     let p = err_from_is_err_and c.from_residual.result c.from_residual.ensures.1 in
     rw (p.1, p.2)
-    (pages_stopped_at_beginning c.cursors_have_one_form_tail.ensures (g.R.Source.left c.args.input.now) c.args.part.now _ _ _ _
+    (pages_stopped_at_beginning c.form_tails_are_one.ensures.one (g.R.Source.left c.args.input.now) c.args.part.now _ _ _ _
     (g.W.Sink.written c.args.out.now) _ c.in_err-file.ensures.err)
 
 pub returns-in_err-ending-clause-err : goal.returns-in_err-ending-clause-err

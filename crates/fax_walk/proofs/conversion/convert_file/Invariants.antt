@@ -1,5 +1,4 @@
-use Rattle.std.proofs.Common.{◌≡◌, ℕ, max}
-use Rattle.fax_walk.specs.code.Pages.{pages_left}
+use Rattle.std.proofs.Common.{◌≡◌, ℕ, ◌^◌, ◌-◌, max}
 use Rattle.fax_walk.specs.code.Sources.{IsPageCount, ArePagesWritten}
 use Rattle.fax_walk.proofs.conversion.convert_file.Given as goal
 
@@ -13,4 +12,4 @@ invariant-loop-form l = record {
 }
 
 abbrev pub decreases-loop-form : goal.decreases-loop-form
-decreases-loop-form l = pages_left l.pages
+decreases-loop-form l = 2 ^ 32 - l.pages.given

@@ -1,5 +1,5 @@
 use Rattle.std.proofs.Common.{◌≡◌, ◌≤◌, Ok, ap, ◌∙◌, arith}
-use Rattle.fax_walk.proofs.EndingLemmas.{goes_on, none_before, fault_before_page}
+use Rattle.fax_walk.proofs.EndingLemmas.{header_refused, goes_on, none_before, fault_before_page}
 use Rattle.fax_walk.proofs.opening.chain_before.Goals as goal
 
 pub loop-number-init : goal.loop-number-init
@@ -9,6 +9,9 @@ loop-number-init c = rw c.new-chain.ensures (record {
   given = omega arith;
   within = λ offsets fault chained. omega arith;
 })
+
+pub returns-in-Err-clause-err : goal.returns-in-Err-clause-err
+returns-in-Err-clause-err c row = rw c.of_file.ensures (header_refused _ _ c.in-Err.fault c.in-Err.ensures.fault)
 
 pub returns-in-Ok-None-clause-err : goal.returns-in-Ok-None-clause-err
 returns-in-Ok-None-clause-err c row =

@@ -1,8 +1,12 @@
-use Rattle.fax_walk.proofs.PagesLemmas.{due_behind}
+use Rattle.std.proofs.Common.{refl}
+use Rattle.fax_walk.specs.code.Pages.{told_of}
+use Rattle.fax_walk.proofs.PagesLemmas.{ends_later}
 use Rattle.fax_walk.proofs.pages.Pages.due.Goals as goal
 
-pub returns-in-Behind-clause-ok : goal.returns-in-Behind-clause-ok
-returns-in-Behind-clause-ok c =
-    let sound = rw c.in-Behind.is at c.self.invariant in
-    let behind = rw c.again.ensures at c.page_behind.ensures.ok in
-    rw (← c.self.view_is) (due_behind _ c.in-Behind.chain c.page_behind.result c.in-Behind.is sound behind)
+pub returns-in-After-clause-err : goal.returns-in-After-clause-err
+returns-in-After-clause-err c =
+    let sound = rw c.in-After.is at c.self.invariant in
+    let after = rw c.again.ensures at c.page_after.ensures.err in
+    rw (← c.self.view_is)
+    (ends_later c.self.inside.file.now c.self.inside.begun c.self.inside.cursor c.self.inside.given (told_of c.self.inside.stage)
+    c.in-After.chain c.page_after.result (rw c.in-After.is refl) sound after)

@@ -1,14 +1,22 @@
-use Rattle.std.proofs.Common.{[], refl}
-use Rattle.fax_walk.proofs.StillDueLemmas.{forms_due}
+use Rattle.fax_walk.proofs.PagesLemmas.{forms_left_first, forms_left, forms_left_none}
+use Rattle.std.proofs.Common.{[]}
 use Rattle.fax_walk.proofs.pages.Pages.has_forms.Goals as goal
 
 pub returns-in-Before : goal.returns-in-Before
 returns-in-Before c =
-    let one = c.cursors_have_one_form_tail.ensures c.self.inside.file.now c.self.inside.cursor in
-    rw (← c.self.view_is, c.in-Before.is) (one.items, one.end, one.is)
+    let laws = c.form_tails_are_one.ensures in
+    let sound = rw c.in-Before.is at c.self.invariant in
+    rw (← c.self.view_is, c.in-Before.is, sound.0) (forms_left_first laws.one laws.first c.self.inside.file.now c.self.inside.begun c.self.inside.cursor)
 
-pub returns-in-Behind : goal.returns-in-Behind
-returns-in-Behind c = rw (← c.self.view_is, c.in-Behind.is) (forms_due c.files_have_one_chain.ensures c.in-Behind.field-0)
+pub returns-in-After : goal.returns-in-After
+returns-in-After c =
+    let laws = c.form_tails_are_one.ensures in
+    let sound = rw c.in-After.is at c.self.invariant in
+    rw (← c.self.view_is, c.in-After.is)
+    (forms_left laws.one laws.first c.self.inside.file.now c.self.inside.begun c.self.inside.cursor c.self.inside.given c.in-After.field-0.given sound.0)
 
 pub returns-in-Ended : goal.returns-in-Ended
-returns-in-Ended c = rw (← c.self.view_is, c.in-Ended.is) ([], c.in-Ended.field-0, (refl, refl))
+returns-in-Ended c =
+    let sound = rw c.in-Ended.is at c.self.invariant in
+    rw (← c.self.view_is, c.in-Ended.is)
+    ([], c.in-Ended.field-0, forms_left_none c.self.inside.file.now c.self.inside.begun c.self.inside.cursor c.self.inside.given c.in-Ended.field-0 sound)

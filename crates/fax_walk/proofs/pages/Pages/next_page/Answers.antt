@@ -1,9 +1,29 @@
-use Rattle.std.proofs.Common.{◌<◌, ◌^◌, sym, ap, arith}
-use Rattle.fax_walk.proofs.PagesLemmas.{page_given}
+use Rattle.std.proofs.Common.{◌≡◌, ◌+◌, ◌<◌, ◌^◌, refl, sym, ◌∙◌, arith}
+use Rattle.fax_walk.proofs.PagesLemmas.{page_given, given_more}
+use Rattle.fax_walk.proofs.pages.Pages.next_page.Goals.{in-Proper, in-Fault, in-Outside}
 use Rattle.fax_walk.proofs.pages.Pages.next_page.Goals as goal
+
+pub invariant_of-self : goal.invariant_of-self
+invariant_of-self c =
+    let due = rw (sym c.page.view_is, sym c.self.view_is) at c.in-Ok.ensures.ok in
+    given_more c.self.inside.file.now c.self.inside.begun c.self.inside.given _ due.come due.its
 
 pub returns-in-Ok : goal.returns-in-Ok
 returns-in-Ok c =
+    let laws = c.form_tails_are_one.ensures in
     let due = rw (sym c.page.view_is, sym c.self.view_is) at c.in-Ok.ensures.ok in
-    let short : c.page.inside.page < 2 ^ 32 = omega arith in
-    rw (← c.self.view_is) (page_given _ _ _ due short c.page.invariant.limits (ap (λ n. record { page = n; row = 0 }) c.given.ensures))
+    let after : c.given.result ≡ c.page.inside.page + 1 = c.given.ensures ∙ c.page.invariant.behind in
+    let short : c.page.inside.page + 1 < 2 ^ 32 = omega (arith, after, c.given.type_inv) in
+    rw (← c.self.view_is, after) (page_given laws.one laws.first _ _ due c.page.invariant.limits short)
+
+pub invariant_of-self-2 : goal.invariant_of-self-2
+invariant_of-self-2 c = (rw (sym c.self.view_is) at c.in-Err.ensures.err).0
+
+pub returns : goal.returns
+returns c =
+    let ends = rw (sym c.self.view_is) at c.in-Err.ensures.err in
+    elim c.match-end.branch [
+      | in-Proper w ↦ rw (← c.self.view_is, w.result-is) (record { ends = rw w.in-Proper.is at ends.0; no_other = rw w.in-Proper.is at ends.1; new_is = rw w.in-Proper.is refl })
+      | in-Fault w ↦ rw (← c.self.view_is, w.result-is) (record { ends = rw w.in-Fault.is at ends.0; no_other = rw w.in-Fault.is at ends.1; new_is = rw w.in-Fault.is refl })
+      | in-Outside w ↦ rw (← c.self.view_is, w.result-is) (record { ends = rw w.in-Outside.is at ends.0; no_other = rw w.in-Outside.is at ends.1; new_is = rw w.in-Outside.is refl })
+    ]

@@ -1,0 +1,154 @@
+-- What is handed out in order: one answer at each place makes one list, and what follows an item begins after it.
+use Rattle.std.proofs.Common.{◌≡◌, ℕ, zero, suc, ◌+◌, List, [], ◌∷◌, ◌++◌, length, take, drop, Some, Result, Ok, Err, refl, sym, ap, ◌∙◌, subst, arith, append_assoc}
+use Rattle.std.proofs.lemmas.List.{take-append-drop}
+use Rattle.std.specs.Prelude.{slice_get}
+use Rattle.fax_walk.specs.declared.end.End.{End}
+use Rattle.fax_walk.specs.InOrder.{AreFrom, LeadTo, AreBegun}
+use Rattle.fax_walk.specs.Laws.{IsOne}
+
+-- there is one answer, and no other
+pub record IsOneAnswer {A : Type 0} (holds : A → Type 0) : Type 0 where
+  pub it : A
+  pub is : holds it
+  pub one : (other : A) → holds other → other ≡ it
+
+pub same_answer : {A : Type 0} {holds : A → Type 0} → IsOneAnswer holds → (x y : A) → holds x → holds y → x ≡ y
+same_answer only x y is is_too = only.one x is ∙ sym (only.one y is_too)
+
+pub same_step : {S A : Type 0} {next : Result (A × S) End → Type 0} → IsOneAnswer next → (x y : A) (to place : S)
+    → next (Ok (x, to)) → next (Ok (y, place)) → (x ≡ y) × (to ≡ place)
+same_step {S} {A} only x y to place is is_too =
+    let same = same_answer only (Ok (x, to)) (Ok (y, place)) is is_too in
+    (ap (item_of x) same, ap (place_of to) same)
+  where
+    item_of : A → Result (A × S) End → A
+    item_of other (Err end) = other
+    item_of other (Ok step) = step.0
+
+    place_of : S → Result (A × S) End → S
+    place_of other (Err end) = other
+    place_of other (Ok step) = step.1
+
+-- what is handed out from a place on, if something is
+pub record IsListed {S A : Type 0} (next : S → Result (A × S) End → Type 0) (at : S) : Type 0 where
+  pub items : List A
+  pub end : End
+  pub is : AreFrom next at items end
+
+module _ {S A : Type 0} (next : S → Result (A × S) End → Type 0) (answers : (at : S) → IsOneAnswer (next at)) where
+  -- two lists from a place on are one
+  pub one_from : (at : S) (items others : List A) (end other : End) → AreFrom next at items end → AreFrom next at others other
+      → (items ≡ others) × (end ≡ other)
+  one_from at [] [] end other is is_too =
+      let same = same_answer (answers at) (Err end) (Err other) is is_too in
+      (refl, cc)
+  one_from at [] (y ∷ others) end other is (to, is_too, rest) =
+      let same = same_answer (answers at) (Err end) (Ok (y, to)) is is_too in
+      absurd cc
+  one_from at (x ∷ items) [] end other (to, is, rest) is_too =
+      let same = same_answer (answers at) (Err other) (Ok (x, to)) is_too is in
+      absurd cc
+  one_from at (x ∷ items) (y ∷ others) end other (to, is, rest) (to', is_too, rest') =
+      let same = same_step (answers at) x y to to' is is_too in
+      let later = one_from to' items others end other (rw same.1 at rest) rest' in
+      (ap (λ (i : A). i ∷ items) same.0 ∙ ap (λ (l : List A). y ∷ l) later.0, later.1)
+
+  pub one_list : (at : S) → IsListed next at → IsOne (AreFrom next at)
+  one_list at listed = record {
+    items = listed.items;
+    end = listed.end;
+    is = listed.is;
+    one = λ others other is. one_from at others listed.items other listed.end is listed.is;
+  }
+
+  -- the same from a beginning
+  pub one_begun : (begin : Result (S × ℕ) End) → ((at : S) (n : ℕ) → begin ≡ Ok (at, n) → IsListed next at) → IsOne (AreBegun next begin)
+  one_begun (Err none) listed = record { items = []; end = none; is = (refl, refl); one = λ others other is. is }
+  one_begun (Ok (at, n)) listed =
+      let all = one_list at (listed at n refl) in
+      record {
+        items = drop n all.items;
+        end = all.end;
+        is = (all.items, all.is, refl);
+        one = λ others other is.
+            let same = all.one is.0 other is.1 in
+            (is.2 ∙ ap (drop n) same.0, same.1);
+      }
+
+module _ {S A : Type 0} (next : S → Result (A × S) End → Type 0) where
+  -- the first items of what is handed out lead to a place, and the others are handed out from there
+  pub split_at : (at : S) (before after : List A) (end : End) → AreFrom next at (before ++ after) end
+      → (to : S) × LeadTo next at before to × AreFrom next to after end
+  split_at at [] after end is = (at, refl, is)
+  split_at at (x ∷ before) after end (place, step, rest) =
+      let later = split_at place before after end rest in
+      (later.0, (place, step, later.1), later.2)
+
+  -- one more item
+  pub leads_on : (at to : S) (items : List A) (item : A) (later : S) → LeadTo next at items to → next to (Ok (item, later))
+      → LeadTo next at (items ++ item ∷ []) later
+  leads_on at to [] item later to_is step = (later, rw (← to_is) step, refl)
+  leads_on at to (x ∷ items) item later (place, first, leads) step = (place, first, leads_on place to items item later leads step)
+
+  -- items that lead to a place, and then what is handed out from there
+  pub joined : (at to : S) (items after : List A) (end : End) → LeadTo next at items to → AreFrom next to after end → AreFrom next at (items ++ after) end
+  joined at to [] after end to_is rest = subst (λ (s : S). AreFrom next s after end) to_is rest
+  joined at to (x ∷ items) after end (place, step, leads) rest = (place, step, joined place to items after end leads rest)
+
+  -- a fact that each step keeps holds where items lead
+  pub kept : (holds : S → Type 0) → ((at : S) (item : A) (to : S) → holds at → next at (Ok (item, to)) → holds to)
+      → (at to : S) (items : List A) → LeadTo next at items to → holds at → holds to
+  kept holds keeps at to [] to_is here = subst holds (sym to_is) here
+  kept holds keeps at to (x ∷ items) (place, step, leads) here = kept holds keeps place to items leads (keeps at x place here step)
+
+-- what stands at a number of a list divides it
+pub divided_at : {A : Type 0} (xs : List A) (n : ℕ) (x : A) → slice_get xs n ≡ Some x
+    → (before : List A) × (xs ≡ before ++ x ∷ drop (n + 1) xs) × (length before ≡ n)
+divided_at {A} [] n x e = absurd cc
+divided_at {A} (y ∷ xs) zero x e =
+    let same : y ≡ x = cc in
+    ([], ap (λ (i : A). i ∷ xs) same, refl)
+divided_at {A} (y ∷ xs) (suc n) x e =
+    let later = divided_at xs n x e in
+    let m : suc n + 1 ≡ suc (n + 1) = omega arith in
+    (y ∷ later.0, rw m (ap (λ (l : List A). y ∷ l) later.1), omega (arith, later.2))
+
+module _ {S A : Type 0} (next : S → Result (A × S) End → Type 0) where
+  -- an item, the place where it was read, and what is handed out after it
+  pub record IsSplit (begin : Result (S × ℕ) End) (item : A) (after : List A) (end : End) : Type 0 where
+    pub from : S
+    pub dropped : ℕ
+    pub begin_is : begin ≡ Ok (from, dropped)
+    pub front : List A
+    pub at : S
+    pub lead : LeadTo next from front at
+    pub to : S
+    pub step : next at (Ok (item, to))
+    pub rest : AreFrom next to after end
+
+  nothing : (n : ℕ) (item : A) → slice_get [] n ≡ Some item → ⊥
+  nothing n item e = cc
+
+  -- item number n and what is handed out after it
+  pub split_at_number : (begin : Result (S × ℕ) End) (all : List A) (end : End) (n : ℕ) (item : A) → AreBegun next begin all end → slice_get all n ≡ Some item
+      → IsSplit begin item (drop (n + 1) all) end
+  split_at_number (Err none) all end n item are there = absurd (nothing n item (subst (λ (l : List A). slice_get l n ≡ Some item) are.0 there))
+  split_at_number (Ok (from, k)) all end n item (whole, are, all_is) there =
+      let split = divided_at all n item there in
+      let after = drop (n + 1) all in
+      let front = take k whole ++ split.0 in
+      let e : whole ≡ front ++ item ∷ after =
+      sym (take-append-drop k whole) ∙ ap (λ (l : List A). take k whole ++ l) (sym all_is ∙ split.1)
+      ∙ sym (append_assoc (take k whole) split.0 (item ∷ after)) in
+      let parts = split_at next from front (item ∷ after) end (subst (λ (l : List A). AreFrom next from l end) e are) in
+      record {
+        from = from;
+        dropped = k;
+        begin_is = refl;
+        front = front;
+        at = parts.0;
+        lead = parts.1;
+        to = parts.2.0;
+        step = parts.2.1;
+        rest = parts.2.2;
+      }

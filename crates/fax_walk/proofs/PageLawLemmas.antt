@@ -1,0 +1,234 @@
+-- What is asked of a file's pages has one answer, and so have its forms.
+use Rattle.std.proofs.Common.{◌≡◌, ℕ, zero, suc, ◌+◌, List, [], ◌∷◌, length, drop, Option, Some, None, Result, Ok, Err, refl, sym, ap, ◌∙◌, subst, arith, true}
+use Rattle.std.specs.Prelude.{slice_get, ◌==◌}
+use Rattle.std.proofs.lemmas.Bool.Decides.{nat_tests}
+use Rattle.fax_files.specs.declared.FileFault.{FileFault}
+use Rattle.fax_files.specs.declared.Cause.TheVariants.{File}
+use Rattle.fax_files.specs.declared.PageForm.{PageForm}
+use Rattle.fax_files.specs.Numbers.{Header, header}
+use Rattle.fax_files.specs.Chain.{IsChain}
+use Rattle.fax_files.specs.Page.{page}
+use Rattle.fax_files.specs.Laws.{FilesHaveOneChain}
+use Rattle.fax_walk.specs.declared.cursor.Cursor.{Cursor}
+use Rattle.fax_walk.specs.declared.end.End.{End}
+use Rattle.fax_walk.specs.declared.end.End.TheVariants.{Fault}
+use Rattle.fax_walk.specs.InOrder.{AreFrom, AreBegun}
+use Rattle.fax_walk.specs.Items as Items
+use Rattle.fax_walk.specs.Pages.{FormItem, FilePage, page_over, IsPageUnder, IsPageAt, IsAsked, IsOnPage, IsForm, first_form, IsFormTail, end_past_chain, page_or_end}
+use Rattle.fax_walk.specs.PageLaws.{FilesHaveOneForms, CursorsHaveOneFormTail, FormTailOfPage, FormTailOfStart, FormsStandByNumber, FormTailsGoOn}
+use Rattle.fax_walk.proofs.InOrderLemmas.{IsOneAnswer, IsListed, same_answer, same_step, one_list, one_begun, split_at_number}
+
+-- an equation has one answer
+pub only_it : {A : Type 0} (it : A) → IsOneAnswer (λ (other : A). other ≡ it)
+only_it it = record { it = it; is = refl; one = λ other same. same }
+
+-- what stands at a number of a list, where so much is dropped before it
+pub get_none : (n : ℕ) (xs : List ℕ) → drop n xs ≡ [] → slice_get xs n ≡ None
+get_none zero [] e = refl
+get_none (suc n) [] e = refl
+get_none zero (x ∷ xs) e = absurd cc
+get_none (suc n) (x ∷ xs) e = get_none n xs e
+
+pub get_some : (n : ℕ) (xs : List ℕ) (y : ℕ) (ys : List ℕ) → drop n xs ≡ y ∷ ys → slice_get xs n ≡ Some y
+get_some zero [] y ys e = absurd cc
+get_some (suc n) [] y ys e = absurd cc
+get_some zero (x ∷ xs) y ys e = let same : x ≡ y = cc in ap (λ (i : ℕ). Some i) same
+get_some (suc n) (x ∷ xs) y ys e = get_some n xs y ys e
+
+pub next_dropped : (n : ℕ) (xs : List ℕ) (y : ℕ) (ys : List ℕ) → drop n xs ≡ y ∷ ys → drop (n + 1) xs ≡ ys
+next_dropped zero [] y ys e = absurd cc
+next_dropped (suc n) [] y ys e = absurd cc
+next_dropped zero (x ∷ xs) y ys e = cc
+next_dropped (suc n) (x ∷ xs) y ys e = let m : suc n + 1 ≡ suc (n + 1) = omega arith in rw m (next_dropped n xs y ys e)
+
+pub dropped_at : (n : ℕ) (xs : List ℕ) (y : ℕ) → slice_get xs n ≡ Some y → drop n xs ≡ y ∷ drop (n + 1) xs
+dropped_at n [] y e = absurd cc
+dropped_at zero (x ∷ xs) y e = let same : x ≡ y = cc in ap (λ (i : ℕ). i ∷ xs) same
+dropped_at (suc n) (x ∷ xs) y e = let m : suc n + 1 ≡ suc (n + 1) = omega arith in rw m (dropped_at n xs y e)
+
+pub proper_end : (pages : ℕ) (fault : Option FileFault) → Items.chain_end pages fault ≡ end_past_chain pages fault (record { page = pages; row = 0 })
+proper_end pages None = let test : (pages == pages) ≡ true = grind (arith, nat_tests) in rw test refl
+proper_end pages (Some fault) = refl
+
+module _ (chains : FilesHaveOneChain) (file : List ℕ) where
+  page_under : (at : Cursor) (answer : Result Header FileFault) → IsOneAnswer (IsPageUnder file at answer)
+  page_under at (Err fault) = record { it = Err (Fault 0 0 (File fault)); is = refl; one = λ other same. same }
+  page_under at (Ok head) =
+      let chain = chains head file in
+      record {
+        it = page_over head.endian file chain.offsets chain.end at (slice_get chain.offsets at.page);
+        is = (chain.offsets, chain.end, chain.is, refl);
+        one = λ other is.
+            let same = chain.one is.0 is.1 is.2 in
+            is.3 ∙ ap (λ (l : List ℕ). page_over head.endian file l is.1 at (slice_get l at.page)) same.0
+            ∙ ap (λ (e : Option FileFault). page_over head.endian file chain.offsets e at (slice_get chain.offsets at.page)) same.1;
+      }
+
+  pub one_page : (at : Cursor) → IsOneAnswer (IsPageAt file at)
+  one_page at = let only = page_under at (header file) in record { it = only.it; is = only.is; one = only.one }
+
+  asked_one : {A : Type 0} (asked : FilePage → Result A End → Type 0) → ((here : FilePage) → IsOneAnswer (asked here))
+      → (found : Result FilePage End) → IsOneAnswer (IsAsked asked found)
+  asked_one asked answers (Err end) = record { it = Err end; is = refl; one = λ other same. same }
+  asked_one asked answers (Ok here) = let only = answers here in record { it = only.it; is = only.is; one = only.one }
+
+  -- what has one answer on each page has one on the page that a cursor names
+  pub one_on_page : {A : Type 0} (at : Cursor) (asked : FilePage → Result A End → Type 0) → ((here : FilePage) → IsOneAnswer (asked here))
+      → IsOneAnswer (IsOnPage file at asked)
+  one_on_page at asked answers =
+      let found = one_page at in
+      let only = asked_one asked answers found.it in
+      record {
+        it = only.it;
+        is = (found.it, found.is, only.is);
+        one = λ other is. only.one other (subst (λ (f : Result FilePage End). IsAsked asked f other) (found.one is.0 is.1) is.2);
+      }
+
+  pub one_form : (p : ℕ) → IsOneAnswer (IsForm file p)
+  one_form p = one_on_page (record { page = p; row = 0 }) _ (λ here. only_it (Ok (record { page = p; form = here.form }, p + 1)))
+
+-- the forms from page p on, with what is at the page
+abbrev pub FormsAt : List ℕ → ℕ → Result FilePage End → List FormItem → End → Type 0
+FormsAt file p (Err none) forms end = (forms ≡ []) × (end ≡ none)
+FormsAt file p (Ok here) forms end =
+    (others : List FormItem) × (forms ≡ record { page = p; form = here.form } ∷ others) × AreFrom (IsForm file) (p + 1) others end
+
+module _ (chains : FilesHaveOneChain) (file : List ℕ) where
+  pub forms_at : (p : ℕ) (found : Result FilePage End) → IsPageAt file (record { page = p; row = 0 }) found → (forms : List FormItem) (end : End)
+      → AreFrom (IsForm file) p forms end → FormsAt file p found forms end
+  forms_at p (Err none) is [] end step =
+      let same = same_answer (one_form chains file p) (Err end) (Err none) step (Err none, is, refl) in
+      (refl, cc)
+  forms_at p (Err none) is (x ∷ forms) end (to, step, rest) =
+      let same = same_answer (one_form chains file p) (Ok (x, to)) (Err none) step (Err none, is, refl) in
+      absurd cc
+  forms_at p (Ok here) is [] end step =
+      let same = same_answer (one_form chains file p) (Err end) (Ok (record { page = p; form = here.form }, p + 1)) step (Ok here, is, refl) in
+      absurd cc
+  forms_at p (Ok here) is (x ∷ forms) end (to, step, rest) =
+      let same = same_step (one_form chains file p) x (record { page = p; form = here.form }) to (p + 1) step (Ok here, is, refl) in
+      (forms, ap (λ (i : FormItem). i ∷ forms) same.0, subst (λ (n : ℕ). AreFrom (IsForm file) n forms end) same.1 rest)
+
+-- the pages after a directory that stands in the chain
+module _ (file : List ℕ) (head : Header) (is_head : header file ≡ Ok head) (offsets : List ℕ) (fault : Option FileFault) (chain : IsChain head file offsets fault) where
+  pub page_here : (at : Cursor) → IsPageAt file at (page_over head.endian file offsets fault at (slice_get offsets at.page))
+  page_here at = rw is_head (offsets, fault, chain, refl)
+
+  pub no_page : (at : Cursor) → drop at.page offsets ≡ [] → IsPageAt file at (Err (end_past_chain (length offsets) fault at))
+  no_page at e = rw (get_none at.page offsets e) at (page_here at)
+
+  pub some_page : (at : Cursor) (q : ℕ) (later : List ℕ) → drop at.page offsets ≡ q ∷ later
+      → IsPageAt file at (page_or_end head.endian q at.page (page head.endian file q))
+  some_page at q later e = rw (get_some at.page offsets q later e) at (page_here at)
+
+  form_first : (p q : ℕ) → IsPageAt file (record { page = p; row = 0 }) (page_or_end head.endian q p (page head.endian file q))
+      → IsListed (IsForm file) (p + 1) → (answer : Result PageForm FileFault) → page head.endian file q ≡ answer → IsListed (IsForm file) p
+  form_first p q here more (Err refused) is = record { items = []; end = Fault p 0 (File refused); is = (Err (Fault p 0 (File refused)), rw is at here, refl) }
+  form_first p q here more (Ok form) is = record {
+    items = record { page = p; form = form } ∷ more.items;
+    end = more.end;
+    is = (p + 1, (Ok (record { endian = head.endian; offset = q; form = form }), rw is at here, refl), more.is);
+  }
+
+  -- from each page on there are forms, up to the chain's end
+  forms_after : (later : List ℕ) (p : ℕ) → drop p offsets ≡ later → IsListed (IsForm file) p
+  forms_after [] p e =
+      let at : Cursor = record { page = p; row = 0 } in
+      let none = end_past_chain (length offsets) fault at in
+      record { items = []; end = none; is = (Err none, no_page at e, refl) }
+  forms_after (q ∷ later) p e =
+      form_first p q (some_page (record { page = p; row = 0 }) q later e) (forms_after later (p + 1) (next_dropped p offsets q later e))
+      (page head.endian file q) refl
+
+module _ (chains : FilesHaveOneChain) (file : List ℕ) where
+  forms_listed : (p : ℕ) (answer : Result Header FileFault) → header file ≡ answer → IsListed (IsForm file) p
+  forms_listed p (Err fault) e =
+      record { items = []; end = Fault 0 0 (File fault); is = (Err (Fault 0 0 (File fault)), rw e refl, refl) }
+  forms_listed p (Ok head) e =
+      let chain = chains head file in
+      forms_after file head e chain.offsets chain.end chain.is (drop p chain.offsets) p refl
+
+pub one_forms : FilesHaveOneChain → FilesHaveOneForms
+one_forms chains file = one_list (IsForm file) (one_form chains file) 0 (forms_listed chains file 0 (header file) refl)
+
+pub one_form_tail : FilesHaveOneChain → CursorsHaveOneFormTail
+one_form_tail chains file at =
+    let begin = one_on_page chains file at (λ here b. b ≡ first_form at here.form) (λ here. only_it (first_form at here.form)) in
+    let all = one_begun (IsForm file) (one_form chains file) begin.it (λ p n e. forms_listed chains file p (header file) refl) in
+    record {
+      items = all.items;
+      end = all.end;
+      is = (begin.it, begin.is, all.is);
+      one = λ others other is.
+          all.one others other (subst (λ (b : Result (ℕ × ℕ) End). AreBegun (IsForm file) b others other) (begin.one is.0 is.1) is.2);
+    }
+
+module _ (file : List ℕ) where
+  to_forms : (p : ℕ) (forms : List FormItem) (end : End) → IsFormTail file (record { page = p; row = 0 }) forms end → AreFrom (IsForm file) p forms end
+  to_forms p forms end (begin, (Err none, page, e), are) =
+      let both : (forms ≡ []) × (end ≡ none) = subst (λ (b : Result (ℕ × ℕ) End). AreBegun (IsForm file) b forms end) e are in
+      rw (both.0, both.1) (Err none, page, refl)
+  to_forms p forms end (begin, (Ok here, page, e), are) =
+      let there : AreBegun (IsForm file) (Ok (p, 0)) forms end = subst (λ (b : Result (ℕ × ℕ) End). AreBegun (IsForm file) b forms end) e are in
+      subst (λ (l : List FormItem). AreFrom (IsForm file) p l end) (sym there.2) there.1
+
+  of_forms : (p : ℕ) (forms : List FormItem) (end : End) → AreFrom (IsForm file) p forms end → IsFormTail file (record { page = p; row = 0 }) forms end
+  of_forms p [] end (Err none, page, e) = let same : end ≡ none = cc in (Err none, (Err none, page, refl), (refl, same))
+  of_forms p [] end (Ok here, page, e) = absurd cc
+  of_forms p (x ∷ forms) end (to, (Err none, page, e), rest) = absurd cc
+  of_forms p (x ∷ forms) end (to, (Ok here, page, e), rest) =
+      (Ok (p, 0), (Ok here, page, refl), (x ∷ forms, (to, (Ok here, page, e), rest), refl))
+
+  form_step : (p : ℕ) (item : FormItem) (to : ℕ) → IsForm file p (Ok (item, to)) → to ≡ item.page + 1
+  form_step p item to (Err none, page, e) = absurd cc
+  form_step p item to (Ok here, page, e) = ap to_of e ∙ ap (λ (i : FormItem). i.page + 1) (sym (ap item_of e))
+    where
+      to_of : Result (FormItem × ℕ) End → ℕ
+      to_of (Ok step) = step.1
+      to_of (Err none) = to
+
+      item_of : Result (FormItem × ℕ) End → FormItem
+      item_of (Ok step) = step.0
+      item_of (Err none) = item
+
+module _ (file : List ℕ) where
+  form_page : (p : ℕ) (item : FormItem) (to : ℕ) → IsForm file p (Ok (item, to)) → (item.page ≡ p) × (to ≡ p + 1)
+  form_page p item to (Err none, page, e) = absurd cc
+  form_page p item to (Ok here, page, e) = (ap (λ (i : FormItem). i.page) (ap item_of e), ap to_of e)
+    where
+      to_of : Result (FormItem × ℕ) End → ℕ
+      to_of (Ok step) = step.1
+      to_of (Err none) = to
+
+      item_of : Result (FormItem × ℕ) End → FormItem
+      item_of (Ok step) = step.0
+      item_of (Err none) = item
+
+  stand_by_number : (forms : List FormItem) (p n : ℕ) (item : FormItem) (end : End) → AreFrom (IsForm file) p forms end → slice_get forms n ≡ Some item
+      → item.page ≡ p + n
+  stand_by_number [] p n item end are there = absurd cc
+  stand_by_number (x ∷ forms) p zero item end (to, step, rest) there =
+      let same : x ≡ item = cc in
+      let none : p ≡ p + 0 = omega arith in
+      ap (λ (i : FormItem). i.page) (sym same) ∙ (form_page p x to step).0 ∙ none
+  stand_by_number (x ∷ forms) p (suc n) item end (to, step, rest) there =
+      let here = form_page p x to step in
+      let later = stand_by_number forms to n item end rest there in
+      omega (arith, later, here.1)
+
+pub forms_stand_by_number : FormsStandByNumber
+forms_stand_by_number file forms end n item are there =
+    let none : 0 + n ≡ n = omega arith in
+    stand_by_number file forms 0 n item end are there ∙ none
+
+pub form_tail_of_start : FormTailOfStart
+form_tail_of_start file forms end = (to_forms file 0 forms end, of_forms file 0 forms end)
+
+pub form_tail_of_page : FormTailOfPage
+form_tail_of_page file p forms end = (to_forms file p forms end, of_forms file p forms end)
+
+pub form_tails_go_on : FormTailsGoOn
+form_tails_go_on file at all end n item (begin, begins, are) there =
+    let split = split_at_number (IsForm file) begin all end n item are there in
+    of_forms file (item.page + 1) (drop (n + 1) all) end
+    (subst (λ (p : ℕ). AreFrom (IsForm file) p (drop (n + 1) all) end) (form_step file split.at item split.to split.step) split.rest)

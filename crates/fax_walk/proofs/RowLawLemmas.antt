@@ -1,0 +1,303 @@
+-- What a walk begins with has one tail and one end.
+use Rattle.std.proofs.Common.{◌≡◌, ℕ, zero, suc, ◌+◌, ◌*◌, ◌<◌, ◌≤◌, ◌⊎◌, inl, inr, Bool, true, false, List, [], ◌∷◌, map, length, drop, Option, Some, None, Result, Ok, Err, refl, sym, ap, ◌∙◌, subst, arith, length-drop}
+use Rattle.std.proofs.lemmas.Bool.{cases_lt}
+use Rattle.std.proofs.lemmas.Bool.Decides.{nat_tests}
+use Rattle.std.specs.Prelude.{if◌then◌else◌, nat_lt, ◌==◌}
+use Rattle.fax_bits.specs.declared.Colour.{Colour}
+use Rattle.fax_bits.specs.declared.Colour.TheVariants.{White, Black}
+use Rattle.fax_bits.specs.Bits.{bits}
+use Rattle.fax_bits.specs.Laws.{AreBitsByPlace}
+use Rattle.fax_bits.specs.declared.FillOrder.{FillOrder}
+use Rattle.fax_rows.specs.Elements.{other, pels_of, runs_of}
+use Rattle.fax_page.specs.declared.StripForm.{StripForm}
+use Rattle.fax_page.specs.declared.StripFault.{StripFault}
+use Rattle.fax_page.specs.Lines.{IsLine, IsCause}
+use Rattle.fax_page.specs.Laws.{ReadsLinesOneWay}
+use Rattle.fax_files.specs.declared.FileFault.{FileFault}
+use Rattle.fax_files.specs.declared.FileFault.TheVariants.{StripOutside}
+use Rattle.fax_files.specs.declared.Cause.TheVariants.{File, Strip}
+use Rattle.fax_files.specs.declared.PageForm.{PageForm}
+use Rattle.fax_files.specs.Numbers.{Header, header}
+use Rattle.fax_files.specs.Chain.{IsChain}
+use Rattle.fax_files.specs.Page.{page}
+use Rattle.fax_files.specs.PageRows.{strip_form}
+use Rattle.fax_files.specs.StripBytes.{strip_bytes}
+use Rattle.fax_files.specs.Laws.{FilesHaveOneChain}
+use Rattle.fax_walk.specs.declared.begun.Begun.{Begun}
+use Rattle.fax_walk.specs.declared.begun.Begun.TheVariants.{At, Inside}
+use Rattle.fax_walk.specs.declared.end.End.{End}
+use Rattle.fax_walk.specs.declared.end.End.TheVariants.{Fault, Outside}
+use Rattle.fax_walk.specs.LongCursor.{LongPlace}
+use Rattle.fax_walk.specs.InOrder.{AreBegun}
+use Rattle.fax_walk.specs.Pages.{FilePage, IsPageAt}
+use Rattle.fax_walk.specs.Rows.{Item, Inner, Place, first_at, strip_at, row_in_strip, exchanged, bits_before, reference_of, place_after, IsItem, IsInStrip, cursor_at, IsRow, first_row, FitsStrip, IsInnerOn, inner_at, BeginsOn, begins_at}
+use Rattle.fax_walk.specs.PageLaws.{BeginningsHaveOneTail}
+use Rattle.fax_walk.proofs.InOrderLemmas.{IsOneAnswer, IsListed, one_begun}
+use Rattle.fax_walk.proofs.PageLawLemmas.{one_on_page, no_page, some_page, next_dropped}
+use Rattle.fax_walk.proofs.RestLemmas.{rest_at}
+
+abbrev pub LinesAreRead : Type 0
+LinesAreRead = (form : StripForm) (i : ℕ) (reference : List Colour) → ReadsLinesOneWay form i reference
+
+-- colours that are exchanged twice are as they were
+other_twice : (row : List Colour) → map other (map other row) ≡ row
+other_twice [] = refl
+other_twice (White ∷ row) = ap (λ (l : List Colour). White ∷ l) (other_twice row)
+other_twice (Black ∷ row) = ap (λ (l : List Colour). Black ∷ l) (other_twice row)
+
+by_exchange : (exchange : Bool) (row : List Colour)
+    → (if exchange then map other (if exchange then map other row else row) else (if exchange then map other row else row)) ≡ row
+by_exchange true row = other_twice row
+by_exchange false row = refl
+
+pub exchanged_twice : (form : PageForm) (row : List Colour) → exchanged form (exchanged form row) ≡ row
+exchanged_twice form row = by_exchange form.exchanged row
+
+same_items : (item another : Item) → item.page ≡ another.page → item.row ≡ another.row → item.pels ≡ another.pels → item.bits ≡ another.bits
+    → item ≡ another
+same_items item another pages rows pels bits =
+    ap (λ (p : ℕ). record item { page = p }) pages ∙ ap (λ (r : ℕ). record item { page = another.page; row = r }) rows
+    ∙ ap (λ (l : List Colour). record item { page = another.page; row = another.row; pels = l }) pels
+    ∙ ap (λ (n : ℕ). record another { bits = n }) bits
+
+-- as many bits stand before one rest
+one_place : AreBitsByPlace → (order : FillOrder) (bytes : List ℕ) (n m : ℕ) → n ≤ 8 * length bytes → m ≤ 8 * length bytes
+    → drop n (bits order bytes) ≡ drop m (bits order bytes) → n ≡ m
+one_place by_place order bytes n m within within' same =
+    let all = bits order bytes in
+    let left : length (drop n all) ≡ length (drop m all) = ap (λ (b : List Bool). length b) same in
+    omega (arith, left, length-drop n all, length-drop m all, by_place.count order bytes, within, within')
+
+module _ (by_place : AreBitsByPlace) (lines_read : LinesAreRead) where
+  module _ (form : PageForm) (at : Place) (bytes : List ℕ) where
+    abbrev strip : StripForm
+    strip = strip_form form (strip_at form at.row)
+
+    abbrev i : ℕ
+    i = row_in_strip form at.row
+
+    abbrev reference : List Colour
+    reference = reference_of form.width at.inner
+
+    abbrev all : List Bool
+    all = bits form.order bytes
+
+    abbrev b : List Bool
+    b = drop (bits_before at.inner) all
+
+    one_item : (item another : Item) → IsItem form bytes at item → IsItem form bytes at another → another ≡ item
+    one_item item another is is_too =
+        let same = (lines_read strip i reference).one_line b (exchanged form another.pels) (exchanged form item.pels) _ _ is_too.line is.line in
+        let pels : another.pels ≡ item.pels =
+        sym (exchanged_twice form another.pels) ∙ ap (exchanged form) same.0 ∙ exchanged_twice form item.pels in
+        let before : another.bits ≡ item.bits = one_place by_place form.order bytes another.bits item.bits is_too.within is.within same.1 in
+        same_items another item (is_too.same_page ∙ sym is.same_page) (is_too.same_row ∙ sym is.same_row) pels before
+
+    by_line : ((row : List Colour) × (rest : List Bool) × IsLine strip i reference b row rest) ⊎ ((fault : StripFault) × IsCause strip i reference b fault)
+        → IsOneAnswer (IsInStrip form at (Some bytes))
+    by_line (inl (row, rest, line)) =
+        let from = rest_at strip i reference all (bits_before at.inner) row rest line in
+        let item : Item = record { page = at.page; row = at.row; pels = exchanged form row; bits = from.0 } in
+        let is : IsItem form bytes at item = record {
+          same_page = refl;
+          same_row = refl;
+          within = omega (arith, from.1, by_place.count form.order bytes);
+          line = rw (from.2, exchanged_twice form row) line;
+        } in
+        record { it = Ok (item, place_after form item); is = (is, refl); one = only_item item is }
+      where
+        only_item : (item : Item) → IsItem form bytes at item → (other : Result (Item × Place) End) → IsInStrip form at (Some bytes) other
+            → other ≡ Ok (item, place_after form item)
+        only_item item is (Err end) (fault, stop, end_is) = absurd ((lines_read strip i reference).line_has_no_cause b _ _ fault is.line stop)
+        only_item item is (Ok (another, to)) (is_too, to_is) =
+            let same = one_item item another is is_too in
+            rw (to_is, same) refl
+    by_line (inr (fault, stop)) =
+        record { it = Err (Fault at.page at.row (Strip fault)); is = (fault, stop, refl); one = only_stop }
+      where
+        only_stop : (other : Result (Item × Place) End) → IsInStrip form at (Some bytes) other → other ≡ Err (Fault at.page at.row (Strip fault))
+        only_stop (Err end) (another, stop_too, end_is) =
+            let same = (lines_read strip i reference).one_cause b another fault stop_too stop in
+            ap (λ (e : End). Err e) (end_is ∙ ap (λ (f : StripFault). Fault at.page at.row (Strip f)) same)
+        only_stop (Ok (another, to)) (is_too, to_is) = absurd ((lines_read strip i reference).line_has_no_cause b _ _ fault is_too.line stop)
+
+    in_bytes : IsOneAnswer (IsInStrip form at (Some bytes))
+    in_bytes = by_line ((lines_read strip i reference).line_or_cause b)
+
+  pub one_in_strip : (form : PageForm) (at : Place) (found : Option (List ℕ)) → IsOneAnswer (IsInStrip form at found)
+  one_in_strip form at None =
+      record { it = Err (Fault at.page (strip_at form at.row * form.rows_per_strip) (File StripOutside)); is = refl; one = λ other same. same }
+  one_in_strip form at (Some bytes) = let only = in_bytes form at bytes in record { it = only.it; is = only.is; one = only.one }
+
+  module _ (chains : FilesHaveOneChain) (file : List ℕ) where
+    pub one_row : (at : Place) → IsOneAnswer (IsRow file at)
+    one_row at = one_on_page chains file (cursor_at at) _ (λ here. one_in_strip here.form at (strip_bytes here.endian file here.offset (strip_at here.form at.row)))
+
+-- what the row at a place is, and what is after it
+pub step_of : (form : PageForm) (at : Place) (found : Option (List ℕ)) (item : Item) (to : Place) → IsInStrip form at found (Ok (item, to))
+    → (item.page ≡ at.page) × (item.row ≡ at.row) × (to ≡ place_after form item)
+step_of form at None item to is = absurd cc
+step_of form at (Some bytes) item to (is, to_is) = (is.same_page, is.same_row, to_is)
+
+-- the place inside its strip after an item
+abbrev pub inner_after : PageForm → Item → Place
+inner_after form item =
+    record { page = item.page; row = item.row + 1; inner = Some (record { bits = item.bits; reference = exchanged form item.pels }) }
+
+-- after an item: on the page after, at the page's next strip, or inside its strip
+pub cases_after : (form : PageForm) (item : Item)
+    → ((form.rows ≤ item.row + 1) × (place_after form item ≡ first_at (item.page + 1) 0))
+    ⊎ ((item.row + 1 < form.rows) × (row_in_strip form (item.row + 1) ≡ 0) × (place_after form item ≡ first_at item.page (item.row + 1)))
+    ⊎ ((item.row + 1 < form.rows) × (0 < row_in_strip form (item.row + 1)) × (place_after form item ≡ inner_after form item))
+cases_after form item = elim (cases_lt (item.row + 1) form.rows) [
+  | inl less ↦
+      let test : nat_lt (item.row + 1) form.rows ≡ true = grind (arith, nat_tests, less) in
+      elim (cases_lt 0 (row_in_strip form (item.row + 1))) [
+        | inl some ↦
+            let first : (row_in_strip form (item.row + 1) == 0) ≡ false = grind (arith, nat_tests, some) in
+            inr (inr (less, some, rw (test, first) refl))
+        | inr none ↦
+            let zero_is : row_in_strip form (item.row + 1) ≡ 0 = omega (arith, none) in
+            let first : (row_in_strip form (item.row + 1) == 0) ≡ true = grind (arith, nat_tests, zero_is) in
+            inr (inl (less, zero_is, rw (test, first) refl))
+      ]
+  | inr more ↦
+      let test : nat_lt (item.row + 1) form.rows ≡ false = grind (arith, nat_tests, more) in
+      inl (more, rw test refl)
+]
+
+module _ (by_place : AreBitsByPlace) (lines_read : LinesAreRead) (file : List ℕ) (head : Header) (is_head : header file ≡ Ok head)
+    (offsets : List ℕ) (fault : Option FileFault) (chain : IsChain head file offsets fault) where
+  abbrev Listed : Place → Type 0
+  Listed at = IsListed (IsRow file) at
+
+  abbrev in_strip : ℕ → PageForm → Place → Result (Item × Place) End → Type 0
+  in_strip q form at = IsInStrip form at (strip_bytes head.endian file q (strip_at form at.row))
+
+  module _ (q : ℕ) (form : PageForm) (at : Place) (here : IsPageAt file (cursor_at at) (Ok (record { endian = head.endian; offset = q; form = form }))) where
+    row_after : (item : Item) → item.page ≡ at.page → item.row ≡ at.row
+        → ((inner : Option Inner) → at.row + 1 < form.rows → Listed (record { page = at.page; row = at.row + 1; inner = inner }))
+        → Listed (first_at (at.page + 1) 0) → Listed (place_after form item)
+    row_after item same_page same_row next more = elim (cases_after form item) [
+      | inl (last, is) ↦ rw (is, same_page) more
+      | inr (inl (less, first, is)) ↦ rw (is, same_page, same_row) (next None (omega (arith, less, same_row)))
+      | inr (inr (less, inside, is)) ↦
+          rw (is, same_page, same_row) (next (Some (record { bits = item.bits; reference = exchanged form item.pels })) (omega (arith, less, same_row)))
+    ]
+
+    listed_row : (answer : Result (Item × Place) End) → in_strip q form at answer
+        → ((inner : Option Inner) → at.row + 1 < form.rows → Listed (record { page = at.page; row = at.row + 1; inner = inner }))
+        → Listed (first_at (at.page + 1) 0) → Listed at
+    listed_row (Err end) is next more = record { items = []; end = end; is = (_, here, is) }
+    listed_row (Ok (item, to)) is next more =
+        let step = step_of form at _ item to is in
+        let rest : Listed to = rw step.2 (row_after item step.0 step.1 next more) in
+        record { items = item ∷ rest.items; end = rest.end; is = (to, (_, here, is), rest.is) }
+
+  rows_on : (fuel q : ℕ) (form : PageForm) (later : List ℕ) (at : Place) → drop at.page offsets ≡ q ∷ later → page head.endian file q ≡ Ok form
+      → form.rows ≤ at.row + fuel → Listed (first_at (at.page + 1) 0) → Listed at
+  rows_on zero q form later at e is enough more =
+      let only = one_in_strip by_place lines_read form at (strip_bytes head.endian file q (strip_at form at.row)) in
+      let here = rw is at (some_page file head is_head offsets fault chain (cursor_at at) q later e) in
+      listed_row q form at here only.it only.is (λ inner less. absurd (omega (arith, less, enough))) more
+  rows_on (suc fuel) q form later at e is enough more =
+      let only = one_in_strip by_place lines_read form at (strip_bytes head.endian file q (strip_at form at.row)) in
+      let here = rw is at (some_page file head is_head offsets fault chain (cursor_at at) q later e) in
+      listed_row q form at here only.it only.is
+      (λ inner less. rows_on fuel q form later (record { page = at.page; row = at.row + 1; inner = inner }) e is (omega (arith, enough)) more) more
+
+  on_page : (q : ℕ) (later : List ℕ) (at : Place) → drop at.page offsets ≡ q ∷ later → (answer : Result PageForm FileFault) → page head.endian file q ≡ answer
+      → Listed (first_at (at.page + 1) 0) → Listed at
+  on_page q later at e (Err refused) is more =
+      let here = rw is at (some_page file head is_head offsets fault chain (cursor_at at) q later e) in
+      record { items = []; end = Fault at.page 0 (File refused); is = (_, here, refl) }
+  on_page q later at e (Ok form) is more = rows_on form.rows q form later at e is (omega arith) more
+
+  -- from each place on there are items, up to an end
+  pub rows_from : (later : List ℕ) (at : Place) → drop at.page offsets ≡ later → Listed at
+  rows_from [] at e = record { items = []; end = _; is = (_, no_page file head is_head offsets fault chain (cursor_at at) e, refl) }
+  rows_from (q ∷ later) at e =
+      on_page q later at e (page head.endian file q) refl (rows_from later (first_at (at.page + 1) 0) (next_dropped at.page offsets q later e))
+
+same_number : (a b : ℕ) → (a ≡ b) ⊎ (a ≡ b → ⊥)
+same_number a b = elim (cases_lt a b) [
+  | inl less ↦ inr (λ e. omega (arith, e, less))
+  | inr more ↦ elim (cases_lt b a) [
+    | inl less ↦ inr (λ e. omega (arith, e, less))
+    | inr both ↦ inl (omega (arith, more, both))
+  ]
+]
+
+same_list : (xs ys : List ℕ) → (xs ≡ ys) ⊎ (xs ≡ ys → ⊥)
+same_list [] [] = inl refl
+same_list [] (y ∷ ys) = inr (λ e. cc e)
+same_list (x ∷ xs) [] = inr (λ e. cc e)
+same_list (x ∷ xs) (y ∷ ys) = elim (same_number x y) [
+  | inl first ↦ elim (same_list xs ys) [
+    | inl rest ↦ inl (ap (λ (n : ℕ). n ∷ xs) first ∙ ap (λ (l : List ℕ). y ∷ l) rest)
+    | inr not ↦ inr (λ e. not (let rest : xs ≡ ys = cc e in rest))
+  ]
+  | inr not ↦ inr (λ e. not (let first : x ≡ y = cc e in first))
+]
+
+fits : (width : ℕ) (found : Option (List ℕ)) (place : LongPlace) → FitsStrip width found place ⊎ (FitsStrip width found place → ⊥)
+fits width None place = inl tt
+fits width (Some bytes) place = elim (cases_lt (8 * length bytes) place.bits) [
+  | inl far ↦ inr (λ is. omega (arith, far, is.within))
+  | inr within ↦ elim (same_list (runs_of (pels_of White place.runs)) place.runs) [
+    | inl runs ↦ elim (same_number (length (pels_of White place.runs)) width) [
+      | inl count ↦ inl (record { within = within; width_is = count; runs = runs })
+      | inr not ↦ inr (λ is. not is.width_is)
+    ]
+    | inr not ↦ inr (λ is. not is.runs)
+  ]
+]
+
+module _ (file : List ℕ) (here : FilePage) where
+  inner_or_not : (place : LongPlace) → IsInnerOn file here place ⊎ (IsInnerOn file here place → ⊥)
+  inner_or_not place = elim (cases_lt place.at.row here.form.rows) [
+    | inl below ↦ elim (cases_lt 0 (row_in_strip here.form place.at.row)) [
+      | inl some ↦ elim (fits here.form.width (strip_bytes here.endian file here.offset (strip_at here.form place.at.row)) place) [
+        | inl fit ↦ inl (record { row = below; not_first = some; fits = fit })
+        | inr not ↦ inr (λ is. not is.fits)
+      ]
+      | inr none ↦ inr (λ is. omega (arith, none, is.not_first))
+    ]
+    | inr above ↦ inr (λ is. omega (arith, above, is.row))
+  ]
+
+  by_inner : (place : LongPlace) → IsInnerOn file here place ⊎ (IsInnerOn file here place → ⊥) → IsOneAnswer (BeginsOn file (Inside place) here)
+  by_inner place (inl is) = record { it = Ok (inner_at place, 0); is = inl (is, refl); one = only }
+    where
+      only : (other : Result (Place × ℕ) End) → BeginsOn file (Inside place) here other → other ≡ Ok (inner_at place, 0)
+      only other (inl (is_too, e)) = e
+      only other (inr (not, e)) = absurd (not is)
+  by_inner place (inr not) = record { it = Err Outside; is = inr (not, refl); one = only }
+    where
+      only : (other : Result (Place × ℕ) End) → BeginsOn file (Inside place) here other → other ≡ Err Outside
+      only other (inl (is, e)) = absurd (not is)
+      only other (inr (not_too, e)) = e
+
+  one_beginning : (begun : Begun) → IsOneAnswer (BeginsOn file begun here)
+  one_beginning (At at) = record { it = first_row at here.form; is = refl; one = λ other same. same }
+  one_beginning (Inside place) = let only = by_inner place (inner_or_not place) in record { it = only.it; is = only.is; one = only.one }
+
+module _ (by_place : AreBitsByPlace) (lines_read : LinesAreRead) (chains : FilesHaveOneChain) (file : List ℕ) where
+  pub rows_listed : (at : Place) (answer : Result Header FileFault) → header file ≡ answer → IsListed (IsRow file) at
+  rows_listed at (Err fault) e = record { items = []; end = Fault 0 0 (File fault); is = (Err (Fault 0 0 (File fault)), rw e refl, refl) }
+  rows_listed at (Ok head) e =
+      let chain = chains head file in
+      rows_from by_place lines_read file head e chain.offsets chain.end chain.is (drop at.page chain.offsets) at refl
+
+pub one_tail_from : AreBitsByPlace → LinesAreRead → FilesHaveOneChain → BeginningsHaveOneTail
+one_tail_from by_place lines_read chains file begun =
+    let begin = one_on_page chains file (begins_at begun) (BeginsOn file begun) (λ here. one_beginning file here begun) in
+    let all = one_begun (IsRow file) (one_row by_place lines_read chains file) begin.it
+    (λ at n e. rows_listed by_place lines_read chains file at (header file) refl) in
+    record {
+      items = all.items;
+      end = all.end;
+      is = (begin.it, begin.is, all.is);
+      one = λ others other is.
+          all.one others other (subst (λ (b : Result (Place × ℕ) End). AreBegun (IsRow file) b others other) (begin.one is.0 is.1) is.2);
+    }

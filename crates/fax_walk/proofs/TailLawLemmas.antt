@@ -1,0 +1,489 @@
+-- What follows an item is the tail from after it.
+use Rattle.std.proofs.Common.{◌≡◌, ℕ, ◌+◌, ◌*◌, ◌/◌, ◌%◌, ◌<◌, ◌≤◌, inl, inr, Bool, true, false, List, [], ◌∷◌, ◌++◌, length, drop, Option, Some, None, Result, Ok, Err, refl, sym, ap, ◌∙◌, subst, arith, length-append}
+use Rattle.std.proofs.Math.Nat.{div-add-mod}
+use Rattle.std.proofs.lemmas.Bool.{cases_lt}
+use Rattle.std.proofs.lemmas.Bool.Decides.{nat_tests}
+use Rattle.std.proofs.lemmas.List.{drop_at, length-replicate}
+use Rattle.std.specs.Prelude.{slice_get, if◌then◌else◌, nat_lt, nat_le, ◌==◌}
+use Rattle.fax_bits.specs.declared.Colour.{Colour}
+use Rattle.fax_bits.specs.declared.Colour.TheVariants.{White}
+use Rattle.fax_bits.specs.Laws.{AreBitsByPlace}
+use Rattle.fax_rows.specs.Elements.{pels_of, runs_of}
+use Rattle.fax_files.specs.declared.FileFault.{FileFault}
+use Rattle.fax_files.specs.declared.PageForm.{PageForm}
+use Rattle.fax_files.specs.declared.Endian.{Endian}
+use Rattle.fax_files.specs.Numbers.{Header, header}
+use Rattle.fax_files.specs.Page.{page}
+use Rattle.fax_files.specs.StripBytes.{strip_bytes}
+use Rattle.fax_files.specs.Laws.{FilesHaveOneChain, IsWholeForm, FormsAreWhole}
+use Rattle.fax_walk.specs.declared.begun.Begun.{Begun}
+use Rattle.fax_walk.specs.declared.begun.Begun.TheVariants.{At, Inside}
+use Rattle.fax_walk.specs.declared.cursor.Cursor.{Cursor}
+use Rattle.fax_walk.specs.declared.end.End.{End}
+use Rattle.fax_walk.specs.declared.end.End.TheVariants.{Outside}
+use Rattle.fax_walk.specs.Cursor.{start}
+use Rattle.fax_walk.specs.LongCursor.{LongPlace}
+use Rattle.fax_walk.specs.InOrder.{AreFrom, AreBegun, LeadTo}
+use Rattle.fax_walk.specs.Pages.{FilePage, IsPageUnder, IsPageAt, page_over, page_or_end}
+use Rattle.fax_walk.specs.Rows.{AreItems, IsInnerOn, Item, Inner, Place, first_at, strip_at, row_in_strip, exchanged, reference_of, place_after, IsItem, IsInStrip, cursor_at, IsRow, first_row, IsInner, FitsStrip, inner_at, Begins, IsTailFrom, cursor_after, long_after}
+use Rattle.fax_walk.specs.PageLaws.{TailOfStart, IsReachedPlace, TailsGoOn, LongTailsGoOn, PlacesAreReached, IsReached}
+use Rattle.fax_walk.proofs.InOrderLemmas.{one_from, same_answer, leads_on, joined, kept, split_at_number as item_split}
+use Rattle.fax_walk.proofs.PageLawLemmas.{one_page}
+use Rattle.fax_walk.proofs.RowLawLemmas.{LinesAreRead, inner_after, cases_after, one_row, one_tail_from}
+use Rattle.fax_walk.proofs.LongLineLemmas.{pels_behind}
+use Rattle.fax_walk.proofs.LongStripLemmas.{in_strip}
+use Rattle.fax_walk.proofs.WidthLemmas.{row_in}
+
+module _ (file : List ℕ) where
+  -- an item, the place where it was read, and what is handed out after it
+  record IsSplit (begun : Begun) (item : Item) (after : List Item) (end : End) : Type 0 where
+    from : Place
+    dropped : ℕ
+    begins : Begins file begun (Ok (from, dropped))
+    front : List Item
+    at : Place
+    lead : LeadTo (IsRow file) from front at
+    to : Place
+    step : IsRow file at (Ok (item, to))
+    rest : AreFrom (IsRow file) to after end
+
+  split_at_number : (begun : Begun) (all : List Item) (end : End) (n : ℕ) (item : Item) → IsTailFrom file begun all end → slice_get all n ≡ Some item
+      → IsSplit begun item (drop (n + 1) all) end
+  split_at_number begun all end n item (begin, begins, are) there =
+      let split = item_split (IsRow file) begin all end n item are there in
+      record {
+        from = split.from;
+        dropped = split.dropped;
+        begins = subst (λ (b : Result (Place × ℕ) End). Begins file begun b) split.begin_is begins;
+        front = split.front;
+        at = split.at;
+        lead = split.lead;
+        to = split.to;
+        step = split.step;
+        rest = split.rest;
+      }
+
+  -- the row that was read, on its page and in its strip
+  record IsRead (at : Place) (item : Item) (to : Place) : Type 0 where
+    here : FilePage
+    page : IsPageAt file (cursor_at at) (Ok here)
+    bytes : List ℕ
+    bytes_are : strip_bytes here.endian file here.offset (strip_at here.form at.row) ≡ Some bytes
+    is : IsItem here.form bytes at item
+    to_is : to ≡ place_after here.form item
+
+  in_bytes : (at : Place) (item : Item) (to : Place) (here : FilePage) → IsPageAt file (cursor_at at) (Ok here) → (found : Option (List ℕ))
+      → strip_bytes here.endian file here.offset (strip_at here.form at.row) ≡ found → IsInStrip here.form at found (Ok (item, to)) → IsRead at item to
+  in_bytes at item to here page None e is = absurd cc
+  in_bytes at item to here page (Some bytes) e (is, to_is) = record { here = here; page = page; bytes = bytes; bytes_are = e; is = is; to_is = to_is }
+
+  read_at : (at : Place) (item : Item) (to : Place) → IsRow file at (Ok (item, to)) → IsRead at item to
+  read_at at item to (Err end, page, e) = absurd cc
+  read_at at item to (Ok here, page, is) =
+      in_bytes at item to here page (strip_bytes here.endian file here.offset (strip_at here.form at.row)) refl is
+
+  -- a page is the same for each of its rows
+  any_row : (at : Cursor) (r : ℕ) (here : FilePage) → IsPageAt file at (Ok here) → IsPageAt file (record { page = at.page; row = r }) (Ok here)
+  any_row at r here is = under (header file) is
+    where
+      over : (head : Header) (offsets : List ℕ) (fault : Option FileFault) (found : Option ℕ) → Ok here ≡ page_over head.endian file offsets fault at found
+          → Ok here ≡ page_over head.endian file offsets fault (record { page = at.page; row = r }) found
+      over head offsets fault None e = absurd cc
+      over head offsets fault (Some q) e = e
+
+      under : (answer : Result Header FileFault) → IsPageUnder file at answer (Ok here) → IsPageUnder file (record { page = at.page; row = r }) answer (Ok here)
+      under (Err fault) e = absurd cc
+      under (Ok head) (offsets, fault, chain, e) = (offsets, fault, chain, over head offsets fault (slice_get offsets at.page) e)
+
+  whole_page : FormsAreWhole → (at : Cursor) (here : FilePage) → IsPageAt file at (Ok here) → IsWholeForm here.form
+  whole_page forms at here is = under (header file) is
+    where
+      answered : (endian : Endian) (q : ℕ) (answer : Result PageForm FileFault) → page endian file q ≡ answer → Ok here ≡ page_or_end endian q at.page answer
+          → IsWholeForm here.form
+      answered endian q (Err refused) is e = absurd cc
+      answered endian q (Ok form) is e =
+          let this : FilePage = record { endian = endian; offset = q; form = form } in
+          let same : this ≡ here = cc in
+          subst (λ (h : FilePage). IsWholeForm h.form) same (forms endian file q form is)
+
+      over : (head : Header) (offsets : List ℕ) (fault : Option FileFault) (found : Option ℕ) → Ok here ≡ page_over head.endian file offsets fault at found
+          → IsWholeForm here.form
+      over head offsets fault None e = absurd cc
+      over head offsets fault (Some q) e = answered head.endian q (page head.endian file q) refl e
+
+      under : (answer : Result Header FileFault) → IsPageUnder file at answer (Ok here) → IsWholeForm here.form
+      under (Err fault) e = absurd cc
+      under (Ok head) (offsets, fault, chain, e) = over head offsets fault (slice_get offsets at.page) e
+
+  same_page : FilesHaveOneChain → (at : Cursor) (here there : FilePage) → IsPageAt file at (Ok here) → IsPageAt file at (Ok there) → here ≡ there
+  same_page chains at here there is is_too = let same = same_answer (one_page chains file at) (Ok here) (Ok there) is is_too in cc
+
+-- the row after another stands in the next strip, or in the same
+next_row : (n r : ℕ) → 0 < n → 0 < (r + 1) % n → ((r + 1) / n ≡ r / n) × ((r + 1) % n ≡ r % n + 1)
+next_row n r some inside = elim (cases_lt (r % n + 1) n) [
+  | inl less ↦ let parts = div-add-mod r n in in_strip n (r / n) (r % n + 1) (r + 1) less (omega (arith, parts))
+  | inr more ↦
+      let parts = div-add-mod r n in
+      let below : r % n < n = omega (arith, some) in
+      let whole : r + 1 ≡ (r / n + 1) * n + 0 = omega (arith, parts, below, more) in
+      let none = in_strip n (r / n + 1) 0 (r + 1) some whole in
+      absurd (omega (arith, none.1, inside))
+]
+
+strip_begin : (n r : ℕ) → r % n ≡ 0 → r ≡ r / n * n
+strip_begin n r first = let parts = div-add-mod r n in omega (arith, parts, first)
+
+module _ (forms : FormsAreWhole) (chains : FilesHaveOneChain) (file : List ℕ) where
+  abbrev strip_of : FilePage → ℕ → ℕ → Place
+  strip_of here p r = first_at p (strip_at here.form r * here.form.rows_per_strip)
+
+  -- rows of its strip lead to a place on a page
+  record IsFromStrip (at : Place) (here : FilePage) : Type 0 where
+    rows : List Item
+    lead : LeadTo (IsRow file) (strip_of here at.page at.row) rows at
+    count : length rows ≡ row_in_strip here.form at.row
+    row : at.row < here.form.rows
+
+  abbrev FromStrip : Place → Type 0
+  FromStrip at = (here : FilePage) → IsPageAt file (cursor_at at) (Ok here) → IsFromStrip at here
+
+  strip_first : (p r : ℕ) (here : FilePage) → row_in_strip here.form r ≡ 0 → r < here.form.rows → IsFromStrip (first_at p r) here
+  strip_first p r here first within = record {
+    rows = [];
+    lead = ap (first_at p) (strip_begin here.form.rows_per_strip r first);
+    count = sym first;
+    row = within;
+  }
+
+  page_first : (p : ℕ) → FromStrip (first_at p 0)
+  page_first p here page =
+      let whole = whole_page file forms (cursor_at (first_at p 0)) here page in
+      let some = whole.some_in_strip in
+      strip_first p 0 here (in_strip here.form.rows_per_strip 0 0 0 some (omega arith)).1 (omega (arith, whole.some_rows))
+
+  module _ (at : Place) (item : Item) (to : Place) (read : IsRead file at item to) where
+    abbrev form : PageForm
+    form = read.here.form
+
+    this_page : (r : ℕ) → IsPageAt file (record { page = item.page; row = r }) (Ok read.here)
+    this_page r = subst (λ (p : ℕ). IsPageAt file (record { page = p; row = r }) (Ok read.here)) (sym read.is.same_page) (any_row file (cursor_at at) r read.here read.page)
+
+    only_here : (r : ℕ) (here : FilePage) → IsPageAt file (record { page = item.page; row = r }) (Ok here) → read.here ≡ here
+    only_here r here page = same_page file chains (record { page = item.page; row = r }) read.here here (this_page r) page
+
+    same_strip : 0 < row_in_strip form (item.row + 1)
+        → (strip_at form (item.row + 1) ≡ strip_at form at.row) × (row_in_strip form (item.row + 1) ≡ row_in_strip form at.row + 1)
+    same_strip inside =
+        let some = (whole_page file forms (cursor_at at) read.here read.page).some_in_strip in
+        let next = next_row form.rows_per_strip item.row some inside in (
+          next.0 ∙ ap (λ (r : ℕ). r / form.rows_per_strip) read.is.same_row,
+          next.1 ∙ ap (λ (r : ℕ). r % form.rows_per_strip + 1) read.is.same_row,
+        )
+
+    inner_from : IsFromStrip at read.here → IsRow file at (Ok (item, to)) → to ≡ inner_after form item → item.row + 1 < form.rows
+        → 0 < row_in_strip form (item.row + 1) → IsFromStrip (inner_after form item) read.here
+    inner_from from step is within inside =
+        let next = same_strip inside in
+        let lead : LeadTo (IsRow file) (strip_of read.here at.page at.row) (from.rows ++ item ∷ []) to =
+        leads_on (IsRow file) (strip_of read.here at.page at.row) at from.rows item to from.lead step in
+        let strip : strip_of read.here at.page at.row ≡ strip_of read.here item.page (item.row + 1) =
+        ap (λ (p : ℕ). strip_of read.here p at.row) (sym read.is.same_page)
+        ∙ ap (λ (s : ℕ). first_at item.page (s * form.rows_per_strip)) (sym next.0) in
+        record {
+          rows = from.rows ++ item ∷ [];
+          lead = subst (λ (t : Place). LeadTo (IsRow file) (strip_of read.here item.page (item.row + 1)) (from.rows ++ item ∷ []) t) is
+              (subst (λ (s : Place). LeadTo (IsRow file) s (from.rows ++ item ∷ []) to) strip lead);
+          count = length-append from.rows (item ∷ []) ∙ omega (arith, from.count, next.1);
+          row = within;
+        }
+
+    keeps_from : FromStrip at → IsRow file at (Ok (item, to)) → FromStrip to
+    keeps_from from step = elim (cases_after form item) [
+      | inl (last, is) ↦ subst FromStrip (sym (read.to_is ∙ is)) (page_first (item.page + 1))
+      | inr (inl (within, first, is)) ↦
+          subst FromStrip (sym (read.to_is ∙ is)) (λ here page.
+          subst (λ (h : FilePage). IsFromStrip (first_at item.page (item.row + 1)) h) (only_here (item.row + 1) here page)
+          (strip_first item.page (item.row + 1) read.here first within))
+      | inr (inr (within, inside, is)) ↦
+          subst FromStrip (sym (read.to_is ∙ is)) (λ here page.
+          subst (λ (h : FilePage). IsFromStrip (inner_after form item) h) (only_here (item.row + 1) here page)
+          (inner_from (from read.here read.page) step (read.to_is ∙ is) within inside))
+    ]
+
+  from_strip : (at : Place) (item : Item) (to : Place) → FromStrip at → IsRow file at (Ok (item, to)) → FromStrip to
+  from_strip at item to from step = keeps_from at item to (read_at file at item to step) from step
+
+  first_in : (at : Cursor) (here : FilePage) → IsPageAt file at (Ok here) → at.row < here.form.rows → FromStrip (strip_of here at.page at.row)
+  first_in at here page below there page' =
+      let some = (whole_page file forms at here page).some_in_strip in
+      let s = strip_at here.form at.row in
+      let n = here.form.rows_per_strip in
+      let parts = div-add-mod at.row n in
+      let first = in_strip n s 0 (s * n) some (omega arith) in
+      let same = same_page file chains (record { page = at.page; row = s * n }) here there (any_row file at (s * n) here page) page' in
+      subst (λ (h : FilePage). IsFromStrip (first_at at.page (s * n)) h) same (strip_first at.page (s * n) here first.1 (omega (arith, parts, below)))
+
+  begins_first : (at : Cursor) (here : FilePage) → IsPageAt file at (Ok here) → (from : Place) (k : ℕ) → Ok (from, k) ≡ first_row at here.form → FromStrip from
+  begins_first at here page from k e = by_test (nat_lt at.row here.form.rows) refl (at.row == here.form.rows) e
+    where
+      place_of : Result (Place × ℕ) End → Place
+      place_of (Ok begin) = begin.0
+      place_of (Err end) = from
+
+      by_test : (below : Bool) → nat_lt at.row here.form.rows ≡ below → (last : Bool)
+          → ◌≡◌ {A = Result (Place × ℕ) End} (Ok (from, k)) (if below then Ok (strip_of here at.page at.row, row_in_strip here.form at.row) else (if last then Ok (first_at (at.page + 1) 0, 0) else Err Outside))
+          → FromStrip from
+      by_test true below last e =
+          let less : at.row < here.form.rows = grind (arith, nat_tests, below) in
+          subst FromStrip (sym (ap place_of e)) (first_in at here page less)
+      by_test false below true e = subst FromStrip (sym (ap place_of e)) (page_first (at.page + 1))
+      by_test false below false e = absurd cc
+
+  begins_from : (begun : Begun) → IsReached file begun → (from : Place) (k : ℕ) → Begins file begun (Ok (from, k)) → FromStrip from
+  begins_from begun reached from k (Err end, page, e) = absurd cc
+  begins_from (At at) reached from k (Ok here, page, e) = begins_first at here page from k e
+  begins_from (Inside place) reached from k (Ok here, page, inr (not, e)) = absurd cc
+  begins_from (Inside place) reached from k (Ok here, page, inl (is, e)) = subst FromStrip (sym (ap place_of e)) (λ there page'.
+      let same = same_page file chains place.at reached.here there reached.page page' in
+      let here_too = same_page file chains place.at here there page page' in
+      subst (λ (h : FilePage). IsFromStrip (inner_at place) h) same record {
+        rows = reached.rows;
+        lead = reached.lead;
+        count = reached.count;
+        row = subst (λ (h : FilePage). place.at.row < h.form.rows) (here_too ∙ sym same) is.row;
+      })
+    where
+      place_of : Result (Place × ℕ) End → Place
+      place_of (Ok begin) = begin.0
+      place_of (Err end) = from
+
+  module _ (begun : Begun) (reached : IsReached file begun) (item : Item) (after : List Item) (end : End) (split : IsSplit file begun item after end) where
+    here_from : FromStrip split.at
+    here_from = kept (IsRow file) FromStrip from_strip split.from split.at split.front split.lead (begins_from begun reached split.from split.dropped split.begins)
+
+    read : IsRead file split.at item split.to
+    read = read_at file split.at item split.to split.step
+
+    abbrev on_form : PageForm
+    on_form = read.here.form
+
+    next_from : FromStrip split.to
+    next_from = from_strip split.at item split.to here_from split.step
+
+    page_of : IsPageAt file (cursor_after item) (Ok read.here)
+    page_of = this_page split.at item split.to read (item.row + 1)
+
+    -- the next row stands on the page
+    on_page : (inner : Option Inner) → item.row + 1 < on_form.rows → split.to ≡ record { page = item.page; row = item.row + 1; inner = inner }
+        → IsTailFrom file (At (cursor_after item)) after end
+    on_page inner within is =
+        let at : Place = record { page = item.page; row = item.row + 1; inner = inner } in
+        let test : nat_lt (item.row + 1) on_form.rows ≡ true = grind (arith, nat_tests, within) in
+        let next : IsFromStrip at read.here = subst FromStrip is next_from read.here page_of in
+        let rest : AreFrom (IsRow file) at after end = subst (λ (t : Place). AreFrom (IsRow file) t after end) is split.rest in (
+          Ok (strip_of read.here item.page (item.row + 1), row_in_strip on_form (item.row + 1)),
+          (Ok read.here, page_of, rw test refl),
+          (
+            next.rows ++ after,
+            joined (IsRow file) (strip_of read.here item.page (item.row + 1)) at next.rows after end next.lead rest,
+            sym (drop_at next.rows after (row_in_strip on_form (item.row + 1)) next.count),
+          ),
+        )
+
+    on_next : on_form.rows ≤ item.row + 1 → split.to ≡ first_at (item.page + 1) 0 → IsTailFrom file (At (cursor_after item)) after end
+    on_next last is =
+        let below = (here_from read.here read.page).row in
+        let row_is = read.is.same_row in
+        let whole : item.row + 1 ≡ on_form.rows = omega (arith, last, below, row_is) in
+        let test : nat_lt (item.row + 1) on_form.rows ≡ false = grind (arith, nat_tests, last) in
+        let end_test : ((item.row + 1) == on_form.rows) ≡ true = grind (arith, nat_tests, whole) in (
+          Ok (first_at (item.page + 1) 0, 0),
+          (Ok read.here, page_of, rw (test, end_test) refl),
+          (after, subst (λ (t : Place). AreFrom (IsRow file) t after end) is split.rest, refl),
+        )
+
+    tail_after : IsTailFrom file (At (cursor_after item)) after end
+    tail_after = elim (cases_after on_form item) [
+      | inl (last, is) ↦ on_next last (read.to_is ∙ is)
+      | inr (inl (within, first, is)) ↦ on_page None within (read.to_is ∙ is)
+      | inr (inr (within, inside, is)) ↦ on_page (Some (record { bits = item.bits; reference = exchanged on_form item.pels })) within (read.to_is ∙ is)
+    ]
+
+  -- the reference of a row that is read has the page's width
+  abbrev Wide : Place → Type 0
+  Wide at =
+      (here : FilePage) → IsPageAt file (cursor_at at) (Ok here) → (bytes : List ℕ)
+      → strip_bytes here.endian file here.offset (strip_at here.form at.row) ≡ Some bytes
+      → length (reference_of here.form.width at.inner) ≡ here.form.width
+
+  wide_first : (p r : ℕ) → Wide (first_at p r)
+  wide_first p r here page bytes there = length-replicate here.form.width White
+
+  row_wide : (at : Place) (item : Item) (to : Place) → Wide at → (read : IsRead file at item to)
+      → length (exchanged read.here.form item.pels) ≡ read.here.form.width
+  row_wide at item to wide read =
+      let line = read.is.line in
+      row_in line.dimension read.here.form.width (reference_of read.here.form.width at.inner) line.codes (exchanged read.here.form item.pels) _
+      (wide read.here read.page read.bytes read.bytes_are) line.coded
+
+  keeps_wide : (at : Place) (item : Item) (to : Place) → Wide at → IsRow file at (Ok (item, to)) → Wide to
+  keeps_wide at item to wide step =
+      let read = read_at file at item to step in
+      elim (cases_after read.here.form item) [
+        | inl (last, is) ↦ subst Wide (sym (read.to_is ∙ is)) (wide_first (item.page + 1) 0)
+        | inr (inl (within, first, is)) ↦ subst Wide (sym (read.to_is ∙ is)) (wide_first item.page (item.row + 1))
+        | inr (inr (within, inside, is)) ↦
+            subst Wide (sym (read.to_is ∙ is)) (λ here page bytes there.
+            subst (λ (h : FilePage). length (exchanged read.here.form item.pels) ≡ h.form.width) (only_here at item to read (item.row + 1) here page)
+            (row_wide at item to wide read))
+      ]
+
+  some_first : (at : Cursor) (form : PageForm) (from : Place) (k : ℕ) → ◌≡◌ {A = Result (Place × ℕ) End} (Ok (from, k)) (first_row at form)
+      → (p r : ℕ) × (from ≡ first_at p r)
+  some_first at form from k e = by_test (nat_lt at.row form.rows) (at.row == form.rows) e
+    where
+      place_of : Result (Place × ℕ) End → Place
+      place_of (Ok begin) = begin.0
+      place_of (Err end) = from
+
+      by_test : (below last : Bool)
+          → ◌≡◌ {A = Result (Place × ℕ) End} (Ok (from, k))
+          (if below then Ok (first_at at.page (strip_at form at.row * form.rows_per_strip), row_in_strip form at.row)
+          else (if last then Ok (first_at (at.page + 1) 0, 0) else Err Outside))
+          → (p r : ℕ) × (from ≡ first_at p r)
+      by_test true last e = (_, _, ap place_of e)
+      by_test false true e = (_, _, ap place_of e)
+      by_test false false e = absurd cc
+
+  begins_wide : (begun : Begun) (from : Place) (k : ℕ) → Begins file begun (Ok (from, k)) → Wide from
+  begins_wide begun from k (Err end, page, e) = absurd cc
+  begins_wide (At at) from k (Ok here, page, e) =
+      let first = some_first at here.form from k e in
+      subst Wide (sym first.2) (wide_first first.0 first.1)
+  begins_wide (Inside place) from k (Ok here, page, inr (not, e)) = absurd cc
+  begins_wide (Inside place) from k (Ok here, page, inl (is, e)) = subst Wide (sym (ap place_of e)) (λ there page' bytes bytes_are.
+      let same = same_page file chains place.at here there page page' in
+      let is_there = subst (λ (h : FilePage). IsInnerOn file h place) same is in
+      let inner : IsInner there.form.width bytes place = subst (λ (o : Option (List ℕ)). FitsStrip there.form.width o place) bytes_are is_there.fits in
+      inner.width_is)
+    where
+      place_of : Result (Place × ℕ) End → Place
+      place_of (Ok begin) = begin.0
+      place_of (Err end) = from
+
+  abbrev long_of : PageForm → Item → LongPlace
+  long_of form item =
+      record { at = record { page = item.page; row = item.row + 1 }; bits = item.bits; runs = runs_of (exchanged form item.pels) }
+
+  some_if : (test : Bool) (x place : LongPlace) → (if test then Some x else None) ≡ Some place → x ≡ place
+  some_if true x place e = cc
+  some_if false x place e = absurd cc
+
+  long_facts : (form : PageForm) (item : Item) (place : LongPlace) → long_after form item ≡ Some place
+      → (item.row + 1 < form.rows) × (0 < row_in_strip form (item.row + 1)) × (place_after form item ≡ inner_after form item) × (long_of form item ≡ place)
+  long_facts form item place e = elim (cases_after form item) [
+    | inl (last, is) ↦ absurd (no_place (rw is at e))
+    | inr (inl (within, first, is)) ↦ absurd (no_place (rw is at e))
+    | inr (inr (within, inside, is)) ↦ (within, inside, is, some_if (nat_le item.bits 4294967295) (long_of form item) place (rw is at e))
+  ]
+    where
+      no_place : ◌≡◌ {A = Option LongPlace} None (Some place) → ⊥
+      no_place none = cc
+
+  module _ (begun : Begun) (item : Item) (after : List Item) (end : End) (split : IsSplit file begun item after end)
+      (here : FilePage) (page : IsPageAt file (record { page = item.page; row = item.row }) (Ok here)) (place : LongPlace)
+      (long : long_after here.form item ≡ Some place) where
+    abbrev this : IsRead file split.at item split.to
+    this = read_at file split.at item split.to split.step
+
+    abbrev its : PageForm
+    its = this.here.form
+
+    facts : (item.row + 1 < its.rows) × (0 < row_in_strip its (item.row + 1)) × (place_after its item ≡ inner_after its item) × (long_of its item ≡ place)
+    facts = long_facts its item place
+        (subst (λ (h : FilePage). long_after h.form item ≡ Some place) (sym (only_here split.at item split.to this item.row here page)) long)
+
+    page_here : IsPageAt file (cursor_after item) (Ok this.here)
+    page_here = this_page split.at item split.to this (item.row + 1)
+
+    pels_are : pels_of White (runs_of (exchanged its item.pels)) ≡ exchanged its item.pels
+    pels_are = pels_behind White 0 (exchanged its item.pels)
+
+    to_is : split.to ≡ inner_at (long_of its item)
+    to_is = this.to_is ∙ facts.2 ∙ ap (λ (row : List Colour). record {
+      page = item.page;
+      row = item.row + 1;
+      inner = Some (record { bits = item.bits; reference = row });
+    }) (sym pels_are)
+
+    inner : IsInner its.width this.bytes (long_of its item)
+    inner = record {
+      within = this.is.within;
+      width_is = ap (λ (l : List Colour). length l) pels_are ∙ row_wide split.at item split.to wide_here this;
+      runs = ap runs_of pels_are;
+    }
+      where
+        wide_here : Wide split.at
+        wide_here = kept (IsRow file) Wide keeps_wide split.from split.at split.front split.lead (begins_wide begun split.from split.dropped split.begins)
+
+    is_inner : IsInnerOn file this.here (long_of its item)
+    is_inner =
+        let next = same_strip split.at item split.to this facts.1 in
+        record {
+          row = facts.0;
+          not_first = facts.1;
+          fits = subst (λ (s : ℕ). FitsStrip its.width (strip_bytes this.here.endian file this.here.offset s) (long_of its item)) (sym next.0)
+              (subst (λ (o : Option (List ℕ)). FitsStrip its.width o (long_of its item)) (sym this.bytes_are) inner);
+        }
+
+    long_tail : IsTailFrom file (Inside place) after end
+    long_tail = subst (λ (l : LongPlace). IsTailFrom file (Inside l) after end) facts.3 (
+      Ok (inner_at (long_of its item), 0),
+      (Ok this.here, page_here, inl (is_inner, refl)),
+      (after, subst (λ (t : Place). AreFrom (IsRow file) t after end) to_is split.rest, refl),
+    )
+
+    reached_too : IsReached file begun → IsReachedPlace file place
+    reached_too reached =
+        let from : IsFromStrip (inner_at (long_of its item)) this.here =
+        subst FromStrip to_is (next_from begun reached item after end split) this.here page_here in
+        subst (IsReachedPlace file) facts.3 (record { here = this.here; page = page_here; rows = from.rows; lead = from.lead; count = from.count })
+
+pub tails_go_on : FormsAreWhole → FilesHaveOneChain → TailsGoOn
+tails_go_on forms chains file begun all end n item reached tail there =
+    tail_after forms chains file begun reached item (drop (n + 1) all) end (split_at_number file begun all end n item tail there)
+
+pub long_tails_go_on : FormsAreWhole → FilesHaveOneChain → LongTailsGoOn
+long_tails_go_on forms chains file begun all end n item here place tail there page long =
+    long_tail forms chains file begun item (drop (n + 1) all) end (split_at_number file begun all end n item tail there) here page place long
+
+pub places_are_reached : FormsAreWhole → FilesHaveOneChain → PlacesAreReached
+places_are_reached forms chains file begun all end n item here place reached tail there page long =
+    reached_too forms chains file begun item (drop (n + 1) all) end (split_at_number file begun all end n item tail there) here page place long reached
+
+module _ (by_place : AreBitsByPlace) (lines_read : LinesAreRead) (chains : FilesHaveOneChain) (forms : FormsAreWhole) (file : List ℕ) where
+  from_start : (items : List Item) (end : End) → IsTailFrom file (At start) items end → AreItems file items end
+  from_start items end (begin, (Err none, page, e), are) =
+      let both : (items ≡ []) × (end ≡ none) = subst (λ (b : Result (Place × ℕ) End). AreBegun (IsRow file) b items end) e are in
+      rw (both.0, both.1) (Err none, page, refl)
+  from_start items end (begin, (Ok here, page, e), are) =
+      let whole = whole_page file forms start here page in
+      let some = whole.some_in_strip in
+      let rows = whole.some_rows in
+      let test : nat_lt 0 here.form.rows ≡ true = grind (arith, nat_tests, rows) in
+      let zero_is = in_strip here.form.rows_per_strip 0 0 0 some (omega arith) in
+      let nothing : 0 * here.form.rows_per_strip ≡ 0 = omega arith in
+      let first : first_row start here.form ≡ Ok (first_at 0 0, 0) = rw (test, zero_is.0, zero_is.1, nothing) refl in
+      let there : AreBegun (IsRow file) (Ok (first_at 0 0, 0)) items end =
+      subst (λ (b : Result (Place × ℕ) End). AreBegun (IsRow file) b items end) (e ∙ first) are in
+      subst (λ (l : List Item). AreFrom (IsRow file) (first_at 0 0) l end) (sym there.2) there.1
+
+  to_start : (items : List Item) (end : End) → AreItems file items end → IsTailFrom file (At start) items end
+  to_start items end are =
+      let one = one_tail_from by_place lines_read chains file (At start) in
+      let same = one_from (IsRow file) (one_row by_place lines_read chains file) (first_at 0 0) one.items items one.end end (from_start one.items one.end one.is) are in
+      subst (λ (e : End). IsTailFrom file (At start) items e) same.1 (subst (λ (l : List Item). IsTailFrom file (At start) l one.end) same.0 one.is)
+
+pub tail_of_start : AreBitsByPlace → LinesAreRead → FilesHaveOneChain → FormsAreWhole → TailOfStart
+tail_of_start by_place lines_read chains forms file items end =
+    (from_start by_place lines_read chains forms file items end, to_start by_place lines_read chains forms file items end)
