@@ -81,8 +81,8 @@ none_is e = cc e
 
 pub rows_refused : (old new : WalkState) (fault : WalkFault) (end : End) → IsNext old (Err fault) new → end_of fault ≡ Some end
     → AreRowsDue old [] end × (new.cursor ≡ old.cursor) × StillSaid old new
-rows_refused old new (AtRow page row cause) end ended is = rows_ended old new end (rw (some_is is) at ended)
-rows_refused old new CursorOutside end ended is = rows_ended old new end (rw (some_is is) at ended)
+rows_refused old new (AtRow page row cause) end ended is = rows_ended old new end (rw (some_is is) at ended.0)
+rows_refused old new CursorOutside end ended is = rows_ended old new end (rw (some_is is) at ended.0)
 rows_refused old new Memory end ended is = absurd (none_is is)
 
 pub pages_refused : FormsLeftEnd → (old new : PagesView) (fault : WalkFault) (end : End) → IsNextPage old (Err fault) new → end_of fault ≡ Some end

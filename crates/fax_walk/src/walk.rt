@@ -338,9 +338,12 @@ impl<'a> Walk<'a> {
     pub fn next_row(&mut self) -> Result<Option<(Place, &Row)>, WalkFault>
         ensures* next { sem 𝓛 (EndsAs self.entry (IsNext self.old result)) }
     {
+        crate::laws::rows_are_as_before();
+        self.has_come();
         if !self.advance()? {
             return Ok(None);
         }
+        self.has_items();
         match &self.stage {
             Stage::Open(page) => Ok(Some((page.last(), page.row()))),
             Stage::Before | Stage::Ended(..) => unreachable!(),

@@ -17,6 +17,10 @@ use Rattle.fax_walk.specs.Items.{Item}
 use Rattle.fax_walk.specs.Tail.{behind_item}
 use Rattle.fax_walk.specs.LongTail.{begins_at}
 use Rattle.fax_walk.specs.Before.{AreRowsBeforeBegun, EndsBefore}
+use Rattle.fax_walk.specs.InOrder.{IsNumber, EndsAfter}
+use Rattle.fax_walk.specs.Rows as Rows
+use Rattle.fax_walk.specs.Rows.{IsTailFrom}
+use Rattle.fax_walk.specs.PageLaws.{plain}
 use Rattle.fax_walk.specs.code.Stages.{row_of}
 use Rattle.fax_walk.specs.code.Due.{WalkState, IsDue, places_left}
 
@@ -99,12 +103,22 @@ IsStep old new = StepsAs old new.stage new
 abbrev pub item_of : Place × Bor (List Colour) → Item
 item_of found = record { page = found.0.page; row = found.0.row; pels = found.1.now }
 
--- what a call for the next row answers, and what it leaves: memory is refused only where a page is entered
+-- this item is number `given` of what the walk hands out
+abbrev pub IsGiven : WalkState → Item → Type 0
+IsGiven walk item =
+    (one : Rows.Item) × IsNumber (IsTailFrom walk.file walk.begun) walk.given one × (plain one ≡ item)
+
+-- the walk hands out `given` items in all, and its rows end so
+abbrev pub EndsGiven : WalkState → End → Type 0
+EndsGiven walk end = EndsAfter (IsTailFrom walk.file walk.begun) walk.given end
+
+-- what a call for the next row answers, and what it leaves: item number `given` of what the walk hands out, or the end
+-- after so many items; memory is refused only where a page is entered
 abbrev pub IsNext : WalkState → Result (Option (Place × Bor (List Colour))) WalkFault → WalkState → Type 0
-IsNext old (Ok (Some found)) new = HandsOut old (item_of found) new
-IsNext old (Ok None) new = HasEnded old Proper new
-IsNext old (Err (AtRow page row cause)) new = HasEnded old (Fault page row cause) new
-IsNext old (Err CursorOutside) new = HasEnded old Outside new
+IsNext old (Ok (Some found)) new = HandsOut old (item_of found) new × IsGiven old (item_of found)
+IsNext old (Ok None) new = HasEnded old Proper new × EndsGiven old Proper
+IsNext old (Err (AtRow page row cause)) new = HasEnded old (Fault page row cause) new × EndsGiven old (Fault page row cause)
+IsNext old (Err CursorOutside) new = HasEnded old Outside new × EndsGiven old Outside
 IsNext old (Err Memory) new = (new ≡ old) × IsEntering old.stage
 
 -- a page is open
