@@ -1,5 +1,8 @@
 pub mod Streams
 pub mod Words
+pub mod CommandLine
+pub mod Job
+pub mod Examples
 pub mod Text
 pub mod ReportText
 pub mod Laws

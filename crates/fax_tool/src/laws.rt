@@ -1,6 +1,7 @@
 //! Laws of runs. The functions compute nothing: each has a law as its contract.
 ghost use Rattle.fax_tool.specs.Laws as Laws;
 ghost use Rattle.fax_tool.specs.LongLaws as LongLaws;
+ghost use Rattle.fax_tool.specs.Examples.{AreNotTaken, AreRead};
 
 /// Runs of `rows`, the first from any cursor and each later one from the cursor that the run before
 /// it printed, write together a beginning of one run's lines of rows, and all that it writes where
@@ -25,3 +26,9 @@ pub fn long_runs_go_on()
     fax_walk::laws::places_of_reached();
     fax_walk::laws::items_have_one_place();
 }
+
+/// What some words give, each option in each spelling, and some words that are not taken.
+pub fn examples_of_words()
+    ensures read { AreRead }
+    ensures not_taken { AreNotTaken }
+{}
