@@ -8,4 +8,5 @@ pub mod ReportText
 pub mod Laws
 pub mod LongLaws
 pub mod Run
+pub mod WordLaws
 pub mod code

@@ -14,7 +14,12 @@ ghost use Rattle.fax_tool.specs.Job.{number_in, order_by, target_in};
 ghost use Rattle.fax_walk.specs.declared.options.Target.TheVariants.{Mmr, Pbm};
 ghost use Rattle.fax_tool.specs.declared.words.WordsFault.TheVariants.{Usage as BadWords};
 ghost use Rattle.fax_tool.specs.Words.{words_status, words_text};
+ghost use Rattle.fax_tool.specs.Run.{HasFailed};
+ghost use Rattle.fax_tool.specs.Streams.{no_faults};
+ghost use Rattle.std.specs.Io.KnownBytes.{Appends};
 
+use crate::streams::Sink;
+use crate::transfer::{Interruptions, give_all};
 use clap::builder::ValueParser;
 use clap::error::ErrorKind;
 use clap::{Arg, ArgAction, ArgMatches, value_parser};
@@ -128,6 +133,20 @@ impl WordsFault {
             WordsFault::Usage => (USAGE, 2),
             WordsFault::NotACursor => ("fault cursor: NotACursor\n", 2),
             WordsFault::Memory => ("fault: Memory\n", 3),
+        }
+    }
+
+    /// Says the text on the error stream, and answers the status, also where the stream fails.
+    pub fn say<E: Sink>(&self, err: &mut E) -> u8
+        requires { E.counts err.old ≡ no_faults }
+        ensures status { result ≡ words_status self.now }
+        ensures said { HasFailed (E.counts err.new)
+            ⊎ Appends (E.written err.old) (E.written err.new) (words_text self.now) }
+    {
+        let (text, status) = self.text();
+        let mut interruptions = Interruptions::NONE;
+        match give_all(err, &mut interruptions, text.as_bytes()) {
+            Ok(()) | Err(_) => status,
         }
     }
 }
