@@ -16,3 +16,4 @@ mod EntryReadLemmas
 mod GetterLemmas
 mod LevelLemmas
 mod ExampleLemmas
+mod AnswerLemmas

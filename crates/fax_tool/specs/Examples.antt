@@ -45,8 +45,8 @@ pub record AreRead : Type 0 where
   pub mh_joined : target (codes "convert" ∷ codes "-o=mh" ∷ []) ≡ Some Mh
   pub order : number (codes "order")
       (codes "convert" ∷ codes "-omh" ∷ codes "--order" ∷ codes "2" ∷ []) ≡ Some 2
-  pub order_joined : number (codes "order") (codes "convert" ∷ codes "--order=2" ∷ codes "-omh" ∷ [])
-      ≡ Some 2
+  pub order_joined : number (codes "order")
+      (codes "convert" ∷ codes "--order=2" ∷ codes "-omh" ∷ []) ≡ Some 2
   pub k : number (codes "k") (codes "convert" ∷ codes "-omr" ∷ codes "--k" ∷ codes "8" ∷ [])
       ≡ Some 8
   pub k_joined : number (codes "k") (codes "convert" ∷ codes "-omr" ∷ codes "--k=8" ∷ []) ≡ Some 8

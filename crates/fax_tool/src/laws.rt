@@ -1,9 +1,10 @@
-//! Laws of runs. The functions compute nothing: each has a law as its contract. Only `words_are_run`
-//! does what the program does.
+//! Laws of runs and of words. The functions compute nothing, but for `words_are_run`, which does
+//! what the program does: each has a law as its contract.
 ghost use Rattle.std.specs.Prelude.{◌≡◌, ◌⊎◌, ◌<◌};
 ghost use Rattle.clap.specs.Walk.{texts};
 ghost use Rattle.fax_tool.specs.Streams.{no_faults};
 ghost use Rattle.fax_tool.specs.WordLaws.{IsRefusedOfWords, SaysFault, WritesOfWords};
+ghost use Rattle.fax_tool.specs.WordLaws.{WordsHaveOneAnswer};
 ghost use Rattle.fax_tool.specs.Laws as Laws;
 ghost use Rattle.fax_tool.specs.LongLaws as LongLaws;
 ghost use Rattle.fax_tool.specs.Examples.{AreNotTaken, AreRead};
@@ -66,6 +67,12 @@ pub fn words_are_run<R: Source, W: Sink, E: Sink>(
         Err(fault) => fault.say(err),
     }
 }
+
+/// The answers of `parse_words` exclude one another: so it gives each of them, but for want of
+/// memory, exactly where its clause says.
+pub fn words_have_one_answer()
+    ensures { WordsHaveOneAnswer }
+{}
 
 /// What some words give, each option in each spelling, and some words that are not taken.
 pub fn examples_of_words()

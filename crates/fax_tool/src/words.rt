@@ -1,22 +1,22 @@
 //! The words of a command line.
 ghost use Rattle.std.specs.Prelude.{◌≡◌, ◌≢◌, ◌⊎◌, true, false, IfOk, IfSome, IfErr, OnErr};
 ghost use Rattle.std.specs.Prelude.{Some, None, codes, option_map};
+ghost use Rattle.std.specs.Io.KnownBytes.{Appends};
 ghost use Rattle.std.specs.String.{string_bytes};
 ghost use Rattle.clap.specs.Walk.{Text, first_of, rule_of, texts};
+ghost use Rattle.fax_walk.specs.declared.options.Target.TheVariants.{Mmr, Pbm};
+ghost use Rattle.fax_tool.specs.declared.words.WordsFault.TheVariants.{Usage as BadWords};
 ghost use Rattle.fax_tool.specs.CommandLine.{check_app, convert_app, faxpages_app, printing_app};
 ghost use Rattle.fax_tool.specs.CommandLine.{rows_app, value_rule};
-ghost use Rattle.fax_tool.specs.code.Entries.{HasEntries, HasFlag, HasNumber, HasOptions};
-ghost use Rattle.fax_tool.specs.code.Entries.{IsApp, entries_of};
 ghost use Rattle.fax_tool.specs.Job.{AreOptions, HasNoTarget, HasRanges, IsCommand};
 ghost use Rattle.fax_tool.specs.Job.{IsCommandFault, IsFault, IsJob};
 ghost use Rattle.fax_tool.specs.Job.{IsNoCursor, IsNoLongCursor, IsPartOfPages, IsPartOfRows};
 ghost use Rattle.fax_tool.specs.Job.{number_in, order_by, target_in};
-ghost use Rattle.fax_walk.specs.declared.options.Target.TheVariants.{Mmr, Pbm};
-ghost use Rattle.fax_tool.specs.declared.words.WordsFault.TheVariants.{Usage as BadWords};
-ghost use Rattle.fax_tool.specs.Words.{words_status, words_text};
 ghost use Rattle.fax_tool.specs.Run.{HasFailed};
 ghost use Rattle.fax_tool.specs.Streams.{no_faults};
-ghost use Rattle.std.specs.Io.KnownBytes.{Appends};
+ghost use Rattle.fax_tool.specs.Words.{words_status, words_text};
+ghost use Rattle.fax_tool.specs.code.Entries.{HasEntries, HasFlag, HasNumber, HasOptions};
+ghost use Rattle.fax_tool.specs.code.Entries.{IsApp, entries_of};
 
 use crate::streams::Sink;
 use crate::transfer::{Interruptions, give_all};
@@ -218,7 +218,7 @@ fn printing<'a>(alloc: Global, name: &'a str) -> Result<clap::Command<'a>, Alloc
 
 /// The command that prints rows.
 fn printing_rows<'a>(alloc: Global) -> Result<clap::Command<'a>, AllocError>
-    ensures { IfOk result (λ c. IsApp c (rows_app)) }
+    ensures { IfOk result (λ c. IsApp c rows_app) }
 {
     let long = Arg::new(alloc, "long")
         .long("long")
@@ -236,7 +236,7 @@ fn number<'a>(alloc: Global, name: &'a str, parser: ValueParser<'a>) -> Arg<'a>
 
 /// The command that writes pages in another form.
 fn converting<'a>(alloc: Global) -> Result<clap::Command<'a>, AllocError>
-    ensures { IfOk result (λ c. IsApp c (convert_app)) }
+    ensures { IfOk result (λ c. IsApp c convert_app) }
 {
     let target = Arg::new(alloc, "o").short('o').required(true);
     let align = Arg::new(alloc, "align")
@@ -254,7 +254,7 @@ fn converting<'a>(alloc: Global) -> Result<clap::Command<'a>, AllocError>
 
 /// The command that looks for what is worth a note.
 fn checking<'a>(alloc: Global) -> Result<clap::Command<'a>, AllocError>
-    ensures { IfOk result (λ c. IsApp c (check_app)) }
+    ensures { IfOk result (λ c. IsApp c check_app) }
 {
     clap::Command::new(alloc, "check")
         .disable_help_flag(true)
@@ -263,7 +263,7 @@ fn checking<'a>(alloc: Global) -> Result<clap::Command<'a>, AllocError>
 
 /// The command line of the program.
 fn command_line<'a>(alloc: Global) -> Result<clap::Command<'a>, AllocError>
-    ensures { IfOk result (λ c. IsApp c (faxpages_app)) }
+    ensures { IfOk result (λ c. IsApp c faxpages_app) }
 {
     clap::Command::new(alloc, "faxpages")
         .disable_help_flag(true)
@@ -275,7 +275,7 @@ fn command_line<'a>(alloc: Global) -> Result<clap::Command<'a>, AllocError>
         .subcommand(checking(alloc)?)
 }
 
-/// The file among the words behind a command.
+/// The file among the words after a command.
 fn file_of(alloc: Global, matches: &ArgMatches) -> Result<Option<String>, AllocError>
     ensures { IfOk result (λ file. option_map string_bytes file
         ≡ first_of (codes "FILE") (entries_of matches.now)) }
@@ -286,7 +286,7 @@ fn file_of(alloc: Global, matches: &ArgMatches) -> Result<Option<String>, AllocE
     }
 }
 
-/// The part of a file's pages that the words behind `list` name.
+/// The part of a file's pages that the words after `list` name.
 fn pages_of(matches: &ArgMatches) -> Result<Part, NotACursor>
     requires { HasNumber (codes "max") 4294967295 (entries_of matches.now) }
     ensures ok { IfOk result (λ part. IsPartOfPages (entries_of matches.now) part) }
@@ -305,7 +305,7 @@ fn pages_of(matches: &ArgMatches) -> Result<Part, NotACursor>
     })
 }
 
-/// The part of a file's rows that the words behind `rows` name, where the cursor may be a long one.
+/// The part of a file's rows that the words after `rows` name, where the cursor may be a long one.
 fn rows_of(alloc: Global, matches: &ArgMatches) -> Result<Part, WordsFault>
     requires max { HasNumber (codes "max") 4294967295 (entries_of matches.now) }
     requires long { HasFlag (codes "long") (entries_of matches.now) }
@@ -333,7 +333,7 @@ fn rows_of(alloc: Global, matches: &ArgMatches) -> Result<Part, WordsFault>
     })
 }
 
-/// What the words behind `-o` name.
+/// What the word after `-o` names, if it names a target.
 fn target_of(matches: &ArgMatches) -> Option<Target>
     ensures { result ≡ target_in (entries_of matches.now) }
 {
@@ -370,7 +370,7 @@ fn has_eols(target: Target) -> bool
     }
 }
 
-/// How the words behind `convert` want the pages, unless they name no target, or one that has no
+/// How the words after `convert` want the pages, unless they name no target, or one that has no
 /// EOLs where these are to be aligned.
 fn options_of(matches: &ArgMatches) -> Option<Options>
     requires { HasOptions (entries_of matches.now) }
@@ -391,7 +391,7 @@ fn options_of(matches: &ArgMatches) -> Option<Options>
     })
 }
 
-/// The command of this name, as the words behind it want it.
+/// The command of this name, as the words after it want it.
 fn command_of(alloc: Global, name: &str, matches: &ArgMatches) -> Result<Command, WordsFault>
     requires { HasEntries name.now (entries_of matches.now) }
     ensures command { IfOk result (λ command.
