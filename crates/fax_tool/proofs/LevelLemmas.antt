@@ -1,4 +1,4 @@
--- Where the command line takes words, the entries behind the command that they name are read as they stand.
+-- Where the command line takes words, the entries after the command that they name are read as they stand.
 use Rattle.std.proofs.Common.{◌≡◌, codes, cond, inl, inr, subst, refl, pos, ℕ, Bool, true, false, List, [], ◌∷◌, Option, Some, None, is_some}
 use Rattle.std.specs.Prelude.{option_map}
 use Rattle.std.specs.Option.{option_map_or}
@@ -121,7 +121,7 @@ none_below a words none =
     let last = or_else settle (or_else defaults check) in
     none_first below last (none_then turns (or_else below last) none)
 
--- the entries behind the command are read as they stand
+-- the entries after the command are read as they stand
 pub taken_entries : (words : List Text) (name : Text) (entries : List Row) → AreTaken words → command_of words ≡ Some (name, entries)
     → HasEntries name entries
 taken_entries words name entries taken named =

@@ -29,7 +29,7 @@ use Rattle.fax_tool.specs.declared.words.WordsFault.TheVariants.{Memory, NotACur
 abbrev pub AreTaken : List Text → Type 0
 AreTaken words = fault_of faxpages_app words ≡ []
 
--- the command that the words name, and the entries behind it, by name (this project's profile)
+-- the command that the words name, and the entries after it, by name (this project's profile)
 abbrev pub command_of : List Text → Option (Text × List Row)
 command_of = subcommand_of faxpages_app
 

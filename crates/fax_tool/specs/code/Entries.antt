@@ -42,7 +42,7 @@ pub record HasOptions (entries : List Row) : Type 0 where
   pub strip : HasNumber (codes "strip") 1000000 entries
   pub align : HasFlag (codes "align") entries
 
--- what the entries behind a command's name have, and which names there are
+-- what the entries after a command's name have, and which names there are
 pub record HasEntries (name : Text) (entries : List Row) : Type 0 where
   pub list : bytes_eq name (codes "list") ≡ true → HasNumber (codes "max") 4294967295 entries
   pub rows : bytes_eq name (codes "rows") ≡ true
