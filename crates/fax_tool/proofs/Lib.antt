@@ -10,3 +10,10 @@ pub mod StopLemmas
 pub mod CommandLemmas
 mod NumberLemmas
 pub mod WholeLemmas
+mod BuildLemmas
+mod EntryLemmas
+mod EntryReadLemmas
+mod GetterLemmas
+mod LevelLemmas
+mod ExampleLemmas
+mod AnswerLemmas

@@ -1,6 +1,8 @@
--- What speaks of this code alone: its adapters and transfers, and steps of printing.
+-- What speaks of this code alone: its adapters and transfers, steps of printing, and how it reads
+-- the entries of a command line.
 pub mod Adapters
 pub mod Transfers
 pub mod Printing
 pub mod Outcome
 pub mod Caller
+pub mod Entries

@@ -1,6 +1,18 @@
-//! Laws of runs. The functions compute nothing: each has a law as its contract.
+//! Laws of runs and of words. The functions compute nothing, but for `words_are_run`, which does
+//! what the program does: each has a law as its contract.
+ghost use Rattle.std.specs.Prelude.{◌≡◌, ◌⊎◌, ◌<◌};
+ghost use Rattle.clap.specs.Walk.{texts};
+ghost use Rattle.fax_tool.specs.Streams.{no_faults};
+ghost use Rattle.fax_tool.specs.WordLaws.{IsRefusedOfWords, SaysFault, WritesOfWords};
+ghost use Rattle.fax_tool.specs.WordLaws.{WordsHaveOneAnswer};
 ghost use Rattle.fax_tool.specs.Laws as Laws;
 ghost use Rattle.fax_tool.specs.LongLaws as LongLaws;
+ghost use Rattle.fax_tool.specs.Examples.{AreNotTaken, AreRead};
+
+use crate::run::run;
+use crate::streams::{Sink, Source};
+use crate::words::parse_words;
+use std::alloc::Global;
 
 /// Runs of `rows`, the first from any cursor and each later one from the cursor that the run before
 /// it printed, write together a beginning of one run's lines of rows, and all that it writes where
@@ -25,3 +37,45 @@ pub fn long_runs_go_on()
     fax_walk::laws::places_of_reached();
     fax_walk::laws::items_have_one_place();
 }
+
+/// What the program does with words, over its streams, but for opening the file that they name:
+/// where they give a job, it is run over the file's bytes, and else the error stream says why not.
+pub fn words_are_run<R: Source, W: Sink, E: Sink>(
+    alloc: Global,
+    words: &[&str],
+    input: &mut R,
+    out: &mut W,
+    err: &mut E,
+) -> u8
+    requires input_counts { R.counts input.old ≡ no_faults }
+    requires taken { R.taken input.old ≡ 0 }
+    requires output_counts { W.counts out.old ≡ no_faults }
+    requires error_counts { E.counts err.old ≡ no_faults }
+    ensures written { result < 2 → WritesOfWords (texts words.now) (R.left input.old)
+        (W.written out.old) (W.written out.new) (E.written err.old) (E.written err.new) result }
+    ensures said { result ≡ 2 → SaysFault (texts words.now) (E.counts err.new)
+        (W.written out.old) (W.written out.new) (E.written err.old) (E.written err.new) result }
+    ensures refused { result ≡ 3 → SaysFault (texts words.now) (E.counts err.new)
+        (W.written out.old) (W.written out.new) (E.written err.old) (E.written err.new) result
+        ⊎ IsRefusedOfWords (texts words.now) (R.left input.old) (R.counts input.new)
+        (R.taken input.new) (W.counts out.new) (E.counts err.new) (W.written out.old)
+        (W.written out.new) (E.written err.old) (E.written err.new) }
+    ensures status { result < 4 }
+{
+    match parse_words(alloc, words) {
+        Ok(job) => run(alloc, &job, input, out, err),
+        Err(fault) => fault.say(err),
+    }
+}
+
+/// The answers of `parse_words` exclude one another: so it gives each of them, but for want of
+/// memory, exactly where its clause says.
+pub fn words_have_one_answer()
+    ensures { WordsHaveOneAnswer }
+{}
+
+/// What some words give, each option in each spelling, and some words that are not taken.
+pub fn examples_of_words()
+    ensures read { AreRead }
+    ensures not_taken { AreNotTaken }
+{}

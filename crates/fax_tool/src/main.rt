@@ -79,10 +79,6 @@ fn run_job(rt: &HostRuntime, job: &Job) -> u8 {
 fn main(rt: HostRuntime) -> ExitCode {
     match given_job(&rt) {
         Ok(job) => ExitCode::from(run_job(&rt, &job)),
-        Err(fault) => {
-            let (text, status) = fault.text();
-            let _ = eprint!(&rt; "{text}");
-            ExitCode::from(status)
-        }
+        Err(fault) => ExitCode::from(fault.say(&mut ToWrite::new(rt.stderr()))),
     }
 }

@@ -1,8 +1,26 @@
 //! The words of a command line.
-ghost use Rattle.std.specs.Prelude.{◌≡◌, ◌≢◌, ◌<◌, ◌≤◌, true, IfOk, IfSome};
+ghost use Rattle.std.specs.Prelude.{◌≡◌, ◌≢◌, ◌⊎◌, true, false, IfOk, IfSome, IfErr, OnErr};
+ghost use Rattle.std.specs.Prelude.{Some, None, codes, option_map};
+ghost use Rattle.std.specs.Io.KnownBytes.{Appends};
+ghost use Rattle.std.specs.String.{string_bytes};
+ghost use Rattle.clap.specs.Walk.{Text, first_of, rule_of, texts};
 ghost use Rattle.fax_walk.specs.declared.options.Target.TheVariants.{Mmr, Pbm};
-ghost use Rattle.fax_tool.specs.Words.{words_text, words_status};
+ghost use Rattle.fax_tool.specs.declared.words.WordsFault.TheVariants.{Usage as BadWords};
+ghost use Rattle.fax_tool.specs.CommandLine.{check_app, convert_app, faxpages_app, printing_app};
+ghost use Rattle.fax_tool.specs.CommandLine.{rows_app, value_rule};
+ghost use Rattle.fax_tool.specs.Job.{AreOptions, HasNoTarget, HasRanges, IsCommand};
+ghost use Rattle.fax_tool.specs.Job.{IsCommandFault, IsFault, IsJob};
+ghost use Rattle.fax_tool.specs.Job.{IsNoCursor, IsNoLongCursor, IsPartOfPages, IsPartOfRows};
+ghost use Rattle.fax_tool.specs.Job.{number_in, order_by, target_in};
+ghost use Rattle.fax_tool.specs.Run.{HasFailed};
+ghost use Rattle.fax_tool.specs.Streams.{no_faults};
+ghost use Rattle.fax_tool.specs.Words.{words_status, words_text};
+ghost use Rattle.fax_tool.specs.code.Entries.{HasEntries, HasFlag, HasNumber, HasOptions};
+ghost use Rattle.fax_tool.specs.code.Entries.{IsApp, entries_of};
 
+use crate::streams::Sink;
+use crate::transfer::{Interruptions, give_all};
+use clap::builder::ValueParser;
 use clap::error::ErrorKind;
 use clap::{Arg, ArgAction, ArgMatches, value_parser};
 use fax_bits::{FillOrder, Memory};
@@ -92,7 +110,7 @@ pub enum WordsFault {
 }
 
 /// The most rows of a strip, and the greatest K.
-const MOST_ROWS: u32 = 1_000_000;
+const MOST_ROWS: i64 = 1_000_000;
 
 /// K where none is given.
 const USUAL_K: u32 = 4;
@@ -117,15 +135,41 @@ impl WordsFault {
             WordsFault::Memory => ("fault: Memory\n", 3),
         }
     }
+
+    /// Says the text on the error stream, and answers the status, also where the stream fails.
+    pub fn say<E: Sink>(&self, err: &mut E) -> u8
+        requires { E.counts err.old ≡ no_faults }
+        ensures status { result ≡ words_status self.now }
+        ensures said { HasFailed (E.counts err.new)
+            ⊎ Appends (E.written err.old) (E.written err.new) (words_text self.now) }
+    {
+        let (text, status) = self.text();
+        let mut interruptions = Interruptions::NONE;
+        match give_all(err, &mut interruptions, text.as_bytes()) {
+            Ok(()) | Err(_) => status,
+        }
+    }
 }
 
 impl From<AllocError> for WordsFault {
+    ghost use Rattle.fax_tool.specs.declared.words.WordsFault.TheVariants.{Memory as NoMemory};
+
+    ghost from_gives = { λ _ gives. gives ≡ NoMemory };
+
     fn from(_error: AllocError) -> Self {
         WordsFault::Memory
     }
 }
 
 impl From<clap::Error> for WordsFault {
+    ghost use Rattle.fax_tool.specs.declared.words.WordsFault.TheVariants.{Usage as BadWords};
+    ghost use Rattle.fax_tool.specs.declared.words.WordsFault.TheVariants.{NotACursor as BadCursor};
+    ghost use Rattle.clap.specs.Words.{kind_of};
+    ghost use Rattle.clap.specs.declared.error.kind.ErrorKind.TheVariants.{OutOfMemory};
+
+    ghost from_gives = { λ error gives. (gives ≢ BadCursor)
+        × (gives ≡ BadWords → kind_of error ≢ OutOfMemory) };
+
     fn from(error: clap::Error) -> Self {
         match error.kind() {
             ErrorKind::OutOfMemory => WordsFault::Memory,
@@ -135,12 +179,23 @@ impl From<clap::Error> for WordsFault {
 }
 
 impl From<NotACursor> for WordsFault {
+    ghost use Rattle.fax_tool.specs.declared.words.WordsFault.TheVariants.{NotACursor as BadCursor};
+
+    ghost from_gives = { λ _ gives. gives ≡ BadCursor };
+
     fn from(_fault: NotACursor) -> Self {
         WordsFault::NotACursor
     }
 }
 
 impl From<LongFault> for WordsFault {
+    ghost use Rattle.fax_walk.specs.declared.long_cursor.LongFault.TheVariants as LongFault;
+    ghost use Rattle.fax_tool.specs.declared.words.WordsFault.TheVariants.{Usage as BadWords};
+    ghost use Rattle.fax_tool.specs.declared.words.WordsFault.TheVariants.{NotACursor as BadCursor};
+
+    ghost from_gives = { λ fault gives. (gives ≢ BadWords)
+        × (gives ≡ BadCursor → fault ≡ LongFault.NotACursor) };
+
     fn from(fault: LongFault) -> Self {
         match fault {
             LongFault::NotACursor => WordsFault::NotACursor,
@@ -150,10 +205,10 @@ impl From<LongFault> for WordsFault {
 }
 
 /// A command that prints a part of a file, line by line.
-fn printing<'a>(alloc: Global, name: &'a str) -> Result<clap::Command<'a>, AllocError> {
-    let max = Arg::new(alloc, "max")
-        .long("max")
-        .value_parser(value_parser!(u32).range(1..));
+fn printing<'a>(alloc: Global, name: &'a str) -> Result<clap::Command<'a>, AllocError>
+    ensures { IfOk result (λ c. IsApp c (printing_app name.entry.now)) }
+{
+    let max = number(alloc, "max", value_parser!(u32).range(1..));
     clap::Command::new(alloc, name)
         .disable_help_flag(true)
         .arg(Arg::new(alloc, "cursor").long("cursor"))?
@@ -162,48 +217,54 @@ fn printing<'a>(alloc: Global, name: &'a str) -> Result<clap::Command<'a>, Alloc
 }
 
 /// The command that prints rows.
-fn printing_rows<'a>(alloc: Global) -> Result<clap::Command<'a>, AllocError> {
+fn printing_rows<'a>(alloc: Global) -> Result<clap::Command<'a>, AllocError>
+    ensures { IfOk result (λ c. IsApp c rows_app) }
+{
     let long = Arg::new(alloc, "long")
         .long("long")
         .action(ArgAction::SetTrue);
     printing(alloc, "rows")?.arg(long)
 }
 
-/// An option with a number from 1 to the most.
-fn number<'a>(alloc: Global, name: &'a str, most: u32) -> Arg<'a> {
-    Arg::new(alloc, name)
-        .long(name)
-        .value_parser(value_parser!(u32).range(1..=i64::from(most)))
+/// An option with a number that the parser takes.
+fn number<'a>(alloc: Global, name: &'a str, parser: ValueParser<'a>) -> Arg<'a>
+    ensures rule { rule_of result ≡ value_rule name.entry.now parser.entry }
+    ensures local { result.global ≡ false }
+{
+    Arg::new(alloc, name).long(name).value_parser(parser)
 }
 
 /// The command that writes pages in another form.
-fn converting<'a>(alloc: Global) -> Result<clap::Command<'a>, AllocError> {
-    let target = Arg::new(alloc, "o")
-        .short('o')
-        .required(true)
-        .value_parser(["pbm", "mh", "mr", "mmr"].as_slice());
+fn converting<'a>(alloc: Global) -> Result<clap::Command<'a>, AllocError>
+    ensures { IfOk result (λ c. IsApp c convert_app) }
+{
+    let target = Arg::new(alloc, "o").short('o').required(true);
     let align = Arg::new(alloc, "align")
         .long("align")
         .action(ArgAction::SetTrue);
     clap::Command::new(alloc, "convert")
         .disable_help_flag(true)
         .arg(target)?
-        .arg(number(alloc, "order", 2))?
-        .arg(number(alloc, "k", MOST_ROWS))?
-        .arg(number(alloc, "strip", MOST_ROWS))?
+        .arg(number(alloc, "order", value_parser!(u32).range(1..=2)))?
+        .arg(number(alloc, "k", value_parser!(u32).range(1..=MOST_ROWS)))?
+        .arg(number(alloc, "strip", value_parser!(u32).range(1..=MOST_ROWS)))?
         .arg(align)?
         .arg(Arg::new(alloc, "FILE"))
 }
 
 /// The command that looks for what is worth a note.
-fn checking<'a>(alloc: Global) -> Result<clap::Command<'a>, AllocError> {
+fn checking<'a>(alloc: Global) -> Result<clap::Command<'a>, AllocError>
+    ensures { IfOk result (λ c. IsApp c check_app) }
+{
     clap::Command::new(alloc, "check")
         .disable_help_flag(true)
         .arg(Arg::new(alloc, "FILE"))
 }
 
 /// The command line of the program.
-fn command_line<'a>(alloc: Global) -> Result<clap::Command<'a>, AllocError> {
+fn command_line<'a>(alloc: Global) -> Result<clap::Command<'a>, AllocError>
+    ensures { IfOk result (λ c. IsApp c faxpages_app) }
+{
     clap::Command::new(alloc, "faxpages")
         .disable_help_flag(true)
         .disable_help_subcommand(true)
@@ -214,16 +275,24 @@ fn command_line<'a>(alloc: Global) -> Result<clap::Command<'a>, AllocError> {
         .subcommand(checking(alloc)?)
 }
 
-/// The file among the words behind a command.
-fn file_of(alloc: Global, matches: &ArgMatches) -> Result<Option<String>, AllocError> {
+/// The file among the words after a command.
+fn file_of(alloc: Global, matches: &ArgMatches) -> Result<Option<String>, AllocError>
+    ensures { IfOk result (λ file. option_map string_bytes file
+        ≡ first_of (codes "FILE") (entries_of matches.now)) }
+{
     match matches.get_str("FILE") {
         Some(name) => Ok(Some(String::from_str(alloc, name)?)),
         None => Ok(None),
     }
 }
 
-/// The part of a file's pages that the words behind `list` name.
-fn pages_of(matches: &ArgMatches) -> Result<Part, NotACursor> {
+/// The part of a file's pages that the words after `list` name.
+fn pages_of(matches: &ArgMatches) -> Result<Part, NotACursor>
+    requires { HasNumber (codes "max") 4294967295 (entries_of matches.now) }
+    ensures ok { IfOk result (λ part. IsPartOfPages (entries_of matches.now) part) }
+    ensures err { OnErr result ((text : Text)
+        × (first_of (codes "cursor") (entries_of matches.now) ≡ Some text) × IsNoCursor text) }
+{
     let cursor = match matches.get_str("cursor") {
         Some(text) => Cursor::parse(text)?,
         None => Cursor { page: 0, row: 0 },
@@ -236,8 +305,16 @@ fn pages_of(matches: &ArgMatches) -> Result<Part, NotACursor> {
     })
 }
 
-/// The part of a file's rows that the words behind `rows` name, where the cursor may be a long one.
-fn rows_of(alloc: Global, matches: &ArgMatches) -> Result<Part, WordsFault> {
+/// The part of a file's rows that the words after `rows` name, where the cursor may be a long one.
+fn rows_of(alloc: Global, matches: &ArgMatches) -> Result<Part, WordsFault>
+    requires max { HasNumber (codes "max") 4294967295 (entries_of matches.now) }
+    requires long { HasFlag (codes "long") (entries_of matches.now) }
+    ensures ok { IfOk result (λ part. IsPartOfRows (entries_of matches.now) part) }
+    ensures err { IfErr result (λ fault. (fault ≢ BadWords)
+        × (fault ≡ WordsFault.NotACursor → (text : Text)
+        × (first_of (codes "cursor") (entries_of matches.now) ≡ Some text)
+        × IsNoCursor text × IsNoLongCursor text)) }
+{
     let (cursor, from) = match matches.get_str("cursor") {
         Some(text) => match Cursor::parse(text) {
             Ok(cursor) => (cursor, None),
@@ -256,70 +333,103 @@ fn rows_of(alloc: Global, matches: &ArgMatches) -> Result<Part, WordsFault> {
     })
 }
 
-/// What the words behind `-o` name.
-fn target_of(matches: &ArgMatches) -> Result<Target, WordsFault> {
-    match matches.get_str("o") {
-        Some("pbm") => Ok(Target::Pbm),
-        Some("mh") => Ok(Target::Mh),
-        Some("mr") => Ok(Target::Mr),
-        Some("mmr") => Ok(Target::Mmr),
+/// What the word after `-o` names, if it names a target.
+fn target_of(matches: &ArgMatches) -> Option<Target>
+    ensures { result ≡ target_in (entries_of matches.now) }
+{
+    match matches.get_str("o")? {
+        "pbm" => Some(Target::Pbm),
+        "mh" => Some(Target::Mh),
+        "mr" => Some(Target::Mr),
+        "mmr" => Some(Target::Mmr),
+        _ => None,
+    }
+}
+
+/// Which bit of a byte is to be first.
+fn order_of(matches: &ArgMatches) -> FillOrder
+    requires { HasNumber (codes "order") 2 (entries_of matches.now) }
+    ensures { result ≡ order_by (number_in (codes "order") (entries_of matches.now)) }
+{
+    let order = matches.get_one::<u32>("order").unwrap_or(1);
+    if order == 2 {
+        FillOrder::LsbFirst
+    } else {
+        FillOrder::MsbFirst
+    }
+}
+
+/// Whether rows of this target have EOLs.
+fn has_eols(target: Target) -> bool
+    ensures some { result ≡ true → (target ≢ Pbm) × (target ≢ Mmr) }
+    ensures none { result ≡ false → (target ≡ Pbm) ⊎ (target ≡ Mmr) }
+{
+    match target {
+        Target::Mh | Target::Mr => true,
+        Target::Pbm | Target::Mmr => false,
+    }
+}
+
+/// How the words after `convert` want the pages, unless they name no target, or one that has no
+/// EOLs where these are to be aligned.
+fn options_of(matches: &ArgMatches) -> Option<Options>
+    requires { HasOptions (entries_of matches.now) }
+    ensures some { IfSome result (λ options. AreOptions (entries_of matches.now) options) }
+    ensures none { result ≡ None → HasNoTarget (entries_of matches.now) }
+{
+    let target = target_of(matches)?;
+    let aligned = matches.get_flag("align");
+    if aligned && !has_eols(target) {
+        return None;
+    }
+    Some(Options {
+        target,
+        order: order_of(matches),
+        k: matches.get_one::<u32>("k").unwrap_or(USUAL_K),
+        strip: matches.get_one::<u32>("strip"),
+        aligned,
+    })
+}
+
+/// The command of this name, as the words after it want it.
+fn command_of(alloc: Global, name: &str, matches: &ArgMatches) -> Result<Command, WordsFault>
+    requires { HasEntries name.now (entries_of matches.now) }
+    ensures command { IfOk result (λ command.
+        IsCommand name.now (entries_of matches.now) command) }
+    ensures ranges { IfOk result (λ command. HasRanges command) }
+    ensures fault { IfErr result (λ fault.
+        IsCommandFault name.now (entries_of matches.now) fault) }
+{
+    match name {
+        "list" => Ok(Command::List(pages_of(matches)?)),
+        "rows" => Ok(Command::Rows(rows_of(alloc, matches)?)),
+        "convert" => match options_of(matches) {
+            Some(options) => Ok(Command::Convert(options)),
+            None => Err(WordsFault::Usage),
+        },
+        "check" => Ok(Command::Check),
         _ => Err(WordsFault::Usage),
     }
 }
 
-/// Whether EOLs are to be aligned, which is refused for a target that has none.
-fn aligned_of(matches: &ArgMatches, target: Target) -> Result<bool, WordsFault>
-    ensures not_pbm { IfOk result (λ aligned. aligned ≡ true → target ≢ Pbm) }
-    ensures not_mmr { IfOk result (λ aligned. aligned ≡ true → target ≢ Mmr) }
+/// The job that the words name, the program's own name first.
+///
+/// # Errors
+///
+/// `Usage` where the words are not those of a command, a request for help or the version included,
+/// or `-o` names no target, or `--align` meets one that has no EOLs. `NotACursor` where the words
+/// are those of a command, but for the text of `--cursor`. `Memory` where a growth was refused.
+pub fn parse_words(alloc: Global, words: &[&str]) -> Result<Job, WordsFault>
+    ensures job { IfOk result (λ job. IsJob (texts words.now) job) }
+    ensures ranges { IfOk result (λ job. HasRanges job.command) }
+    ensures fault { IfErr result (λ fault. IsFault (texts words.now) fault) }
 {
-    match (matches.get_flag("align"), target) {
-        (true, Target::Pbm | Target::Mmr) => Err(WordsFault::Usage),
-        (aligned, _) => Ok(aligned),
-    }
-}
-
-/// A number of 1 to 1,000,000 among the words, where there is one.
-fn number_of(matches: &ArgMatches, name: &str) -> Result<Option<u32>, WordsFault>
-    ensures { IfOk result (λ number. IfSome number (λ n. (0 < n) × (n ≤ 1000000))) }
-{
-    match matches.get_one::<u32>(name) {
-        Some(number) if number == 0 || number > MOST_ROWS => Err(WordsFault::Usage),
-        number => Ok(number),
-    }
-}
-
-/// How the words behind `convert` want the pages.
-fn options_of(matches: &ArgMatches) -> Result<Options, WordsFault> {
-    let order = match number_of(matches, "order")? {
-        Some(2) => FillOrder::LsbFirst,
-        _ => FillOrder::MsbFirst,
-    };
-    let target = target_of(matches)?;
-    Ok(Options {
-        target,
-        order,
-        k: number_of(matches, "k")?.unwrap_or(USUAL_K),
-        strip: number_of(matches, "strip")?,
-        aligned: aligned_of(matches, target)?,
-    })
-}
-
-/// The job that the words name, the program's own name first. Each refusal of words but for a text
-/// that is no cursor's, a request for help or the version included, is `Usage`.
-pub fn parse_words(alloc: Global, words: &[&str]) -> Result<Job, WordsFault> {
     let matches = command_line(alloc)?.try_get_matches_from(words)?;
     let Some((name, of_command)) = matches.subcommand() else {
         return Err(WordsFault::Usage);
     };
-    let command = match name {
-        "list" => Command::List(pages_of(of_command)?),
-        "rows" => Command::Rows(rows_of(alloc, of_command)?),
-        "convert" => Command::Convert(options_of(of_command)?),
-        "check" => Command::Check,
-        _ => return Err(WordsFault::Usage),
-    };
     Ok(Job {
-        command,
+        command: command_of(alloc, name, of_command)?,
         file: file_of(alloc, of_command)?,
     })
 }

@@ -1,0 +1,156 @@
+-- What the entries of a number and of a flag are, where they passed.
+use Rattle.std.proofs.Common.{◌≡◌, ◌∙◌, ◌<◌, ◌≤◌, ◌^◌, ◌==◌, ◌||◌, ap, arith, cond, drop, codes, inl, inr, sym, refl, Bool, true, false, ℕ, List, [], ◌∷◌, Option, Some, None, Result, Ok, Err}
+use Rattle.std.specs.Prelude.{option_map, pos, unwrap_or}
+use Rattle.std.specs.Option.{option_map_or}
+use Rattle.std.specs.Str.{bytes_eq}
+use Rattle.std.specs.Str.Parse.{ExplainsUnsignedError, HasUnsignedDigitsIfOk, IsNumeral, ParsesUnsigned, digits_value, starts_with_minus, without_leading_plus}
+use Rattle.std.specs.declared.num.ParseIntError.{ParseIntError}
+use Rattle.std.proofs.lemmas.Int.{ints}
+use Rattle.std.proofs.lemmas.Slice.Eq.{bytes_eq-Decides}
+use Rattle.clap.specs.Kinds.{value_kinds}
+use Rattle.clap.specs.Lexer.{without_minus}
+use Rattle.clap.specs.Matches.{ReadsOne, one_text}
+use Rattle.clap.specs.Values.{Accepts, IsSignedIn, refused_kind}
+use Rattle.clap.specs.ValueTests.{accepts}
+use Rattle.clap.specs.Walk.{Row, Text, first_of, one_of, rows_of}
+use Rattle.clap.specs.declared.builder.value_parser.ValueParser.{ValueParser}
+use Rattle.clap.specs.declared.builder.value_parser.ValueParser.TheVariants as parser
+use Rattle.clap.specs.declared.parser.matches.Found.{Found}
+use Rattle.clap.proofs.ValueTestLemmas.{accepts-Accepts}
+use Rattle.clap.proofs.WalkLemmas.{one_text-rows}
+use Rattle.fax_tool.specs.code.Entries.{HasFlag, HasNumber, IsNumberText}
+use Rattle.fax_tool.specs.Job.{is_set, number_in}
+use Rattle.fax_tool.proofs.EntryLemmas.{ArePassed, entry_passed, entry_read}
+
+-- a value without a fault passes its parser
+passes : (p : ValueParser) (t : Text) → value_kinds false p t ≡ [] → Accepts false p t
+passes p t none = go (accepts false p t) refl none
+  where
+    go : (b : Bool) → accepts false p t ≡ b → cond b [] (refused_kind p ∷ []) ≡ [] → Accepts false p t
+    go true is none = accepts-Accepts false p t is
+    go false is none = cc
+
+without_minus-cond : (t : Text) → without_minus t ≡ cond (starts_with_minus t) (drop 1 t) t
+without_minus-cond [] = refl
+without_minus-cond (x ∷ xs) = go (x == 45)
+  where
+    go : (b : Bool) → unwrap_or (cond b (Some xs) None) (x ∷ xs) ≡ cond b xs (x ∷ xs)
+    go true = refl
+    go false = refl
+
+-- a text that reads as 1 or more has no minus
+number_text : (most : ℕ) (t : Text) → IsSignedIn (pos 1) (pos most) t → (without_minus t ≡ t) × IsNumberText most t
+number_text most t passed = go (starts_with_minus t) refl
+  where
+    go : (b : Bool) → starts_with_minus t ≡ b → (without_minus t ≡ t) × IsNumberText most t
+    go true minus =
+        let low = rw minus at passed.2 in
+        absurd (omega (arith, ints))
+    go false minus =
+        let low = rw minus at passed.2 in
+        let high = rw minus at passed.3 in
+        let digits : IsNumeral 10 (without_leading_plus t) = rw minus at passed.0 in
+        let same : without_minus t ≡ t = without_minus-cond t ∙ ap (λ (b : Bool). cond b (drop 1 t) t) minus in
+        (same, record { digits = digits; some = omega (arith, ints); within = omega (arith, ints) })
+
+as_it_is : (f : Text → Text) (o : Option Text) → ((t : Text) → o ≡ Some t → f t ≡ t) → option_map f o ≡ o
+as_it_is f None same = refl
+as_it_is f (Some t) same = ap Some (same t refl)
+
+pub has_number : (name : Text) (most : ℕ) (entries : List Row) → ArePassed name (parser.Signed (pos 1) (pos most)) entries
+    → HasNumber name most entries
+has_number name most entries all =
+    let p = parser.Signed (pos 1) (pos most) in
+    let text = λ (t : Text) (is : first_of name entries ≡ Some t). number_text most t (passes p t (entry_passed name p entries t all is)) in
+    record {
+      read = entry_read name p entries all ∙ as_it_is without_minus (first_of name entries) (λ t is. (text t is).0);
+      is = λ t is. (text t is).1;
+    }
+
+pub has_flag : (name : Text) (entries : List Row) → ArePassed name parser.Bool entries → HasFlag name entries
+has_flag name entries all = go (first_of name entries) refl
+  where
+    read : one_of name entries ≡ first_of name entries
+    read = entry_read name parser.Bool entries all ∙ as_it_is (λ t. t) (first_of name entries) (λ t is. refl)
+
+    word : (t : Text) → first_of name entries ≡ Some t → (a b : Bool) → bytes_eq t (codes "true") ≡ a → bytes_eq t (codes "false") ≡ b
+        → (a || b) ≡ true → HasFlag name entries
+    word t is true b first second some =
+        let at : first_of name entries ≡ Some (codes "true") = is ∙ ap Some ((bytes_eq-Decides t (codes "true")).0 first) in
+        (read, inr (inl at))
+    word t is false true first second some =
+        let at : first_of name entries ≡ Some (codes "false") = is ∙ ap Some ((bytes_eq-Decides t (codes "false")).0 second) in
+        (read, inr (inr at))
+    word t is false false first second some = cc
+
+    go : (o : Option Text) → first_of name entries ≡ o → HasFlag name entries
+    go None is = (read, inl is)
+    go (Some t) is =
+        word t is (bytes_eq t (codes "true")) (bytes_eq t (codes "false")) refl refl
+        (passes parser.Bool t (entry_passed name parser.Bool entries t all is))
+
+-- what a typed getter reads of a number
+pub number_read : (E : Type 0) (G : Text → Result ℕ E → Type 0) (f : Found) (name : Text) (most : ℕ) (r : Option ℕ)
+    → ((u : Text) (x : Result ℕ E) → G u x → ParsesUnsigned 32 10 u x) → HasNumber name most (rows_of f) → most < 2 ^ 32
+    → (one_text f name ≡ None → r ≡ None) → ((t : Text) → one_text f name ≡ Some t → ReadsOne G t r)
+    → r ≡ number_in name (rows_of f)
+number_read E G f name most r only has fits none value = go (first_of name (rows_of f)) refl
+  where
+    read : one_text f name ≡ first_of name (rows_of f)
+    read = one_text-rows f name ∙ has.read
+
+    some : (t : Text) → IsNumberText most t → (o : Option ℕ) → ReadsOne G t o → o ≡ Some (digits_value 10 (without_leading_plus t))
+    some t is (Some n) h = ap Some (only t (Ok n) h).1
+    some t is None h = absurd (only t (Err h.0) h.1 (is.digits, (let within = is.within in omega arith)))
+
+    go : (o : Option Text) → first_of name (rows_of f) ≡ o → r ≡ number_in name (rows_of f)
+    go None is = none (read ∙ is) ∙ sym (ap (option_map (λ t. digits_value 10 (without_leading_plus t))) is)
+    go (Some t) is = some t (has.is t is) r (value t (read ∙ is)) ∙ sym (ap (option_map (λ t. digits_value 10 (without_leading_plus t))) is)
+
+pub u32_read : (f : Found) (name : Text) (most : ℕ) (r : Option ℕ) → HasNumber name most (rows_of f) → most < 2 ^ 32
+    → (one_text f name ≡ None → r ≡ None)
+    → ((t : Text) → one_text f name ≡ Some t
+    → ReadsOne (λ bs r. ParsesUnsigned 32 10 bs r × ExplainsUnsignedError 10 bs r × HasUnsignedDigitsIfOk bs r) t r)
+    → r ≡ number_in name (rows_of f)
+u32_read f name most r has fits none value =
+    number_read ParseIntError (λ bs r. ParsesUnsigned 32 10 bs r × ExplainsUnsignedError 10 bs r × HasUnsignedDigitsIfOk bs r)
+    f name most r (λ u x g. g.0) has fits none value
+
+-- the number of such an entry is in its range
+pub in_range : (name : Text) (most : ℕ) (entries : List Row) → HasNumber name most entries → (n : ℕ) → number_in name entries ≡ Some n
+    → (0 < n) × (n ≤ most)
+in_range name most entries has n is = go (first_of name entries) refl is
+  where
+    go : (o : Option Text) → first_of name entries ≡ o → option_map (λ t. digits_value 10 (without_leading_plus t)) o ≡ Some n → (0 < n) × (n ≤ most)
+    go None given is = cc
+    go (Some t) given is =
+        let text = has.is t given in
+        let value : digits_value 10 (without_leading_plus t) ≡ n = cc in
+        let some = text.some in
+        let within = text.within in
+        (omega arith, omega arith)
+
+-- and so is the usual one
+pub in_range_or : (name : Text) (most usual : ℕ) (entries : List Row) → HasNumber name most entries → 0 < usual → usual ≤ most
+    → (0 < unwrap_or (number_in name entries) usual) × (unwrap_or (number_in name entries) usual ≤ most)
+in_range_or name most usual entries has some within = go (number_in name entries) (in_range name most entries has)
+  where
+    go : (o : Option ℕ) → ((n : ℕ) → o ≡ Some n → (0 < n) × (n ≤ most)) → (0 < unwrap_or o usual) × (unwrap_or o usual ≤ most)
+    go None each = (some, within)
+    go (Some n) each = each n refl
+
+-- what a getter reads of a flag
+pub flag_read : (f : Found) (name : Text) (r : Bool) → HasFlag name (rows_of f)
+    → (one_text f name ≡ None → r ≡ false) → (one_text f name ≡ Some (codes "true") → r ≡ true)
+    → (one_text f name ≡ Some (codes "false") → r ≡ false) → r ≡ is_set name (rows_of f)
+flag_read f name r has none set unset =
+    let read = one_text-rows f name ∙ has.0 in
+    let as_set = λ (o : Option Text) (at : first_of name (rows_of f) ≡ o).
+    sym (ap (λ o. option_map_or (λ text. bytes_eq text (codes "true")) o false) at) in
+    elim has.1 [
+      | inl at ↦ none (read ∙ at) ∙ as_set None at
+      | inr more ↦ elim more [
+        | inl at ↦ set (read ∙ at) ∙ as_set (Some (codes "true")) at
+        | inr at ↦ unset (read ∙ at) ∙ as_set (Some (codes "false")) at
+      ]
+    ]

@@ -1,0 +1,5 @@
+use Rattle.fax_tool.proofs.AnswerLemmas.{words_have_one_answer}
+use Rattle.fax_tool.proofs.laws.words_have_one_answer.Goals as goal
+
+pub returns : goal.returns
+returns c = words_have_one_answer

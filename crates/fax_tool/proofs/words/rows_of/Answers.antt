@@ -1,0 +1,47 @@
+use Rattle.std.proofs.Common.{◌∙◌, ◌⊎◌, ap, codes, inl, inr, lit<, subst, sym, Option}
+use Rattle.clap.specs.Matches.{found_of}
+use Rattle.clap.specs.Walk.{Text, first_of}
+use Rattle.fax_walk.specs.Cursor.{cursor_text}
+use Rattle.fax_walk.specs.LongCursor.{LongPlace}
+use Rattle.fax_walk.specs.declared.cursor.Cursor.{Cursor}
+use Rattle.fax_tool.specs.code.Entries.{entries_of}
+use Rattle.fax_tool.specs.Job.{BeginsAt, BeginsInside}
+use Rattle.fax_tool.specs.declared.words.Part.{Part}
+use Rattle.fax_tool.proofs.EntryReadLemmas.{flag_read, u32_read}
+use Rattle.fax_tool.proofs.GetterLemmas.{long_err, none_given, text_given}
+use Rattle.fax_tool.proofs.words.rows_of.Goals as goal
+use Rattle.fax_tool.proofs.words.rows_of.Goals.{in-Some+in-Ok, in-Some+in-Err+in_ok-from-in-Err, in-None}
+
+pub returns-in_err-from-in-Err-clause-err : goal.returns-in_err-from-in-Err-clause-err
+returns-in_err-from-in-Err-clause-err c =
+    let given = text_given (found_of c.args.matches.now) (codes "cursor") _ c.in-Some.text c.get_str.ensures c.in-Some.is in
+    long_err c.from_residual.result c.in_err-from-in-Err.field-0.0 c.from_residual.ensures.1
+    (λ is. (c.in-Some.text.now, given, c.in-Err.ensures.err, c.in_err-from-in-Err.ensures.err is))
+
+pub returns-clause-ok : goal.returns-clause-ok
+returns-clause-ok c =
+    let part = λ (q : Cursor × Option LongPlace).
+    let it : Part = record { cursor = q.0; max = c.get_one.result; long = c.get_flag.result; from = q.1 } in it in
+    let entries = entries_of c.args.matches.now in
+    let begins : BeginsAt (first_of (codes "cursor") entries) (part c.match-get_str.from)
+    ⊎ BeginsInside (first_of (codes "cursor") entries) (part c.match-get_str.from) = elim c.match-get_str.branch [
+      | in-Some+in-Ok w ↦
+          let given = text_given (found_of c.args.matches.now) (codes "cursor") _ w.in-Some.text c.get_str.ensures w.in-Some.is in
+          inl (subst (λ (o : Option Text). BeginsAt o (part c.match-get_str.from)) (sym given)
+          (w.in-Ok.ensures.ok ∙ ap (λ (q : Cursor × Option LongPlace). cursor_text q.0) (sym w.from-is), ap (λ (q : Cursor × Option LongPlace). q.1) w.from-is))
+      | in-Some+in-Err+in_ok-from-in-Err w ↦
+          let given = text_given (found_of c.args.matches.now) (codes "cursor") _ w.in-Some.text c.get_str.ensures w.in-Some.is in
+          inr (subst (λ (o : Option Text). BeginsInside o (part c.match-get_str.from)) (sym given)
+          (w.in_ok-from-in-Err.from, w.in_ok-from-in-Err.ensures.ok, ap (λ (q : Cursor × Option LongPlace). q.0) w.from-is ∙ ap (λ (place : LongPlace). place.at) w.from.view_is, ap (λ (q : Cursor × Option LongPlace). q.1) w.from-is))
+      | in-None w ↦
+          let given = none_given (found_of c.args.matches.now) (codes "cursor") _ c.get_str.ensures w.in-None.is in
+          inl (subst (λ (o : Option Text). BeginsAt o (part c.match-get_str.from)) (sym given)
+          (ap (λ (q : Cursor × Option LongPlace). q.0) w.from-is, ap (λ (q : Cursor × Option LongPlace). q.1) w.from-is))
+    ] in
+    record {
+      begins = begins;
+      max = u32_read (found_of c.args.matches.now) (codes "max") 4294967295 c.get_one.result c.requires.max (lit< tt)
+          c.get_one.ensures.none c.get_one.ensures.value;
+      long = flag_read (found_of c.args.matches.now) (codes "long") c.get_flag.result c.requires.long
+          c.get_flag.ensures.none c.get_flag.ensures.value c.get_flag.ensures.other;
+    }

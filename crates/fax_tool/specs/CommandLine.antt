@@ -1,0 +1,62 @@
+-- The command line of the program, as a parse reads it (this project's profile).
+use Rattle.std.specs.Prelude.{ℕ, pos, true, Some, codes}
+use Rattle.clap.specs.Walk.{Rule, Text}
+use Rattle.clap.specs.Simple.{App, new_app, new_rule, on_top, with_rule, with_subcommand}
+use Rattle.clap.specs.declared.builder.action.ArgAction.TheVariants.{SetTrue}
+use Rattle.clap.specs.declared.builder.value_parser.ValueParser.{ValueParser}
+use Rattle.clap.specs.declared.builder.value_parser.ValueParser.TheVariants.{Signed}
+
+-- a word that is no option: the file (this project's profile)
+abbrev pub file_rule : Rule
+file_rule = new_rule (codes "FILE")
+
+-- `--name VALUE` (this project's profile)
+abbrev pub text_rule : Text → Rule
+text_rule name = record (new_rule name) { long = Some name }
+
+-- `--name VALUE`, of a value that the parser takes (this project's profile)
+abbrev pub value_rule : Text → ValueParser → Rule
+value_rule name parser = record (new_rule name) { long = Some name; parser = Some parser }
+
+-- `--name N`, of 1 up to the most (this project's profile)
+abbrev pub number_rule : Text → ℕ → Rule
+number_rule name most = value_rule name (Signed (pos 1) (pos most))
+
+-- `--name` (this project's profile)
+abbrev pub flag_rule : Text → Rule
+flag_rule name = record (new_rule name) { long = Some name; action = Some SetTrue }
+
+-- `-o TARGET` (this project's profile)
+abbrev pub target_rule : Rule
+target_rule = record (new_rule (codes "o")) { short = Some 111; required = true }
+
+-- a command that has no help (this project's profile)
+abbrev pub bare_app : Text → App
+bare_app name = on_top (λ s. record s { disable_help_flag = true }) (new_app name)
+
+-- a command that prints a part of a file (this project's profile)
+abbrev pub printing_app : Text → App
+printing_app name = with_rule (with_rule (with_rule (bare_app name)
+    (text_rule (codes "cursor"))) (number_rule (codes "max") 4294967295)) file_rule
+
+abbrev pub rows_app : App
+rows_app = with_rule (printing_app (codes "rows")) (flag_rule (codes "long"))
+
+abbrev pub convert_app : App
+convert_app = with_rule (with_rule (with_rule (with_rule (with_rule (with_rule
+    (bare_app (codes "convert")) target_rule) (number_rule (codes "order") 2))
+    (number_rule (codes "k") 1000000)) (number_rule (codes "strip") 1000000))
+    (flag_rule (codes "align"))) file_rule
+
+abbrev pub check_app : App
+check_app = with_rule (bare_app (codes "check")) file_rule
+
+-- the program: one of four commands (this project's profile)
+abbrev pub faxpages_app : App
+faxpages_app = with_subcommand (with_subcommand (with_subcommand (with_subcommand
+    (on_top (λ s. record s {
+      disable_help_flag = true;
+      disable_help_subcommand = true;
+      subcommand_required = true;
+    }) (new_app (codes "faxpages")))
+    (printing_app (codes "list")).top) rows_app.top) convert_app.top) check_app.top

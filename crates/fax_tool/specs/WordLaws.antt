@@ -1,0 +1,59 @@
+-- What words and the bytes of the file that they name make of the streams (this project's profile).
+use Rattle.std.specs.Prelude.{◌≡◌, ◌⊎◌, ℕ, List, Option, IfSome}
+use Rattle.std.specs.Io.KnownBytes.{Appends}
+use Rattle.clap.specs.Walk.{Text}
+use Rattle.fax_tool.specs.Job.{IsFault, IsJob}
+use Rattle.fax_tool.specs.Run.{HasFailed, IsRefused, WritesText}
+use Rattle.fax_tool.specs.Streams.{Counts}
+use Rattle.fax_tool.specs.Words.{words_status, words_text}
+use Rattle.fax_tool.specs.declared.words.Job.{Job}
+use Rattle.fax_tool.specs.declared.words.Command.{Command}
+use Rattle.fax_tool.specs.declared.words.Command.TheVariants.{Check, Convert, List as Forms, Rows}
+use Rattle.fax_tool.specs.declared.words.WordsFault.{WordsFault}
+use Rattle.fax_tool.specs.declared.words.WordsFault.TheVariants.{NotACursor, Usage}
+use Rattle.fax_walk.specs.Cursor.{IsCursor}
+use Rattle.fax_walk.specs.LongCursor.{IsLongCursor}
+
+-- the words give a job, and what its command writes of the file was written
+-- (this project's profile)
+abbrev pub WritesOfWords : List Text → Option (List ℕ) → Option (List ℕ) → Option (List ℕ)
+    → Option (List ℕ) → Option (List ℕ) → ℕ → Type 0
+WritesOfWords words left output new_output error new_error status = (job : Job) × IsJob words job
+    × WritesText job.command left output new_output error new_error status
+
+-- the words give no job: nothing was written but why, on the error stream, unless that failed
+-- (this project's profile)
+pub record SaysFault (words : List Text) (counts : Counts)
+    (output new_output error new_error : Option (List ℕ)) (status : ℕ) : Type 0 where
+  pub fault : WordsFault
+  pub is : IsFault words fault
+  pub status_is : status ≡ words_status fault
+  pub output_is : new_output ≡ output
+  pub said : HasFailed counts ⊎ Appends error new_error (words_text fault)
+
+-- the words give a job, and its run was refused (this project's profile)
+abbrev pub IsRefusedOfWords : List Text → Option (List ℕ) → Counts → ℕ → Counts → Counts
+    → Option (List ℕ) → Option (List ℕ) → Option (List ℕ) → Option (List ℕ) → Type 0
+IsRefusedOfWords words left input taken output_counts error_counts output new_output error
+    new_error = (job : Job) × IsJob words job
+    × IsRefused job.command left input taken output_counts error_counts output new_output error
+    new_error
+
+-- the numbers of a command's cursors have 32 bits, as those of each job have
+-- (this project's profile)
+abbrev pub HasCursors : Command → Type 0
+HasCursors (Forms part) = IsCursor part.cursor
+HasCursors (Rows part) = IsCursor part.cursor × IfSome part.from IsLongCursor
+HasCursors (Convert options) = Unit {0}
+HasCursors Check = Unit {0}
+
+-- the words give a job, or are those of no command, or name no cursor: no two of these
+-- (this project's profile)
+pub record HaveOneAnswer (words : List Text) : Type 0 where
+  pub job_or_usage : (job : Job) → IsJob words job → ¬ IsFault words Usage
+  pub job_or_no_cursor : (job : Job) → HasCursors job.command → IsJob words job
+      → ¬ IsFault words NotACursor
+  pub usage_or_no_cursor : IsFault words Usage → ¬ IsFault words NotACursor
+
+abbrev pub WordsHaveOneAnswer : Type 0
+WordsHaveOneAnswer = (words : List Text) → HaveOneAnswer words

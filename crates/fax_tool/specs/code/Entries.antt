@@ -1,0 +1,52 @@
+-- What a reader of the entries of a command line may rely on: it speaks of this code alone.
+use Rattle.std.specs.Prelude.{◌≡◌, ◌⊎◌, ◌||◌, ◌<◌, ◌≤◌, ℕ, true, false, List, Some, None, codes}
+use Rattle.std.specs.Option.{ForSome}
+use Rattle.std.specs.Str.{bytes_eq}
+use Rattle.std.specs.Str.Parse.{IsNumeral, digits_value, without_leading_plus}
+use Rattle.clap.specs.Matches.{found_of}
+use Rattle.clap.specs.Simple.{App, app_of}
+use Rattle.clap.specs.Walk.{Row, Text, first_of, one_of, rows_of}
+use Rattle.clap.specs.declared.builder.command.Command.{Command}
+use Rattle.clap.specs.declared.builder.command.Command.TheViews.{out-Command}
+use Rattle.clap.specs.declared.parser.matches.ArgMatches.{ArgMatches}
+
+-- a parse reads the command as this one
+abbrev pub IsApp : Command → App → Type 0
+IsApp c a = (app_of c ≡ a) × ((out-Command c).has_globals ≡ false)
+
+-- the entries of some matches
+abbrev pub entries_of : ArgMatches → List Row
+entries_of m = rows_of (found_of m)
+
+-- the text is a number from 1 up to the most, where a plus may stand first
+pub record IsNumberText (most : ℕ) (text : Text) : Type 0 where
+  pub digits : IsNumeral 10 (without_leading_plus text)
+  pub some : 0 < digits_value 10 (without_leading_plus text)
+  pub within : digits_value 10 (without_leading_plus text) ≤ most
+
+-- the entry of a name, where there is one, is such a number, and is read as it is written
+pub record HasNumber (name : Text) (most : ℕ) (entries : List Row) : Type 0 where
+  pub read : one_of name entries ≡ first_of name entries
+  pub is : ForSome (first_of name entries) (IsNumberText most)
+
+-- the entry of a flag, where there is one, is one of two words, and is read as it is written
+abbrev pub HasFlag : Text → List Row → Type 0
+HasFlag name entries = (one_of name entries ≡ first_of name entries)
+    × ((first_of name entries ≡ None) ⊎ (first_of name entries ≡ Some (codes "true"))
+    ⊎ (first_of name entries ≡ Some (codes "false")))
+
+-- the numbers of `convert` are in their ranges
+pub record HasOptions (entries : List Row) : Type 0 where
+  pub order : HasNumber (codes "order") 2 entries
+  pub k : HasNumber (codes "k") 1000000 entries
+  pub strip : HasNumber (codes "strip") 1000000 entries
+  pub align : HasFlag (codes "align") entries
+
+-- what the entries after a command's name have, and which names there are
+pub record HasEntries (name : Text) (entries : List Row) : Type 0 where
+  pub list : bytes_eq name (codes "list") ≡ true → HasNumber (codes "max") 4294967295 entries
+  pub rows : bytes_eq name (codes "rows") ≡ true
+      → HasNumber (codes "max") 4294967295 entries × HasFlag (codes "long") entries
+  pub convert : bytes_eq name (codes "convert") ≡ true → HasOptions entries
+  pub known : (bytes_eq name (codes "list") || (bytes_eq name (codes "rows")
+      || (bytes_eq name (codes "convert") || bytes_eq name (codes "check")))) ≡ true
