@@ -1,5 +1,5 @@
 -- Steps of a walk.
-use Rattle.std.proofs.Common.{◌≡◌, ℕ, ◌+◌, ◌-◌, ◌^◌, ◌<◌, List, [], ◌∷◌, ◌++◌, Option, None, Result, Ok, Err, refl, sym, ap, ◌∙◌, subst, arith, append_assoc}
+use Rattle.std.proofs.Common.{◌≡◌, ℕ, ◌+◌, ◌-◌, ◌^◌, ◌<◌, List, [], ◌∷◌, ◌++◌, Option, None, Result, Ok, Err, refl, sym, ap, ◌∙◌, subst, arith, append_assoc, inr}
 use Rattle.std.proofs.lemmas.List.{length_push}
 use Rattle.std.specs.Prelude.{IfOk, IfErr}
 use Rattle.fax_bits.specs.declared.Colour.{Colour}
@@ -10,6 +10,7 @@ use Rattle.fax_walk.specs.declared.walk.Place.{Place}
 use Rattle.fax_walk.specs.declared.walk.Stage.{Stage}
 use Rattle.fax_walk.specs.declared.walk.Stage.TheVariants.{Before, Open, Ended}
 use Rattle.fax_walk.specs.Items.{Item}
+use Rattle.fax_walk.specs.Tail.{behind_item}
 use Rattle.fax_walk.specs.LongTail.{IsTailFrom, begins_at}
 use Rattle.fax_walk.specs.declared.begun.Begun.{Begun}
 use Rattle.fax_walk.specs.declared.begun.Begun.TheVariants.{At, Inside}
@@ -75,27 +76,28 @@ ends_next walk old end read fault opened result stage_is same is fault_is refuse
     ended walk end read (rw stage_is none)
 
 -- a walk that entered a page has come as far
-pub come_entered : (walk : WalkState) (stage : Stage) → HasCome walk.file walk.begun walk.given walk.stage → IsEntered walk (record walk { stage = stage })
-    → HasCome walk.file walk.begun walk.given stage
+pub come_entered : (walk : WalkState) (stage : Stage) → HasCome walk.file walk.begun walk.given walk.cursor walk.stage
+    → IsEntered walk (record walk { stage = stage }) → HasCome walk.file walk.begun walk.given walk.cursor stage
 come_entered walk stage come enters items end due = come items end (enters.due items end due)
 
 -- and one that handed out an item, by one more
-pub come_on : (file : List ℕ) (begun : Begun) (given : ℕ) (old new : Stage) (item : Item)
+pub come_on : (file : List ℕ) (begun : Begun) (given : ℕ) (cursor next : Cursor) (old new : Stage) (item : Item) → next ≡ behind_item item
     → ((items : List Item) (end : End) → IsDueAt file begun new items end → IsDueAt file begun old (item ∷ items) end)
-    → HasCome file begun given old → HasCome file begun (given + 1) new
-come_on file begun given old new item due come items end left =
+    → HasCome file begun given cursor old → HasCome file begun (given + 1) next new
+come_on file begun given cursor next old new item next_is due come items end left =
     let all = come (item ∷ items) end (due items end left) in (
       all.0 ++ item ∷ [],
       length_push all.0 item ∙ ap (λ (n : ℕ). n + 1) all.1,
-      subst (λ (l : List Item). IsTailFrom file begun l end) (sym (append_assoc all.0 (item ∷ []) items)) all.2,
+      inr (all.0, item, refl, next_is),
+      subst (λ (l : List Item). IsTailFrom file begun l end) (sym (append_assoc all.0 (item ∷ []) items)) all.3,
     )
 
 -- and one whose rows ended
-pub come_ended : (file : List ℕ) (begun : Begun) (given : ℕ) (old : Stage) (end : End) (read : ℕ) (last : Option PageState)
-    → IsDueAt file begun old [] end → HasCome file begun given old → HasCome file begun given (Ended end read last)
-come_ended file begun given old end read last due come items other left =
+pub come_ended : (file : List ℕ) (begun : Begun) (given : ℕ) (cursor : Cursor) (old : Stage) (end : End) (read : ℕ) (last : Option PageState)
+    → IsDueAt file begun old [] end → HasCome file begun given cursor old → HasCome file begun given cursor (Ended end read last)
+come_ended file begun given cursor old end read last due come items other left =
     let all = come [] end due in
-    (all.0, all.1, rw (left.0, left.1) all.2)
+    (all.0, all.1, all.2, rw (left.0, left.1) all.3)
 
 -- the next row that is handed out is read
 module _ (walk : WalkState) (old new : PageState) (cursor : Cursor) (stage_is : walk.stage ≡ Open old) (from : IsOpenFrom walk.cursor old)

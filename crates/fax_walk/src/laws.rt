@@ -179,8 +179,8 @@ pub fn beginnings_have_one_tail()
 }
 
 /// Each file and each cursor has forms and an end, and one list of them only. From a page's first
-/// row it is the forms from that page on, and what follows a form is the tail from the cursor after
-/// it. Page number n of a file has the number n.
+/// row it is the forms from that page on. What follows a form is the tail from the cursor after it.
+/// Page number n of a file has the number n.
 pub fn form_tails_are_one()
     ensures all { PageLaws.FilesHaveOneForms }
     ensures one { PageLaws.CursorsHaveOneFormTail }
@@ -231,8 +231,8 @@ pub fn rows_are_as_before()
     tails_go_on();
 }
 
-/// What a walk still hands out is one list with one end. Each item that it hands out is the first of
-/// it, and what is left is the tail from the walk's cursor, and from its place inside a strip.
+/// What a walk still hands out is one list with one end. Each item that it hands out is the first
+/// of it, and what is left is the tail from the walk's cursor, and from its place inside a strip.
 pub fn walks_go_on()
     ensures one { PageLaws.LeftIsOne }
     ensures items { PageLaws.LeftGoesOn }

@@ -144,7 +144,8 @@ impl<'a> Walk<'a> {
     ghost use Rattle.fax_walk.specs.code.Due.{walk_from, walk_start, walk_inside};
     ghost use Rattle.fax_walk.specs.code.Due.{rows_read_at, IsLongNow};
     ghost use Rattle.fax_walk.specs.code.Next.{EndsAs, EntersAs, HasReadRows, IsNext, IsStep, IsAtRow};
-    ghost use Rattle.fax_walk.specs.code.Next.{IsAdvance, IsOnPage, shown_at};
+    ghost use Rattle.fax_walk.specs.code.Next.{IsAdvance, IsOnPage, seen, shown_at};
+    ghost use Rattle.fax_walk.specs.Left.{IsCursorOf};
 
     /// A walk over all rows of a file, from any bytes. Nothing is read yet.
     pub fn start(alloc: Global, file: &'a [u8]) -> Self
@@ -184,10 +185,14 @@ impl<'a> Walk<'a> {
         }
     }
 
-    /// The place behind the last row that was handed out, or the one that the walk began with.
+    /// The cursor after the last row that was handed out, or the one that the walk began with.
     pub fn cursor(&self) -> Cursor
-        ensures { result ≡ self.now.cursor }
+        ensures place { result ≡ self.now.cursor }
+        ensures number { IsCursorOf (seen self.now) result }
     {
+        crate::laws::rows_are_as_before();
+        self.has_come();
+        self.has_items();
         self.cursor
     }
 
@@ -247,7 +252,8 @@ impl<'a> Walk<'a> {
     /// What was handed out, and then what is due, is all that the walk hands out. It computes
     /// nothing.
     fn has_come(&self)
-        ensures { Due.HasCome self.now.file self.now.begun self.now.given self.now.stage }
+        ensures { Due.HasCome self.now.file self.now.begun self.now.given self.now.cursor
+            self.now.stage }
     {
         let _ = &self.stage;
     }

@@ -87,11 +87,18 @@ IsDueAt file begun (Ended ended read last) items end = (items ≡ []) × (end �
 abbrev pub IsDue : WalkState → List Item → End → Type 0
 IsDue walk items end = IsDueAt walk.file walk.begun walk.stage items end
 
--- what a walk handed out that began so, and then what is due of it, is all that it hands out
-abbrev pub HasCome : List ℕ → Begun → ℕ → Stage → Type 0
-HasCome file begun given stage =
+-- a cursor stands after the last of these items, or where a walk began, if there are none
+abbrev pub StandsAfter : Begun → List Item → Cursor → Type 0
+StandsAfter begun items at =
+    ((items ≡ []) × (at ≡ begins_at begun))
+    ⊎ ((front : List Item) × (item : Item) × (items ≡ front ++ item ∷ []) × (at ≡ behind_item item))
+
+-- what a walk handed out that began so, and then what is due of it, is all that it hands out, and its cursor stands
+-- between them
+abbrev pub HasCome : List ℕ → Begun → ℕ → Cursor → Stage → Type 0
+HasCome file begun given cursor stage =
     (items : List Item) (end : End) → IsDueAt file begun stage items end
-    → (before : List Item) × (length before ≡ given) × IsTailFrom file begun (before ++ items) end
+    → (before : List Item) × (length before ≡ given) × StandsAfter begun before cursor × IsTailFrom file begun (before ++ items) end
 
 -- a walk that begins so, before its first item
 abbrev pub walk_begun : List ℕ → Begun → WalkState
@@ -304,7 +311,7 @@ IsLongNow walk place = (items : List Item) → HasHandedOut walk items → IsLon
 
 -- a walk is sound, and has handed out the first of its items
 abbrev pub IsSoundWalk : List ℕ → Begun → ℕ → Cursor → Stage → Type 0
-IsSoundWalk file begun given cursor stage = IsSound file begun given cursor stage × HasCome file begun given stage
+IsSoundWalk file begun given cursor stage = IsSound file begun given cursor stage × HasCome file begun given cursor stage
 
 -- no more places of rows than these are left behind a cursor
 abbrev pub places_left : WalkState → ℕ

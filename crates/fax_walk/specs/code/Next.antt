@@ -17,7 +17,8 @@ use Rattle.fax_walk.specs.Items.{Item}
 use Rattle.fax_walk.specs.Tail.{behind_item}
 use Rattle.fax_walk.specs.LongTail.{begins_at}
 use Rattle.fax_walk.specs.Before.{AreRowsBeforeBegun, EndsBefore}
-use Rattle.fax_walk.specs.InOrder.{IsNumber, EndsAfter}
+use Rattle.fax_walk.specs.InOrder.{EndsAfter}
+use Rattle.fax_walk.specs.Left.{WalkView, IsItemNumber}
 use Rattle.fax_walk.specs.Rows as Rows
 use Rattle.fax_walk.specs.Rows.{IsTailFrom}
 use Rattle.fax_walk.specs.PageLaws.{plain}
@@ -103,10 +104,20 @@ IsStep old new = StepsAs old new.stage new
 abbrev pub item_of : Place × Bor (List Colour) → Item
 item_of found = record { page = found.0.page; row = found.0.row; pels = found.1.now }
 
+-- how the rows ended, once that was told
+abbrev pub told_at : Stage → Option End
+told_at Before = None
+told_at (Open page) = None
+told_at (Ended end read last) = Some end
+
+-- a walk, without what speaks of this code
+abbrev pub seen : WalkState → WalkView
+seen walk = record { file = walk.file; begun = walk.begun; given = walk.given; told = told_at walk.stage }
+
 -- this item is number `given` of what the walk hands out
 abbrev pub IsGiven : WalkState → Item → Type 0
 IsGiven walk item =
-    (one : Rows.Item) × IsNumber (IsTailFrom walk.file walk.begun) walk.given one × (plain one ≡ item)
+    (one : Rows.Item) × IsItemNumber walk.file walk.begun walk.given one × (plain one ≡ item)
 
 -- the walk hands out `given` items in all, and its rows end so
 abbrev pub EndsGiven : WalkState → End → Type 0
