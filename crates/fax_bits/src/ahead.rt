@@ -9,14 +9,12 @@ ghost use Rattle.fax_bits.specs.Tables.{modes, run_table};
 ghost use Rattle.fax_bits.specs.code.BitsAhead.{bits_ahead};
 ghost use Rattle.fax_bits.specs.code.Source.{KeepsEnd, IsPlaced, source_of};
 
+use crate::codes::LONGEST_CODE;
 use crate::modes::{ModeCode, find_mode};
 use crate::runs::{RunCode, find_run_code, find_short_run};
 use crate::window::Window;
 use crate::{BitSource, Colour, FillOrder};
 use std::marker::Model;
-
-/// How many bits the longest code has.
-const LONGEST_CODE: u32 = 13;
 
 /// A place in the bits of some bytes, by value, as a `BitSource` is one. Contracts see the bits from
 /// there on and the number of bits before it.

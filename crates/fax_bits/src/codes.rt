@@ -10,7 +10,7 @@ use crate::BitSource;
 use thiserror::Error;
 
 /// How many bits the longest code has.
-const LONGEST_CODE: u32 = 13;
+pub(crate) const LONGEST_CODE: u32 = 13;
 
 /// A code of a table: the lowest `len` bits of `code`, the highest of them first.
 #[derive(Clone, Copy, Debug, PartialEq, Eq)]
@@ -70,7 +70,7 @@ pub trait CodeTable {
         ensures { MatchOption result (HasNoCode table (code_bits n window))
             (λ found. BeginsWith table (code_bits n window) found.0 found.1) }
     {
-        let place = Self::place(window << (13 - n));
+        let place = Self::place(window << (LONGEST_CODE - n));
         if place >= Self::COUNT {
             return None;
         }

@@ -1,6 +1,5 @@
 //! The codes of runs and modes, put into a sink (ITU-T T.4, sections 4.1.1 and 4.2.1.3.2).
 ghost use Rattle.std.specs.Prelude.{◌≡◌, ◌*◌, ◌<◌, ◌≤◌, ◌^◌, OnOk, OnErr};
-ghost use Rattle.fax_bits.specs.declared.modes.ModeCode.TheVariants.{Vertical};
 ghost use Rattle.fax_bits.specs.declared.runs.RunCode.TheVariants.{Terminating, MakeUp};
 ghost use Rattle.fax_bits.specs.Codes.{bits_at};
 ghost use Rattle.fax_bits.specs.Runs.{run_codes, run_code_bits, run_bits, mode_bits, IsWritten};
@@ -8,13 +7,9 @@ ghost use Rattle.fax_bits.specs.code.Sink.{Appends, AppendsCodes};
 ghost use Rattle.fax_bits.specs.Tables.{run_meaning};
 
 use crate::codes::CodeTable;
+use crate::modes::place_of_mode;
+use crate::runs::TERMINATING_CODES;
 use crate::{BitSink, BlackRuns, Colour, Memory, ModeCode, Modes, WhiteRuns};
-
-/// The codes of vertical modes, from a1 three pels left of b1 to three pels right of it, and their
-/// lengths in bits (T.4, table 4).
-const VERTICAL_CODES: [u8; 7] = [0b0000010, 0b000010, 0b010, 0b1, 0b011, 0b000011, 0b0000011];
-
-const VERTICAL_LENS: [u8; 7] = [7, 6, 3, 1, 3, 6, 7];
 
 /// Puts a run of `n` pels, below 65,536, as codes of its colour: 2560 as often as it fits, at most
 /// one other make-up code, a terminating code (T.4, section 4.1.1). After an `Err` some of these
@@ -68,7 +63,11 @@ fn put_make_up(sink: &mut BitSink, colour: Colour, steps: u32) -> Result<(), Mem
         (Appends sink.old (run_code_bits colour (MakeUp (64 * steps))) sink.new) }
     ensures err { OnErr result (sink.new ≡ sink.old) }
 {
-    put_run_code(sink, colour, 63 + steps as usize)
+    put_run_code(
+        sink,
+        colour,
+        usize::from(TERMINATING_CODES) - 1 + steps as usize,
+    )
 }
 
 /// Puts the terminating code of `pels` pels, 0 to 63 (T.4, table 2). After an `Err` the sink is as
@@ -104,28 +103,7 @@ pub fn put_mode(sink: &mut BitSink, mode: ModeCode) -> Result<(), Memory>
     ensures ok { OnOk result (Appends sink.old (mode_bits mode) sink.new) }
     ensures err { OnErr result (sink.new ≡ sink.old) }
 {
-    match mode {
-        ModeCode::Pass => put_code::<Modes>(sink, 0),
-        ModeCode::Horizontal => put_code::<Modes>(sink, 1),
-        ModeCode::Vertical(d) => put_vertical(sink, d),
-        // An extension is not written.
-        ModeCode::Extension => Ok(()),
-    }
-}
-
-/// Puts vertical mode with a1 `d` pels right of b1, -3 to 3 (T.4, section 4.2.1.3.2 and table 4). After
-/// an `Err` the sink is as it was.
-#[inline(always)]
-fn put_vertical(sink: &mut BitSink, d: i8) -> Result<(), Memory>
-    requires { IsWritten (Vertical d) }
-    ensures ok { OnOk result (Appends sink.old (mode_bits (Vertical d)) sink.new) }
-    ensures err { OnErr result (sink.new ≡ sink.old) }
-{
-    let place = (d + 3) as usize;
-    sink.put(
-        u32::from(VERTICAL_CODES[place]),
-        u32::from(VERTICAL_LENS[place]),
-    )
+    put_code::<Modes>(sink, place_of_mode(mode))
 }
 
 /// Puts the code at a place of the table. After an `Err` the sink is as it was.
