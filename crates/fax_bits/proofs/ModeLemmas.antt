@@ -1,7 +1,8 @@
 -- The codes of modes by their places in the mode table.
-use Rattle.std.proofs.Common.{◌≡◌, List, ◌++◌, Bool, true, false, lit<, ℕ, zero, suc, ◌+◌, ◌-◌, ◌/◌, ◌^◌, ◌<◌, ◌≤◌, ℤ, pos, negsuc, unsigned_abs, to_z, of_z, w8, refl, ap, sym, ◌∙◌, arith}
-use Rattle.std.specs.Prelude.{Some, slice_get, nat_abs}
-use Rattle.std.specs.Int.Signed.{lt_z}
+use Rattle.std.proofs.Common.{◌≡◌, List, ◌++◌, Bool, lit<, ℕ, zero, suc, ◌+◌, ◌-◌, ◌/◌, ◌^◌, ◌<◌, ◌≤◌, ℤ, pos, negsuc, unsigned_abs, get_or}
+use Rattle.std.proofs.Common.{to_z, of_z, w8, refl, ap, sym, ◌∙◌, arith}
+use Rattle.std.specs.Prelude.{Some, slice_get, nat_abs, ◌+ℤ◌}
+use Rattle.fax_bits.specs.declared.put.TheConstants.{VERTICAL_CODES, VERTICAL_LENS}
 use Rattle.std.proofs.lemmas.Int.{ints}
 use Rattle.fax_bits.specs.declared.codes.CodeEntry.{CodeEntry}
 use Rattle.fax_bits.specs.declared.modes.ModeCode.{ModeCode}
@@ -45,33 +46,26 @@ few : (d : ℤ) → IsWritten (Vertical d) → unsigned_abs d < 4
 few (pos n) written = omega (arith, ints, written.1)
 few (negsuc n) written = omega (arith, ints, written.0)
 
--- where the code of a distance stands, as the program finds it: to the left, and to the right
-pub left_place : (d : ℤ) (pels : ℕ) → IsWritten (Vertical d) → lt_z (to_z w8 (of_z w8 d)) (pos 0) ≡ true
-    → pels ≡ nat_abs (to_z w8 (of_z w8 d)) → bits_at modes (5 + pels) ≡ mode_bits (Vertical d)
-left_place (pos zero) pels written below is = absurd cc
-left_place (pos (suc zero)) pels written below is = absurd cc
-left_place (pos (suc (suc zero))) pels written below is = absurd cc
-left_place (pos (suc (suc (suc zero)))) pels written below is = absurd cc
-left_place (pos (suc (suc (suc (suc n))))) pels written below is = absurd (omega (arith, few (pos (suc (suc (suc (suc n))))) written))
-left_place (negsuc zero) pels written below is = rw is (bits_at-left 0 (lit< tt))
-left_place (negsuc (suc zero)) pels written below is = rw is (bits_at-left 1 (lit< tt))
-left_place (negsuc (suc (suc zero))) pels written below is = rw is (bits_at-left 2 (lit< tt))
-left_place (negsuc (suc (suc (suc n)))) pels written below is = absurd (omega (arith, few (negsuc (suc (suc (suc n)))) written))
+-- where the code of a distance stands, as the program finds it
+abbrev place_of_distance : ℤ → ℕ
+place_of_distance d = nat_abs (to_z w8 (of_z w8 (to_z w8 (of_z w8 d) +ℤ pos 3)))
 
-pub right_place : (d : ℤ) (pels : ℕ) → IsWritten (Vertical d) → lt_z (to_z w8 (of_z w8 d)) (pos 0) ≡ false
-    → pels ≡ nat_abs (to_z w8 (of_z w8 d)) → bits_at modes (2 + pels) ≡ mode_bits (Vertical d)
-right_place (pos zero) pels written above is = rw is (bits_at-right 0 (lit< tt))
-right_place (pos (suc zero)) pels written above is = rw is (bits_at-right 1 (lit< tt))
-right_place (pos (suc (suc zero))) pels written above is = rw is (bits_at-right 2 (lit< tt))
-right_place (pos (suc (suc (suc zero)))) pels written above is = rw is (bits_at-right 3 (lit< tt))
-right_place (pos (suc (suc (suc (suc n))))) pels written above is = absurd (omega (arith, few (pos (suc (suc (suc (suc n))))) written))
-right_place (negsuc zero) pels written above is = absurd cc
-right_place (negsuc (suc zero)) pels written above is = absurd cc
-right_place (negsuc (suc (suc zero))) pels written above is = absurd cc
-right_place (negsuc (suc (suc (suc n)))) pels written above is = absurd (omega (arith, few (negsuc (suc (suc (suc n)))) written))
+pub vertical_bits : (d : ℤ) → IsWritten (Vertical d)
+    → code_bits (get_or VERTICAL_LENS (place_of_distance d) 0) (get_or VERTICAL_CODES (place_of_distance d) 0) ≡ mode_bits (Vertical d)
+unfolding modes mode_bits code_bits
+vertical_bits (pos zero) written = refl
+vertical_bits (pos (suc zero)) written = refl
+vertical_bits (pos (suc (suc zero))) written = refl
+vertical_bits (pos (suc (suc (suc zero)))) written = refl
+vertical_bits (pos (suc (suc (suc (suc n))))) written = absurd (omega (arith, few (pos (suc (suc (suc (suc n))))) written))
+vertical_bits (negsuc zero) written = refl
+vertical_bits (negsuc (suc zero)) written = refl
+vertical_bits (negsuc (suc (suc zero))) written = refl
+vertical_bits (negsuc (suc (suc (suc n)))) written = absurd (omega (arith, few (negsuc (suc (suc (suc n)))) written))
 
 -- a mode that is written is read again
-takes_mode : (place : ℕ) (listed_entry : CodeEntry ModeCode) (mode : ModeCode) (more : List Bool) → slice_get modes place ≡ Some listed_entry
+takes_mode : (place : ℕ) (listed_entry : CodeEntry ModeCode) (mode : ModeCode) (more : List Bool) → slice_get modes place
+    ≡ Some listed_entry
     → listed_entry.meaning ≡ mode → bits_at modes place ≡ mode_bits mode → Takes modes (mode_bits mode ++ more) mode more
 takes_mode place listed_entry mode more found means same = record {
   entry = listed_entry;
@@ -86,12 +80,17 @@ mode_bits_are_read Pass more written = takes_mode 0 _ Pass more refl refl bits_a
 mode_bits_are_read Horizontal more written = takes_mode 1 _ Horizontal more refl refl bits_at-horizontal
 mode_bits_are_read (Vertical (pos zero)) more written = takes_mode 2 _ (Vertical (pos 0)) more refl refl (bits_at-right 0 (lit< tt))
 mode_bits_are_read (Vertical (pos (suc zero))) more written = takes_mode 3 _ (Vertical (pos 1)) more refl refl (bits_at-right 1 (lit< tt))
-mode_bits_are_read (Vertical (pos (suc (suc zero)))) more written = takes_mode 4 _ (Vertical (pos 2)) more refl refl (bits_at-right 2 (lit< tt))
-mode_bits_are_read (Vertical (pos (suc (suc (suc zero))))) more written = takes_mode 5 _ (Vertical (pos 3)) more refl refl (bits_at-right 3 (lit< tt))
-mode_bits_are_read (Vertical (pos (suc (suc (suc (suc n)))))) more written = absurd (omega (arith, few (pos (suc (suc (suc (suc n))))) written))
+mode_bits_are_read (Vertical (pos (suc (suc zero)))) more written =
+    takes_mode 4 _ (Vertical (pos 2)) more refl refl (bits_at-right 2 (lit< tt))
+mode_bits_are_read (Vertical (pos (suc (suc (suc zero))))) more written =
+    takes_mode 5 _ (Vertical (pos 3)) more refl refl (bits_at-right 3 (lit< tt))
+mode_bits_are_read (Vertical (pos (suc (suc (suc (suc n)))))) more written =
+    absurd (omega (arith, few (pos (suc (suc (suc (suc n))))) written))
 mode_bits_are_read (Vertical (negsuc zero)) more written = takes_mode 6 _ (Vertical (negsuc 0)) more refl refl (bits_at-left 0 (lit< tt))
-mode_bits_are_read (Vertical (negsuc (suc zero))) more written = takes_mode 7 _ (Vertical (negsuc 1)) more refl refl (bits_at-left 1 (lit< tt))
-mode_bits_are_read (Vertical (negsuc (suc (suc zero)))) more written = takes_mode 8 _ (Vertical (negsuc 2)) more refl refl (bits_at-left 2 (lit< tt))
+mode_bits_are_read (Vertical (negsuc (suc zero))) more written =
+    takes_mode 7 _ (Vertical (negsuc 1)) more refl refl (bits_at-left 1 (lit< tt))
+mode_bits_are_read (Vertical (negsuc (suc (suc zero)))) more written =
+    takes_mode 8 _ (Vertical (negsuc 2)) more refl refl (bits_at-left 2 (lit< tt))
 mode_bits_are_read (Vertical (negsuc (suc (suc (suc n))))) more written = absurd (omega (arith, few (negsuc (suc (suc (suc n)))) written))
 mode_bits_are_read ModeExtension more written = absurd written
 

@@ -1,5 +1,6 @@
 //! The codes of runs and modes, put into a sink (ITU-T T.4, sections 4.1.1 and 4.2.1.3.2).
 ghost use Rattle.std.specs.Prelude.{◌≡◌, ◌*◌, ◌<◌, ◌≤◌, ◌^◌, OnOk, OnErr};
+ghost use Rattle.fax_bits.specs.declared.modes.ModeCode.TheVariants.{Vertical};
 ghost use Rattle.fax_bits.specs.declared.runs.RunCode.TheVariants.{Terminating, MakeUp};
 ghost use Rattle.fax_bits.specs.Codes.{bits_at};
 ghost use Rattle.fax_bits.specs.Runs.{run_codes, run_code_bits, run_bits, mode_bits, IsWritten};
@@ -7,13 +8,39 @@ ghost use Rattle.fax_bits.specs.code.Sink.{Appends, AppendsCodes};
 ghost use Rattle.fax_bits.specs.Tables.{run_meaning};
 
 use crate::codes::CodeTable;
-use crate::modes::place_of_mode;
+use crate::modes::{HORIZONTAL, LEFT, MODES, PASS, UNDER};
 use crate::runs::TERMINATING_CODES;
 use crate::{BitSink, BlackRuns, Colour, Memory, ModeCode, Modes, WhiteRuns};
 
+/// The codes of vertical modes, from a1 three pels left of b1 to three pels right of it, and their
+/// lengths in bits (T.4, table 4): small, since most modes of a page are written by them.
+const VERTICAL_CODES: [u8; 7] = [
+    MODES[LEFT + 3].code as u8,
+    MODES[LEFT + 2].code as u8,
+    MODES[LEFT + 1].code as u8,
+    MODES[UNDER].code as u8,
+    MODES[UNDER + 1].code as u8,
+    MODES[UNDER + 2].code as u8,
+    MODES[UNDER + 3].code as u8,
+];
+
+const VERTICAL_LENS: [u8; 7] = [
+    MODES[LEFT + 3].len,
+    MODES[LEFT + 2].len,
+    MODES[LEFT + 1].len,
+    MODES[UNDER].len,
+    MODES[UNDER + 1].len,
+    MODES[UNDER + 2].len,
+    MODES[UNDER + 3].len,
+];
+
 /// Puts a run of `n` pels, below 65,536, as codes of its colour: 2560 as often as it fits, at most
-/// one other make-up code, a terminating code (T.4, section 4.1.1). After an `Err` some of these
-/// codes may have been put, from the first on and each of them whole.
+/// one other make-up code, a terminating code (T.4, section 4.1.1).
+///
+/// # Errors
+///
+/// Where a growth was refused. Some of these codes may have been put then, from the first on and
+/// each of them whole.
 #[inline(always)]
 pub fn put_run(sink: &mut BitSink, colour: Colour, n: u32) -> Result<(), Memory>
     requires { n < 2 ^ 16 }
@@ -26,8 +53,8 @@ pub fn put_run(sink: &mut BitSink, colour: Colour, n: u32) -> Result<(), Memory>
     put_long_run(sink, colour, n)
 }
 
-/// Puts a run of fewer than 64 pels, which is one terminating code. After an `Err` the sink is as it
-/// was.
+/// Puts a run of fewer than 64 pels, which is one terminating code. After an `Err` the sink is as
+/// it was.
 #[inline(always)]
 fn put_short_run(sink: &mut BitSink, colour: Colour, n: u32) -> Result<(), Memory>
     requires { n < 64 }
@@ -96,14 +123,39 @@ fn put_run_code(sink: &mut BitSink, colour: Colour, place: usize) -> Result<(), 
 }
 
 /// Puts a mode: pass, horizontal, or vertical with a1 at most 3 pels from b1 (T.4, section
-/// 4.2.1.3.2 and table 4). After an `Err` the sink is as it was.
+/// 4.2.1.3.2 and table 4).
+///
+/// # Errors
+///
+/// Where a growth was refused. The sink is then as it was.
 #[inline(always)]
 pub fn put_mode(sink: &mut BitSink, mode: ModeCode) -> Result<(), Memory>
     requires { IsWritten mode }
     ensures ok { OnOk result (Appends sink.old (mode_bits mode) sink.new) }
     ensures err { OnErr result (sink.new ≡ sink.old) }
 {
-    put_code::<Modes>(sink, place_of_mode(mode))
+    match mode {
+        ModeCode::Pass => put_code::<Modes>(sink, PASS),
+        ModeCode::Horizontal => put_code::<Modes>(sink, HORIZONTAL),
+        ModeCode::Vertical(d) => put_vertical(sink, d),
+        // An extension is not written.
+        ModeCode::Extension => Ok(()),
+    }
+}
+
+/// Puts vertical mode with a1 `d` pels right of b1, -3 to 3 (T.4, section 4.2.1.3.2 and table 4).
+/// After an `Err` the sink is as it was.
+#[inline(always)]
+fn put_vertical(sink: &mut BitSink, d: i8) -> Result<(), Memory>
+    requires { IsWritten (Vertical d) }
+    ensures ok { OnOk result (Appends sink.old (mode_bits (Vertical d)) sink.new) }
+    ensures err { OnErr result (sink.new ≡ sink.old) }
+{
+    let place = (d + 3) as usize;
+    sink.put(
+        u32::from(VERTICAL_CODES[place]),
+        u32::from(VERTICAL_LENS[place]),
+    )
 }
 
 /// Puts the code at a place of the table. After an `Err` the sink is as it was.

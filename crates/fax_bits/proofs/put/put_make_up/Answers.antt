@@ -10,5 +10,6 @@ pub returns-clause-ok : goal.returns-clause-ok
 returns-clause-ok c =
     let place : c.from.result - 1 + c.args.steps ≡ 63 + c.args.steps = ap (λ n. n - 1 + c.args.steps) c.from.ensures in
     on_ok_weaker c.put_run_code.result
-    (subst (λ code. Appends c.args.sink.now (run_code_bits c.args.colour code) c.put_run_code.new.sink) (ap run_meaning place ∙ run_meaning-make_up c.args.steps c.requires.some c.requires.few))
+    (subst (λ code. Appends c.args.sink.now (run_code_bits c.args.colour code) c.put_run_code.new.sink)
+    (ap run_meaning place ∙ run_meaning-make_up c.args.steps c.requires.some c.requires.few))
     c.put_run_code.ensures.ok
