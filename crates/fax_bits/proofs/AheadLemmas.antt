@@ -1,5 +1,6 @@
 -- Bits that are loaded, and codes that are read from them.
-use Rattle.std.proofs.Common.{Bool, true, false, replicate, ◌≡◌, ℕ, ◌+◌, ◌*◌, ◌<◌, ◌≤◌, List, [], ◌∷◌, ◌++◌, length, take, drop, refl, ap, sym, ◌∙◌, subst, arith, length-append, length-drop}
+use Rattle.std.proofs.Common.{Bool, true, false, replicate, ◌≡◌, ℕ, ◌+◌, ◌*◌, ◌<◌, ◌≤◌, List, [], ◌∷◌, ◌++◌, length, take, drop, refl, ap}
+use Rattle.std.proofs.Common.{sym, ◌∙◌, subst, arith, length-append, length-drop}
 use Rattle.std.specs.Prelude.{pos}
 use Rattle.std.proofs.lemmas.List.{drop-drop}
 use Rattle.fax_bits.specs.declared.Colour.{Colour}
@@ -50,7 +51,7 @@ module _ (order : FillOrder) (bytes : List ℕ) (old window : Window) (source : 
         length-first_bits window.count window.bits,
       )
 
-  -- behind some of its bits
+  -- after some of its bits
   module _ (n : ℕ) (behind : Window) (short : n ≤ 32) (count : behind.count + n ≡ window.count) (at : behind.at ≡ window.at) where
     place_behind : place_before old + n ≡ place_before behind
     place_behind = omega (arith, is.behind)
@@ -75,7 +76,8 @@ module _ (order : FillOrder) (bytes : List ℕ) (old window : Window) (source : 
         )
 
   -- a 1, which is a mode of its own
-  module _ (behind : Window) (one : HasZerosAhead (bits_ahead order bytes window) 0) (count : behind.count + 1 ≡ window.count) (at : behind.at ≡ window.at) where
+  module _ (behind : Window) (one : HasZerosAhead (bits_ahead order bytes window) 0) (count : behind.count + 1 ≡ window.count)
+      (at : behind.at ≡ window.at) where
     pub one_taken : Takes modes source.left (Vertical (pos 0)) (drop (place_before behind) (bits order bytes))
     one_taken =
         subst (λ rest. Takes modes source.left (Vertical (pos 0)) rest) (sym (left_behind_code 1 behind (omega arith) count at))
@@ -89,7 +91,8 @@ module _ (order : FillOrder) (bytes : List ℕ) (old window : Window) (source : 
         omega (arith, loaded-left, count, ap length (left_behind_code 1 behind (omega arith) count at), length-drop 1 source.left)
 
   -- bits that stand next
-  pub bits_taken : (len number : ℕ) (short : len ≤ 32) → 32 ≤ window.count → number ≡ bits_number (take len (padded (bits_ahead order bytes window) len))
+  pub bits_taken : (len number : ℕ) (short : len ≤ 32) → 32 ≤ window.count → number
+      ≡ bits_number (take len (padded (bits_ahead order bytes window) len))
       → (behind : Window) → behind.count + len ≡ window.count → behind.at ≡ window.at
       → source.left ≡ code_bits len number ++ drop (place_before behind) (bits order bytes)
   bits_taken len number short many number_is behind count at =
@@ -98,7 +101,8 @@ module _ (order : FillOrder) (bytes : List ℕ) (old window : Window) (source : 
       ∙ ap (λ rest. code_bits len number ++ rest) (sym (left_behind_code len behind short count at))
 
   -- a code that begins the next thirteen bits, which are loaded
-  module _ (many : 32 ≤ window.count) (number : ℕ) (number_is : number ≡ bits_number (take 13 (padded (bits_ahead order bytes window) 13))) where
+  module _ (many : 32 ≤ window.count) (number : ℕ) (number_is : number
+      ≡ bits_number (take 13 (padded (bits_ahead order bytes window) 13))) where
     spelled_is : number ≡ bits_number (take 13 (padded source.left 13))
     spelled_is = number_is ∙ ap (λ b. bits_number (take 13 (padded b 13))) loaded_left
 
@@ -113,17 +117,28 @@ module _ (order : FillOrder) (bytes : List ℕ) (old window : Window) (source : 
       pub taken_ahead : Takes table source.left meaning (drop (place_before behind) (bits order bytes))
       taken_ahead =
           subst (λ rest. Takes table source.left meaning rest) (sym (left_behind_code len behind (omega (arith, short)) count at))
-          (takes_found table source.left (code_bits 13 number) 13 len meaning (peeked_bits source.left 13 (omega (arith, many, loaded-left)) number spelled_is) found)
+          (takes_found table source.left (code_bits 13 number) 13 len meaning
+          (peeked_bits source.left 13 (omega (arith, many, loaded-left)) number spelled_is) found)
 
       pub end_kept_ahead : KeepsEnd source (source_of order bytes (place_before behind))
       end_kept_ahead = end_kept len behind (omega (arith, short)) count at
 
       pub shorter_ahead : 0 < len → length (drop (place_before behind) (bits order bytes)) < length source.left
       shorter_ahead some =
-          omega (arith, short, some, many, loaded-left, ap length (left_behind_code len behind (omega (arith, short)) count at), length-drop len source.left)
+          omega (
+            arith,
+            short,
+            some,
+            many,
+            loaded-left,
+            ap length (left_behind_code len behind (omega (arith, short)) count at),
+            length-drop
+                len source.left,
+          )
 
 -- a run of a terminating code alone
-pub short_run : (colour : Colour) (b : List Bool) (n : ℕ) (rest : List Bool) → Takes (run_table colour) b (Terminating n) rest → IsRun colour b n rest
+pub short_run : (colour : Colour) (b : List Bool) (n : ℕ) (rest : List Bool) → Takes (run_table colour) b (Terminating n) rest
+    → IsRun colour b n rest
 short_run colour b n rest takes = record { make_up = []; last = n; spelled = (rest, takes, refl); length = omega arith }
 
 -- a run of a make-up code and a terminating code

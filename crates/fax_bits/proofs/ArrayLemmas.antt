@@ -4,7 +4,8 @@ use Rattle.std.specs.Prelude.{Some, slice_get}
 use Rattle.fax_bits.specs.declared.codes.CodeEntry.{CodeEntry}
 use Rattle.fax_bits.specs.declared.runs.RunCode.{RunCode}
 use Rattle.fax_bits.specs.declared.runs.TheConstants.{WHITE_CODES, WHITE_LENS, BLACK_CODES, BLACK_LENS}
-use Rattle.fax_bits.specs.Tables.{white_runs, white_terminating, white_make_up, black_runs, black_terminating, black_make_up, common_make_up, run_extension}
+use Rattle.fax_bits.specs.Tables.{white_runs, white_terminating, white_make_up, black_runs, black_terminating, black_make_up}
+use Rattle.fax_bits.specs.Tables.{common_make_up, run_extension}
 use Rattle.fax_bits.specs.Tables.{run_meaning}
 
 abbrev pub run_entries : ℕ → List ℕ → List ℕ → List (CodeEntry RunCode)
@@ -13,7 +14,8 @@ run_entries i (c ∷ codes) [] = []
 run_entries i (c ∷ codes) (l ∷ lens) = record { code = c; len = l; meaning = run_meaning i } ∷ run_entries (suc i) codes lens
 
 pub slice_get-run_entries : (first : ℕ) (codes lens : List ℕ) (i : ℕ) → i < length codes → i < length lens
-    → slice_get (run_entries first codes lens) i ≡ Some (record { code = get_or codes i 0; len = get_or lens i 0; meaning = run_meaning (first + i) })
+    → slice_get (run_entries first codes lens) i
+    ≡ Some (record { code = get_or codes i 0; len = get_or lens i 0; meaning = run_meaning (first + i) })
 slice_get-run_entries first [] lens i h k = absurd (omega arith)
 slice_get-run_entries first (c ∷ codes) [] i h k = absurd (omega arith)
 slice_get-run_entries first (c ∷ codes) (l ∷ lens) zero h k =

@@ -1,5 +1,6 @@
 -- A code that begins the bits of a number.
-use Rattle.std.proofs.Common.{◌≡◌, ℕ, zero, suc, ◌+◌, ◌-◌, ◌/◌, ◌%◌, ◌^◌, ◌<◌, ◌≤◌, List, ◌++◌, length, take, get_or, Bool, false, nat_eq, refl, ap, sym, ◌∙◌, subst, arith, length-append}
+use Rattle.std.proofs.Common.{◌≡◌, ℕ, zero, suc, ◌+◌, ◌-◌, ◌/◌, ◌%◌, ◌^◌, ◌<◌, ◌≤◌, List, ◌++◌, length, take, get_or, Bool, false, nat_eq}
+use Rattle.std.proofs.Common.{refl, ap, sym, ◌∙◌, subst, arith, length-append}
 use Rattle.std.proofs.Math.Seq.{take-append_seam}
 use Rattle.std.proofs.lemmas.Nat.{pow_pos, mod_below, shr_below, shr_split}
 use Rattle.std.proofs.lemmas.Nat.Bits.{bit_at-lt, same_from_bits_below}
@@ -50,13 +51,15 @@ ahead_is_short n window len code ahead =
     omega (arith, length-append (code_bits len code) ahead.0, ap length ahead.1, length-code_bits len code, length-code_bits n window)
 
 -- and is the number that the first bits spell
-pub ahead_is_first : (n window len code : ℕ) → len ≤ n → window < 2 ^ n → code < 2 ^ len → IsCodeAhead (code_bits len code) (code_bits n window)
+pub ahead_is_first : (n window len code : ℕ) → len ≤ n → window < 2 ^ n → code < 2 ^ len
+    → IsCodeAhead (code_bits len code) (code_bits n window)
     → window / 2 ^ (n - len) ≡ code
 ahead_is_first n window len code within fits code_fits ahead =
     let e : len + (n - len) ≡ n = omega arith in
     let high : window / 2 ^ (n - len) < 2 ^ len = shr_below window len (n - len) (subst (λ k. window < 2 ^ k) (sym e) fits) in
     let first : (number : ℕ) (rest : List Bool) → take len (code_bits len number ++ rest) ≡ code_bits len number =
-    λ number rest. ap (λ k. take k (code_bits len number ++ rest)) (sym (length-code_bits len number)) ∙ take-append_seam (code_bits len number) rest in
+    λ number rest. ap (λ k. take k (code_bits len number ++ rest)) (sym (length-code_bits len number))
+    ∙ take-append_seam (code_bits len number) rest in
     same_number len (window / 2 ^ (n - len)) code high code_fits
     (sym (first (window / 2 ^ (n - len)) (code_bits (n - len) (window % 2 ^ (n - len))))
     ∙ ap (take len) (sym (split_at n len window within) ∙ ahead.1) ∙ first code ahead.0)

@@ -1,5 +1,6 @@
 -- The index arrays hold the places of the code tables.
-use Rattle.std.proofs.Common.{◌≡◌, ℕ, zero, suc, inl, inr, ◌+◌, ◌-◌, ◌/◌, ◌^◌, ◌<◌, ◌≤◌, List, map, get_or, true, refl, ap, sym, ◌∙◌, subst, arith}
+use Rattle.std.proofs.Common.{◌≡◌, ℕ, zero, suc, inl, inr, ◌+◌, ◌-◌, ◌/◌, ◌^◌, ◌<◌, ◌≤◌, List, map, get_or, true, refl, ap, sym, ◌∙◌, subst}
+use Rattle.std.proofs.Common.{arith}
 use Rattle.std.specs.List.{range_with_len}
 use Rattle.std.proofs.lemmas.List.FromFn.{get_or-map-range_with_len}
 use Rattle.std.proofs.lemmas.Nat.{shr_below}
@@ -8,7 +9,8 @@ use Rattle.fax_bits.specs.declared.codes.CodeEntry.{CodeEntry}
 use Rattle.fax_bits.specs.declared.indexes.TheConstants.{WHITE_SHORT, WHITE_LONG, BLACK_SHORT, BLACK_LONG, MODE_PLACES}
 use Rattle.fax_bits.specs.code.Places.{place_of}
 use Rattle.fax_bits.proofs.PlaceLemmas.{long_codes_test, short_place}
-use Rattle.fax_bits.specs.Tables.{modes, white_runs, white_terminating, white_make_up, black_runs, black_terminating, black_make_up, common_make_up, run_extension}
+use Rattle.fax_bits.specs.Tables.{modes, white_runs, white_terminating, white_make_up, black_runs, black_terminating, black_make_up}
+use Rattle.fax_bits.specs.Tables.{common_make_up, run_extension}
 
 -- the places for the first numbers of so many bits
 abbrev pub places : {M : Type 0} → List (CodeEntry M) → ℕ → ℕ → List ℕ
@@ -34,7 +36,8 @@ mode_places_is : MODE_PLACES ≡ places modes 7 128
 unfolding modes
 mode_places_is = refl
 
-place_at : {M : Type 0} (array : List ℕ) (table : List (CodeEntry M)) (width count number : ℕ) → array ≡ places table width count → number < count
+place_at : {M : Type 0} (array : List ℕ) (table : List (CodeEntry M)) (width count number : ℕ) → array ≡ places table width count
+    → number < count
     → get_or array number 0 ≡ place_of table width number
 place_at array table width count number is within =
     ap (λ xs. get_or xs number 0) is ∙ get_or-map-range_with_len (place_of table width) 0 count number number 0 within (omega arith)
@@ -61,13 +64,15 @@ unfolding modes
 mode_long_codes = refl
 
 pub white_place : (number : ℕ) → 64 ≤ number → number < 2 ^ 13 → get_or WHITE_SHORT (number / 2 ^ 4) 0 ≡ place_of white_runs 13 number
-white_place number above within = short_place_at WHITE_SHORT white_runs 9 64 number white_short_is (omega arith) white_long_codes within above
+white_place number above within =
+    short_place_at WHITE_SHORT white_runs 9 64 number white_short_is (omega arith) white_long_codes within above
 
 pub white_long_place : (number : ℕ) → number < 64 → get_or WHITE_LONG number 0 ≡ place_of white_runs 13 number
 white_long_place number below = place_at WHITE_LONG white_runs 13 64 number white_long_is below
 
 pub black_place : (number : ℕ) → 512 ≤ number → number < 2 ^ 13 → get_or BLACK_SHORT (number / 2 ^ 7) 0 ≡ place_of black_runs 13 number
-black_place number above within = short_place_at BLACK_SHORT black_runs 6 512 number black_short_is (omega arith) black_long_codes within above
+black_place number above within =
+    short_place_at BLACK_SHORT black_runs 6 512 number black_short_is (omega arith) black_long_codes within above
 
 pub black_long_place : (number : ℕ) → number < 512 → get_or BLACK_LONG number 0 ≡ place_of black_runs 13 number
 black_long_place number below = place_at BLACK_LONG black_runs 13 512 number black_long_is below

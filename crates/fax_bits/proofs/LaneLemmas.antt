@@ -1,5 +1,7 @@
 -- Bytes whose bits are turned round lane by lane.
-use Rattle.std.proofs.Common.{◌≡◌, ◌≢◌, ℕ, zero, suc, ◌+◌, ◌-◌, ◌<◌, ◌≤◌, List, [], ◌∷◌, map, length, drop, get_or, Bool, true, false, nat_eq, refl, ap, sym, ◌∙◌, subst, arith, replicate, inl, inr, length-drop, get_or-drop, get_or-set_other, get_or-set_same}
+use Rattle.std.proofs.Common.{◌≡◌, ◌≢◌, ℕ, zero, suc, ◌+◌, ◌-◌, ◌<◌, ◌≤◌, List, [], ◌∷◌, map, length, drop, get_or, Bool, true, false}
+use Rattle.std.proofs.Common.{nat_eq, refl, ap, sym, ◌∙◌, subst, arith, replicate, inl, inr, length-drop, get_or-drop, get_or-set_other}
+use Rattle.std.proofs.Common.{get_or-set_same}
 use Rattle.std.specs.Prelude.{◌&&◌}
 use Rattle.std.proofs.lemmas.Bool.{eqb-true}
 use Rattle.std.proofs.Math.Nat.{eq-or-lt_of_le}
@@ -56,7 +58,8 @@ turned_of or and right left n v =
     zip2 or (zip2 and (zip2 right (pairs_of or and right left n v) (replicate n 1)) (replicate n 85))
     (zip2 left (zip2 and (pairs_of or and right left n v) (replicate n 85)) (replicate n 1))
 
-each_turned : (or and right left : ℕ → ℕ → ℕ) (n : ℕ) (v : List ℕ) → length v ≡ n → turned_of or and right left n v ≡ map (turned_by or and right left) v
+each_turned : (or and right left : ℕ → ℕ → ℕ) (n : ℕ) (v : List ℕ) → length v ≡ n → turned_of or and right left n v
+    ≡ map (turned_by or and right left) v
 each_turned or and right left zero [] len = refl
 each_turned or and right left zero (x ∷ v) len = absurd (omega arith)
 each_turned or and right left (suc n) [] len = absurd (omega arith)
@@ -75,7 +78,7 @@ pub turned_lanes : (or and right left : ℕ → ℕ → ℕ) (g : ℕ → ℕ) (
 turned_lanes or and right left g v len fits all =
     each_turned or and right left 16 v len ∙ each_same (turned_by or and right left) g all v fits
 
--- the first n elements are mapped, and those behind them are as they were
+-- the first n elements are mapped, and those after them are as they were
 pub record IsTurnedUpTo (g : ℕ → ℕ) (old new : List ℕ) (n : ℕ) : Type 0 where
   pub len : length new ≡ length old
   pub done : (k : ℕ) → k < n → k < length old → get_or new k 0 ≡ g (get_or old k 0)
@@ -109,7 +112,8 @@ turned_group g old new ys n so_far ys_is within = record {
         ap (λ m. get_or (put_chunk n new ys) m 0) (sym at)
         ∙ get_or-put_chunk_at n new ys (k - n) 0 (omega (arith, sixteen)) (omega (arith, sixteen, so_far.len))
         ∙ ap (λ xs. get_or xs (k - n) 0) ys_is ∙ get_or-map g (chunk n 16 new) (k - n) 0 0 (omega (arith, long))
-        ∙ ap g (get_or-take 16 (drop n new) (k - n) 0 near ∙ get_or-drop n new (k - n) 0 ∙ ap (λ m. get_or new m 0) at ∙ so_far.left k behind)
+        ∙ ap g (get_or-take 16 (drop n new) (k - n) 0 near ∙ get_or-drop n new (k - n) 0 ∙ ap (λ m. get_or new m 0) at
+        ∙ so_far.left k behind)
 
 -- one more
 pub turned_one : (g : ℕ → ℕ) (old new : List ℕ) (n y : ℕ) → IsTurnedUpTo g old new n → y ≡ g (get_or new n 0) → n < length old

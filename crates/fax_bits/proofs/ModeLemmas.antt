@@ -1,5 +1,6 @@
 -- The codes of modes by their places in the mode table.
-use Rattle.std.proofs.Common.{◌≡◌, List, ◌++◌, Bool, lit<, ℕ, zero, suc, ◌+◌, ◌-◌, ◌/◌, ◌^◌, ◌<◌, ◌≤◌, ℤ, pos, negsuc, unsigned_abs, get_or, to_z, of_z, w8, refl, ap, sym, ◌∙◌, arith}
+use Rattle.std.proofs.Common.{◌≡◌, List, ◌++◌, Bool, lit<, ℕ, zero, suc, ◌+◌, ◌-◌, ◌/◌, ◌^◌, ◌<◌, ◌≤◌, ℤ, pos, negsuc, unsigned_abs, get_or}
+use Rattle.std.proofs.Common.{to_z, of_z, w8, refl, ap, sym, ◌∙◌, arith}
 use Rattle.std.specs.Prelude.{Some, slice_get, nat_abs, ◌+ℤ◌}
 use Rattle.fax_bits.specs.declared.put.TheConstants.{VERTICAL_CODES, VERTICAL_LENS}
 use Rattle.std.proofs.lemmas.Int.{ints}
@@ -63,7 +64,8 @@ vertical_bits (negsuc (suc (suc zero))) written = refl
 vertical_bits (negsuc (suc (suc (suc n)))) written = absurd (omega (arith, few (negsuc (suc (suc (suc n)))) written))
 
 -- a mode that is written is read again
-takes_mode : (place : ℕ) (listed_entry : CodeEntry ModeCode) (mode : ModeCode) (more : List Bool) → slice_get modes place ≡ Some listed_entry
+takes_mode : (place : ℕ) (listed_entry : CodeEntry ModeCode) (mode : ModeCode) (more : List Bool) → slice_get modes place
+    ≡ Some listed_entry
     → listed_entry.meaning ≡ mode → bits_at modes place ≡ mode_bits mode → Takes modes (mode_bits mode ++ more) mode more
 takes_mode place listed_entry mode more found means same = record {
   entry = listed_entry;
@@ -78,12 +80,17 @@ mode_bits_are_read Pass more written = takes_mode 0 _ Pass more refl refl bits_a
 mode_bits_are_read Horizontal more written = takes_mode 1 _ Horizontal more refl refl bits_at-horizontal
 mode_bits_are_read (Vertical (pos zero)) more written = takes_mode 2 _ (Vertical (pos 0)) more refl refl (bits_at-right 0 (lit< tt))
 mode_bits_are_read (Vertical (pos (suc zero))) more written = takes_mode 3 _ (Vertical (pos 1)) more refl refl (bits_at-right 1 (lit< tt))
-mode_bits_are_read (Vertical (pos (suc (suc zero)))) more written = takes_mode 4 _ (Vertical (pos 2)) more refl refl (bits_at-right 2 (lit< tt))
-mode_bits_are_read (Vertical (pos (suc (suc (suc zero))))) more written = takes_mode 5 _ (Vertical (pos 3)) more refl refl (bits_at-right 3 (lit< tt))
-mode_bits_are_read (Vertical (pos (suc (suc (suc (suc n)))))) more written = absurd (omega (arith, few (pos (suc (suc (suc (suc n))))) written))
+mode_bits_are_read (Vertical (pos (suc (suc zero)))) more written =
+    takes_mode 4 _ (Vertical (pos 2)) more refl refl (bits_at-right 2 (lit< tt))
+mode_bits_are_read (Vertical (pos (suc (suc (suc zero))))) more written =
+    takes_mode 5 _ (Vertical (pos 3)) more refl refl (bits_at-right 3 (lit< tt))
+mode_bits_are_read (Vertical (pos (suc (suc (suc (suc n)))))) more written =
+    absurd (omega (arith, few (pos (suc (suc (suc (suc n))))) written))
 mode_bits_are_read (Vertical (negsuc zero)) more written = takes_mode 6 _ (Vertical (negsuc 0)) more refl refl (bits_at-left 0 (lit< tt))
-mode_bits_are_read (Vertical (negsuc (suc zero))) more written = takes_mode 7 _ (Vertical (negsuc 1)) more refl refl (bits_at-left 1 (lit< tt))
-mode_bits_are_read (Vertical (negsuc (suc (suc zero)))) more written = takes_mode 8 _ (Vertical (negsuc 2)) more refl refl (bits_at-left 2 (lit< tt))
+mode_bits_are_read (Vertical (negsuc (suc zero))) more written =
+    takes_mode 7 _ (Vertical (negsuc 1)) more refl refl (bits_at-left 1 (lit< tt))
+mode_bits_are_read (Vertical (negsuc (suc (suc zero)))) more written =
+    takes_mode 8 _ (Vertical (negsuc 2)) more refl refl (bits_at-left 2 (lit< tt))
 mode_bits_are_read (Vertical (negsuc (suc (suc (suc n))))) more written = absurd (omega (arith, few (negsuc (suc (suc (suc n)))) written))
 mode_bits_are_read ModeExtension more written = absurd written
 

@@ -1,5 +1,6 @@
 -- The number that bits spell, and the bits of that number.
-use Rattle.std.proofs.Common.{◌≡◌, ℕ, suc, ◌+◌, ◌-◌, ◌*◌, ◌^◌, ◌<◌, List, [], ◌∷◌, length, Bool, true, false, if◌then◌else◌, nat_eq, refl, ap, sym, ◌∙◌, subst, arith}
+use Rattle.std.proofs.Common.{◌≡◌, ℕ, suc, ◌+◌, ◌-◌, ◌*◌, ◌^◌, ◌<◌, List, [], ◌∷◌, length, Bool, true, false, if◌then◌else◌, nat_eq, refl}
+use Rattle.std.proofs.Common.{ap, sym, ◌∙◌, subst, arith}
 use Rattle.std.specs.Prelude.{fold}
 use Rattle.std.specs.Int.{bit_at}
 use Rattle.std.proofs.Math.Nat.{pow-succ'}
@@ -14,7 +15,7 @@ use Rattle.fax_bits.proofs.PeekLemmas.{bits_number-lt}
 abbrev digit_of : Bool → ℕ
 digit_of bit = if bit then 1 else 0
 
--- bits behind a number
+-- bits after a number
 number-behind : (b : List Bool) (a : ℕ) → fold (λ number bit. 2 * number + digit_of bit) a b ≡ a * 2 ^ length b + bits_number b
 number-behind [] a = omega arith
 number-behind (x ∷ b) a =

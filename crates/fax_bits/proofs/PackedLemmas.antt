@@ -1,8 +1,10 @@
 -- The bytes of bits.
-use Rattle.std.proofs.Common.{◌≡◌, ℕ, zero, suc, ◌+◌, ◌-◌, ◌*◌, ◌/◌, ◌<◌, ◌≤◌, List, [], ◌∷◌, ◌++◌, length, take, drop, map, replicate, Bool, false, refl, ap, sym, ◌∙◌, subst, arith, append_assoc, length-append, length-drop}
+use Rattle.std.proofs.Common.{◌≡◌, ℕ, zero, suc, ◌+◌, ◌-◌, ◌*◌, ◌/◌, ◌<◌, ◌≤◌, List, [], ◌∷◌, ◌++◌, length, take, drop, map, replicate}
+use Rattle.std.proofs.Common.{Bool, false, refl, ap, sym, ◌∙◌, subst, arith, append_assoc, length-append, length-drop}
 use Rattle.std.specs.Prelude.{reverse, All}
 use Rattle.std.specs.Simd.{first_chunks}
-use Rattle.std.proofs.lemmas.List.{length-replicate, length-reverse, reverse-reverse, length-take-le, take-replicate, replicate-append-replicate}
+use Rattle.std.proofs.lemmas.List.{length-replicate, length-reverse, reverse-reverse, length-take-le, take-replicate}
+use Rattle.std.proofs.lemmas.List.{replicate-append-replicate}
 use Rattle.std.proofs.Math.Seq.{take-add, take-append-add, take-append_seam, drop-append_seam}
 use Rattle.fax_bits.specs.declared.FillOrder.{FillOrder}
 use Rattle.fax_bits.specs.declared.FillOrder.TheVariants.{MsbFirst, LsbFirst}
@@ -51,7 +53,8 @@ chunks-bits order (byte ∷ bytes) more fit =
     let front : take 8 (eight ++ behind) ≡ eight = subst (λ n. take n (eight ++ behind) ≡ eight) len (take-append_seam eight behind) in
     let rest : drop 8 (eight ++ behind) ≡ behind = subst (λ n. drop n (eight ++ behind) ≡ behind) len (drop-append_seam eight behind) in
     let first : byte_of order (take 8 ((eight ++ bits order bytes) ++ more)) ≡ byte =
-    ap (λ (b : List Bool). byte_of order (take 8 b)) all ∙ ap (byte_of order) front ∙ byte_of-byte_bits order byte (fit zero byte (omega arith)) in
+    ap (λ (b : List Bool). byte_of order (take 8 b)) all ∙ ap (byte_of order) front
+    ∙ byte_of-byte_bits order byte (fit zero byte (omega arith)) in
     let others : map (byte_of order) (first_chunks 8 (length bytes) (drop 8 ((eight ++ bits order bytes) ++ more))) ≡ bytes =
     ap (λ (b : List Bool). map (byte_of order) (first_chunks 8 (length bytes) (drop 8 b))) all
     ∙ ap (λ (b : List Bool). map (byte_of order) (first_chunks 8 (length bytes) b)) rest

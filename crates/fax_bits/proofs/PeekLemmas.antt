@@ -1,5 +1,6 @@
 -- The number that bits spell, and zeros past their end.
-use Rattle.std.proofs.Common.{◌≡◌, ℕ, zero, suc, ◌+◌, ◌*◌, ◌^◌, ◌<◌, ◌≤◌, List, [], ◌∷◌, ◌++◌, length, take, replicate, get_or, Bool, true, false, if◌then◌else◌, refl, ap, sym, ◌∙◌, arith, length-append, length-take, add-one}
+use Rattle.std.proofs.Common.{◌≡◌, ℕ, zero, suc, ◌+◌, ◌*◌, ◌^◌, ◌<◌, ◌≤◌, List, [], ◌∷◌, ◌++◌, length, take, replicate, get_or, Bool, true}
+use Rattle.std.proofs.Common.{false, if◌then◌else◌, refl, ap, sym, ◌∙◌, arith, length-append, length-take, add-one}
 use Rattle.std.specs.Prelude.{fold}
 use mir.Val.{bool_byte}
 use Rattle.std.proofs.Math.Seq.{take-suc}
@@ -9,7 +10,7 @@ use Rattle.std.proofs.lemmas.List.{length-replicate}
 use Rattle.std.proofs.lemmas.List.Sums.{fold-append}
 use Rattle.fax_bits.specs.Bits.{bits_number}
 
--- the bits with n zeros behind them
+-- the bits with n zeros after them
 abbrev pub padded : List Bool → ℕ → List Bool
 padded b n = b ++ replicate n false
 
@@ -49,7 +50,8 @@ bit-digit true = refl
 bit-digit false = refl
 
 -- one more of the bits, as the program reads it
-module _ (b : List Bool) (n i j number digit : ℕ) (bit : Bool) (within : i < n) (few : n ≤ 24) (number_is : number ≡ bits_number (take i (padded b n)))
+module _ (b : List Bool) (n i j number digit : ℕ) (bit : Bool) (within : i < n) (few : n ≤ 24)
+    (number_is : number ≡ bits_number (take i (padded b n)))
     (at : j ≡ i) (bit_is : bit ≡ get_or b j false) (digit_is : digit ≡ bool_byte bit) where
   pub peeked-more : 2 * number + digit ≡ bits_number (take (i + 1) (padded b n))
   peeked-more =

@@ -1,5 +1,6 @@
 -- A code that is found by its place in a table.
-use Rattle.std.proofs.Common.{◌≡◌, ℕ, zero, suc, ◌+◌, ◌-◌, ◌*◌, ◌/◌, ◌%◌, ◌^◌, ◌<◌, ◌≤◌, List, [], ◌∷◌, ◌++◌, length, get_or, Bool, true, false, nat_eq, refl, ap, sym, ◌∙◌, subst, arith, inl, inr, append_assoc, length-append}
+use Rattle.std.proofs.Common.{◌≡◌, ℕ, zero, suc, ◌+◌, ◌-◌, ◌*◌, ◌/◌, ◌%◌, ◌^◌, ◌<◌, ◌≤◌, List, [], ◌∷◌, ◌++◌, length, get_or, Bool, true}
+use Rattle.std.proofs.Common.{false, nat_eq, refl, ap, sym, ◌∙◌, subst, arith, inl, inr, append_assoc, length-append}
 use Rattle.std.specs.Prelude.{◌&&◌, ◌||◌, ◌⊎◌, Some, slice_get, Contains, nat_le}
 use Rattle.std.proofs.lemmas.Bool.Decides.{nat_tests}
 use Rattle.std.proofs.lemmas.Bool.{eqb-true, eq-eqb}
@@ -94,14 +95,16 @@ past_begins_none (first ∷ table) width number past (suc k) entry within is beg
     elim (decided (begins first width number)) [
       | inl here ↦ omega (arith, past, first_place first table width number here)
       | inr other ↦
-          past_begins_none table width number (omega (arith, past, later_place first table width number other)) k entry (omega arith) is begun
+          past_begins_none table width number (omega (arith, past, later_place first table width number other)) k entry (omega arith) is
+          begun
     ]
 
 -- each code that is longer than `short` bits begins only numbers of 13 bits below `low`
 abbrev pub long_codes_test : {M : Type 0} → ℕ → ℕ → List (CodeEntry M) → Bool
 long_codes_test short low [] = true
 long_codes_test short low (entry ∷ table) =
-    (nat_le entry.len 13 && (nat_le entry.len short || nat_le ((entry.code + 1) * 2 ^ (13 - entry.len)) low)) && long_codes_test short low table
+    (nat_le entry.len 13 && (nat_le entry.len short || nat_le ((entry.code + 1) * 2 ^ (13 - entry.len)) low))
+    && long_codes_test short low table
 
 either : (a b : Bool) → (a || b) ≡ true → (a ≡ true) ⊎ (b ≡ true)
 either true b h = inl refl
@@ -123,7 +126,8 @@ first_of_first number width short len in_short in_width =
 long_is_low : {M : Type 0} (entry : CodeEntry M) (low number : ℕ) → low ≤ number → (entry.code + 1) * 2 ^ (13 - entry.len) ≤ low
     → number / 2 ^ (13 - entry.len) ≡ entry.code → ⊥
 long_is_low entry low number above below is =
-    let top : number < number / 2 ^ (13 - entry.len) * 2 ^ (13 - entry.len) + 2 ^ (13 - entry.len) = lt-div-mul-add (pow_pos (13 - entry.len)) in
+    let top : number < number / 2 ^ (13 - entry.len) * 2 ^ (13 - entry.len) + 2 ^ (13 - entry.len) =
+    lt-div-mul-add (pow_pos (13 - entry.len)) in
     let same = ap (λ k. k * 2 ^ (13 - entry.len)) is in
     omega (arith, top, same, below)
 
@@ -152,11 +156,12 @@ pub short_place : {M : Type 0} (table : List (CodeEntry M)) (short low number : 
     → low ≤ number → place_of table short (number / 2 ^ (13 - short)) ≡ place_of table 13 number
 short_place [] short low number few test above = refl
 short_place (first ∷ table) short low number few test above =
-    let parts = and_both (nat_le first.len 13 && (nat_le first.len short || nat_le ((first.code + 1) * 2 ^ (13 - first.len)) low)) (long_codes_test short low table) test in
+    let parts = and_both (nat_le first.len 13 && (nat_le first.len short || nat_le ((first.code + 1) * 2 ^ (13 - first.len)) low))
+    (long_codes_test short low table) test in
     ap (λ b. place_after b (place_of table short (number / 2 ^ (13 - short)))) (same_begins first short low number few above parts.0)
     ∙ ap (place_after (begins first 13 number)) (short_place table short low number few parts.1 above)
 
--- a number of n bits, with zeros behind it up to 13 bits
+-- a number of n bits, with zeros after it up to 13 bits
 pub aligned-first : (n window len : ℕ) → len ≤ n → n ≤ 13 → window * 2 ^ (13 - n) / 2 ^ (13 - len) ≡ window / 2 ^ (n - len)
 aligned-first n window len short few =
     let e : 13 - len ≡ (13 - n) + (n - len) = omega arith in
@@ -181,15 +186,17 @@ aligned_bits n window few =
     sym (ap (λ k. code_bits k (window * 2 ^ (13 - n) + 0)) e ∙ ap (code_bits 13) none)
     ∙ code_bits-add n (13 - n) window 0 (pow_pos (13 - n))
 
--- what begins n bits begins them with zeros behind
+-- what begins n bits begins them with zeros after
 aligned_ahead : (n window len code : ℕ) → n ≤ 13 → IsCodeAhead (code_bits len code) (code_bits n window)
     → IsCodeAhead (code_bits len code) (code_bits 13 (window * 2 ^ (13 - n)))
 aligned_ahead n window len code few ahead = (
   ahead.0 ++ code_bits (13 - n) 0,
-  aligned_bits n window few ∙ ap (λ b. b ++ code_bits (13 - n) 0) ahead.1 ∙ append_assoc (code_bits len code) ahead.0 (code_bits (13 - n) 0),
+  aligned_bits n window few ∙ ap (λ b. b ++ code_bits (13 - n) 0) ahead.1
+      ∙ append_assoc (code_bits len code) ahead.0 (code_bits (13 - n) 0),
 )
 
-module _ {M : Type 0} (table : List (CodeEntry M)) (short : HasShortCodes table) (free : IsPrefixFree table) (n window place : ℕ) (few : n ≤ 13)
+module _ {M : Type 0} (table : List (CodeEntry M)) (short : HasShortCodes table) (free : IsPrefixFree table) (n window place : ℕ)
+    (few : n ≤ 13)
     (fits : window < 2 ^ n) (place_is : place ≡ place_of table 13 (window * 2 ^ (13 - n))) where
   -- an entry that begins n bits
   ahead_begins : (entry : CodeEntry M) → Contains table entry → IsCodeAhead (bits_of entry) (code_bits n window)
@@ -202,13 +209,15 @@ module _ {M : Type 0} (table : List (CodeEntry M)) (short : HasShortCodes table)
 
   pub place_past : length table ≤ place → HasNoCode table (code_bits n window)
   place_past past entry here ahead =
-      past_begins_none table 13 (window * 2 ^ (13 - n)) (omega (arith, past, place_is)) here.0 entry here.1 here.2 (ahead_begins entry here ahead)
+      past_begins_none table 13 (window * 2 ^ (13 - n)) (omega (arith, past, place_is)) here.0 entry here.1 here.2
+      (ahead_begins entry here ahead)
 
   -- the entry at the place
   at_place : (entry : CodeEntry M) → slice_get table place ≡ Some entry
       → (entry.len ≤ 13) × (window * 2 ^ (13 - n) / 2 ^ (13 - entry.len) ≡ entry.code)
   at_place entry found =
-      begins_true entry 13 (window * 2 ^ (13 - n)) (place_begins table 13 (window * 2 ^ (13 - n)) entry (ap (slice_get table) (sym place_is) ∙ found))
+      begins_true entry 13 (window * 2 ^ (13 - n)) (place_begins table 13 (window * 2 ^ (13 - n)) entry
+      (ap (slice_get table) (sym place_is) ∙ found))
 
   pub place_found : (entry : CodeEntry M) → slice_get table place ≡ Some entry → entry.len ≤ n
       → BeginsWith table (code_bits n window) entry.len entry.meaning

@@ -54,7 +54,14 @@ takes_one table free b meaning other rest remaining first second =
 pub takes_bits : {M : Type 0} (table : List (CodeEntry M)) → HasShortCodes table → TakesBits table
 takes_bits table short b meaning rest takes =
     let some = (short takes.entry takes.listed).0 in
-    omega (arith, some, length-code_bits takes.entry.len takes.entry.code, length-append (bits_of takes.entry) rest, ap length takes.spelled)
+    omega (
+      arith,
+      some,
+      length-code_bits takes.entry.len takes.entry.code,
+      length-append (bits_of takes.entry) rest,
+      ap length
+          takes.spelled,
+    )
 
 -- a table is read in one way
 pub reads_one_way : {M : Type 0} (table : List (CodeEntry M)) → HasShortCodes table → IsPrefixFree table → ReadsOneWay table

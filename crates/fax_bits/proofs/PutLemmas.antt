@@ -1,5 +1,6 @@
 -- Codes that are put one after another.
-use Rattle.std.proofs.Common.{◌≡◌, ℕ, ◌+◌, ◌-◌, ◌*◌, ◌/◌, ◌%◌, ◌<◌, ◌≤◌, List, [], ◌∷◌, ◌++◌, replicate, Bool, true, false, nat_eq, refl, ap, sym, ◌∙◌, subst, arith, append_assoc, append-nil}
+use Rattle.std.proofs.Common.{◌≡◌, ℕ, ◌+◌, ◌-◌, ◌*◌, ◌/◌, ◌%◌, ◌<◌, ◌≤◌, List, [], ◌∷◌, ◌++◌, replicate, Bool, true, false, nat_eq, refl}
+use Rattle.std.proofs.Common.{ap, sym, ◌∙◌, subst, arith, append_assoc, append-nil}
 use Rattle.std.specs.Prelude.{flat_map, Result, Ok, Err, OnErr}
 use Rattle.std.proofs.lemmas.Bool.Decides.{nat_tests}
 use Rattle.std.proofs.lemmas.List.{replicate-append-replicate}
@@ -10,7 +11,8 @@ use Rattle.fax_bits.specs.declared.runs.RunCode.TheVariants.{Terminating, MakeUp
 use Rattle.fax_bits.specs.Runs.{run_codes, one_make_up, run_code_bits, run_bits}
 use Rattle.fax_bits.specs.code.Sink.{Sink, Appends, AppendsCodes}
 
-pub appends-then : (old mid new : Sink) (first second : List Bool) → Appends old first mid → Appends mid second new → Appends old (first ++ second) new
+pub appends-then : (old mid new : Sink) (first second : List Bool) → Appends old first mid → Appends mid second new
+    → Appends old (first ++ second) new
 appends-then old mid new first second one two =
     two ∙ ap (λ (s : Sink). record { order = s.order; bits = s.bits ++ second }) one
     ∙ ap (λ b. record { order = old.order; bits = b }) (append_assoc old.bits first second)
@@ -26,7 +28,8 @@ pub put-more : (colour : Colour) (old mid new : Sink) (codes : List RunCode) (co
     → Appends mid (run_code_bits colour code) new → Put colour old (codes ++ code ∷ []) new
 put-more colour old mid new codes code one two =
     let all : flat_map (run_code_bits colour) codes ++ run_code_bits colour code ≡ flat_map (run_code_bits colour) (codes ++ code ∷ []) =
-    sym (flat_map-append (run_code_bits colour) codes (code ∷ []) ∙ ap (λ b. flat_map (run_code_bits colour) codes ++ b) (append-nil (run_code_bits colour code))) in
+    sym (flat_map-append (run_code_bits colour) codes (code ∷ [])
+    ∙ ap (λ b. flat_map (run_code_bits colour) codes ++ b) (append-nil (run_code_bits colour code))) in
     subst (λ b. Appends old b new) all (appends-then old mid new _ _ one two)
 
 -- the make-up codes of 2560 that were put before the i-th
@@ -49,8 +52,10 @@ first_codes n i within =
     let split : replicate (n / 2560) (MakeUp 2560) ≡ replicate i (MakeUp 2560) ++ replicate (n / 2560 - i) (MakeUp 2560) =
     sym (replicate-append-replicate i (n / 2560 - i) (MakeUp 2560) ∙ ap (λ q. replicate q (MakeUp 2560)) e) in
     ap (λ codes. codes ++ one_make_up (n % 2560 / 64) ++ Terminating (n % 64) ∷ []) split
-    ∙ append_assoc (replicate i (MakeUp 2560) ++ replicate (n / 2560 - i) (MakeUp 2560)) (one_make_up (n % 2560 / 64)) (Terminating (n % 64) ∷ [])
-    ∙ append_assoc (replicate i (MakeUp 2560)) (replicate (n / 2560 - i) (MakeUp 2560)) (one_make_up (n % 2560 / 64) ++ Terminating (n % 64) ∷ [])
+    ∙ append_assoc (replicate i (MakeUp 2560) ++ replicate (n / 2560 - i) (MakeUp 2560)) (one_make_up (n % 2560 / 64))
+    (Terminating (n % 64) ∷ [])
+    ∙ append_assoc (replicate i (MakeUp 2560)) (replicate (n / 2560 - i) (MakeUp 2560))
+    (one_make_up (n % 2560 / 64) ++ Terminating (n % 64) ∷ [])
 
 -- with one other make-up code, or with none
 pub put-make_up : (colour : Colour) (old mid new : Sink) (codes : List RunCode) (steps : ℕ) → 0 < steps → Put colour old codes mid
@@ -66,7 +71,8 @@ put-no_make_up colour old new codes steps none one =
     rw is_none (subst (λ all. Put colour old all new) (sym (append-nil codes)) one)
 
 -- and the terminating code: the whole run
-pub put-terminating : (colour : Colour) (n : ℕ) (old mid new : Sink) → Put colour old (replicate (n / 2560) (MakeUp 2560) ++ one_make_up (n % 2560 / 64)) mid
+pub put-terminating : (colour : Colour) (n : ℕ) (old mid new : Sink)
+    → Put colour old (replicate (n / 2560) (MakeUp 2560) ++ one_make_up (n % 2560 / 64)) mid
     → Appends mid (run_code_bits colour (Terminating (n % 64))) new → Appends old (run_bits colour n) new
 unfolding run_bits
 put-terminating colour n old mid new one two = put-more colour old mid new _ (Terminating (n % 64)) one two

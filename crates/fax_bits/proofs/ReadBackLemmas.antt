@@ -1,5 +1,6 @@
 -- Runs that are written are read again, and as nothing else.
-use Rattle.std.proofs.Common.{◌≡◌, ℕ, zero, suc, ◌+◌, ◌*◌, ◌/◌, ◌%◌, ◌<◌, ◌≤◌, List, [], ◌∷◌, ◌++◌, map, replicate, Bool, false, nat_eq, refl, ap, sym, ◌∙◌, subst, arith, append_assoc, append-nil, zero-add}
+use Rattle.std.proofs.Common.{◌≡◌, ℕ, zero, suc, ◌+◌, ◌*◌, ◌/◌, ◌%◌, ◌<◌, ◌≤◌, List, [], ◌∷◌, ◌++◌, map, replicate, Bool, false, nat_eq}
+use Rattle.std.proofs.Common.{refl, ap, sym, ◌∙◌, subst, arith, append_assoc, append-nil, zero-add}
 use Rattle.std.specs.Prelude.{sum, flat_map}
 use Rattle.std.proofs.lemmas.List.Concat.{flat_map-append}
 use Rattle.std.proofs.lemmas.Bool.Decides.{nat_tests}
@@ -46,10 +47,12 @@ spells_often colour zero more = refl
 spells_often colour (suc q) more =
     let f = run_code_bits colour in
     let rest = flat_map f (replicate q (MakeUp 2560)) ++ more in
-    let first : Spells (run_table colour) (f (MakeUp 2560) ++ rest) (MakeUp 2560 ∷ []) rest = spells_make_up colour 40 rest (omega arith) (omega arith) in
+    let first : Spells (run_table colour) (f (MakeUp 2560) ++ rest) (MakeUp 2560 ∷ []) rest =
+    spells_make_up colour 40 rest (omega arith) (omega arith) in
     subst (λ b. Spells (run_table colour) b (MakeUp 2560 ∷ replicate q (MakeUp 2560)) more)
     (sym (append_assoc (f (MakeUp 2560)) (flat_map f (replicate q (MakeUp 2560))) more))
-    (spells-append (run_table colour) (f (MakeUp 2560) ++ rest) rest more (MakeUp 2560 ∷ []) (replicate q (MakeUp 2560)) first (spells_often colour q more))
+    (spells-append (run_table colour) (f (MakeUp 2560) ++ rest) rest more (MakeUp 2560 ∷ []) (replicate q (MakeUp 2560)) first
+    (spells_often colour q more))
 
 one_make_up-suc : (k : ℕ) → one_make_up (suc k) ≡ MakeUp (64 * suc k) ∷ []
 one_make_up-suc k = let some : nat_eq (suc k) 0 ≡ false = grind (arith, nat_tests) in rw some
@@ -67,7 +70,8 @@ spells_rest colour (suc k) more few =
 abbrev SpelledByOwn : Colour → List RunCode → Type 0
 SpelledByOwn colour codes = (more : List Bool) → Spells (run_table colour) (flat_map (run_code_bits colour) codes ++ more) codes more
 
-spelled-both : (colour : Colour) (codes others : List RunCode) → SpelledByOwn colour codes → SpelledByOwn colour others → SpelledByOwn colour (codes ++ others)
+spelled-both : (colour : Colour) (codes others : List RunCode) → SpelledByOwn colour codes → SpelledByOwn colour others
+    → SpelledByOwn colour (codes ++ others)
 spelled-both colour codes others first second more =
     let f = run_code_bits colour in
     let parts : flat_map f (codes ++ others) ++ more ≡ flat_map f codes ++ (flat_map f others ++ more) =
@@ -127,7 +131,8 @@ unfolding run_bits
 run_bits_are_read colour n more few = record {
   make_up = replicate (n / 2560) 2560 ++ rest_pels (n % 2560 / 64);
   last = n % 64;
-  spelled = subst (λ codes. Spells (run_table colour) (run_bits colour n ++ more) codes more) (sym (codes_are n)) (spelled-run colour n more);
+  spelled =
+      subst (λ codes. Spells (run_table colour) (run_bits colour n ++ more) codes more) (sym (codes_are n)) (spelled-run colour n more);
   length = sym (pels_are n);
 }
 

@@ -1,5 +1,6 @@
 -- A code that is read by the number of the next bits.
-use Rattle.std.proofs.Common.{◌≡◌, ℕ, ◌+◌, ◌-◌, ◌^◌, ◌<◌, ◌≤◌, List, ◌∷◌, ◌++◌, length, take, drop, replicate, Bool, false, ap, sym, ◌∙◌, subst, arith, inl, inr, append_assoc, length-append, length-take}
+use Rattle.std.proofs.Common.{◌≡◌, ℕ, ◌+◌, ◌-◌, ◌^◌, ◌<◌, ◌≤◌, List, ◌∷◌, ◌++◌, length, take, drop, replicate, Bool, false, ap, sym, ◌∙◌}
+use Rattle.std.proofs.Common.{subst, arith, inl, inr, append_assoc, length-append, length-take}
 use Rattle.std.specs.Prelude.{◌⊎◌}
 use Rattle.std.proofs.Math.Seq.{take-append-add}
 use Rattle.std.proofs.lemmas.List.{take-append-drop, take-append-le}
@@ -29,7 +30,8 @@ module _ (left : List Bool) (n : ℕ) (all : n ≤ length left) where
 
   pub peeked-below : (number : ℕ) → number ≡ bits_number (take n (padded left n)) → number < 2 ^ n
   peeked-below number is =
-      subst (λ m. m < 2 ^ n) (sym (is ∙ ap bits_number peeked_is)) (subst (λ k. bits_number (take n left) < 2 ^ k) length-next (bits_number-lt (take n left)))
+      subst (λ m. m < 2 ^ n) (sym (is ∙ ap bits_number peeked_is)) (subst (λ k. bits_number (take n left) < 2 ^ k) length-next
+      (bits_number-lt (take n left)))
 
 -- a code that begins the next bits is taken
 pub takes_found : {M : Type 0} (table : List (CodeEntry M)) (left b : List Bool) (n len : ℕ) (meaning : M) → b ≡ take n left
@@ -46,7 +48,8 @@ takes_found table left b n len meaning next found = record {
 }
 
 -- and is no longer than the next bits
-pub found_is_short : {M : Type 0} (table : List (CodeEntry M)) (b : List Bool) (len : ℕ) (meaning : M) → BeginsWith table b len meaning → len ≤ length b
+pub found_is_short : {M : Type 0} (table : List (CodeEntry M)) (b : List Bool) (len : ℕ) (meaning : M) → BeginsWith table b len meaning
+    → len ≤ length b
 found_is_short table b len meaning found =
     omega (arith, found.length, ahead_fits found.entry.len found.entry.code b found.ahead)
 
@@ -62,9 +65,18 @@ none_begins table left b n short within all next none entry here ahead =
     )
 
 -- 13 bits end within no code
-pub not_cut : {M : Type 0} (table : List (CodeEntry M)) (left : List Bool) → HasShortCodes table → 13 ≤ length left → IsCutShort table left → ⊥
+pub not_cut : {M : Type 0} (table : List (CodeEntry M)) (left : List Bool) → HasShortCodes table → 13 ≤ length left → IsCutShort table left
+    → ⊥
 not_cut table left short long cut =
-    omega (arith, long, (short cut.0 cut.1).1, length-code_bits cut.0.len cut.0.code, length-append left (cut.2.0 ∷ cut.2.1), ap length cut.2.2)
+    omega (
+      arith,
+      long,
+      (short cut.0 cut.1).1,
+      length-code_bits cut.0.len cut.0.code,
+      length-append left (cut.2.0 ∷ cut.2.1),
+      ap length
+          cut.2.2,
+    )
 
 -- a code that does not begin the bits, and is not cut by their end
 pub meets_uncut : (meeting : Meeting) (code b : List Bool) → IsMeeting meeting code b → (meeting ≡ Whole) ⊎ (meeting ≡ Other)

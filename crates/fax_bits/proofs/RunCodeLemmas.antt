@@ -1,5 +1,6 @@
 -- The codes of runs by their places in the run tables.
-use Rattle.std.proofs.Common.{◌≡◌, ℕ, zero, suc, ◌+◌, ◌*◌, ◌-◌, ◌<◌, ◌≤◌, List, [], ◌∷◌, ◌++◌, length, Bool, true, false, refl, ap, sym, ◌∙◌, arith, inl, inr, zero-add}
+use Rattle.std.proofs.Common.{◌≡◌, ℕ, zero, suc, ◌+◌, ◌*◌, ◌-◌, ◌<◌, ◌≤◌, List, [], ◌∷◌, ◌++◌, length, Bool, true, false, refl, ap, sym}
+use Rattle.std.proofs.Common.{◌∙◌, arith, inl, inr, zero-add}
 use Rattle.std.specs.Prelude.{Some, slice_get, nat_lt, nat_eq}
 use Rattle.std.proofs.lemmas.Bool.{cases_lt}
 use Rattle.std.proofs.lemmas.Bool.Decides.{nat_tests}
@@ -62,7 +63,8 @@ differ i j order within =
         ]
       ]
       | inr i_high ↦ elim (cases_lt j 104) [
-        | inl j_middle ↦ rw (make_up-at j (omega arith) j_middle, make_up-at i i_high (omega arith)) (apart (64 * (j - 63)) (64 * (i - 63)) (omega arith))
+        | inl j_middle ↦ rw (make_up-at j (omega arith) j_middle, make_up-at i i_high (omega arith))
+            (apart (64 * (j - 63)) (64 * (i - 63)) (omega arith))
         | inr j_last ↦ rw (extension-at j j_last, make_up-at i i_high (omega arith))
       ]
     ]
@@ -79,12 +81,14 @@ code_for-run_entries first (c ∷ codes) (l ∷ lens) zero h k within =
     rw here
 code_for-run_entries first (c ∷ codes) (l ∷ lens) (suc i) h k within =
     let e : suc first + i ≡ first + suc i = omega arith in
-    let other : same_run_code (run_meaning (first + suc i)) (run_meaning first) ≡ false = differ first (first + suc i) (omega arith) within in
+    let other : same_run_code (run_meaning (first + suc i)) (run_meaning first) ≡ false =
+    differ first (first + suc i) (omega arith) within in
     rw other
     (ap (λ n. code_for (same_run_code (run_meaning n)) (run_entries (suc first) codes lens)) (sym e)
     ∙ code_for-run_entries (suc first) codes lens i (omega arith) (omega arith) (omega arith))
 
-pub bits_at-run_table : (colour : Colour) (place : ℕ) → place < 105 → bits_at (run_table colour) place ≡ run_code_bits colour (run_meaning place)
+pub bits_at-run_table : (colour : Colour) (place : ℕ) → place < 105 → bits_at (run_table colour) place
+    ≡ run_code_bits colour (run_meaning place)
 unfolding run_code_bits
 bits_at-run_table White place within =
     ap (λ table. bits_at table place) white_runs_are

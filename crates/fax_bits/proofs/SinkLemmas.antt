@@ -1,11 +1,14 @@
--- Bits that are put behind others: into the pending bits, and from there into bytes.
-use Rattle.std.proofs.Common.{◌≡◌, ℕ, ◌+◌, ◌-◌, ◌*◌, ◌/◌, ◌%◌, ◌^◌, ◌<◌, ◌≤◌, List, [], ◌∷◌, ◌++◌, length, get_or, map, take, drop, replicate, Bool, true, false, refl, ap, sym, ◌∙◌, subst, arith, append_assoc, append-nil, add-zero, length-append}
+-- Bits that are put after others: into the pending bits, and from there into bytes.
+use Rattle.std.proofs.Common.{◌≡◌, ℕ, ◌+◌, ◌-◌, ◌*◌, ◌/◌, ◌%◌, ◌^◌, ◌<◌, ◌≤◌, List, [], ◌∷◌, ◌++◌, length, get_or, map, take, drop}
+use Rattle.std.proofs.Common.{replicate, Bool, true, false, refl, ap, sym, ◌∙◌, subst, arith, append_assoc, append-nil, add-zero}
+use Rattle.std.proofs.Common.{length-append}
 use Rattle.std.specs.Prelude.{flat_map, bit_and, bit_or, Result, Ok, Err, OnOk, is_ok}
 use Rattle.std.proofs.Math.Seq.{take-length}
 use Rattle.std.proofs.lemmas.List.{take-append-le}
 use Rattle.std.proofs.lemmas.List.Concat.{flat_map-append}
 use Rattle.fax_bits.proofs.WordLemmas.{be_bits}
-use Rattle.std.proofs.lemmas.Nat.{from_be_bytes-to_be_bytes_4, pow-add, pow_pos, or_shifted, shl_whole, one_shl, and_mask, mul-add-lt, shr_below, shr_split, mod_below, shl_below}
+use Rattle.std.proofs.lemmas.Nat.{from_be_bytes-to_be_bytes_4, pow-add, pow_pos, or_shifted, shl_whole, one_shl, and_mask, mul-add-lt}
+use Rattle.std.proofs.lemmas.Nat.{shr_below, shr_split, mod_below, shl_below}
 use Rattle.std.specs.Int.{reverse_bits, w8}
 use Rattle.fax_bits.specs.declared.FillOrder.{FillOrder}
 use Rattle.fax_bits.specs.declared.FillOrder.TheVariants.{MsbFirst, LsbFirst}
@@ -27,7 +30,8 @@ bits-push order bytes byte =
     flat_map-append (byte_bits order) bytes (byte ∷ []) ∙ ap (λ b. bits order bytes ++ b) (append-nil (byte_bits order byte))
 
 -- pending bits and those that are put, as one number
-module _ (count pending len number : ℕ) (pending_fits : pending < 2 ^ count) (number_fits : number < 2 ^ len) (short : count + len ≤ 64) where
+module _ (count pending len number : ℕ) (pending_fits : pending < 2 ^ count) (number_fits : number < 2 ^ len)
+    (short : count + len ≤ 64) where
   pub joined : bit_or (pending * 2 ^ len % 2 ^ 64) number ≡ pending * 2 ^ len + number
   joined =
       ap (λ n. bit_or n number) (shl_whole pending count len 64 pending_fits (omega arith))
@@ -54,12 +58,14 @@ module _ (k count pending : ℕ) (some : 0 < k) (whole : k ≤ count) (short : c
   pub masked-lt : bit_and pending (1 * 2 ^ (count - k) % 2 ^ 64 - 1) < 2 ^ (count - k)
   masked-lt = rw masked (mod_below pending (2 ^ (count - k)) (pow_pos (count - k)))
 
-  -- the stored bits, and those behind them
-  pub split_bits : code_bits count pending ≡ code_bits k (pending / 2 ^ (count - k)) ++ code_bits (count - k) (bit_and pending (1 * 2 ^ (count - k) % 2 ^ 64 - 1))
+  -- the stored bits, and those after them
+  pub split_bits : code_bits count pending
+      ≡ code_bits k (pending / 2 ^ (count - k)) ++ code_bits (count - k) (bit_and pending (1 * 2 ^ (count - k) % 2 ^ 64 - 1))
   split_bits =
       let e : k + (count - k) ≡ count = omega arith in
       sym (ap (λ n. code_bits n pending) e) ∙ ap (code_bits (k + (count - k))) (sym (shr_split pending (count - k)))
-      ∙ code_bits-add k (count - k) (pending / 2 ^ (count - k)) (pending % 2 ^ (count - k)) (mod_below pending (2 ^ (count - k)) (pow_pos (count - k)))
+      ∙ code_bits-add k (count - k) (pending / 2 ^ (count - k)) (pending % 2 ^ (count - k))
+      (mod_below pending (2 ^ (count - k)) (pow_pos (count - k)))
       ∙ ap (λ n. code_bits k (pending / 2 ^ (count - k)) ++ code_bits (count - k) n) (sym masked)
 
 -- a byte whose highest bit is first
@@ -82,7 +88,8 @@ written_over len new old same =
     ∙ take-length new
 
 -- a byte that became whole is pushed
-pub pushed_bits : (order : FillOrder) (bytes pushed : List ℕ) (byte n : ℕ) (all rest : List Bool) → pushed ≡ bytes ++ byte ∷ [] → byte_bits order byte ≡ code_bits 8 n
+pub pushed_bits : (order : FillOrder) (bytes pushed : List ℕ) (byte n : ℕ) (all rest : List Bool) → pushed ≡ bytes ++ byte ∷ []
+    → byte_bits order byte ≡ code_bits 8 n
     → all ≡ code_bits 8 n ++ rest → bits order pushed ++ rest ≡ bits order bytes ++ all
 pushed_bits order bytes pushed byte n all rest pushed_is byte_is all_is =
     ap (λ xs. bits order xs ++ rest) pushed_is ∙ ap (λ b. b ++ rest) (bits-push order bytes byte)
@@ -99,7 +106,8 @@ four_items (a ∷ b ∷ c ∷ d ∷ []) four = refl
 four_items (a ∷ b ∷ c ∷ d ∷ e ∷ xs) four = absurd (omega arith)
 
 pub bits-pushed : (order : FillOrder) (bytes xs : List ℕ) → length xs ≡ 4
-    → bits order ((((bytes ++ get_or xs 0 0 ∷ []) ++ get_or xs 1 0 ∷ []) ++ get_or xs 2 0 ∷ []) ++ get_or xs 3 0 ∷ []) ≡ bits order bytes ++ bits order xs
+    → bits order ((((bytes ++ get_or xs 0 0 ∷ []) ++ get_or xs 1 0 ∷ []) ++ get_or xs 2 0 ∷ []) ++ get_or xs 3 0 ∷ [])
+    ≡ bits order bytes ++ bits order xs
 unfolding bits
 bits-pushed order bytes xs four =
     ap (flat_map (byte_bits order))
@@ -120,11 +128,18 @@ pub length-sink : (order : FillOrder) (bytes : List ℕ) (count pending : ℕ) (
     → length sink.bits ≡ 8 * length bytes + count
 length-sink order bytes count pending sink is =
     let parts : length (bits MsbFirst bytes ++ code_bits count pending) ≡ 8 * length bytes + count =
-    omega (arith, length-append (bits MsbFirst bytes) (code_bits count pending), length-bits MsbFirst bytes, length-code_bits count pending) in
+    omega (
+      arith,
+      length-append (bits MsbFirst bytes) (code_bits count pending),
+      length-bits MsbFirst bytes,
+      length-code_bits count
+          pending,
+    ) in
     ap (λ (s : Sink). length s.bits) (sym is) ∙ parts
 
 -- a sink with no pending bits
-pub none_pending : (order : FillOrder) (bytes : List ℕ) (count pending : ℕ) → count ≡ 0 → bits order bytes ++ code_bits count pending ≡ bits order bytes
+pub none_pending : (order : FillOrder) (bytes : List ℕ) (count pending : ℕ) → count ≡ 0 → bits order bytes ++ code_bits count pending
+    ≡ bits order bytes
 unfolding code_bits
 none_pending order bytes count pending none =
     ap (λ n. bits order bytes ++ code_bits n pending) none ∙ append-nil (bits order bytes)
@@ -137,23 +152,31 @@ all_whole order bytes count pending sink is whole short =
     sym (none_pending MsbFirst bytes count pending none) ∙ ap (λ (s : Sink). s.bits) is
 
 -- and of one whose pending bits were pushed
-pub all_pushed : (order : FillOrder) (bytes pushed : List ℕ) (count pending left rest : ℕ) (sink : Sink) → sink_of order bytes count pending ≡ sink
+pub all_pushed : (order : FillOrder) (bytes pushed : List ℕ) (count pending left rest : ℕ) (sink : Sink) → sink_of order bytes count pending
+    ≡ sink
     → bits MsbFirst pushed ++ code_bits left rest ≡ bits MsbFirst bytes ++ code_bits count pending
     → length sink.bits % 8 ≡ 0 → left < 8 → bits MsbFirst pushed ≡ sink.bits
 all_pushed order bytes pushed count pending left rest sink is same whole short =
     all_whole order pushed left rest sink (ap (λ b. record { order = order; bits = b }) same ∙ is) whole short
 
--- bits that are put behind the pending ones of a sink
-pub put_behind : (order : FillOrder) (bytes : List ℕ) (count pending len number : ℕ) (old : Sink) → pending < 2 ^ count → number < 2 ^ len → count + len ≤ 64
+-- bits that are put after the pending ones of a sink
+pub put_behind : (order : FillOrder) (bytes : List ℕ) (count pending len number : ℕ) (old : Sink) → pending < 2 ^ count → number < 2 ^ len
+    → count + len ≤ 64
     → sink_of order bytes count pending ≡ old
-    → sink_of order bytes (count + len) (bit_or (pending * 2 ^ len % 2 ^ 64) number) ≡ record { order = old.order; bits = old.bits ++ code_bits len number }
+    → sink_of order bytes (count + len) (bit_or (pending * 2 ^ len % 2 ^ 64) number)
+    ≡ record { order = old.order; bits = old.bits ++ code_bits len number }
 put_behind order bytes count pending len number old fits number_fits short old_is =
     ap (λ b. record { order = order; bits = bits MsbFirst bytes ++ b }) (joined_bits count pending len number fits number_fits short)
-    ∙ ap (λ b. record { order = order; bits = b }) (sym (append_assoc (bits MsbFirst bytes) (code_bits count pending) (code_bits len number)))
+    ∙ ap (λ b. record {
+      order = order;
+      bits =
+          b;
+    }) (sym (append_assoc (bits MsbFirst bytes) (code_bits count pending) (code_bits len number)))
     ∙ ap (λ (s : Sink). record { order = s.order; bits = s.bits ++ code_bits len number }) old_is
 
 -- the first 32 of the pending bits are stored
-pub word_stored : (order : FillOrder) (bytes pushed : List ℕ) (count pending : ℕ) (sink : Sink) → 32 ≤ count → count ≤ 64 → pending < 2 ^ count
+pub word_stored : (order : FillOrder) (bytes pushed : List ℕ) (count pending : ℕ) (sink : Sink) → 32 ≤ count → count ≤ 64
+    → pending < 2 ^ count
     → sink_of order bytes count pending ≡ sink → bits MsbFirst pushed ≡ bits MsbFirst bytes ++ code_bits 32 (pending / 2 ^ (count - 32))
     → sink_of order pushed (count - 32) (bit_and pending (1 * 2 ^ (count - 32) % 2 ^ 64 - 1)) ≡ sink
 word_stored order bytes pushed count pending sink whole short fits is pushed_is =
@@ -163,7 +186,7 @@ word_stored order bytes pushed count pending sink whole short fits is pushed_is 
     ∙ ap (λ b. bits MsbFirst bytes ++ b) (sym (split_bits 32 count pending (omega arith) whole short fits)))
     ∙ is
 
--- pending bits with zeros behind them, up to a whole byte
+-- pending bits with zeros after them, up to a whole byte
 padded_bits : (count pending zeros : ℕ) → pending < 2 ^ count → count + zeros ≤ 64
     → code_bits (count + zeros) (pending * 2 ^ zeros % 2 ^ 64) ≡ code_bits count pending ++ replicate zeros false
 padded_bits count pending zeros fits short =

@@ -1,5 +1,6 @@
 -- The bits of bytes by their place.
-use Rattle.std.proofs.Common.{◌≡◌, ℕ, zero, suc, ◌+◌, ◌-◌, ◌*◌, ◌/◌, ◌%◌, ◌^◌, ◌<◌, List, [], ◌∷◌, ◌++◌, length, get_or, false, refl, ap, sym, ◌∙◌, arith, length-append, length-drop, get_or-drop, nat_eq}
+use Rattle.std.proofs.Common.{◌≡◌, ℕ, zero, suc, ◌+◌, ◌-◌, ◌*◌, ◌/◌, ◌%◌, ◌^◌, ◌<◌, List, [], ◌∷◌, ◌++◌, length, get_or, false, refl, ap}
+use Rattle.std.proofs.Common.{sym, ◌∙◌, arith, length-append, length-drop, get_or-drop, nat_eq}
 use Rattle.std.proofs.Math.ListN.{get_or-append}
 use Rattle.std.proofs.lemmas.List.{get_or-append-add}
 use Rattle.std.proofs.lemmas.Nat.{and_mask}
@@ -24,7 +25,8 @@ length-bits order (byte ∷ bytes) =
     simp length-append (omega (arith, length-byte_bits order byte, length-bits order bytes))
 
 -- bit r of a byte
-pub get_or-byte_bits : (order : FillOrder) (byte r : ℕ) → r < 8 → get_or (byte_bits order byte) r false ≡ nat_eq (bit_at byte (bit_in_byte order r)) 1
+pub get_or-byte_bits : (order : FillOrder) (byte r : ℕ) → r < 8 → get_or (byte_bits order byte) r false
+    ≡ nat_eq (bit_at byte (bit_in_byte order r)) 1
 unfolding byte_bits code_bits
 get_or-byte_bits MsbFirst byte zero h = refl
 get_or-byte_bits MsbFirst byte (suc zero) h = refl
@@ -76,7 +78,8 @@ pub length-left_of : (order : FillOrder) (bytes : List ℕ) (place : ℕ) (sourc
 length-left_of order bytes place source is = ap (λ (s : Source). length s.left) (sym is) ∙ length-left order bytes place
 
 -- the bit i places ahead, as code reads it
-pub bit_ahead : (order : FillOrder) (bytes : List ℕ) (place i shift : ℕ) → (place + i) / 8 < length bytes → shift ≡ bit_in_byte order ((place + i) % 8)
+pub bit_ahead : (order : FillOrder) (bytes : List ℕ) (place i shift : ℕ) → (place + i) / 8 < length bytes → shift
+    ≡ bit_in_byte order ((place + i) % 8)
     → nat_eq (bit_and (get_or bytes ((place + i) / 8) 0 / 2 ^ shift) 1) 1 ≡ get_or (source_of order bytes place).left i false
 bit_ahead order bytes place i shift in_bytes shift_is =
     let at : 8 * ((place + i) / 8) + (place + i) % 8 ≡ place + i = omega arith in

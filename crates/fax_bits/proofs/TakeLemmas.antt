@@ -1,5 +1,7 @@
 -- Bits that stand next in a source.
-use Rattle.std.proofs.Common.{◌≡◌, ℕ, suc, ◌+◌, ◌-◌, ◌*◌, ◌/◌, ◌%◌, ◌^◌, ◌<◌, ◌≤◌, subst, List, ◌∷◌, ◌++◌, length, take, drop, replicate, get_or, Bool, true, false, ◌↔◌, IsTrue, add-one, refl, ap, sym, ◌∙◌, arith, append_assoc, length-append, drop-cons}
+use Rattle.std.proofs.Common.{◌≡◌, ℕ, suc, ◌+◌, ◌-◌, ◌*◌, ◌/◌, ◌%◌, ◌^◌, ◌<◌, ◌≤◌, subst, List, ◌∷◌, ◌++◌, length, take, drop, replicate}
+use Rattle.std.proofs.Common.{get_or, Bool, true, false, ◌↔◌, IsTrue, add-one, refl, ap, sym, ◌∙◌, arith, append_assoc, length-append}
+use Rattle.std.proofs.Common.{drop-cons}
 use Rattle.std.specs.Prelude.{bit_and}
 use Rattle.std.proofs.lemmas.Nat.{one_shl, and_mask, shr_below, shr_split, mod_below, pow_pos}
 use Rattle.fax_bits.proofs.CodeBitsLemmas.{code_bits-add}
@@ -40,7 +42,7 @@ spells_it b len number fits begins =
     ∙ ap (λ n. take n (front ++ begins.0)) (sym long) ∙ take-append_seam front begins.0)
     ∙ number-code_bits len number fits
 
--- whether bits begin with these, behind those that both begin with
+-- whether bits begin with these, after those that both begin with
 pub begins_behind : (b c front more : List Bool) → b ≡ front ++ c → BeginsWith c more ↔ BeginsWith b (front ++ more)
 begins_behind b c front more is = (
   λ begins. (begins.0, is ∙ ap (λ d. front ++ d) begins.1 ∙ sym (append_assoc front more begins.0)),
@@ -55,7 +57,8 @@ taken_iff front b true rest taken = (λ is. (rest, taken), λ begins. refl)
 taken_iff front b false rest taken = (λ is. absurd (cc is), λ begins. absurd (taken.1 begins))
 
 -- whether bits begin with two parts, the first of which stands next
-pub both_taken : (b middle front back : List Bool) (result : Bool) (rest : List Bool) → b ≡ front ++ middle → IsTaken back middle result rest
+pub both_taken : (b middle front back : List Bool) (result : Bool) (rest : List Bool) → b ≡ front ++ middle
+    → IsTaken back middle result rest
     → IsTrue result ↔ BeginsWith b (front ++ back)
 both_taken b middle front back result rest is taken =
     let here = taken_iff back middle result rest taken in
@@ -80,13 +83,14 @@ module _ (len low number : ℕ) (within : low ≤ len) (short : len ≤ 48) (fit
   pub low_part-lt : bit_and number (1 * 2 ^ low % 2 ^ 64 - 1) < 2 ^ low
   low_part-lt = rw low_part (mod_below number (2 ^ low) (pow_pos low))
 
-  pub two_parts : code_bits len number ≡ code_bits (len - low) (number / 2 ^ low) ++ code_bits low (bit_and number (1 * 2 ^ low % 2 ^ 64 - 1))
+  pub two_parts : code_bits len number
+      ≡ code_bits (len - low) (number / 2 ^ low) ++ code_bits low (bit_and number (1 * 2 ^ low % 2 ^ 64 - 1))
   two_parts =
       sym (ap (λ n. code_bits n number) parts_are) ∙ ap (code_bits (len - low + low)) (sym (shr_split number low))
       ∙ code_bits-add (len - low) low (number / 2 ^ low) (number % 2 ^ low) (mod_below number (2 ^ low) (pow_pos low))
       ∙ ap (λ n. code_bits (len - low) (number / 2 ^ low) ++ code_bits low n) (sym low_part)
 
--- the bits of bytes that stand one behind another
+-- the bits of bytes that stand one after another
 bits-append : (bytes more : List ℕ) → bits MsbFirst (bytes ++ more) ≡ bits MsbFirst bytes ++ bits MsbFirst more
 unfolding bits
 bits-append bytes more = flat_map-append (byte_bits MsbFirst) bytes more
@@ -95,7 +99,7 @@ bits-cons : (byte : ℕ) (bytes : List ℕ) → bits MsbFirst (byte ∷ bytes) �
 unfolding bits
 bits-cons byte bytes = ap (λ b. b ++ bits MsbFirst bytes) (byte_bits-msb byte)
 
--- the bytes of a sink, compared one behind another, with some pending bits behind them
+-- the bytes of a sink, compared one after another, with some pending bits after them
 module _ (bytes : List ℕ) (i : ℕ) (source ahead : List Bool) (so_far : source ≡ bits MsbFirst (take i bytes) ++ ahead) where
   pub next_byte : (byte : ℕ) (rest : List Bool) → i < length bytes → byte ≡ get_or bytes i 0 → ahead ≡ code_bits 8 byte ++ rest
       → source ≡ bits MsbFirst (take (i + 1) bytes) ++ rest
@@ -118,14 +122,17 @@ module _ (bytes : List ℕ) (i : ℕ) (source ahead : List Bool) (so_far : sourc
       ∙ bits-append (take i bytes) (get_or bytes i 0 ∷ drop (suc i) bytes)
       ∙ ap (λ b. front ++ b) (bits-cons (get_or bytes i 0) (drop (suc i) bytes) ∙ ap (λ n. code_bits 8 n ++ behind) (sym byte_is)) in
       let all : bits MsbFirst bytes ++ pending ≡ front ++ (here ++ (behind ++ pending)) =
-      ap (λ b. b ++ pending) parts ∙ append_assoc front (here ++ behind) pending ∙ ap (λ b. front ++ b) (append_assoc here behind pending) in
-      let more = (begins_behind source ahead front (here ++ (behind ++ pending)) so_far).1 (begins.0, begins.1 ∙ ap (λ b. b ++ begins.0) all) in
+      ap (λ b. b ++ pending) parts ∙ append_assoc front (here ++ behind) pending
+      ∙ ap (λ b. front ++ b) (append_assoc here behind pending) in
+      let more =
+      (begins_behind source ahead front (here ++ (behind ++ pending)) so_far).1 (begins.0, begins.1 ∙ ap (λ b. b ++ begins.0) all) in
       other (behind ++ pending ++ more.0, more.1 ∙ append_assoc here (behind ++ pending) more.0)
 
   pub last_bits : (pending : List Bool) (result : Bool) → i ≡ length bytes → IsTrue result ↔ BeginsWith ahead pending
       → IsTrue result ↔ BeginsWith source (bits MsbFirst bytes ++ pending)
   last_bits pending result all here =
-      let is : source ≡ bits MsbFirst bytes ++ ahead = so_far ∙ ap (λ n. bits MsbFirst (take n bytes) ++ ahead) all ∙ ap (λ xs. bits MsbFirst xs ++ ahead) (take-length bytes) in
+      let is : source ≡ bits MsbFirst bytes ++ ahead =
+      so_far ∙ ap (λ n. bits MsbFirst (take n bytes) ++ ahead) all ∙ ap (λ xs. bits MsbFirst xs ++ ahead) (take-length bytes) in
       let whole = begins_behind source ahead (bits MsbFirst bytes) pending is in
       (λ yes. whole.0 (here.0 yes), λ begins. here.1 (whole.1 begins))
 

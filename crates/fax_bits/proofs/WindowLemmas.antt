@@ -1,12 +1,15 @@
--- Words of 64 bits: `count` bits, the highest first, with zeros behind them.
-use Rattle.std.proofs.Common.{◌≡◌, ℕ, zero, suc, ◌+◌, ◌-◌, ◌*◌, ◌/◌, ◌%◌, ◌^◌, ◌<◌, ◌≤◌, List, [], ◌∷◌, ◌++◌, length, take, drop, replicate, get_or, Bool, true, false, nat_eq, refl, append_assoc, ap, sym, ◌∙◌, subst, arith, length-append, length-drop, add-zero}
+-- Words of 64 bits: `count` bits, the highest first, with zeros after them.
+use Rattle.std.proofs.Common.{◌≡◌, ℕ, zero, suc, ◌+◌, ◌-◌, ◌*◌, ◌/◌, ◌%◌, ◌^◌, ◌<◌, ◌≤◌, List, [], ◌∷◌, ◌++◌, length, take, drop, replicate}
+use Rattle.std.proofs.Common.{get_or, Bool, true, false, nat_eq, refl, append_assoc, ap, sym, ◌∙◌, subst, arith, length-append, length-drop}
+use Rattle.std.proofs.Common.{add-zero}
 use Rattle.std.specs.Prelude.{bit_or}
 use Rattle.std.specs.Int.{bit_at}
 use Rattle.std.proofs.Math.Nat.{add-mul, pow-succ', div-div-eq-div-mul, mul_assoc, mul-mod_left}
 use Rattle.std.proofs.Math.Seq.{drop-append_seam, take-append_seam}
 use Rattle.std.proofs.lemmas.List.{take-append-le, take-append-drop}
 use lib.Count.{count_leading_zeros}
-use Rattle.std.proofs.lemmas.Nat.{leading_length, shr_high, mod-pow-add, mod_below, or_shifted, pow-add, pow_pos, shl_below, shl-shr, shl_whole, shr_below, shr_split}
+use Rattle.std.proofs.lemmas.Nat.{leading_length, shr_high, mod-pow-add, mod_below, or_shifted, pow-add, pow_pos, shl_below, shl-shr}
+use Rattle.std.proofs.lemmas.Nat.{shl_whole, shr_below, shr_split}
 use Rattle.fax_bits.specs.declared.FillOrder.{FillOrder}
 use Rattle.fax_bits.specs.declared.window.Window.{Window}
 use Rattle.fax_bits.specs.code.BitsAhead.{bits_ahead}
@@ -109,9 +112,11 @@ module _ (count word n : ℕ) (more : List Bool) (few : count ≤ 64) (within : 
       ∙ ap (λ k. word / 2 ^ k) places in
       let split : code_bits count number ≡ code_bits n (number / 2 ^ (count - n)) ++ code_bits (count - n) (number % 2 ^ (count - n)) =
       sym (ap (λ k. code_bits k number) all) ∙ ap (code_bits (n + (count - n))) (sym (shr_split number (count - n)))
-      ∙ code_bits-add n (count - n) (number / 2 ^ (count - n)) (number % 2 ^ (count - n)) (mod_below number (2 ^ (count - n)) (pow_pos (count - n))) in
+      ∙ code_bits-add n (count - n) (number / 2 ^ (count - n)) (number % 2 ^ (count - n))
+      (mod_below number (2 ^ (count - n)) (pow_pos (count - n))) in
       take-append-le n (first_bits count word) more short ∙ ap (take n) split
-      ∙ sym (ap (λ k. take k (code_bits n (number / 2 ^ (count - n)) ++ code_bits (count - n) (number % 2 ^ (count - n)))) (length-code_bits n (number / 2 ^ (count - n))))
+      ∙ sym (ap (λ k. take k (code_bits n (number / 2 ^ (count - n)) ++ code_bits (count - n) (number % 2 ^ (count - n))))
+      (length-code_bits n (number / 2 ^ (count - n))))
       ∙ take-append_seam (code_bits n (number / 2 ^ (count - n))) (code_bits (count - n) (number % 2 ^ (count - n)))
       ∙ ap (code_bits n) high
 
@@ -125,7 +130,7 @@ module _ (count word n : ℕ) (more : List Bool) (few : count ≤ 64) (within : 
       let b = code_bits n (word / 2 ^ (64 - n)) in
       sym (ap bits_number next_bits ∙ number-code_bits n (word / 2 ^ (64 - n)) next-lt)
 
--- a 1 behind n zeros
+-- a 1 after n zeros
 one_bit : (n : ℕ) → code_bits (suc n) 1 ≡ replicate n false ++ true ∷ []
 unfolding code_bits
 one_bit zero = refl
@@ -135,7 +140,7 @@ one_bit (suc n) =
     let none : bit_at 1 (suc n) ≡ 0 = ap (λ d. d % 2) (ap (λ w. w / 2 ^ suc n) is ∙ shr_high 0 (suc n) 1 small) in
     ap (λ d. nat_eq d 1 ∷ code_bits (suc n) 1) none ∙ ap (λ b. false ∷ b) (one_bit n)
 
--- the highest bit of a word, which stands behind its leading zeros
+-- the highest bit of a word, which stands after its leading zeros
 top_bit : (word n m : ℕ) → n + suc m ≡ 64 → word < 2 ^ suc m → 2 ^ suc m ≤ 2 * word + 1 → word / 2 ^ (64 - suc n) ≡ 1
 top_bit word n m parts below most =
     let place : 64 - suc n ≡ m = omega arith in
@@ -199,7 +204,7 @@ length-bits_ahead order bytes window =
     ∙ ap (λ n. n + length (bits order (drop window.at bytes))) (length-first_bits window.count window.bits)
     ∙ ap (λ n. window.count + n) (length-bits order (drop window.at bytes) ∙ ap (λ n. 8 * n) (length-drop window.at bytes))
 
--- what is left behind some bits
+-- what is left after some bits
 pub behind_front : (front rest : List Bool) → drop (length (front ++ rest) - length rest) (front ++ rest) ≡ rest
 behind_front front rest =
     let e : length (front ++ rest) - length rest ≡ length front = omega (arith, length-append front rest) in

@@ -1,5 +1,6 @@
 -- Zeros that bits begin with.
-use Rattle.std.proofs.Common.{◌≡◌, ℕ, zero, suc, ◌+◌, ◌-◌, ◌<◌, List, [], ◌∷◌, length, get_or, Bool, true, false, refl, ap, sym, ◌∙◌, inl, inr, arith}
+use Rattle.std.proofs.Common.{◌≡◌, ℕ, zero, suc, ◌+◌, ◌-◌, ◌<◌, List, [], ◌∷◌, length, get_or, Bool, true, false, refl, ap, sym, ◌∙◌, inl}
+use Rattle.std.proofs.Common.{inr, arith}
 use Rattle.std.proofs.lemmas.Bool.{cases_lt}
 use Rattle.fax_bits.specs.Bits.{IsAllZeros, HasZerosAhead}
 use Rattle.fax_bits.specs.code.Source.{IsZeroByteAt}
@@ -8,7 +9,7 @@ use Rattle.fax_bits.specs.code.Source.{IsZeroByteAt}
 abbrev pub IsZeroBelow : List Bool → ℕ → Type 0
 IsZeroBelow b n = (k : ℕ) → k < n → get_or b k false ≡ false
 
--- and the eight behind them
+-- and the eight after them
 pub zeros_more : (b : List Bool) (n : ℕ) → IsZeroBelow b n → IsZeroByteAt b n → IsZeroBelow b (n + 8)
 zeros_more b n below byte k h =
     elim (cases_lt k n) [

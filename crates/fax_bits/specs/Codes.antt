@@ -1,5 +1,6 @@
 -- What it is that bits begin with a code of a table, or with none.
-use Rattle.std.specs.Prelude.{◌≡◌, ℕ, zero, suc, ◌^◌, ◌<◌, ◌≤◌, Bool, List, [], ◌∷◌, ◌++◌, Contains, Some, slice_get}
+use Rattle.std.specs.Prelude.{◌≡◌, ℕ, zero, suc, ◌^◌, ◌<◌, ◌≤◌, Bool, List, [], ◌∷◌, ◌++◌, Contains}
+use Rattle.std.specs.Prelude.{Some, slice_get}
 use Rattle.fax_bits.specs.declared.codes.CodeEntry.{CodeEntry}
 use Rattle.fax_bits.specs.declared.codes.CodeFault.{CodeFault}
 use Rattle.fax_bits.specs.declared.codes.CodeFault.TheVariants.{DataEnds, BadCode}
@@ -18,18 +19,21 @@ bits_at (entry ∷ table) (suc place) = bits_at table place
 -- each code has 1 to 13 bits, and its number no more than these (T.4, tables 2, 3a, 3b and 4)
 abbrev pub HasShortCodes : {M : Type 0} → List (CodeEntry M) → Type 0
 HasShortCodes {M} table =
-    (entry : CodeEntry M) → Contains table entry → (0 < entry.len) × (entry.len ≤ 13) × (entry.code < 2 ^ entry.len)
+    (entry : CodeEntry M) → Contains table entry → (0 < entry.len) × (entry.len ≤ 13)
+    × (entry.code < 2 ^ entry.len)
 
--- no entry's code begins the code at another place of the table, where the same entry may stand too (T.4, tables 2,
--- 3a, 3b and 4)
+-- no entry's code begins the code at another place of the table, where the same entry may stand too
+-- (T.4, tables 2, 3a, 3b and 4)
 abbrev pub IsPrefixFree : {M : Type 0} → List (CodeEntry M) → Type 0
 IsPrefixFree {M} table =
     (i j : ℕ) (entry other : CodeEntry M) (more : List Bool)
     → slice_get table i ≡ Some entry → slice_get table j ≡ Some other
     → bits_of other ≡ bits_of entry ++ more → i ≡ j
 
--- the bits begin with the code of some entry that has this meaning, and the rest follows it (T.4, section 4.1.1)
-pub record Takes {M : Type 0} (table : List (CodeEntry M)) (b : List Bool) (meaning : M) (rest : List Bool) : Type 0 where
+-- the bits begin with the code of some entry that has this meaning, and the rest follows it
+-- (T.4, section 4.1.1)
+pub record Takes {M : Type 0} (table : List (CodeEntry M)) (b : List Bool) (meaning : M)
+    (rest : List Bool) : Type 0 where
   pub entry : CodeEntry M
   pub listed : Contains table entry
   pub means : entry.meaning ≡ meaning
@@ -39,8 +43,10 @@ pub record Takes {M : Type 0} (table : List (CodeEntry M)) (b : List Bool) (mean
 abbrev pub IsCodeAhead : List Bool → List Bool → Type 0
 IsCodeAhead code b = (rest : List Bool) × (b ≡ code ++ rest)
 
--- the code of some entry, which has this length and this meaning, begins the bits (T.4, section 4.1.1)
-pub record BeginsWith {M : Type 0} (table : List (CodeEntry M)) (b : List Bool) (len : ℕ) (meaning : M) : Type 0 where
+-- the code of some entry, which has this length and this meaning, begins the bits
+-- (T.4, section 4.1.1)
+pub record BeginsWith {M : Type 0} (table : List (CodeEntry M)) (b : List Bool) (len : ℕ)
+    (meaning : M) : Type 0 where
   pub entry : CodeEntry M
   pub listed : Contains table entry
   pub length : entry.len ≡ len
@@ -53,7 +59,8 @@ IsCutBy code b = (missing : Bool) × (more : List Bool) × (b ++ missing ∷ mor
 
 -- no code of the table begins the bits (T.4, section 4.1.1)
 abbrev pub HasNoCode : {M : Type 0} → List (CodeEntry M) → List Bool → Type 0
-HasNoCode {M} table b = (entry : CodeEntry M) → Contains table entry → IsCodeAhead (bits_of entry) b → ⊥
+HasNoCode {M} table b =
+    (entry : CodeEntry M) → Contains table entry → IsCodeAhead (bits_of entry) b → ⊥
 
 -- the bits begin some code of the table, and are not all of it (T.4, section 4.1.1)
 abbrev pub IsCutShort : {M : Type 0} → List (CodeEntry M) → List Bool → Type 0
@@ -64,7 +71,8 @@ abbrev pub IsFaultOf : {M : Type 0} → List (CodeEntry M) → List Bool → Cod
 IsFaultOf table b DataEnds = HasNoCode table b × IsCutShort table b
 IsFaultOf table b BadCode = HasNoCode table b × (IsCutShort table b → ⊥)
 
--- the bits are the codes of these meanings, one after another, and the rest follows them (T.4, section 4.1.1)
+-- the bits are the codes of these meanings, one after another, and the rest follows them
+-- (T.4, section 4.1.1)
 abbrev pub Spells : {M : Type 0} → List (CodeEntry M) → List Bool → List M → List Bool → Type 0
 Spells table b [] rest = b ≡ rest
 Spells table b (meaning ∷ meanings) rest =

@@ -1,5 +1,6 @@
 -- Laws of bits and of code tables, which the functions of the module `laws` prove.
-use Rattle.std.specs.Prelude.{◌≡◌, ℕ, ◌*◌, ◌/◌, ◌%◌, ◌^◌, ◌<◌, ◌==◌, Bool, false, List, ◌++◌, length, replicate, slice_index_or, All, ◌⊎◌}
+use Rattle.std.specs.Prelude.{◌≡◌, ℕ, ◌*◌, ◌/◌, ◌%◌, ◌^◌, ◌<◌, ◌==◌, Bool, false, List, ◌++◌}
+use Rattle.std.specs.Prelude.{length, replicate, slice_index_or, All, ◌⊎◌}
 use Rattle.std.specs.Int.{bit_at}
 use Rattle.fax_bits.specs.declared.codes.CodeEntry.{CodeEntry}
 use Rattle.fax_bits.specs.declared.codes.CodeFault.{CodeFault}
@@ -13,8 +14,8 @@ use Rattle.fax_bits.specs.Codes.{Takes, IsFaultOf}
 use Rattle.fax_bits.specs.Runs.{IsRun, IsWritten, run_bits, mode_bits}
 use Rattle.fax_bits.specs.Tables.{modes}
 
--- bytes have eight bits each, and each bit stands in its byte, at a place that the fill order says (TIFF 6.0,
--- FillOrder)
+-- bytes have eight bits each, and each bit stands in its byte, at a place that the fill order says
+-- (TIFF 6.0, FillOrder)
 pub record AreBitsByPlace : Type 0 where
   pub count : (order : FillOrder) (bytes : List ℕ) → length (bits order bytes) ≡ 8 * length bytes
   pub of_byte : (order : FillOrder) (byte i : ℕ) → i < 8
@@ -23,22 +24,26 @@ pub record AreBitsByPlace : Type 0 where
       → slice_index_or (bits order bytes) i false
       ≡ (bit_at (slice_index_or bytes (i / 8) 0) (bit_in_byte order (i % 8)) == 1)
 
--- eight bits are those of one byte: the number that they spell, the highest first (TIFF 6.0, FillOrder)
+-- eight bits are those of one byte: the number that they spell, the highest first
+-- (TIFF 6.0, FillOrder)
 pub record AreBitsOfOneByte : Type 0 where
   pub fits : (b : List Bool) → length b ≡ 8 → bits_number b < 256
   pub spelled : (b : List Bool) → length b ≡ 8 → byte_bits MsbFirst (bits_number b) ≡ b
   pub again : (byte : ℕ) → byte < 256 → bits_number (byte_bits MsbFirst byte) ≡ byte
 
--- the bytes of bits hold these bits, and fewer than eight zeros up to a whole byte (TIFF 6.0, FillOrder)
+-- the bytes of bits hold these bits, and fewer than eight zeros up to a whole byte
+-- (TIFF 6.0, FillOrder)
 abbrev pub PackedBitsArePadded : Type 0
 PackedBitsArePadded =
     (order : FillOrder) (b : List Bool)
     → (zeros : ℕ) × (zeros < 8) × (bits order (packed order b) ≡ b ++ replicate zeros false)
 
--- bytes that hold bits, and fewer than eight zeros behind them, are the bytes of these bits (TIFF 6.0, FillOrder)
+-- bytes that hold bits, and fewer than eight zeros after them, are the bytes of these bits
+-- (TIFF 6.0, FillOrder)
 abbrev pub PaddedBytesArePacked : Type 0
 PaddedBytesArePacked =
-    (order : FillOrder) (b : List Bool) (bytes : List ℕ) (zeros : ℕ) → zeros < 8 → All (λ byte. byte < 256) bytes
+    (order : FillOrder) (b : List Bool) (bytes : List ℕ) (zeros : ℕ) → zeros < 8
+    → All (λ byte. byte < 256) bytes
     → bits order bytes ≡ b ++ replicate zeros false → bytes ≡ packed order b
 
 -- bits are packed into bytes in one way (TIFF 6.0, FillOrder)
@@ -50,18 +55,21 @@ pub record PacksOneWay : Type 0 where
 abbrev pub TakesOne : {M : Type 0} → List (CodeEntry M) → Type 0
 TakesOne {M} table =
     (b : List Bool) (meaning other : M) (rest remaining : List Bool)
-    → Takes table b meaning rest → Takes table b other remaining → (meaning ≡ other) × (rest ≡ remaining)
+    → Takes table b meaning rest → Takes table b other remaining → (meaning ≡ other)
+    × (rest ≡ remaining)
 
 -- a code that is taken has at least one bit (T.4, tables 2, 3a, 3b and 4)
 abbrev pub TakesBits : {M : Type 0} → List (CodeEntry M) → Type 0
 TakesBits {M} table =
-    (b : List Bool) (meaning : M) (rest : List Bool) → Takes table b meaning rest → length rest < length b
+    (b : List Bool) (meaning : M) (rest : List Bool) → Takes table b meaning rest
+    → length rest < length b
 
 -- a code of the table is taken, or there is a fault (this project's profile)
 abbrev pub TakesOrFails : {M : Type 0} → List (CodeEntry M) → Type 0
 TakesOrFails {M} table =
     (b : List Bool)
-    → ((meaning : M) × (rest : List Bool) × Takes table b meaning rest) ⊎ ((fault : CodeFault) × IsFaultOf table b fault)
+    → ((meaning : M) × (rest : List Bool) × Takes table b meaning rest)
+    ⊎ ((fault : CodeFault) × IsFaultOf table b fault)
 
 -- bits of which a code is taken have no fault (this project's profile)
 abbrev pub TakenHasNoFault : {M : Type 0} → List (CodeEntry M) → Type 0
@@ -72,9 +80,11 @@ TakenHasNoFault {M} table =
 -- bits have at most one fault (this project's profile)
 abbrev pub HasOneFault : {M : Type 0} → List (CodeEntry M) → Type 0
 HasOneFault table =
-    (b : List Bool) (fault other : CodeFault) → IsFaultOf table b fault → IsFaultOf table b other → fault ≡ other
+    (b : List Bool) (fault other : CodeFault) → IsFaultOf table b fault → IsFaultOf table b other
+    → fault ≡ other
 
--- bits are read by a table in one way: one code and one rest, or one fault (T.4, tables 2, 3a, 3b and 4)
+-- bits are read by a table in one way: one code and one rest, or one fault
+-- (T.4, tables 2, 3a, 3b and 4)
 pub record ReadsOneWay {M : Type 0} (table : List (CodeEntry M)) : Type 0 where
   pub takes_one : TakesOne table
   pub takes_bits : TakesBits table
@@ -84,7 +94,8 @@ pub record ReadsOneWay {M : Type 0} (table : List (CodeEntry M)) : Type 0 where
 
 -- a run that is written is read again, whatever follows it (T.4, section 4.1.1)
 abbrev pub RunBitsAreRead : Type 0
-RunBitsAreRead = (colour : Colour) (n : ℕ) (more : List Bool) → n < 2 ^ 16 → IsRun colour (run_bits colour n ++ more) n more
+RunBitsAreRead = (colour : Colour) (n : ℕ) (more : List Bool) → n < 2 ^ 16
+    → IsRun colour (run_bits colour n ++ more) n more
 
 -- a run that is written is read as nothing else (T.4, section 4.1.1)
 abbrev pub RunBitsAreOneRun : Type 0
@@ -94,4 +105,5 @@ RunBitsAreOneRun =
 
 -- a mode that is written is read again, whatever follows it (T.4, section 4.2.1.3.2 and table 4)
 abbrev pub ModeBitsAreRead : Type 0
-ModeBitsAreRead = (mode : ModeCode) (more : List Bool) → IsWritten mode → Takes modes (mode_bits mode ++ more) mode more
+ModeBitsAreRead = (mode : ModeCode) (more : List Bool) → IsWritten mode
+    → Takes modes (mode_bits mode ++ more) mode more

@@ -1,17 +1,21 @@
--- Runs of pels of one colour, and the codes that are written (ITU-T T.4, sections 4.1.1 and 4.2.1.3.2).
-use Rattle.std.specs.Prelude.{◌≡◌, ℕ, pos, negsuc, ◌≤ℤ◌, ◌+◌, ◌*◌, ◌/◌, ◌%◌, Bool, true, false, if◌then◌else◌, ◌==◌, List, [], ◌∷◌, ◌++◌, map, sum, flat_map, replicate}
+-- Runs of pels of one colour, and the codes that are written
+-- (ITU-T T.4, sections 4.1.1 and 4.2.1.3.2).
+use Rattle.std.specs.Prelude.{◌≡◌, ℕ, pos, negsuc, ◌≤ℤ◌, ◌+◌, ◌*◌, ◌/◌, ◌%◌, Bool, true, false}
+use Rattle.std.specs.Prelude.{if◌then◌else◌, ◌==◌, List, [], ◌∷◌, ◌++◌, map, sum, flat_map}
+use Rattle.std.specs.Prelude.{replicate}
 use Rattle.std.specs.Ordering.{int_eq}
 use Rattle.fax_bits.specs.declared.codes.CodeEntry.{CodeEntry}
 use Rattle.fax_bits.specs.declared.Colour.{Colour}
 use Rattle.fax_bits.specs.declared.modes.ModeCode.{ModeCode}
-use Rattle.fax_bits.specs.declared.modes.ModeCode.TheVariants.{Pass, Horizontal, Vertical, Extension as ModeExtension}
+use Rattle.fax_bits.specs.declared.modes.ModeCode.TheVariants.{Pass, Horizontal, Vertical}
+use Rattle.fax_bits.specs.declared.modes.ModeCode.TheVariants.{Extension as ModeExtension}
 use Rattle.fax_bits.specs.declared.runs.RunCode.{RunCode}
 use Rattle.fax_bits.specs.declared.runs.RunCode.TheVariants.{Terminating, MakeUp, Extension}
 use Rattle.fax_bits.specs.Tables.{run_table, modes}
 use Rattle.fax_bits.specs.Codes.{bits_of, Spells}
 
--- the bits begin with a run of n pels: any number of make-up codes, in any order, then one terminating code
--- (T.4, section 4.1.1)
+-- the bits begin with a run of n pels: any number of make-up codes, in any order, then one
+-- terminating code (T.4, section 4.1.1)
 pub record IsRun (colour : Colour) (b : List Bool) (n : ℕ) (rest : List Bool) : Type 0 where
   pub make_up : List ℕ
   pub last : ℕ
@@ -33,7 +37,8 @@ same_mode (Vertical d) (Vertical e) = int_eq d e
 same_mode ModeExtension ModeExtension = true
 same_mode _ _ = false
 
--- the bits of the first code in the table that has a meaning which passes the test (T.4, tables 2, 3a, 3b and 4)
+-- the bits of the first code in the table that has a meaning which passes the test
+-- (T.4, tables 2, 3a, 3b and 4)
 abbrev pub code_for : {M : Type 0} → (M → Bool) → List (CodeEntry M) → List Bool
 code_for test [] = []
 code_for test (entry ∷ table) = if test entry.meaning then bits_of entry else code_for test table
@@ -46,7 +51,8 @@ run_code_bits colour code = code_for (same_run_code code) (run_table colour)
 unfoldable pub mode_bits : ModeCode → List Bool
 mode_bits mode = code_for (same_mode mode) modes
 
--- a mode that is written: no extension, and a1 at most 3 pels from b1 (T.4, section 4.2.1.3.2 and table 4)
+-- a mode that is written: no extension, and a1 at most 3 pels from b1
+-- (T.4, section 4.2.1.3.2 and table 4)
 abbrev pub IsWritten : ModeCode → Type 0
 IsWritten (Vertical d) = (negsuc 2 ≤ℤ d) × (d ≤ℤ pos 3)
 IsWritten ModeExtension = ⊥
@@ -56,8 +62,8 @@ IsWritten _ = Unit {0}
 abbrev pub one_make_up : ℕ → List RunCode
 one_make_up pels = if pels == 0 then [] else (MakeUp (64 * pels) ∷ [])
 
--- the codes of a run as it is written: 2560 as often as it fits, at most one other make-up code, a terminating
--- code (T.4, section 4.1.1)
+-- the codes of a run as it is written: 2560 as often as it fits, at most one other make-up code, a
+-- terminating code (T.4, section 4.1.1)
 abbrev pub run_codes : ℕ → List RunCode
 run_codes n =
     replicate (n / 2560) (MakeUp 2560) ++ one_make_up (n % 2560 / 64) ++ Terminating (n % 64) ∷ []

@@ -1,15 +1,18 @@
 -- The code tables of ITU-T T.4, each code spelled as the standard prints it.
-use Rattle.std.specs.Prelude.{ℕ, ◌+◌, ◌*◌, ◌-◌, ◌==◌, List, [], ◌∷◌, ◌++◌, length, fold, codes, pos, negsuc, nat_lt, if◌then◌else◌}
+use Rattle.std.specs.Prelude.{ℕ, ◌+◌, ◌*◌, ◌-◌, ◌==◌, List, [], ◌∷◌, ◌++◌, length, fold, codes, pos}
+use Rattle.std.specs.Prelude.{negsuc, nat_lt, if◌then◌else◌}
 use Rattle.std.specs.List.{slice_split}
 use Rattle.fax_bits.specs.declared.codes.CodeEntry.{CodeEntry}
 use Rattle.fax_bits.specs.declared.Colour.{Colour}
 use Rattle.fax_bits.specs.declared.Colour.TheVariants.{White, Black}
 use Rattle.fax_bits.specs.declared.modes.ModeCode.{ModeCode}
-use Rattle.fax_bits.specs.declared.modes.ModeCode.TheVariants.{Pass, Horizontal, Vertical, Extension as ModeExtension}
+use Rattle.fax_bits.specs.declared.modes.ModeCode.TheVariants.{Pass, Horizontal, Vertical}
+use Rattle.fax_bits.specs.declared.modes.ModeCode.TheVariants.{Extension as ModeExtension}
 use Rattle.fax_bits.specs.declared.runs.RunCode.{RunCode}
 use Rattle.fax_bits.specs.declared.runs.RunCode.TheVariants.{Terminating, MakeUp, Extension}
 
--- the number that binary digits spell, the highest first (48 is the digit 0) (T.4, tables 2, 3a, 3b and 4)
+-- the number that binary digits spell, the highest first (48 is the digit 0)
+-- (T.4, tables 2, 3a, 3b and 4)
 abbrev pub binary : List ℕ → ℕ
 binary digits = fold (λ number digit. 2 * number + (digit - 48)) 0 digits
 
@@ -64,8 +67,9 @@ black_terminating =
 unfoldable pub white_make_up : List (List ℕ)
 white_make_up =
     written (codes "11011 10010 010111 0110111 00110110 00110111 01100100 01100101 01101000")
-    ++ written (codes "01100111 011001100 011001101 011010010 011010011 011010100 011010101 011010110 011010111")
-    ++ written (codes "011011000 011011001 011011010 011011011 010011000 010011001 010011010 011000 010011011")
+    ++ written (codes "01100111 011001100 011001101 011010010 011010011 011010100 011010101")
+    ++ written (codes "011010110 011010111 011011000 011011001 011011010 011011011 010011000")
+    ++ written (codes "010011001 010011010 011000 010011011")
 
 -- black runs of 64, 128, .. 1728 (T.4, table 3a)
 unfoldable pub black_make_up : List (List ℕ)
@@ -111,7 +115,8 @@ black_runs =
 -- what the code at a place of a run table means (T.4, tables 2, 3a and 3b)
 abbrev pub run_meaning : ℕ → RunCode
 run_meaning i =
-    if nat_lt i 64 then Terminating i else (if nat_lt i 104 then MakeUp (64 * (i - 63)) else Extension)
+    if nat_lt i 64 then Terminating i
+    else (if nat_lt i 104 then MakeUp (64 * (i - 63)) else Extension)
 
 -- the codes of runs of a colour (T.4, tables 2, 3a and 3b)
 abbrev pub run_table : Colour → List (CodeEntry RunCode)

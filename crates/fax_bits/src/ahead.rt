@@ -1,6 +1,6 @@
 //! The bits ahead of a source, by value: what a row that has no fault is read from quickly. Every
-//! function gives up, with `None`, where fewer bits are loaded than it may need, or at any doubt: then
-//! the row is read again from its source.
+//! function gives up, with `None`, where fewer bits are loaded than it may need, or at any doubt:
+//! then the row is read again from its source.
 ghost use Rattle.std.specs.Prelude.{◌≡◌, ◌+◌, ◌*◌, ◌<◌, ◌≤◌, ◌++◌, length, IfSome};
 ghost use Rattle.fax_bits.specs.Bits.{code_bits};
 ghost use Rattle.fax_bits.specs.Codes.{Takes};
@@ -9,17 +9,15 @@ ghost use Rattle.fax_bits.specs.Tables.{modes, run_table};
 ghost use Rattle.fax_bits.specs.code.BitsAhead.{bits_ahead};
 ghost use Rattle.fax_bits.specs.code.Source.{KeepsEnd, IsPlaced, source_of};
 
+use crate::codes::LONGEST_CODE;
 use crate::modes::{ModeCode, find_mode};
 use crate::runs::{RunCode, find_run_code, find_short_run};
 use crate::window::Window;
 use crate::{BitSource, Colour, FillOrder};
 use std::marker::Model;
 
-/// How many bits the longest code has.
-const LONGEST_CODE: u32 = 13;
-
-/// A place in the bits of some bytes, by value, as a `BitSource` is one. Contracts see the bits from
-/// there on and the number of bits before it.
+/// A place in the bits of some bytes, by value, as a `BitSource` is one. Contracts see the bits
+/// from there on and the number of bits before it.
 #[derive(Drop)]
 pub struct Ahead<'a> {
     order: FillOrder,
@@ -86,7 +84,7 @@ impl<'a> Ahead<'a> {
         BitSource::at(self.bytes, self.order, place)
     }
 
-    /// Goes behind the lowest `len` bits of `bits`, 1 to 32 of them, the highest first, where they
+    /// Goes past the lowest `len` bits of `bits`, 1 to 32 of them, the highest first, where they
     /// stand next.
     #[inline(always)]
     pub(crate) fn behind(self, bits: u32, len: u32) -> Option<Ahead<'a>>
@@ -154,8 +152,8 @@ impl<'a> Ahead<'a> {
         Some((behind, code))
     }
 
-    /// Reads a run of the colour, of one make-up code at most, and how many pels it has (T.4, section
-    /// 4.1.1). Most runs are one short code.
+    /// Reads a run of the colour, of one make-up code at most, and how many pels it has
+    /// (T.4, section 4.1.1). Most runs are one short code.
     #[inline(always)]
     pub fn run(self, colour: Colour) -> Option<(Ahead<'a>, u32)>
         ensures run { IfSome result (λ read. IsRun colour self.entry.left read.1 read.0.left) }

@@ -10,7 +10,7 @@ use crate::BitSource;
 use thiserror::Error;
 
 /// How many bits the longest code has.
-const LONGEST_CODE: u32 = 13;
+pub(crate) const LONGEST_CODE: u32 = 13;
 
 /// A code of a table: the lowest `len` bits of `code`, the highest of them first.
 #[derive(Clone, Copy, Debug, PartialEq, Eq)]
@@ -70,7 +70,7 @@ pub trait CodeTable {
         ensures { MatchOption result (HasNoCode table (code_bits n window))
             (λ found. BeginsWith table (code_bits n window) found.0 found.1) }
     {
-        let place = Self::place(window << (13 - n));
+        let place = Self::place(window << (LONGEST_CODE - n));
         if place >= Self::COUNT {
             return None;
         }
@@ -121,7 +121,12 @@ impl<'a> BitSource<'a> {
     }
 }
 
-/// Reads a code of the table. After an `Err` the source is as it was.
+/// Reads a code of the table.
+///
+/// # Errors
+///
+/// `DataEnds` where the bits end within a code, `BadCode` where no code begins so. The source is
+/// then as it was.
 pub fn read_code<T: CodeTable>(source: &mut BitSource) -> Result<T::Meaning, CodeFault>
     ensures ok { IfOk result (λ meaning. Takes T.table source.old.left meaning source.new.left) }
     ensures err { IfErr result (λ fault. IsFaultOf T.table source.old.left fault) }
@@ -157,8 +162,8 @@ fn read_last_code<T: CodeTable>(source: &mut BitSource) -> Result<T::Meaning, Co
     }
 }
 
-/// Reads the code that begins the next `n` bits, which are 13, or all where fewer are left. Where none
-/// does, the source is as it was.
+/// Reads the code that begins the next `n` bits, which are 13, or all where fewer are left. Where
+/// none does, the source is as it was.
 #[inline(always)]
 fn take_code<T: CodeTable>(source: &mut BitSource, n: u32) -> Option<T::Meaning>
     requires few { n ≤ 13 }

@@ -24,7 +24,7 @@ pub fn bits_are_packed_in_one_way()
     ensures { Law.PacksOneWay }
 {}
 
-/// At most one code of a table is taken of any bits, with one rest behind it.
+/// At most one code of a table is taken of any bits, with one rest after it.
 pub fn one_code_is_taken<T: CodeTable>()
     ensures { Law.TakesOne T.table }
 {}
@@ -55,7 +55,7 @@ pub fn runs_are_read_back()
 {}
 
 /// A run below 65,536 pels, as `put_run` writes it, is read as no other run, and no other bits are
-/// left behind it (T.4, section 4.1.1).
+/// left after it (T.4, section 4.1.1).
 pub fn runs_are_read_as_nothing_else()
     ensures { Law.RunBitsAreOneRun }
 {}

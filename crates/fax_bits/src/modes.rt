@@ -23,7 +23,19 @@ pub enum ModeCode {
 /// How many entries the mode table has: nine modes, and the extension prefix.
 const MODE_ENTRIES: usize = 10;
 
-static MODES: [CodeEntry<ModeCode>; MODE_ENTRIES] = [
+// Where the modes stand in their table.
+
+pub(crate) const PASS: usize = 0;
+
+pub(crate) const HORIZONTAL: usize = 1;
+
+/// a1 under b1, and after it a1 one, two and three pels right of b1.
+pub(crate) const UNDER: usize = 2;
+
+/// Before a1 one pel left of b1, after which stand two and three pels.
+pub(crate) const LEFT: usize = 5;
+
+pub(crate) const MODES: [CodeEntry<ModeCode>; MODE_ENTRIES] = [
     CodeEntry {
         code: 0b0001,
         len: 4,
@@ -106,8 +118,8 @@ impl CodeTable for Modes {
     ghost prefix_free = { Laws.modes_is_prefix_free };
 }
 
-/// The length and the meaning of the code of a mode that begins thirteen bits, which are loaded. The
-/// short codes, which most modes have, are tried first; of the extension it says nothing.
+/// The length and the meaning of the code of a mode that begins thirteen bits, which are loaded.
+/// The short codes, which most modes have, are tried first; of the extension it says nothing.
 #[inline(always)]
 pub(crate) fn find_mode(bits: u32) -> Option<(u32, ModeCode)>
     requires { bits < 2 ^ 13 }
@@ -137,8 +149,8 @@ fn find_long_mode(bits: u32) -> Option<(u32, ModeCode)>
     }
 }
 
-/// What `find_mode` says of codes of more than six bits, and of a lone 1, which comes here only where
-/// no bit was loaded before.
+/// What `find_mode` says of codes of more than six bits, and of a lone 1, which comes here only
+/// where no bit was loaded before.
 #[inline(always)]
 fn find_longest_mode(bits: u32) -> Option<(u32, ModeCode)>
     requires { bits < 2 ^ 13 }
@@ -154,8 +166,12 @@ fn find_longest_mode(bits: u32) -> Option<(u32, ModeCode)>
     }
 }
 
-/// Reads a mode: what `read_code` does, without a look-up where a1 is under b1. After an `Err` the
-/// source is as it was.
+/// Reads a mode: what `read_code` does, without a look-up where a1 is under b1.
+///
+/// # Errors
+///
+/// `DataEnds` where the bits end within a code, `BadCode` where no code begins so. The source is
+/// then as it was.
 pub fn read_mode(source: &mut BitSource) -> Result<ModeCode, CodeFault>
     ensures ok { IfOk result (λ mode. Takes modes source.old.left mode source.new.left) }
     ensures err { IfErr result (λ fault. IsFaultOf modes source.old.left fault) }

@@ -8,17 +8,39 @@ ghost use Rattle.fax_bits.specs.code.Sink.{Appends, AppendsCodes};
 ghost use Rattle.fax_bits.specs.Tables.{run_meaning};
 
 use crate::codes::CodeTable;
+use crate::modes::{HORIZONTAL, LEFT, MODES, PASS, UNDER};
+use crate::runs::TERMINATING_CODES;
 use crate::{BitSink, BlackRuns, Colour, Memory, ModeCode, Modes, WhiteRuns};
 
 /// The codes of vertical modes, from a1 three pels left of b1 to three pels right of it, and their
-/// lengths in bits (T.4, table 4).
-const VERTICAL_CODES: [u8; 7] = [0b0000010, 0b000010, 0b010, 0b1, 0b011, 0b000011, 0b0000011];
+/// lengths in bits (T.4, table 4): small, since most modes of a page are written by them.
+const VERTICAL_CODES: [u8; 7] = [
+    MODES[LEFT + 3].code as u8,
+    MODES[LEFT + 2].code as u8,
+    MODES[LEFT + 1].code as u8,
+    MODES[UNDER].code as u8,
+    MODES[UNDER + 1].code as u8,
+    MODES[UNDER + 2].code as u8,
+    MODES[UNDER + 3].code as u8,
+];
 
-const VERTICAL_LENS: [u8; 7] = [7, 6, 3, 1, 3, 6, 7];
+const VERTICAL_LENS: [u8; 7] = [
+    MODES[LEFT + 3].len,
+    MODES[LEFT + 2].len,
+    MODES[LEFT + 1].len,
+    MODES[UNDER].len,
+    MODES[UNDER + 1].len,
+    MODES[UNDER + 2].len,
+    MODES[UNDER + 3].len,
+];
 
 /// Puts a run of `n` pels, below 65,536, as codes of its colour: 2560 as often as it fits, at most
-/// one other make-up code, a terminating code (T.4, section 4.1.1). After an `Err` some of these
-/// codes may have been put, from the first on and each of them whole.
+/// one other make-up code, a terminating code (T.4, section 4.1.1).
+///
+/// # Errors
+///
+/// Where a growth was refused. Some of these codes may have been put then, from the first on and
+/// each of them whole.
 #[inline(always)]
 pub fn put_run(sink: &mut BitSink, colour: Colour, n: u32) -> Result<(), Memory>
     requires { n < 2 ^ 16 }
@@ -31,8 +53,8 @@ pub fn put_run(sink: &mut BitSink, colour: Colour, n: u32) -> Result<(), Memory>
     put_long_run(sink, colour, n)
 }
 
-/// Puts a run of fewer than 64 pels, which is one terminating code. After an `Err` the sink is as it
-/// was.
+/// Puts a run of fewer than 64 pels, which is one terminating code. After an `Err` the sink is as
+/// it was.
 #[inline(always)]
 fn put_short_run(sink: &mut BitSink, colour: Colour, n: u32) -> Result<(), Memory>
     requires { n < 64 }
@@ -68,7 +90,11 @@ fn put_make_up(sink: &mut BitSink, colour: Colour, steps: u32) -> Result<(), Mem
         (Appends sink.old (run_code_bits colour (MakeUp (64 * steps))) sink.new) }
     ensures err { OnErr result (sink.new ≡ sink.old) }
 {
-    put_run_code(sink, colour, 63 + steps as usize)
+    put_run_code(
+        sink,
+        colour,
+        usize::from(TERMINATING_CODES) - 1 + steps as usize,
+    )
 }
 
 /// Puts the terminating code of `pels` pels, 0 to 63 (T.4, table 2). After an `Err` the sink is as
@@ -97,7 +123,11 @@ fn put_run_code(sink: &mut BitSink, colour: Colour, place: usize) -> Result<(), 
 }
 
 /// Puts a mode: pass, horizontal, or vertical with a1 at most 3 pels from b1 (T.4, section
-/// 4.2.1.3.2 and table 4). After an `Err` the sink is as it was.
+/// 4.2.1.3.2 and table 4).
+///
+/// # Errors
+///
+/// Where a growth was refused. The sink is then as it was.
 #[inline(always)]
 pub fn put_mode(sink: &mut BitSink, mode: ModeCode) -> Result<(), Memory>
     requires { IsWritten mode }
@@ -105,16 +135,16 @@ pub fn put_mode(sink: &mut BitSink, mode: ModeCode) -> Result<(), Memory>
     ensures err { OnErr result (sink.new ≡ sink.old) }
 {
     match mode {
-        ModeCode::Pass => put_code::<Modes>(sink, 0),
-        ModeCode::Horizontal => put_code::<Modes>(sink, 1),
+        ModeCode::Pass => put_code::<Modes>(sink, PASS),
+        ModeCode::Horizontal => put_code::<Modes>(sink, HORIZONTAL),
         ModeCode::Vertical(d) => put_vertical(sink, d),
         // An extension is not written.
         ModeCode::Extension => Ok(()),
     }
 }
 
-/// Puts vertical mode with a1 `d` pels right of b1, -3 to 3 (T.4, section 4.2.1.3.2 and table 4). After
-/// an `Err` the sink is as it was.
+/// Puts vertical mode with a1 `d` pels right of b1, -3 to 3 (T.4, section 4.2.1.3.2 and table 4).
+/// After an `Err` the sink is as it was.
 #[inline(always)]
 fn put_vertical(sink: &mut BitSink, d: i8) -> Result<(), Memory>
     requires { IsWritten (Vertical d) }

@@ -5,7 +5,7 @@ ghost use Rattle.fax_bits.specs.Codes.{BeginsWith};
 ghost use Rattle.fax_bits.specs.Tables.{black_runs, run_meaning, run_table, white_runs};
 
 use crate::Colour;
-use crate::codes::{CodeEntry, CodeTable};
+use crate::codes::{CodeEntry, CodeTable, LONGEST_CODE};
 use crate::indexes::{BLACK_LONG, BLACK_SHORT, WHITE_LONG, WHITE_SHORT};
 
 /// What a code of a run table means (T.4, section 4.1.1).
@@ -24,7 +24,7 @@ pub enum RunCode {
 const RUN_ENTRIES: usize = 105;
 
 /// How many of them are terminating codes, which stand first.
-const TERMINATING_CODES: u8 = 64;
+pub(crate) const TERMINATING_CODES: u8 = 64;
 
 // The codes in the order of their meaning, which `meaning_at` gives, and their lengths in bits.
 
@@ -397,8 +397,8 @@ pub(crate) fn find_run_code(colour: Colour, bits: u32) -> Option<(u32, RunCode)>
         (λ found. BeginsWith (run_table colour) (code_bits 13 bits) found.0 found.1) }
 {
     match colour {
-        Colour::White => WhiteRuns::find(bits, 13),
-        Colour::Black => BlackRuns::find(bits, 13),
+        Colour::White => WhiteRuns::find(bits, LONGEST_CODE),
+        Colour::Black => BlackRuns::find(bits, LONGEST_CODE),
     }
 }
 
@@ -407,10 +407,11 @@ fn meaning_at(i: u16) -> RunCode
     requires { i < 105 }
     ensures { result ≡ run_meaning i }
 {
-    if i < 64 {
+    let terminating = u16::from(TERMINATING_CODES);
+    if i < terminating {
         RunCode::Terminating(i)
-    } else if i < 104 {
-        RunCode::MakeUp(64 * (i - 63))
+    } else if usize::from(i) < RUN_ENTRIES - 1 {
+        RunCode::MakeUp(64 * (i - terminating + 1))
     } else {
         RunCode::Extension
     }

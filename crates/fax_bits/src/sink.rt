@@ -1,4 +1,4 @@
-//! Bits that are put one behind another into bytes.
+//! Bits that are put one after another into bytes.
 ghost use Rattle.std.specs.Prelude.{◌≡◌, ◌+◌, ◌*◌, ◌<◌, ◌≤◌, ◌%◌, ◌^◌, ◌++◌, ◌↔◌, [], length, take};
 ghost use Rattle.std.specs.Prelude.{OnOk, OnErr, IfSome, IsTrue, vec_len, vec_capacity};
 ghost use Rattle.fax_bits.specs.Bits.{bits, code_bits};
@@ -16,7 +16,7 @@ use std::marker::Model;
 /// The most bits that are pending between two calls.
 const MOST_PENDING: u32 = 40;
 
-/// Pushes the whole bytes of pending bits behind bytes that have room for them, and answers the bits
+/// Pushes the whole bytes of pending bits after bytes that have room for them, and answers the bits
 /// that are pending then, fewer than eight, and how many they are.
 fn push_whole(bytes: &mut Vec<u8>, pending: u64, count: u32) -> (u64, u32)
     requires few { count ≤ 64 }
@@ -40,7 +40,7 @@ fn push_whole(bytes: &mut Vec<u8>, pending: u64, count: u32) -> (u64, u32)
     (rest, left)
 }
 
-/// Pushes the four bytes of a word, the highest first, behind bytes that have room for them.
+/// Pushes the four bytes of a word, the highest first, after bytes that have room for them.
 #[inline(always)]
 fn push_word(bytes: &mut Vec<u8>, word: u32)
     requires room { vec_len bytes.old + 4 ≤ vec_capacity bytes.old }
@@ -56,8 +56,8 @@ fn push_word(bytes: &mut Vec<u8>, word: u32)
     bytes.push_reserved(d);
 }
 
-/// Goes behind the bits of as many bytes as make up words of four, where these stand next, and answers
-/// how many bytes they are.
+/// Goes past the bits of as many bytes as make up words of four, where these stand next, and
+/// answers how many bytes they are.
 fn behind_words<'a>(mut ahead: Ahead<'a>, bytes: &[u8]) -> Option<(Ahead<'a>, usize)>
     ensures within { IfSome result (λ read. read.1 ≤ length bytes.now) }
     ensures words { IfSome result
@@ -71,7 +71,7 @@ fn behind_words<'a>(mut ahead: Ahead<'a>, bytes: &[u8]) -> Option<(Ahead<'a>, us
     Some((ahead, i))
 }
 
-/// Goes behind the bits of all bytes, where these stand next.
+/// Goes past the bits of all bytes, where these stand next.
 fn behind_bytes<'a>(ahead: Ahead<'a>, bytes: &[u8]) -> Option<Ahead<'a>>
     ensures { IfSome result (λ behind. ahead.entry.left ≡ bits MsbFirst bytes.now ++ behind.left) }
 {
@@ -90,7 +90,7 @@ pub struct BitSink {
     /// Whole bytes, the highest bit of each first. Where bits may be pending there is room for five
     /// more.
     bytes: Vec<u8>,
-    /// The bits behind the bytes, as a number: the highest was put first.
+    /// The bits after the bytes, as a number: the highest was put first.
     pending: u64,
     /// How many bits are pending.
     count: u32,
@@ -150,7 +150,8 @@ impl BitSink {
         }
     }
 
-    /// Whether the bits ahead are seen to begin with these, word by word. At any doubt they are not.
+    /// Whether the bits ahead are seen to begin with these, word by word. At any doubt they are
+    /// not.
     fn begins_quickly(&self, ahead: Ahead) -> bool
         ensures { IsTrue result → BeginsWith ahead.entry.left self.now.bits }
     {
@@ -174,8 +175,11 @@ impl BitSink {
         ahead.begins(self.pending, self.count)
     }
 
-    /// Puts the lowest `len` bits of `bits`, 0 to 24 of them, the highest first. After an `Err` the
-    /// sink is as it was.
+    /// Puts the lowest `len` bits of `bits`, 0 to 24 of them, the highest first.
+    ///
+    /// # Errors
+    ///
+    /// Where a growth was refused. The sink is then as it was.
     #[inline(always)]
     pub fn put(&mut self, bits: u32, len: u32) -> Result<(), Memory>
         requires short { len ≤ 24 }
@@ -200,7 +204,7 @@ impl BitSink {
         ensures ok { OnOk result (Appends self.old (code_bits len bits) self.new) }
         ensures err { OnErr result (self.new ≡ self.old) }
     {
-        // Four bytes are stored, and five more have room behind them.
+        // Four bytes are stored, and five more have room after them.
         self.bytes.reserve(9).map_err(|_| Memory)?;
         let pending = (self.pending << len) | u64::from(bits);
         let count = self.count + len;
@@ -232,7 +236,7 @@ impl BitSink {
         ensures { bits self.order result.items ≡ self.bits }
     {
         let mut bytes = self.bytes;
-        // No bits are pending behind these bytes.
+        // No bits are pending after these bytes.
         push_whole(&mut bytes, self.pending, self.count);
         match self.order {
             FillOrder::MsbFirst => {}

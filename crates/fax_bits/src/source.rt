@@ -58,7 +58,8 @@ impl<'a> BitSource<'a> {
         }
     }
 
-    /// The same place by value, for a row that is read quickly, or `None` near the end of the bytes.
+    /// The same place by value, for a row that is read quickly, or `None` near the end of the
+    /// bytes.
     #[inline(always)]
     pub fn ahead(&self) -> Option<Ahead<'a>>
         ensures { IfSome result (λ ahead. ahead ≡ self.now) }
@@ -188,7 +189,7 @@ impl<'a> BitSource<'a> {
         }
     }
 
-    /// Goes behind the lowest `len` bits of `bits`, 0 to 24 of them, the highest first, where they
+    /// Goes past the lowest `len` bits of `bits`, 0 to 24 of them, the highest first, where they
     /// stand next, and answers whether they do. Else it stays.
     pub fn take(&mut self, bits: u32, len: u32) -> bool
         requires short { len ≤ 24 }

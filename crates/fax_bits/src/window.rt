@@ -1,15 +1,17 @@
 //! The next bits of some bytes, by value: what a fast reader keeps in registers.
-ghost use Rattle.std.specs.Prelude.{◌≡◌, ◌+◌, ◌-◌, ◌%◌, ◌^◌, ◌<◌, ◌≤◌, ◌++◌, ℕ, List, length, take, drop};
+ghost use Rattle.std.specs.Prelude.{◌≡◌, ◌+◌, ◌-◌, ◌%◌, ◌^◌, ◌<◌, ◌≤◌, ◌++◌, ℕ, List, length, take};
+ghost use Rattle.std.specs.Prelude.{drop};
 ghost use Rattle.std.specs.Prelude.{replicate, false, IsTrue};
 ghost use Rattle.fax_bits.specs.Bits.{bits, bits_number, code_bits, HasZerosAhead};
 ghost use Rattle.fax_bits.specs.declared.FillOrder.{FillOrder};
 
 use crate::FillOrder;
 
-/// The next bits of some bytes: the first `count` of `bits`, and then those of the bytes from `at` on.
+/// The next bits of some bytes: the first `count` of `bits`, and then those of the bytes from `at`
+/// on.
 #[derive(Clone, Copy, Debug)]
 pub(crate) struct Window {
-    /// The highest is next; zeros stand behind `count`.
+    /// The highest is next; zeros stand after `count`.
     pub bits: u64,
     pub count: u32,
     /// The first byte that is not loaded.
@@ -36,7 +38,7 @@ impl Window {
         }
     }
 
-    /// The bits behind the next `n`, which are loaded.
+    /// The bits after the next `n`, which are loaded.
     #[inline(always)]
     pub fn behind(self, n: u32) -> Window
         requires loaded { n ≤ self.count }

@@ -1,12 +1,14 @@
 -- A TIFF directory and the values of its fields (TIFF 6.0, section 2).
-use Rattle.std.specs.Prelude.{ℕ, zero, suc, ◌+◌, ◌*◌, ◌≤◌, length, Bool, true, nat_le, nat_lt, ◌==◌, ◌&&◌, ◌||◌, if◌then◌else◌, List, [], ◌∷◌, find, Option, Some, None, Result, Ok, Err}
+use Rattle.std.specs.Prelude.{ℕ, zero, suc, ◌+◌, ◌*◌, ◌≤◌, length, Bool, true, nat_le, nat_lt, ◌==◌}
+use Rattle.std.specs.Prelude.{◌&&◌, ◌||◌, if◌then◌else◌, List, [], ◌∷◌, find, Option, Some, None}
+use Rattle.std.specs.Prelude.{Result, Ok, Err}
 use Rattle.fax_files.specs.declared.FileFault.{FileFault}
 use Rattle.fax_files.specs.declared.FileFault.TheVariants.{MissingField, BadField}
 use Rattle.fax_files.specs.declared.Endian.{Endian}
 use Rattle.fax_files.specs.Numbers.{is_inside, number_at, ◌>>=◌}
 
--- an entry of a directory: its tag, the type of its values, how many there are, and where its last four bytes stand
--- (TIFF 6.0, section 2)
+-- an entry of a directory: its tag, the type of its values, how many there are, and where its last
+-- four bytes stand (TIFF 6.0, section 2)
 pub record Entry : Type 0 where
   pub tag : ℕ
   pub kind : ℕ
@@ -25,15 +27,18 @@ entry_at endian file place = record {
 -- n entries from a place on (TIFF 6.0, section 2)
 unfoldable pub entries_at : Endian → List ℕ → ℕ → ℕ → List Entry
 entries_at endian file place zero = []
-entries_at endian file place (suc n) = entry_at endian file place ∷ entries_at endian file (place + 12) n
+entries_at endian file place (suc n) =
+    entry_at endian file place ∷ entries_at endian file (place + 12) n
 
 -- the number of entries in the directory at offset q (TIFF 6.0, section 2)
 abbrev pub entry_count : Endian → List ℕ → ℕ → ℕ
 entry_count endian file q = number_at endian 2 file q
 
--- the directory at offset q lies whole in the file: count, entries and next offset (TIFF 6.0, section 2)
+-- the directory at offset q lies whole in the file: count, entries and next offset
+-- (TIFF 6.0, section 2)
 abbrev pub is_directory : Endian → List ℕ → ℕ → Bool
-is_directory endian file q = is_inside file q 2 && is_inside file q (6 + 12 * entry_count endian file q)
+is_directory endian file q =
+    is_inside file q 2 && is_inside file q (6 + 12 * entry_count endian file q)
 
 -- the same as a fact (TIFF 6.0, section 2)
 abbrev pub IsWholeDirectory : Endian → List ℕ → ℕ → Type 0
@@ -71,30 +76,36 @@ is_integer entry = (entry.kind == SHORT) || (entry.kind == LONG)
 abbrev pub value_len : Entry → ℕ
 value_len entry = if entry.kind == SHORT then 2 else (if entry.kind == LONG then 4 else 8)
 
--- where an entry's values stand, SHORT, LONG or RATIONAL: in the entry if they take at most four bytes, else at the offset
--- that it gives (TIFF 6.0, section 2)
+-- where an entry's values stand, SHORT, LONG or RATIONAL: in the entry if they take at most four
+-- bytes, else at the offset that it gives (TIFF 6.0, section 2)
 unfoldable pub values_place : Endian → List ℕ → Entry → ℕ
 values_place endian file entry =
-    if nat_le (entry.count * value_len entry) 4 then entry.place else number_at endian 4 file entry.place
+    if nat_le (entry.count * value_len entry) 4 then entry.place
+    else number_at endian 4 file entry.place
 
 -- an entry's i-th value, SHORT or LONG (TIFF 6.0, section 2)
 unfoldable pub value_at : Endian → List ℕ → Entry → ℕ → ℕ
 value_at endian file entry i =
-    number_at endian (if entry.kind == SHORT then 2 else 4) file (values_place endian file entry + i * value_len entry)
+    number_at endian (if entry.kind == SHORT then 2 else 4) file
+    (values_place endian file entry + i * value_len entry)
 
--- an entry has n values at least, SHORT or LONG, and the first n lie in the file (this project's profile)
+-- an entry has n values at least, SHORT or LONG, and the first n lie in the file
+-- (this project's profile)
 unfoldable pub has_integers : Endian → List ℕ → Entry → ℕ → Bool
 has_integers endian file entry n =
-    is_integer entry && (nat_le n entry.count && is_inside file (values_place endian file entry) (n * value_len entry))
+    is_integer entry && (nat_le n entry.count
+    && is_inside file (values_place endian file entry) (n * value_len entry))
 
 -- a scalar's value: the first one of the entry (this project's profile)
 unfoldable pub scalar : Endian → List ℕ → Entry → Result ℕ FileFault
 scalar endian file entry =
-    if has_integers endian file entry 1 then (Ok (value_at endian file entry 0)) else (Err (BadField entry.tag))
+    if has_integers endian file entry 1 then (Ok (value_at endian file entry 0))
+    else (Err (BadField entry.tag))
 
 -- the entry of a tag, which has to be there (this project's profile)
 abbrev pub needed : List Entry → ℕ → Result Entry FileFault
-needed fields tag = elim (field fields tag) [ None ↦ Err (MissingField tag) | Some entry ↦ Ok entry ]
+needed fields tag =
+    elim (field fields tag) [ None ↦ Err (MissingField tag) | Some entry ↦ Ok entry ]
 
 -- the scalar of a tag that has to be there (this project's profile)
 unfoldable pub needed_scalar : Endian → List ℕ → List Entry → ℕ → Result ℕ FileFault

@@ -1,11 +1,17 @@
 -- The names of faults, as they are printed.
 use Rattle.std.specs.Prelude.{ℕ, List, codes, Option, Some, None}
 use Rattle.fax_page.specs.declared.StripFault.{StripFault}
-use Rattle.fax_page.specs.declared.StripFault.TheVariants.{DataEnds, BadCode, Extension, RunTooLong, OutOfRow, MissingEol, EndMarker}
+use Rattle.fax_page.specs.declared.StripFault.TheVariants.{DataEnds, BadCode, Extension, RunTooLong}
+use Rattle.fax_page.specs.declared.StripFault.TheVariants.{OutOfRow, MissingEol, EndMarker}
 use Rattle.fax_files.specs.declared.FileFault.{FileFault}
-use Rattle.fax_files.specs.declared.FileFault.TheVariants.{ShortHeader, ByteOrder, Magic, NoDirectory, DirectoryOutside, DirectoryLoop, MissingField, BadField, Unsupported, OutOfLimits, StripOutside}
+use Rattle.fax_files.specs.declared.FileFault.TheVariants.{ShortHeader, ByteOrder, Magic}
+use Rattle.fax_files.specs.declared.FileFault.TheVariants.{NoDirectory, DirectoryOutside}
+use Rattle.fax_files.specs.declared.FileFault.TheVariants.{DirectoryLoop, MissingField, BadField}
+use Rattle.fax_files.specs.declared.FileFault.TheVariants.{Unsupported, OutOfLimits, StripOutside}
 use Rattle.fax_files.specs.declared.pbm.PbmFault.{PbmFault}
-use Rattle.fax_files.specs.declared.pbm.PbmFault.TheVariants.{BadHeader, OutOfLimits as ImageOutOfLimits, ShortRaster}
+use Rattle.fax_files.specs.declared.pbm.PbmFault.TheVariants.{BadHeader}
+use Rattle.fax_files.specs.declared.pbm.PbmFault.TheVariants.{OutOfLimits as ImageOutOfLimits}
+use Rattle.fax_files.specs.declared.pbm.PbmFault.TheVariants.{ShortRaster}
 use Rattle.fax_files.specs.declared.Cause.{Cause}
 use Rattle.fax_files.specs.declared.Cause.TheVariants.{File, Strip}
 

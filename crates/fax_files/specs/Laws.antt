@@ -1,5 +1,6 @@
 -- The laws of TIFF files: their chain, their forms, and what is written and read back.
-use Rattle.std.specs.Prelude.{◌≡◌, ℕ, ◌+◌, ◌*◌, ◌≤◌, ◌<◌, ◌⊎◌, false, List, [], ◌∷◌, length, take, drop, slice_index_or, Option, Some, None, Ok, IsTrue}
+use Rattle.std.specs.Prelude.{◌≡◌, ℕ, ◌+◌, ◌*◌, ◌≤◌, ◌<◌, ◌⊎◌, false, List, [], ◌∷◌, length, take}
+use Rattle.std.specs.Prelude.{drop, slice_index_or, Option, Some, None, Ok, IsTrue}
 use Rattle.std.specs.List.{AllZip}
 use Rattle.fax_bits.specs.declared.Colour.{Colour}
 use Rattle.fax_bits.specs.Bits.{bits}
@@ -15,10 +16,11 @@ use Rattle.fax_files.specs.declared.PageForm.{PageForm}
 use Rattle.fax_files.specs.Page.{IsPageForm, page}
 use Rattle.fax_files.specs.StripBytes.{strip_bytes}
 use Rattle.fax_files.specs.PageRows.{strip_form, joined, ArePageRows}
-use Rattle.fax_files.specs.Written.{four, directory_place, Written, with_page, WrittenPage, file_of, max_file}
+use Rattle.fax_files.specs.Written.{four, directory_place, Written, with_page, WrittenPage, file_of}
+use Rattle.fax_files.specs.Written.{max_file}
 
--- a page that can be written: a form within the limits, of which white is 0, with the bytes of each strip
--- (this project's profile)
+-- a page that can be written: a form within the limits, of which white is 0, with the bytes of each
+-- strip (this project's profile)
 pub record IsWritable (written : WrittenPage) : Type 0 where
   pub limits : IsPageForm written.form
   pub exchanged : written.form.exchanged ≡ false
@@ -32,7 +34,8 @@ AreWritable (written ∷ pages) = IsWritable written × AreWritable pages
 -- the page whose directory stands at q is read as this one: its form, and the bytes of each strip
 pub record IsReadAt (file : List ℕ) (q : ℕ) (written : WrittenPage) : Type 0 where
   pub form : page Little file q ≡ Ok written.form
-  pub strips : (s : ℕ) → s < written.form.strips → strip_bytes Little file q s ≡ Some (slice_index_or written.strips s [])
+  pub strips : (s : ℕ) → s < written.form.strips
+      → strip_bytes Little file q s ≡ Some (slice_index_or written.strips s [])
 
 -- the rows of strips from strip s on, where each strip's bytes hold all of its rows
 abbrev pub AreRowsOf : PageForm → ℕ → List (List ℕ) → List (List (List Colour)) → Type 0
@@ -40,11 +43,13 @@ AreRowsOf form s [] [] = Unit {0}
 AreRowsOf form s [] (rows ∷ lists) = ⊥
 AreRowsOf form s (strip ∷ strips) [] = ⊥
 AreRowsOf form s (strip ∷ strips) (rows ∷ lists) =
-    IsStrip (strip_form form s) (bits form.order strip) rows None × AreRowsOf form (s + 1) strips lists
+    IsStrip (strip_form form s) (bits form.order strip) rows None
+    × AreRowsOf form (s + 1) strips lists
 
 -- a page that is read as it was written has the rows of its strips
 abbrev pub WrittenRowsAreRead : Type 0
-WrittenRowsAreRead = (file : List ℕ) (q : ℕ) (written : WrittenPage) (lists : List (List (List Colour)))
+WrittenRowsAreRead =
+    (file : List ℕ) (q : ℕ) (written : WrittenPage) (lists : List (List (List Colour)))
     → IsWritable written → IsReadAt file q written → AreRowsOf written.form 0 written.strips lists
     → ArePageRows Little file q written.form (joined lists) None
 
@@ -53,11 +58,12 @@ pub record IsOpen (old : Written) : Type 0 where
   pub inside : old.link + 4 ≤ length old.bytes
   pub zero : take 4 (drop old.link old.bytes) ≡ four 0
 
--- a page is appended: what stood before keeps its place but for the link, which holds the directory's place; the
--- directory is whole and the last one; the page is read as it was written
+-- a page is appended: what stood before keeps its place but for the link, which holds the
+-- directory's place; the directory is whole and the last one; the page is read as it was written
 pub record IsAppended (old new : Written) (q : ℕ) (written : WrittenPage) : Type 0 where
   pub link : number_at Little 4 new.bytes old.link ≡ q
-  pub kept : (place n : ℕ) → place + n ≤ length old.bytes → (place + n ≤ old.link) ⊎ (old.link + 4 ≤ place)
+  pub kept : (place n : ℕ) → place + n ≤ length old.bytes
+      → (place + n ≤ old.link) ⊎ (old.link + 4 ≤ place)
       → take n (drop place new.bytes) ≡ take n (drop place old.bytes)
   pub whole : IsTrue (is_directory Little new.bytes q)
   pub last : next_offset Little new.bytes q ≡ 0
@@ -65,9 +71,11 @@ pub record IsAppended (old new : Written) (q : ℕ) (written : WrittenPage) : Ty
   pub is_open : IsOpen new
 
 abbrev pub AppendedPagesAreRead : Type 0
-AppendedPagesAreRead = (old : Written) (total k : ℕ) (written : WrittenPage) → IsOpen old → IsWritable written
+AppendedPagesAreRead =
+    (old : Written) (total k : ℕ) (written : WrittenPage) → IsOpen old → IsWritable written
     → length (with_page old total k written.form written.strips).bytes ≤ max_file
-    → IsAppended old (with_page old total k written.form written.strips) (directory_place (length old.bytes) written.strips) written
+    → IsAppended old (with_page old total k written.form written.strips)
+    (directory_place (length old.bytes) written.strips) written
 
 -- a file is read as these pages: its chain is the pages' directories and ends properly
 pub record IsReadAs (file : List ℕ) (pages : List WrittenPage) : Type 0 where
@@ -78,9 +86,11 @@ pub record IsReadAs (file : List ℕ) (pages : List WrittenPage) : Type 0 where
   pub chain : IsChain head file offsets None
   pub read : AllZip (IsReadAt file) offsets pages
 
--- the file of some pages, at most 65,535, is read as these pages where it has at most 268,435,456 bytes
+-- the file of some pages, at most 65,535, is read as these pages where it has at most 268,435,456
+-- bytes
 abbrev pub WrittenFilesAreRead : Type 0
-WrittenFilesAreRead = (pages : List WrittenPage) → 1 ≤ length pages → length pages ≤ 65535 → AreWritable pages
+WrittenFilesAreRead =
+    (pages : List WrittenPage) → 1 ≤ length pages → length pages ≤ 65535 → AreWritable pages
     → length (file_of pages) ≤ max_file → IsReadAs (file_of pages) pages
 
 -- a file has one chain of directories, which has one end (TIFF 6.0, section 2)
@@ -88,14 +98,15 @@ pub record HasOneChain (head : Header) (file : List ℕ) : Type 0 where
   pub offsets : List ℕ
   pub end : Option FileFault
   pub is : IsChain head file offsets end
-  pub one : (others : List ℕ) (other : Option FileFault) → IsChain head file others other → (others ≡ offsets) × (other ≡ end)
+  pub one : (others : List ℕ) (other : Option FileFault) → IsChain head file others other
+      → (others ≡ offsets) × (other ≡ end)
 
 -- each file has (TIFF 6.0, section 2)
 abbrev pub FilesHaveOneChain : Type 0
 FilesHaveOneChain = (head : Header) (file : List ℕ) → HasOneChain head file
 
--- the rows of a page lie in its strips, each of which holds some, and each but the last as many as the others
--- (TIFF 6.0, RowsPerStrip)
+-- the rows of a page lie in its strips, each of which holds some, and each but the last as many as
+-- the others (TIFF 6.0, RowsPerStrip)
 pub record IsWholeForm (form : PageForm) : Type 0 where
   pub some_rows : 1 ≤ form.rows
   pub some_in_strip : 1 ≤ form.rows_per_strip
@@ -104,4 +115,5 @@ pub record IsWholeForm (form : PageForm) : Type 0 where
 
 -- a page that is not refused has such a form (TIFF 6.0, RowsPerStrip)
 abbrev pub FormsAreWhole : Type 0
-FormsAreWhole = (endian : Endian) (file : List ℕ) (q : ℕ) (form : PageForm) → page endian file q ≡ Ok form → IsWholeForm form
+FormsAreWhole = (endian : Endian) (file : List ℕ) (q : ℕ) (form : PageForm)
+    → page endian file q ≡ Ok form → IsWholeForm form

@@ -1,10 +1,12 @@
 -- Numbers in a TIFF file, and its header.
-use Rattle.std.specs.Prelude.{ℕ, ◌+◌, Bool, nat_le, ◌==◌, not, if◌then◌else◌, List, length, take, drop, Result, Ok, Err, codes, bytes_eq}
+use Rattle.std.specs.Prelude.{ℕ, ◌+◌, Bool, nat_le, ◌==◌, not, if◌then◌else◌, List, length, take}
+use Rattle.std.specs.Prelude.{drop, Result, Ok, Err, codes, bytes_eq}
 use Rattle.byteorder.specs.Endian.{little_number, big_number}
 use Rattle.fax_files.specs.declared.Endian.{Endian}
 use Rattle.fax_files.specs.declared.Endian.TheVariants.{Little, Big}
 use Rattle.fax_files.specs.declared.FileFault.{FileFault}
-use Rattle.fax_files.specs.declared.FileFault.TheVariants.{ShortHeader, ByteOrder, Magic, NoDirectory}
+use Rattle.fax_files.specs.declared.FileFault.TheVariants.{ShortHeader, ByteOrder, Magic}
+use Rattle.fax_files.specs.declared.FileFault.TheVariants.{NoDirectory}
 
 -- the number that the first n bytes spell (TIFF 6.0, section 2)
 abbrev pub number : Endian → ℕ → List ℕ → ℕ
@@ -21,7 +23,8 @@ number_at endian n file place = number endian n (drop place file)
 
 -- Steps that end at the first fault.
 infixl 10 ◌>>=◌
-abbrev pub ◌>>=◌ : {A B : Type 0} → Result A FileFault → (A → Result B FileFault) → Result B FileFault
+abbrev pub ◌>>=◌ : {A B : Type 0} → Result A FileFault → (A → Result B FileFault)
+    → Result B FileFault
 (Ok x) >>= next = next x
 (Err fault) >>= next = Err fault
 
@@ -29,7 +32,8 @@ abbrev pub ◌>>=◌ : {A B : Type 0} → Result A FileFault → (A → Result B
 abbrev pub check : Bool → FileFault → Result (Unit {0}) FileFault
 check test fault = if test then (Ok tt) else (Err fault)
 
--- what a file's header says: the order of bytes, and where the first directory stands (TIFF 6.0, section 2)
+-- what a file's header says: the order of bytes, and where the first directory stands
+-- (TIFF 6.0, section 2)
 pub record Header : Type 0 where
   pub endian : Endian
   pub first : ℕ

@@ -1,5 +1,6 @@
 -- The form of a page, from the fields of its directory.
-use Rattle.std.specs.Prelude.{◌≡◌, ◌≤◌, ◌<◌, ℕ, ◌+◌, ◌-◌, ◌/◌, ◌%◌, ◌^◌, ◌≢◌, min, Bool, true, false, nat_le, nat_lt, ◌==◌, ◌&&◌, ◌||◌, not}
+use Rattle.std.specs.Prelude.{◌≡◌, ◌≤◌, ◌<◌, ℕ, ◌+◌, ◌-◌, ◌/◌, ◌%◌, ◌^◌, ◌≢◌, min, Bool, true}
+use Rattle.std.specs.Prelude.{false, nat_le, nat_lt, ◌==◌, ◌&&◌, ◌||◌, not}
 use Rattle.std.specs.Prelude.{if◌then◌else◌, List, Option, Some, None, Result, Ok}
 use Rattle.std.specs.Int.{div_ceil}
 use Rattle.fax_bits.specs.declared.FillOrder.{FillOrder}
@@ -19,7 +20,8 @@ use Rattle.fax_files.specs.Tags
 abbrev pub is_between : ℕ → ℕ → ℕ → Bool
 is_between low high n = nat_le low n && nat_le n high
 
--- a page's width and its rows (TIFF 6.0, ImageWidth and ImageLength, in the limits of this project's profile)
+-- a page's width and its rows (TIFF 6.0, ImageWidth and ImageLength, in the limits of this
+-- project's profile)
 unfoldable pub page_size : Endian → List ℕ → List Entry → Result (ℕ × ℕ) FileFault
 page_size endian file fields = do
   width ← needed_scalar endian file fields Tags.IMAGE_WIDTH
@@ -49,7 +51,8 @@ pub record PelFormat : Type 0 where
   pub exchanged : Bool
   pub order : FillOrder
 
--- how pels are coded: by Compression, one bit for each, either colour as 0, in a fill order (this project's profile)
+-- how pels are coded: by Compression, one bit for each, either colour as 0, in a fill order
+-- (this project's profile)
 unfoldable pub pel_format : Endian → List ℕ → List Entry → Result PelFormat FileFault
 pel_format endian file fields = do
   bits_per_sample ← scalar_or endian file fields Tags.BITS_PER_SAMPLE 1
@@ -62,8 +65,8 @@ pel_format endian file fields = do
   _ ← check (samples_per_pixel == 1) (Unsupported Tags.SAMPLES_PER_PIXEL)
   Ok (record { compression = compression; exchanged = exchanged; order = order })
 
--- the rows of each strip but the last of a page of so many rows (TIFF 6.0, RowsPerStrip; more than the page's rows
--- means the page's rows)
+-- the rows of each strip but the last of a page of so many rows
+-- (TIFF 6.0, RowsPerStrip; more than the page's rows means the page's rows)
 unfoldable pub strip_rows : Endian → List ℕ → List Entry → ℕ → Result ℕ FileFault
 strip_rows endian file fields rows = do
   rows_per_strip ← scalar_or endian file fields Tags.ROWS_PER_STRIP (2 ^ 32 - 1)
@@ -74,22 +77,25 @@ strip_rows endian file fields rows = do
 abbrev pub strip_count : ℕ → ℕ → ℕ
 strip_count rows rows_per_strip = div_ceil rows rows_per_strip
 
--- how rows are coded, and whether each EOL ends on a byte boundary (TIFF 6.0, Compression and T4Options)
+-- how rows are coded, and whether each EOL ends on a byte boundary
+-- (TIFF 6.0, Compression and T4Options)
 pub record RowCoding : Type 0 where
   pub coding : Coding
   pub aligned : Bool
 
--- how the rows of Compression 3 are coded: in MR where bit 0 of T4Options is set, else in MH; with aligned EOLs where
--- bit 2 is set; its other bits are ignored (TIFF 6.0, T4Options)
+-- how the rows of Compression 3 are coded: in MR where bit 0 of T4Options is set, else in MH; with
+-- aligned EOLs where bit 2 is set; its other bits are ignored (TIFF 6.0, T4Options)
 unfoldable pub t4_coding : Endian → List ℕ → List Entry → Result RowCoding FileFault
 t4_coding endian file fields = do
   options ← scalar_or endian file fields Tags.T4_OPTIONS 0
   Ok (record { coding = if options % 2 == 1 then Mr else Mh; aligned = options / 4 % 2 == 1 })
 
--- how the rows are coded: in MMR where Compression is 4, for which T4Options is not read (TIFF 6.0, Compression)
+-- how the rows are coded: in MMR where Compression is 4, for which T4Options is not read
+-- (TIFF 6.0, Compression)
 unfoldable pub page_coding : Endian → List ℕ → List Entry → ℕ → Result RowCoding FileFault
 page_coding endian file fields compression =
-    if compression == 4 then (Ok (record { coding = Mmr; aligned = false })) else (t4_coding endian file fields)
+    if compression == 4 then (Ok (record { coding = Mmr; aligned = false }))
+    else (t4_coding endian file fields)
 
 -- StripOffsets or StripByteCounts, with a value for each strip (this project's profile)
 unfoldable pub strip_field : Endian → List ℕ → List Entry → ℕ → ℕ → Result Entry FileFault
@@ -98,7 +104,8 @@ strip_field endian file fields tag strips = do
   _ ← check (has_integers endian file entry strips) (BadField tag)
   Ok entry
 
--- the two numbers of an entry's first value, a RATIONAL: numerator and denominator (TIFF 6.0, section 2)
+-- the two numbers of an entry's first value, a RATIONAL: numerator and denominator
+-- (TIFF 6.0, section 2)
 abbrev pub rational_at : Endian → List ℕ → Entry → ℕ × ℕ
 rational_at endian file entry =
     let place = values_place endian file entry in
@@ -107,7 +114,8 @@ rational_at endian file entry =
 -- an entry has a RATIONAL that lies in the file (this project's profile)
 unfoldable pub has_rational : Endian → List ℕ → Entry → Bool
 has_rational endian file entry =
-    (entry.kind == RATIONAL) && (nat_le 1 entry.count && is_inside file (values_place endian file entry) 8)
+    (entry.kind == RATIONAL) && (nat_le 1 entry.count
+    && is_inside file (values_place endian file entry) 8)
 
 -- both numbers are above 0 (this project's profile)
 abbrev pub are_some : ℕ × ℕ → Bool
@@ -124,8 +132,8 @@ unfoldable pub rational_of : Endian → List ℕ → List Entry → ℕ → Opti
 rational_of endian file fields tag =
     elim (field fields tag) [ None ↦ None | Some entry ↦ good_rational endian file entry ]
 
--- a resolution: dots of a row and rows, in each unit, which is 1 for none, 2 for an inch, 3 for a centimetre
--- (TIFF 6.0, XResolution, YResolution and ResolutionUnit)
+-- a resolution: dots of a row and rows, in each unit, which is 1 for none, 2 for an inch, 3 for a
+-- centimetre (TIFF 6.0, XResolution, YResolution and ResolutionUnit)
 pub record Resolution : Type 0 where
   pub x : ℕ × ℕ
   pub y : ℕ × ℕ
@@ -144,11 +152,13 @@ resolution_from _ _ _ = usual_resolution
 -- a page's resolution (TIFF 6.0, XResolution, YResolution and ResolutionUnit)
 unfoldable pub resolution : Endian → List ℕ → List Entry → Resolution
 resolution endian file fields =
-    resolution_from (rational_of endian file fields Tags.X_RESOLUTION) (rational_of endian file fields Tags.Y_RESOLUTION)
+    resolution_from (rational_of endian file fields Tags.X_RESOLUTION)
+    (rational_of endian file fields Tags.Y_RESOLUTION)
     (scalar_or endian file fields Tags.RESOLUTION_UNIT 2)
 
--- the form of the page whose directory stands whole at offset q, or its first fault: the fields in the order of
--- this project's profile, each with what stands for it where it is absent, and what is refused
+-- the form of the page whose directory stands whole at offset q, or its first fault: the fields in
+-- the order of this project's profile, each with what stands for it where it is absent, and what is
+-- refused
 unfoldable pub page : Endian → List ℕ → ℕ → Result PageForm FileFault
 page endian file q = do
   let fields = entries endian file q

@@ -1,5 +1,7 @@
 -- Raw PBM: images one after another (the netpbm format, P4, in this project's profile).
-use Rattle.std.specs.Prelude.{◌≡◌, ◌≢◌, ℕ, zero, suc, ◌+◌, ◌-◌, ◌*◌, ◌<◌, ◌⊎◌, Bool, ◌==◌, ◌||◌, ◌&&◌, not, List, [], ◌∷◌, ◌++◌, length, take, drop, fold, codes, decimal, Option, Some, None, IsTrue, IsFalse}
+use Rattle.std.specs.Prelude.{◌≡◌, ◌≢◌, ℕ, zero, suc, ◌+◌, ◌-◌, ◌*◌, ◌<◌, ◌⊎◌, Bool, ◌==◌, ◌||◌}
+use Rattle.std.specs.Prelude.{◌&&◌, not, List, [], ◌∷◌, ◌++◌, length, take, drop, fold, codes}
+use Rattle.std.specs.Prelude.{decimal, Option, Some, None, IsTrue, IsFalse}
 use Rattle.std.specs.List.{list_all, flat_map}
 use Rattle.fax_bits.specs.declared.Colour.{Colour}
 use Rattle.fax_rows.specs.Packed.{packed_len, packed_row, unpacked_row}
@@ -24,18 +26,20 @@ is_line_end c = (c == 10) || (c == 13)
 abbrev pub is_digit : ℕ → Bool
 is_digit c = is_between 48 57 c
 
--- a piece of a gap: one byte of white space, or a comment from `#`, which is 35, to the next LF or CR
--- (the netpbm format, P4)
+-- a piece of a gap: one byte of white space, or a comment from `#`, which is 35, to the next LF or
+-- CR (the netpbm format, P4)
 abbrev pub IsPiece : List ℕ → Type 0
 IsPiece piece =
     ((c : ℕ) × IsTrue (is_white_space c) × (piece ≡ c ∷ []))
-    ⊎ ((text : List ℕ) × (c : ℕ) × IsTrue (list_all (λ t. not (is_line_end t)) text) × IsTrue (is_line_end c)
+    ⊎ ((text : List ℕ) × (c : ℕ) × IsTrue (list_all (λ t. not (is_line_end t)) text)
+    × IsTrue (is_line_end c)
     × (piece ≡ 35 ∷ text ++ c ∷ []))
 
 -- pieces one behind another
 abbrev pub ArePieces : List (List ℕ) → List ℕ → Type 0
 ArePieces [] gap = gap ≡ []
-ArePieces (piece ∷ pieces) gap = (more : List ℕ) × IsPiece piece × ArePieces pieces more × (gap ≡ piece ++ more)
+ArePieces (piece ∷ pieces) gap =
+    (more : List ℕ) × IsPiece piece × ArePieces pieces more × (gap ≡ piece ++ more)
 
 -- a gap: one or more pieces (the netpbm format, P4, in this project's profile)
 abbrev pub IsGap : List ℕ → Type 0
@@ -49,8 +53,8 @@ spelled_number digits = fold (λ number digit. 10 * number + (digit - 48)) 0 dig
 abbrev pub IsNumber : List ℕ → ℕ → Type 0
 IsNumber digits n = (digits ≢ []) × IsTrue (list_all is_digit digits) × (n ≡ spelled_number digits)
 
--- the bytes begin with an image's header: `P4`, a gap, the width, a gap, the height and one byte of white space
--- (the netpbm format, P4)
+-- the bytes begin with an image's header: `P4`, a gap, the width, a gap, the height and one byte of
+-- white space (the netpbm format, P4)
 pub record IsHead (bytes : List ℕ) (width height : ℕ) (rest : List ℕ) : Type 0 where
   pub first_gap : List ℕ
   pub width_digits : List ℕ
@@ -62,7 +66,8 @@ pub record IsHead (bytes : List ℕ) (width height : ℕ) (rest : List ℕ) : Ty
   pub second_is_gap : IsGap second_gap
   pub height_is : IsNumber height_digits height
   pub space_is : IsTrue (is_white_space space)
-  pub spelled : bytes ≡ codes "P4" ++ (first_gap ++ (width_digits ++ (second_gap ++ (height_digits ++ space ∷ rest))))
+  pub spelled : bytes ≡ codes "P4"
+      ++ (first_gap ++ (width_digits ++ (second_gap ++ (height_digits ++ space ∷ rest))))
 
 -- a width and a height that are read (this project's profile)
 abbrev pub is_within_limits : ℕ → ℕ → Bool
@@ -76,9 +81,11 @@ raster_len width height = height * packed_len width
 abbrev pub raster_rows : ℕ → ℕ → List ℕ → List (List Colour)
 raster_rows width zero bytes = []
 raster_rows width (suc height) bytes =
-    unpacked_row width (take (packed_len width) bytes) ∷ raster_rows width height (drop (packed_len width) bytes)
+    unpacked_row width (take (packed_len width) bytes)
+    ∷ raster_rows width height (drop (packed_len width) bytes)
 
--- the bytes begin with this image, and the rest is what follows it (the netpbm format, P4, in this project's profile)
+-- the bytes begin with this image, and the rest is what follows it
+-- (the netpbm format, P4, in this project's profile)
 pub record IsImage (bytes : List ℕ) (image : Image) (rest : List ℕ) : Type 0 where
   pub height : ℕ
   pub raster : List ℕ
@@ -89,11 +96,14 @@ pub record IsImage (bytes : List ℕ) (image : Image) (rest : List ℕ) : Type 0
 
 -- the bytes begin with no image, for this fault (this project's profile)
 abbrev pub IsImageFault : List ℕ → PbmFault → Type 0
-IsImageFault bytes BadHeader = (width height : ℕ) (rest : List ℕ) → IsHead bytes width height rest → ⊥
+IsImageFault bytes BadHeader =
+    (width height : ℕ) (rest : List ℕ) → IsHead bytes width height rest → ⊥
 IsImageFault bytes OutOfLimits =
-    (width height : ℕ) × (rest : List ℕ) × IsHead bytes width height rest × IsFalse (is_within_limits width height)
+    (width height : ℕ) × (rest : List ℕ) × IsHead bytes width height rest
+    × IsFalse (is_within_limits width height)
 IsImageFault bytes ShortRaster =
-    (width height : ℕ) × (rest : List ℕ) × IsHead bytes width height rest × IsTrue (is_within_limits width height)
+    (width height : ℕ) × (rest : List ℕ) × IsHead bytes width height rest
+    × IsTrue (is_within_limits width height)
     × (length rest < raster_len width height)
 
 -- the bytes are these images, and the end is none, or the fault of the image that would be next
@@ -109,8 +119,8 @@ AreImages bytes (image ∷ images) end =
 abbrev pub head_bytes : ℕ → ℕ → List ℕ
 head_bytes width height = codes "P4\n" ++ decimal width ++ codes " " ++ decimal height ++ codes "\n"
 
--- an image as it is written, each row with zeros up to a whole byte (the netpbm format, P4; the zeros are this
--- project's profile)
+-- an image as it is written, each row with zeros up to a whole byte
+-- (the netpbm format, P4; the zeros are this project's profile)
 abbrev pub image_bytes : Image → List ℕ
 image_bytes image = head_bytes image.width (length image.rows) ++ flat_map packed_row image.rows
 

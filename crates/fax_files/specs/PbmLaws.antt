@@ -9,7 +9,8 @@ abbrev pub AreOfWidth : ℕ → List (List Colour) → Type 0
 AreOfWidth width [] = Unit {0}
 AreOfWidth width (row ∷ rows) = (length row ≡ width) × AreOfWidth width rows
 
--- an image that can be written: one within the limits, of rows of its width (this project's profile)
+-- an image that can be written: one within the limits, of rows of its width
+-- (this project's profile)
 pub record IsWritableImage (image : Image) : Type 0 where
   pub within : IsTrue (is_within_limits image.width (length image.rows))
   pub rows : AreOfWidth image.width image.rows
@@ -21,7 +22,8 @@ AreWritableImages (image ∷ images) = IsWritableImage image × AreWritableImage
 
 -- images that are written are read back, and nothing else behind them (the netpbm format, P4)
 abbrev pub WrittenImagesAreRead : Type 0
-WrittenImagesAreRead = (images : List Image) → AreWritableImages images → AreImages (pbm_of images) images None
+WrittenImagesAreRead =
+    (images : List Image) → AreWritableImages images → AreImages (pbm_of images) images None
 
 -- bytes have one list of images, and one end (the netpbm format, P4, in this project's profile)
 abbrev pub ImagesAreReadInOneWay : Type 0
@@ -29,7 +31,8 @@ ImagesAreReadInOneWay =
     (bytes : List ℕ) (images others : List Image) (end other : Option PbmFault)
     → AreImages bytes images end → AreImages bytes others other → (images ≡ others) × (end ≡ other)
 
--- bytes begin with at most one image, and one rest follows it (the netpbm format, P4, in this project's profile)
+-- bytes begin with at most one image, and one rest follows it
+-- (the netpbm format, P4, in this project's profile)
 abbrev pub ImagesBeginInOneWay : Type 0
 ImagesBeginInOneWay =
     (bytes : List ℕ) (image other : Image) (rest others : List ℕ)

@@ -1,5 +1,6 @@
 -- TIFF files as they are written (TIFF 6.0, RFC 2306's profile F, and this project's profile).
-use Rattle.std.specs.Prelude.{ℕ, ◌+◌, ◌*◌, ◌%◌, Bool, if◌then◌else◌, List, [], ◌∷◌, ◌++◌, length, take, drop, replicate, flat_map, codes}
+use Rattle.std.specs.Prelude.{ℕ, ◌+◌, ◌*◌, ◌%◌, Bool, if◌then◌else◌, List, [], ◌∷◌, ◌++◌, length}
+use Rattle.std.specs.Prelude.{take, drop, replicate, flat_map, codes}
 use Rattle.byteorder.specs.Endian.{little_bytes}
 use Rattle.fax_bits.specs.declared.FillOrder.{FillOrder}
 use Rattle.fax_bits.specs.declared.FillOrder.TheVariants.{MsbFirst, LsbFirst}
@@ -20,7 +21,8 @@ two n = little_bytes 2 n
 abbrev pub four : ℕ → List ℕ
 four n = little_bytes 4 n
 
--- a field of a directory as it is written: its tag, its type, its count, and its four bytes of value
+-- a field of a directory as it is written: its tag, its type, its count, and its four bytes of
+-- value
 pub record WrittenField : Type 0 where
   pub tag : ℕ
   pub kind : ℕ
@@ -71,7 +73,8 @@ lengths_of (strip ∷ strips) = length strip ∷ lengths_of strips
 abbrev pub longs : List ℕ → List ℕ
 longs numbers = flat_map four numbers
 
--- what an entry of strip numbers has for its value: the number itself where there is one, else where they stand
+-- what an entry of strip numbers has for its value: the number itself where there is one, else
+-- where they stand
 abbrev pub one_or_place : List ℕ → ℕ → ℕ
 one_or_place (n ∷ []) place = n
 one_or_place _ place = place
@@ -85,8 +88,9 @@ array_bytes numbers = longs numbers
 abbrev pub field_count : ℕ
 field_count = 16
 
--- how far after a directory's place stand its next offset, after the number of its fields and twelve bytes of each,
--- and then XResolution, YResolution, and the strips' offsets where there are more than one
+-- how far after a directory's place stand its next offset, after the number of its fields and
+-- twelve bytes of each, and then XResolution, YResolution, and the strips' offsets where there are
+-- more than one
 abbrev pub to_link : ℕ
 to_link = 2 + 12 * field_count
 
@@ -138,12 +142,14 @@ fields_bytes fields = two (length fields) ++ flat_map field_bytes fields
 abbrev pub rational_bytes : ℕ × ℕ → List ℕ
 rational_bytes value = four value.0 ++ four value.1
 
--- the values that stand behind the directory: resolutions, and offsets and byte counts of more than one strip
+-- the values that stand behind the directory: resolutions, and offsets and byte counts of more than
+-- one strip
 abbrev pub values_bytes : PageForm → List ℕ → List ℕ → List ℕ
 values_bytes form offsets lengths =
     rational_bytes form.x ++ rational_bytes form.y ++ array_bytes offsets ++ array_bytes lengths
 
--- a file that is being written, and the place of the offset that the next page's directory goes into
+-- a file that is being written, and the place of the offset that the next page's directory goes
+-- into
 pub record Written : Type 0 where
   pub bytes : List ℕ
   pub link : ℕ
@@ -156,18 +162,21 @@ with_four_at file place n = take place file ++ four n ++ drop (place + 4) file
 abbrev pub joined_strips : List (List ℕ) → List ℕ
 joined_strips strips = flat_map (λ strip. strip) strips
 
--- the place of the directory of a page whose strips begin at `start`: behind the strips, at an even place
+-- the place of the directory of a page whose strips begin at `start`: behind the strips, at an even
+-- place
 abbrev pub directory_place : ℕ → List (List ℕ) → ℕ
 directory_place start strips =
     let end = start + length (joined_strips strips) in end + end % 2
 
--- what is written of page k of `total` from `start` on: its strips, a zero byte if the place is odd, its directory,
--- of which the next offset is 0, its resolutions, and the offsets and byte counts if it has more than one strip
+-- what is written of page k of `total` from `start` on: its strips, a zero byte if the place is
+-- odd, its directory, of which the next offset is 0, its resolutions, and the offsets and byte
+-- counts if it has more than one strip
 unfoldable pub page_bytes : ℕ → ℕ → ℕ → PageForm → List (List ℕ) → List ℕ
 page_bytes start total k form strips =
     joined_strips strips
     ++ replicate ((start + length (joined_strips strips)) % 2) 0
-    ++ fields_bytes (fields_of (directory_place start strips) total k form (offsets_from start strips) (lengths_of strips))
+    ++ fields_bytes (fields_of (directory_place start strips) total k form
+    (offsets_from start strips) (lengths_of strips))
     ++ four 0
     ++ values_bytes form (offsets_from start strips) (lengths_of strips)
 

@@ -1,6 +1,7 @@
 //! The form of a page, from the fields of its directory (TIFF 6.0; RFC 2306).
 
-ghost use Rattle.std.specs.Prelude.{◌≡◌, ◌≢◌, ◌+◌, ◌≤◌, length, true, Ok, Err, Some, IsTrue, IfOk, IfErr};
+ghost use Rattle.std.specs.Prelude.{◌≡◌, ◌≢◌, ◌+◌, ◌≤◌, length, true, Ok, Err, Some, IsTrue, IfOk};
+ghost use Rattle.std.specs.Prelude.{IfErr};
 ghost use Rattle.fax_page.specs.declared.Coding.TheVariants.{Mmr};
 ghost use Rattle.fax_files.specs.Directory as Entries;
 ghost use Rattle.fax_files.specs.Page as Spec;

@@ -1,5 +1,6 @@
 -- Laws of strips, which the functions of the module `laws` prove.
-use Rattle.std.specs.Prelude.{◌≡◌, ℕ, ◌+◌, ◌<◌, ◌%◌, ◌⊎◌, Bool, true, List, ◌++◌, length, Option, None}
+use Rattle.std.specs.Prelude.{◌≡◌, ℕ, ◌+◌, ◌<◌, ◌%◌, ◌⊎◌, Bool, true, List, ◌++◌, length, Option}
+use Rattle.std.specs.Prelude.{None}
 use Rattle.fax_bits.specs.declared.Colour.{Colour}
 use Rattle.fax_bits.specs.Bits.{bits}
 use Rattle.fax_page.specs.declared.StripForm.{StripForm}
@@ -34,8 +35,8 @@ IsOneCause form i reference =
     (b : List Bool) (fault another : StripFault)
     → IsCause form i reference b fault → IsCause form i reference b another → fault ≡ another
 
--- bits are read in one way as row i of a strip over a reference row: one row and one rest, or one cause (this
--- project's profile)
+-- bits are read in one way as row i of a strip over a reference row: one row and one rest, or one
+-- cause (this project's profile)
 pub record ReadsLinesOneWay (form : StripForm) (i : ℕ) (reference : List Colour) : Type 0 where
   pub one_line : IsOneLine form i reference
   pub line_or_cause : IsLineOrCause form i reference
@@ -45,7 +46,8 @@ pub record ReadsLinesOneWay (form : StripForm) (i : ℕ) (reference : List Colou
 -- bits are a strip with some rows and an end (this project's profile)
 abbrev pub HasRowsAndEnd : StripForm → Type 0
 HasRowsAndEnd form =
-    (b : List Bool) → (rows : List (List Colour)) × (end : Option StripFault) × IsStrip form b rows end
+    (b : List Bool) → (rows : List (List Colour)) × (end : Option StripFault)
+    × IsStrip form b rows end
 
 -- and with only one list of rows, and one end (this project's profile)
 abbrev pub HasOneReading : StripForm → Type 0
@@ -53,29 +55,33 @@ HasOneReading form =
     (b : List Bool) (rows others : List (List Colour)) (end another : Option StripFault)
     → IsStrip form b rows end → IsStrip form b others another → (rows ≡ others) × (end ≡ another)
 
--- bits are read in one way as a strip of the form: one list of rows and one end (this project's profile)
+-- bits are read in one way as a strip of the form: one list of rows and one end
+-- (this project's profile)
 pub record ReadsStripsOneWay (form : StripForm) : Type 0 where
   pub rows_and_end : HasRowsAndEnd form
   pub one_reading : HasOneReading form
 
--- behind so many bits and this much fill an EOL ends on a byte boundary (T.4, section 4.1.3; TIFF 6.0, T4Options)
+-- behind so many bits and this much fill an EOL ends on a byte boundary
+-- (T.4, section 4.1.3; TIFF 6.0, T4Options)
 abbrev pub IsAligned : ℕ → ℕ → Type 0
 IsAligned before fill = (before + fill + length end_of_line) % 8 ≡ 0
 
--- the fill before an aligned EOL makes it end on a byte boundary, and less fill does not (T.4, section 4.1.3; TIFF
--- 6.0, T4Options)
+-- the fill before an aligned EOL makes it end on a byte boundary, and less fill does not
+-- (T.4, section 4.1.3; TIFF 6.0, T4Options)
 pub record IsLeastFill (before : ℕ) : Type 0 where
   pub aligned : IsAligned before (fill_zeros true before)
   pub least : (fewer : ℕ) → fewer < fill_zeros true before → IsAligned before fewer → ⊥
 
--- the bits of a written strip, whatever follows them, are a strip with its rows and no fault (this project's
--- profile)
+-- the bits of a written strip, whatever follows them, are a strip with its rows and no fault
+-- (this project's profile)
 abbrev pub CodedBitsAreRead : Type 0
 CodedBitsAreRead =
     (form : StripForm) (k : ℕ) (rows : List (List Colour)) (more : List Bool)
-    → IsStripForm form → AreRowsOf form rows → IsStrip form (coded_bits form k rows ++ more) rows None
+    → IsStripForm form → AreRowsOf form rows
+    → IsStrip form (coded_bits form k rows ++ more) rows None
 
--- a written strip is read back: its bytes are a strip with its rows and no fault (this project's profile)
+-- a written strip is read back: its bytes are a strip with its rows and no fault
+-- (this project's profile)
 abbrev pub CodedStripsAreRead : Type 0
 CodedStripsAreRead =
     (form : StripForm) (k : ℕ) (rows : List (List Colour)) → IsStripForm form → AreRowsOf form rows
@@ -86,4 +92,5 @@ abbrev pub CodedStripsAreOneStrip : Type 0
 CodedStripsAreOneStrip =
     (form : StripForm) (k : ℕ) (rows others : List (List Colour)) (end : Option StripFault)
     → IsStripForm form → AreRowsOf form rows
-    → IsStrip form (bits form.order (coded_strip form k rows)) others end → (rows ≡ others) × (end ≡ None)
+    → IsStrip form (bits form.order (coded_strip form k rows)) others end
+    → (rows ≡ others) × (end ≡ None)

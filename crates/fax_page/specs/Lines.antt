@@ -1,5 +1,6 @@
 -- How a row begins in a strip, and what keeps it from being read.
-use Rattle.std.specs.Prelude.{◌≡◌, ◌≢◌, ℕ, ◌<◌, ◌≤◌, ◌⊎◌, Bool, true, false, List, [], ◌∷◌, ◌++◌, replicate}
+use Rattle.std.specs.Prelude.{◌≡◌, ◌≢◌, ℕ, ◌<◌, ◌≤◌, ◌⊎◌, Bool, true, false, List, [], ◌∷◌, ◌++◌}
+use Rattle.std.specs.Prelude.{replicate}
 use Rattle.fax_bits.specs.Bits.{IsAllZeros, HasZerosAhead}
 use Rattle.fax_bits.specs.declared.Colour.{Colour}
 use Rattle.fax_rows.specs.declared.RowFault.{RowFault}
@@ -13,31 +14,38 @@ use Rattle.fax_page.specs.declared.Coding.{Coding}
 use Rattle.fax_page.specs.declared.Coding.TheVariants.{Mh, Mr, Mmr}
 use Rattle.fax_page.specs.declared.StripForm.{StripForm}
 use Rattle.fax_page.specs.declared.StripFault.{StripFault}
-use Rattle.fax_page.specs.declared.StripFault.TheVariants.{DataEnds, BadCode, Extension, RunTooLong, OutOfRow, MissingEol, EndMarker}
+use Rattle.fax_page.specs.declared.StripFault.TheVariants.{DataEnds, BadCode, Extension, RunTooLong}
+use Rattle.fax_page.specs.declared.StripFault.TheVariants.{OutOfRow, MissingEol, EndMarker}
 
 -- the bit behind an EOL in MR that says how the next row is coded (T.4, section 4.2.2)
 abbrev pub tag_bit : Dimension → Bool
 tag_bit OneDimensional = true
 tag_bit TwoDimensional = false
 
--- the bits begin with fill and an EOL: at least eleven zeros and a 1 (T.4, sections 4.1.2 and 4.1.3)
+-- the bits begin with fill and an EOL: at least eleven zeros and a 1
+-- (T.4, sections 4.1.2 and 4.1.3)
 abbrev pub IsEndOfLine : List Bool → List Bool → Type 0
 IsEndOfLine b rest = (zeros : ℕ) × (11 ≤ zeros) × (b ≡ replicate zeros false ++ true ∷ rest)
 
--- a 1 stands behind fewer than eleven zeros, so that the bits begin with no EOL (T.4, section 4.1.2)
+-- a 1 stands behind fewer than eleven zeros, so that the bits begin with no EOL
+-- (T.4, section 4.1.2)
 abbrev pub BeginsBelowEleven : List Bool → Type 0
 BeginsBelowEleven b = (zeros : ℕ) × (zeros < 11) × HasZerosAhead b zeros
 
--- what stands before the first code of row i of a strip: an EOL, which the first row may lack in MH, in MR
--- an EOL and a tag bit, nothing in MMR (T.4, sections 4.1.2 and 4.2.2; T.6, section 2.2.1; this project's profile)
+-- what stands before the first code of row i of a strip: an EOL, which the first row may lack in
+-- MH, in MR an EOL and a tag bit, nothing in MMR
+-- (T.4, sections 4.1.2 and 4.2.2; T.6, section 2.2.1; this project's profile)
 abbrev pub IsStart : Coding → ℕ → List Bool → Dimension → List Bool → Type 0
 IsStart Mh i b dimension rest =
-    (dimension ≡ OneDimensional) × (IsEndOfLine b rest ⊎ ((i ≡ 0) × BeginsBelowEleven b × (b ≡ rest)))
+    (dimension ≡ OneDimensional)
+    × (IsEndOfLine b rest ⊎ ((i ≡ 0) × BeginsBelowEleven b × (b ≡ rest)))
 IsStart Mr i b dimension rest = IsEndOfLine b (tag_bit dimension ∷ rest)
 IsStart Mmr i b dimension rest = (dimension ≡ TwoDimensional) × (b ≡ rest)
 
--- a row of the strip begins in the bits, coded so, and its first code begins the rest (this project's profile)
-pub record IsBegin (form : StripForm) (i : ℕ) (b : List Bool) (dimension : Dimension) (rest : List Bool) : Type 0 where
+-- a row of the strip begins in the bits, coded so, and its first code begins the rest
+-- (this project's profile)
+pub record IsBegin (form : StripForm) (i : ℕ) (b : List Bool) (dimension : Dimension)
+    (rest : List Bool) : Type 0 where
   pub start : IsStart form.coding i b dimension rest
   pub first_code : BeginsBelowEleven rest
 
@@ -47,7 +55,8 @@ IsRowIn OneDimensional width reference b row rest = IsOneDimensionalRow width b 
 IsRowIn TwoDimensional width reference b row rest = IsTwoDimensionalRow reference b row rest
 
 -- row i of a strip is this row over its reference, and the rest follows it (this project's profile)
-pub record IsLine (form : StripForm) (i : ℕ) (reference : List Colour) (b : List Bool) (row : List Colour) (rest : List Bool) : Type 0 where
+pub record IsLine (form : StripForm) (i : ℕ) (reference : List Colour) (b : List Bool)
+    (row : List Colour) (rest : List Bool) : Type 0 where
   pub dimension : Dimension
   pub codes : List Bool
   pub begin : IsBegin form i b dimension codes
@@ -61,17 +70,18 @@ strip_fault in_row.Extension = Extension
 strip_fault in_row.RunTooLong = RunTooLong
 strip_fault in_row.OutOfRow = OutOfRow
 
--- no 1 is left where an EOL is due, or another row than an MH strip's first begins with none, or in MR the
--- tag bit is missing (this project's profile)
+-- no 1 is left where an EOL is due, or another row than an MH strip's first begins with none, or in
+-- MR the tag bit is missing (this project's profile)
 abbrev pub IsStartFault : Coding → ℕ → List Bool → StripFault → Type 0
 IsStartFault Mh i b fault =
     (IsAllZeros b × (fault ≡ DataEnds)) ⊎ ((i ≢ 0) × BeginsBelowEleven b × (fault ≡ MissingEol))
 IsStartFault Mr i b fault =
-    (IsAllZeros b × (fault ≡ DataEnds)) ⊎ (IsEndOfLine b [] × (fault ≡ DataEnds)) ⊎ (BeginsBelowEleven b × (fault ≡ MissingEol))
+    (IsAllZeros b × (fault ≡ DataEnds)) ⊎ (IsEndOfLine b [] × (fault ≡ DataEnds))
+    ⊎ (BeginsBelowEleven b × (fault ≡ MissingEol))
 IsStartFault Mmr i b fault = ⊥
 
--- eleven zeros stand where a row's first code is due, or fewer zeros and nothing behind them (this project's
--- profile)
+-- eleven zeros stand where a row's first code is due, or fewer zeros and nothing behind them
+-- (this project's profile)
 abbrev pub IsFirstCodeFault : List Bool → StripFault → Type 0
 IsFirstCodeFault b fault =
     ((behind : List Bool) × (b ≡ replicate 11 false ++ behind) × (fault ≡ EndMarker))
@@ -83,14 +93,16 @@ IsRowFaultIn OneDimensional width reference b fault = IsOneDimensionalFault widt
 IsRowFaultIn TwoDimensional width reference b fault = IsTwoDimensionalFault reference b fault
 
 -- the first code of row i of a strip is not there (this project's profile)
-pub record IsNoFirstCode (form : StripForm) (i : ℕ) (b : List Bool) (fault : StripFault) : Type 0 where
+pub record IsNoFirstCode (form : StripForm) (i : ℕ) (b : List Bool)
+    (fault : StripFault) : Type 0 where
   pub dimension : Dimension
   pub codes : List Bool
   pub start : IsStart form.coding i b dimension codes
   pub at_first_code : IsFirstCodeFault codes fault
 
 -- row i of a strip begins, and its codes stop with a fault (this project's profile)
-pub record IsStopInCodes (form : StripForm) (i : ℕ) (reference : List Colour) (b : List Bool) (fault : StripFault) : Type 0 where
+pub record IsStopInCodes (form : StripForm) (i : ℕ) (reference : List Colour) (b : List Bool)
+    (fault : StripFault) : Type 0 where
   pub dimension : Dimension
   pub codes : List Bool
   pub begin : IsBegin form i b dimension codes
@@ -98,8 +110,9 @@ pub record IsStopInCodes (form : StripForm) (i : ℕ) (reference : List Colour) 
   pub in_codes : IsRowFaultIn dimension form.width reference codes cause
   pub fault_is : fault ≡ strip_fault cause
 
--- row i of a strip is not there, for this cause: at its start, at its first code, or in its codes (this
--- project's profile)
+-- row i of a strip is not there, for this cause: at its start, at its first code, or in its codes
+-- (this project's profile)
 abbrev pub IsCause : StripForm → ℕ → List Colour → List Bool → StripFault → Type 0
 IsCause form i reference b fault =
-    IsStartFault form.coding i b fault ⊎ IsNoFirstCode form i b fault ⊎ IsStopInCodes form i reference b fault
+    IsStartFault form.coding i b fault ⊎ IsNoFirstCode form i b fault
+    ⊎ IsStopInCodes form i reference b fault

@@ -1,5 +1,6 @@
 -- What is worth a note in a strip that has all its rows (this project's profile).
-use Rattle.std.specs.Prelude.{◌≡◌, ◌≢◌, ℕ, zero, suc, ◌+◌, ◌⊎◌, ◌↔◌, true, List, [], ◌∷◌, ◌++◌, length, Bool, None, Some, IsTrue, ⊤}
+use Rattle.std.specs.Prelude.{◌≡◌, ◌≢◌, ℕ, zero, suc, ◌+◌, ◌⊎◌, ◌↔◌, true, List, [], ◌∷◌, ◌++◌}
+use Rattle.std.specs.Prelude.{length, Bool, None, Some, IsTrue, ⊤}
 use Rattle.std.specs.List.{Contains}
 use Rattle.fax_bits.specs.declared.Colour.{Colour}
 use Rattle.fax_page.specs.declared.Coding.{Coding}
@@ -14,8 +15,8 @@ use Rattle.fax_page.specs.Lines.{tag_bit, IsEndOfLine, IsLine}
 use Rattle.fax_page.specs.Strip.{AreLines, IsStrip, white_row}
 use Rattle.fax_page.specs.CodedStrip.{end_of_block, row_bits}
 
--- one EOL of a return to control, with any fill: in MR the tag bit of a one-dimensional row follows it
--- (T.4, sections 4.1.3, 4.1.4 and 4.2.2)
+-- one EOL of a return to control, with any fill: in MR the tag bit of a one-dimensional row follows
+-- it (T.4, sections 4.1.3, 4.1.4 and 4.2.2)
 abbrev pub IsReturnEol : Coding → List Bool → List Bool → Type 0
 IsReturnEol Mh b rest = IsEndOfLine b rest
 IsReturnEol Mr b rest = IsEndOfLine b (tag_bit OneDimensional ∷ rest)
@@ -27,8 +28,8 @@ AreReturnEols coding zero b rest = b ≡ rest
 AreReturnEols coding (suc n) b rest =
     (middle : List Bool) × IsReturnEol coding b middle × AreReturnEols coding n middle rest
 
--- the bits begin with an end mark: in MH and MR a return to control, six EOLs (T.4, section 4.1.4), in MMR the end of
--- a facsimile block (T.6, End-of-facsimile block)
+-- the bits begin with an end mark: in MH and MR a return to control, six EOLs (T.4, section 4.1.4),
+-- in MMR the end of a facsimile block (T.6, End-of-facsimile block)
 abbrev pub IsEndMark : Coding → List Bool → List Bool → Type 0
 IsEndMark Mmr b rest = b ≡ end_of_block ++ rest
 IsEndMark coding b rest = AreReturnEols coding 6 b rest
@@ -36,7 +37,8 @@ IsEndMark coding b rest = AreReturnEols coding 6 b rest
 abbrev pub HasEndMark : Coding → List Bool → Type 0
 HasEndMark coding b = (rest : List Bool) × IsEndMark coding b rest
 
--- what stands behind the end mark, or all of the bits where they begin with none (this project's profile)
+-- what stands behind the end mark, or all of the bits where they begin with none
+-- (this project's profile)
 abbrev pub IsBehindEnd : Coding → List Bool → List Bool → Type 0
 IsBehindEnd coding b behind = IsEndMark coding b behind ⊎ ((HasEndMark coding b → ⊥) × (behind ≡ b))
 
@@ -44,26 +46,33 @@ IsBehindEnd coding b behind = IsEndMark coding b behind ⊎ ((HasEndMark coding 
 abbrev pub IsChosen : Dimension → List Colour → List Bool → List Colour → List Bool → Type 0
 IsChosen dimension reference codes row rest = codes ≡ row_bits dimension reference row ++ rest
 
--- from row i on, over this reference, the codes of some row are others than T.4 chooses (this project's profile)
+-- from row i on, over this reference, the codes of some row are others than T.4 chooses
+-- (this project's profile)
 abbrev pub HasOtherChoice : StripForm → ℕ → List Colour → List Bool → List (List Colour) → Type 0
 HasOtherChoice form i reference b [] = ⊥
 HasOtherChoice form i reference b (row ∷ rows) =
     (rest : List Bool) × (line : IsLine form i reference b row rest)
-    × ((IsChosen line.dimension reference line.codes row rest → ⊥) ⊎ HasOtherChoice form (i + 1) row rest rows)
+    × ((IsChosen line.dimension reference line.codes row rest → ⊥)
+    ⊎ HasOtherChoice form (i + 1) row rest rows)
 
--- the notes on a strip of which all rows can be read, by what is left behind them, and what of it stands behind the
--- end mark (this project's profile)
-pub record IsNotedAs (form : StripForm) (b : List Bool) (rows : List (List Colour)) (notes : StripNotes) : Type 0 where
+-- the notes on a strip of which all rows can be read, by what is left behind them, and what of it
+-- stands behind the end mark (this project's profile)
+pub record IsNotedAs (form : StripForm) (b : List Bool) (rows : List (List Colour))
+    (notes : StripNotes) : Type 0 where
   pub left : List Bool
   pub lines : AreLines form 0 (white_row form.width) b rows None left
   pub behind : List Bool
   pub behind_end : IsBehindEnd form.coding left behind
-  pub no_end_of_block : IsTrue notes.no_end_of_block ↔ ((form.coding ≡ Mmr) × (HasEndMark form.coding left → ⊥))
-  pub return_to_control : IsTrue notes.return_to_control ↔ ((form.coding ≢ Mmr) × HasEndMark form.coding left)
+  pub no_end_of_block : IsTrue notes.no_end_of_block ↔
+      ((form.coding ≡ Mmr) × (HasEndMark form.coding left → ⊥))
+  pub return_to_control : IsTrue notes.return_to_control ↔
+      ((form.coding ≢ Mmr) × HasEndMark form.coding left)
   pub data_after_end : IsTrue notes.data_after_end ↔ Contains behind true
-  pub not_t4_choice : IsTrue notes.not_t4_choice ↔ HasOtherChoice form 0 (white_row form.width) b rows
+  pub not_t4_choice : IsTrue notes.not_t4_choice ↔ HasOtherChoice form 0 (white_row form.width) b
+      rows
 
--- a strip has no notes: this row of it cannot be read. Of want of memory nothing is said (this project's profile)
+-- a strip has no notes: this row of it cannot be read. Of want of memory nothing is said
+-- (this project's profile)
 abbrev pub IsNotesFault : StripForm → List Bool → NotesFault → Type 0
 IsNotesFault form b Memory = ⊤
 IsNotesFault form b (Strip row fault) =

@@ -1,5 +1,6 @@
 -- The rows of a strip.
-use Rattle.std.specs.Prelude.{◌≡◌, ◌≢◌, ℕ, ◌+◌, ◌<◌, ◌≤◌, ◌^◌, Bool, true, List, [], ◌∷◌, replicate, Option, Some, None}
+use Rattle.std.specs.Prelude.{◌≡◌, ◌≢◌, ℕ, ◌+◌, ◌<◌, ◌≤◌, ◌^◌, Bool, true, List, [], ◌∷◌, replicate}
+use Rattle.std.specs.Prelude.{Option, Some, None}
 use Rattle.fax_bits.specs.declared.Colour.{Colour}
 use Rattle.fax_bits.specs.declared.Colour.TheVariants.{White}
 use Rattle.fax_page.specs.declared.Coding.TheVariants.{Mmr}
@@ -7,8 +8,8 @@ use Rattle.fax_page.specs.declared.StripForm.{StripForm}
 use Rattle.fax_page.specs.declared.StripFault.{StripFault}
 use Rattle.fax_page.specs.Lines.{IsLine, IsCause}
 
--- a strip's limits: rows of 1 to 65,535 pels, and 1 to 1,000,000 of them; EOLs are aligned only where rows have them
--- (this project's profile)
+-- a strip's limits: rows of 1 to 65,535 pels, and 1 to 1,000,000 of them; EOLs are aligned only
+-- where rows have them (this project's profile)
 pub record IsStripForm (form : StripForm) : Type 0 where
   pub some_pels : 0 < form.width
   pub short_rows : form.width < 2 ^ 16
@@ -16,24 +17,27 @@ pub record IsStripForm (form : StripForm) : Type 0 where
   pub few_rows : form.rows ≤ 1000000
   pub aligned : form.aligned ≡ true → form.coding ≢ Mmr
 
--- a strip ends before row i: there, where it has all its rows, or at the cause in the way of that row
--- (this project's profile)
+-- a strip ends before row i: there, where it has all its rows, or at the cause in the way of that
+-- row (this project's profile)
 abbrev pub EndsAt : StripForm → ℕ → List Colour → List Bool → Option StripFault → Type 0
 EndsAt form i reference b None = i ≡ form.rows
 EndsAt form i reference b (Some fault) = (i < form.rows) × IsCause form i reference b fault
 
--- from row i on, over this reference, the bits are these rows, each over the row before it, then this end, and
--- then the bits that are left (this project's profile)
-abbrev pub AreLines : StripForm → ℕ → List Colour → List Bool → List (List Colour) → Option StripFault → List Bool → Type 0
+-- from row i on, over this reference, the bits are these rows, each over the row before it, then
+-- this end, and then the bits that are left (this project's profile)
+abbrev pub AreLines : StripForm → ℕ → List Colour → List Bool → List (List Colour)
+    → Option StripFault → List Bool → Type 0
 AreLines form i reference b [] end left = (b ≡ left) × EndsAt form i reference b end
 AreLines form i reference b (row ∷ rows) end left =
-    (rest : List Bool) × (i < form.rows) × IsLine form i reference b row rest × AreLines form (i + 1) row rest rows end left
+    (rest : List Bool) × (i < form.rows) × IsLine form i reference b row rest
+    × AreLines form (i + 1) row rest rows end left
 
 -- a strip's first reference is all white (T.4, section 4.2.1.1; T.6, section 2.2.1)
 abbrev pub white_row : ℕ → List Colour
 white_row width = replicate width White
 
 -- the bits are a strip with these rows and this end (this project's profile)
-pub record IsStrip (form : StripForm) (b : List Bool) (rows : List (List Colour)) (end : Option StripFault) : Type 0 where
+pub record IsStrip (form : StripForm) (b : List Bool) (rows : List (List Colour))
+    (end : Option StripFault) : Type 0 where
   pub left : List Bool
   pub lines : AreLines form 0 (white_row form.width) b rows end left

@@ -1,5 +1,5 @@
--- What speaks of this code alone: what stands before a row, how far a strip is read or written, and rows that are
--- lent.
+-- What speaks of this code alone: what stands before a row, how far a strip is read or written, and
+-- rows that are lent.
 pub mod Starts
 pub mod Reader
 pub mod NextRow

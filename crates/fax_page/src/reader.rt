@@ -49,7 +49,8 @@ impl<'a> Model for StripReader<'a> {
 
 impl<'a> StripReader<'a> {
     ghost use Rattle.fax_page.specs.Strip.{IsStripForm};
-    ghost use Rattle.fax_page.specs.code.Reader.{strip_beginning, restarted, restarted_at, IsAdvance};
+    ghost use Rattle.fax_page.specs.code.Reader.{strip_beginning, restarted, restarted_at};
+    ghost use Rattle.fax_page.specs.code.Reader.{IsAdvance};
     ghost use Rattle.fax_page.specs.code.NextRow.{EndsAs, IsNextRow};
 
     /// Before the first row of a strip in at most 4,294,967,295 bytes. It takes all the memory that
@@ -182,8 +183,8 @@ impl<'a> StripReader<'a> {
         }
     }
 
-    /// How many bits of the strip stand before the row that is due. After a fault they are what they
-    /// were before that call.
+    /// How many bits of the strip stand before the row that is due. After a fault they are what
+    /// they were before that call.
     pub fn bit_place(&self) -> u64
         ensures place { result ≡ self.now.place }
         ensures within { result ≤ 8 * length self.now.bytes }

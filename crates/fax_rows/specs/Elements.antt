@@ -1,5 +1,7 @@
 -- Pels and changing elements. A row is the list of its pels, from left to right.
-use Rattle.std.specs.Prelude.{ℕ, zero, suc, ◌+◌, ◌<◌, ◌^◌, Bool, true, false, not, ◌&&◌, nat_lt, if◌then◌else◌, List, [], ◌∷◌, ◌++◌, length, replicate, slice_index_or, Option, Some, None}
+use Rattle.std.specs.Prelude.{ℕ, zero, suc, ◌+◌, ◌<◌, ◌^◌, Bool, true, false, not, ◌&&◌, nat_lt}
+use Rattle.std.specs.Prelude.{if◌then◌else◌, List, [], ◌∷◌, ◌++◌, length, replicate, slice_index_or}
+use Rattle.std.specs.Prelude.{Option, Some, None}
 use Rattle.fax_bits.specs.declared.Colour.{Colour}
 use Rattle.fax_bits.specs.declared.Colour.TheVariants.{White, Black}
 
@@ -33,7 +35,8 @@ pel_before row (suc i) = pel row i
 abbrev pub is_changing : List Colour → ℕ → Bool
 is_changing row i = not (same_colour (pel row i) (pel_before row i))
 
--- place i is right of a place, where None is the place just before the first pel (T.4, section 4.2.1.3.4)
+-- place i is right of a place, where None is the place just before the first pel
+-- (T.4, section 4.2.1.3.4)
 abbrev pub is_right_of : Option ℕ → ℕ → Bool
 is_right_of None i = true
 is_right_of (Some a) i = nat_lt a i
@@ -53,10 +56,11 @@ next_change row from = first_place (λ i. is_right_of from i && is_changing row 
 -- (T.4, section 4.2.1.3.1)
 unfoldable pub next_of : List Colour → Option ℕ → Colour → ℕ
 next_of row from colour =
-    first_place (λ i. is_right_of from i && (is_changing row i && not (same_colour (pel row i) colour))) 0 (length row)
+    first_place (λ i. is_right_of from i
+    && (is_changing row i && not (same_colour (pel row i) colour))) 0 (length row)
 
--- b1: the first changing element of the reference row right of a0 and of the colour opposite to a0's
--- (T.4, section 4.2.1.3.1)
+-- b1: the first changing element of the reference row right of a0 and of the colour opposite to
+-- a0's (T.4, section 4.2.1.3.1)
 abbrev pub b1 : List Colour → Option ℕ → Colour → ℕ
 b1 reference a0 colour = next_of reference a0 colour
 
@@ -73,7 +77,8 @@ pels_of colour (n ∷ runs) = replicate n colour ++ pels_of (other colour) runs
 unfoldable pub runs_behind : Colour → ℕ → List Colour → List ℕ
 runs_behind colour n [] = n ∷ []
 runs_behind colour n (first ∷ pels) =
-    if same_colour first colour then runs_behind colour (n + 1) pels else (n ∷ runs_behind (other colour) 1 pels)
+    if same_colour first colour then runs_behind colour (n + 1) pels
+    else (n ∷ runs_behind (other colour) 1 pels)
 
 -- the longest runs of a row, white first: 0 where it begins black (T.4, section 4.1.1)
 abbrev pub runs_of : List Colour → List ℕ

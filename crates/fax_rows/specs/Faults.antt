@@ -2,21 +2,26 @@
 use Rattle.std.specs.Prelude.{◌≡◌, ℕ, ◌+◌, ◌<◌, ◌≤◌, ◌⊎◌, Bool, List, [], ◌∷◌, map, sum, length}
 use Rattle.fax_bits.specs.declared.codes.CodeEntry.{CodeEntry}
 use Rattle.fax_bits.specs.declared.codes.CodeFault.{CodeFault}
-use Rattle.fax_bits.specs.declared.codes.CodeFault.TheVariants.{DataEnds as CodeDataEnds, BadCode as CodeBadCode}
+use Rattle.fax_bits.specs.declared.codes.CodeFault.TheVariants.{DataEnds as CodeDataEnds}
+use Rattle.fax_bits.specs.declared.codes.CodeFault.TheVariants.{BadCode as CodeBadCode}
 use Rattle.fax_bits.specs.declared.Colour.{Colour}
 use Rattle.fax_bits.specs.declared.Colour.TheVariants.{White}
 use Rattle.fax_bits.specs.declared.runs.RunCode.{RunCode}
-use Rattle.fax_bits.specs.declared.runs.RunCode.TheVariants.{Terminating, MakeUp, Extension as RunExtension}
+use Rattle.fax_bits.specs.declared.runs.RunCode.TheVariants.{Terminating, MakeUp}
+use Rattle.fax_bits.specs.declared.runs.RunCode.TheVariants.{Extension as RunExtension}
 use Rattle.fax_bits.specs.declared.modes.ModeCode.{ModeCode}
-use Rattle.fax_bits.specs.declared.modes.ModeCode.TheVariants.{Pass, Horizontal, Vertical, Extension as ModeExtension}
+use Rattle.fax_bits.specs.declared.modes.ModeCode.TheVariants.{Pass, Horizontal, Vertical}
+use Rattle.fax_bits.specs.declared.modes.ModeCode.TheVariants.{Extension as ModeExtension}
 use Rattle.fax_bits.specs.Tables.{run_table, modes}
 use Rattle.fax_bits.specs.Codes.{Takes, IsFaultOf, Spells}
 use Rattle.fax_bits.specs.Runs.{IsRun}
 use Rattle.fax_rows.specs.declared.RowFault.{RowFault}
-use Rattle.fax_rows.specs.declared.RowFault.TheVariants.{DataEnds, BadCode, Extension, RunTooLong, OutOfRow}
+use Rattle.fax_rows.specs.declared.RowFault.TheVariants.{DataEnds, BadCode, Extension, RunTooLong}
+use Rattle.fax_rows.specs.declared.RowFault.TheVariants.{OutOfRow}
 use Rattle.fax_rows.specs.Elements.{other}
 use Rattle.fax_rows.specs.OneDimensional.{AreRuns}
-use Rattle.fax_rows.specs.TwoDimensional.{Position, beginning, first_pel, IsInRow, IsUnfinished, AreSteps}
+use Rattle.fax_rows.specs.TwoDimensional.{Position, beginning, first_pel, IsInRow, IsUnfinished}
+use Rattle.fax_rows.specs.TwoDimensional.{AreSteps}
 
 -- a row's name for the fault of a code (this project's profile)
 abbrev pub row_fault : CodeFault → RowFault
@@ -27,7 +32,8 @@ row_fault CodeBadCode = BadCode
 abbrev pub IsCodeFault : {M : Type 0} → List (CodeEntry M) → List Bool → RowFault → Type 0
 IsCodeFault table b fault = (code : CodeFault) × IsFaultOf table b code × (fault ≡ row_fault code)
 
--- the fault of a run code, where `so_far` pels of the row come before what it adds (this project's profile)
+-- the fault of a run code, where `so_far` pels of the row come before what it adds
+-- (this project's profile)
 abbrev pub IsRunCodeFault : ℕ → ℕ → RunCode → RowFault → Type 0
 IsRunCodeFault width so_far (Terminating n) fault = (width < so_far + n) × (fault ≡ RunTooLong)
 IsRunCodeFault width so_far (MakeUp n) fault = (width < so_far + n) × (fault ≡ RunTooLong)
@@ -40,9 +46,10 @@ IsAtRunCode colour width so_far b fault =
     ⊎ ((code : RunCode) × (behind : List Bool)
     × Takes (run_table colour) b code behind × IsRunCodeFault width so_far code fault)
 
--- the bits begin with a run from the pel `from` on that is not whole: make-up codes within the width, and
--- then the fault (this project's profile)
-pub record IsRunFault (colour : Colour) (width from : ℕ) (b : List Bool) (fault : RowFault) : Type 0 where
+-- the bits begin with a run from the pel `from` on that is not whole: make-up codes within the
+-- width, and then the fault (this project's profile)
+pub record IsRunFault (colour : Colour) (width from : ℕ) (b : List Bool)
+    (fault : RowFault) : Type 0 where
   pub make_up : List ℕ
   pub left : List Bool
   pub spelled : Spells (run_table colour) b (map MakeUp make_up) left
@@ -54,8 +61,8 @@ abbrev pub colour_behind : Colour → List ℕ → Colour
 colour_behind colour [] = colour
 colour_behind colour (n ∷ runs) = colour_behind (other colour) runs
 
--- the bits begin with whole runs that do not make up the width, and then a run with this fault (this
--- project's profile)
+-- the bits begin with whole runs that do not make up the width, and then a run with this fault
+-- (this project's profile)
 pub record IsOneDimensionalFault (width : ℕ) (b : List Bool) (fault : RowFault) : Type 0 where
   pub runs : List ℕ
   pub left : List Bool
@@ -63,8 +70,8 @@ pub record IsOneDimensionalFault (width : ℕ) (b : List Bool) (fault : RowFault
   pub unfinished : sum runs < width
   pub at_run : IsRunFault (colour_behind White runs) width (sum runs) left fault
 
--- horizontal mode with a fault in its first run, or with a first run within the row and a fault in its second
--- (this project's profile)
+-- horizontal mode with a fault in its first run, or with a first run within the row and a fault in
+-- its second (this project's profile)
 abbrev pub IsHorizontalFault : List Colour → Position → List Bool → RowFault → Type 0
 IsHorizontalFault reference at b fault =
     IsRunFault at.colour (length reference) (first_pel at) b fault
@@ -86,8 +93,10 @@ IsStepFault reference at b fault =
     ⊎ ((mode : ModeCode) × (behind : List Bool)
     × Takes modes b mode behind × IsModeFault mode reference at behind fault)
 
--- the bits begin with steps that do not end the row, and then a step with this fault (this project's profile)
-pub record IsTwoDimensionalFault (reference : List Colour) (b : List Bool) (fault : RowFault) : Type 0 where
+-- the bits begin with steps that do not end the row, and then a step with this fault
+-- (this project's profile)
+pub record IsTwoDimensionalFault (reference : List Colour) (b : List Bool)
+    (fault : RowFault) : Type 0 where
   pub positions : List Position
   pub last : Position
   pub left : List Bool

@@ -34,15 +34,16 @@ IsOneFault width =
     (b : List Bool) (fault another : RowFault)
     → IsOneDimensionalFault width b fault → IsOneDimensionalFault width b another → fault ≡ another
 
--- bits are read in one way as a row of the width in one-dimensional coding: one row and one rest, or one fault
--- (this project's profile)
+-- bits are read in one way as a row of the width in one-dimensional coding: one row and one rest,
+-- or one fault (this project's profile)
 pub record ReadsRowsOneWay (width : ℕ) : Type 0 where
   pub one_row : IsOneRow width
   pub row_or_fault : IsRowOrFault width
   pub row_has_no_fault : IsNoFaultOfRow width
   pub one_fault : IsOneFault width
 
--- a row that is written in one-dimensional coding is read back, whatever bits follow it (T.4, section 4.1.1)
+-- a row that is written in one-dimensional coding is read back, whatever bits follow it
+-- (T.4, section 4.1.1)
 abbrev pub OneDimensionalBitsAreRead : Type 0
 OneDimensionalBitsAreRead =
     (row : List Colour) (more : List Bool) → HasWidth row
@@ -52,10 +53,11 @@ OneDimensionalBitsAreRead =
 abbrev pub OneDimensionalBitsAreOneRow : Type 0
 OneDimensionalBitsAreOneRow =
     (row another : List Colour) (more rest : List Bool) → HasWidth row
-    → IsOneDimensionalRow (length row) (one_dimensional_bits row ++ more) another rest → (row ≡ another) × (more ≡ rest)
+    → IsOneDimensionalRow (length row) (one_dimensional_bits row ++ more) another rest
+    → (row ≡ another) × (more ≡ rest)
 
--- a row that is written in two-dimensional coding is read back over its reference row, whatever bits follow it
--- (T.4, section 4.2.1.3.3; T.6, section 2.2.3)
+-- a row that is written in two-dimensional coding is read back over its reference row, whatever
+-- bits follow it (T.4, section 4.2.1.3.3; T.6, section 2.2.3)
 abbrev pub TwoDimensionalBitsAreRead : Type 0
 TwoDimensionalBitsAreRead =
     (reference row : List Colour) (more : List Bool) → HasWidth row → length reference ≡ length row
@@ -64,12 +66,13 @@ TwoDimensionalBitsAreRead =
 -- and as nothing else (T.4, section 4.2.1.3.3; T.6, section 2.2.3)
 abbrev pub TwoDimensionalBitsAreOneRow : Type 0
 TwoDimensionalBitsAreOneRow =
-    (reference row another : List Colour) (more rest : List Bool) → HasWidth row → length reference ≡ length row
+    (reference row another : List Colour) (more rest : List Bool) → HasWidth row
+    → length reference ≡ length row
     → IsTwoDimensionalRow reference (two_dimensional_bits reference row ++ more) another rest
     → (row ≡ another) × (more ≡ rest)
 
--- bits begin with at most one row over the reference row, and one rest follows it (T.4, section 4.2.1.3.3; T.6,
--- section 2.2.3)
+-- bits begin with at most one row over the reference row, and one rest follows it
+-- (T.4, section 4.2.1.3.3; T.6, section 2.2.3)
 abbrev pub IsOneRowOver : List Colour → Type 0
 IsOneRowOver reference =
     (b : List Bool) (row another : List Colour) (rest remaining : List Bool)
@@ -93,10 +96,11 @@ IsNoFaultOfRowOver reference =
 abbrev pub IsOneFaultOver : List Colour → Type 0
 IsOneFaultOver reference =
     (b : List Bool) (fault another : RowFault)
-    → IsTwoDimensionalFault reference b fault → IsTwoDimensionalFault reference b another → fault ≡ another
+    → IsTwoDimensionalFault reference b fault → IsTwoDimensionalFault reference b another
+    → fault ≡ another
 
--- bits are read in one way as a row over the reference row in two-dimensional coding: one row and one rest, or
--- one fault (this project's profile)
+-- bits are read in one way as a row over the reference row in two-dimensional coding: one row and
+-- one rest, or one fault (this project's profile)
 pub record ReadsRowsOverOneWay (reference : List Colour) : Type 0 where
   pub one_row : IsOneRowOver reference
   pub row_or_fault : IsRowOverOrFault reference

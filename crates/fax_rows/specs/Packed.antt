@@ -1,5 +1,7 @@
--- Rows as packed bytes, as in a raw PBM (the netpbm format, P4): eight pels in a byte, and 1 is black.
-use Rattle.std.specs.Prelude.{◌≡◌, ℕ, ◌+◌, ◌-◌, ◌*◌, ◌/◌, Bool, true, false, List, ◌++◌, map, length, take, drop, replicate, not, slice_index_or}
+-- Rows as packed bytes, as in a raw PBM (the netpbm format, P4): eight pels in a byte, and 1 is
+-- black.
+use Rattle.std.specs.Prelude.{◌≡◌, ℕ, ◌+◌, ◌-◌, ◌*◌, ◌/◌, Bool, true, false, List, ◌++◌, map}
+use Rattle.std.specs.Prelude.{length, take, drop, replicate, not, slice_index_or}
 use Rattle.std.specs.List.{range_with_len}
 use Rattle.fax_bits.specs.declared.FillOrder.TheVariants.{MsbFirst}
 use Rattle.fax_bits.specs.declared.Colour.{Colour}
@@ -21,8 +23,8 @@ abbrev pub colour_of_bit : Bool → Colour
 colour_of_bit false = White
 colour_of_bit true = Black
 
--- the byte of the eight pels from a place on, the leftmost in its highest bit, with zeros behind the last pel
--- (the netpbm format, P4; the zeros are this project's profile)
+-- the byte of the eight pels from a place on, the leftmost in its highest bit, with zeros behind
+-- the last pel (the netpbm format, P4; the zeros are this project's profile)
 unfoldable pub packed_byte : List Colour → ℕ → ℕ
 packed_byte row from = bits_number (take 8 (drop from (map is_black row ++ replicate 8 false)))
 
@@ -30,27 +32,31 @@ packed_byte row from = bits_number (take 8 (drop from (map is_black row ++ repli
 unfoldable pub packed_row : List Colour → List ℕ
 packed_row row = map (λ k. packed_byte row (8 * k)) (range_with_len 0 (packed_len (length row)))
 
--- the row of some bytes, of which the padding behind the last pel is ignored (the netpbm format, P4)
+-- the row of some bytes, of which the padding behind the last pel is ignored
+-- (the netpbm format, P4)
 unfoldable pub unpacked_row : ℕ → List ℕ → List Colour
 unpacked_row width bytes = take width (map colour_of_bit (bits MsbFirst bytes))
 
--- the least place from this one on whose bit, the highest of each byte first, is not of the colour, or the place
--- behind the last bit (the netpbm format, P4)
+-- the least place from this one on whose bit, the highest of each byte first, is not of the colour,
+-- or the place behind the last bit (the netpbm format, P4)
 unfoldable pub first_other : List ℕ → ℕ → Colour → ℕ
 first_other bytes from colour =
-    first_place (λ i. not (same_colour (colour_of_bit (slice_index_or (bits MsbFirst bytes) i false)) colour)) from (8 * length bytes - from)
+    first_place (λ i. not (same_colour (colour_of_bit
+    (slice_index_or (bits MsbFirst bytes) i false)) colour)) from (8 * length bytes - from)
 
 -- the bits of a packed row are its pels, and zeros up to a whole byte (the netpbm format, P4)
 abbrev pub HasBitsOfPels : Type 0
 HasBitsOfPels =
     (row : List Colour)
-    → bits MsbFirst (packed_row row) ≡ map is_black row ++ replicate (8 * packed_len (length row) - length row) false
+    → bits MsbFirst (packed_row row)
+    ≡ map is_black row ++ replicate (8 * packed_len (length row) - length row) false
 
 -- a packed row is read back (this project's profile)
 abbrev pub IsReadBack : Type 0
 IsReadBack = (row : List Colour) → unpacked_row (length row) (packed_row row) ≡ row
 
--- bytes whose row is packed again are as they were, but for the padding, which is zeros (this project's profile)
+-- bytes whose row is packed again are as they were, but for the padding, which is zeros
+-- (this project's profile)
 abbrev pub IsPackedBack : Type 0
 IsPackedBack =
     (width : ℕ) (bytes : List ℕ) → length bytes ≡ packed_len width

@@ -1,7 +1,8 @@
 //! The first pel of packed bytes that is not of a colour, found in lanes.
 ghost use Rattle.std.specs.Prelude.{◌≡◌, ◌*◌, ◌≤◌, ◌<◌, length};
 ghost use Rattle.fax_rows.specs.Packed as Spec;
-ghost use Rattle.fax_rows.specs.code.FirstOther.{others, first_other_in_byte, plain_byte, IsFirstOtherByte};
+ghost use Rattle.fax_rows.specs.code.FirstOther.{others, first_other_in_byte, plain_byte};
+ghost use Rattle.fax_rows.specs.code.FirstOther.{IsFirstOtherByte};
 
 use fax_bits::Colour;
 use fax_bits::laws::bits_stand_by_place;
@@ -74,8 +75,8 @@ fn first_other_byte(bytes: &[u8], from: usize, plain: u8) -> usize
 }
 
 /// The least place at or behind `from` whose bit, highest of each byte first, is not of the colour,
-/// where 1 is black; where there is none, the place behind the last bit. At most 4,294,967,295 bytes
-/// are given, and `from` is no further than the place behind their bits. It takes no memory.
+/// where 1 is black; where there is none, the place behind the last bit. At most 4,294,967,295
+/// bytes are given, and `from` is no further than the place behind their bits. It takes no memory.
 pub fn first_other(bytes: &[u8], from: u64, colour: Colour) -> u64
     requires count { length bytes.now ≤ 4294967295 }
     requires within { from ≤ 8 * length bytes.now }

@@ -38,8 +38,8 @@ impl Row {
         Ok(row)
     }
 
-    /// Takes the pels that these bytes hold: pel `i` is black where bit `i` is 1, the highest bit of
-    /// each byte first. The bits behind the last pel are ignored. It takes no memory.
+    /// Takes the pels that these bytes hold: pel `i` is black where bit `i` is 1, the highest bit
+    /// of each byte first. The bits behind the last pel are ignored. It takes no memory.
     pub fn set_packed(&mut self, bytes: &[u8])
         requires { length bytes.now ≡ Spec.packed_len (length self.old) }
         ensures pels { self.new ≡ Spec.unpacked_row (length self.old) bytes.now }
@@ -183,8 +183,8 @@ fn fill(out: &mut [u8], from: usize, to: usize, byte: u8)
     }
 }
 
-/// The byte of the eight pels from a place on, with zeros behind the last pel, where so many places of
-/// change are passed; and how many are passed behind it.
+/// The byte of the eight pels from a place on, with zeros behind the last pel, where so many places
+/// of change are passed; and how many are passed behind it.
 fn packed_byte(places: &[u32], end: usize, width: u32, from: u32, passed: usize) -> (u8, usize)
     requires row { ArePlaces places.now end width }
     requires within { from < width }

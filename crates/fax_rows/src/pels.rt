@@ -118,8 +118,9 @@ impl Row {
         self.end = row.end;
     }
 
-    /// Takes the pels of the row of this width that has these longest runs, white first, and answers
-    /// whether there is one. Where there is none, the row stays as it is. It takes no memory.
+    /// Takes the pels of the row of this width that has these longest runs, white first, and
+    /// answers whether there is one. Where there is none, the row stays as it is. It takes no
+    /// memory.
     pub fn set_runs(&mut self, runs: &[u32]) -> bool
         ensures set { IsTrue result → runs_of self.new ≡ runs.now }
         ensures same_width { length self.new ≡ length self.old }

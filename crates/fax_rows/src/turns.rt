@@ -41,8 +41,8 @@ pub fn turn(places: &mut [u32], end: usize, place: u32) -> usize
     end + 1
 }
 
-/// What `turn` does, behind a run of pels that ends at the place: where it has some, the last place is
-/// another one.
+/// What `turn` does, behind a run of pels that ends at the place: where it has some, the last place
+/// is another one.
 #[inline(always)]
 pub fn turn_behind(places: &mut [u32], end: usize, place: u32, run: u32) -> usize
     requires ascending { Spec.IsAscending places.old end }
@@ -59,7 +59,8 @@ pub fn turn_behind(places: &mut [u32], end: usize, place: u32, run: u32) -> usiz
     turn_right(places, end, place)
 }
 
-/// Turns the colour from a place on that is right of the last one, and answers where the places end.
+/// Turns the colour from a place on that is right of the last one, and answers where the places
+/// end.
 #[inline(always)]
 pub fn turn_right(places: &mut [u32], end: usize, place: u32) -> usize
     requires ascending { Spec.IsAscending places.old end }

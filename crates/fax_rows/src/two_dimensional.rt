@@ -1,6 +1,7 @@
 //! Rows in two-dimensional coding (ITU-T T.4, section 4.2.1.3, and T.6, section 2.2), read into
 //! places of change over a reference row's places.
-ghost use Rattle.std.specs.Prelude.{◌≡◌, ◌+◌, ◌-◌, ◌≤◌, ◌<◌, ◌^◌, pos, negsuc, ◌+ℤ◌, ◌≤ℤ◌, ℕ, Option, Some, true};
+ghost use Rattle.std.specs.Prelude.{◌≡◌, ◌+◌, ◌-◌, ◌≤◌, ◌<◌, ◌^◌, pos, negsuc, ◌+ℤ◌, ◌≤ℤ◌, ℕ};
+ghost use Rattle.std.specs.Prelude.{Option, Some, true};
 ghost use Rattle.std.specs.Prelude.{[], length, slice_index, OnOk, IfOk, IfErr};
 ghost use Rattle.fax_bits.specs.declared.Colour.{Colour};
 ghost use Rattle.fax_bits.specs.code.Source.{KeepsEnd};

@@ -48,8 +48,8 @@ fn last_colour(word: u64) -> Colour
     }
 }
 
-/// Puts the places of change of a word of 64 pels, the first of them at place `from`, behind another
-/// word, and answers where they end.
+/// Puts the places of change of a word of 64 pels, the first of them at place `from`, behind
+/// another word, and answers where they end.
 #[inline(always)]
 fn put_word(places: &mut [u32], end: usize, from: u32, before: u64, word: u64) -> usize
     requires ascending { IsAscending places.old end }
@@ -80,8 +80,8 @@ fn put_word(places: &mut [u32], end: usize, from: u32, before: u64, word: u64) -
     end
 }
 
-/// Puts the places of change of so many words of 64 pels, and answers where they end, and the colour
-/// of the last pel: white where there is no word.
+/// Puts the places of change of so many words of 64 pels, and answers where they end, and the
+/// colour of the last pel: white where there is no word.
 fn places_of_words(bytes: &[u8], places: &mut [u32], words: u32) -> (usize, Colour)
     requires short { words < 1024 }
     requires whole { 8 * words ≤ length bytes.now }

@@ -1,5 +1,6 @@
 -- Bits that are appended one after another.
-use Rattle.std.specs.Prelude.{◌≡◌, ℕ, ◌+◌, ◌<◌, ◌≤◌, ◌%◌, ◌^◌, Bool, false, List, ◌++◌, length, replicate, flat_map}
+use Rattle.std.specs.Prelude.{◌≡◌, ℕ, ◌+◌, ◌<◌, ◌≤◌, ◌%◌, ◌^◌, Bool, false, List, ◌++◌, length}
+use Rattle.std.specs.Prelude.{replicate, flat_map}
 use Rattle.fax_bits.specs.declared.FillOrder.{FillOrder}
 use Rattle.fax_bits.specs.declared.FillOrder.TheVariants.{MsbFirst}
 use Rattle.fax_bits.specs.declared.Colour.{Colour}
@@ -12,36 +13,41 @@ pub record Sink : Type 0 where
   pub order : FillOrder
   pub bits : List Bool
 
--- the bits stand behind those that were there
+-- the bits stand after those that were there
 abbrev pub Appends : Sink → List Bool → Sink → Type 0
 Appends old more new = new ≡ record { order = old.order; bits = old.bits ++ more }
 
--- some of the bits, from the first on, stand behind those that were there
+-- some of the bits, from the first on, stand after those that were there
 pub record AppendsPrefix (old : Sink) (more : List Bool) (new : Sink) : Type 0 where
   pub done : List Bool
   pub missing : List Bool
   pub appended : Appends old done new
   pub parts : more ≡ done ++ missing
 
--- some of the codes of a run, from the first on and each of them whole, stand behind the bits that were there
-pub record AppendsCodes (old : Sink) (colour : Colour) (codes : List RunCode) (new : Sink) : Type 0 where
+-- some of the codes of a run, from the first on and each of them whole, stand after the bits that
+-- were there
+pub record AppendsCodes (old : Sink) (colour : Colour) (codes : List RunCode)
+    (new : Sink) : Type 0 where
   pub done : List RunCode
   pub missing : List RunCode
   pub appended : Appends old (flat_map (run_code_bits colour) done) new
   pub parts : codes ≡ done ++ missing
 
--- fewer than eight zeros stand behind the bits that were there, up to a whole byte
+-- fewer than eight zeros stand after the bits that were there, up to a whole byte
 pub record IsPadded (old new : Sink) : Type 0 where
   pub zeros : ℕ
   pub few : zeros < 8
   pub appended : Appends old (replicate zeros false) new
   pub whole : length new.bits % 8 ≡ 0
 
--- the bits of whole bytes, the highest of each first, and behind them `count` pending bits, which spell a number
+-- the bits of whole bytes, the highest of each first, and after them `count` pending bits, which
+-- spell a number
 abbrev pub sink_of : FillOrder → List ℕ → ℕ → ℕ → Sink
-sink_of order bytes count pending = record { order = order; bits = bits MsbFirst bytes ++ code_bits count pending }
+sink_of order bytes count pending =
+    record { order = order; bits = bits MsbFirst bytes ++ code_bits count pending }
 
--- no more bits are pending than may be, which are none, or forty where there is room for five bytes more
+-- no more bits are pending than may be, which are none, or forty where there is room for five bytes
+-- more
 pub record IsPending (count pending most bytes capacity : ℕ) : Type 0 where
   pub within : count ≤ most
   pub few : most ≤ 40

@@ -1,5 +1,6 @@
 -- The places of a chain's offsets, and a reader that looks for a loop as it goes.
-use Rattle.std.specs.Prelude.{◌≡◌, ◌≢◌, ◌+◌, ◌^◌, ◌<◌, ◌≤◌, ℕ, zero, suc, ◌==◌, if◌then◌else◌, Bool, false}
+use Rattle.std.specs.Prelude.{◌≡◌, ◌≢◌, ◌+◌, ◌^◌, ◌<◌, ◌≤◌, ℕ, zero, suc, ◌==◌, if◌then◌else◌, Bool}
+use Rattle.std.specs.Prelude.{false}
 use Rattle.std.specs.Prelude.{List, length, Option, Some, None, Result, Ok, Err, slice_get}
 use Rattle.fax_files.specs.declared.Endian.{Endian}
 use Rattle.fax_files.specs.declared.FileFault.{FileFault}
@@ -18,7 +19,8 @@ link endian file due (suc i) = link endian file (next_offset endian file due) i
 -- the offset behind a directory, or none where no directory stands
 abbrev pub onward : Endian → List ℕ → ℕ → Option ℕ
 onward endian file q =
-    if q == 0 then None else (if is_directory endian file q then (Some (next_offset endian file q)) else None)
+    if q == 0 then None else (if is_directory endian file q then (Some (next_offset endian file q))
+    else None)
 
 -- the offset due behind the first i directories of a file
 abbrev pub place : TiffFile → ℕ → ℕ
@@ -31,10 +33,11 @@ LeadsOn tiff i = onward tiff.head.endian tiff.file (place tiff i) ≡ Some (plac
 -- a file's chain has fewer than 2^32 directories
 abbrev pub HasFewPages : TiffFile → Type 0
 HasFewPages tiff =
-    (offsets : List ℕ) (end : Option FileFault) → IsChain tiff.head tiff.file offsets end → length offsets < 2 ^ 32
+    (offsets : List ℕ) (end : Option FileFault) → IsChain tiff.head tiff.file offsets end
+    → length offsets < 2 ^ 32
 
--- From this place on, the offsets of the chain come again after so many, and not before. Nowhere before does the
--- chain end
+-- From this place on, the offsets of the chain come again after so many, and not before. Nowhere
+-- before does the chain end
 pub record IsRound (tiff : TiffFile) (start len : ℕ) : Type 0 where
   pub some : 0 < len
   pub back : place tiff (start + len) ≡ place tiff start
@@ -51,7 +54,8 @@ pub record IsTurn (tiff : TiffFile) (len page : ℕ) : Type 0 where
 -- the chain of a file turns nowhere back
 abbrev pub HasNoLoop : TiffFile → Type 0
 HasNoLoop tiff =
-    (offsets : List ℕ) (end : Option FileFault) → IsChain tiff.head tiff.file offsets end → end ≢ Some DirectoryLoop
+    (offsets : List ℕ) (end : Option FileFault) → IsChain tiff.head tiff.file offsets end
+    → end ≢ Some DirectoryLoop
 
 -- the page at which a chain of so many turns back, if that is its end
 abbrev pub turning_page : Option FileFault → ℕ → Option ℕ
@@ -69,11 +73,12 @@ pub record ChainState : Type 0 where
   pub tiff : TiffFile
   pub given : ℕ
 
--- a reader's fields: the offset that is due stands behind the directories handed out, which are the first of the
--- chain, and it is known at which page the chain turns back
+-- a reader's fields: the offset that is due stands behind the directories handed out, which are the
+-- first of the chain, and it is known at which page the chain turns back
 pub record IsChainPlace (tiff : TiffFile) (due given : ℕ) (turn : Option ℕ) : Type 0 where
   pub due_is : due ≡ place tiff given
-  pub within : (offsets : List ℕ) (end : Option FileFault) → IsChain tiff.head tiff.file offsets end → given ≤ length offsets
+  pub within : (offsets : List ℕ) (end : Option FileFault) → IsChain tiff.head tiff.file offsets end
+      → given ≤ length offsets
   pub turn_is : IsTurningPage tiff turn
   pub few : HasFewPages tiff
 
@@ -82,16 +87,18 @@ abbrev pub IsDirectoryOf : TiffFile → TiffDirectory → Type 0
 IsDirectoryOf tiff directory = directory ≡ directory_of tiff directory.offset
 
 -- what a chain has at a place: a directory, or its end
-abbrev pub answer_at : TiffFile → Option ℕ → Option FileFault → Result (Option TiffDirectory) FileFault
+abbrev pub answer_at : TiffFile → Option ℕ → Option FileFault
+    → Result (Option TiffDirectory) FileFault
 answer_at tiff (Some q) end = Ok (Some (directory_of tiff q))
 answer_at tiff None None = Ok None
 answer_at tiff None (Some fault) = Err fault
 
--- the answer of a reader is the directory of the chain that stands behind those handed out, or else the end of the
--- chain
+-- the answer of a reader is the directory of the chain that stands behind those handed out, or else
+-- the end of the chain
 abbrev pub IsDueAnswer : ChainState → Result (Option TiffDirectory) FileFault → Type 0
 IsDueAnswer chain answer =
-    (offsets : List ℕ) (end : Option FileFault) → IsChain chain.tiff.head chain.tiff.file offsets end
+    (offsets : List ℕ) (end : Option FileFault)
+    → IsChain chain.tiff.head chain.tiff.file offsets end
     → answer ≡ answer_at chain.tiff (slice_get offsets chain.given) end
 
 -- a reader behind its answer: one directory on, or as it was
@@ -99,8 +106,8 @@ abbrev pub behind_answer : ChainState → Result (Option TiffDirectory) FileFaul
 behind_answer chain (Ok (Some directory)) = record chain { given = chain.given + 1 }
 behind_answer chain _ = chain
 
--- A search runs at twice the reader's place, and did not meet it yet, or it is known at which page the chain turns
--- back
+-- A search runs at twice the reader's place, and did not meet it yet, or it is known at which page
+-- the chain turns back
 abbrev pub IsSearch : TiffFile → ℕ → Search → Type 0
 IsSearch tiff given (Running fast) =
     (fast ≡ place tiff (given + given)) × ((i : ℕ) → i < given + given → LeadsOn tiff i)
@@ -110,7 +117,8 @@ IsSearch tiff given (Known turn) = IsTurningPage tiff turn
 -- a reader's fields
 pub record IsSearchPlace (tiff : TiffFile) (due given : ℕ) (search : Search) : Type 0 where
   pub due_is : due ≡ place tiff given
-  pub within : (offsets : List ℕ) (end : Option FileFault) → IsChain tiff.head tiff.file offsets end → given ≤ length offsets
+  pub within : (offsets : List ℕ) (end : Option FileFault) → IsChain tiff.head tiff.file offsets end
+      → given ≤ length offsets
   pub search_is : IsSearch tiff given search
   pub few : HasFewPages tiff
 

@@ -1,7 +1,9 @@
 -- How a raw PBM is read, step by step, and how a reader is seen.
-use Rattle.std.specs.Prelude.{◌≡◌, ◌≢◌, ℕ, ◌+◌, ◌-◌, ◌*◌, ◌==◌, ◌||◌, min, Bool, true, false, not, if◌then◌else◌, List, [], ◌∷◌, ◌++◌, codes, Option, Some, None}
+use Rattle.std.specs.Prelude.{◌≡◌, ◌≢◌, ℕ, ◌+◌, ◌-◌, ◌*◌, ◌==◌, ◌||◌, min, Bool, true, false, not}
+use Rattle.std.specs.Prelude.{if◌then◌else◌, List, [], ◌∷◌, ◌++◌, codes, Option, Some, None}
 use Rattle.fax_files.specs.declared.pbm.PbmFault.{PbmFault}
-use Rattle.fax_files.specs.Pbm.{is_white_space, is_line_end, is_digit, Image, IsImage, IsImageFault, raster_rows}
+use Rattle.fax_files.specs.Pbm.{is_white_space, is_line_end, is_digit, Image, IsImage, IsImageFault}
+use Rattle.fax_files.specs.Pbm.{raster_rows}
 
 -- a byte that begins a piece of a gap
 abbrev pub begins_piece : ℕ → Bool
@@ -11,7 +13,8 @@ begins_piece c = (c == 35) || is_white_space c
 abbrev pub behind_pieces : Bool → List ℕ → Option (List ℕ)
 behind_pieces in_comment [] = None
 behind_pieces true (c ∷ bytes) = behind_pieces (not (is_line_end c)) bytes
-behind_pieces false (c ∷ bytes) = if begins_piece c then (behind_pieces (c == 35) bytes) else (Some (c ∷ bytes))
+behind_pieces false (c ∷ bytes) =
+    if begins_piece c then (behind_pieces (c == 35) bytes) else (Some (c ∷ bytes))
 
 -- what stands behind a gap
 abbrev pub behind_gap : List ℕ → Option (List ℕ)
@@ -25,7 +28,8 @@ capped n = min n 1000001
 -- the number that is spelled so far, and goes on with the digits ahead
 abbrev pub capped_from : ℕ → List ℕ → ℕ
 capped_from number [] = number
-capped_from number (c ∷ bytes) = if is_digit c then (capped_from (capped (10 * number + (c - 48))) bytes) else number
+capped_from number (c ∷ bytes) =
+    if is_digit c then (capped_from (capped (10 * number + (c - 48))) bytes) else number
 
 -- what stands behind the digits ahead
 abbrev pub behind_digits : List ℕ → List ℕ
@@ -74,7 +78,8 @@ pub record IsAtEnd (old new : PbmState) : Type 0 where
   pub empty : old.left ≡ []
   pub same : new ≡ old
 
--- the fault is the one that was answered, or else that of the image which would be next, and is kept
+-- the fault is the one that was answered, or else that of the image which would be next, and is
+-- kept
 pub record IsFaultAnswered (old new : PbmState) (fault : PbmFault) : Type 0 where
   pub again : (given : PbmFault) → old.fault ≡ Some given → fault ≡ given
   pub first : old.fault ≡ None → (old.left ≢ []) × IsImageFault old.left fault

@@ -42,9 +42,12 @@ pub record PageStrips : Type 0 where
   pub count : ℕ
 
 -- the entries of a page's strips, each with a value for each strip
-pub record AreStripPlaces (directory : TiffDirectory) (count : ℕ) (offsets counts : Entry) : Type 0 where
-  pub offsets_are : field (entries directory.endian directory.file directory.offset) Tags.STRIP_OFFSETS ≡ Some offsets
-  pub counts_are : field (entries directory.endian directory.file directory.offset) Tags.STRIP_BYTE_COUNTS ≡ Some counts
+pub record AreStripPlaces (directory : TiffDirectory) (count : ℕ)
+    (offsets counts : Entry) : Type 0 where
+  pub offsets_are : field (entries directory.endian directory.file directory.offset)
+      Tags.STRIP_OFFSETS ≡ Some offsets
+  pub counts_are : field (entries directory.endian directory.file directory.offset)
+      Tags.STRIP_BYTE_COUNTS ≡ Some counts
   pub offsets_inside : offsets.place + 4 ≤ length directory.file
   pub counts_inside : counts.place + 4 ≤ length directory.file
   pub offsets_there : IsTrue (has_integers directory.endian directory.file offsets count)

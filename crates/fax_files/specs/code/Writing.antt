@@ -1,18 +1,21 @@
 -- A file that is being written, as the contracts see it.
-use Rattle.std.specs.Prelude.{◌≡◌, ◌≤◌, ℕ, ◌+◌, ◌-◌, ◌*◌, ◌%◌, ◌==◌, if◌then◌else◌, List, [], ◌∷◌, ◌++◌, length, replicate, Vec}
+use Rattle.std.specs.Prelude.{◌≡◌, ◌≤◌, ℕ, ◌+◌, ◌-◌, ◌*◌, ◌%◌, ◌==◌, if◌then◌else◌, List, [], ◌∷◌}
+use Rattle.std.specs.Prelude.{◌++◌, length, replicate, Vec}
 use Rattle.std.specs.declared.alloc.Global.{Global}
 use Rattle.fax_files.specs.declared.PageForm.{PageForm}
 use Rattle.fax_files.specs.declared.written.Layout.{Layout}
 use Rattle.fax_files.specs.Tags
 use Rattle.fax_files.specs.Written.{Written, with_page, max_file, to_offsets, four, long_field}
-use Rattle.fax_files.specs.Written.{WrittenField, fields_with, fields_bytes, values_bytes, offsets_from, lengths_of}
+use Rattle.fax_files.specs.Written.{WrittenField, fields_with, fields_bytes, values_bytes}
+use Rattle.fax_files.specs.Written.{offsets_from, lengths_of}
 
 -- the bytes of vectors
 abbrev pub contents : List (Vec ℕ Global) → List (List ℕ)
 contents [] = []
 contents (bytes ∷ others) = bytes.items ∷ contents others
 
--- a file that is being written: its bytes and its last link, of how many pages, and how many were added
+-- a file that is being written: its bytes and its last link, of how many pages, and how many were
+-- added
 pub record Writing : Type 0 where
   pub written : Written
   pub total : ℕ
@@ -25,10 +28,12 @@ laid_out_fields at form =
     (long_field Tags.STRIP_OFFSETS at.strips at.offsets)
     (long_field Tags.STRIP_BYTE_COUNTS at.strips at.byte_counts)
 
--- what stands behind the strips of a page, which begin at `start` and end at `end`, where its directory has these fields
+-- what stands behind the strips of a page, which begin at `start` and end at `end`, where its
+-- directory has these fields
 abbrev pub tail_bytes : ℕ → List WrittenField → PageForm → ℕ → List (List ℕ) → List ℕ
 tail_bytes end fields form start strips =
-    replicate (end % 2) 0 ++ (fields_bytes fields ++ four 0 ++ values_bytes form (offsets_from start strips) (lengths_of strips))
+    replicate (end % 2) 0 ++ (fields_bytes fields ++ four 0 ++ values_bytes form
+    (offsets_from start strips) (lengths_of strips))
 
 -- a file that is being written is within the limit, and has room for its last link
 pub record IsWriting (bytes : List ℕ) (link : ℕ) : Type 0 where
@@ -45,7 +50,8 @@ with_one_more old form strips = record {
 
 -- how many bytes the file would have with one more page
 abbrev pub length_with : Writing → PageForm → List (Vec ℕ Global) → ℕ
-length_with old form strips = length (with_page old.written old.total old.added form (contents strips)).bytes
+length_with old form strips =
+    length (with_page old.written old.total old.added form (contents strips)).bytes
 
 -- how many bytes a file has whose last page has its directory at this place, and so many strips
 abbrev pub page_end : ℕ → ℕ → ℕ
@@ -58,4 +64,5 @@ pub record IsLayout (at : Layout) (strips start end number total : ℕ) : Type 0
   pub directory_is : at.directory ≡ end + end % 2
   pub strips_are : at.strips ≡ strips
   pub offsets_are : at.offsets ≡ (if strips == 1 then start else (at.directory + to_offsets))
-  pub byte_counts_are : at.byte_counts ≡ (if strips == 1 then (end - start) else (at.directory + to_offsets + 4 * strips))
+  pub byte_counts_are : at.byte_counts
+      ≡ (if strips == 1 then (end - start) else (at.directory + to_offsets + 4 * strips))

@@ -11,11 +11,13 @@ use Rattle.fax_page.specs.code.Reader.{StripState, ReadsRow, IsAtEnd, MeetsFault
 -- the reader, once the row that it lends is given back, is so
 abbrev pub EndsAs : MutBor StripState → (StripState → Type 0) → Fml
 EndsAs reader P =
-    follows_so (the_row (record { mir = named 1; lft = [] })) (the_row (record { mir = named 1; lft = [] }))
+    follows_so (the_row (record { mir = named 1; lft = [] }))
+    (the_row (record { mir = named 1; lft = [] }))
     reader.ghost_name none (λ _ _. ⊤) P
 
 -- the row that was due is lent, or there is no more, or the fault is told
-abbrev pub IsNextRow : StripState → Result (Option (Bor (List Colour))) StripFault → StripState → Type 0
+abbrev pub IsNextRow : StripState → Result (Option (Bor (List Colour))) StripFault → StripState
+    → Type 0
 IsNextRow old (Ok (Some row)) new = ReadsRow old new × (row.now ≡ new.reference)
 IsNextRow old (Ok None) new = IsAtEnd old new
 IsNextRow old (Err fault) new = TellsAgain old fault new ⊎ MeetsFault old fault new

@@ -1,5 +1,6 @@
 -- A strip that is read for its notes.
-use Rattle.std.specs.Prelude.{◌≡◌, ◌≢◌, ℕ, ◌+◌, ◌⊎◌, ◌↔◌, Bool, true, false, List, ◌++◌, length, Option, Some, None, IsTrue, ⊤}
+use Rattle.std.specs.Prelude.{◌≡◌, ◌≢◌, ℕ, ◌+◌, ◌⊎◌, ◌↔◌, Bool, true, false, List, ◌++◌, length}
+use Rattle.std.specs.Prelude.{Option, Some, None, IsTrue, ⊤}
 use Rattle.std.specs.List.{Contains}
 use Rattle.fax_bits.specs.declared.Colour.{Colour}
 use Rattle.fax_bits.specs.code.Source.{Source}
@@ -12,10 +13,12 @@ use Rattle.fax_page.specs.declared.notes.NotesFault.TheVariants.{Memory, Strip}
 use Rattle.fax_page.specs.declared.notes.StripNotes.{StripNotes}
 use Rattle.fax_page.specs.Lines.{IsLine, IsCause}
 use Rattle.fax_page.specs.Strip.{AreLines, white_row}
-use Rattle.fax_page.specs.Notes.{IsReturnEol, AreReturnEols, HasEndMark, IsBehindEnd, IsChosen, HasOtherChoice}
+use Rattle.fax_page.specs.Notes.{IsReturnEol, AreReturnEols, HasEndMark, IsBehindEnd, IsChosen}
+use Rattle.fax_page.specs.Notes.{HasOtherChoice}
 
 -- row i was read, and whether its codes are those that T.4 chooses
-pub record IsLineRead (form : StripForm) (i : ℕ) (reference : List Colour) (b : List Bool) (row : List Colour) (rest : List Bool) (chosen : Bool) : Type 0 where
+pub record IsLineRead (form : StripForm) (i : ℕ) (reference : List Colour) (b : List Bool)
+    (row : List Colour) (rest : List Bool) (chosen : Bool) : Type 0 where
   pub line : IsLine form i reference b row rest
   pub choice : IsTrue chosen ↔ IsChosen line.dimension reference line.codes row rest
 
@@ -24,9 +27,10 @@ abbrev pub IsLineFault : StripForm → ℕ → List Colour → List Bool → Not
 IsLineFault form i reference b Memory = ⊤
 IsLineFault form i reference b (Strip row fault) = (row ≡ i) × IsCause form i reference b fault
 
--- the rows before row i were read, the last of them is the reference, and whether some of them is coded otherwise than
--- T.4 chooses
-pub record AreRowsRead (form : StripForm) (b : List Bool) (i : ℕ) (reference : List Colour) (left : List Bool) (other : Bool) : Type 0 where
+-- the rows before row i were read, the last of them is the reference, and whether some of them is
+-- coded otherwise than T.4 chooses
+pub record AreRowsRead (form : StripForm) (b : List Bool) (i : ℕ) (reference : List Colour)
+    (left : List Bool) (other : Bool) : Type 0 where
   pub before : List (List Colour)
   pub count : length before ≡ i
   pub lines : (more : List (List Colour)) (end : Option StripFault) (behind : List Bool)
@@ -36,7 +40,8 @@ pub record AreRowsRead (form : StripForm) (b : List Bool) (i : ℕ) (reference :
       → HasOtherChoice form 0 (white_row form.width) b (before ++ more)
   pub onward : (more : List (List Colour)) → HasOtherChoice form i reference left more
       → HasOtherChoice form 0 (white_row form.width) b (before ++ more)
-  pub back : (more : List (List Colour)) → HasOtherChoice form 0 (white_row form.width) b (before ++ more)
+  pub back : (more : List (List Colour))
+      → HasOtherChoice form 0 (white_row form.width) b (before ++ more)
       → (other ≡ true) ⊎ HasOtherChoice form i reference left more
 
 -- whether an EOL of a return to control stands next, behind which the source goes then
@@ -48,19 +53,24 @@ TakesReturnEol coding b false rest = (behind : List Bool) → IsReturnEol coding
 pub record AreEolsTaken (coding : Coding) (b : List Bool) (i : ℕ) (ahead : List Bool) : Type 0 where
   pub left : ℕ
   pub count : i + left ≡ 6
-  pub onward : (rest : List Bool) → AreReturnEols coding left ahead rest → AreReturnEols coding 6 b rest
-  pub back : (rest : List Bool) → AreReturnEols coding 6 b rest → AreReturnEols coding left ahead rest
+  pub onward : (rest : List Bool) → AreReturnEols coding left ahead rest
+      → AreReturnEols coding 6 b rest
+  pub back : (rest : List Bool) → AreReturnEols coding 6 b rest
+      → AreReturnEols coding left ahead rest
 
 -- what stands behind a mark, or nothing where there is none
 abbrev pub IsBehind : (List Bool → Type 0) → Option Source → Type 0
 IsBehind mark (Some source) = mark source.left
 IsBehind mark None = (rest : List Bool) → mark rest → ⊥
 
--- the notes on a strip by what is left behind its rows, and whether some row is coded otherwise than T.4 chooses
-pub record AreNotesBehind (coding : Coding) (left : List Bool) (other : Bool) (notes : StripNotes) : Type 0 where
+-- the notes on a strip by what is left behind its rows, and whether some row is coded otherwise
+-- than T.4 chooses
+pub record AreNotesBehind (coding : Coding) (left : List Bool) (other : Bool)
+    (notes : StripNotes) : Type 0 where
   pub behind : List Bool
   pub behind_end : IsBehindEnd coding left behind
-  pub no_end_of_block : IsTrue notes.no_end_of_block ↔ ((coding ≡ Mmr) × (HasEndMark coding left → ⊥))
+  pub no_end_of_block : IsTrue notes.no_end_of_block ↔
+      ((coding ≡ Mmr) × (HasEndMark coding left → ⊥))
   pub return_to_control : IsTrue notes.return_to_control ↔ ((coding ≢ Mmr) × HasEndMark coding left)
   pub data_after_end : IsTrue notes.data_after_end ↔ Contains behind true
   pub other_is : notes.not_t4_choice ≡ other

@@ -1,5 +1,6 @@
 -- A strip that is read row by row.
-use Rattle.std.specs.Prelude.{◌≡◌, ℕ, ◌+◌, ◌*◌, ◌<◌, ◌≤◌, ◌⊎◌, min, Bool, true, false, List, [], ◌∷◌, ◌++◌, length, drop, Option, Some, None, Result, Ok, Err}
+use Rattle.std.specs.Prelude.{◌≡◌, ℕ, ◌+◌, ◌*◌, ◌<◌, ◌≤◌, ◌⊎◌, min, Bool, true, false, List, []}
+use Rattle.std.specs.Prelude.{◌∷◌, ◌++◌, length, drop, Option, Some, None, Result, Ok, Err}
 use Rattle.fax_bits.specs.declared.Colour.{Colour}
 use Rattle.fax_bits.specs.Bits.{bits}
 use Rattle.fax_bits.specs.code.Source.{Source, source_of}
@@ -8,9 +9,9 @@ use Rattle.fax_page.specs.declared.StripFault.{StripFault}
 use Rattle.fax_page.specs.Lines.{IsLine, IsCause}
 use Rattle.fax_page.specs.Strip.{IsStripForm, AreLines, IsStrip, white_row}
 
--- how far a strip is read: its form and its bytes, the place in bits and the number of the row that is due, how
--- many rows the reader answered, over all its strips, the row before the one that is due, and the fault that
--- was answered
+-- how far a strip is read: its form and its bytes, the place in bits and the number of the row that
+-- is due, how many rows the reader answered, over all its strips, the row before the one that is
+-- due, and the fault that was answered
 pub record StripState : Type 0 where
   pub form : StripForm
   pub bytes : List ℕ
@@ -44,8 +45,8 @@ strip_beginning form bytes = strip_behind 0 form bytes
 abbrev pub restarted : StripState → List ℕ → ℕ → StripState
 restarted old bytes rows = strip_behind old.read (record old.form { rows = rows }) bytes
 
--- before row i of other bytes, which have so many rows, behind so many bits, over this reference; the rest of the
--- form stays
+-- before row i of other bytes, which have so many rows, behind so many bits, over this reference;
+-- the rest of the form stays
 abbrev pub restarted_at : StripState → List ℕ → ℕ → ℕ → ℕ → List Colour → StripState
 restarted_at old bytes rows i place reference = record {
   form = record old.form { rows = rows };
@@ -57,9 +58,11 @@ restarted_at old bytes rows i place reference = record {
   fault = None;
 }
 
--- the form is within the limits, the reference and the row to come have its width, no row behind its last is
--- due, the place lies in the bytes, and until a fault was met the source stands where the row that is due begins
-pub record IsReading (form : StripForm) (bytes : List ℕ) (source : Source) (place row : ℕ) (reference next : List Colour) (fault : Option StripFault) : Type 0 where
+-- the form is within the limits, the reference and the row to come have its width, no row behind
+-- its last is due, the place lies in the bytes, and until a fault was met the source stands where
+-- the row that is due begins
+pub record IsReading (form : StripForm) (bytes : List ℕ) (source : Source) (place row : ℕ)
+    (reference next : List Colour) (fault : Option StripFault) : Type 0 where
   pub limits : IsStripForm form
   pub width : length reference ≡ form.width
   pub next_width : length next ≡ form.width
@@ -106,46 +109,57 @@ IsAdvance old (Ok true) new = ReadsRow old new
 IsAdvance old (Ok false) new = IsAtEnd old new
 IsAdvance old (Err fault) new = TellsAgain old fault new ⊎ MeetsFault old fault new
 
--- these rows of the bytes were read, one behind another from the first on, and no more: whatever lines follow, they
--- follow these rows
-pub record HasRead (form : StripForm) (bytes : List ℕ) (rows : List (List Colour)) (state : StripState) : Type 0 where
+-- these rows of the bytes were read, one behind another from the first on, and no more: whatever
+-- lines follow, they follow these rows
+pub record HasRead (form : StripForm) (bytes : List ℕ) (rows : List (List Colour))
+    (state : StripState) : Type 0 where
   pub same_form : state.form ≡ form
   pub same_bytes : state.bytes ≡ bytes
   pub followed : (more : List (List Colour)) (end : Option StripFault) (left : List Bool)
       → AreLines form state.row state.reference (bits_left state) more end left
       → AreLines form 0 (white_row form.width) (bits form.order bytes) (rows ++ more) end left
 
--- a reader that reads rows one behind another, from a strip's beginning on, reads the rows of the strip, up to its
--- end
+-- a reader that reads rows one behind another, from a strip's beginning on, reads the rows of the
+-- strip, up to its end
 pub record ReadsRowByRow : Type 0 where
-  pub begins : (read : ℕ) (form : StripForm) (bytes : List ℕ) → HasRead form bytes [] (strip_behind read form bytes)
-  pub goes_on : (form : StripForm) (bytes : List ℕ) (rows : List (List Colour)) (old new : StripState)
-      → HasRead form bytes rows old → ReadsRow old new → HasRead form bytes (rows ++ new.reference ∷ []) new
+  pub begins : (read : ℕ) (form : StripForm) (bytes : List ℕ)
+      → HasRead form bytes [] (strip_behind read form bytes)
+  pub goes_on : (form : StripForm) (bytes : List ℕ) (rows : List (List Colour))
+      (old new : StripState)
+      → HasRead form bytes rows old → ReadsRow old new
+      → HasRead form bytes (rows ++ new.reference ∷ []) new
   pub ends : (form : StripForm) (bytes : List ℕ) (rows : List (List Colour)) (old new : StripState)
-      → HasRead form bytes rows old → IsAtEnd old new → IsStrip form (bits form.order bytes) rows None
-  pub stops : (form : StripForm) (bytes : List ℕ) (rows : List (List Colour)) (old new : StripState) (fault : StripFault)
-      → HasRead form bytes rows old → MeetsFault old fault new → IsStrip form (bits form.order bytes) rows (Some fault)
+      → HasRead form bytes rows old → IsAtEnd old new
+      → IsStrip form (bits form.order bytes) rows None
+  pub stops : (form : StripForm) (bytes : List ℕ) (rows : List (List Colour)) (old new : StripState)
+      (fault : StripFault)
+      → HasRead form bytes rows old → MeetsFault old fault new
+      → IsStrip form (bits form.order bytes) rows (Some fault)
 
--- these rows were read, one behind another, from a place of a reader to a later one: whatever lines follow the later
--- one, they follow these rows from the first place on
-pub record HasReadFrom (start : StripState) (rows : List (List Colour)) (state : StripState) : Type 0 where
+-- these rows were read, one behind another, from a place of a reader to a later one: whatever lines
+-- follow the later one, they follow these rows from the first place on
+pub record HasReadFrom (start : StripState) (rows : List (List Colour))
+    (state : StripState) : Type 0 where
   pub same_form : state.form ≡ start.form
   pub same_bytes : state.bytes ≡ start.bytes
   pub followed : (more : List (List Colour)) (end : Option StripFault) (left : List Bool)
       → AreLines start.form state.row state.reference (bits_left state) more end left
       → AreLines start.form start.row start.reference (bits_left start) (rows ++ more) end left
 
--- a reader that reads rows one behind another, from any place on, reads the lines from there, up to their end; a
--- fault leaves it before the row that could not be read, over the same reference
+-- a reader that reads rows one behind another, from any place on, reads the lines from there, up to
+-- their end; a fault leaves it before the row that could not be read, over the same reference
 pub record ReadsOn : Type 0 where
   pub begins : (start : StripState) → HasReadFrom start [] start
   pub goes_on : (start : StripState) (rows : List (List Colour)) (old new : StripState)
-      → HasReadFrom start rows old → ReadsRow old new → HasReadFrom start (rows ++ new.reference ∷ []) new
+      → HasReadFrom start rows old → ReadsRow old new
+      → HasReadFrom start (rows ++ new.reference ∷ []) new
   pub ends : (start : StripState) (rows : List (List Colour)) (old new : StripState)
       → HasReadFrom start rows old → IsAtEnd old new
       → AreLines start.form start.row start.reference (bits_left start) rows None (bits_left new)
-  pub stops : (start : StripState) (rows : List (List Colour)) (old new : StripState) (fault : StripFault)
+  pub stops : (start : StripState) (rows : List (List Colour)) (old new : StripState)
+      (fault : StripFault)
       → HasReadFrom start rows old → MeetsFault old fault new
-      → AreLines start.form start.row start.reference (bits_left start) rows (Some fault) (bits_left new)
+      → AreLines start.form start.row start.reference (bits_left start) rows (Some fault)
+      (bits_left new)
   pub stays : (old new : StripState) (fault : StripFault) → IsAdvance old (Err fault) new
       → (new.place ≡ old.place) × (new.row ≡ old.row) × (new.reference ≡ old.reference)

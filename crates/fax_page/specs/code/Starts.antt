@@ -7,7 +7,8 @@ use Rattle.fax_page.specs.declared.Dimension.{Dimension}
 use Rattle.fax_page.specs.declared.StripForm.{StripForm}
 use Rattle.fax_page.specs.declared.StripFault.{StripFault}
 use Rattle.fax_page.specs.declared.StripFault.TheVariants.{DataEnds, MissingEol}
-use Rattle.fax_page.specs.Lines.{IsEndOfLine, BeginsBelowEleven, IsStartFault, IsNoFirstCode, IsRowFaultIn, strip_fault}
+use Rattle.fax_page.specs.Lines.{IsEndOfLine, BeginsBelowEleven, IsStartFault, IsNoFirstCode}
+use Rattle.fax_page.specs.Lines.{IsRowFaultIn, strip_fault}
 
 -- fill and an EOL were read, or there is none, where a row may lack it
 abbrev pub HasEol : Bool → List Bool → List Bool → Type 0
@@ -16,14 +17,16 @@ HasEol may_lack b rest = IsEndOfLine b rest ⊎ ((may_lack ≡ true) × BeginsBe
 -- there is no 1 left, or no EOL where a row needs one
 abbrev pub HasNoEol : Bool → List Bool → StripFault → Type 0
 HasNoEol may_lack b fault =
-    (IsAllZeros b × (fault ≡ DataEnds)) ⊎ ((may_lack ≡ false) × BeginsBelowEleven b × (fault ≡ MissingEol))
+    (IsAllZeros b × (fault ≡ DataEnds))
+    ⊎ ((may_lack ≡ false) × BeginsBelowEleven b × (fault ≡ MissingEol))
 
 -- row i of a strip does not begin, for this cause: at its start, or at its first code
 abbrev pub IsNoBegin : StripForm → ℕ → List Bool → StripFault → Type 0
 IsNoBegin form i b fault = IsStartFault form.coding i b fault ⊎ IsNoFirstCode form i b fault
 
 -- the codes of a row, coded so, stop with this fault
-pub record IsStop (dimension : Dimension) (width : ℕ) (reference : List Colour) (b : List Bool) (fault : StripFault) : Type 0 where
+pub record IsStop (dimension : Dimension) (width : ℕ) (reference : List Colour) (b : List Bool)
+    (fault : StripFault) : Type 0 where
   pub cause : RowFault
   pub in_codes : IsRowFaultIn dimension width reference b cause
   pub fault_is : fault ≡ strip_fault cause

@@ -1,5 +1,6 @@
 -- A strip that is written row by row.
-use Rattle.std.specs.Prelude.{◌≡◌, ℕ, ◌+◌, ◌<◌, ◌≤◌, Bool, true, false, List, [], ◌∷◌, ◌++◌, length, Result, Ok, Err}
+use Rattle.std.specs.Prelude.{◌≡◌, ℕ, ◌+◌, ◌<◌, ◌≤◌, Bool, true, false, List, [], ◌∷◌, ◌++◌, length}
+use Rattle.std.specs.Prelude.{Result, Ok, Err}
 use Rattle.fax_bits.specs.Bytes.{packed}
 use Rattle.fax_bits.specs.declared.Colour.{Colour}
 use Rattle.fax_bits.specs.declared.FillOrder.{FillOrder}
@@ -8,8 +9,8 @@ use Rattle.fax_page.specs.declared.StripForm.{StripForm}
 use Rattle.fax_page.specs.CodedStrip.{coded_line, coded_lines, coded_strip, end_bits}
 use Rattle.fax_page.specs.Strip.{IsStripForm, white_row}
 
--- how far a strip is written: its form and k, its bits, how many rows were put, the last of them, or a white row
--- before the first, and whether memory was refused
+-- how far a strip is written: its form and k, its bits, how many rows were put, the last of them,
+-- or a white row before the first, and whether memory was refused
 pub record WriterState : Type 0 where
   pub form : StripForm
   pub k : ℕ
@@ -23,9 +24,10 @@ abbrev pub writer_beginning : StripForm → ℕ → WriterState
 writer_beginning form k =
     record { form = form; k = k; bits = []; row = 0; last = white_row form.width; refused = false }
 
--- the form is within the limits, k is not 0, the bits are put in the form's order, the last row has the form's
--- width, and there are no more rows than the form says
-pub record IsWriting (form : StripForm) (k : ℕ) (order : FillOrder) (row : ℕ) (last : List Colour) : Type 0 where
+-- the form is within the limits, k is not 0, the bits are put in the form's order, the last row has
+-- the form's width, and there are no more rows than the form says
+pub record IsWriting (form : StripForm) (k : ℕ) (order : FillOrder) (row : ℕ)
+    (last : List Colour) : Type 0 where
   pub limits : IsStripForm form
   pub some_k : 0 < k
   pub same_order : order ≡ form.order
@@ -76,7 +78,9 @@ HasPut form k rows writer =
 -- a writer that put rows one behind another, from its beginning on, gives the bytes of their strip
 pub record WritesRowByRow : Type 0 where
   pub begins : (form : StripForm) (k : ℕ) → HasPut form k [] (writer_beginning form k)
-  pub goes_on : (form : StripForm) (k : ℕ) (rows : List (List Colour)) (row : List Colour) (old new : WriterState)
+  pub goes_on : (form : StripForm) (k : ℕ) (rows : List (List Colour)) (row : List Colour)
+      (old new : WriterState)
       → HasPut form k rows old → PutsRow old row new → HasPut form k (rows ++ row ∷ []) new
-  pub finishes : (form : StripForm) (k : ℕ) (rows : List (List Colour)) (writer : WriterState) (bytes : List ℕ)
+  pub finishes : (form : StripForm) (k : ℕ) (rows : List (List Colour)) (writer : WriterState)
+      (bytes : List ℕ)
       → HasPut form k rows writer → FinishesAs writer bytes → bytes ≡ coded_strip form k rows

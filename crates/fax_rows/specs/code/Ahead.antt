@@ -1,5 +1,6 @@
 -- What a coder of two-dimensional rows knows of the places ahead of it.
-use Rattle.std.specs.Prelude.{◌≡◌, ℕ, ◌+◌, ◌-◌, ◌<◌, Bool, List, ◌++◌, Option, Some, unwrap_or, slice_index}
+use Rattle.std.specs.Prelude.{◌≡◌, ℕ, ◌+◌, ◌-◌, ◌<◌, Bool, List, ◌++◌, Option, Some, unwrap_or}
+use Rattle.std.specs.Prelude.{slice_index}
 use Rattle.fax_bits.specs.declared.Colour.{Colour}
 use Rattle.fax_bits.specs.declared.Colour.TheVariants.{Black}
 use Rattle.fax_bits.specs.declared.modes.ModeCode.{ModeCode}
@@ -19,14 +20,15 @@ written_of rows = row_of rows.row.now rows.row_end rows.width
 abbrev pub reference_of : Rows → List Colour
 reference_of rows = row_of rows.reference.now rows.reference_end rows.width
 
--- the indexes are those of a1 and b1 as seen from a0, while the row is not at its end (T.4, section 4.2.1.3.1)
+-- the indexes are those of a1 and b1 as seen from a0, while the row is not at its end
+-- (T.4, section 4.2.1.3.1)
 pub record IsWrittenTo (rows : Rows) (at : Written) : Type 0 where
   pub row : unwrap_or at.a0 0 < rows.width → IsFrom rows.row.now rows.row_end at.a0 at.row
   pub reference : unwrap_or at.a0 0 < rows.width
       → IsB1At rows.reference.now rows.reference_end at.a0 (alternate Black at.row) at.reference
 
--- the places are those of the two rows as seen from a0 inside the row, and stand at these indexes (T.4, section
--- 4.2.1.3.1)
+-- the places are those of the two rows as seen from a0 inside the row, and stand at these indexes
+-- (T.4, section 4.2.1.3.1)
 pub record IsAhead (rows : Rows) (ahead : Ahead) : Type 0 where
   pub a1 : ahead.a1 ≡ next_change (written_of rows) ahead.a0
   pub a2 : ahead.a2 ≡ next_change (written_of rows) (Some ahead.a1)
@@ -48,7 +50,8 @@ mode_from reference row a0 = chosen_mode (places reference row a0)
 -- the bits of the step from a0 (T.4, section 4.2.1.3.3)
 abbrev pub bits_from : List Colour → List Colour → Option ℕ → List Bool
 bits_from reference row a0 =
-    mode_bits (mode_from reference row a0) ++ run_pair_bits (mode_from reference row a0) row a0 (places reference row a0)
+    mode_bits (mode_from reference row a0) ++ run_pair_bits (mode_from reference row a0) row a0
+    (places reference row a0)
 
 -- where the step behind that from a0 begins (T.4, section 4.2.1.3.2)
 abbrev pub place_from : List Colour → List Colour → Option ℕ → ℕ
@@ -56,4 +59,5 @@ place_from reference row a0 = next_a0 (mode_from reference row a0) (places refer
 
 -- the runs a0a1 and a1a2, the first of a0's colour (T.4, section 4.2.1.3.2)
 abbrev pub run_pair : Ahead → List Bool
-run_pair ahead = run_bits ahead.colour (ahead.a1 - unwrap_or ahead.a0 0) ++ run_bits (other ahead.colour) (ahead.a2 - ahead.a1)
+run_pair ahead = run_bits ahead.colour (ahead.a1 - unwrap_or ahead.a0 0) ++ run_bits
+    (other ahead.colour) (ahead.a2 - ahead.a1)

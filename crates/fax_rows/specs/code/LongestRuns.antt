@@ -1,5 +1,6 @@
 -- The longest runs of a row: those that are still to come, and those that are given.
-use Rattle.std.specs.Prelude.{◌≡◌, ℕ, ◌+◌, ◌-◌, ◌<◌, ◌≤◌, ◌^◌, List, [], ◌∷◌, length, slice_index, sum}
+use Rattle.std.specs.Prelude.{◌≡◌, ℕ, ◌+◌, ◌-◌, ◌<◌, ◌≤◌, ◌^◌, List, [], ◌∷◌, length, slice_index}
+use Rattle.std.specs.Prelude.{sum}
 
 -- how far it is from a place to the first of these, and from each of them to the next
 abbrev pub gaps : ℕ → List ℕ → List ℕ
@@ -13,7 +14,8 @@ pub record AreAheadOf (from : ℕ) (ends : List ℕ) : Type 0 where
   pub left : (i : ℕ) → i < length ends → slice_index ends i < 2 ^ 16
   pub steps : (i : ℕ) → i + 1 < length ends → slice_index ends i ≤ slice_index ends (i + 1)
 
--- these are the longest runs of a row of this width: together they are as long, and the first alone may be 0
+-- these are the longest runs of a row of this width: together they are as long, and the first alone
+-- may be 0
 pub record AreLongest (runs : List ℕ) (width : ℕ) : Type 0 where
   pub whole : sum runs ≡ width
   pub some : (i : ℕ) → 0 < i → i < length runs → 0 < slice_index runs i

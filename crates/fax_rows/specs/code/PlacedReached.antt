@@ -10,13 +10,16 @@ use Rattle.fax_rows.specs.code.Turns.{turned, pels_by, IsAscending, IsB1At}
 abbrev pub placed_position : ℕ → List ℕ → PlacedReached → Position
 placed_position width places at = position_of at.reached (pels_by width (take at.end places))
 
--- the places that are put are those of the pels before a0, behind which the row has a0's colour, none just before the
--- first pel, and the index is that of b1 while the row is not at its end
-pub record IsReadTo (reference : List ℕ) (reference_end width : ℕ) (places : List ℕ) (at : PlacedReached) : Type 0 where
+-- the places that are put are those of the pels before a0, behind which the row has a0's colour,
+-- none just before the first pel, and the index is that of b1 while the row is not at its end
+pub record IsReadTo (reference : List ℕ) (reference_end width : ℕ) (places : List ℕ)
+    (at : PlacedReached) : Type 0 where
   pub room : length places ≡ width + 4
   pub within : reached_pel at.reached ≤ width
   pub started : at.reached.a0 ≡ None → at.end ≡ 1
   pub ascending : IsAscending places at.end
   pub last : slice_index places (at.end - 1) ≤ reached_pel at.reached
-  pub behind : (i : ℕ) → reached_pel at.reached ≤ i → turned Black (take at.end places) i ≡ at.reached.colour
-  pub b1 : reached_pel at.reached < width → IsB1At reference reference_end at.reached.a0 at.reached.colour at.b1
+  pub behind : (i : ℕ) → reached_pel at.reached ≤ i
+      → turned Black (take at.end places) i ≡ at.reached.colour
+  pub b1 : reached_pel at.reached < width
+      → IsB1At reference reference_end at.reached.a0 at.reached.colour at.b1

@@ -1,5 +1,7 @@
 -- A row as its places of change: each of them turns the colour of the pels from there on.
-use Rattle.std.specs.Prelude.{◌≡◌, ℕ, zero, suc, true, false, Option, Some, None, ◌+◌, ◌-◌, ◌≤◌, ◌<◌, ◌^◌, nat_le, if◌then◌else◌, List, [], ◌∷◌, map, length, take, slice_index}
+use Rattle.std.specs.Prelude.{◌≡◌, ℕ, zero, suc, true, false, Option, Some, None, ◌+◌, ◌-◌, ◌≤◌}
+use Rattle.std.specs.Prelude.{◌<◌, ◌^◌, nat_le, if◌then◌else◌, List, [], ◌∷◌, map, length, take}
+use Rattle.std.specs.Prelude.{slice_index}
 use Rattle.std.specs.List.{range_with_len}
 use Rattle.fax_bits.specs.declared.Colour.{Colour}
 use Rattle.fax_bits.specs.declared.Colour.TheVariants.{Black}
@@ -15,7 +17,8 @@ abbrev pub alternate : Colour → ℕ → Colour
 alternate c zero = c
 alternate c (suc k) = alternate (other c) k
 
--- the pels of a row of this width; the first place is 0, where black turns to the imaginary white pel's colour
+-- the pels of a row of this width; the first place is 0, where black turns to the imaginary white
+-- pel's colour
 unfoldable pub pels_by : ℕ → List ℕ → List Colour
 pels_by width places = map (turned Black places) (range_with_len 0 width)
 
@@ -30,7 +33,8 @@ pub record IsAscending (places : List ℕ) (end : ℕ) : Type 0 where
   pub first : slice_index places 0 ≡ 0
   pub steps : (i : ℕ) → 0 < i → i + 1 < end → slice_index places i < slice_index places (i + 1)
 
--- the changes of a row stand behind the first place and before `end`, and the width three times behind them
+-- the changes of a row stand behind the first place and before `end`, and the width three times
+-- behind them
 pub record ArePlaces (places : List ℕ) (end width : ℕ) : Type 0 where
   pub some : 0 < width
   pub short : width < 2 ^ 16
@@ -58,22 +62,25 @@ pub record IsTurnedFrom (old new : List ℕ) (place : ℕ) : Type 0 where
   pub left : (i : ℕ) → i < place → turned Black new i ≡ turned Black old i
   pub right : (i : ℕ) → place ≤ i → turned Black new i ≡ other (turned Black old i)
 
--- where the search for b1 right of the pel a begins: no change of the other colour left of place b is right of a
--- (T.4, section 4.2.1.3.1)
+-- where the search for b1 right of the pel a begins: no change of the other colour left of place b
+-- is right of a (T.4, section 4.2.1.3.1)
 pub record IsBeforeB1 (places : List ℕ) (end a : ℕ) (colour : Colour) (b : ℕ) : Type 0 where
   pub within : b ≤ end + 1
   pub colour_is : alternate Black b ≡ colour
   pub passed : 2 < b → slice_index places (b - 2) ≤ a
 
--- b1 stands at place b of the reference row, as seen from a0 of this colour (T.4, section 4.2.1.3.1)
-pub record IsB1At (places : List ℕ) (end : ℕ) (a0 : Option ℕ) (colour : Colour) (b : ℕ) : Type 0 where
+-- b1 stands at place b of the reference row, as seen from a0 of this colour
+-- (T.4, section 4.2.1.3.1)
+pub record IsB1At (places : List ℕ) (end : ℕ) (a0 : Option ℕ) (colour : Colour)
+    (b : ℕ) : Type 0 where
   pub some : 0 < b
   pub within : b ≤ end + 1
   pub colour_is : alternate Black b ≡ colour
   pub passed : 2 < b → is_right_of a0 (slice_index places (b - 2)) ≡ false
   pub ahead : b < end → is_right_of a0 (slice_index places b) ≡ true
 
--- k is the index of the first of the places that are right of a0, where None is just before the first pel
+-- k is the index of the first of the places that are right of a0, where None is just before the
+-- first pel
 abbrev pub IsFrom : List ℕ → ℕ → Option ℕ → ℕ → Type 0
 IsFrom places end None k = k ≡ 1
 IsFrom places end (Some a) k = IsBehind places end a k

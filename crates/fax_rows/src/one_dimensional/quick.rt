@@ -1,5 +1,6 @@
-//! A row in one-dimensional coding that has no fault, read quickly: the bits ahead stand in a value.
-//! Each function gives up, with `None`, at any doubt, and the row is read again from its source.
+//! A row in one-dimensional coding that has no fault, read quickly: the bits ahead stand in a
+//! value. Each function gives up, with `None`, at any doubt, and the row is read again from its
+//! source.
 ghost use Rattle.std.specs.Prelude.{◌≡◌, ◌+◌, ◌-◌, ◌≤◌, ◌<◌, ◌^◌, IfSome, length, None};
 ghost use Rattle.std.specs.Prelude.{slice_index, take};
 ghost use Rattle.fax_bits.specs.Runs.{IsRun};
@@ -10,7 +11,8 @@ ghost use Rattle.fax_rows.specs.code.Turns.{row_of, IsAscending, IsTurnedFrom};
 use crate::turns::turn_behind;
 use fax_bits::{Ahead, BitSource, Colour};
 
-/// Reads a run behind `total` pels, and answers where the places end then, and how many pels are read.
+/// Reads a run behind `total` pels, and answers where the places end then, and how many pels are
+/// read.
 #[inline(always)]
 fn next_run<'a>(
     ahead: Ahead<'a>,

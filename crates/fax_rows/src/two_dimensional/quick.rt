@@ -1,6 +1,8 @@
-//! A row in two-dimensional coding that has no fault, read quickly: the bits ahead stand in a value.
-//! Each function gives up, with `None`, at any doubt, and the row is read again from its source.
-ghost use Rattle.std.specs.Prelude.{◌≡◌, ◌+◌, ◌-◌, ◌≤◌, ◌<◌, ◌≤ℤ◌, pos, negsuc, IfSome, length, None, slice_index};
+//! A row in two-dimensional coding that has no fault, read quickly: the bits ahead stand in a
+//! value. Each function gives up, with `None`, at any doubt, and the row is read again from its
+//! source.
+ghost use Rattle.std.specs.Prelude.{◌≡◌, ◌+◌, ◌-◌, ◌≤◌, ◌<◌, ◌≤ℤ◌, pos, negsuc, IfSome, length};
+ghost use Rattle.std.specs.Prelude.{None, slice_index};
 ghost use Rattle.fax_bits.specs.code.Source.{KeepsEnd};
 ghost use Rattle.fax_rows.specs.TwoDimensional as Spec;
 ghost use Rattle.fax_rows.specs.code.Turns as Turns;
@@ -318,8 +320,8 @@ fn read_ahead<'a>(
     Some((ahead, at.end))
 }
 
-/// Reads the modes of a row over the reference row's places, and answers where its places end. After
-/// `None` the source is as it was.
+/// Reads the modes of a row over the reference row's places, and answers where its places end.
+/// After `None` the source is as it was.
 #[inline(never)]
 pub fn read_quickly(
     source: &mut BitSource,

@@ -26,7 +26,8 @@ returns-in-Some-clause-code g c =
 
 pub returns-in-Some-clause-same_end : goal.returns-in-Some-clause-same_end
 returns-in-Some-clause-same_end g c =
-    let short = found_is_short g.T.CodeTable.table (code_bits c.args.n c.peek.result) c.in-Some.found.0 c.in-Some.found.1 c.in-Some.ensures in
+    let short =
+    found_is_short g.T.CodeTable.table (code_bits c.args.n c.peek.result) c.in-Some.found.0 c.in-Some.found.1 c.in-Some.ensures in
     rw c.skip.ensures
     (omega (
       arith,
@@ -40,7 +41,8 @@ pub returns-in-Some-clause-shorter : goal.returns-in-Some-clause-shorter
 returns-in-Some-clause-shorter g c =
     let found = c.in-Some.ensures in
     let some = (g.met.T.CodeTable.short_codes found.entry found.listed).0 in
-    let short = found_is_short g.T.CodeTable.table (code_bits c.args.n c.peek.result) c.in-Some.found.0 c.in-Some.found.1 c.in-Some.ensures in
+    let short =
+    found_is_short g.T.CodeTable.table (code_bits c.args.n c.peek.result) c.in-Some.found.0 c.in-Some.found.1 c.in-Some.ensures in
     rw c.skip.ensures
     (λ is. omega (
       arith,

@@ -21,7 +21,9 @@ returns-in_err-put_make_up-2-clause-err c =
     (first_codes c.args.n c.loop.counter (omega arith)))
 
 -- the make-up codes stand before the terminating code
-make_ups : (c : goal.After-put_terminating) → Put c.args.colour c.args.sink.now (replicate (c.args.n / 2560) (MakeUp 2560) ++ one_make_up (c.args.n % 2560 / 64)) c.if-steps-gt0.sink
+make_ups : (c : goal.After-put_terminating)
+    → Put c.args.colour c.args.sink.now (replicate (c.args.n / 2560) (MakeUp 2560) ++ one_make_up (c.args.n % 2560 / 64))
+    c.if-steps-gt0.sink
 make_ups c =
     let all : c.loop.counter ≡ c.args.n / 2560 = omega arith in
     let often : Put c.args.colour c.args.sink.now (replicate (c.args.n / 2560) (MakeUp 2560)) c.loop.sink =
@@ -31,7 +33,8 @@ make_ups c =
           put-make_up c.args.colour c.args.sink.now c.loop.sink c.if-steps-gt0.sink _ (c.args.n % 2560 / 64) w.if-steps-gt0.true often
           (w.sink-is ∙ w.in_ok-put_make_up-2.ensures.ok)
       | else-steps-gt0 w ↦
-          put-no_make_up c.args.colour c.args.sink.now c.if-steps-gt0.sink _ (c.args.n % 2560 / 64) (omega (arith, w.if-steps-gt0.false)) (w.sink-is ∙ often)
+          put-no_make_up c.args.colour c.args.sink.now c.if-steps-gt0.sink _ (c.args.n % 2560 / 64) (omega (arith, w.if-steps-gt0.false))
+          (w.sink-is ∙ often)
     ]
 
 pub returns-clause-ok : goal.returns-clause-ok
@@ -43,5 +46,6 @@ returns-clause-ok c =
 pub returns-clause-err : goal.returns-clause-err
 returns-clause-err c =
     on_err_weaker c.put_terminating.result
-    (λ same. put-prefix c.args.colour c.args.n c.args.sink.now c.put_terminating.new.sink _ (Terminating (c.args.n % 64) ∷ []) (same ∙ make_ups c) refl)
+    (λ same. put-prefix c.args.colour c.args.n c.args.sink.now c.put_terminating.new.sink _ (Terminating (c.args.n % 64) ∷ [])
+    (same ∙ make_ups c) refl)
     c.put_terminating.ensures.err

@@ -18,4 +18,5 @@ pub returns-in-Black-clause-ok : goal.returns-in-Black-clause-ok
 returns-in-Black-clause-ok c =
     let same : bits_at (run_table Black) c.args.place ≡ run_code_bits c.args.colour (run_meaning c.args.place) =
     bits_at-run_table Black c.args.place c.requires ∙ ap (λ colour. run_code_bits colour (run_meaning c.args.place)) (sym c.in-Black.is) in
-    on_ok_weaker c.put_code-in-Black.result (subst (λ b. Appends c.args.sink.now b c.put_code-in-Black.new.sink) same) c.put_code-in-Black.ensures.ok
+    on_ok_weaker c.put_code-in-Black.result (subst (λ b. Appends c.args.sink.now b c.put_code-in-Black.new.sink) same)
+    c.put_code-in-Black.ensures.ok

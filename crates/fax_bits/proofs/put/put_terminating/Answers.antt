@@ -8,5 +8,6 @@ use Rattle.fax_bits.proofs.put.put_terminating.Goals as goal
 pub returns-clause-ok : goal.returns-clause-ok
 returns-clause-ok c =
     on_ok_weaker c.put_run_code.result
-    (subst (λ code. Appends c.args.sink.now (run_code_bits c.args.colour code) c.put_run_code.new.sink) (run_meaning-terminating c.args.pels c.requires))
+    (subst (λ code. Appends c.args.sink.now (run_code_bits c.args.colour code) c.put_run_code.new.sink)
+    (run_meaning-terminating c.args.pels c.requires))
     c.put_run_code.ensures.ok

@@ -5,7 +5,8 @@ use Rattle.fax_bits.proofs.sink.push_whole.Goals as goal
 
 pub overflow_cast-byte-in-loop-left : goal.overflow_cast-byte-in-loop-left
 overflow_cast-byte-in-loop-left c =
-    let fits = first_part-lt 8 c.loop-left.left c.loop-left.rest (omega arith) (omega arith) c.loop-left.invariant.few c.loop-left.invariant.fits in
+    let fits = first_part-lt 8 c.loop-left.left c.loop-left.rest (omega arith) (omega arith) c.loop-left.invariant.few
+    c.loop-left.invariant.fits in
     omega (arith, fits)
 
 pub loop-left-preserved : goal.loop-left-preserved

@@ -10,10 +10,26 @@ invariant_of-result c =
     let bytes = c.args.bytes.now in
     let place = c.args.place in
     let place_is : place ≡ place_before c.behind.result =
-    omega (arith, c.new.ensures.at, c.new.ensures.count, c.refilled-window.ensures.at, c.refilled-window.ensures.count, c.behind.ensures.at, c.behind.ensures.count) in
+    omega (
+      arith,
+      c.new.ensures.at,
+      c.new.ensures.count,
+      c.refilled-window.ensures.at,
+      c.refilled-window.ensures.count,
+      c.behind.ensures.at,
+      c.behind.ensures.count,
+    ) in
     record {
       within = omega (arith, c.new.ensures.at, c.refilled-window.ensures.at, c.behind.ensures.at, c.if-bytes-at-lt4.false);
-      behind = omega (arith, c.new.ensures.at, c.new.ensures.count, c.refilled-window.ensures.at, c.refilled-window.ensures.count, c.behind.ensures.at, c.behind.ensures.count);
+      behind = omega (
+        arith,
+        c.new.ensures.at,
+        c.new.ensures.count,
+        c.refilled-window.ensures.at,
+        c.refilled-window.ensures.count,
+        c.behind.ensures.at,
+        c.behind.ensures.count,
+      );
       counted = c.requires.counted;
       bits_are =
           c.behind.ensures.ahead order bytes

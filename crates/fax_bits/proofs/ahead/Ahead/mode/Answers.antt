@@ -25,19 +25,22 @@ pub returns-then-begins_with_one-clause-takes : goal.returns-then-begins_with_on
 returns-then-begins_with_one-clause-takes c =
     let order = c.self.inside.order in
     let bytes = c.self.inside.bytes.now in
-    one_taken order bytes c.self.inside.window c.self.inside.window c.args.self c.self.invariant c.self.view_is refl refl c.self.invariant.within
+    one_taken order bytes c.self.inside.window c.self.inside.window c.args.self c.self.invariant c.self.view_is refl refl
+    c.self.invariant.within
     c.behind.result (c.if-begins_with_one.ensures.ahead refl order bytes) c.behind.ensures.count c.behind.ensures.at
 
 pub returns-then-begins_with_one-clause-same_end : goal.returns-then-begins_with_one-clause-same_end
 returns-then-begins_with_one-clause-same_end c =
     let order = c.self.inside.order in
     let bytes = c.self.inside.bytes.now in
-    one_end_kept order bytes c.self.inside.window c.self.inside.window c.args.self c.self.invariant c.self.view_is refl refl c.self.invariant.within
+    one_end_kept order bytes c.self.inside.window c.self.inside.window c.args.self c.self.invariant c.self.view_is refl refl
+    c.self.invariant.within
     c.behind.result (c.if-begins_with_one.ensures.ahead refl order bytes) c.behind.ensures.count c.behind.ensures.at
 
 pub returns-then-begins_with_one-clause-shorter : goal.returns-then-begins_with_one-clause-shorter
 returns-then-begins_with_one-clause-shorter c =
     let order = c.self.inside.order in
     let bytes = c.self.inside.bytes.now in
-    one_shorter order bytes c.self.inside.window c.self.inside.window c.args.self c.self.invariant c.self.view_is refl refl c.self.invariant.within
+    one_shorter order bytes c.self.inside.window c.self.inside.window c.args.self c.self.invariant c.self.view_is refl refl
+    c.self.invariant.within
     c.behind.result (c.if-begins_with_one.ensures.ahead refl order bytes) c.behind.ensures.count c.behind.ensures.at

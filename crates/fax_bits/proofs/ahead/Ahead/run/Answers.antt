@@ -13,7 +13,8 @@ find_short_run-requires c =
     let order = c.self.inside.order in
     let bytes = c.self.inside.bytes.now in
     let w = c.in_ok-window in
-    number-below order bytes c.self.inside.window w.window c.args.self c.self.invariant c.self.view_is w.ensures.ahead w.ensures.place w.ensures.within w.ensures.many
+    number-below order bytes c.self.inside.window w.window c.args.self c.self.invariant c.self.view_is w.ensures.ahead w.ensures.place
+    w.ensures.within w.ensures.many
     c.number.result (c.number.ensures.number order bytes)
 
 pub behind-requires-clause-loaded : goal.behind-requires-clause-loaded
@@ -26,7 +27,12 @@ behind-requires-clause-loaded c =
     )
 
 pub behind-requires-clause-short : goal.behind-requires-clause-short
-behind-requires-clause-short c = omega (arith, found_is_short (run_table c.args.colour) (code_bits 13 c.number.result) c.in-Some.len (Terminating c.in-Some.pels) c.in-Some.ensures, length-code_bits 13 c.number.result)
+behind-requires-clause-short c = omega (
+  arith,
+  found_is_short (run_table c.args.colour) (code_bits 13 c.number.result) c.in-Some.len
+      (Terminating c.in-Some.pels) c.in-Some.ensures,
+  length-code_bits 13 c.number.result,
+)
 
 pub returns-in-Some-clause-run : goal.returns-in-Some-clause-run
 returns-in-Some-clause-run c =
@@ -34,18 +40,22 @@ returns-in-Some-clause-run c =
     let bytes = c.self.inside.bytes.now in
     let w = c.in_ok-window in
     short_run c.args.colour _ _ _
-    (taken_ahead order bytes c.self.inside.window w.window c.args.self c.self.invariant c.self.view_is w.ensures.ahead w.ensures.place w.ensures.within w.ensures.many
+    (taken_ahead order bytes c.self.inside.window w.window c.args.self c.self.invariant c.self.view_is w.ensures.ahead w.ensures.place
+    w.ensures.within w.ensures.many
     c.number.result (c.number.ensures.number order bytes)
-    (run_table c.args.colour) c.in-Some.len (Terminating c.in-Some.pels) c.in-Some.ensures c.behind.result c.behind.ensures.count c.behind.ensures.at)
+    (run_table c.args.colour) c.in-Some.len (Terminating c.in-Some.pels) c.in-Some.ensures c.behind.result c.behind.ensures.count
+    c.behind.ensures.at)
 
 pub returns-in-Some-clause-same_end : goal.returns-in-Some-clause-same_end
 returns-in-Some-clause-same_end c =
     let order = c.self.inside.order in
     let bytes = c.self.inside.bytes.now in
     let w = c.in_ok-window in
-    end_kept_ahead order bytes c.self.inside.window w.window c.args.self c.self.invariant c.self.view_is w.ensures.ahead w.ensures.place w.ensures.within w.ensures.many
+    end_kept_ahead order bytes c.self.inside.window w.window c.args.self c.self.invariant c.self.view_is w.ensures.ahead w.ensures.place
+    w.ensures.within w.ensures.many
     c.number.result (c.number.ensures.number order bytes)
-    (run_table c.args.colour) c.in-Some.len (Terminating c.in-Some.pels) c.in-Some.ensures c.behind.result c.behind.ensures.count c.behind.ensures.at
+    (run_table c.args.colour) c.in-Some.len (Terminating c.in-Some.pels) c.in-Some.ensures c.behind.result c.behind.ensures.count
+    c.behind.ensures.at
 
 pub returns-in-Some-clause-shorter : goal.returns-in-Some-clause-shorter
 returns-in-Some-clause-shorter c =
@@ -54,7 +64,9 @@ returns-in-Some-clause-shorter c =
     let w = c.in_ok-window in
     let found = c.in-Some.ensures in
     let some = (run_table_has_short_codes c.args.colour found.entry found.listed).0 in
-    shorter_ahead order bytes c.self.inside.window w.window c.args.self c.self.invariant c.self.view_is w.ensures.ahead w.ensures.place w.ensures.within w.ensures.many
+    shorter_ahead order bytes c.self.inside.window w.window c.args.self c.self.invariant c.self.view_is w.ensures.ahead w.ensures.place
+    w.ensures.within w.ensures.many
     c.number.result (c.number.ensures.number order bytes)
-    (run_table c.args.colour) c.in-Some.len (Terminating c.in-Some.pels) c.in-Some.ensures c.behind.result c.behind.ensures.count c.behind.ensures.at
+    (run_table c.args.colour) c.in-Some.len (Terminating c.in-Some.pels) c.in-Some.ensures c.behind.result c.behind.ensures.count
+    c.behind.ensures.at
     (omega (arith, some, found.length))

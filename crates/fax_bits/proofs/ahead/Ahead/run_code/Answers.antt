@@ -12,7 +12,8 @@ find_run_code-requires c =
     let order = c.self.inside.order in
     let bytes = c.self.inside.bytes.now in
     let w = c.in_ok-window in
-    number-below order bytes c.self.inside.window w.window c.args.self c.self.invariant c.self.view_is w.ensures.ahead w.ensures.place w.ensures.within w.ensures.many
+    number-below order bytes c.self.inside.window w.window c.args.self c.self.invariant c.self.view_is w.ensures.ahead w.ensures.place
+    w.ensures.within w.ensures.many
     c.number.result (c.number.ensures.number order bytes)
 
 pub behind-requires-clause-loaded : goal.behind-requires-clause-loaded
@@ -25,25 +26,34 @@ behind-requires-clause-loaded c =
     )
 
 pub behind-requires-clause-short : goal.behind-requires-clause-short
-behind-requires-clause-short c = omega (arith, found_is_short (run_table c.args.colour) (code_bits 13 c.number.result) c.in_ok-len.len c.in_ok-len.code c.in_ok-len.ensures, length-code_bits 13 c.number.result)
+behind-requires-clause-short c = omega (
+  arith,
+  found_is_short (run_table c.args.colour) (code_bits 13 c.number.result) c.in_ok-len.len
+      c.in_ok-len.code c.in_ok-len.ensures,
+  length-code_bits 13 c.number.result,
+)
 
 pub returns-clause-takes : goal.returns-clause-takes
 returns-clause-takes c =
     let order = c.self.inside.order in
     let bytes = c.self.inside.bytes.now in
     let w = c.in_ok-window in
-    taken_ahead order bytes c.self.inside.window w.window c.args.self c.self.invariant c.self.view_is w.ensures.ahead w.ensures.place w.ensures.within w.ensures.many
+    taken_ahead order bytes c.self.inside.window w.window c.args.self c.self.invariant c.self.view_is w.ensures.ahead w.ensures.place
+    w.ensures.within w.ensures.many
     c.number.result (c.number.ensures.number order bytes)
-    (run_table c.args.colour) c.in_ok-len.len c.in_ok-len.code c.in_ok-len.ensures c.behind.result c.behind.ensures.count c.behind.ensures.at
+    (run_table c.args.colour) c.in_ok-len.len c.in_ok-len.code c.in_ok-len.ensures c.behind.result c.behind.ensures.count
+    c.behind.ensures.at
 
 pub returns-clause-same_end : goal.returns-clause-same_end
 returns-clause-same_end c =
     let order = c.self.inside.order in
     let bytes = c.self.inside.bytes.now in
     let w = c.in_ok-window in
-    end_kept_ahead order bytes c.self.inside.window w.window c.args.self c.self.invariant c.self.view_is w.ensures.ahead w.ensures.place w.ensures.within w.ensures.many
+    end_kept_ahead order bytes c.self.inside.window w.window c.args.self c.self.invariant c.self.view_is w.ensures.ahead w.ensures.place
+    w.ensures.within w.ensures.many
     c.number.result (c.number.ensures.number order bytes)
-    (run_table c.args.colour) c.in_ok-len.len c.in_ok-len.code c.in_ok-len.ensures c.behind.result c.behind.ensures.count c.behind.ensures.at
+    (run_table c.args.colour) c.in_ok-len.len c.in_ok-len.code c.in_ok-len.ensures c.behind.result c.behind.ensures.count
+    c.behind.ensures.at
 
 pub returns-clause-shorter : goal.returns-clause-shorter
 returns-clause-shorter c =
@@ -52,7 +62,9 @@ returns-clause-shorter c =
     let w = c.in_ok-window in
     let found = c.in_ok-len.ensures in
     let some = (run_table_has_short_codes c.args.colour found.entry found.listed).0 in
-    shorter_ahead order bytes c.self.inside.window w.window c.args.self c.self.invariant c.self.view_is w.ensures.ahead w.ensures.place w.ensures.within w.ensures.many
+    shorter_ahead order bytes c.self.inside.window w.window c.args.self c.self.invariant c.self.view_is w.ensures.ahead w.ensures.place
+    w.ensures.within w.ensures.many
     c.number.result (c.number.ensures.number order bytes)
-    (run_table c.args.colour) c.in_ok-len.len c.in_ok-len.code c.in_ok-len.ensures c.behind.result c.behind.ensures.count c.behind.ensures.at
+    (run_table c.args.colour) c.in_ok-len.len c.in_ok-len.code c.in_ok-len.ensures c.behind.result c.behind.ensures.count
+    c.behind.ensures.at
     (omega (arith, some, found.length))

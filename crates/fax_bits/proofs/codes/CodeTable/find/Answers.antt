@@ -24,7 +24,8 @@ returns-then-len-n g c =
     c.place-place.ensures ∙ ap (place_of table 13) (aligned_is c.args.n c.args.window c.requires.few c.requires.fits) in
     subst (λ len. BeginsWith table (code_bits c.args.n c.args.window) len c.entry-entry.result.meaning) (sym c.from-len.ensures)
     (place_found table g.met.Self.CodeTable.short_codes g.met.Self.CodeTable.prefix_free c.args.n c.args.window c.place-place.result
-    c.requires.few c.requires.fits place_is c.entry-entry.result c.entry-entry.ensures.found (omega (arith, c.from-len.ensures, c.if-len-n.true)))
+    c.requires.few c.requires.fits place_is c.entry-entry.result c.entry-entry.ensures.found
+    (omega (arith, c.from-len.ensures, c.if-len-n.true)))
 
 pub returns-else-len-n : goal.returns-else-len-n
 returns-else-len-n g c =
@@ -32,4 +33,5 @@ returns-else-len-n g c =
     let place_is : c.place-place.result ≡ place_of table 13 (c.args.window * 2 ^ (13 - c.args.n)) =
     c.place-place.ensures ∙ ap (place_of table 13) (aligned_is c.args.n c.args.window c.requires.few c.requires.fits) in
     place_long table g.met.Self.CodeTable.short_codes g.met.Self.CodeTable.prefix_free c.args.n c.args.window c.place-place.result
-    c.requires.few c.requires.fits place_is c.entry-entry.result c.entry-entry.ensures.found (omega (arith, c.from-len.ensures, c.if-len-n.false))
+    c.requires.few c.requires.fits place_is c.entry-entry.result c.entry-entry.ensures.found
+    (omega (arith, c.from-len.ensures, c.if-len-n.false))

@@ -23,4 +23,5 @@ returns c =
     ap (λ table. slice_get table pels) black_runs_are ∙ slice_get-run_entries 0 BLACK_CODES BLACK_LENS pels (omega arith) (omega arith)
     ∙ ap (λ meaning. Some (entry meaning)) (ap run_meaning (zero-add pels) ∙ run_meaning-terminating pels few) in
     rw (c.from-2.ensures, c.from-3.ensures ∙ sym c.from.ensures)
-    (found_at_place black_runs c.args.bits pels (entry (Terminating pels)) (c.from.ensures ∙ black_short_place c.args.bits c.requires short) listed)
+    (found_at_place black_runs c.args.bits pels (entry (Terminating pels)) (c.from.ensures ∙ black_short_place c.args.bits c.requires short)
+    listed)

@@ -16,7 +16,8 @@ returns-then-not-take c =
     let byte_is = c.from.ensures ∙ ap (λ xs. get_or xs c.loop-byte.byte-index 0) c.deref-byte-items.ensures.value in (
       λ is. cc is,
       λ begins.
-          absurd (other_byte bytes c.loop-byte.byte-index c.args.source.now.left c.loop-byte.ahead.left c.loop-byte.invariant c.from.result _ within byte_is
+          absurd (other_byte bytes c.loop-byte.byte-index c.args.source.now.left c.loop-byte.ahead.left c.loop-byte.invariant c.from.result
+          _ within byte_is
           c.if-not-take.ensures.1 (begins.0, begins.1 ∙ ap (λ (s : Sink). s.bits ++ begins.0) (sym c.self.view_is))),
     )
 

@@ -11,7 +11,8 @@ pub returns-in-MsbFirst : goal.returns-in-MsbFirst
 returns-in-MsbFirst c =
     ap (λ order. bits order c.push_whole.new.bytes.items) (sym (ap (λ (s : Sink). s.order) c.self.view_is) ∙ c.in-MsbFirst.is)
     ∙ all_pushed c.self.inside.order c.self.inside.bytes.items c.push_whole.new.bytes.items c.self.inside.count c.self.inside.pending
-    c.push_whole.result.1 c.push_whole.result.0 c.args.self c.self.view_is c.push_whole.ensures.pushed c.requires.whole c.push_whole.ensures.fewer
+    c.push_whole.result.1 c.push_whole.result.0 c.args.self c.self.view_is c.push_whole.ensures.pushed c.requires.whole
+    c.push_whole.ensures.fewer
 
 pub returns-in-LsbFirst : goal.returns-in-LsbFirst
 returns-in-LsbFirst c =
@@ -26,4 +27,5 @@ returns-in-LsbFirst c =
     ∙ ap (bits LsbFirst) (written_over old.len new old.items len ∙ turned)
     ∙ bits-reversed old.items
     ∙ all_pushed c.self.inside.order c.self.inside.bytes.items c.push_whole.new.bytes.items c.self.inside.count c.self.inside.pending
-    c.push_whole.result.1 c.push_whole.result.0 c.args.self c.self.view_is c.push_whole.ensures.pushed c.requires.whole c.push_whole.ensures.fewer
+    c.push_whole.result.1 c.push_whole.result.0 c.args.self c.self.view_is c.push_whole.ensures.pushed c.requires.whole
+    c.push_whole.ensures.fewer

@@ -13,12 +13,14 @@ invariant_of-self c =
       ];
       few = c.self.invariant.few;
       forty = c.self.invariant.forty;
-      fits = padded-lt inside.count inside.pending ((40 - inside.count) % 8) c.self.invariant.fits (omega (arith, c.self.invariant.within, c.self.invariant.few));
+      fits = padded-lt inside.count inside.pending ((40 - inside.count) % 8) c.self.invariant.fits
+          (omega (arith, c.self.invariant.within, c.self.invariant.few));
       room = c.self.invariant.room;
     }
 
 pub returns : goal.returns
 returns c =
     let inside = c.self.inside in
-    pads inside.order inside.bytes.items inside.count inside.pending ((40 - inside.count) % 8) c.args.self.now (omega (arith, c.self.invariant.within, c.self.invariant.few)) c.self.invariant.fits refl
+    pads inside.order inside.bytes.items inside.count inside.pending ((40 - inside.count) % 8) c.args.self.now
+    (omega (arith, c.self.invariant.within, c.self.invariant.few)) c.self.invariant.fits refl
     c.self.view_is

@@ -11,7 +11,8 @@ invariant_of-self c =
       within = omega arith;
       few = c.self.invariant.few;
       forty = c.self.invariant.forty;
-      fits = joined-lt inside.count inside.pending c.args.len c.from.result c.self.invariant.fits fits (omega (arith, c.self.invariant.few));
+      fits =
+          joined-lt inside.count inside.pending c.args.len c.from.result c.self.invariant.fits fits (omega (arith, c.self.invariant.few));
       room = c.self.invariant.room;
     }
 
@@ -19,5 +20,6 @@ pub returns-clause-ok : goal.returns-clause-ok
 returns-clause-ok c =
     let inside = c.self.inside in
     let fits : c.from.result < 2 ^ c.args.len = omega (arith, c.from.ensures, c.requires.fits) in
-    put_behind inside.order inside.bytes.items inside.count inside.pending c.args.len c.from.result c.args.self.now c.self.invariant.fits fits (omega (arith, c.self.invariant.few)) c.self.view_is
+    put_behind inside.order inside.bytes.items inside.count inside.pending c.args.len c.from.result c.args.self.now c.self.invariant.fits
+    fits (omega (arith, c.self.invariant.few)) c.self.view_is
     ∙ ap (λ n. record { order = c.args.self.now.order; bits = c.args.self.now.bits ++ code_bits c.args.len n }) c.from.ensures

@@ -20,8 +20,10 @@ returns-then-not-take c = (
   λ is. absurd (cc is),
   λ begins.
       absurd (first_other c.args.self.now.left _ _
-      (λ front. c.if-not-take.ensures.1 (subst (λ (s : Source). BeginsWith s.left (code_bits (c.args.len - c.args.len / 2) (c.args.bits / 2 ^ (c.args.len / 2)))) (sym c.again-ahead.ensures) front))
-      (subst (BeginsWith c.args.self.now.left) (two_parts c.args.len (c.args.len / 2) c.args.bits (omega arith) c.requires.short c.requires.fits) begins)),
+      (λ front. c.if-not-take.ensures.1 (subst (λ (s : Source). BeginsWith s.left
+      (code_bits (c.args.len - c.args.len / 2) (c.args.bits / 2 ^ (c.args.len / 2)))) (sym c.again-ahead.ensures) front))
+      (subst (BeginsWith c.args.self.now.left) (two_parts c.args.len (c.args.len / 2) c.args.bits (omega arith) c.requires.short
+      c.requires.fits) begins)),
 )
 
 pub returns : goal.returns

@@ -14,4 +14,5 @@ pub returns : goal.returns
 returns c =
     let in_bytes : (c.self.inside.place + c.args.i) / 8 < length c.self.inside.bytes.now =
     omega (arith, length-left_of _ _ _ _ c.self.view_is) in
-    rw (← c.self.view_is) (bit_ahead c.self.inside.order c.self.inside.bytes.now c.self.inside.place c.args.i _ in_bytes c.bit_in_byte.ensures)
+    rw (← c.self.view_is) (bit_ahead c.self.inside.order c.self.inside.bytes.now c.self.inside.place c.args.i _ in_bytes
+    c.bit_in_byte.ensures)

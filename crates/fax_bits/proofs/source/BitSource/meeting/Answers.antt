@@ -1,6 +1,7 @@
 use Rattle.std.proofs.Common.{◌≡◌, ◌≢◌, ◌<◌, length, get_or, false, arith, below_more}
 use Rattle.fax_bits.specs.Bits.{code_bits}
-use Rattle.fax_bits.proofs.MeetingLemmas.{length-code_bits, bit_agrees, bit_differs, ahead-from_agree, cut-from_agree, not_ahead-of_short, not_ahead-of_other, not_cut-of_other}
+use Rattle.fax_bits.proofs.MeetingLemmas.{length-code_bits, bit_agrees, bit_differs, ahead-from_agree, cut-from_agree, not_ahead-of_short}
+use Rattle.fax_bits.proofs.MeetingLemmas.{not_ahead-of_other, not_cut-of_other}
 use Rattle.fax_bits.proofs.source.BitSource.meeting.Goals as goal
 
 pub returns-then-from-left : goal.returns-then-from-left

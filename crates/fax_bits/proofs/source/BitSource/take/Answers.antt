@@ -3,7 +3,8 @@ use Rattle.fax_bits.specs.Bits.{code_bits}
 use Rattle.fax_bits.specs.code.Source.{Source}
 use Rattle.fax_bits.proofs.TakeLemmas.{spelled, as_many, spells_it}
 use Rattle.fax_bits.proofs.source.BitSource.take.Goals as goal
-use Rattle.fax_bits.proofs.source.BitSource.take.Goals.{then-remaining-from-via-then-remaining-from, then-remaining-from-via-else-remaining-from+then-peek-bits}
+use Rattle.fax_bits.proofs.source.BitSource.take.Goals.{then-remaining-from-via-then-remaining-from}
+use Rattle.fax_bits.proofs.source.BitSource.take.Goals.{then-remaining-from-via-else-remaining-from+then-peek-bits}
 
 pub returns-then-remaining-from : goal.returns-then-remaining-from
 returns-then-remaining-from c = (

@@ -20,7 +20,8 @@ returns-clause-ahead c =
     let order = c.args.order in
     let bytes = c.args.bytes.now in
     let fits : c.from.result < 2 ^ 32 = omega (arith, c.from.ensures, c.word_at-word.type_inv) in
-    ap (λ b. b ++ bits order (drop (w.at + 4) bytes)) (loaded_bits 32 w.count w.bits c.from.result (omega (arith, c.requires.room)) w.zeros_behind fits)
+    ap (λ b. b ++ bits order (drop (w.at + 4) bytes)) (loaded_bits 32 w.count w.bits c.from.result (omega (arith, c.requires.room))
+    w.zeros_behind fits)
     ∙ append_assoc (first_bits w.count w.bits) (code_bits 32 c.from.result) (bits order (drop (w.at + 4) bytes))
     ∙ ap (λ b. first_bits w.count w.bits ++ (b ++ bits order (drop (w.at + 4) bytes)))
     (ap (code_bits 32) c.from.ensures ∙ c.word_at-word.ensures)
