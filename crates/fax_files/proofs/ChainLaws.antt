@@ -1,5 +1,6 @@
 -- Each file has one chain of directories.
-use Rattle.std.proofs.Common.{◌≡◌, ℕ, zero, suc, ◌+◌, ◌*◌, ◌<◌, ◌≤◌, ◌⊎◌, inl, inr, Bool, true, false, ◌&&◌, ◌||◌, eqb, List, [], ◌∷◌, length, Option, Some, None, refl, arith}
+use Rattle.std.proofs.Common.{◌≡◌, ℕ, zero, suc, ◌+◌, ◌*◌, ◌<◌, ◌≤◌, ◌⊎◌, inl, inr, Bool, true, false, ◌&&◌, ◌||◌, eqb, List, [], ◌∷◌}
+use Rattle.std.proofs.Common.{length, Option, Some, None, refl, arith}
 use Rattle.std.specs.Prelude.{◌==◌, if◌then◌else◌, nat_le}
 use Rattle.std.specs.List.{list_any, IsDistinct, All}
 use Rattle.std.proofs.lemmas.List.Elements.{All-nil, All-cons, recursion_from_All}
@@ -94,10 +95,12 @@ module _ (endian : Endian) (file : List ℕ) where
       (due ∷ found.0, found.1, (refl, e, found.2))
 
   -- there are at most as many offsets as the file has bytes
-  exists : (fuel : ℕ) (before : List ℕ) (due : ℕ) → length before + fuel ≡ length file → IsApart before → AreBelow before (length file) → Found before due
+  exists : (fuel : ℕ) (before : List ℕ) (due : ℕ) → length before + fuel ≡ length file → IsApart before → AreBelow before (length file)
+      → Found before due
   exists zero before due count apart all = at_stop before due (chain_stop endian file before due) refl (λ on.
       let within = begins_inside endian file due on.there in
-      let n : length (due ∷ before) ≤ length file = few (due ∷ before) (length file) (on.fresh, apart) (still_below before (length file) due within all) in
+      let n : length (due ∷ before) ≤ length file =
+      few (due ∷ before) (length file) (on.fresh, apart) (still_below before (length file) due within all) in
       absurd (omega arith))
   exists (suc fuel) before due count apart all = at_stop before due (chain_stop endian file before due) refl (λ on.
       exists fuel (due ∷ before) (next_offset endian file due) (omega arith) (on.fresh, apart)
@@ -107,7 +110,8 @@ module _ (endian : Endian) (file : List ℕ) where
   some_injective x y e = cc
 
   one : (before : List ℕ) (due : ℕ) (offsets others : List ℕ) (end other : Option FileFault)
-      → IsChainFrom endian file before due offsets end → IsChainFrom endian file before due others other → (others ≡ offsets) × (other ≡ end)
+      → IsChainFrom endian file before due offsets end → IsChainFrom endian file before due others other
+      → (others ≡ offsets) × (other ≡ end)
   one before due [] [] end other is that = (refl, cc)
   one before due [] (q ∷ others) end other is that = absurd cc
   one before due (q ∷ offsets) [] end other is that = absurd cc

@@ -1,5 +1,6 @@
 -- The offsets of a chain by their places in it.
-use Rattle.std.proofs.Common.{◌≡◌, ℕ, zero, suc, ◌+◌, ◌^◌, ◌<◌, ◌≤◌, ◌≢◌, ◌⊎◌, inl, inr, Bool, true, false, ◌||◌, List, [], ◌∷◌, length, get_or, Option, Some, None, refl, sym, ap, ◌∙◌, arith}
+use Rattle.std.proofs.Common.{◌≡◌, ℕ, zero, suc, ◌+◌, ◌^◌, ◌<◌, ◌≤◌, ◌≢◌, ◌⊎◌, inl, inr, Bool, true, false, ◌||◌, List, [], ◌∷◌, length}
+use Rattle.std.proofs.Common.{get_or, Option, Some, None, refl, sym, ap, ◌∙◌, arith}
 use Rattle.std.specs.Prelude.{◌==◌, slice_get}
 use Rattle.std.specs.List.{list_any}
 use Rattle.std.proofs.lemmas.Bool.Decides.{nat_tests}
@@ -28,7 +29,8 @@ module _ (endian : Endian) (file : List ℕ) where
   link_at due (suc i) k (suc m) e = link_at (next due) i k m (omega arith)
 
   -- from two places with one offset the chain goes on alike
-  pub along : (due i j k a b : ℕ) → a ≡ i + k → b ≡ j + k → link endian file due i ≡ link endian file due j → link endian file due a ≡ link endian file due b
+  pub along : (due i j k a b : ℕ) → a ≡ i + k → b ≡ j + k → link endian file due i ≡ link endian file due j
+      → link endian file due a ≡ link endian file due b
   along due i j k a b at bt same =
       link_at due i k a at ∙ ap (λ (q : ℕ). link endian file q k) same ∙ sym (link_at due j k b bt)
 
@@ -39,7 +41,8 @@ module _ (endian : Endian) (file : List ℕ) where
   abbrev pub EndsSo : ℕ → ℕ → Option FileFault → Type 0
   EndsSo due n end =
       (((link endian file due n == 0) ≡ true) × (end ≡ None))
-      ⊎ (((link endian file due n == 0) ≡ false) × (is_directory endian file (link endian file due n) ≡ false) × (end ≡ Some DirectoryOutside))
+      ⊎ (((link endian file due n == 0) ≡ false) × (is_directory endian file (link endian file due n) ≡ false)
+      × (end ≡ Some DirectoryOutside))
       ⊎ ((j : ℕ) × (j < n) × (link endian file due n ≡ link endian file due j) × (end ≡ Some DirectoryLoop))
 
   -- the offsets of a chain and its end, by places
@@ -85,33 +88,40 @@ module _ (endian : Endian) (file : List ℕ) where
   apart before due (q ∷ offsets) end is i zero lower h = absurd (omega arith)
   apart before due (q ∷ offsets) end is zero (suc j) lower h =
       not_before (due ∷ before) (next due) offsets end is.2 due (here due before) j (omega arith)
-  apart before due (q ∷ offsets) end is (suc i) (suc j) lower h = apart (due ∷ before) (next due) offsets end is.2 i j (omega arith) (omega arith)
+  apart before due (q ∷ offsets) end is (suc i) (suc j) lower h =
+      apart (due ∷ before) (next due) offsets end is.2 i j (omega arith) (omega arith)
 
   some_injective : (x y : Option FileFault) → (let o : Option (Option FileFault) = Some x in o) ≡ Some y → x ≡ y
   some_injective x y e = cc
 
   -- how it ends by the three tests
   by_tests : (last again there : Bool) (end : Option FileFault) → stop_of last again there ≡ Some end
-      → ((last ≡ true) × (end ≡ None)) ⊎ ((last ≡ false) × (there ≡ false) × (end ≡ Some DirectoryOutside)) ⊎ ((again ≡ true) × (end ≡ Some DirectoryLoop))
+      → ((last ≡ true) × (end ≡ None)) ⊎ ((last ≡ false) × (there ≡ false) × (end ≡ Some DirectoryOutside))
+      ⊎ ((again ≡ true) × (end ≡ Some DirectoryLoop))
   by_tests true again there end e = inl (refl, cc)
   by_tests false true there end e = inr (inr (refl, cc))
   by_tests false false true end e = absurd cc
   by_tests false false false end e = inr (inl (refl, refl, cc))
 
-  -- the same behind offsets that stood before: one that is met again is one of those or stands in the chain
+  -- the same after offsets that stood before: one that is met again is one of those or stands in the chain
   abbrev EndsBehind : List ℕ → ℕ → ℕ → Option FileFault → Type 0
   EndsBehind before due n end =
       (((link endian file due n == 0) ≡ true) × (end ≡ None))
-      ⊎ (((link endian file due n == 0) ≡ false) × (is_directory endian file (link endian file due n) ≡ false) × (end ≡ Some DirectoryOutside))
-      ⊎ (((list_any (λ q. link endian file due n == q) before ≡ true) ⊎ ((j : ℕ) × (j < n) × (link endian file due n ≡ link endian file due j))) × (end ≡ Some DirectoryLoop))
+      ⊎ (((link endian file due n == 0) ≡ false) × (is_directory endian file (link endian file due n) ≡ false)
+      × (end ≡ Some DirectoryOutside))
+      ⊎ (((list_any (λ q. link endian file due n == q) before ≡ true)
+      ⊎ ((j : ℕ) × (j < n) × (link endian file due n ≡ link endian file due j))) × (end ≡ Some DirectoryLoop))
 
   met_one_on : (before : List ℕ) (due n : ℕ)
-      → ((list_any (λ q. link endian file (next due) n == q) (due ∷ before) ≡ true) ⊎ ((j : ℕ) × (j < n) × (link endian file (next due) n ≡ link endian file (next due) j)))
-      → (list_any (λ q. link endian file due (suc n) == q) before ≡ true) ⊎ ((j : ℕ) × (j < suc n) × (link endian file due (suc n) ≡ link endian file due j))
-  met_one_on before due n (inl there) = elim (either (link endian file (next due) n == due) (list_any (λ q. link endian file (next due) n == q) before) there) [
-    | inl same ↦ let e : link endian file (next due) n ≡ due = grind (arith, nat_tests) in inr (0, omega arith, e)
-    | inr earlier ↦ inl earlier
-  ]
+      → ((list_any (λ q. link endian file (next due) n == q) (due ∷ before) ≡ true)
+      ⊎ ((j : ℕ) × (j < n) × (link endian file (next due) n ≡ link endian file (next due) j)))
+      → (list_any (λ q. link endian file due (suc n) == q) before ≡ true)
+      ⊎ ((j : ℕ) × (j < suc n) × (link endian file due (suc n) ≡ link endian file due j))
+  met_one_on before due n (inl there) =
+      elim (either (link endian file (next due) n == due) (list_any (λ q. link endian file (next due) n == q) before) there) [
+        | inl same ↦ let e : link endian file (next due) n ≡ due = grind (arith, nat_tests) in inr (0, omega arith, e)
+        | inr earlier ↦ inl earlier
+      ]
   met_one_on before due n (inr p) = inr (suc p.0, omega arith, p.2)
 
   ends : (before : List ℕ) (due : ℕ) (offsets : List ℕ) (end : Option FileFault) → IsChainFrom endian file before due offsets end
@@ -133,7 +143,8 @@ module _ (endian : Endian) (file : List ℕ) where
   at_first due n end (inr (inr (inl there, e))) = absurd cc
   at_first due n end (inr (inr (inr p, e))) = inr (inr (p.0, p.1, p.2, e))
 
-  pub by_places : (due : ℕ) (offsets : List ℕ) (end : Option FileFault) → IsChainFrom endian file [] due offsets end → IsByPlaces due offsets end
+  pub by_places : (due : ℕ) (offsets : List ℕ) (end : Option FileFault) → IsChainFrom endian file [] due offsets end
+      → IsByPlaces due offsets end
   by_places due offsets end is = record {
     at = at [] due offsets end is;
     on = on [] due offsets end is;
@@ -149,7 +160,8 @@ module _ (endian : Endian) (file : List ℕ) where
     number_below Big place = simp get_or-drop (omega (arith, bytes (place + 0), bytes (place + 1), bytes (place + 2), bytes (place + 3)))
 
     short : (before : List ℕ) (due : ℕ) (offsets : List ℕ) (end : Option FileFault) → IsChainFrom endian file before due offsets end
-        → IsApart before → AreBelow before (2 ^ 32) → list_any (λ q. 0 == q) before ≡ false → due < 2 ^ 32 → length before + length offsets < 2 ^ 32
+        → IsApart before → AreBelow before (2 ^ 32) → list_any (λ q. 0 == q) before ≡ false → due < 2 ^ 32
+        → length before + length offsets < 2 ^ 32
     short before due [] end is apart all none within =
         let n : length (0 ∷ before) ≤ 2 ^ 32 = few (0 ∷ before) (2 ^ 32) (none, apart) (still_below before (2 ^ 32) 0 (omega arith) all) in
         omega arith
@@ -161,6 +173,7 @@ module _ (endian : Endian) (file : List ℕ) where
         omega (arith, rest)
 
     -- a chain has fewer than 2^32 offsets
-    pub few_places : (due : ℕ) (offsets : List ℕ) (end : Option FileFault) → IsChainFrom endian file [] due offsets end → due < 2 ^ 32 → length offsets < 2 ^ 32
+    pub few_places : (due : ℕ) (offsets : List ℕ) (end : Option FileFault) → IsChainFrom endian file [] due offsets end → due < 2 ^ 32
+        → length offsets < 2 ^ 32
     few_places due offsets end is within =
         let n = short [] due offsets end is tt (λ q e. absurd cc) refl within in omega (arith, n)

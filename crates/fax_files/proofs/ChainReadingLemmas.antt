@@ -1,5 +1,6 @@
 -- What a reader of a chain answers.
-use Rattle.std.proofs.Common.{◌≡◌, ℕ, zero, suc, ◌+◌, ◌^◌, ◌<◌, ◌≤◌, ◌≢◌, inl, inr, true, false, List, [], ◌∷◌, length, Option, Some, None, Result, Ok, Err, refl, sym, ap, ◌∙◌, arith}
+use Rattle.std.proofs.Common.{◌≡◌, ℕ, zero, suc, ◌+◌, ◌^◌, ◌<◌, ◌≤◌, ◌≢◌, inl, inr, true, false, List, [], ◌∷◌, length, Option, Some, None}
+use Rattle.std.proofs.Common.{Result, Ok, Err, refl, sym, ap, ◌∙◌, arith}
 use Rattle.std.specs.Prelude.{◌==◌, slice_get}
 use Rattle.std.proofs.lemmas.Bool.{cases_lt}
 use Rattle.std.proofs.lemmas.Bool.Decides.{nat_tests}
@@ -40,7 +41,8 @@ module _ (tiff : TiffFile) (due given : ℕ) (turn : Option ℕ) (sound : IsChai
     known i h = let p = led tiff i (place tiff (i + 1)) (before_end tiff offsets end is i h) in (p.0, p.1)
 
     known_alike : (i j : ℕ) → place tiff i ≡ place tiff j → j < length offsets → Known i
-    known_alike i j same h = let p = known j h in (ap (λ (q : ℕ). q == 0) same ∙ p.0, ap (is_directory tiff.head.endian tiff.file) same ∙ p.1)
+    known_alike i j same h =
+        let p = known j h in (ap (λ (q : ℕ). q == 0) same ∙ p.0, ap (is_directory tiff.head.endian tiff.file) same ∙ p.1)
 
     within : given ≤ length offsets
     within = sound.within offsets end is
@@ -100,11 +102,13 @@ module _ (tiff : TiffFile) (due given : ℕ) (turn : Option ℕ) (sound : IsChai
                 let none : place tiff (length offsets) ≡ 0 = grind (arith, nat_tests, p.0) in
                 absurd (some (due_last ∙ none))
             | inr (inl p) ↦ absurd (cc (p.1, here))
-            | inr (inr p) ↦ absurd (no_turn (sound.turn_is offsets end is ∙ ap (λ (o : Option FileFault). turning_page o (length offsets)) p.3 ∙ ap (λ (n : ℕ). Some n) (sym last)))
+            | inr (inr p) ↦ absurd (no_turn (sound.turn_is offsets end is
+                ∙ ap (λ (o : Option FileFault). turning_page o (length offsets)) p.3 ∙ ap (λ (n : ℕ). Some n) (sym last)))
           ]
     ]
 
-    pub found : (directory : TiffDirectory) → directory ≡ directory_of tiff due → due ≢ 0 → is_directory tiff.head.endian tiff.file due ≡ true → turn ≢ Some given
+    pub found : (directory : TiffDirectory) → directory ≡ directory_of tiff due → due ≢ 0
+        → is_directory tiff.head.endian tiff.file due ≡ true → turn ≢ Some given
         → Ok (Some directory) ≡ answer
     found directory is_it some there no_turn =
         let before = there_before some there no_turn in
@@ -114,7 +118,9 @@ module _ (tiff : TiffFile) (due given : ℕ) (turn : Option ℕ) (sound : IsChai
     pub answered : (directory : TiffDirectory) → (let r : Result (Option TiffDirectory) FileFault = Ok (Some directory) in r) ≡ answer
         → (given < length offsets) × (directory ≡ directory_of tiff (place tiff given))
     answered directory e = elim (cases_lt given (length offsets)) [
-      | inl before ↦ let at : (let r : Result (Option TiffDirectory) FileFault = Ok (Some directory) in r) ≡ Ok (Some (directory_of tiff (place tiff given))) = e ∙ ap (λ (o : Option ℕ). answer_at tiff o end) (the_places.at given before) in (before, cc)
+      | inl before ↦ let at : (let r : Result (Option TiffDirectory) FileFault = Ok (Some directory) in r)
+          ≡ Ok (Some (directory_of tiff (place tiff given))) = e
+          ∙ ap (λ (o : Option ℕ). answer_at tiff o end) (the_places.at given before) in (before, cc)
       | inr behind ↦ absurd (no_directory tiff directory end (e ∙ ap (λ (o : Option ℕ). answer_at tiff o end) (past offsets given behind)))
     ]
 
@@ -129,7 +135,8 @@ module _ (tiff : TiffFile) (due given : ℕ) (turn : Option ℕ) (sound : IsChai
         let count : length one.offsets < 2 ^ 32 = sound.few one.offsets one.end one.is in
         omega (arith, p.0)
 
-    pub one_more : (next : ℕ) → next ≡ next_offset directory.endian directory.file directory.offset → IsChainPlace tiff next (given + 1) turn
+    pub one_more : (next : ℕ) → next ≡ next_offset directory.endian directory.file directory.offset
+        → IsChainPlace tiff next (given + 1) turn
     one_more next next_is =
         let one = has_one_chain tiff.head tiff.file in
         let p = answered one.offsets one.end one.is directory (due_answer one.offsets one.end one.is) in

@@ -1,5 +1,6 @@
 -- A search that goes along with a reader of a chain.
-use Rattle.std.proofs.Common.{◌≡◌, ◌≢◌, ℕ, zero, suc, ◌+◌, ◌-◌, ◌*◌, ◌/◌, ◌%◌, ◌<◌, ◌≤◌, inl, inr, true, false, List, length, Option, Some, None, refl, sym, ap, ◌∙◌, subst, arith}
+use Rattle.std.proofs.Common.{◌≡◌, ◌≢◌, ℕ, zero, suc, ◌+◌, ◌-◌, ◌*◌, ◌/◌, ◌%◌, ◌<◌, ◌≤◌, inl, inr, true, false, List, length, Option, Some}
+use Rattle.std.proofs.Common.{None, refl, sym, ap, ◌∙◌, subst, arith}
 use Rattle.std.proofs.lemmas.Bool.{cases_lt}
 use Rattle.std.proofs.lemmas.Bool.Decides.{nat_tests}
 use Rattle.fax_files.specs.declared.FileFault.{FileFault}
@@ -24,7 +25,8 @@ module _ (tiff : TiffFile) where
       one ∙ rounds j p i m back from
 
   -- a chain that turns back has a place that is met again after as many steps, at its end at the latest
-  module _ (offsets : List ℕ) (end : Option FileFault) (is : IsChain tiff.head tiff.file offsets end) (loop : end ≡ Some DirectoryLoop) where
+  module _ (offsets : List ℕ) (end : Option FileFault) (is : IsChain tiff.head tiff.file offsets end)
+      (loop : end ≡ Some DirectoryLoop) where
     the_places : IsByPlaces tiff.head.endian tiff.file tiff.head.first offsets end
     the_places = by_places tiff.head.endian tiff.file tiff.head.first offsets end is
 
@@ -77,7 +79,8 @@ module _ (tiff : TiffFile) where
   pub place_of : (due given : ℕ) (search : Search) → IsSearchPlace tiff due given search → IsChainPlace tiff due given (turn_of search)
   unfolding turn_of
   place_of due given (Running fast) sound = record { due_is = sound.due_is; within = sound.within; turn_is = true_turn.1; few = sound.few }
-  place_of due given (Known turn) sound = record { due_is = sound.due_is; within = sound.within; turn_is = sound.search_is; few = sound.few }
+  place_of due given (Known turn) sound =
+      record { due_is = sound.due_is; within = sound.within; turn_is = sound.search_is; few = sound.few }
 
   pub turned_here : (search : Search) (given : ℕ) → turns_at search given ≡ true → turn_of search ≡ Some given
   unfolding turn_of
@@ -94,10 +97,12 @@ module _ (tiff : TiffFile) where
   -- one directory on
   pub one_further : (due given : ℕ) (search later : Search) (next : ℕ) → IsSearchPlace tiff due given search
       → IsChainPlace tiff next (given + 1) (turn_of search) → IsSearch tiff (given + 1) later → IsSearchPlace tiff next (given + 1) later
-  one_further due given search later next sound on found = record { due_is = on.due_is; within = on.within; search_is = found; few = sound.few }
+  one_further due given search later next sound on found =
+      record { due_is = on.due_is; within = on.within; search_is = found; few = sound.few }
 
   -- A step of the search.
-  module _ (given fast between : ℕ) (search : IsSearch tiff given (Running fast)) (first : onward tiff.head.endian tiff.file fast ≡ Some between) where
+  module _ (given fast between : ℕ) (search : IsSearch tiff given (Running fast))
+      (first : onward tiff.head.endian tiff.file fast ≡ Some between) where
     first_lead : (between ≡ place tiff (given + given + 1)) × LeadsOn tiff (given + given)
     first_lead = leads tiff (given + given) between (rw search.0 at first)
 
@@ -132,5 +137,7 @@ module _ (tiff : TiffFile) where
         ],
       )
 
-  pub stopped_first : (given fast : ℕ) → IsSearch tiff given (Running fast) → onward tiff.head.endian tiff.file fast ≡ None → IsTurningPage tiff None
-  stopped_first given fast search none = no_turning_page tiff (λ offsets end is. stops tiff offsets end is (given + given) (rw search.0 at none))
+  pub stopped_first : (given fast : ℕ) → IsSearch tiff given (Running fast) → onward tiff.head.endian tiff.file fast ≡ None
+      → IsTurningPage tiff None
+  stopped_first given fast search none =
+      no_turning_page tiff (λ offsets end is. stops tiff offsets end is (given + given) (rw search.0 at none))

@@ -18,14 +18,17 @@ pub record HoldsIntegers (endian : Endian) (file : List ℕ) (entry : Entry) (n 
   pub count : n ≤ entry.count
   pub inside : values_place endian file entry + n * value_len entry ≤ length file
 
-pub holds_integers : (endian : Endian) (file : List ℕ) (entry : Entry) (n : ℕ) → IsTrue (has_integers endian file entry n) → HoldsIntegers endian file entry n
+pub holds_integers : (endian : Endian) (file : List ℕ) (entry : Entry) (n : ℕ) → IsTrue (has_integers endian file entry n)
+    → HoldsIntegers endian file entry n
 unfolding has_integers
 holds_integers endian file entry n there =
-    let parts = three_true (is_integer entry) (nat_le n entry.count) (is_inside file (values_place endian file entry) (n * value_len entry)) there in
+    let parts = three_true (is_integer entry) (nat_le n entry.count) (is_inside file (values_place endian file entry) (n * value_len entry))
+    there in
     record { kind = parts.0; count = leb-true _ _ parts.1; inside = leb-true _ _ parts.2 }
 
 -- the value at an index below the count lies in the file
-pub value_inside : (endian : Endian) (file : List ℕ) (entry : Entry) (i place len : ℕ) → place ≡ values_place endian file entry → len ≡ value_len entry
+pub value_inside : (endian : Endian) (file : List ℕ) (entry : Entry) (i place len : ℕ) → place ≡ values_place endian file entry
+    → len ≡ value_len entry
     → IsTrue (has_integers endian file entry (i + 1)) → place + i * len + len ≤ length file
 value_inside endian file entry i place len place_is len_is there =
     let h = holds_integers endian file entry (i + 1) there in

@@ -1,5 +1,6 @@
 -- The first entries of the tags that are looked for.
-use Rattle.std.proofs.Common.{◌≡◌, ◌≢◌, ℕ, zero, suc, ◌+◌, ◌-◌, ◌*◌, ◌<◌, ◌≤◌, Bool, true, false, ◌&&◌, List, [], ◌∷◌, length, get_or, Option, Some, None, Result, Ok, Err, inl, inr, refl, sym, ap, ◌∙◌, arith, get_or-set_other, get_or-set_same}
+use Rattle.std.proofs.Common.{◌≡◌, ◌≢◌, ℕ, zero, suc, ◌+◌, ◌-◌, ◌*◌, ◌<◌, ◌≤◌, Bool, true, false, ◌&&◌, List, [], ◌∷◌, length, get_or}
+use Rattle.std.proofs.Common.{Option, Some, None, Result, Ok, Err, inl, inr, refl, sym, ap, ◌∙◌, arith, get_or-set_other, get_or-set_same}
 use Rattle.std.specs.Prelude.{IsTrue, IfSome, ◌==◌, MatchResult, nat_lt}
 use Rattle.std.specs.List.Sorted.{IsBinarySearchResult}
 use Rattle.std.specs.Ordering.{nat_cmp}
@@ -49,7 +50,8 @@ unfolding rises
 tags_rise i j lt inside = rising TAGS refl i j lt inside
 
 not_below : (i j : ℕ) → i ≤ j → j < length TAGS → get_or TAGS i 0 ≤ get_or TAGS j 0
-not_below i j le inside = elim (eq-or-lt_of_le le) [ inl e ↦ rw e (omega arith) | inr lt ↦ (let up = tags_rise i j lt inside in omega arith) ]
+not_below i j le inside =
+    elim (eq-or-lt_of_le le) [ inl e ↦ rw e (omega arith) | inr lt ↦ (let up = tags_rise i j lt inside in omega arith) ]
 
 -- so no two of them are the same
 apart : (i j : ℕ) → i < length TAGS → j < length TAGS → i ≢ j → get_or TAGS i 0 ≢ get_or TAGS j 0
@@ -68,7 +70,9 @@ pub tag_searched : (tag : ℕ) (found : Result ℕ ℕ) → IsBinarySearchResult
 tag_searched tag found h = answer found (searched TAGS tag found h not_below)
   where
     answer : (r : Result ℕ ℕ)
-        → MatchResult r (λ i. (i < length TAGS) × (get_or TAGS i 0 ≡ tag)) (λ i. (i ≤ length TAGS) × ((k : ℕ) → k < i → get_or TAGS k 0 < tag) × ((k : ℕ) → i ≤ k → k < length TAGS → tag < get_or TAGS k 0))
+        → MatchResult r (λ i. (i < length TAGS) × (get_or TAGS i 0 ≡ tag))
+        (λ i. (i ≤ length TAGS) × ((k : ℕ) → k < i → get_or TAGS k 0 < tag)
+        × ((k : ℕ) → i ≤ k → k < length TAGS → tag < get_or TAGS k 0))
         → IsSearched tag r
     answer (Ok i) there = there
     answer (Err i) apart = λ k inside e. elim (cases_lt k i) [
@@ -77,11 +81,13 @@ tag_searched tag found h = answer found (searched TAGS tag found h not_below)
     ]
 
 -- nothing is found before an entry was seen
-pub none_seen : (first : List (Option Entry)) → length first ≡ length TAGS → ((i : ℕ) → i < length TAGS → get_or first i None ≡ None) → AreFirst [] first
+pub none_seen : (first : List (Option Entry)) → length first ≡ length TAGS → ((i : ℕ) → i < length TAGS → get_or first i None ≡ None)
+    → AreFirst [] first
 none_seen first count none = record { count = count; first_is = none }
 
 -- an entry of a tag that is looked for
-pub seen : (entry : Entry) (fields : List Entry) (first : List (Option Entry)) (slot : ℕ) → slot < length TAGS → get_or TAGS slot 0 ≡ entry.tag
+pub seen : (entry : Entry) (fields : List Entry) (first : List (Option Entry)) (slot : ℕ) → slot < length TAGS
+    → get_or TAGS slot 0 ≡ entry.tag
     → AreFirst fields first → AreFirst (entry ∷ fields) (set first slot (Some entry))
 seen entry fields first slot inside same h = record {
   count = length-set first slot (Some entry) ∙ h.count;
@@ -107,7 +113,8 @@ passed entry fields first other h = record {
 }
 
 -- the entry at the place of a tag is the first of that tag
-pub found_first : (fields : List Entry) (first : List (Option Entry)) (slot tag : ℕ) (other : Option Entry) → slot < length TAGS → get_or TAGS slot 0 ≡ tag
+pub found_first : (fields : List Entry) (first : List (Option Entry)) (slot tag : ℕ) (other : Option Entry) → slot < length TAGS
+    → get_or TAGS slot 0 ≡ tag
     → AreFirst fields first → get_or first slot other ≡ field fields tag
 found_first fields first slot tag other inside is h =
     let there : slot < length first = omega (arith, h.count) in
@@ -125,7 +132,8 @@ pub entry_inside : (endian : Endian) (file : List ℕ) (place n tag : ℕ) (foun
 unfolding entries_at
 entry_inside endian file place zero tag found inside is = rw is tt
 entry_inside endian file place (suc n) tag found inside is =
-    here ((entry_at endian file place).tag == tag) refl (entry_inside endian file (place + 12) n tag (field (entries_at endian file (place + 12) n) tag) (omega arith) refl)
+    here ((entry_at endian file place).tag == tag) refl (entry_inside endian file (place + 12) n tag
+    (field (entries_at endian file (place + 12) n) tag) (omega arith) refl)
   where
     here : (same : Bool) → ((entry_at endian file place).tag == tag) ≡ same
         → IfSome (field (entries_at endian file (place + 12) n) tag) (λ entry. entry.place + 4 ≤ length file)
@@ -133,7 +141,7 @@ entry_inside endian file place (suc n) tag found inside is =
     here true e rest = rw (is, e) (omega (arith, inside))
     here false e rest = rw (is, e) rest
 
--- behind the last entry there is none
+-- after the last entry there is none
 pub none_left : (endian : Endian) (file : List ℕ) (place count : ℕ) (first : List (Option Entry)) → AreFirst [] first
     → AreFirst (entries_at endian file place (count - count)) first
 unfolding entries_at
@@ -141,7 +149,7 @@ none_left endian file place count first none =
     let n : count - count ≡ 0 = omega arith in
     rw n none
 
--- an entry, and those behind it
+-- an entry, and those after it
 pub one_more : (endian : Endian) (file : List ℕ) (start count k : ℕ) (entry : Entry) (old new : List (Option Entry)) → 0 < k → k ≤ count
     → entry ≡ entry_at endian file (start + 12 * (k - 1))
     → AreFirst (entries_at endian file (start + 12 * k) (count - k)) old
@@ -182,9 +190,12 @@ module _ (endian : Endian) (file : List ℕ) (start count k : ℕ) (total : Bool
       let place : start + 12 * k - 12 ≡ start + 12 * (k - 1) = omega arith in
       let next : start + 12 * k ≡ start + 12 * (k - 1) + 12 = omega arith in
       let two = two_ascend endian file (start + 12 * (k - 1)) (count - (k - 1)) (count - k) (omega arith) (omega arith) in
-      let here_is : number_at endian 2 file (start + 12 * k) ≡ number_at endian 2 file (start + 12 * (k - 1) + 12) = ap (number_at endian 2 file) next in
-      let before_is : number_at endian 2 file (start + 12 * k - 12) ≡ number_at endian 2 file (start + 12 * (k - 1)) = ap (number_at endian 2 file) place in
-      let rest_is : ascend (entries_at endian file (start + 12 * k) (count - k)) ≡ ascend (entries_at endian file (start + 12 * (k - 1) + 12) (count - k)) =
+      let here_is : number_at endian 2 file (start + 12 * k) ≡ number_at endian 2 file (start + 12 * (k - 1) + 12) =
+      ap (number_at endian 2 file) next in
+      let before_is : number_at endian 2 file (start + 12 * k - 12) ≡ number_at endian 2 file (start + 12 * (k - 1)) =
+      ap (number_at endian 2 file) place in
+      let rest_is : ascend (entries_at endian file (start + 12 * k) (count - k))
+      ≡ ascend (entries_at endian file (start + 12 * (k - 1) + 12) (count - k)) =
       ap (λ (p : ℕ). ascend (entries_at endian file p (count - k))) next in
       rw (before_is, here_is, rest_is) (sym so_far ∙ two)
 

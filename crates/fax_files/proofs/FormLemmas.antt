@@ -11,7 +11,8 @@ use Rattle.fax_files.specs.Numbers.{◌>>=◌, check}
 use Rattle.fax_files.specs.Directory.{Entry, entries, needed_scalar, scalar_or}
 use Rattle.fax_files.specs.Page.{is_between, page, page_size, pel_format, strip_rows, strip_count, page_coding, strip_field}
 use Rattle.fax_files.specs.Laws.{IsWholeForm, FormsAreWhole}
-use Rattle.fax_files.proofs.PageLemmas.{bind_ok, ok_injective, form_of, after_offsets, after_coding, after_rows, after_pels, after_size, strip_begins_before}
+use Rattle.fax_files.proofs.PageLemmas.{bind_ok, ok_injective, form_of, after_offsets, after_coding, after_rows, after_pels, after_size}
+use Rattle.fax_files.proofs.PageLemmas.{strip_begins_before}
 use Rattle.fax_files.specs.Tags
 
 checked : {A : Type 0} (test : Bool) (fault : FileFault) (next : Unit {0} → Result A FileFault) (y : A) → (check test fault >>= next) ≡ Ok y
@@ -27,10 +28,13 @@ first_holds false b e = absurd cc
 some_rows : (endian : Endian) (file : List ℕ) (fields : List Entry) (size : ℕ × ℕ) → page_size endian file fields ≡ Ok size → 1 ≤ size.1
 unfolding page_size
 some_rows endian file fields size e =
-    let with_rows : ℕ → ℕ → Result (ℕ × ℕ) FileFault = λ width rows. check (is_between 1 1000000 rows) (OutOfLimits Tags.IMAGE_LENGTH) >>= λ _. Ok (width, rows) in
-    let with_width : ℕ → Result (ℕ × ℕ) FileFault = λ width. check (is_between 1 65535 width) (OutOfLimits Tags.IMAGE_WIDTH) >>= λ _. needed_scalar endian file fields Tags.IMAGE_LENGTH >>= with_rows width in
+    let with_rows : ℕ → ℕ → Result (ℕ × ℕ) FileFault =
+    λ width rows. check (is_between 1 1000000 rows) (OutOfLimits Tags.IMAGE_LENGTH) >>= λ _. Ok (width, rows) in
+    let with_width : ℕ → Result (ℕ × ℕ) FileFault = λ width. check (is_between 1 65535 width) (OutOfLimits Tags.IMAGE_WIDTH)
+    >>= λ _. needed_scalar endian file fields Tags.IMAGE_LENGTH >>= with_rows width in
     let width = bind_ok (needed_scalar endian file fields Tags.IMAGE_WIDTH) with_width size e in
-    let tested = checked (is_between 1 65535 width.0) (OutOfLimits Tags.IMAGE_WIDTH) (λ _. needed_scalar endian file fields Tags.IMAGE_LENGTH >>= with_rows width.0) size width.2 in
+    let tested = checked (is_between 1 65535 width.0) (OutOfLimits Tags.IMAGE_WIDTH)
+    (λ _. needed_scalar endian file fields Tags.IMAGE_LENGTH >>= with_rows width.0) size width.2 in
     let rows = bind_ok (needed_scalar endian file fields Tags.IMAGE_LENGTH) (with_rows width.0) size tested.1 in
     let within = checked (is_between 1 1000000 rows.0) (OutOfLimits Tags.IMAGE_LENGTH) (λ _. Ok (width.0, rows.0)) size rows.2 in
     let low : nat_le 1 rows.0 ≡ true = first_holds (nat_le 1 rows.0) (nat_le rows.0 1000000) within.0 in
@@ -41,10 +45,12 @@ not_zero : (n : ℕ) → not (n == 0) ≡ true → n ≢ 0
 not_zero n e = λ none. let test : (n == 0) ≡ true = grind (arith, nat_tests) in cc
 
 -- its strips have some of them
-some_in_strip : (endian : Endian) (file : List ℕ) (fields : List Entry) (rows in_strip : ℕ) → 1 ≤ rows → strip_rows endian file fields rows ≡ Ok in_strip → 1 ≤ in_strip
+some_in_strip : (endian : Endian) (file : List ℕ) (fields : List Entry) (rows in_strip : ℕ) → 1 ≤ rows
+    → strip_rows endian file fields rows ≡ Ok in_strip → 1 ≤ in_strip
 unfolding strip_rows
 some_in_strip endian file fields rows in_strip some e =
-    let found = bind_ok (scalar_or endian file fields Tags.ROWS_PER_STRIP (2 ^ 32 - 1)) (λ n. check (not (n == 0)) (BadField Tags.ROWS_PER_STRIP) >>= λ _. Ok (min n rows)) in_strip e in
+    let found = bind_ok (scalar_or endian file fields Tags.ROWS_PER_STRIP (2 ^ 32 - 1))
+    (λ n. check (not (n == 0)) (BadField Tags.ROWS_PER_STRIP) >>= λ _. Ok (min n rows)) in_strip e in
     let test = checked (not (found.0 == 0)) (BadField Tags.ROWS_PER_STRIP) (λ _. Ok (min found.0 rows)) in_strip found.2 in
     let above : found.0 ≢ 0 = not_zero found.0 test.0 in
     let same : min found.0 rows ≡ in_strip = ok_injective (min found.0 rows) in_strip test.1 in
@@ -61,9 +67,12 @@ forms_are_whole endian file q form e =
     let size = bind_ok (page_size endian file fields) (after_size endian file fields) form e in
     let pels = bind_ok (pel_format endian file fields) (after_pels endian file fields size.0) form size.2 in
     let rows = bind_ok (strip_rows endian file fields size.0.1) (after_rows endian file fields size.0 pels.0) form pels.2 in
-    let coding = bind_ok (page_coding endian file fields pels.0.compression) (after_coding endian file fields size.0 pels.0 rows.0) form rows.2 in
-    let offsets = bind_ok (strip_field endian file fields Tags.STRIP_OFFSETS (strip_count size.0.1 rows.0)) (λ _. after_offsets endian file fields size.0 pels.0 rows.0 coding.0) form coding.2 in
-    let counts = bind_ok (strip_field endian file fields Tags.STRIP_BYTE_COUNTS (strip_count size.0.1 rows.0)) (λ _. Ok (form_of endian file fields size.0 pels.0 rows.0 coding.0)) form offsets.2 in
+    let coding =
+    bind_ok (page_coding endian file fields pels.0.compression) (after_coding endian file fields size.0 pels.0 rows.0) form rows.2 in
+    let offsets = bind_ok (strip_field endian file fields Tags.STRIP_OFFSETS (strip_count size.0.1 rows.0))
+    (λ _. after_offsets endian file fields size.0 pels.0 rows.0 coding.0) form coding.2 in
+    let counts = bind_ok (strip_field endian file fields Tags.STRIP_BYTE_COUNTS (strip_count size.0.1 rows.0))
+    (λ _. Ok (form_of endian file fields size.0 pels.0 rows.0 coding.0)) form offsets.2 in
     let above = some_rows endian file fields size.0 size.1 in
     let some = some_in_strip endian file fields size.0.1 rows.0 above rows.1 in
     let found : IsWholeForm (form_of endian file fields size.0 pels.0 rows.0 coding.0) = record {

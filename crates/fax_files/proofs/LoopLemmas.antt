@@ -1,5 +1,6 @@
 -- Where a chain turns back.
-use Rattle.std.proofs.Common.{◌≡◌, ℕ, zero, suc, ◌+◌, ◌-◌, ◌^◌, ◌<◌, ◌≤◌, ◌≢◌, inl, inr, Bool, true, false, List, length, Option, Some, None, refl, sym, ap, ◌∙◌, arith}
+use Rattle.std.proofs.Common.{◌≡◌, ℕ, zero, suc, ◌+◌, ◌-◌, ◌^◌, ◌<◌, ◌≤◌, ◌≢◌, inl, inr, Bool, true, false, List, length, Option, Some}
+use Rattle.std.proofs.Common.{None, refl, sym, ap, ◌∙◌, arith}
 use Rattle.std.specs.Prelude.{◌==◌, if◌then◌else◌}
 use Rattle.std.proofs.lemmas.Bool.{cases_lt}
 use Rattle.fax_files.specs.declared.FileFault.{FileFault}
@@ -21,15 +22,18 @@ module _ (tiff : TiffFile) where
   pub along_places : (i j k a b : ℕ) → a ≡ i + k → b ≡ j + k → place tiff i ≡ place tiff j → place tiff a ≡ place tiff b
   along_places = along tiff.head.endian tiff.file tiff.head.first
 
-  tested : (last there : Bool) (next x : ℕ) → (if last then None else (if there then (Some next) else None)) ≡ Some x → (last ≡ false) × (there ≡ true) × (next ≡ x)
+  tested : (last there : Bool) (next x : ℕ) → (if last then None else (if there then (Some next) else None)) ≡ Some x
+      → (last ≡ false) × (there ≡ true) × (next ≡ x)
   tested true there next x e = absurd cc
   tested false true next x e = (refl, refl, cc)
   tested false false next x e = absurd cc
 
   -- what is known where a place leads on
   pub led : (i x : ℕ) → onward tiff.head.endian tiff.file (place tiff i) ≡ Some x
-      → ((place tiff i == 0) ≡ false) × (is_directory tiff.head.endian tiff.file (place tiff i) ≡ true) × (next_offset tiff.head.endian tiff.file (place tiff i) ≡ x)
-  led i x e = tested (place tiff i == 0) (is_directory tiff.head.endian tiff.file (place tiff i)) (next_offset tiff.head.endian tiff.file (place tiff i)) x e
+      → ((place tiff i == 0) ≡ false) × (is_directory tiff.head.endian tiff.file (place tiff i) ≡ true)
+      × (next_offset tiff.head.endian tiff.file (place tiff i) ≡ x)
+  led i x e = tested (place tiff i == 0) (is_directory tiff.head.endian tiff.file (place tiff i))
+      (next_offset tiff.head.endian tiff.file (place tiff i)) x e
 
   -- a place leads on to the next one
   pub leads : (i x : ℕ) → onward tiff.head.endian tiff.file (place tiff i) ≡ Some x → (x ≡ place tiff (i + 1)) × LeadsOn tiff i

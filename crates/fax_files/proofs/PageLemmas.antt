@@ -13,7 +13,8 @@ use Rattle.fax_files.specs.code.Tiff.{TiffDirectory, AreStripPlaces, bytes_of}
 use Rattle.fax_files.specs.Tags
 
 -- the value of a step that did not fail
-pub bind_ok : {A B : Type 0} (r : Result A FileFault) (next : A → Result B FileFault) (y : B) → (r >>= next) ≡ Ok y → (x : A) × (r ≡ Ok x) × (next x ≡ Ok y)
+pub bind_ok : {A B : Type 0} (r : Result A FileFault) (next : A → Result B FileFault) (y : B) → (r >>= next) ≡ Ok y
+    → (x : A) × (r ≡ Ok x) × (next x ≡ Ok y)
 bind_ok (Ok x) next y e = (x, refl, e)
 bind_ok (Err fault) next y e = absurd cc
 

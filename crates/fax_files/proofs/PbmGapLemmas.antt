@@ -1,5 +1,6 @@
 -- Gaps in a PBM's header: a gap that is read is one, and each gap is read to its end.
-use Rattle.std.proofs.Common.{◌≡◌, ℕ, inl, inr, Bool, true, false, not, List, [], ◌∷◌, ◌++◌, Some, None, refl, sym, ap, ◌∙◌, arith, append_assoc}
+use Rattle.std.proofs.Common.{◌≡◌, ℕ, inl, inr, Bool, true, false, not, List, [], ◌∷◌, ◌++◌, Some, None, refl, sym, ap, ◌∙◌, arith}
+use Rattle.std.proofs.Common.{append_assoc}
 use Rattle.std.specs.Prelude.{◌==◌, IsTrue, if◌then◌else◌}
 use Rattle.std.specs.List.{list_all}
 use Rattle.std.proofs.lemmas.Bool.{eqb-true, and_parts}
@@ -22,7 +23,7 @@ piece_is_no_digit c piece = grind (arith, nat_tests)
 pub white_is_no_digit : (c : ℕ) → is_white_space c ≡ true → is_digit c ≡ false
 white_is_no_digit c white = piece_is_no_digit c (white_begins c white)
 
--- pieces, and what stands behind them
+-- pieces, and what stands after them
 record HasPieces (bytes rest : List ℕ) : Type 0 where
   pieces : List (List ℕ)
   gap : List ℕ
@@ -37,7 +38,7 @@ record HasGap (bytes rest : List ℕ) : Type 0 where
   are : ArePieces (first ∷ pieces) gap
   is : bytes ≡ gap ++ rest
 
--- the rest of a comment, pieces, and what stands behind them
+-- the rest of a comment, pieces, and what stands after them
 record HasComment (bytes rest : List ℕ) : Type 0 where
   text : List ℕ
   end : ℕ
@@ -122,7 +123,8 @@ has_read true (c ∷ bytes) rest is =
       | false ↦ λ goes_on next. comment_goes_on c bytes rest goes_on (has_read true bytes rest next)
     ] refl is
 has_read false (c ∷ bytes) rest is =
-    elim (begins_piece c) as (λ v. begins_piece c ≡ v → (if v then (behind_pieces (c == 35) bytes) else (Some (c ∷ bytes))) ≡ Some rest → HasPieces (c ∷ bytes) rest) [
+    elim (begins_piece c) as (λ v. begins_piece c ≡ v → (if v then (behind_pieces (c == 35) bytes) else (Some (c ∷ bytes))) ≡ Some rest
+    → HasPieces (c ∷ bytes) rest) [
       | true ↦ λ begins next.
           gap_has_pieces (c ∷ bytes) rest (first_piece c bytes rest begins (λ in_comment more. has_read in_comment bytes rest more) next)
       | false ↦ λ none same. record { pieces = []; gap = []; are = refl; is = cc }
@@ -132,7 +134,9 @@ has_read false (c ∷ bytes) rest is =
 pub gap_is_read : (bytes rest : List ℕ) → behind_gap bytes ≡ Some rest → (gap : List ℕ) × IsGap gap × (bytes ≡ gap ++ rest)
 gap_is_read [] rest is = let no : ⊥ = cc in absurd no
 gap_is_read (c ∷ bytes) rest is =
-    elim (begins_piece c) as (λ v. begins_piece c ≡ v → (if v then (if v then (behind_pieces (c == 35) bytes) else (Some (c ∷ bytes))) else None) ≡ Some rest → (gap : List ℕ) × IsGap gap × (c ∷ bytes ≡ gap ++ rest)) [
+    elim (begins_piece c) as (λ v. begins_piece c ≡ v
+    → (if v then (if v then (behind_pieces (c == 35) bytes) else (Some (c ∷ bytes))) else None) ≡ Some rest
+    → (gap : List ℕ) × IsGap gap × (c ∷ bytes ≡ gap ++ rest)) [
       | true ↦ λ begins next.
           let has = first_piece c bytes rest begins (λ in_comment more. has_read in_comment bytes rest more) next in
           (has.gap, (has.first ∷ has.pieces, (λ e. cc), has.are), has.is)
@@ -160,7 +164,8 @@ piece_passed piece more (inr w) =
     ∙ ap (λ (l : List ℕ). behind_pieces true l) (append_assoc w.0 (w.1 ∷ []) more)
     ∙ behind_text w.0 w.1 more w.2 w.3
 
-pieces_passed : (pieces : List (List ℕ)) (gap rest : List ℕ) → ArePieces pieces gap → behind_pieces false (gap ++ rest) ≡ behind_pieces false rest
+pieces_passed : (pieces : List (List ℕ)) (gap rest : List ℕ) → ArePieces pieces gap
+    → behind_pieces false (gap ++ rest) ≡ behind_pieces false rest
 pieces_passed [] gap rest are = ap (λ (g : List ℕ). behind_pieces false (g ++ rest)) are
 pieces_passed (piece ∷ pieces) gap rest are =
     ap (λ (g : List ℕ). behind_pieces false (g ++ rest)) are.3

@@ -17,7 +17,8 @@ pub record HasHead (bytes : List ℕ) (width height : ℕ) (rest : List ℕ) : T
   pub width_is : width ≡ capped exact_width
   pub height_is : height ≡ capped exact_height
 
-pub head_is_read : (bytes : List ℕ) (width height : ℕ) (rest : List ℕ) → IsHeadRead bytes width height rest → HasHead bytes width height rest
+pub head_is_read : (bytes : List ℕ) (width height : ℕ) (rest : List ℕ) → IsHeadRead bytes width height rest
+    → HasHead bytes width height rest
 head_is_read bytes width height rest read =
     let first = gap_is_read read.at_gap read.at_width read.gap in
     let w = number_is_read read.at_width read.some_width in
@@ -89,13 +90,16 @@ pub within_is_exact : (width height : ℕ) → is_within_limits width height ≡
 within_is_exact width height within = grind (arith, nat_tests)
 
 -- where there is no header
-pub no_head : (bytes : List ℕ) → ((width height : ℕ) (rest : List ℕ) → IsHeadRead bytes width height rest → ⊥) → IsImageFault bytes BadHeader
+pub no_head : (bytes : List ℕ) → ((width height : ℕ) (rest : List ℕ) → IsHeadRead bytes width height rest → ⊥)
+    → IsImageFault bytes BadHeader
 no_head bytes none = λ width height rest head. none (capped width) (capped height) rest (head_passed bytes width height rest head)
 
-head_along : (bytes : List ℕ) (w width h height : ℕ) (rest : List ℕ) → width ≡ w → height ≡ h → IsHead bytes w h rest → IsHead bytes width height rest
+head_along : (bytes : List ℕ) (w width h height : ℕ) (rest : List ℕ) → width ≡ w → height ≡ h → IsHead bytes w h rest
+    → IsHead bytes width height rest
 head_along bytes w width h height rest width_is height_is head = rw (width_is, height_is) head
 
-limits_along : (w width h height : ℕ) (v : Bool) → width ≡ capped w → height ≡ capped h → is_within_limits width height ≡ v → is_within_limits w h ≡ v
+limits_along : (w width h height : ℕ) (v : Bool) → width ≡ capped w → height ≡ capped h → is_within_limits width height ≡ v
+    → is_within_limits w h ≡ v
 limits_along w width h height v width_is height_is within =
     let same : is_within_limits width height ≡ is_within_limits (capped w) (capped h) = rw (width_is, height_is) refl in
     sym (capped_limits w h) ∙ sym same ∙ within
@@ -121,7 +125,7 @@ head_outside bytes width height rest read outside =
       limits_along has.exact_width width has.exact_height height false has.width_is has.height_is outside,
     )
 
--- an image behind its header
+-- an image after its header
 pub image_read : (bytes : List ℕ) (width height : ℕ) (raster rest : List ℕ) → IsHeadRead bytes width height (raster ++ rest)
     → is_within_limits width height ≡ true → length raster ≡ raster_len width height → IsImage bytes (image_of width height raster) rest
 image_read bytes width height raster rest read within whole = record {

@@ -75,7 +75,8 @@ stays : (behind : List ℕ) → has_digit behind ≡ false → behind_digits beh
 stays [] none = refl
 stays (c ∷ behind) none = ap (λ v. if v then (behind_digits behind) else (c ∷ behind)) none
 
-pub digits_passed : (digits behind : List ℕ) → list_all is_digit digits ≡ true → has_digit behind ≡ false → behind_digits (digits ++ behind) ≡ behind
+pub digits_passed : (digits behind : List ℕ) → list_all is_digit digits ≡ true → has_digit behind ≡ false
+    → behind_digits (digits ++ behind) ≡ behind
 digits_passed [] behind all none = stays behind none
 digits_passed (c ∷ digits) behind all none =
     let parts = and_parts (is_digit c) (list_all is_digit digits) all in

@@ -1,5 +1,6 @@
 -- Bytes are read as images in one way.
-use Rattle.std.proofs.Common.{◌≡◌, ◌≢◌, ℕ, ◌+◌, ◌<◌, inl, inr, true, List, [], ◌∷◌, ◌++◌, length, take, drop, Option, Some, refl, sym, ap, subst, ◌∙◌, arith}
+use Rattle.std.proofs.Common.{◌≡◌, ◌≢◌, ℕ, ◌+◌, ◌<◌, inl, inr, true, List, [], ◌∷◌, ◌++◌, length, take, drop, Option, Some, refl, sym, ap}
+use Rattle.std.proofs.Common.{subst, ◌∙◌, arith}
 use Rattle.std.proofs.lemmas.Bool.{both_ways}
 use Rattle.std.proofs.lemmas.List.{length-append}
 use Rattle.std.proofs.Math.Seq.{take-append_seam, drop-append_seam}
@@ -29,14 +30,16 @@ one_head bytes width height w h rest others first second =
     let b = head_passed bytes w h others second in
     let gap : a.at_gap ≡ b.at_gap = ap (drop 2) (sym a.magic ∙ b.magic) in
     let at_width : a.at_width ≡ b.at_width = of_some a.at_width b.at_width (sym a.gap ∙ ap behind_gap gap ∙ b.gap) in
-    let at_height : a.at_height ≡ b.at_height = of_some a.at_height b.at_height (sym a.second_gap ∙ ap (λ (l : List ℕ). behind_gap (behind_digits l)) at_width ∙ b.second_gap) in
+    let at_height : a.at_height ≡ b.at_height =
+    of_some a.at_height b.at_height (sym a.second_gap ∙ ap (λ (l : List ℕ). behind_gap (behind_digits l)) at_width ∙ b.second_gap) in
     record {
       width_is = a.width_is ∙ ap (capped_from 0) at_width ∙ sym b.width_is;
       height_is = a.height_is ∙ ap (capped_from 0) at_height ∙ sym b.height_is;
       rest_is = of_pair a.space b.space rest others (sym a.behind ∙ ap behind_digits at_height ∙ b.behind);
     }
 
-same_limits : (width height w h : ℕ) → capped width ≡ capped w → capped height ≡ capped h → is_within_limits width height ≡ is_within_limits w h
+same_limits : (width height w h : ℕ) → capped width ≡ capped w → capped height ≡ capped h
+    → is_within_limits width height ≡ is_within_limits w h
 same_limits width height w h width_is height_is =
     sym (capped_limits width height)
     ∙ ap (λ n. is_within_limits n (capped height)) width_is
@@ -61,7 +64,8 @@ back_of a b c d len same =
 
 same_image : (image other : Image) → image.width ≡ other.width → image.rows ≡ other.rows → image ≡ other
 same_image image other width_is rows_are =
-    let first : image ≡ record { width = other.width; rows = image.rows } = ap (λ w. let i : Image = record { width = w; rows = image.rows } in i) width_is in
+    let first : image ≡ record { width = other.width; rows = image.rows } =
+    ap (λ w. let i : Image = record { width = w; rows = image.rows } in i) width_is in
     first ∙ ap (λ (r : List (List Colour)). let i : Image = record { width = other.width; rows = r } in i) rows_are
 
 pub one_image : (bytes : List ℕ) (image other : Image) (rest others : List ℕ) → IsImage bytes image rest → IsImage bytes other others
@@ -123,7 +127,8 @@ ends_are_one bytes end other (inl a) (inr b) = absurd (b.1 a.0)
 ends_are_one bytes end other (inr a) (inl b) = absurd (a.1 b.0)
 ends_are_one bytes end other (inr a) (inr b) = a.3 ∙ ap Some (one_fault bytes a.0 b.0 a.2 b.2) ∙ sym b.3
 
-end_is_no_image : (bytes : List ℕ) (end : Option PbmFault) (image : Image) (rest : List ℕ) → AreImages bytes [] end → IsImage bytes image rest → ⊥
+end_is_no_image : (bytes : List ℕ) (end : Option PbmFault) (image : Image) (rest : List ℕ) → AreImages bytes [] end
+    → IsImage bytes image rest → ⊥
 end_is_no_image bytes end image rest (inl a) is = image_has_bytes bytes image rest is a.0
 end_is_no_image bytes end image rest (inr a) is = no_fault bytes image rest a.0 is a.2
 

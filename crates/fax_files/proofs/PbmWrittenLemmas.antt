@@ -1,5 +1,6 @@
 -- Images that are written are read back.
-use Rattle.std.proofs.Common.{◌≡◌, ◌≢◌, ℕ, suc, ◌+◌, ◌-◌, ◌*◌, ◌/◌, ◌%◌, ◌^◌, ◌<◌, ◌≤◌, inl, true, ◌&&◌, List, [], ◌∷◌, ◌++◌, length, take, drop, None, refl, sym, ap, ◌∙◌, arith, append_assoc}
+use Rattle.std.proofs.Common.{◌≡◌, ◌≢◌, ℕ, suc, ◌+◌, ◌-◌, ◌*◌, ◌/◌, ◌%◌, ◌^◌, ◌<◌, ◌≤◌, inl, true, ◌&&◌, List, [], ◌∷◌, ◌++◌, length, take}
+use Rattle.std.proofs.Common.{drop, None, refl, sym, ap, ◌∙◌, arith, append_assoc}
 use Rattle.std.specs.Prelude.{codes, decimal}
 use Rattle.std.specs.List.{list_all, flat_map}
 use Rattle.std.proofs.lemmas.Bool.{and_from}
@@ -12,7 +13,8 @@ use Rattle.std.proofs.lemmas.List.FromFn.{length-map-range_with_len}
 use Rattle.std.proofs.Math.Seq.{take-append_seam, drop-append_seam}
 use Rattle.fax_bits.specs.declared.Colour.{Colour}
 use Rattle.fax_rows.specs.Packed.{packed_byte, packed_len, packed_row, unpacked_row, PackingUndoesUnpacking}
-use Rattle.fax_files.specs.Pbm.{Image, IsHead, IsImage, IsNumber, AreImages, is_digit, is_within_limits, spelled_number, head_bytes, image_bytes, pbm_of, raster_rows, raster_len}
+use Rattle.fax_files.specs.Pbm.{Image, IsHead, IsImage, IsNumber, AreImages, is_digit, is_within_limits, spelled_number, head_bytes}
+use Rattle.fax_files.specs.Pbm.{image_bytes, pbm_of, raster_rows, raster_len}
 use Rattle.fax_files.specs.PbmLaws.{AreOfWidth, IsWritableImage, AreWritableImages}
 
 -- decimals as they are written are a number
@@ -32,7 +34,8 @@ more_is_number n digits large is =
     let last_all : list_all is_digit (last ∷ []) ≡ true = ap (λ v. v && true) digit in (
       nonempty_push digits last,
       list_all-append is_digit digits (last ∷ []) ∙ and_from (list_all is_digit digits) (list_all is_digit (last ∷ [])) is.1 last_all,
-      (let spelled : spelled_number (digits ++ last ∷ []) ≡ 10 * spelled_number digits + (last - 48) = fold-append (λ number digit. 10 * number + (digit - 48)) 0 digits (last ∷ []) in omega (arith, is.2)),
+      (let spelled : spelled_number (digits ++ last ∷ []) ≡ 10 * spelled_number digits + (last - 48) =
+          fold-append (λ number digit. 10 * number + (digit - 48)) 0 digits (last ∷ []) in omega (arith, is.2)),
     )
 
 decimal_is_number : (n : ℕ) → n < 2 ^ 64 → IsNumber (decimal n) n
@@ -41,7 +44,8 @@ decimal_is_number = decimal_by_steps (λ n digits. IsNumber digits n) digit_is_n
 regroup : (a b c d e r : List ℕ) → (((((a ++ b) ++ c) ++ d) ++ e) ++ r) ≡ a ++ (b ++ (c ++ (d ++ (e ++ r))))
 regroup a b c d e r = simp append_assoc
 
-head_written : (width height : ℕ) (rest : List ℕ) → width < 2 ^ 64 → height < 2 ^ 64 → IsHead (head_bytes width height ++ rest) width height rest
+head_written : (width height : ℕ) (rest : List ℕ) → width < 2 ^ 64 → height < 2 ^ 64
+    → IsHead (head_bytes width height ++ rest) width height rest
 head_written width height rest width_small height_small = record {
   first_gap = 10 ∷ [];
   width_digits = decimal width;

@@ -1,5 +1,6 @@
 -- Bytes that stand at a place of a file.
-use Rattle.std.proofs.Common.{◌≡◌, ℕ, ◌+◌, ◌-◌, ◌^◌, ◌<◌, ◌≤◌, true, List, [], ◌∷◌, ◌++◌, length, take, drop, Some, refl, sym, ap, ◌∙◌, append_assoc, arith}
+use Rattle.std.proofs.Common.{◌≡◌, ℕ, ◌+◌, ◌-◌, ◌^◌, ◌<◌, ◌≤◌, true, List, [], ◌∷◌, ◌++◌, length, take, drop, Some, refl, sym, ap, ◌∙◌}
+use Rattle.std.proofs.Common.{append_assoc, arith}
 use Rattle.std.proofs.lemmas.List.{length-append, length-drop, length-take-le, take-append-drop, drop_at, drop-append-le}
 use Rattle.std.proofs.Math.Seq.{take-append_seam, take-append-add}
 use Rattle.std.proofs.lemmas.Bool.{le-leb}
@@ -107,7 +108,14 @@ slice_there bytes h = ap (take (length bytes)) (at_drop bytes h) ∙ take-append
 -- bytes that stand outside of a place to which four bytes are written stay
 pub length-patched : (file : List ℕ) (link n : ℕ) → link + 4 ≤ length file → length (with_four_at file link n) ≡ length file
 length-patched file link n le =
-    omega (arith, length-append (take link file ++ four n) (drop (link + 4) file), length-append (take link file) (four n), length-take-le link file (omega arith), length-drop (link + 4) file)
+    omega (
+      arith,
+      length-append (take link file ++ four n) (drop (link + 4) file),
+      length-append (take link file) (four n),
+      length-take-le
+          link file (omega arith),
+      length-drop (link + 4) file,
+    )
 
 -- what is written there stands there
 pub at_patch : (file : List ℕ) (link n : ℕ) → link + 4 ≤ length file → HasBytesAt (with_four_at file link n) link (four n)
@@ -131,7 +139,7 @@ at_before_patch {file} {p} bytes link n le h =
     let start : HasBytesAt (take link file) p bytes = record { before = h.before; after = _; there = front; place_is = h.place_is } in
     at_grown bytes (drop (link + 4) file) (at_grown bytes (four n) start)
 
--- bytes behind it stay too
+-- bytes after it stay too
 pub at_behind_patch : {file : List ℕ} {p : ℕ} (bytes : List ℕ) (link n : ℕ) → link + 4 ≤ p
     → HasBytesAt file p bytes → HasBytesAt (with_four_at file link n) p bytes
 at_behind_patch {file} {p} bytes link n le h =
@@ -141,7 +149,16 @@ at_behind_patch {file} {p} bytes link n le h =
     record {
       before = take link file ++ four n ++ drop (link + 4) h.before;
       after = h.after;
-      there = ap (λ (l : List ℕ). take link file ++ four n ++ l) back ∙ sym (append_assoc (take link file ++ four n) (drop (link + 4) h.before) (bytes ++ h.after));
+      there = ap (λ (l : List ℕ). take link file ++ four n ++ l) back
+          ∙ sym (append_assoc (take link file ++ four n) (drop (link + 4) h.before) (bytes ++ h.after));
       place_is =
-          omega (arith, h.place_is, length-append (take link file ++ four n) (drop (link + 4) h.before), length-append (take link file) (four n), length-take-le link file (omega (arith, inside)), length-drop (link + 4) h.before);
+          omega (
+            arith,
+            h.place_is,
+            length-append (take link file ++ four n) (drop (link + 4) h.before),
+            length-append (take link file)
+                (four n),
+            length-take-le link file (omega (arith, inside)),
+            length-drop (link + 4) h.before,
+          );
     }

@@ -1,5 +1,6 @@
 -- A page that is added to a file.
-use Rattle.std.proofs.Common.{◌≡◌, ℕ, ◌+◌, ◌-◌, ◌*◌, ◌%◌, ◌<◌, ◌≤◌, true, false, List, [], ◌∷◌, ◌++◌, length, take, drop, Vec, inl, inr, refl, sym, ap, ◌∙◌, arith, append_assoc}
+use Rattle.std.proofs.Common.{◌≡◌, ℕ, ◌+◌, ◌-◌, ◌*◌, ◌%◌, ◌<◌, ◌≤◌, true, false, List, [], ◌∷◌, ◌++◌, length, take, drop, Vec, inl, inr}
+use Rattle.std.proofs.Common.{refl, sym, ap, ◌∙◌, arith, append_assoc}
 use Rattle.std.specs.Prelude.{◌==◌, nat_le, if◌then◌else◌, replicate}
 use Rattle.std.specs.declared.alloc.Global.{Global}
 use Rattle.std.proofs.lemmas.Bool.{cases_eq, eq-eqb, ne_eqb, le-leb, lt-leb}
@@ -7,7 +8,8 @@ use Rattle.std.proofs.lemmas.List.{length-append, take-append-le, drop-append-le
 use Rattle.fax_files.specs.declared.PageForm.{PageForm}
 use Rattle.fax_files.specs.declared.written.Layout.{Layout}
 use Rattle.fax_files.specs.Page.{IsPageForm}
-use Rattle.fax_files.specs.Written.{max_file, to_link, to_offsets, four, offsets_from, lengths_of, one_or_place, joined_strips, directory_place, fields_of, fields_bytes, values_bytes, with_four_at, page_bytes, Written, with_page}
+use Rattle.fax_files.specs.Written.{max_file, to_link, to_offsets, four, offsets_from, lengths_of, one_or_place, joined_strips}
+use Rattle.fax_files.specs.Written.{directory_place, fields_of, fields_bytes, values_bytes, with_four_at, page_bytes, Written, with_page}
 use Rattle.fax_files.specs.Laws.{IsWritable}
 use Rattle.fax_files.specs.code.Writing.{contents, IsWriting, IsLayout, laid_out_fields, tail_bytes, page_end}
 use Rattle.fax_files.proofs.WritingLemmas.{length-contents}
@@ -96,11 +98,14 @@ module _ (bytes : List ℕ) (link total added end : ℕ) (form : PageForm) (stri
       place = laid.directory_is ∙ ap (λ (e : ℕ). e + e % 2) end_is
 
       fields_are : laid_out_fields at form
-          ≡ fields_of (directory_place (length bytes) (contents strips)) total added form (offsets_from (length bytes) (contents strips)) (lengths_of (contents strips))
+          ≡ fields_of (directory_place (length bytes) (contents strips)) total added form (offsets_from (length bytes) (contents strips))
+          (lengths_of (contents strips))
       fields_are =
           let offsets = laid.offsets_are ∙ offsets_value (length bytes) (at.directory + to_offsets) form.strips (contents strips) count in
-          let counts = laid.byte_counts_are ∙ lengths_value (length bytes) end (at.directory + to_offsets + 4 * form.strips) form.strips (contents strips) count end_is in
-          let offsets_len : length (offsets_from (length bytes) (contents strips)) ≡ form.strips = length-offsets_from (length bytes) (contents strips) ∙ count in
+          let counts = laid.byte_counts_are ∙ lengths_value (length bytes) end (at.directory + to_offsets + 4 * form.strips) form.strips
+          (contents strips) count end_is in
+          let offsets_len : length (offsets_from (length bytes) (contents strips)) ≡ form.strips =
+          length-offsets_from (length bytes) (contents strips) ∙ count in
           let counts_len : length (lengths_of (contents strips)) ≡ form.strips = length-lengths_of (contents strips) ∙ count in
           rw (laid.total_is, laid.number_is, offsets, counts, laid.strips_are, place, offsets_len, counts_len) refl
 
@@ -126,7 +131,8 @@ module _ (bytes : List ℕ) (link total added end : ℕ) (form : PageForm) (stri
       unfolding with_page
       new_link = ap (λ n. n + to_link) place
 
-      pub still_writing : (now : List ℕ) → now ≡ new.bytes → page_end (end + end % 2) form.strips ≤ max_file → IsWriting now (at.directory + to_link)
+      pub still_writing : (now : List ℕ) → now ≡ new.bytes → page_end (end + end % 2) form.strips ≤ max_file
+          → IsWriting now (at.directory + to_link)
       still_writing now now_is short = record {
         link_inside = rw now_is (omega (arith, size, laid.directory_is));
         limit = rw now_is (omega (arith, size, short));

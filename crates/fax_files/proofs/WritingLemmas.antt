@@ -1,5 +1,6 @@
 -- Parts of a page that are put one after the other.
-use Rattle.std.proofs.Common.{◌≡◌, ℕ, zero, suc, ◌+◌, ◌<◌, ◌≤◌, List, [], ◌∷◌, ◌++◌, length, take, get_or, Vec, refl, sym, ap, ◌∙◌, arith, append_assoc, append-nil}
+use Rattle.std.proofs.Common.{◌≡◌, ℕ, zero, suc, ◌+◌, ◌<◌, ◌≤◌, List, [], ◌∷◌, ◌++◌, length, take, get_or, Vec, refl, sym, ap, ◌∙◌, arith}
+use Rattle.std.proofs.Common.{append_assoc, append-nil}
 use Rattle.std.proofs.lemmas.List.{length-append}
 use Rattle.std.specs.declared.alloc.Global.{Global}
 use Rattle.fax_files.specs.Written.{four, array_bytes, longs, lengths_of, offsets_from, joined_strips}
@@ -38,11 +39,18 @@ offsets_from-push start (first ∷ strips) strip =
     (offsets_from-push (start + length first) strips strip ∙ ap (λ (m : ℕ). offsets_from (start + length first) strips ++ m ∷ []) n)
 
 -- the strips up to one are no longer than all
-joined-take : (strips : List (Vec ℕ Global)) (i : ℕ) → length (joined_strips (contents (take i strips))) ≤ length (joined_strips (contents strips))
+joined-take : (strips : List (Vec ℕ Global)) (i : ℕ)
+    → length (joined_strips (contents (take i strips))) ≤ length (joined_strips (contents strips))
 joined-take strips zero = omega arith
 joined-take [] (suc i) = omega arith
 joined-take (first ∷ strips) (suc i) =
-    omega (arith, joined-take strips i, length-append first.items (joined_strips (contents (take i strips))), length-append first.items (joined_strips (contents strips)))
+    omega (
+      arith,
+      joined-take strips i,
+      length-append first.items (joined_strips (contents (take i strips))),
+      length-append first.items
+          (joined_strips (contents strips)),
+    )
 
 -- what is put for strip i of these
 module _ (strips : List (Vec ℕ Global)) (i : ℕ) (strip : Vec ℕ Global) (lt : i < length strips) (is : strip ≡ get_or strips i strip) where
@@ -68,11 +76,11 @@ module _ (strips : List (Vec ℕ Global)) (i : ℕ) (strip : Vec ℕ Global) (lt
   pub within : length (joined_strips before) + length strip.items ≤ length (joined_strips (contents strips))
   within = omega (arith, end_of_strip, joined-take strips (i + 1))
 
--- what is put behind a part is put behind all before it
+-- what is put after a part is put after all before it
 pub put_behind : (now old part more : List ℕ) → now ≡ old ++ part → now ++ more ≡ old ++ (part ++ more)
 put_behind now old part more is = ap (λ (l : List ℕ). l ++ more) is ∙ append_assoc old part more
 
--- what stands behind the strips, part by part
+-- what stands after the strips, part by part
 pub tail_put : (t0 t1 t2 t3 t r f z x y a l : List ℕ) → t0 ≡ r → t1 ≡ t0 ++ f ++ z → t2 ≡ t1 ++ x → t3 ≡ t2 ++ y → t ≡ t3 ++ a ++ l
     → t ≡ r ++ (f ++ z ++ (x ++ y ++ a ++ l))
 tail_put t0 t1 t2 t3 t r f z x y a l e0 e1 e2 e3 e = rw (e, e3, e2, e1, e0) (simp append_assoc)
@@ -81,7 +89,7 @@ pub length-contents : (strips : List (Vec ℕ Global)) → length (contents stri
 length-contents [] = refl
 length-contents (first ∷ strips) = ap suc (length-contents strips)
 
--- numbers stand behind the directory where there is not one
+-- numbers stand after the directory where there is not one
 pub array_of_many : (numbers : List ℕ) → (length numbers ≡ 1 → ⊥) → array_bytes numbers ≡ longs numbers
 array_of_many [] many = refl
 array_of_many (n ∷ []) many = absurd (many refl)

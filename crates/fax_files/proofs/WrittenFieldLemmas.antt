@@ -35,8 +35,11 @@ all_fit (written ∷ fields) e =
     let both = and_parts (fits written) (list_all fits fields) e in
     let tag = and_parts _ _ both.0 in
     let kind = and_parts _ _ tag.1 in
-    let count = and_parts _ _ kind.1 in
-    (record { tag = ltb-true _ _ tag.0; kind = ltb-true _ _ kind.0; count = ltb-true _ _ count.0; value = eqb-true _ _ count.1 }, all_fit fields both.1)
+    let count = and_parts _ _ kind.1 in (
+      record { tag = ltb-true _ _ tag.0; kind = ltb-true _ _ kind.0; count = ltb-true _ _ count.0; value = eqb-true _ _ count.1 },
+      all_fit
+          fields both.1,
+    )
 
 -- the entry that is read of a field at a place
 abbrev pub read_field : ℕ → WrittenField → Entry
@@ -61,7 +64,13 @@ length-field_bytes written fits =
 pub length-fields : (fields : List WrittenField) → AllFit fields → length (flat_map field_bytes fields) ≡ 12 * length fields
 length-fields [] fit = refl
 length-fields (written ∷ fields) fit =
-    omega (arith, length-append (field_bytes written) (flat_map field_bytes fields), length-field_bytes written fit.0, length-fields fields fit.1)
+    omega (
+      arith,
+      length-append (field_bytes written) (flat_map field_bytes fields),
+      length-field_bytes written fit.0,
+      length-fields fields
+          fit.1,
+    )
 
 entry_there : (file : List ℕ) (p : ℕ) (written : WrittenField) → Fits written → HasBytesAt file p (field_bytes written)
     → entry_at Little file p ≡ read_field p written
@@ -86,7 +95,8 @@ unfolding entries_at
 entries_there file p [] fit h = (refl, tt)
 entries_there file p (written ∷ fields) fit h =
     let here = at_left (field_bytes written) (flat_map field_bytes fields) h in
-    let behind = at_place (ap (λ (n : ℕ). p + n) (length-field_bytes written fit.0)) (at_right (field_bytes written) (flat_map field_bytes fields) h) in
+    let behind = at_place (ap (λ (n : ℕ). p + n) (length-field_bytes written fit.0))
+    (at_right (field_bytes written) (flat_map field_bytes fields) h) in
     let rest = entries_there file (p + 12) fields fit.1 behind in
     (rw (entry_there file p written fit.0 here, rest.0) refl, (value_there file p written here, rest.1))
 
@@ -189,4 +199,5 @@ pub rational_back : (file : List ℕ) (place tag at_value : ℕ) (value : ℕ ×
 unfolding rational_of
 rational_back file place tag at_value value fields values found lt good stands =
     let there = field_there file place tag fields (rational_field tag at_value) values found in
-    rw (rational_of, there.entry_is) (rational_there file (there.at_entry + 8) tag at_value value.0 value.1 lt good.some_top good.top good.some_bottom good.bottom there.value_is stands)
+    rw (rational_of, there.entry_is) (rational_there file (there.at_entry + 8) tag at_value value.0 value.1 lt good.some_top good.top
+    good.some_bottom good.bottom there.value_is stands)

@@ -1,5 +1,6 @@
 -- A written file is read as the pages that were written.
-use Rattle.std.proofs.Common.{◌≡◌, ℕ, suc, ◌+◌, ◌%◌, ◌<◌, ◌≤◌, ◌⊎◌, inl, inr, true, false, List, [], ◌∷◌, ◌++◌, length, take, drop, None, Ok, refl, sym, ap, ◌∙◌, arith, ◌*◌}
+use Rattle.std.proofs.Common.{◌≡◌, ℕ, suc, ◌+◌, ◌%◌, ◌<◌, ◌≤◌, ◌⊎◌, inl, inr, true, false, List, [], ◌∷◌, ◌++◌, length, take, drop, None}
+use Rattle.std.proofs.Common.{Ok, refl, sym, ap, ◌∙◌, arith, ◌*◌}
 use Rattle.std.proofs.lemmas.List.{length-append, length-replicate}
 use Rattle.std.proofs.lemmas.Bool.{le-leb, lt-leb, ne_eqb}
 use Rattle.std.proofs.lemmas.List.Elements.{All-nil, All-cons, All-weaker}
@@ -11,9 +12,13 @@ use Rattle.fax_files.specs.Numbers.{is_inside, number_at}
 use Rattle.fax_files.specs.Directory.{is_directory, next_offset}
 use Rattle.fax_files.specs.Numbers.{endian_of, header}
 use Rattle.fax_files.specs.Chain.{IsChainFrom}
-use Rattle.fax_files.specs.Written.{to_link, to_x, to_offsets, two, four, offsets_from, lengths_of, fields_bytes, values_bytes, joined_strips, directory_place, page_bytes, with_four_at, Written, with_page, with_pages, WrittenPage, empty_file, file_of, longs, array_bytes, rational_bytes}
+use Rattle.fax_files.specs.Written.{to_link, to_x, to_offsets, two, four, offsets_from, lengths_of, fields_bytes, values_bytes}
+use Rattle.fax_files.specs.Written.{joined_strips, directory_place, page_bytes, with_four_at, Written, with_page, with_pages, WrittenPage}
+use Rattle.fax_files.specs.Written.{empty_file, file_of, longs, array_bytes, rational_bytes}
 use Rattle.fax_files.specs.Laws.{IsWritable, AreWritable, IsReadAt, AppendedPagesAreRead, WrittenFilesAreRead}
-use Rattle.fax_files.proofs.PlaceLemmas.{HasBytesAt, at_place, at_left, at_right, at_inside, at_drop, at_start, at_slice, length-slice, slice_there, at_end, at_grown, at_patch, at_before_patch, at_behind_patch, length-patched, number_there}
+use Rattle.fax_files.proofs.PlaceLemmas.{HasBytesAt, at_place, at_left, at_right, at_inside, at_drop, at_start, at_slice, length-slice}
+use Rattle.fax_files.proofs.PlaceLemmas.{slice_there, at_end, at_grown, at_patch, at_before_patch, at_behind_patch, length-patched}
+use Rattle.fax_files.proofs.PlaceLemmas.{number_there}
 use Rattle.fax_files.proofs.WrittenStripLemmas.{length-offsets_from, length-lengths_of, length-longs}
 use Rattle.fax_files.proofs.WrittenPageLemmas.{page_fields, IsPageAt, length-page_fields, page_back, directory_whole, next_there}
 
@@ -29,9 +34,10 @@ with_written old total k written = with_page old total k written.form written.st
 abbrev place_of : Written → WrittenPage → ℕ
 place_of old written = directory_place (length old.bytes) written.strips
 
--- what is written of a page stands behind what stood there
+-- what is written of a page stands after what stood there
 appended : (old : Written) (total k : ℕ) (written : WrittenPage) → HasOpenLink old
-    → HasBytesAt (with_written old total k written).bytes (length old.bytes) (page_bytes (length old.bytes) total k written.form written.strips)
+    → HasBytesAt (with_written old total k written).bytes (length old.bytes)
+    (page_bytes (length old.bytes) total k written.form written.strips)
 unfolding with_page
 appended old total k written open' =
     at_place (length-patched old.bytes old.link (place_of old written) (at_inside (four 0) open'))
@@ -43,15 +49,18 @@ record Appended (old new : Written) (total k : ℕ) (written : WrittenPage) : Ty
   new_link : new.link ≡ place_of old written + to_link
   is_open : HasOpenLink new
   old_link : HasBytesAt new.bytes old.link (four (place_of old written))
-  kept : (p : ℕ) (bytes : List ℕ) → (p + length bytes ≤ old.link) ⊎ (old.link + 4 ≤ p) → HasBytesAt old.bytes p bytes → HasBytesAt new.bytes p bytes
+  kept : (p : ℕ) (bytes : List ℕ) → (p + length bytes ≤ old.link) ⊎ (old.link + 4 ≤ p) → HasBytesAt old.bytes p bytes
+      → HasBytesAt new.bytes p bytes
 
 stays : (old : Written) (total k : ℕ) (written : WrittenPage) (p : ℕ) (bytes : List ℕ) → (p + length bytes ≤ old.link) ⊎ (old.link + 4 ≤ p)
     → HasBytesAt old.bytes p bytes → HasBytesAt (with_written old total k written).bytes p bytes
 unfolding with_page
 stays old total k written p bytes (inl before) h =
-    at_grown bytes (page_bytes (length old.bytes) total k written.form written.strips) (at_before_patch bytes old.link (place_of old written) before h)
+    at_grown bytes (page_bytes (length old.bytes) total k written.form written.strips)
+    (at_before_patch bytes old.link (place_of old written) before h)
 stays old total k written p bytes (inr behind) h =
-    at_grown bytes (page_bytes (length old.bytes) total k written.form written.strips) (at_behind_patch bytes old.link (place_of old written) behind h)
+    at_grown bytes (page_bytes (length old.bytes) total k written.form written.strips)
+    (at_behind_patch bytes old.link (place_of old written) behind h)
 
 linked : (old : Written) (total k : ℕ) (written : WrittenPage) → HasOpenLink old
     → HasBytesAt (with_written old total k written).bytes old.link (four (place_of old written))
@@ -81,7 +90,8 @@ is_appended old total k written open' w =
     let all = appended old total k written open' in
     let with_zero = at_left (strips ++ pad ++ fields ++ four 0) values all in
     let with_fields = at_left (strips ++ pad ++ fields) (four 0) with_zero in
-    let zero_place : start + length (strips ++ pad ++ fields) ≡ q + to_link = omega (arith, place, fields_len, length-append (strips ++ pad) fields) in
+    let zero_place : start + length (strips ++ pad ++ fields) ≡ q + to_link =
+    omega (arith, place, fields_len, length-append (strips ++ pad) fields) in
     let values_place : start + length (strips ++ pad ++ fields ++ four 0) ≡ q + to_x =
     omega (arith, zero_place, length-append (strips ++ pad ++ fields) (four 0)) in
     record {
@@ -123,10 +133,18 @@ length-with_page old total k written inside w =
     let values = values_bytes written.form offsets lengths in
     let patched = with_four_at old.bytes old.link q in
     let array = if nat_le (length written.strips) 1 then 0 else 4 * length written.strips in
-    let offsets_len : length (array_bytes offsets) ≡ array = length-array offsets ∙ ap (λ (n : ℕ). if nat_le n 1 then 0 else 4 * n) (length-offsets_from start written.strips) in
-    let lengths_len : length (array_bytes lengths) ≡ array = length-array lengths ∙ ap (λ (n : ℕ). if nat_le n 1 then 0 else 4 * n) (length-lengths_of written.strips) in
+    let offsets_len : length (array_bytes offsets) ≡ array =
+    length-array offsets ∙ ap (λ (n : ℕ). if nat_le n 1 then 0 else 4 * n) (length-offsets_from start written.strips) in
+    let lengths_len : length (array_bytes lengths) ≡ array =
+    length-array lengths ∙ ap (λ (n : ℕ). if nat_le n 1 then 0 else 4 * n) (length-lengths_of written.strips) in
     let values_len : length values ≡ 16 + array + array =
-    omega (arith, length-append (x ++ y ++ array_bytes offsets) (array_bytes lengths), length-append (x ++ y) (array_bytes offsets), offsets_len, lengths_len) in
+    omega (
+      arith,
+      length-append (x ++ y ++ array_bytes offsets) (array_bytes lengths),
+      length-append (x ++ y) (array_bytes offsets),
+      offsets_len,
+      lengths_len,
+    ) in
     omega (
       arith,
       length-append patched (strips ++ pad ++ fields ++ four 0 ++ values),
@@ -159,11 +177,12 @@ appended_pages_are_read old total k written open' w short =
       last =
           next_there new.bytes q (length old.bytes) total k written one.page_is
           ∙ number_there 4 (at_place one.new_link one.is_open) (omega arith);
-      read = page_back new.bytes q (length old.bytes) total k written (record { small = omega (arith, short); writable = w; here = one.page_is });
+      read = page_back new.bytes q (length old.bytes) total k written
+          (record { small = omega (arith, short); writable = w; here = one.page_is });
       is_open = record { inside = at_inside (four 0) one.is_open; zero = slice_there (four 0) one.is_open };
     }
 
--- a page behind other pages is the last one that is appended
+-- a page after other pages is the last one that is appended
 pub with_pages-push : (old : Written) (total k : ℕ) (pages : List WrittenPage) (written : WrittenPage)
     → with_pages old total k (pages ++ written ∷ []) ≡ with_written (with_pages old total k pages) total (k + length pages) written
 unfolding with_pages
@@ -210,8 +229,9 @@ stays_through old total k (written ∷ pages) open' w p bytes apart h =
     let before : p + length bytes ≤ (with_written old total k written).link = omega (arith, one.new_link, at_inside bytes h) in
     stays_through (with_written old total k written) total (k + 1) pages one.is_open w.1 p bytes (inl before) (one.kept p bytes apart h)
 
--- so does what was written of a page, whose link is behind all but its values
-page_stays : (old : Written) (total k : ℕ) (written : WrittenPage) (pages : List WrittenPage) → HasOpenLink old → IsWritable written → AreWritable pages
+-- so does what was written of a page, whose link is after all but its values
+page_stays : (old : Written) (total k : ℕ) (written : WrittenPage) (pages : List WrittenPage) → HasOpenLink old → IsWritable written
+    → AreWritable pages
     → IsPageAt (with_all (with_written old total k written) total (k + 1) pages) (place_of old written) (length old.bytes) total k written
 page_stays old total k written pages open' w rest =
     let one = is_appended old total k written open' w in
@@ -226,8 +246,9 @@ page_stays old total k written pages open' w rest =
       strips = keep (length old.bytes) (joined_strips written.strips) (inl (omega (arith, one.new_link))) one.page_is.strips;
     }
 
--- the file is read as these pages from its link on, behind these directories
-chain_through : (old : Written) (total k : ℕ) (pages : List WrittenPage) → HasOpenLink old → AreWritable pages → length (with_all old total k pages) < 4294967296
+-- the file is read as these pages from its link on, after these directories
+chain_through : (old : Written) (total k : ℕ) (pages : List WrittenPage) → HasOpenLink old → AreWritable pages
+    → length (with_all old total k pages) < 4294967296
     → (before : List ℕ) → All (λ o. o < length old.bytes) before
     → IsChainFrom Little (with_all old total k pages) before (number_at Little 4 (with_all old total k pages) old.link)
     (offsets_of old total k pages) None
@@ -243,17 +264,20 @@ chain_through old total k (written ∷ pages) open' w small before below =
     let inside = at_inside (four 0) open' in
     let here = page_stays old total k written pages open' w.0 w.1 in
     let behind = at_inside _ here.values in
-    let link = stays_through new total (k + 1) pages one.is_open w.1 old.link (four q) (inl (omega (arith, one.new_link, inside))) one.old_link in
+    let link =
+    stays_through new total (k + 1) pages one.is_open w.1 old.link (four q) (inl (omega (arith, one.new_link, inside))) one.old_link in
     let due : number_at Little 4 file old.link ≡ q = number_there 4 link (omega (arith, behind, small)) in
     let new_place : list_any (λ o. q == o) before ≡ false =
-    list_any_none (λ o. q == o) before (All-weaker (λ o. o < length old.bytes) (λ o. (q == o) ≡ false) (λ o lt. ne_eqb _ _ (λ e. absurd (omega (arith, e, lt)))) before below) in
+    list_any_none (λ o. q == o) before (All-weaker (λ o. o < length old.bytes) (λ o. (q == o) ≡ false)
+    (λ o lt. ne_eqb _ _ (λ e. absurd (omega (arith, e, lt)))) before below) in
     let some : (q == 0) ≡ false = ne_eqb _ _ (λ e. absurd (omega (arith, e, inside))) in
     let whole : is_directory Little file q ≡ true = directory_whole file q (length old.bytes) total k written here in
     let next : next_offset Little file q ≡ number_at Little 4 file new.link =
     next_there file q (length old.bytes) total k written here ∙ ap (number_at Little 4 file) (sym one.new_link) in
     let longer : q < length new.bytes = omega (arith, at_inside (four 0) one.is_open, one.new_link) in
     let all_below : All (λ o. o < length new.bytes) (q ∷ before) =
-    All-cons (λ o. o < length new.bytes) q before longer (All-weaker (λ o. o < length old.bytes) (λ o. o < length new.bytes) (λ o lt. omega (arith, lt, longer)) before below) in
+    All-cons (λ o. o < length new.bytes) q before longer (All-weaker (λ o. o < length old.bytes) (λ o. o < length new.bytes)
+    (λ o lt. omega (arith, lt, longer)) before below) in
     let rest = chain_through new total (k + 1) pages one.is_open w.1 small (q ∷ before) all_below in
     rw (due, next) (refl, rw (some, new_place, whole) refl, rest)
 
@@ -267,7 +291,8 @@ pages_through old total k (written ∷ pages) open' w small =
     let one = is_appended old total k written open' w.0 in
     let new = with_written old total k written in
     let here = page_stays old total k written pages open' w.0 w.1 in (
-      page_back (with_all new total (k + 1) pages) (place_of old written) (length old.bytes) total k written (record { small = small; writable = w.0; here = here }),
+      page_back (with_all new total (k + 1) pages) (place_of old written) (length old.bytes) total k written
+          (record { small = small; writable = w.0; here = here }),
       pages_through new total (k + 1) pages one.is_open w.1 small,
     )
 
@@ -282,15 +307,17 @@ header_there file long h some =
     let first : (number_at Little 4 file 4 == 0) ≡ false = ne_eqb _ _ some in
     rw (whole, letters, magic, first) refl
 
--- a file with pages behind a header
+-- a file with pages after a header
 first_there : (written : WrittenPage) (total k : ℕ) (pages : List WrittenPage) → AreWritable (written ∷ pages)
     → length (with_all empty_file total k (written ∷ pages)) < 4294967296
-    → (number_at Little 4 (with_all empty_file total k (written ∷ pages)) 4 ≡ 0 → ⊥) × (8 ≤ length (with_all empty_file total k (written ∷ pages)))
+    → (number_at Little 4 (with_all empty_file total k (written ∷ pages)) 4 ≡ 0 → ⊥)
+    × (8 ≤ length (with_all empty_file total k (written ∷ pages)))
 unfolding with_pages
 first_there written total k pages w small =
     let one = is_appended empty_file total k written (at_end (codes "II" ++ two 42) (four 0)) w.0 in
     let q = place_of empty_file written in
-    let link = stays_through (with_written empty_file total k written) total (k + 1) pages one.is_open w.1 4 (four q) (inl (omega (arith, one.new_link))) one.old_link in
+    let link = stays_through (with_written empty_file total k written) total (k + 1) pages one.is_open w.1 4 (four q)
+    (inl (omega (arith, one.new_link))) one.old_link in
     let here = page_stays empty_file total k written pages (at_end (codes "II" ++ two 42) (four 0)) w.0 w.1 in
     let behind = at_inside _ here.values in
     let due = number_there 4 link (omega (arith, behind, small)) in
@@ -304,7 +331,8 @@ written_files_are_read (written ∷ pages) some many w short =
     let file = file_of (written ∷ pages) in
     let small : length file < 4294967296 = omega (arith, short) in
     let open' : HasOpenLink empty_file = at_end (codes "II" ++ two 42) (four 0) in
-    let start = stays_through empty_file total 0 (written ∷ pages) open' w 0 (codes "II" ++ two 42) (inl (omega arith)) (at_start (codes "II" ++ two 42) (four 0)) in
+    let start = stays_through empty_file total 0 (written ∷ pages) open' w 0 (codes "II" ++ two 42) (inl (omega arith))
+    (at_start (codes "II" ++ two 42) (four 0)) in
     let first = first_there written total 0 pages w small in
     record {
       head = record { endian = Little; first = number_at Little 4 file 4 };

@@ -1,5 +1,6 @@
 -- A page that stands written in a file is read as it was written.
-use Rattle.std.proofs.Common.{◌≡◌, ◌≢◌, ℕ, zero, suc, ◌+◌, ◌-◌, ◌*◌, ◌^◌, ◌<◌, ◌≤◌, Bool, true, false, List, [], ◌∷◌, ◌++◌, length, get_or, Some, Result, Ok, Err, refl, sym, ap, ◌∙◌, arith}
+use Rattle.std.proofs.Common.{◌≡◌, ◌≢◌, ℕ, zero, suc, ◌+◌, ◌-◌, ◌*◌, ◌^◌, ◌<◌, ◌≤◌, Bool, true, false, List, [], ◌∷◌, ◌++◌, length, get_or}
+use Rattle.std.proofs.Common.{Some, Result, Ok, Err, refl, sym, ap, ◌∙◌, arith}
 use Rattle.std.proofs.lemmas.List.{length-append}
 use Rattle.std.proofs.lemmas.Bool.{le-leb, lt-ltb, ne_eqb, false≢true}
 use Rattle.std.proofs.lemmas.Grind.{div_ceil_times}
@@ -16,13 +17,18 @@ use Rattle.fax_files.specs.declared.Endian.TheVariants.{Little}
 use Rattle.fax_files.specs.Numbers.{is_inside, number_at, ◌>>=◌}
 use Rattle.fax_files.specs.Directory.{SHORT, entry_count, entries, is_directory, next_offset}
 use Rattle.fax_files.specs.declared.PageForm.{PageForm}
-use Rattle.fax_files.specs.Page.{page_size, pel_format, strip_rows, strip_count, are_exchanged, fill_order, t4_coding, page_coding, resolution, page}
+use Rattle.fax_files.specs.Page.{page_size, pel_format, strip_rows, strip_count, are_exchanged, fill_order, t4_coding, page_coding}
+use Rattle.fax_files.specs.Page.{resolution, page}
 use Rattle.fax_files.specs.StripBytes.{strip_bytes}
-use Rattle.fax_files.specs.Written.{field_count, to_link, to_x, to_y, to_offsets, two, WrittenField, short_field, field_bytes, compression_of, fill_order_of, options_field, offsets_from, lengths_of, array_bytes, rational_bytes, fields_of, fields_bytes, values_bytes, joined_strips, WrittenPage}
+use Rattle.fax_files.specs.Written.{field_count, to_link, to_x, to_y, to_offsets, two, WrittenField, short_field, field_bytes}
+use Rattle.fax_files.specs.Written.{compression_of, fill_order_of, options_field, offsets_from, lengths_of, array_bytes, rational_bytes}
+use Rattle.fax_files.specs.Written.{fields_of, fields_bytes, values_bytes, joined_strips, WrittenPage}
 use Rattle.fax_files.specs.Laws.{IsWritable, IsReadAt}
 use Rattle.fax_files.proofs.PlaceLemmas.{HasBytesAt, at_place, at_left, at_right, at_inside, number_there}
-use Rattle.fax_files.proofs.WrittenFieldLemmas.{AllFit, fits, all_fit, length-fields, read_fields, HasValues, written_field, entries_there, needed_long, needed_short, long_or, short_or, rational_back}
-use Rattle.fax_files.proofs.WrittenStripLemmas.{ArrayThere, array_back, array_checked, array_is_longs, length-longs, length-offsets_from, length-lengths_of, strip_there}
+use Rattle.fax_files.proofs.WrittenFieldLemmas.{AllFit, fits, all_fit, length-fields, read_fields, HasValues, written_field, entries_there}
+use Rattle.fax_files.proofs.WrittenFieldLemmas.{needed_long, needed_short, long_or, short_or, rational_back}
+use Rattle.fax_files.proofs.WrittenStripLemmas.{ArrayThere, array_back, array_checked, array_is_longs, length-longs, length-offsets_from}
+use Rattle.fax_files.proofs.WrittenStripLemmas.{length-lengths_of, strip_there}
 use Rattle.fax_files.specs.Tags
 
 -- the fields of page k of `total`, of which the strips begin at `start` and the directory stands at q
@@ -47,7 +53,8 @@ fields_fit Mmr aligned q total k form offsets lengths o l = rw (o, l) refl
 
 -- the last two fields
 abbrev last_fields : ℕ → ℕ → PageForm → List WrittenField
-last_fields total k form = short_field Tags.RESOLUTION_UNIT form.unit ∷ record { tag = Tags.PAGE_NUMBER; kind = SHORT; count = 2; value = two k ++ two total } ∷ []
+last_fields total k form =
+    short_field Tags.RESOLUTION_UNIT form.unit ∷ record { tag = Tags.PAGE_NUMBER; kind = SHORT; count = 2; value = two k ++ two total } ∷ []
 
 -- T4Options among fields, of which the one for options is the only one with its tag
 coding_from : (coding : Coding) (aligned : Bool) (file : List ℕ) (place : ℕ) (fields : List WrittenField) → HasValues file place fields
@@ -55,22 +62,28 @@ coding_from : (coding : Coding) (aligned : Bool) (file : List ℕ) (place : ℕ)
     → written_field fields Tags.T4_OPTIONS ≡ written_field (options_field coding aligned ∷ []) Tags.T4_OPTIONS
     → page_coding Little file (read_fields place fields) (compression_of coding) ≡ Ok (record { coding = coding; aligned = aligned })
 unfolding page_coding t4_coding
-coding_from Mh true file place fields values has_eols found = rw (long_or file place Tags.T4_OPTIONS 4 0 fields values found (omega arith)) refl
-coding_from Mh false file place fields values has_eols found = rw (long_or file place Tags.T4_OPTIONS 0 0 fields values found (omega arith)) refl
-coding_from Mr true file place fields values has_eols found = rw (long_or file place Tags.T4_OPTIONS 5 0 fields values found (omega arith)) refl
-coding_from Mr false file place fields values has_eols found = rw (long_or file place Tags.T4_OPTIONS 1 0 fields values found (omega arith)) refl
+coding_from Mh true file place fields values has_eols found =
+    rw (long_or file place Tags.T4_OPTIONS 4 0 fields values found (omega arith)) refl
+coding_from Mh false file place fields values has_eols found =
+    rw (long_or file place Tags.T4_OPTIONS 0 0 fields values found (omega arith)) refl
+coding_from Mr true file place fields values has_eols found =
+    rw (long_or file place Tags.T4_OPTIONS 5 0 fields values found (omega arith)) refl
+coding_from Mr false file place fields values has_eols found =
+    rw (long_or file place Tags.T4_OPTIONS 1 0 fields values found (omega arith)) refl
 coding_from Mmr true file place fields values has_eols found = absurd (has_eols refl refl)
 coding_from Mmr false file place fields values has_eols found = refl
 
 -- which it is
 options_found : (coding : Coding) (aligned : Bool) (total k : ℕ) (form : PageForm)
-    → written_field (options_field coding aligned ∷ last_fields total k form) Tags.T4_OPTIONS ≡ written_field (options_field coding aligned ∷ []) Tags.T4_OPTIONS
+    → written_field (options_field coding aligned ∷ last_fields total k form) Tags.T4_OPTIONS
+    ≡ written_field (options_field coding aligned ∷ []) Tags.T4_OPTIONS
 options_found Mh aligned total k form = refl
 options_found Mr aligned total k form = refl
 options_found Mmr aligned total k form = refl
 
 unit_found : (coding : Coding) (aligned : Bool) (total k : ℕ) (form : PageForm)
-    → written_field (options_field coding aligned ∷ last_fields total k form) Tags.RESOLUTION_UNIT ≡ Some (short_field Tags.RESOLUTION_UNIT form.unit)
+    → written_field (options_field coding aligned ∷ last_fields total k form) Tags.RESOLUTION_UNIT
+    ≡ Some (short_field Tags.RESOLUTION_UNIT form.unit)
 unit_found Mh aligned total k form = refl
 unit_found Mr aligned total k form = refl
 unit_found Mmr aligned total k form = refl
@@ -108,10 +121,13 @@ pub page_fits : (q start total k : ℕ) (written : WrittenPage) → IsWritable w
 page_fits q start total k written w =
     let many = strips_small written w in
     all_fit (page_fields q start total k written)
-    (fields_fit written.form.coding written.form.aligned q total k written.form (offsets_from start written.strips) (lengths_of written.strips)
-    (lt-ltb _ _ (omega (arith, many, length-offsets_from start written.strips))) (lt-ltb _ _ (omega (arith, many, length-lengths_of written.strips))))
+    (fields_fit written.form.coding written.form.aligned q total k written.form (offsets_from start written.strips)
+    (lengths_of written.strips)
+    (lt-ltb _ _ (omega (arith, many, length-offsets_from start written.strips)))
+    (lt-ltb _ _ (omega (arith, many, length-lengths_of written.strips))))
 
-pub length-page_fields : (q start total k : ℕ) (written : WrittenPage) → IsWritable written → length (fields_bytes (page_fields q start total k written)) ≡ to_link
+pub length-page_fields : (q start total k : ℕ) (written : WrittenPage) → IsWritable written
+    → length (fields_bytes (page_fields q start total k written)) ≡ to_link
 length-page_fields q start total k written w =
     let fields = page_fields q start total k written in
     omega (arith, length-append (two field_count) (flat_map field_bytes fields), length-fields fields (page_fits q start total k written w))
@@ -122,14 +138,15 @@ count_there : (file : List ℕ) (q start total k : ℕ) (written : WrittenPage) 
 count_there file q start total k written here =
     number_there 2 (at_left (two field_count) (flat_map field_bytes (page_fields q start total k written)) here.fields) (omega arith)
 
--- the parts of what stands behind a directory
+-- the parts of what stands after a directory
 record ValuesThere (file : List ℕ) (q : ℕ) (form : PageForm) (offsets lengths : List ℕ) : Type 0 where
   x : HasBytesAt file (q + to_x) (rational_bytes form.x)
   y : HasBytesAt file (q + to_y) (rational_bytes form.y)
   offsets_there : HasBytesAt file (q + to_offsets) (array_bytes offsets)
   lengths_there : HasBytesAt file (q + to_offsets + length (array_bytes offsets)) (array_bytes lengths)
 
-values_there : (file : List ℕ) (q : ℕ) (form : PageForm) (offsets lengths : List ℕ) → HasBytesAt file (q + to_x) (values_bytes form offsets lengths)
+values_there : (file : List ℕ) (q : ℕ) (form : PageForm) (offsets lengths : List ℕ)
+    → HasBytesAt file (q + to_x) (values_bytes form offsets lengths)
     → ValuesThere file q form offsets lengths
 values_there file q form offsets lengths h =
     let x = rational_bytes form.x in
@@ -139,7 +156,8 @@ values_there file q form offsets lengths h =
       x = at_left x y (at_left (x ++ y) (array_bytes offsets) front);
       y = at_place (omega arith) (at_right x y (at_left (x ++ y) (array_bytes offsets) front));
       offsets_there = at_place (omega arith) (at_right (x ++ y) (array_bytes offsets) front);
-      lengths_there = at_place (omega (arith, length-append (x ++ y) (array_bytes offsets))) (at_right (x ++ y ++ array_bytes offsets) (array_bytes lengths) h);
+      lengths_there = at_place (omega (arith, length-append (x ++ y) (array_bytes offsets)))
+          (at_right (x ++ y ++ array_bytes offsets) (array_bytes lengths) h);
     }
 
 some_from_product : (n a b : ℕ) → 1 ≤ a → a ≤ n * b → 1 ≤ n
@@ -218,9 +236,11 @@ module _ (file : List ℕ) (q start total k : ℕ) (written : WrittenPage) (know
   unfolding strip_rows
   rows_there =
       let w = known.writable in
-      let rows = long_or file (q + 2) Tags.ROWS_PER_STRIP written.form.rows_per_strip (2 ^ 32 - 1) fields values refl (omega (arith, w.limits.rows_per_strip, w.limits.rows)) in
+      let rows = long_or file (q + 2) Tags.ROWS_PER_STRIP written.form.rows_per_strip (2 ^ 32 - 1) fields values refl
+      (omega (arith, w.limits.rows_per_strip, w.limits.rows)) in
       let above : (written.form.rows_per_strip == 0) ≡ false = ne_eqb _ _ (λ e. absurd (omega (arith, e, w.limits.some_rows_per_strip))) in
-      let least : min written.form.rows_per_strip written.form.rows ≡ written.form.rows_per_strip = omega (arith, w.limits.rows_per_strip) in
+      let least : min written.form.rows_per_strip written.form.rows ≡ written.form.rows_per_strip =
+      omega (arith, w.limits.rows_per_strip) in
       rw (rows, above, least) refl
 
   coding_there : page_coding Little file entries_read (compression_of written.form.coding)
@@ -237,9 +257,12 @@ module _ (file : List ℕ) (q start total k : ℕ) (written : WrittenPage) (know
   resolution_there =
       let w = known.writable in
       let inside = at_inside (rational_bytes written.form.y) parts.y in
-      let x = rational_back file (q + 2) Tags.X_RESOLUTION (q + to_x) written.form.x fields values refl (omega (arith, inside, known.small)) w.limits.x parts.x in
-      let y = rational_back file (q + 2) Tags.Y_RESOLUTION (q + to_y) written.form.y fields values refl (omega (arith, inside, known.small)) w.limits.y parts.y in
-      let unit = short_or file (q + 2) Tags.RESOLUTION_UNIT written.form.unit 2 fields values (unit_found written.form.coding written.form.aligned total k written.form) (omega (arith, w.limits.unit)) in
+      let x = rational_back file (q + 2) Tags.X_RESOLUTION (q + to_x) written.form.x fields values refl (omega (arith, inside, known.small))
+      w.limits.x parts.x in
+      let y = rational_back file (q + 2) Tags.Y_RESOLUTION (q + to_y) written.form.y fields values refl (omega (arith, inside, known.small))
+      w.limits.y parts.y in
+      let unit = short_or file (q + 2) Tags.RESOLUTION_UNIT written.form.unit 2 fields values
+      (unit_found written.form.coding written.form.aligned total k written.form) (omega (arith, w.limits.unit)) in
       let unit_low : nat_le 1 written.form.unit ≡ true = le-leb _ _ w.limits.some_unit in
       let unit_high : nat_le written.form.unit 3 ≡ true = le-leb _ _ w.limits.unit in
       rw (x, y, unit, unit_low, unit_high) refl
@@ -258,7 +281,14 @@ module _ (file : List ℕ) (q start total k : ℕ) (written : WrittenPage) (know
       let lengths_len = length-lengths_of written.strips in
       let some = some_strips written known.writable in
       let place : 2 ≤ length lengths → q + to_offsets + length (array_bytes offsets) ≡ q + to_offsets + 4 * length lengths =
-      λ many. omega (arith, many, ap length (array_is_longs offsets (omega (arith, many, offsets_len, lengths_len))), length-longs offsets, offsets_len, lengths_len) in
+      λ many. omega (
+        arith,
+        many,
+        ap length (array_is_longs offsets (omega (arith, many, offsets_len, lengths_len))),
+        length-longs offsets,
+        offsets_len,
+        lengths_len,
+      ) in
       array_back file (q + 2) Tags.STRIP_BYTE_COUNTS (q + to_offsets + 4 * length lengths) lengths fields values refl
       (omega (arith, some, lengths_len)) known.small (λ many. at_place (place many) parts.lengths_there)
 
@@ -269,8 +299,10 @@ module _ (file : List ℕ) (q start total k : ℕ) (written : WrittenPage) (know
       let w = known.writable in
       let strips = strip_count written.form.rows written.form.rows_per_strip in
       let counted : strips ≡ length written.strips = sym w.limits.strips ∙ sym w.strips in
-      let offsets = array_checked file entries_read Tags.STRIP_OFFSETS strips _ offsets_there (counted ∙ sym (length-offsets_from start written.strips)) in
-      let lengths = array_checked file entries_read Tags.STRIP_BYTE_COUNTS strips _ lengths_there (counted ∙ sym (length-lengths_of written.strips)) in
+      let offsets = array_checked file entries_read Tags.STRIP_OFFSETS strips _ offsets_there
+      (counted ∙ sym (length-offsets_from start written.strips)) in
+      let lengths = array_checked file entries_read Tags.STRIP_BYTE_COUNTS strips _ lengths_there
+      (counted ∙ sym (length-lengths_of written.strips)) in
       let exchanged : false ≡ written.form.exchanged = sym w.exchanged in
       rw (what_is_read.0, size_there, format_there, rows_there, coding_there)
       (checked_on _ _ offsets ∙ checked_on _ _ lengths
@@ -281,7 +313,8 @@ module _ (file : List ℕ) (q start total k : ℕ) (written : WrittenPage) (know
   unfolding strip_bytes
   strip_back s lt =
       rw what_is_read.0
-      (strip_there file start entries_read written.strips s (omega (arith, lt, known.writable.strips)) known.small known.here.strips offsets_there lengths_there)
+      (strip_there file start entries_read written.strips s (omega (arith, lt, known.writable.strips)) known.small known.here.strips
+      offsets_there lengths_there)
 
   -- a page that stands in a file is read as it was written
   pub page_back : IsReadAt file q written

@@ -10,7 +10,8 @@ use Rattle.fax_files.specs.Directory.{LONG, field, needed}
 use Rattle.fax_files.specs.Directory.{values_place, value_at, has_integers}
 use Rattle.fax_files.specs.Page.{strip_field}
 use Rattle.fax_files.specs.StripBytes.{placed_bytes}
-use Rattle.fax_files.specs.Written.{four, WrittenField, long_field, offsets_from, lengths_of, longs, one_or_place, array_bytes, joined_strips}
+use Rattle.fax_files.specs.Written.{four, WrittenField, long_field, offsets_from, lengths_of, longs, one_or_place, array_bytes}
+use Rattle.fax_files.specs.Written.{joined_strips}
 use Rattle.fax_files.proofs.PlaceLemmas.{HasBytesAt, at_place, at_left, at_right, at_inside, number_there, bytes_there}
 use Rattle.fax_files.proofs.WrittenFieldLemmas.{read_fields, HasValues, written_field, field_there}
 use Rattle.fax_files.specs.Tags
@@ -19,7 +20,7 @@ use Rattle.fax_files.specs.Tags
 abbrev pub longs_entry : ℕ → ℕ → ℕ → Entry
 longs_entry tag count place = record { tag = tag; kind = LONG; count = count; place = place }
 
--- numbers stand where an entry has its values, in the entry or behind the directory
+-- numbers stand where an entry has its values, in the entry or after the directory
 array_there : (file : List ℕ) (p tag place : ℕ) (numbers : List ℕ) → 1 ≤ length numbers → length file < 4294967296
     → HasBytesAt file p (four (one_or_place numbers place)) → (2 ≤ length numbers → HasBytesAt file place (array_bytes numbers))
     → HasBytesAt file (values_place Little file (longs_entry tag (length numbers) p)) (longs numbers)
@@ -80,7 +81,8 @@ longs_inside file p tag numbers h =
     le-leb _ _ (omega (arith, at_inside (longs numbers) h, length-longs numbers)) in
     rw (enough, inside) refl
 
-pub array_checked : (file : List ℕ) (fields : List Entry) (tag n : ℕ) (numbers : List ℕ) → ArrayThere file fields tag numbers → n ≡ length numbers
+pub array_checked : (file : List ℕ) (fields : List Entry) (tag n : ℕ) (numbers : List ℕ) → ArrayThere file fields tag numbers
+    → n ≡ length numbers
     → IsOk (strip_field Little file fields tag n)
 unfolding strip_field
 array_checked file fields tag n numbers array count =
@@ -116,13 +118,17 @@ strip_length (strip ∷ strips) zero = refl
 strip_length (strip ∷ strips) (suc s) = strip_length strips s
 
 -- a strip is found by the entries of the offsets and of the byte counts
-pub strip_there : (file : List ℕ) (start : ℕ) (fields : List Entry) (strips : List (List ℕ)) (s : ℕ) → s < length strips → length file < 4294967296
-    → HasBytesAt file start (joined_strips strips) → ArrayThere file fields Tags.STRIP_OFFSETS (offsets_from start strips) → ArrayThere file fields Tags.STRIP_BYTE_COUNTS (lengths_of strips)
+pub strip_there : (file : List ℕ) (start : ℕ) (fields : List Entry) (strips : List (List ℕ)) (s : ℕ) → s < length strips
+    → length file < 4294967296
+    → HasBytesAt file start (joined_strips strips) → ArrayThere file fields Tags.STRIP_OFFSETS (offsets_from start strips)
+    → ArrayThere file fields Tags.STRIP_BYTE_COUNTS (lengths_of strips)
     → placed_bytes Little file (field fields Tags.STRIP_OFFSETS) (field fields Tags.STRIP_BYTE_COUNTS) s ≡ Some (get_or strips s [])
 strip_there file start fields strips s lt small stand offsets lengths =
     let here = strip_at file start strips s lt stand in
     let inside = at_inside (get_or strips s []) here in
     let len = strip_length strips s in
-    let offset = long_value file offsets.at_entry Tags.STRIP_OFFSETS (offsets_from start strips) s (omega (arith, lt, length-offsets_from start strips)) (omega (arith, inside, small)) offsets.stands in
-    let count = long_value file lengths.at_entry Tags.STRIP_BYTE_COUNTS (lengths_of strips) s (omega (arith, lt, length-lengths_of strips)) (omega (arith, inside, small, len)) lengths.stands in
+    let offset = long_value file offsets.at_entry Tags.STRIP_OFFSETS (offsets_from start strips) s
+    (omega (arith, lt, length-offsets_from start strips)) (omega (arith, inside, small)) offsets.stands in
+    let count = long_value file lengths.at_entry Tags.STRIP_BYTE_COUNTS (lengths_of strips) s (omega (arith, lt, length-lengths_of strips))
+    (omega (arith, inside, small, len)) lengths.stands in
     rw (offsets.entry_is, lengths.entry_is, offset, count, len) (bytes_there (get_or strips s []) here)

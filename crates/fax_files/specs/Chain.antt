@@ -7,7 +7,7 @@ use Rattle.fax_files.specs.declared.FileFault.TheVariants.{DirectoryOutside, Dir
 use Rattle.fax_files.specs.Numbers.{Header}
 use Rattle.fax_files.specs.Directory.{is_directory, next_offset}
 
--- How the chain ends at the offset that is due, behind these directories: properly where it is 0,
+-- How the chain ends at the offset that is due, after these directories: properly where it is 0,
 -- else with the fault of an offset that stands among them already, or at which no whole directory
 -- stands. None where it goes on (TIFF 6.0, section 2)
 abbrev pub chain_stop : Endian → List ℕ → List ℕ → ℕ → Option (Option FileFault)
@@ -16,7 +16,7 @@ chain_stop endian file before due =
     else (if list_any (λ q. due == q) before then (Some (Some DirectoryLoop))
     else (if is_directory endian file due then None else (Some (Some DirectoryOutside))))
 
--- from the offset that is due on, behind these directories, the last one first, the chain goes over
+-- from the offset that is due on, after these directories, the last one first, the chain goes over
 -- these offsets to this end (TIFF 6.0, section 2)
 abbrev pub IsChainFrom : Endian → List ℕ → List ℕ → ℕ → List ℕ → Option FileFault → Type 0
 IsChainFrom endian file before due [] end = chain_stop endian file before due ≡ Some end

@@ -24,7 +24,7 @@ strip_form form s = record {
   aligned = form.aligned;
 }
 
--- From strip s on the page has these strips, each a list of rows. The end is none behind the last
+-- From strip s on the page has these strips, each a list of rows. The end is none after the last
 -- strip, else StripOutside at a strip's first row or the cause at the row of a strip that is not
 -- there. (TIFF 6.0, StripOffsets, StripByteCounts and RowsPerStrip)
 abbrev pub AreStrips : Endian → List ℕ → ℕ → PageForm → ℕ → List (List (List Colour)) → Option Cause
@@ -48,7 +48,7 @@ joined strips = flat_map (λ rows. rows) strips
 abbrev pub shown : PageForm → List (List Colour) → List (List Colour)
 shown form rows = if form.exchanged then map (map other) rows else rows
 
--- the rows of the page at q, and the cause at the row behind them where they are not all
+-- the rows of the page at q, and the cause at the row after them where they are not all
 -- (TIFF 6.0, RowsPerStrip)
 pub record ArePageRows (endian : Endian) (file : List ℕ) (q : ℕ) (form : PageForm)
     (rows : List (List Colour)) (end : Option Cause) : Type 0 where

@@ -35,7 +35,7 @@ IsPiece piece =
     × IsTrue (is_line_end c)
     × (piece ≡ 35 ∷ text ++ c ∷ []))
 
--- pieces one behind another
+-- pieces one after another
 abbrev pub ArePieces : List (List ℕ) → List ℕ → Type 0
 ArePieces [] gap = gap ≡ []
 ArePieces (piece ∷ pieces) gap =

@@ -20,7 +20,7 @@ abbrev pub AreWritableImages : List Image → Type 0
 AreWritableImages [] = Unit {0}
 AreWritableImages (image ∷ images) = IsWritableImage image × AreWritableImages images
 
--- images that are written are read back, and nothing else behind them (the netpbm format, P4)
+-- images that are written are read back, and nothing else after them (the netpbm format, P4)
 abbrev pub WrittenImagesAreRead : Type 0
 WrittenImagesAreRead =
     (images : List Image) → AreWritableImages images → AreImages (pbm_of images) images None

@@ -142,7 +142,7 @@ fields_bytes fields = two (length fields) ++ flat_map field_bytes fields
 abbrev pub rational_bytes : ℕ × ℕ → List ℕ
 rational_bytes value = four value.0 ++ four value.1
 
--- the values that stand behind the directory: resolutions, and offsets and byte counts of more than
+-- the values that stand after the directory: resolutions, and offsets and byte counts of more than
 -- one strip
 abbrev pub values_bytes : PageForm → List ℕ → List ℕ → List ℕ
 values_bytes form offsets lengths =
@@ -162,7 +162,7 @@ with_four_at file place n = take place file ++ four n ++ drop (place + 4) file
 abbrev pub joined_strips : List (List ℕ) → List ℕ
 joined_strips strips = flat_map (λ strip. strip) strips
 
--- the place of the directory of a page whose strips begin at `start`: behind the strips, at an even
+-- the place of the directory of a page whose strips begin at `start`: after the strips, at an even
 -- place
 abbrev pub directory_place : ℕ → List (List ℕ) → ℕ
 directory_place start strips =

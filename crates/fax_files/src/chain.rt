@@ -27,7 +27,7 @@ enum Search {
     Known(Option<u32>),
 }
 
-/// The offset behind the directory at an offset, or none where no directory stands.
+/// The offset after the directory at an offset, or none where no directory stands.
 fn onward(tiff: &Tiff, offset: u32) -> Option<u32>
     ensures { result ≡ Spec.onward tiff.now.head.endian tiff.now.file offset }
 {
@@ -48,7 +48,7 @@ fn has_few_pages(tiff: &Tiff, file: &[u8])
     let _first = tiff.first();
 }
 
-/// The offset due behind the first directories of a chain.
+/// The offset due after the first directories of a chain.
 fn place_behind(tiff: &Tiff, pages: u64) -> u32
     requires { (i : ℕ) → i < pages → LeadsOn tiff.now i }
     ensures { result ≡ place tiff.now pages }
@@ -110,7 +110,7 @@ fn turning_from(tiff: &Tiff, start: u64, kept: u32) -> u32
     (page + round.len) as u32
 }
 
-/// The search behind one more directory, behind which this offset is due.
+/// The search after one more directory, after which this offset is due.
 fn search_on(tiff: &Tiff, search: Search, given: u32, due: u32) -> Search
     requires search { Spec.IsSearch tiff.now given search }
     requires due { due ≡ place tiff.now (given + 1) }
@@ -133,7 +133,7 @@ fn search_on(tiff: &Tiff, search: Search, given: u32, due: u32) -> Search
     Search::Running(fast)
 }
 
-/// Whether it is known that the chain turns back behind so many directories.
+/// Whether it is known that the chain turns back after so many directories.
 fn turns_at(search: Search, given: u32) -> bool
     ensures { result ≡ Spec.turns_at search given }
 {
@@ -201,7 +201,7 @@ impl<'a> Chain<'a> {
         self.given
     }
 
-    /// The directory that is due, or none behind the last one.
+    /// The directory that is due, or none after the last one.
     ///
     /// # Errors
     ///
@@ -220,7 +220,7 @@ impl<'a> Chain<'a> {
         Ok(Some(self.tiff.directory(self.due)?))
     }
 
-    /// Hands out the next directory, or none behind the last one, from then on.
+    /// Hands out the next directory, or none after the last one, from then on.
     ///
     /// # Errors
     ///

@@ -30,7 +30,7 @@ pub fn written_rows_are_read()
     ensures { Laws.WrittenRowsAreRead }
 {}
 
-/// Images that are written are read back, and a proper end behind them (the netpbm format, P4).
+/// Images that are written are read back, and a proper end after them (the netpbm format, P4).
 pub fn written_images_are_read()
     ensures { PbmLaws.WrittenImagesAreRead }
 {

@@ -163,7 +163,7 @@ pub struct PageForm {
     pub coding: Coding,
     /// Which bit of a byte is first.
     pub order: FillOrder,
-    /// Whether each EOL ends on a byte boundary of its strip, behind fill (TIFF 6.0, T4Options):
+    /// Whether each EOL ends on a byte boundary of its strip, after fill (TIFF 6.0, T4Options):
     /// false in MMR, which has no EOLs. Rows are read in the same way either way.
     pub aligned: bool,
     /// Whether black is coded as white, and white as black.

@@ -75,7 +75,7 @@ fn begins_piece(byte: u8) -> bool
     byte == b'#' || is_white_space(byte)
 }
 
-/// What stands behind white space and comments, if anything does.
+/// What stands after white space and comments, if anything does.
 fn behind_pieces(bytes: &[u8]) -> Option<&[u8]>
     ensures some { IfSome result (λ rest. Spec.behind_pieces false bytes.now ≡ Some rest.now) }
     ensures none { IfNone result (Spec.behind_pieces false bytes.now ≡ None) }
@@ -93,7 +93,7 @@ fn behind_pieces(bytes: &[u8]) -> Option<&[u8]>
     None
 }
 
-/// What stands behind a gap, which is white space or a comment or more of them.
+/// What stands after a gap, which is white space or a comment or more of them.
 fn behind_gap(bytes: &[u8]) -> Option<&[u8]>
     ensures some { IfSome result (λ rest. Spec.behind_gap bytes.now ≡ Some rest.now) }
     ensures none { IfNone result (Spec.behind_gap bytes.now ≡ None) }
@@ -104,7 +104,7 @@ fn behind_gap(bytes: &[u8]) -> Option<&[u8]>
     behind_pieces(bytes)
 }
 
-/// The number that the digits ahead spell, or `OVER` where it is larger, and what stands behind it.
+/// The number that the digits ahead spell, or `OVER` where it is larger, and what stands after it.
 fn number(bytes: &[u8]) -> Option<(u32, &[u8])>
     ensures number { IfSome result (λ found. found.0 ≡ Spec.capped_from 0 bytes.now) }
     ensures behind { IfSome result (λ found. found.1.now ≡ Spec.behind_digits bytes.now) }
@@ -124,7 +124,7 @@ fn number(bytes: &[u8]) -> Option<(u32, &[u8])>
     Some((number, &bytes[bytes.len()..]))
 }
 
-/// An image's header, and what stands behind it. A number above its limit is a number above it.
+/// An image's header, and what stands after it. A number above its limit is a number above it.
 #[derive(Drop)]
 struct Head<'a> {
     width: u32,
@@ -199,7 +199,7 @@ fn is_within_limits(width: u32, height: u32) -> bool
     (1..=65_535).contains(&width) && (1..=1_000_000).contains(&height)
 }
 
-/// The image at the start of the bytes, and what stands behind it.
+/// The image at the start of the bytes, and what stands after it.
 fn read_image(bytes: &[u8]) -> Result<(PbmImage<'_>, &[u8]), PbmFault>
     ensures ok { IfOk result (λ found. Pbm.IsImage bytes.now
         (Spec.image_of found.0.width found.0.rows found.0.raster.now) found.1.now) }
@@ -252,7 +252,7 @@ impl<'a> PbmReader<'a> {
         }
     }
 
-    /// The image at the start of the bytes that are left, which then begin behind it, or none where
+    /// The image at the start of the bytes that are left, which then begin after it, or none where
     /// no bytes are left.
     ///
     /// # Errors
@@ -306,7 +306,7 @@ pub fn put_pbm_head(out: &mut Vec<u8>, width: u32, rows: u32) -> Result<(), Memo
 }
 
 /// Appends the bytes of a row: eight pels in a byte, the leftmost in its highest bit, where 1 is
-/// black and the bits behind the last pel are 0.
+/// black and the bits after the last pel are 0.
 ///
 /// # Errors
 ///

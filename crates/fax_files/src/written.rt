@@ -267,7 +267,7 @@ fn put_strips(out: &mut Vec<u8>, strips: &[Vec<u8>]) -> Result<(), AllocError>
     Ok(())
 }
 
-/// The bytes of a page that stand behind its strips, which begin at `start` and end at `end`: a
+/// The bytes of a page that stand after its strips, which begin at `start` and end at `end`: a
 /// zero byte to an even place, the directory, and the values that do not fit it.
 pub fn page_tail(
     alloc: Global,
@@ -332,7 +332,7 @@ pub fn laid_out(strips: u32, start: u32, end: u32, number: u16, total: u16) -> L
     }
 }
 
-/// Appends strips and what stands behind them, for which memory is reserved at once. Where it is
+/// Appends strips and what stands after them, for which memory is reserved at once. Where it is
 /// refused, what stood there stays in front.
 pub fn append(bytes: &mut Vec<u8>, strips: &[Vec<u8>], tail: &[u8]) -> Result<(), AllocError>
     ensures ok { OnOk result (bytes.new.items
@@ -351,7 +351,7 @@ fn set_four(bytes: &mut [u8], place: usize, n: u32)
     bytes[place..place + 4].copy_from_slice(&four_bytes(n));
 }
 
-/// The place behind strips that begin at a place, if it is within the limit of a file.
+/// The place after strips that begin at a place, if it is within the limit of a file.
 pub fn strips_end(start: u32, strips: &[Vec<u8>]) -> Option<u32>
     requires { start ≤ max_file }
     ensures found { IfSome result (λ end. end

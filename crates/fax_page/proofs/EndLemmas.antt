@@ -1,5 +1,6 @@
--- What stands behind the last row of a strip.
-use Rattle.std.proofs.Common.{◌≡◌, ◌≢◌, ℕ, zero, suc, ◌+◌, ◌<◌, ◌⊎◌, ◌↔◌, List, [], ◌∷◌, ◌++◌, length, replicate, get_or, Bool, true, false, IsTrue, Option, Some, None, MatchOption, not, is_some, refl, ap, sym, ◌∙◌, subst, arith, inl, inr}
+-- What stands after the last row of a strip.
+use Rattle.std.proofs.Common.{◌≡◌, ◌≢◌, ℕ, zero, suc, ◌+◌, ◌<◌, ◌⊎◌, ◌↔◌, List, [], ◌∷◌, ◌++◌, length, replicate, get_or, Bool, true, false}
+use Rattle.std.proofs.Common.{IsTrue, Option, Some, None, MatchOption, not, is_some, refl, ap, sym, ◌∙◌, subst, arith, inl, inr}
 use Rattle.std.specs.List.{Contains}
 use Rattle.std.proofs.lemmas.List.Elements.{Contains-append_right}
 use Rattle.fax_bits.specs.Bits.{IsAllZeros, HasZerosAhead, code_bits}
@@ -14,7 +15,7 @@ use Rattle.fax_page.specs.code.Starts.{HasEol, HasNoEol}
 use Rattle.fax_page.specs.code.Notes.{AreEolsTaken, IsBehind, TakesReturnEol, AreNotesBehind}
 use Rattle.fax_page.proofs.StartLaws.{same_eol, eol_is_not_zeros, eol_is_not_below}
 
--- a 1 behind zeros is among the bits
+-- a 1 after zeros is among the bits
 pub contains_one : (b : List Bool) (zeros : ℕ) → HasZerosAhead b zeros → Contains b true
 contains_one b zeros ahead =
     subst (λ c. Contains c true) (sym ahead.1)
@@ -41,7 +42,8 @@ eol_taken b rest (inl eol) = eol
 eol_taken b rest (inr none) = absurd (cc (none.0))
 
 -- an EOL of a return to control is taken in one way
-same_return_eol : (coding : Coding) (b rest remaining : List Bool) → IsReturnEol coding b rest → IsReturnEol coding b remaining → rest ≡ remaining
+same_return_eol : (coding : Coding) (b rest remaining : List Bool) → IsReturnEol coding b rest → IsReturnEol coding b remaining
+    → rest ≡ remaining
 same_return_eol Mh b rest remaining first second = same_eol b rest remaining first second
 same_return_eol Mr b rest remaining first second =
     let same = same_eol b (true ∷ rest) (true ∷ remaining) first second in cc same
@@ -91,19 +93,21 @@ all_of coding b ahead (suc left) none onward = absurd (omega (arith, none))
 pub all_taken : (coding : Coding) (b ahead : List Bool) (i : ℕ) → i ≡ 6 → AreEolsTaken coding b i ahead → AreReturnEols coding 6 b ahead
 all_taken coding b ahead i all taken = all_of coding b ahead taken.left (omega (arith, taken.count, all)) taken.onward
 
--- an end mark was found or not, and a 1 behind it or behind the last row
+-- an end mark was found or not, and a 1 after it or after the last row
 pub record IsEndFound (coding : Coding) (left : List Bool) (ended more : Bool) : Type 0 where
   pub behind : List Bool
   pub behind_end : IsBehindEnd coding left behind
   pub mark : IsTrue ended ↔ HasEndMark coding left
   pub one : IsTrue more ↔ Contains behind true
 
-pub one_found : (b : List Bool) (zeros : Option ℕ) → MatchOption zeros (IsAllZeros b) (HasZerosAhead b) → IsTrue (is_some zeros) ↔ Contains b true
+pub one_found : (b : List Bool) (zeros : Option ℕ) → MatchOption zeros (IsAllZeros b) (HasZerosAhead b)
+    → IsTrue (is_some zeros) ↔ Contains b true
 one_found b None all = (λ is. absurd (cc is), λ has. absurd (contains_none b all has))
 one_found b (Some zeros) ahead = (λ is. contains_one b zeros ahead, λ has. refl)
 
--- the same as the program finds it: behind the end mark
-pub end_found : (coding : Coding) (left behind : List Bool) (zeros : Option ℕ) (more : Bool) (found : Bool × Bool) → IsEndMark coding left behind
+-- the same as the program finds it: after the end mark
+pub end_found : (coding : Coding) (left behind : List Bool) (zeros : Option ℕ) (more : Bool) (found : Bool × Bool)
+    → IsEndMark coding left behind
     → MatchOption zeros (IsAllZeros behind) (HasZerosAhead behind) → more ≡ is_some zeros → found ≡ (true, more)
     → IsEndFound coding left found.0 found.1
 end_found coding left behind zeros more found mark ahead more_is found_is =
@@ -115,7 +119,7 @@ end_found coding left behind zeros more found mark ahead more_is found_is =
       one = subst (λ m. IsTrue m ↔ Contains behind true) (sym more_is) (one_found behind zeros ahead);
     })
 
--- or behind the last row
+-- or after the last row
 pub no_end_found : (coding : Coding) (left : List Bool) (zeros : Option ℕ) (more : Bool) (found : Bool × Bool)
     → ((rest : List Bool) → IsEndMark coding left rest → ⊥) → MatchOption zeros (IsAllZeros left) (HasZerosAhead left)
     → more ≡ is_some zeros → found ≡ (false, more) → IsEndFound coding left found.0 found.1
@@ -141,7 +145,13 @@ not_mmr coding (inr is) other = cc
 
 -- the notes by them: in MH and MR
 pub notes_of_eols : (coding : Coding) (left : List Bool) (ended more other : Bool) → IsMhOrMr coding → IsEndFound coding left ended more
-    → AreNotesBehind coding left other (record { no_end_of_block = false; return_to_control = ended; data_after_end = more; not_t4_choice = other })
+    → AreNotesBehind coding left other (record {
+      no_end_of_block = false;
+      return_to_control = ended;
+      data_after_end = more;
+      not_t4_choice =
+          other;
+    })
 notes_of_eols coding left ended more other either found = record {
   behind = found.behind;
   behind_end = found.behind_end;
@@ -153,7 +163,13 @@ notes_of_eols coding left ended more other either found = record {
 
 -- and in MMR
 pub notes_of_block : (coding : Coding) (left : List Bool) (ended more other : Bool) → coding ≡ Mmr → IsEndFound coding left ended more
-    → AreNotesBehind coding left other (record { no_end_of_block = not ended; return_to_control = false; data_after_end = more; not_t4_choice = other })
+    → AreNotesBehind coding left other (record {
+      no_end_of_block = not ended;
+      return_to_control = false;
+      data_after_end =
+          more;
+      not_t4_choice = other;
+    })
 notes_of_block coding left ended more other is_mmr found =
     let same = is_not ended (HasEndMark coding left) found.mark in
     record {
@@ -181,12 +197,13 @@ pub block_end : (coding : Coding) (b rest : List Bool) → coding ≡ Mmr → b 
 block_end coding b rest is taken =
     subst (λ c. IsEndMark c b rest) (sym is) (taken ∙ ap (λ front. front ++ rest) block_bits)
 
-pub no_block_end : (coding : Coding) (b rest : List Bool) → coding ≡ Mmr → (BeginsWith b (code_bits 24 4097) → ⊥) → IsEndMark coding b rest → ⊥
+pub no_block_end : (coding : Coding) (b rest : List Bool) → coding ≡ Mmr → (BeginsWith b (code_bits 24 4097) → ⊥) → IsEndMark coding b rest
+    → ⊥
 no_block_end coding b rest is none mark =
     let block = subst (λ c. IsEndMark c b rest) is mark in
     none (rest, block ∙ ap (λ front. front ++ rest) (sym block_bits))
 
--- an EOL and a bit behind it, as the program takes them
+-- an EOL and a bit after it, as the program takes them
 pub no_return_eol : (coding : Coding) (b rest : List Bool) (fault : StripFault) → HasNoEol false b fault → IsReturnEol coding b rest → ⊥
 no_return_eol Mh b rest fault none eol = no_eol b rest fault none eol
 no_return_eol Mr b rest fault none eol = no_eol b (true ∷ rest) fault none eol

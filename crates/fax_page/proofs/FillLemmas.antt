@@ -1,5 +1,6 @@
 -- Fill before an EOL.
-use Rattle.std.proofs.Common.{◌≡◌, ℕ, zero, suc, ◌+◌, ◌<◌, ◌≤◌, ◌^◌, List, ◌∷◌, ◌++◌, length, replicate, Bool, true, false, nat_eq, sym, ap, ◌∙◌, subst, arith, append_assoc}
+use Rattle.std.proofs.Common.{◌≡◌, ℕ, zero, suc, ◌+◌, ◌<◌, ◌≤◌, ◌^◌, List, ◌∷◌, ◌++◌, length, replicate, Bool, true, false, nat_eq, sym, ap}
+use Rattle.std.proofs.Common.{◌∙◌, subst, arith, append_assoc}
 use Rattle.std.proofs.Math.Nat.{pow-le-pow_right}
 use Rattle.std.proofs.lemmas.Nat.Bits.{bit_at_above}
 use Rattle.std.proofs.lemmas.List.{replicate-append-replicate}
@@ -14,7 +15,7 @@ fits_more n len number fits =
     let more : 2 ^ len ≤ 2 ^ (len + n) = pow-le-pow_right (omega arith) (omega arith) in
     omega (arith, fits, more)
 
--- the bits of a number behind zeros
+-- the bits of a number after zeros
 pub code_bits-behind_zeros : (n len number : ℕ) → number < 2 ^ len
     → code_bits (len + n) number ≡ replicate n false ++ code_bits len number
 unfolding code_bits
@@ -38,7 +39,7 @@ end_of_line_back n tail codes more =
     ∙ ap (λ (b : List Bool). b ++ true ∷ rest) (replicate-append-replicate n 11 false) in
     (n + 11, omega arith, parts ∙ zeros)
 
--- bits that a number spells are put behind fill
+-- bits that a number spells are put after fill
 pub put_behind_fill : (old new : Sink) (aligned : Bool) (place fill len number : ℕ) (start : List Bool) → place ≡ length old.bits
     → fill ≡ fill_zeros aligned place → number < 2 ^ len → code_bits len number ≡ start
     → Appends old (code_bits (len + fill) number) new

@@ -1,5 +1,6 @@
 -- The codes of a row begin with fewer than eleven zeros and a 1.
-use Rattle.std.proofs.Common.{◌≡◌, ℕ, zero, suc, ◌<◌, List, [], ◌∷◌, ◌++◌, length, get_or, map, Bool, true, false, refl, ap, sym, subst, arith, None, Some}
+use Rattle.std.proofs.Common.{◌≡◌, ℕ, zero, suc, ◌<◌, List, [], ◌∷◌, ◌++◌, length, get_or, map, Bool, true, false, refl, ap, sym, subst}
+use Rattle.std.proofs.Common.{arith, None, Some}
 use Rattle.std.specs.Prelude.{◌&&◌}
 use Rattle.fax_bits.specs.declared.codes.CodeEntry.{CodeEntry}
 use Rattle.fax_bits.specs.declared.Colour.{Colour}
@@ -62,12 +63,14 @@ taken_begins table b meaning rest all taken =
     subst BeginsBelowEleven (sym taken.spelled)
     (ahead_of 11 (bits_of taken.entry) rest (one_at table taken.listed.0 taken.entry all taken.listed.1 taken.listed.2))
 
-run_begins : (make_up : List ℕ) (last : ℕ) (b rest : List Bool) → Spells (run_table White) b (map MakeUp make_up ++ Terminating last ∷ []) rest
+run_begins : (make_up : List ℕ) (last : ℕ) (b rest : List Bool)
+    → Spells (run_table White) b (map MakeUp make_up ++ Terminating last ∷ []) rest
     → BeginsBelowEleven b
 run_begins [] last b rest spelled = taken_begins (run_table White) b (Terminating last) spelled.0 all_have_one-white spelled.1
 run_begins (n ∷ make_up) last b rest spelled = taken_begins (run_table White) b (MakeUp n) spelled.0 all_have_one-white spelled.1
 
-runs_begin : (width : ℕ) (row : List Colour) (runs : List ℕ) (b rest : List Bool) → 0 < width → row ≡ pels_of White runs → length row ≡ width
+runs_begin : (width : ℕ) (row : List Colour) (runs : List ℕ) (b rest : List Bool) → 0 < width → row ≡ pels_of White runs
+    → length row ≡ width
     → AreRuns White b runs rest → BeginsBelowEleven b
 runs_begin width row [] b rest some pels whole coded =
     absurd (omega (arith, ap (λ (xs : List Colour). length xs) pels, whole, some))
@@ -83,7 +86,8 @@ steps_begin reference b (next ∷ positions) last rest steps ends =
     taken_begins modes b steps.2.mode steps.2.behind all_have_one-modes steps.2.taken
 
 -- the codes of a row of at least one pel
-pub row_begins : (dimension : Dimension) (width : ℕ) (reference : List Colour) (b : List Bool) (row : List Colour) (rest : List Bool) → 0 < width
+pub row_begins : (dimension : Dimension) (width : ℕ) (reference : List Colour) (b : List Bool) (row : List Colour) (rest : List Bool)
+    → 0 < width
     → IsRowIn dimension width reference b row rest → BeginsBelowEleven b
 row_begins OneDimensional width reference b row rest some is =
     runs_begin width row is.runs b rest some is.pels is.whole is.coded

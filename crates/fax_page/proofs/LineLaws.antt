@@ -8,11 +8,13 @@ use Rattle.fax_page.specs.declared.Dimension.{Dimension}
 use Rattle.fax_page.specs.declared.Dimension.TheVariants.{OneDimensional, TwoDimensional}
 use Rattle.fax_page.specs.declared.StripForm.{StripForm}
 use Rattle.fax_page.specs.declared.StripFault.{StripFault}
-use Rattle.fax_page.specs.Lines.{BeginsBelowEleven, IsStart, IsFirstCodeFault, IsRowIn, IsRowFaultIn, IsNoFirstCode, IsStopInCodes, strip_fault}
+use Rattle.fax_page.specs.Lines.{BeginsBelowEleven, IsStart, IsFirstCodeFault, IsRowIn, IsRowFaultIn, IsNoFirstCode, IsStopInCodes}
+use Rattle.fax_page.specs.Lines.{strip_fault}
 use Rattle.fax_page.specs.Laws.{ReadsLinesOneWay, IsOneLine, IsLineOrCause, IsNoCauseOfLine, IsOneCause}
-use Rattle.fax_page.proofs.StartLaws.{one_start, start_or_fault, start_has_no_fault, one_start_fault, first_code_or_fault, first_code_has_no_fault, one_first_code_fault}
+use Rattle.fax_page.proofs.StartLaws.{one_start, start_or_fault, start_has_no_fault, one_start_fault, first_code_or_fault}
+use Rattle.fax_page.proofs.StartLaws.{first_code_has_no_fault, one_first_code_fault}
 
--- what holds of the codes behind one start holds of those behind another
+-- what holds of the codes after one start holds of those after another
 same_codes : (form : StripForm) (i : ℕ) (b : List Bool) (dimension another : Dimension) (codes others : List Bool)
     → IsStart form.coding i b dimension codes → IsStart form.coding i b another others
     → (P : Dimension → List Bool → Type 0) → P another others → P dimension codes
@@ -22,7 +24,8 @@ same_codes form i b dimension another codes others first second P holds =
 
 module _ (rows : (width : ℕ) → ReadsRowsOneWay width) (rows_over : (reference : List Colour) → ReadsRowsOverOneWay reference) where
   -- the codes of a row, by how it is coded
-  one_row : (dimension : Dimension) (width : ℕ) (reference : List Colour) (b : List Bool) (row another : List Colour) (rest remaining : List Bool)
+  one_row : (dimension : Dimension) (width : ℕ) (reference : List Colour) (b : List Bool) (row another : List Colour)
+      (rest remaining : List Bool)
       → IsRowIn dimension width reference b row rest → IsRowIn dimension width reference b another remaining
       → (row ≡ another) × (rest ≡ remaining)
   one_row OneDimensional width reference = (rows width).one_row
@@ -34,7 +37,8 @@ module _ (rows : (width : ℕ) → ReadsRowsOneWay width) (rows_over : (referenc
   row_or_fault OneDimensional width reference = (rows width).row_or_fault
   row_or_fault TwoDimensional width reference = (rows_over reference).row_or_fault
 
-  row_has_no_fault : (dimension : Dimension) (width : ℕ) (reference : List Colour) (b : List Bool) (row : List Colour) (rest : List Bool) (fault : RowFault)
+  row_has_no_fault : (dimension : Dimension) (width : ℕ) (reference : List Colour) (b : List Bool) (row : List Colour) (rest : List Bool)
+      (fault : RowFault)
       → IsRowIn dimension width reference b row rest → IsRowFaultIn dimension width reference b fault → ⊥
   row_has_no_fault OneDimensional width reference = (rows width).row_has_no_fault
   row_has_no_fault TwoDimensional width reference = (rows_over reference).row_has_no_fault

@@ -1,5 +1,6 @@
 -- A strip that is read for its notes, row by row.
-use Rattle.std.proofs.Common.{◌≡◌, ℕ, ◌+◌, ◌<◌, ◌↔◌, List, [], ◌∷◌, ◌++◌, length, Bool, true, false, IsTrue, refl, ap, sym, ◌∙◌, subst, arith, append_assoc, append-nil, length-append, inl, inr, Option, Some, None}
+use Rattle.std.proofs.Common.{◌≡◌, ℕ, ◌+◌, ◌<◌, ◌↔◌, List, [], ◌∷◌, ◌++◌, length, Bool, true, false, IsTrue, refl, ap, sym, ◌∙◌, subst}
+use Rattle.std.proofs.Common.{arith, append_assoc, append-nil, length-append, inl, inr, Option, Some, None}
 use Rattle.fax_bits.specs.declared.Colour.{Colour}
 use Rattle.fax_bits.specs.code.Source.{BeginsWith}
 use Rattle.fax_rows.specs.Elements.{HasWidth}
@@ -23,7 +24,8 @@ use Rattle.fax_page.proofs.StartLaws.{one_start}
 
 -- what follows the codes that T.4 chooses is what follows the row
 module _ (one : OneDimensionalBitsAreOneRow) (two : TwoDimensionalBitsAreOneRow) where
-  same_rest : (dimension : Dimension) (width : ℕ) (reference codes_row : List Colour) (codes rest more : List Bool) → HasWidth codes_row → length codes_row ≡ width
+  same_rest : (dimension : Dimension) (width : ℕ) (reference codes_row : List Colour) (codes rest more : List Bool) → HasWidth codes_row
+      → length codes_row ≡ width
       → length reference ≡ width → IsRowIn dimension width reference codes codes_row rest
       → codes ≡ row_bits dimension reference codes_row ++ more → more ≡ rest
   same_rest OneDimensional width reference row codes rest more fits is_width reference_width read is =
@@ -35,7 +37,8 @@ module _ (one : OneDimensionalBitsAreOneRow) (two : TwoDimensionalBitsAreOneRow)
       (subst (λ b. IsTwoDimensionalRow reference b row rest) is read)).1
 
   -- a row that was read, and whether the codes that T.4 chooses begin where its codes do
-  pub line_read : (form : StripForm) (i : ℕ) (reference row : List Colour) (b codes rest put : List Bool) (dimension : Dimension) (chosen : Bool)
+  pub line_read : (form : StripForm) (i : ℕ) (reference row : List Colour) (b codes rest put : List Bool) (dimension : Dimension)
+      (chosen : Bool)
       → HasWidth row → length row ≡ form.width → length reference ≡ form.width → IsBegin form i b dimension codes
       → IsRowIn dimension form.width reference codes row rest → put ≡ row_bits dimension reference row
       → IsTrue chosen ↔ BeginsWith codes put → IsLineRead form i reference b row rest chosen
@@ -54,12 +57,14 @@ module _ (one : OneDimensionalBitsAreOneRow) (two : TwoDimensionalBitsAreOneRow)
 
 module _ (reads : (form : StripForm) (i : ℕ) (reference : List Colour) → ReadsLinesOneWay form i reference) where
   -- a row is chosen by one reading of it where it is by another, and the same rest follows
-  record IsSameLine (form : StripForm) (i : ℕ) (reference row : List Colour) (b rest remaining : List Bool) (line : IsLine form i reference b row rest)
+  record IsSameLine (form : StripForm) (i : ℕ) (reference row : List Colour) (b rest remaining : List Bool)
+      (line : IsLine form i reference b row rest)
       (other : IsLine form i reference b row remaining) : Type 0 where
     same_behind : rest ≡ remaining
     chosen : IsChosen line.dimension reference line.codes row rest → IsChosen other.dimension reference other.codes row remaining
 
-  same_line : (form : StripForm) (i : ℕ) (reference row : List Colour) (b rest remaining : List Bool) (line : IsLine form i reference b row rest)
+  same_line : (form : StripForm) (i : ℕ) (reference row : List Colour) (b rest remaining : List Bool)
+      (line : IsLine form i reference b row rest)
       (other : IsLine form i reference b row remaining) → IsSameLine form i reference row b rest remaining line other
   same_line form i reference row b rest remaining line other =
       let start = one_start form.coding i b line.dimension other.dimension line.codes other.codes line.begin.start other.begin.start in
@@ -84,7 +89,8 @@ module _ (reads : (form : StripForm) (i : ℕ) (reference : List Colour) → Rea
     found = λ is more. onto more (found chosen kept is read.choice more);
     onward = λ more has. onto more (so_far.onward (row ∷ more) (rest, read.line, inr has));
     back = λ more has.
-        elim (so_far.back (row ∷ more) (subst (λ rows. HasOtherChoice form 0 (white_row form.width) b rows) (append_assoc so_far.before (row ∷ []) more) has)) [
+        elim (so_far.back (row ∷ more) (subst (λ rows. HasOtherChoice form 0 (white_row form.width) b rows)
+        (append_assoc so_far.before (row ∷ []) more) has)) [
           | inl is ↦ inl (stays chosen marked kept is)
           | inr here ↦
               let same = same_line form i reference row left rest here.0 read.line here.1 in
@@ -128,12 +134,13 @@ none_read form b = record {
   back = λ more has. inr has;
 }
 
--- the rows so far, and an end behind them
+-- the rows so far, and an end after them
 stopped : (form : StripForm) (b left : List Bool) (i : ℕ) (reference : List Colour) (other : Bool) (end : Option StripFault)
     (so_far : AreRowsRead form b i reference left other) → EndsAt form i reference left end
     → AreLines form 0 (white_row form.width) b so_far.before end left
 stopped form b left i reference other end so_far stop =
-    subst (λ rows. AreLines form 0 (white_row form.width) b rows end left) (append-nil so_far.before) (so_far.lines [] end left (refl, stop))
+    subst (λ rows. AreLines form 0 (white_row form.width) b rows end left) (append-nil so_far.before)
+    (so_far.lines [] end left (refl, stop))
 
 -- a row that cannot be read
 fault_met : (form : StripForm) (b left : List Bool) (i : ℕ) (reference : List Colour) (other : Bool) (fault : StripFault) (row : ℕ)

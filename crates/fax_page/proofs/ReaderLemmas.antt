@@ -1,5 +1,6 @@
 -- A strip that is read row by row.
-use Rattle.std.proofs.Common.{◌≡◌, ℕ, ◌<◌, List, [], ◌∷◌, ◌++◌, Option, Some, None, Err, refl, sym, ap, ◌∙◌, subst, append_assoc, append-nil, inl, inr}
+use Rattle.std.proofs.Common.{◌≡◌, ℕ, ◌<◌, List, [], ◌∷◌, ◌++◌, Option, Some, None, Err, refl, sym, ap, ◌∙◌, subst, append_assoc}
+use Rattle.std.proofs.Common.{append-nil, inl, inr}
 use Rattle.fax_bits.specs.declared.Colour.{Colour}
 use Rattle.fax_bits.specs.Bits.{bits}
 use Rattle.fax_page.specs.declared.StripForm.{StripForm}
@@ -26,7 +27,7 @@ row_read_on start rows old new so_far reads = record {
       (so_far.followed (new.reference ∷ more) end left (bits_left new, due, line, behind));
 }
 
--- the rows so far, and an end behind them
+-- the rows so far, and an end after them
 stopped_on : (start : StripState) (rows : List (List Colour)) (state : StripState) (end : Option StripFault) → HasReadFrom start rows state
     → EndsAt start.form state.row state.reference (bits_left state) end
     → AreLines start.form start.row start.reference (bits_left start) rows end (bits_left state)
@@ -83,13 +84,15 @@ from_beginning form bytes rows state so_far =
 pub begins_so : (read : ℕ) (form : StripForm) (bytes : List ℕ) → HasRead form bytes [] (strip_behind read form bytes)
 begins_so read form bytes = record { same_form = refl; same_bytes = refl; followed = λ more end left lines. lines }
 
-pub row_read : (form : StripForm) (bytes : List ℕ) (rows : List (List Colour)) (old new : StripState) → HasRead form bytes rows old → ReadsRow old new
+pub row_read : (form : StripForm) (bytes : List ℕ) (rows : List (List Colour)) (old new : StripState) → HasRead form bytes rows old
+    → ReadsRow old new
     → HasRead form bytes (rows ++ new.reference ∷ []) new
 row_read form bytes rows old new so_far reads =
     let on = row_read_on (strip_behind 0 form bytes) rows old new (from_beginning form bytes rows old so_far) reads in
     record { same_form = on.same_form; same_bytes = on.same_bytes; followed = on.followed }
 
-pub ended : (form : StripForm) (bytes : List ℕ) (rows : List (List Colour)) (old new : StripState) → HasRead form bytes rows old → IsAtEnd old new
+pub ended : (form : StripForm) (bytes : List ℕ) (rows : List (List Colour)) (old new : StripState) → HasRead form bytes rows old
+    → IsAtEnd old new
     → IsStrip form (bits form.order bytes) rows None
 ended form bytes rows old new so_far at_end = record {
   left = bits_left old;

@@ -1,5 +1,6 @@
--- Behind a row of a strip stands a rest of the bits that it began in.
-use Rattle.std.proofs.Common.{◌≡◌, ℕ, ◌+◌, ◌*◌, ◌≤◌, List, [], ◌∷◌, ◌++◌, length, drop, map, replicate, Bool, true, false, refl, ap, sym, ◌∙◌, subst, arith, append_assoc, length-append, length-drop, inl, inr}
+-- After a row of a strip stands a rest of the bits that it began in.
+use Rattle.std.proofs.Common.{◌≡◌, ℕ, ◌+◌, ◌*◌, ◌≤◌, List, [], ◌∷◌, ◌++◌, length, drop, map, replicate, Bool, true, false, refl, ap, sym}
+use Rattle.std.proofs.Common.{◌∙◌, subst, arith, append_assoc, length-append, length-drop, inl, inr}
 use Rattle.std.proofs.Math.Seq.{drop-append_seam}
 use Rattle.std.proofs.lemmas.List.{drop-drop}
 use Rattle.fax_bits.specs.declared.codes.CodeEntry.{CodeEntry}
@@ -38,10 +39,12 @@ onwards b middle rest first second = record {
   parts = first.parts ∙ ap (λ c. first.front ++ c) second.parts ∙ sym (append_assoc first.front second.front rest);
 }
 
-taken_rest : {M : Type 0} (table : List (CodeEntry M)) (b : List Bool) (meaning : M) (rest : List Bool) → Takes table b meaning rest → EndsWith b rest
+taken_rest : {M : Type 0} (table : List (CodeEntry M)) (b : List Bool) (meaning : M) (rest : List Bool) → Takes table b meaning rest
+    → EndsWith b rest
 taken_rest table b meaning rest taken = record { front = bits_of taken.entry; parts = taken.spelled }
 
-spelled_rest : {M : Type 0} (table : List (CodeEntry M)) (meanings : List M) (b rest : List Bool) → Spells table b meanings rest → EndsWith b rest
+spelled_rest : {M : Type 0} (table : List (CodeEntry M)) (meanings : List M) (b rest : List Bool) → Spells table b meanings rest
+    → EndsWith b rest
 spelled_rest table [] b rest spelled = same b rest spelled
 spelled_rest table (meaning ∷ meanings) b rest spelled =
     onwards b spelled.0 rest (taken_rest table b meaning spelled.0 spelled.1) (spelled_rest table meanings spelled.0 rest spelled.2)
@@ -84,7 +87,8 @@ eol_rest b rest eol = record {
   parts = eol.2 ∙ sym (append_assoc (replicate eol.0 false) (true ∷ []) rest);
 }
 
-start_rest : (coding : Coding) (i : ℕ) (b : List Bool) (dimension : Dimension) (rest : List Bool) → IsStart coding i b dimension rest → EndsWith b rest
+start_rest : (coding : Coding) (i : ℕ) (b : List Bool) (dimension : Dimension) (rest : List Bool) → IsStart coding i b dimension rest
+    → EndsWith b rest
 start_rest Mh i b dimension rest start =
     elim start.1 [ inl eol ↦ eol_rest b rest eol | inr none ↦ same b rest none.2 ]
 start_rest Mr i b dimension rest start =
@@ -115,7 +119,7 @@ source_goes_on order bytes place old new here rest same_end =
     ∙ drop-drop (length rest.front) place b ∙ ap (λ n. drop n b) further in
     ap (λ (c : List Bool). record { left = c; place = new.place }) is
 
--- behind a row, the source stands in the bits of the bytes where the row's rest begins
+-- after a row, the source stands in the bits of the bytes where the row's rest begins
 pub row_behind : (form : StripForm) (i : ℕ) (reference row : List Colour) (bytes : List ℕ) (place behind : ℕ) (old new : Source)
     → old ≡ source_of form.order bytes place → IsLine form i reference old.left row new.left
     → new.place + length new.left ≡ old.place + length old.left → behind ≡ new.place → new ≡ source_of form.order bytes behind
@@ -131,7 +135,7 @@ line_between form i reference row bytes place behind old new here there line =
     subst (λ (s : Source). IsLine form i reference s.left row (drop behind (bits form.order bytes))) here
     (subst (λ (s : Source). IsLine form i reference old.left row s.left) there line)
 
--- behind a row, the place still lies in the bytes
+-- after a row, the place still lies in the bytes
 pub placed_behind : (order : FillOrder) (bytes : List ℕ) (place behind : ℕ) (old new : Source)
     → length (bits order bytes) ≡ 8 * length bytes → place ≤ 8 * length bytes → old ≡ source_of order bytes place
     → new.place + length new.left ≡ old.place + length old.left → behind ≡ new.place → behind ≤ 8 * length bytes

@@ -1,5 +1,6 @@
 -- What stands before a row, and where its first code is due, is read in one way.
-use Rattle.std.proofs.Common.{◌≡◌, ℕ, zero, suc, ◌<◌, ◌≤◌, List, [], ◌∷◌, ◌++◌, length, replicate, Bool, true, false, refl, ap, sym, ◌∙◌, arith, inl, inr}
+use Rattle.std.proofs.Common.{◌≡◌, ℕ, zero, suc, ◌<◌, ◌≤◌, List, [], ◌∷◌, ◌++◌, length, replicate, Bool, true, false, refl, ap, sym, ◌∙◌}
+use Rattle.std.proofs.Common.{arith, inl, inr}
 use Rattle.std.specs.Prelude.{◌⊎◌}
 use Rattle.std.proofs.lemmas.Bool.{cases_lt}
 use Rattle.std.proofs.lemmas.List.{length-replicate}
@@ -13,7 +14,7 @@ use Rattle.fax_page.specs.declared.StripFault.TheVariants.{DataEnds, MissingEol,
 use Rattle.fax_page.specs.Lines.{tag_bit, IsEndOfLine, BeginsBelowEleven, IsStart, IsStartFault, IsFirstCodeFault}
 use Rattle.fax_page.proofs.StartLemmas.{eleven_ahead, eleven_alone}
 
--- a 1 behind zeros stands at one place
+-- a 1 after zeros stands at one place
 same_ahead : (n m : ℕ) (b c : List Bool) → replicate n false ++ true ∷ b ≡ replicate m false ++ true ∷ c → (n ≡ m) × (b ≡ c)
 same_ahead zero zero b c h = (refl, cc)
 same_ahead zero (suc m) b c h = cc
@@ -35,7 +36,7 @@ zeros_before zero m b c h = omega arith
 zeros_before (suc n) zero b c h = cc
 zeros_before (suc n) (suc m) b c h = omega (arith, zeros_before n m b c cc)
 
--- bits are zeros, or have a 1 behind zeros
+-- bits are zeros, or have a 1 after zeros
 zeros_or_one : (b : List Bool) → IsAllZeros b ⊎ ((zeros : ℕ) × HasZerosAhead b zeros)
 zeros_or_one [] = inl (0, refl)
 zeros_or_one (true ∷ b) = inr (0, (b, refl))
@@ -188,7 +189,8 @@ marker_is_not_short behind zeros few h =
     omega (arith, ap (λ (c : List Bool). length c) h, length-replicate zeros false)
 
 -- and one fault
-pub one_first_code_fault : (b : List Bool) (fault another : StripFault) → IsFirstCodeFault b fault → IsFirstCodeFault b another → fault ≡ another
+pub one_first_code_fault : (b : List Bool) (fault another : StripFault) → IsFirstCodeFault b fault → IsFirstCodeFault b another
+    → fault ≡ another
 one_first_code_fault b fault another (inl marker) (inl other) = marker.2 ∙ sym other.2
 one_first_code_fault b fault another (inl marker) (inr short) =
     absurd (marker_is_not_short marker.0 short.0 short.1 (sym marker.1 ∙ short.2))

@@ -1,5 +1,6 @@
 -- A row of a strip that is put, and a strip that is finished.
-use Rattle.std.proofs.Common.{◌≡◌, ℕ, suc, ◌+◌, ◌<◌, List, [], ◌∷◌, ◌++◌, length, replicate, Bool, false, refl, sym, ap, ◌∙◌, subst, arith, append_assoc, append-nil, length-append}
+use Rattle.std.proofs.Common.{◌≡◌, ℕ, suc, ◌+◌, ◌<◌, List, [], ◌∷◌, ◌++◌, length, replicate, Bool, false, refl, sym, ap, ◌∙◌, subst, arith}
+use Rattle.std.proofs.Common.{append_assoc, append-nil, length-append}
 use Rattle.std.specs.Prelude.{All}
 use Rattle.fax_bits.specs.declared.Colour.{Colour}
 use Rattle.fax_bits.specs.declared.FillOrder.{FillOrder}
@@ -13,7 +14,7 @@ use Rattle.fax_page.specs.Strip.{white_row}
 use Rattle.fax_page.specs.CodedStrip.{written_dimension, start_bits, row_bits, coded_line, coded_lines, coded_bits, coded_strip, end_bits}
 use Rattle.fax_page.specs.code.Writer.{WriterState, writer_beginning, PutsRow, FinishesAs, HasPut, last_of}
 
--- bits behind bits
+-- bits after bits
 pub appended : (old middle new : Sink) (first second : List Bool) → Appends old first middle → Appends middle second new
     → Appends old (first ++ second) new
 appended old middle new first second put more =
@@ -31,7 +32,7 @@ line_put form k before i reference row dimension another old middle new written 
     (appended old middle new (start_bits form.coding form.aligned before dimension) (row_bits dimension reference row) start
     (subst (λ d. Appends middle (row_bits d reference row) new) (sym is) codes))
 
--- a strip that is finished: what stands behind its last row, and zeros
+-- a strip that is finished: what stands after its last row, and zeros
 pub finished : (order : FillOrder) (start middle padded : Sink) (end : List Bool) (bytes : List ℕ) → PacksOneWay → start.order ≡ order
     → Appends start end middle → IsPadded middle padded → All (λ byte. byte < 256) bytes → bits padded.order bytes ≡ padded.bits
     → bytes ≡ packed order (start.bits ++ end)
@@ -89,10 +90,24 @@ row_added form k rows row old new is puts =
     let count : length rows + 1 ≡ length (rows ++ row ∷ []) = sym (length-append rows (row ∷ [])) in
     let last_is : row ≡ last_of white (rows ++ row ∷ []) = sym (last_of-append white row rows) in
     puts.put
-    ∙ ap (λ (w : WriterState). record w { bits = w.bits ++ coded_line w.form w.k (length w.bits) w.row w.last row; row = w.row + 1; last = row }) is
+    ∙ ap (λ (w : WriterState). record w {
+      bits = w.bits ++ coded_line w.form w.k (length w.bits) w.row w.last row;
+      row = w.row + 1;
+      last =
+          row;
+    }) is
     ∙ ap (λ (b : List Bool). record { form = form; k = k; bits = b; row = length rows + 1; last = row; refused = false }) bits_are
-    ∙ ap (λ n. record { form = form; k = k; bits = coded_lines form k 0 0 white (rows ++ row ∷ []); row = n; last = row; refused = false }) count
-    ∙ ap (λ (r : List Colour). record { form = form; k = k; bits = coded_lines form k 0 0 white (rows ++ row ∷ []); row = length (rows ++ row ∷ []); last = r; refused = false }) last_is
+    ∙ ap (λ n. record { form = form; k = k; bits = coded_lines form k 0 0 white (rows ++ row ∷ []); row = n; last = row; refused = false })
+    count
+    ∙ ap (λ (r : List Colour). record {
+      form = form;
+      k = k;
+      bits = coded_lines form k 0 0 white (rows ++ row ∷ []);
+      row =
+          length (rows ++ row ∷ []);
+      last = r;
+      refused = false;
+    }) last_is
 
 -- a writer that is finished
 pub finishes_so : (form : StripForm) (k : ℕ) (rows : List (List Colour)) (writer : WriterState) (bytes : List ℕ)

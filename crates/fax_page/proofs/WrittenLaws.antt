@@ -1,5 +1,6 @@
 -- A written strip is read back, where its rows are.
-use Rattle.std.proofs.Common.{◌≡◌, ℕ, zero, suc, ◌+◌, List, [], ◌∷◌, ◌++◌, length, Bool, refl, sym, ◌∙◌, subst, arith, append_assoc, inl, None}
+use Rattle.std.proofs.Common.{◌≡◌, ℕ, zero, suc, ◌+◌, List, [], ◌∷◌, ◌++◌, length, Bool, refl, sym, ◌∙◌, subst, arith, append_assoc, inl}
+use Rattle.std.proofs.Common.{None}
 use Rattle.std.specs.Prelude.{All}
 use Rattle.std.proofs.lemmas.List.{length-replicate}
 use Rattle.fax_bits.specs.declared.Colour.{Colour}
@@ -31,8 +32,10 @@ start_back Mr aligned before k i reference row more =
     end_of_line_back (fill_zeros aligned before) (tag_bit dimension ∷ []) (row_bits dimension reference row) more
 start_back Mmr aligned before k i reference row more = (refl, refl)
 
-module _ (one_read : OneDimensionalBitsAreRead) (two_read : TwoDimensionalBitsAreRead) (form : StripForm) (limits : IsStripForm form) (k : ℕ) where
-  row_back : (dimension : Dimension) (reference row : List Colour) (more : List Bool) → length reference ≡ form.width → length row ≡ form.width
+module _ (one_read : OneDimensionalBitsAreRead) (two_read : TwoDimensionalBitsAreRead) (form : StripForm) (limits : IsStripForm form)
+    (k : ℕ) where
+  row_back : (dimension : Dimension) (reference row : List Colour) (more : List Bool) → length reference ≡ form.width
+      → length row ≡ form.width
       → IsRowIn dimension form.width reference (row_bits dimension reference row ++ more) row more
   row_back OneDimensional reference row more reference_width width =
       subst (λ n. IsOneDimensionalRow n (one_dimensional_bits row ++ more) row more) width

@@ -27,14 +27,14 @@ written_dimension Mh k i = OneDimensional
 written_dimension Mr k i = if nat_eq (i % k) 0 then OneDimensional else TwoDimensional
 written_dimension Mmr k i = TwoDimensional
 
--- how many zeros of fill are written before an EOL, which has twelve bits, behind so many bits of
+-- how many zeros of fill are written before an EOL, which has twelve bits, after so many bits of
 -- the strip: where EOLs are aligned the fewest that make it end on a byte boundary, and else none
 -- (T.4, section 4.1.3; TIFF 6.0, T4Options)
 unfoldable pub fill_zeros : Bool → ℕ → ℕ
 fill_zeros true before = (12 - before % 8) % 8
 fill_zeros false before = 0
 
--- what is written before a row's codes, behind so many bits of the strip
+-- what is written before a row's codes, after so many bits of the strip
 -- (T.4, sections 4.1.2, 4.1.3 and 4.2.2; T.6, section 2.2.1)
 abbrev pub start_bits : Coding → Bool → ℕ → Dimension → List Bool
 start_bits Mh aligned before dimension = replicate (fill_zeros aligned before) false ++ end_of_line
@@ -47,14 +47,14 @@ abbrev pub row_bits : Dimension → List Colour → List Colour → List Bool
 row_bits OneDimensional reference row = one_dimensional_bits row
 row_bits TwoDimensional reference row = two_dimensional_bits reference row
 
--- row i of a strip as it is written behind so many bits of it, over the row before it
+-- row i of a strip as it is written after so many bits of it, over the row before it
 -- (T.4, sections 4.1.2, 4.1.3 and 4.2.2)
 unfoldable pub coded_line : StripForm → ℕ → ℕ → ℕ → List Colour → List Colour → List Bool
 coded_line form k before i reference row =
     let dimension = written_dimension form.coding k i in
     start_bits form.coding form.aligned before dimension ++ row_bits dimension reference row
 
--- the rows from row i on as they are written behind so many bits of the strip, each over the row
+-- the rows from row i on as they are written after so many bits of the strip, each over the row
 -- before it (T.4, section 4.2.1.1)
 unfoldable pub coded_lines : StripForm → ℕ → ℕ → ℕ → List Colour → List (List Colour) → List Bool
 coded_lines form k before i reference [] = []
@@ -62,7 +62,7 @@ coded_lines form k before i reference (row ∷ rows) =
     let line = coded_line form k before i reference row in
     line ++ coded_lines form k (before + length line) (i + 1) row rows
 
--- what is written behind the last row: the end of the facsimile block in MMR
+-- what is written after the last row: the end of the facsimile block in MMR
 -- (T.6, End-of-facsimile block), and nothing in MH and MR (this project's profile)
 abbrev pub end_bits : Coding → List Bool
 end_bits Mmr = end_of_block

@@ -61,7 +61,7 @@ pub record ReadsStripsOneWay (form : StripForm) : Type 0 where
   pub rows_and_end : HasRowsAndEnd form
   pub one_reading : HasOneReading form
 
--- behind so many bits and this much fill an EOL ends on a byte boundary
+-- after so many bits and this much fill an EOL ends on a byte boundary
 -- (T.4, section 4.1.3; TIFF 6.0, T4Options)
 abbrev pub IsAligned : ℕ → ℕ → Type 0
 IsAligned before fill = (before + fill + length end_of_line) % 8 ≡ 0

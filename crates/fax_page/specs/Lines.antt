@@ -17,7 +17,7 @@ use Rattle.fax_page.specs.declared.StripFault.{StripFault}
 use Rattle.fax_page.specs.declared.StripFault.TheVariants.{DataEnds, BadCode, Extension, RunTooLong}
 use Rattle.fax_page.specs.declared.StripFault.TheVariants.{OutOfRow, MissingEol, EndMarker}
 
--- the bit behind an EOL in MR that says how the next row is coded (T.4, section 4.2.2)
+-- the bit after an EOL in MR that says how the next row is coded (T.4, section 4.2.2)
 abbrev pub tag_bit : Dimension → Bool
 tag_bit OneDimensional = true
 tag_bit TwoDimensional = false
@@ -27,7 +27,7 @@ tag_bit TwoDimensional = false
 abbrev pub IsEndOfLine : List Bool → List Bool → Type 0
 IsEndOfLine b rest = (zeros : ℕ) × (11 ≤ zeros) × (b ≡ replicate zeros false ++ true ∷ rest)
 
--- a 1 stands behind fewer than eleven zeros, so that the bits begin with no EOL
+-- a 1 stands after fewer than eleven zeros, so that the bits begin with no EOL
 -- (T.4, section 4.1.2)
 abbrev pub BeginsBelowEleven : List Bool → Type 0
 BeginsBelowEleven b = (zeros : ℕ) × (zeros < 11) × HasZerosAhead b zeros
@@ -80,7 +80,7 @@ IsStartFault Mr i b fault =
     ⊎ (BeginsBelowEleven b × (fault ≡ MissingEol))
 IsStartFault Mmr i b fault = ⊥
 
--- eleven zeros stand where a row's first code is due, or fewer zeros and nothing behind them
+-- eleven zeros stand where a row's first code is due, or fewer zeros and nothing after them
 -- (this project's profile)
 abbrev pub IsFirstCodeFault : List Bool → StripFault → Type 0
 IsFirstCodeFault b fault =

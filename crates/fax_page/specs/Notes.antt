@@ -22,7 +22,7 @@ IsReturnEol Mh b rest = IsEndOfLine b rest
 IsReturnEol Mr b rest = IsEndOfLine b (tag_bit OneDimensional ∷ rest)
 IsReturnEol Mmr b rest = ⊥
 
--- so many of them stand one behind another (T.4, section 4.1.4)
+-- so many of them stand one after another (T.4, section 4.1.4)
 abbrev pub AreReturnEols : Coding → ℕ → List Bool → List Bool → Type 0
 AreReturnEols coding zero b rest = b ≡ rest
 AreReturnEols coding (suc n) b rest =
@@ -37,7 +37,7 @@ IsEndMark coding b rest = AreReturnEols coding 6 b rest
 abbrev pub HasEndMark : Coding → List Bool → Type 0
 HasEndMark coding b = (rest : List Bool) × IsEndMark coding b rest
 
--- what stands behind the end mark, or all of the bits where they begin with none
+-- what stands after the end mark, or all of the bits where they begin with none
 -- (this project's profile)
 abbrev pub IsBehindEnd : Coding → List Bool → List Bool → Type 0
 IsBehindEnd coding b behind = IsEndMark coding b behind ⊎ ((HasEndMark coding b → ⊥) × (behind ≡ b))
@@ -55,8 +55,8 @@ HasOtherChoice form i reference b (row ∷ rows) =
     × ((IsChosen line.dimension reference line.codes row rest → ⊥)
     ⊎ HasOtherChoice form (i + 1) row rest rows)
 
--- the notes on a strip of which all rows can be read, by what is left behind them, and what of it
--- stands behind the end mark (this project's profile)
+-- the notes on a strip of which all rows can be read, by what is left after them, and what of it
+-- stands after the end mark (this project's profile)
 pub record IsNotedAs (form : StripForm) (b : List Bool) (rows : List (List Colour))
     (notes : StripNotes) : Type 0 where
   pub left : List Bool

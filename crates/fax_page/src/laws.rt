@@ -23,7 +23,7 @@ pub fn strips_are_read_in_one_way()
     lines_are_read_in_one_way();
 }
 
-/// An aligned EOL ends on a byte boundary of its strip, behind as little fill as does so (T.4,
+/// An aligned EOL ends on a byte boundary of its strip, after as little fill as does so (T.4,
 /// section 4.1.3; TIFF 6.0, T4Options).
 pub fn aligned_eols_end_on_bytes()
     ensures { (before : ℕ) → Law.IsLeastFill before }
@@ -55,7 +55,7 @@ pub fn coded_strips_are_read_as_nothing_else()
     strips_are_read_in_one_way();
 }
 
-/// A strip is read row by row: where `StripReader::advance` reads rows one behind another, from a
+/// A strip is read row by row: where `StripReader::advance` reads rows one after another, from a
 /// strip's beginning on, they are the rows of the strip, up to its end.
 pub fn strips_are_read_row_by_row()
     ensures { ReadsRowByRow }
@@ -68,7 +68,7 @@ pub fn strips_are_read_on()
     ensures { ReadsOn }
 {}
 
-/// A strip is written row by row: where `StripWriter::put_row` puts rows one behind another, the
+/// A strip is written row by row: where `StripWriter::put_row` puts rows one after another, the
 /// bytes that `finish` gives are the strip of these rows.
 pub fn strips_are_written_row_by_row()
     ensures { WritesRowByRow }

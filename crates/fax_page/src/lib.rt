@@ -16,9 +16,9 @@ pub use writer::StripWriter;
 /// How the rows of a strip are coded.
 #[derive(Clone, Copy, Debug, PartialEq, Eq)]
 pub enum Coding {
-    /// One-dimensional coding, each row behind an EOL (T.4, sections 4.1.1 and 4.1.2).
+    /// One-dimensional coding, each row after an EOL (T.4, sections 4.1.1 and 4.1.2).
     Mh,
-    /// One-dimensional and two-dimensional rows, each behind an EOL and a tag bit
+    /// One-dimensional and two-dimensional rows, each after an EOL and a tag bit
     /// (T.4, section 4.2.2).
     Mr,
     /// Two-dimensional rows with nothing between them (T.6, section 2.2.1).
@@ -45,7 +45,7 @@ pub struct StripForm {
     pub width: u32,
     /// How many rows the strip has, 1 to 1,000,000.
     pub rows: u32,
-    /// Whether each EOL is written so that it ends on a byte boundary of the strip, behind fill
+    /// Whether each EOL is written so that it ends on a byte boundary of the strip, after fill
     /// (T.4, section 4.1.3; TIFF 6.0, T4Options): false in MMR, which has no EOLs. Rows are read in
     /// the same way either way.
     pub aligned: bool,

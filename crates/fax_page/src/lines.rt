@@ -28,7 +28,7 @@ pub fn read_eol(source: &mut BitSource, may_lack: bool) -> Result<(), StripFault
     }
 }
 
-/// Reads the tag bit behind an EOL of MR, which says how the row is coded (T.4, section 4.2.2).
+/// Reads the tag bit after an EOL of MR, which says how the row is coded (T.4, section 4.2.2).
 fn read_tag(source: &mut BitSource) -> Result<Dimension, StripFault>
     ensures ok { IfOk result (λ dimension.
         source.old.left ≡ Lines.tag_bit dimension ∷ source.new.left) }

@@ -27,13 +27,13 @@ const END_OF_BLOCK_BITS: u32 = 24;
 /// What is worth a note in a strip of which all rows can be read.
 #[derive(Clone, Copy, Debug, PartialEq, Eq)]
 pub struct StripNotes {
-    /// The strip is MMR, and no end of a facsimile block stands behind its last row (T.6,
+    /// The strip is MMR, and no end of a facsimile block stands after its last row (T.6,
     /// End-of-facsimile block).
     pub no_end_of_block: bool,
-    /// The strip is MH or MR, and a return to control stands behind its last row: six EOLs, each
+    /// The strip is MH or MR, and a return to control stands after its last row: six EOLs, each
     /// with any fill, in MR each with a tag bit of 1 (T.4, section 4.1.4).
     pub return_to_control: bool,
-    /// A 1 stands behind the last row, and behind the end of the facsimile block or the return to
+    /// A 1 stands after the last row, and after the end of the facsimile block or the return to
     /// control where there is one.
     pub data_after_end: bool,
     /// The codes of some row are others than T.4 chooses (T.4, sections 4.1.1 and 4.2.1.3.3).
@@ -111,7 +111,7 @@ fn read_choice(
     Ok(sink.begins(&codes))
 }
 
-/// Goes behind an EOL of a return to control, and answers whether there is one (T.4, sections 4.1.4
+/// Goes after an EOL of a return to control, and answers whether there is one (T.4, sections 4.1.4
 /// and 4.2.2).
 fn take_return_eol(source: &mut BitSource, coding: Coding) -> bool
     ensures { Code.TakesReturnEol coding source.old.left result source.new.left }
@@ -126,7 +126,7 @@ fn take_return_eol(source: &mut BitSource, coding: Coding) -> bool
     }
 }
 
-/// What stands behind a return to control, where there is one (T.4, section 4.1.4).
+/// What stands after a return to control, where there is one (T.4, section 4.1.4).
 fn behind_return<'a>(source: &BitSource<'a>, coding: Coding) -> Option<BitSource<'a>>
     ensures { Code.IsBehind (Spec.AreReturnEols coding 6 source.now.left) result }
 {
@@ -139,7 +139,7 @@ fn behind_return<'a>(source: &BitSource<'a>, coding: Coding) -> Option<BitSource
     Some(ahead)
 }
 
-/// What stands behind the end mark of a strip, where there is one (T.4, section 4.1.4; T.6,
+/// What stands after the end mark of a strip, where there is one (T.4, section 4.1.4; T.6,
 /// End-of-facsimile block).
 fn behind_end<'a>(source: &BitSource<'a>, coding: Coding) -> Option<BitSource<'a>>
     ensures { Code.IsBehind (Spec.IsEndMark coding source.now.left) result }

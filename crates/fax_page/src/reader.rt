@@ -98,7 +98,7 @@ impl<'a> StripReader<'a> {
     }
 
     /// Goes before row `row` of another strip of the same coding, order and width, with up to
-    /// 1,000,000 rows in at most 4,294,967,295 bytes, behind so many of its bits: the row that is
+    /// 1,000,000 rows in at most 4,294,967,295 bytes, after so many of its bits: the row that is
     /// read next begins there, over this reference, which has the same width. A fault is forgotten.
     /// It takes no memory.
     pub fn restart_at(&mut self, bytes: &'a [u8], rows: u32, row: u32, bits: u64, reference: &Row)

@@ -28,7 +28,7 @@ fn written_dimension(coding: Coding, k: u32, i: u32) -> Dimension
     }
 }
 
-/// How many zeros of fill stand before an EOL behind so many bits of a strip: where EOLs are
+/// How many zeros of fill stand before an EOL after so many bits of a strip: where EOLs are
 /// aligned the fewest that make it end on a byte boundary, and else none (T.4, section 4.1.3; TIFF
 /// 6.0, T4Options).
 #[tactic(auto, unfolding(crate::specs::CodedStrip::fill_zeros))]
@@ -44,7 +44,7 @@ fn fill_zeros(aligned: bool, before: u128) -> u32
     }
 }
 
-/// Puts what stands before a row's codes: an EOL in MH, an EOL and a tag bit in MR, both behind
+/// Puts what stands before a row's codes: an EOL in MH, an EOL and a tag bit in MR, both after
 /// fill where EOLs are aligned, nothing in MMR (T.4, sections 4.1.2, 4.1.3 and 4.2.2; T.6, section
 /// 2.2.1).
 fn put_start(sink: &mut BitSink, form: StripForm, dimension: Dimension) -> Result<(), Memory>
@@ -86,7 +86,7 @@ fn put_line(
     }
 }
 
-/// Puts what stands behind a strip's last row: the end of the facsimile block in MMR, two EOLs
+/// Puts what stands after a strip's last row: the end of the facsimile block in MMR, two EOLs
 /// (T.6, End-of-facsimile block).
 #[tactic(auto, unfolding(fax_bits::specs::Bits::code_bits))]
 fn put_end(sink: &mut BitSink, coding: Coding) -> Result<(), Memory>
@@ -187,7 +187,7 @@ impl StripWriter {
     }
 
     /// The bytes of the strip once all its rows were put, its last byte filled with zeros. MMR has
-    /// the end of a facsimile block behind its last row (T.6, End-of-facsimile block).
+    /// the end of a facsimile block after its last row (T.6, End-of-facsimile block).
     ///
     /// # Errors
     ///

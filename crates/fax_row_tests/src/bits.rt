@@ -47,7 +47,7 @@ const COMMON_MAKE_UP: &str =
     "00000001000 00000001100 00000001101 000000010010 000000010011 000000010100 000000010101 \
     000000010110 000000010111 000000011100 000000011101 000000011110 000000011111";
 
-// The prefix of extensions, and bits behind it that fill a byte.
+// The prefix of extensions, and bits after it that fill a byte.
 const EXTENSION: &str = "000000001 1111111";
 
 /// The bytes of the bits that a text spells. What fills no byte at its end is left out.

@@ -1,5 +1,6 @@
 -- Changing elements: where the next one stands, and the pels before it.
-use Rattle.std.proofs.Common.{◌≡◌, ℕ, zero, suc, ◌+◌, ◌-◌, ◌<◌, ◌≤◌, List, [], ◌∷◌, ◌++◌, length, take, replicate, Bool, true, false, not, refl, ap, sym, ◌∙◌, subst, arith, inl, inr}
+use Rattle.std.proofs.Common.{◌≡◌, ℕ, zero, suc, ◌+◌, ◌-◌, ◌<◌, ◌≤◌, List, [], ◌∷◌, ◌++◌, length, take, replicate, Bool, true, false, not}
+use Rattle.std.proofs.Common.{refl, ap, sym, ◌∙◌, subst, arith, inl, inr}
 use Rattle.std.specs.Prelude.{◌&&◌, Option, Some, None, unwrap_or}
 use Rattle.std.proofs.lemmas.Bool.{cases_lt, ltb-true, lt-ltb}
 use Rattle.std.proofs.Math.Nat.{eq-or-lt_of_le}
@@ -167,13 +168,18 @@ pels_up_to [] (suc from) to colour order within each = absurd (omega arith)
 pels_up_to (first ∷ row) (suc from) zero colour order within each = absurd (omega arith)
 pels_up_to (first ∷ row) (suc from) (suc to) colour order within each =
     let same : suc to - suc from ≡ to - from = omega arith in
-    rw same (ap (λ pels. first ∷ pels) (pels_up_to row from to colour (omega arith) (omega arith) (λ k h l. each (suc k) (omega arith) (omega arith))))
+    rw same (ap (λ pels. first ∷ pels) (pels_up_to row from to colour (omega arith) (omega arith)
+    (λ k h l. each (suc k) (omega arith) (omega arith))))
 
 -- the next changing element of another colour lies in the row or is its width, right of the place
 pub next_of_within : (row : List Colour) (from : Option ℕ) (colour : Colour) → next_of row from colour ≤ length row
 unfolding next_of
 next_of_within row from colour =
-    omega (arith, (first_place_is (λ i. is_right_of from i && (is_changing row i && not (same_colour (pel row i) colour))) 0 (length row)).within)
+    omega (
+      arith,
+      (first_place_is (λ i. is_right_of from i && (is_changing row i && not (same_colour (pel row i) colour))) 0
+          (length row)).within,
+    )
 
 pub next_of_right : (row : List Colour) (from : Option ℕ) (colour : Colour) → next_of row from colour < length row
     → is_right_of from (next_of row from colour) ≡ true
@@ -253,11 +259,12 @@ of_search_begins row from colour place is =
       there = next.there;
     }
 
--- it goes on behind one of the colour
+-- it goes on after one of the colour
 pub of_search_goes_on : (row : List Colour) (from : Option ℕ) (colour : Colour) (place next : ℕ) → IsOfSearch row from colour place
     → place < length row → pel row place ≡ colour → next ≡ next_change row (Some place) → IsOfSearch row from colour next
 of_search_goes_on row from colour place next so_far inside same is =
-    let more : IsNextChange row (Some place) next = subst (λ p. IsNextChange row (Some place) p) (sym is) (next_change_is row (Some place)) in
+    let more : IsNextChange row (Some place) next =
+    subst (λ p. IsNextChange row (Some place) p) (sym is) (next_change_is row (Some place)) in
     record {
       within = more.within;
       before = λ k h l. elim (cases_lt k place) [

@@ -1,5 +1,6 @@
 -- The step that T.4 chooses is a step to the place that it leads to.
-use Rattle.std.proofs.Common.{◌≡◌, ℕ, suc, ◌+◌, ◌-◌, ◌<◌, ◌≤◌, List, ◌++◌, length, take, replicate, Bool, true, false, refl, ap, sym, ◌∙◌, arith, inl, inr, append_assoc}
+use Rattle.std.proofs.Common.{◌≡◌, ℕ, suc, ◌+◌, ◌-◌, ◌<◌, ◌≤◌, List, ◌++◌, length, take, replicate, Bool, true, false, refl, ap, sym, ◌∙◌}
+use Rattle.std.proofs.Common.{arith, inl, inr, append_assoc}
 use Rattle.std.specs.Prelude.{ℤ, pos, negsuc, ◌-ℤ◌, ◌+ℤ◌, ◌<ℤ◌, ◌≤ℤ◌, nat_abs, nat_lt, nat_le, if◌then◌else◌, Option, Some, None}
 use Rattle.std.proofs.lemmas.Bool.{cases_lt, ltb-true, lt-ltb}
 use Rattle.std.proofs.lemmas.Bool.Decides.{nat_tests}
@@ -13,7 +14,8 @@ use Rattle.fax_bits.specs.Runs.{IsWritten, run_bits}
 use Rattle.fax_rows.specs.Elements.{other, pel, next_change, is_right_of, b1, b2, HasWidth}
 use Rattle.fax_rows.specs.Coded.{places, colour_of, chosen_mode, run_pair_bits, next_a0}
 use Rattle.fax_rows.specs.TwoDimensional.{Position, IsStepBy, a0_number}
-use Rattle.fax_rows.proofs.ChangeLemmas.{IsNextChange, next_change_is, colour_up_to, colour_at, next_is_ahead, pels_up_to, first_of, next_of_within, next_of_right}
+use Rattle.fax_rows.proofs.ChangeLemmas.{IsNextChange, next_change_is, colour_up_to, colour_at, next_is_ahead, pels_up_to, first_of}
+use Rattle.fax_rows.proofs.ChangeLemmas.{next_of_within, next_of_right}
 
 -- the position at a place of a row
 abbrev pub here : List Colour → Option ℕ → Colour → Position
@@ -24,12 +26,12 @@ abbrev pub passed : Option ℕ → ℕ
 passed None = 0
 passed (Some a) = suc a
 
--- a0's colour behind a step
+-- a0's colour after a step
 abbrev pub colour_after : ModeCode → Colour → Colour
 colour_after (Vertical d) colour = other colour
 colour_after _ colour = colour
 
--- the mode makes a step from a0, with these bits behind its code
+-- the mode makes a step from a0, with these bits after its code
 pub record IsChosen (reference row : List Colour) (a0 : Option ℕ) (rest : List Bool) (mode : ModeCode) : Type 0 where
   pub written : IsWritten mode
   pub step : IsStepBy mode reference (here row a0 (colour_of row a0)) (run_pair_bits mode row a0 (places reference row a0) ++ rest)
@@ -74,7 +76,7 @@ near_is_written : (d : ℤ) → nat_abs d ≤ 3 → (negsuc 2 ≤ℤ d) × (d �
 near_is_written (pos n) near = (omega (arith, ints), omega (arith, ints))
 near_is_written (negsuc n) near = (omega (arith, ints), omega (arith, ints))
 
--- a place right of the start of a step, and not behind the row
+-- a place right of the start of a step, and not after the row
 pub record IsPlaceAhead (from : Option ℕ) (width place : ℕ) : Type 0 where
   pub right : passed from ≤ place
   pub within : place ≤ width
@@ -83,7 +85,8 @@ pub passed_right : (from : Option ℕ) (place : ℕ) → passed from ≤ place �
 passed_right None place h = refl
 passed_right (Some a) place h = lt-ltb a place (omega arith)
 
-module _ (reference row : List Colour) (same_width : length reference ≡ length row) (a0 : Option ℕ) (unfinished : first_of a0 < length row) where
+module _ (reference row : List Colour) (same_width : length reference ≡ length row) (a0 : Option ℕ)
+    (unfinished : first_of a0 < length row) where
   pub a1_is : IsNextChange row a0 (next_change row a0)
   a1_is = next_change_is row a0
 
@@ -180,7 +183,8 @@ module _ (reference row : List Colour) (same_width : length reference ≡ length
       let sums : first_of a0 + (next_change row a0 - first_of a0) + (next_change row (Some (next_change row a0)) - next_change row a0)
       ≡ next_change row (Some (next_change row a0)) = omega (arith, a2_ahead) in
       let both = sym second_pels
-      ∙ ap (λ pels. pels ++ replicate (next_change row (Some (next_change row a0)) - next_change row a0) (other (colour_of row a0))) (sym first_pels)
+      ∙ ap (λ pels. pels ++ replicate (next_change row (Some (next_change row a0)) - next_change row a0) (other (colour_of row a0)))
+      (sym first_pels)
       ∙ append_assoc (take (first_of a0) row) (replicate (next_change row a0 - first_of a0) (colour_of row a0))
       (replicate (next_change row (Some (next_change row a0)) - next_change row a0) (other (colour_of row a0))) in
       record {
@@ -189,7 +193,8 @@ module _ (reference row : List Colour) (same_width : length reference ≡ length
           first = next_change row a0 - first_of a0;
           second = next_change row (Some (next_change row a0)) - next_change row a0;
           middle = run_bits (other (colour_of row a0)) (next_change row (Some (next_change row a0)) - next_change row a0) ++ rest;
-          first_run = rw append_assoc (runs_read (colour_of row a0) (next_change row a0 - first_of a0) _ (omega (arith, a1_is.within, limits.short)));
+          first_run = rw append_assoc (runs_read (colour_of row a0) (next_change row a0 - first_of a0) _
+              (omega (arith, a1_is.within, limits.short)));
           second_run = runs_read (other (colour_of row a0)) _ rest (omega (arith, a2_is.within, limits.short));
           within = omega (arith, a2_is.within);
           new_is = cc;

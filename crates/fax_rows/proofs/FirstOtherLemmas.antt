@@ -1,9 +1,11 @@
 -- The first bit that is not of a colour, found by bytes.
-use Rattle.std.proofs.Common.{◌≡◌, ◌≢◌, ℕ, zero, suc, ◌+◌, ◌-◌, ◌*◌, ◌/◌, ◌%◌, ◌^◌, ◌<◌, ◌≤◌, List, [], ◌∷◌, map, length, get_or, Bool, true, false, if◌then◌else◌, nat_eq, nat_lt, refl, ap, sym, ◌∙◌, subst, arith, inl, inr}
+use Rattle.std.proofs.Common.{◌≡◌, ◌≢◌, ℕ, zero, suc, ◌+◌, ◌-◌, ◌*◌, ◌/◌, ◌%◌, ◌^◌, ◌<◌, ◌≤◌, List, [], ◌∷◌, map, length, get_or, Bool}
+use Rattle.std.proofs.Common.{true, false, if◌then◌else◌, nat_eq, nat_lt, refl, ap, sym, ◌∙◌, subst, arith, inl, inr}
 use Rattle.std.specs.Prelude.{◌&&◌, ◌||◌, not, slice_index_or}
 use Rattle.std.proofs.lemmas.Bool.{cases_lt, eqb-true, eqb-false, ltb-true, true≢false}
 use Rattle.std.proofs.Math.Nat.{eq-or-lt_of_le}
-use Rattle.std.proofs.lemmas.Simd.{length-chunk, get_or-chunk, trailing_mask_l, run_in_chunk_le, run_in_chunk_fails, run_in_chunk_stops, none_from_empty_mask}
+use Rattle.std.proofs.lemmas.Simd.{length-chunk, get_or-chunk, trailing_mask_l, run_in_chunk_le, run_in_chunk_fails, run_in_chunk_stops}
+use Rattle.std.proofs.lemmas.Simd.{none_from_empty_mask}
 use Rattle.std.specs.List.{prefix_len}
 use lib.Count.{count_leading_zeros, count_trailing_zeros}
 use lib.Lanes.{chunk, mask_l}
@@ -65,13 +67,15 @@ by_branch ahead more from r is = by (nat_eq ahead 0) refl is
     by true same h = (λ none. h, λ some. absurd (some (eqb-true ahead 0 same)))
     by false same h = (λ none. absurd (true≢false (sym (ap (λ n. nat_eq n 0) none) ∙ same)), λ some. h)
 
-pub none_ahead : (byte from : ℕ) (colour : Colour) (bits : ℕ) → byte < 256 → from < 8 → bits ≡ others byte colour → bits * 2 ^ from % 256 ≡ 0
+pub none_ahead : (byte from : ℕ) (colour : Colour) (bits : ℕ) → byte < 256 → from < 8 → bits ≡ others byte colour
+    → bits * 2 ^ from % 256 ≡ 0
     → 8 ≡ first_other_in_byte byte from colour
 none_ahead byte from colour bits fits within is none =
     (by_branch (others byte colour * 2 ^ from % 256) _ from _ (in_byte_is byte from colour fits within)).0
     (ap (λ b. b * 2 ^ from % 256) (sym is) ∙ none)
 
-pub some_ahead : (byte from : ℕ) (colour : Colour) (bits : ℕ) → byte < 256 → from < 8 → bits ≡ others byte colour → bits * 2 ^ from % 256 ≢ 0
+pub some_ahead : (byte from : ℕ) (colour : Colour) (bits : ℕ) → byte < 256 → from < 8 → bits ≡ others byte colour
+    → bits * 2 ^ from % 256 ≢ 0
     → from + count_leading_zeros 8 (bits * 2 ^ from % 256) ≡ first_other_in_byte byte from colour
 some_ahead byte from colour bits fits within is some =
     ap (λ b. from + count_leading_zeros 8 (b * 2 ^ from % 256)) is
@@ -108,7 +112,8 @@ one_of_two byte plain found either differs = by (nat_eq byte plain) refl either
 
 pub found_in_byte : (byte : ℕ) (colour : Colour) → byte < 256 → byte ≢ plain_byte colour → first_other_in_byte byte 0 colour < 8
 found_in_byte byte colour fits differs =
-    one_of_two byte (plain_byte colour) (first_other_in_byte byte 0 colour) (at_below (is_plain_or_less colour) 256 byte (other_has_one colour) fits) differs
+    one_of_two byte (plain_byte colour) (first_other_in_byte byte 0 colour)
+    (at_below (is_plain_or_less colour) 256 byte (other_has_one colour) fits) differs
 
 pub in_byte-le : (byte from : ℕ) (colour : Colour) → from < 8 → first_other_in_byte byte from colour ≤ 8
 unfolding first_other_in_byte
@@ -233,7 +238,7 @@ module _ (law : AreBitsByPlace) where
       bit_of bytes colour (k / 8) (k % 8) k (omega arith) (omega arith) (omega arith)
       ∙ ap (λ byte. is_other_bit byte colour (k % 8)) (same (k / 8) (omega arith) (omega arith)) ∙ plain_bit colour (k % 8) (omega arith)
 
-  -- from a bit of a byte that has no other bit behind it, up to the first byte that has one
+  -- from a bit of a byte that has no other bit after it, up to the first byte that has one
   pub plain_before : (bytes : List ℕ) (colour : Colour) (from here plain behind : ℕ) → from / 8 < length bytes
       → here ≡ first_other_in_byte (get_or bytes (from / 8) 0) (from % 8) colour → 8 ≤ here
       → plain ≡ plain_byte colour → IsFirstOtherByte bytes (from / 8 + 1) plain behind → IsPlain bytes colour from (8 * behind)

@@ -1,5 +1,6 @@
 -- Rows that are made of their longest runs.
-use Rattle.std.proofs.Common.{◌≡◌, ℕ, zero, suc, ◌+◌, ◌-◌, ◌<◌, ◌≤◌, List, [], ◌∷◌, ◌++◌, length, take, get_or, replicate, refl, ap, sym, ◌∙◌, subst, arith, inl, inr}
+use Rattle.std.proofs.Common.{◌≡◌, ℕ, zero, suc, ◌+◌, ◌-◌, ◌<◌, ◌≤◌, List, [], ◌∷◌, ◌++◌, length, take, get_or, replicate, refl, ap, sym}
+use Rattle.std.proofs.Common.{◌∙◌, subst, arith, inl, inr}
 use Rattle.std.specs.Prelude.{sum, ◌⊎◌}
 use Rattle.std.proofs.lemmas.Bool.{cases_lt}
 use Rattle.std.proofs.Math.ListN.{get_or-append}
@@ -78,7 +79,8 @@ put_all_runs runs total places width put whole =
     pel-pels_by width places k inside ∙ put.pels k (omega (arith, put.sum_is)))
 
 -- pels of the run's colour make it longer
-longer : (colour : Colour) (n m : ℕ) (pels : List Colour) → runs_behind colour n (replicate m colour ++ pels) ≡ runs_behind colour (n + m) pels
+longer : (colour : Colour) (n m : ℕ) (pels : List Colour)
+    → runs_behind colour n (replicate m colour ++ pels) ≡ runs_behind colour (n + m) pels
 unfolding runs_behind
 longer colour n zero pels = ap (λ k. runs_behind colour k pels) (omega arith)
 longer White n (suc m) pels =
@@ -86,7 +88,7 @@ longer White n (suc m) pels =
 longer Black n (suc m) pels =
     longer Black (n + 1) m pels ∙ ap (λ k. runs_behind Black k pels) (omega arith)
 
--- behind a run stand the runs of the pels behind it, where none of them is 0
+-- after a run stand the runs of the pels after it, where none of them is 0
 runs_follow : (colour : Colour) (n : ℕ) (runs : List ℕ) → ((i : ℕ) → i < length runs → 0 < get_or runs i 0)
     → runs_behind colour n (pels_of (other colour) runs) ≡ n ∷ runs
 unfolding runs_behind
@@ -109,7 +111,7 @@ longest_are_back (n ∷ runs) width some longest =
     ∙ runs_follow White (0 + n) runs (λ i h. longest.some (suc i) (omega arith) (omega arith))
     ∙ ap (λ k. k ∷ runs) (omega arith)
 
--- no run behind a whole one is 0
+-- no run after a whole one is 0
 none_is_0 : (colour : Colour) (n : ℕ) (pels : List Colour) → 0 < n → (i : ℕ) → i < length (runs_behind colour n pels)
     → 0 < get_or (runs_behind colour n pels) i 0
 unfolding runs_behind

@@ -1,5 +1,6 @@
 -- The places ahead of a0 by the index of the first place right of it.
-use Rattle.std.proofs.Common.{◌≡◌, ℕ, zero, suc, ◌+◌, ◌-◌, ◌%◌, ◌<◌, ◌≤◌, List, take, get_or, true, refl, ap, sym, ◌∙◌, subst, arith, inl, inr}
+use Rattle.std.proofs.Common.{◌≡◌, ℕ, zero, suc, ◌+◌, ◌-◌, ◌%◌, ◌<◌, ◌≤◌, List, take, get_or, true, refl, ap, sym, ◌∙◌, subst, arith, inl}
+use Rattle.std.proofs.Common.{inr}
 use Rattle.std.specs.Prelude.{◌⊎◌, Option, Some, None, unwrap_or}
 use Rattle.std.proofs.lemmas.Bool.{ltb-true, lt-ltb, le-ltb}
 use Rattle.fax_bits.specs.declared.Colour.{Colour}
@@ -9,7 +10,7 @@ use Rattle.fax_rows.specs.Elements.{is_right_of}
 use Rattle.fax_rows.specs.code.Turns.{pels_by, alternate, ArePlaces, IsFrom, IsB1At}
 use Rattle.fax_rows.proofs.TurnLemmas.{alternate-odd, alternate-even, below_later, not_later, pel_behind}
 
--- the same colour stands behind numbers of places that are both odd, or both even
+-- the same colour stands after numbers of places that are both odd, or both even
 pub same_colour_behind : (m n : ℕ) → m % 2 ≡ n % 2 → alternate Black m ≡ alternate Black n
 same_colour_behind m n same = by (m % 2) refl
   where

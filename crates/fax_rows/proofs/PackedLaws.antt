@@ -1,5 +1,6 @@
 -- Packing and unpacking of rows undo one another.
-use Rattle.std.proofs.Common.{◌≡◌, ℕ, ◌+◌, ◌-◌, ◌*◌, ◌/◌, ◌%◌, ◌<◌, List, [], ◌∷◌, ◌++◌, map, length, take, drop, replicate, get_or, Bool, true, false, nat_eq, refl, ap, sym, ◌∙◌, arith, length-append, length-drop, get_or-drop}
+use Rattle.std.proofs.Common.{◌≡◌, ℕ, ◌+◌, ◌-◌, ◌*◌, ◌/◌, ◌%◌, ◌<◌, List, [], ◌∷◌, ◌++◌, map, length, take, drop, replicate, get_or, Bool}
+use Rattle.std.proofs.Common.{true, false, nat_eq, refl, ap, sym, ◌∙◌, arith, length-append, length-drop, get_or-drop}
 use Rattle.std.specs.Int.{bit_at}
 use Rattle.std.proofs.lemmas.List.{length-replicate, length-map, get_or-map, get_or-take, length-take-le, take-map, ext_get_or}
 use Rattle.std.proofs.lemmas.List.FromFn.{length-map-range_with_len, get_or-map-range_with_len}
@@ -8,7 +9,8 @@ use Rattle.fax_bits.specs.declared.Colour.{Colour}
 use Rattle.fax_bits.specs.declared.Colour.TheVariants.{White, Black}
 use Rattle.fax_bits.specs.Bits.{bits, bits_number}
 use Rattle.fax_bits.specs.Laws.{AreBitsByPlace, AreBitsOfOneByte}
-use Rattle.fax_rows.specs.Packed.{packed_len, is_black, colour_of_bit, packed_byte, packed_row, unpacked_row, HasBitsOfPels, IsReadBack, IsPackedBack, PackingUndoesUnpacking}
+use Rattle.fax_rows.specs.Packed.{packed_len, is_black, colour_of_bit, packed_byte, packed_row, unpacked_row, HasBitsOfPels, IsReadBack}
+use Rattle.fax_rows.specs.Packed.{IsPackedBack, PackingUndoesUnpacking}
 use Rattle.fax_rows.proofs.PackedLemmas.{get_or-padded, padded_bits, unpacked_at}
 
 length-packed_row : (row : List Colour) → length (packed_row row) ≡ packed_len (length row)
@@ -29,7 +31,13 @@ module _ (places : AreBitsByPlace) (one_byte : AreBitsOfOneByte) where
   bit-packed_byte row from r within in_byte =
       let eight : length (take 8 (drop from (padded_bits row))) ≡ 8 =
       length-take-le 8 (drop from (padded_bits row))
-      (omega (arith, length-drop from (padded_bits row), length-append (map is_black row) (replicate 8 false), length-map row is_black, length-replicate 8 false)) in
+      (omega (
+        arith,
+        length-drop from (padded_bits row),
+        length-append (map is_black row) (replicate 8 false),
+        length-map row is_black,
+        length-replicate 8 false,
+      )) in
       sym (places.of_byte MsbFirst (bits_number (take 8 (drop from (padded_bits row)))) r in_byte)
       ∙ ap (λ b. get_or b r false) (one_byte.spelled (take 8 (drop from (padded_bits row))) eight)
       ∙ get_or-take 8 (drop from (padded_bits row)) r false in_byte
@@ -59,7 +67,13 @@ module _ (places : AreBitsByPlace) (one_byte : AreBitsOfOneByte) where
 
       padded_long : length (map is_black row ++ replicate (8 * packed_len (length row) - length row) false) ≡ 8 * packed_len (length row)
       padded_long =
-          omega (arith, length-append (map is_black row) (replicate (8 * packed_len (length row) - length row) false), length-map row is_black, length-replicate (8 * packed_len (length row) - length row) false)
+          omega (
+            arith,
+            length-append (map is_black row) (replicate (8 * packed_len (length row) - length row) false),
+            length-map row
+                is_black,
+            length-replicate (8 * packed_len (length row) - length row) false,
+          )
 
   colour_of_black : (colour : Colour) → colour ≡ colour_of_bit (is_black colour)
   colour_of_black White = refl
@@ -90,7 +104,8 @@ module _ (places : AreBitsByPlace) (one_byte : AreBitsOfOneByte) where
   packed_back : IsPackedBack
   packed_back width bytes whole =
       bits_of_pels (unpacked_row width bytes)
-      ∙ ap (λ b. b ++ replicate (8 * packed_len (length (unpacked_row width bytes)) - length (unpacked_row width bytes)) false) (bits_of_unpacked width bytes)
+      ∙ ap (λ b. b ++ replicate (8 * packed_len (length (unpacked_row width bytes)) - length (unpacked_row width bytes)) false)
+      (bits_of_unpacked width bytes)
       ∙ ap (λ n. take width (bits MsbFirst bytes) ++ replicate (8 * packed_len n - n) false) (length-unpacked_row width bytes whole)
 
   pub packing_undoes_unpacking : PackingUndoesUnpacking

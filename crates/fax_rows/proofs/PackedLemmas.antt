@@ -1,5 +1,7 @@
 -- Rows as packed bytes, bit by bit.
-use Rattle.std.proofs.Common.{◌≡◌, ℕ, zero, suc, ◌+◌, ◌*◌, ◌^◌, ◌<◌, ◌≤◌, List, [], ◌∷◌, ◌++◌, map, length, take, drop, replicate, get_or, Bool, true, false, if◌then◌else◌, refl, ap, sym, ◌∙◌, arith, inl, inr, length-append, length-drop, get_or-drop, add-one, below_more}
+use Rattle.std.proofs.Common.{◌≡◌, ℕ, zero, suc, ◌+◌, ◌*◌, ◌^◌, ◌<◌, ◌≤◌, List, [], ◌∷◌, ◌++◌, map, length, take, drop, replicate, get_or}
+use Rattle.std.proofs.Common.{Bool, true, false, if◌then◌else◌, refl, ap, sym, ◌∙◌, arith, inl, inr, length-append, length-drop}
+use Rattle.std.proofs.Common.{get_or-drop, add-one, below_more}
 use mir.Val.{bool_byte}
 use Rattle.std.proofs.lemmas.Bool.{cases_lt}
 use Rattle.std.proofs.Math.Nat.{pow-succ'}
@@ -64,7 +66,7 @@ unpacked_turned b old new i colour pel so_far turns is turn = record {
   behind = λ k h. turn.right k (omega arith) ∙ ap other (so_far.behind k (omega arith)) ∙ sym turns;
 }
 
--- the bits of a row, with zeros behind the last pel
+-- the bits of a row, with zeros after the last pel
 abbrev pub padded_bits : List Colour → List Bool
 padded_bits row = map is_black row ++ replicate 8 false
 
@@ -85,7 +87,13 @@ pub byte_more : (row : List Colour) (from i byte digit : ℕ) (bit : Bool) → f
     → 2 * byte + digit ≡ bits_number (take (i + 1) (drop from (padded_bits row)))
 byte_more row from i byte digit bit within few byte_is bit_is digit_is =
     let long : i < length (drop from (padded_bits row)) =
-    omega (arith, length-drop from (padded_bits row), length-append (map is_black row) (replicate 8 false), length-map row is_black, length-replicate 8 false) in
+    omega (
+      arith,
+      length-drop from (padded_bits row),
+      length-append (map is_black row) (replicate 8 false),
+      length-map row is_black,
+      length-replicate 8 false,
+    ) in
     let here : get_or (drop from (padded_bits row)) i false ≡ bit =
     get_or-drop from (padded_bits row) i false ∙ get_or-padded (map is_black row) 8 (from + i) ∙ sym bit_is in
     let digit_of : digit ≡ (if get_or (drop from (padded_bits row)) i false then 1 else 0) =
@@ -111,7 +119,8 @@ unfolding packed_row
 packed_at row bytes len each =
     fill_by_all (λ k. packed_byte row (8 * k)) bytes (packed_len (length row)) 0 len (λ k h. each k (omega arith))
 
--- behind the eighth bit
-pub byte_done : (row : List Colour) (from byte : ℕ) → byte ≡ bits_number (take 8 (drop from (padded_bits row))) → byte ≡ packed_byte row from
+-- after the eighth bit
+pub byte_done : (row : List Colour) (from byte : ℕ) → byte ≡ bits_number (take 8 (drop from (padded_bits row)))
+    → byte ≡ packed_byte row from
 unfolding packed_byte
 byte_done row from byte number = number

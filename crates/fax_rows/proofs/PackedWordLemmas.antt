@@ -1,12 +1,15 @@
 -- A row packed by words of 64 pels.
-use Rattle.std.proofs.Common.{◌≡◌, ◌≢◌, ℕ, zero, suc, ◌+◌, ◌-◌, ◌*◌, ◌/◌, ◌%◌, ◌^◌, ◌<◌, ◌≤◌, List, map, length, take, drop, replicate, get_or, true, false, not, nat_eq, refl, ap, sym, ◌∙◌, subst, arith, inl, inr, length-append, length-drop, length-set, get_or-set_other, get_or-set_same, below_more}
+use Rattle.std.proofs.Common.{◌≡◌, ◌≢◌, ℕ, zero, suc, ◌+◌, ◌-◌, ◌*◌, ◌/◌, ◌%◌, ◌^◌, ◌<◌, ◌≤◌, List, map, length, take, drop, replicate}
+use Rattle.std.proofs.Common.{get_or, true, false, not, nat_eq, refl, ap, sym, ◌∙◌, subst, arith, inl, inr, length-append, length-drop}
+use Rattle.std.proofs.Common.{length-set, get_or-set_other, get_or-set_same, below_more}
 use Rattle.std.specs.Int.{bit_at, to_be_bytes, w64}
 use Rattle.std.specs.Int.RustNames.{bit_xor}
 use Rattle.std.proofs.Math.ListN.{set}
 use Rattle.std.proofs.lemmas.Bool.{cases_lt}
 use Rattle.std.proofs.lemmas.List.{length-replicate, length-map, length-take-le}
 use Rattle.std.proofs.lemmas.Nat.{xor_lt, shr_le, shr-shr, shr_split}
-use Rattle.std.proofs.lemmas.Nat.Bits.{bit_at-lt, bit_at-zero, bit_at_xor, bit_at_ones, bit_at_ones_above, bit_at_cat_low, ones_shr, same_from_bits_below}
+use Rattle.std.proofs.lemmas.Nat.Bits.{bit_at-lt, bit_at-zero, bit_at_xor, bit_at_ones, bit_at_ones_above, bit_at_cat_low, ones_shr}
+use Rattle.std.proofs.lemmas.Nat.Bits.{same_from_bits_below}
 use Rattle.fax_bits.specs.Laws.{AreBitsByPlace, AreBitsOfOneByte}
 use Rattle.fax_bits.specs.declared.Colour.{Colour}
 use Rattle.fax_rows.specs.Packed.{is_black, packed_byte}
@@ -38,18 +41,20 @@ ones-bits word s i within =
 
 turned_left : (word s i : ℕ) → s < 64 → i < s → word_bit (turned_word word s) i ≡ word_bit word i
 turned_left word s i within before =
-    ap (λ b. nat_eq b 1) (ones-bits word s (63 - i) (omega arith) ∙ ap (λ b. (bit_at word (63 - i) + b) % 2) (bit_at_ones_above (64 - s) (63 - i) (omega arith)))
+    ap (λ b. nat_eq b 1) (ones-bits word s (63 - i) (omega arith)
+    ∙ ap (λ b. (bit_at word (63 - i) + b) % 2) (bit_at_ones_above (64 - s) (63 - i) (omega arith)))
     ∙ same_bit (bit_at word (63 - i)) (bit_at-lt word (63 - i))
 
 turned_right : (word s i : ℕ) → s < 64 → s ≤ i → i < 64 → word_bit (turned_word word s) i ≡ not (word_bit word i)
 turned_right word s i within behind inside =
-    ap (λ b. nat_eq b 1) (ones-bits word s (63 - i) (omega arith) ∙ ap (λ b. (bit_at word (63 - i) + b) % 2) (bit_at_ones (64 - s) (63 - i) (omega arith)))
+    ap (λ b. nat_eq b 1) (ones-bits word s (63 - i) (omega arith)
+    ∙ ap (λ b. (bit_at word (63 - i) + b) % 2) (bit_at_ones (64 - s) (63 - i) (omega arith)))
     ∙ turned_bit (bit_at word (63 - i)) (bit_at-lt word (63 - i))
 
 turned_fits : (word s : ℕ) → word < 2 ^ 64 → s ≤ 64 → turned_word word s < 2 ^ 64
 turned_fits word s fits within = xor_lt 64 word ((2 ^ 64 - 1) / 2 ^ s) fits (omega (arith, shr_le (2 ^ 64 - 1) s))
 
--- the colour behind one place more
+-- the colour after one place more
 not_behind : (k : ℕ) → not (nat_eq (k % 2) 0) ≡ nat_eq ((k + 1) % 2) 0
 not_behind k =
     elim (cases_lt (k % 2) 1) [
@@ -64,7 +69,7 @@ not_behind k =
     ]
 
 -- the places that are passed stand in a word, of which the pels left of the last of them are right, and the others have
--- the colour behind it
+-- the colour after it
 pub record IsWordTo (places : List ℕ) (end width from word k : ℕ) : Type 0 where
   pub fits : word < 2 ^ 64
   pub some : 0 < k
@@ -107,9 +112,15 @@ module _ (places : List ℕ) (end width : ℕ) (all : ArePlaces places end width
       → (k < end → from + i < get_or places k 0) → word_bit word i ≡ get_or (map is_black (row_of places end width)) (from + i) false
   pel_between from word k i so_far inside wide left right =
       so_far.behind i inside left
-      ∙ sym (bit_behind places end width all (from + i) k wide (record { some = so_far.some; within = so_far.within; left = left; right = right }))
+      ∙ sym (bit_behind places end width all (from + i) k wide (record {
+        some = so_far.some;
+        within = so_far.within;
+        left = left;
+        right =
+            right;
+      }))
 
-  -- all pels of a word behind which no place of it stands
+  -- all pels of a word after which no place of it stands
   pub word_done : (from word k : ℕ) → IsWordTo places end width from word k → from + 64 ≤ width → (k < end → from + 64 ≤ get_or places k 0)
       → IsPackedWord (row_of places end width) from word
   word_done from word k so_far wide far = record {
@@ -129,7 +140,7 @@ module _ (places : List ℕ) (end width : ℕ) (all : ArePlaces places end width
     right = far;
   }
 
-  -- behind the last place stands the width
+  -- after the last place stands the width
   pub before_end : (from word k : ℕ) → IsWordTo places end width from word k → get_or places k 0 < from + 64 → from + 64 ≤ width → k < end
   before_end from word k so_far near wide =
       elim (cases_lt k end) [
@@ -173,7 +184,8 @@ module _ (places : List ℕ) (end width : ℕ) (all : ArePlaces places end width
 
       order : get_or places (k - 1) 0 ≤ get_or places k 0
       order = elim (cases_lt k 2) [
-        | inl one ↦ let first : k - 1 ≡ 0 = omega (arith, so_far.some) in omega (arith, ap (λ m. get_or places m 0) first, all.ascending.first)
+        | inl one ↦ let first : k - 1 ≡ 0 =
+            omega (arith, so_far.some) in omega (arith, ap (λ m. get_or places m 0) first, all.ascending.first)
         | inr more ↦
             let next : k - 1 + 1 ≡ k = omega arith in
             omega (arith, all.ascending.steps (k - 1) (omega arith) (omega (arith, inside)), ap (λ m. get_or places m 0) next)
@@ -202,7 +214,13 @@ module _ (places : AreBitsByPlace) (one_byte : AreBitsOfOneByte) where
   packed_byte_fits row from within =
       one_byte.fits (take 8 (drop from (padded_bits row)))
       (length-take-le 8 (drop from (padded_bits row))
-      (omega (arith, length-drop from (padded_bits row), length-append (map is_black row) (replicate 8 false), length-map row is_black, length-replicate 8 false)))
+      (omega (
+        arith,
+        length-drop from (padded_bits row),
+        length-append (map is_black row) (replicate 8 false),
+        length-map row is_black,
+        length-replicate 8 false,
+      )))
 
   -- the bytes of a word are those of its pels
   pub byte_of_word : (row : List Colour) (from word j : ℕ) → IsPackedWord row from word → from + 64 ≤ length row → j < 8
@@ -214,7 +232,8 @@ module _ (places : AreBitsByPlace) (one_byte : AreBitsOfOneByte) where
       let back : 7 - (7 - i) ≡ i = omega arith in
       let in_byte : 7 - i < 8 = omega arith in
       let place : from + (8 * j + (7 - i)) ≡ from + 8 * j + (7 - i) = omega arith in
-      let bit : nat_eq (bit_at (word / 2 ^ (8 * (7 - j)) % 256) (7 - (7 - i))) 1 ≡ nat_eq (bit_at (packed_byte row (from + 8 * j)) (7 - (7 - i))) 1 =
+      let bit : nat_eq (bit_at (word / 2 ^ (8 * (7 - j)) % 256) (7 - (7 - i))) 1
+      ≡ nat_eq (bit_at (packed_byte row (from + 8 * j)) (7 - (7 - i))) 1 =
       ap (λ b. nat_eq b 1) (byte_bit word j (7 - i) few in_byte) ∙ packed.pels (8 * j + (7 - i)) (omega arith)
       ∙ ap (λ n. get_or (map is_black row) n false) place
       ∙ sym (bit-packed_byte places one_byte row (from + 8 * j) (7 - i) (omega arith) in_byte) in
@@ -233,7 +252,7 @@ be_byte n (suc (suc (suc (suc (suc (suc zero)))))) h = refl
 be_byte n (suc (suc (suc (suc (suc (suc (suc zero))))))) h = omega arith
 be_byte n (suc (suc (suc (suc (suc (suc (suc (suc i)))))))) h = absurd (omega arith)
 
--- one more byte behind those that are written
+-- one more byte after those that are written
 put_next : (out b : List ℕ) (at n next : ℕ) → at + n ≡ next → next < length out → ((i : ℕ) → i < n → get_or out (at + i) 0 ≡ get_or b i 0)
     → (i : ℕ) → i < n + 1 → get_or (set out next (get_or b n 0)) (at + i) 0 ≡ get_or b i 0
 put_next out b at n next is within before =
@@ -242,7 +261,8 @@ put_next out b at n next is within before =
     (ap (λ k. get_or (set out next (get_or b n 0)) k 0) is ∙ get_or-set_same out next (get_or b n 0) 0 within)
 
 pub eight_put : (out b : List ℕ) (at : ℕ) → at + 8 ≤ length out → (i : ℕ) → i < 8
-    → get_or (set (set (set (set (set (set (set (set out at (get_or b 0 0)) (at + 1) (get_or b 1 0)) (at + 2) (get_or b 2 0)) (at + 3) (get_or b 3 0)) (at + 4) (get_or b 4 0)) (at + 5) (get_or b 5 0)) (at + 6) (get_or b 6 0)) (at + 7) (get_or b 7 0)) (at + i) 0
+    → get_or (set (set (set (set (set (set (set (set out at (get_or b 0 0)) (at + 1) (get_or b 1 0)) (at + 2) (get_or b 2 0)) (at + 3)
+    (get_or b 3 0)) (at + 4) (get_or b 4 0)) (at + 5) (get_or b 5 0)) (at + 6) (get_or b 6 0)) (at + 7) (get_or b 7 0)) (at + i) 0
     ≡ get_or b i 0
 eight_put out b at room =
     put_next _ b at 7 (at + 7) refl (simp length-set (omega arith))

@@ -1,5 +1,7 @@
 -- A row packed by its places of change.
-use Rattle.std.proofs.Common.{◌≡◌, ◌≢◌, ℕ, zero, suc, ◌+◌, ◌-◌, ◌*◌, ◌^◌, ◌%◌, ◌<◌, ◌≤◌, List, map, length, take, drop, replicate, get_or, Bool, true, false, if◌then◌else◌, nat_eq, refl, ap, sym, ◌∙◌, subst, arith, inl, inr, length-append, length-drop, get_or-drop, get_or-set_other, get_or-set_same, below_more}
+use Rattle.std.proofs.Common.{◌≡◌, ◌≢◌, ℕ, zero, suc, ◌+◌, ◌-◌, ◌*◌, ◌^◌, ◌%◌, ◌<◌, ◌≤◌, List, map, length, take, drop, replicate, get_or}
+use Rattle.std.proofs.Common.{Bool, true, false, if◌then◌else◌, nat_eq, refl, ap, sym, ◌∙◌, subst, arith, inl, inr, length-append}
+use Rattle.std.proofs.Common.{length-drop, get_or-drop, get_or-set_other, get_or-set_same, below_more}
 use mir.Val.{bool_byte}
 use Rattle.std.proofs.lemmas.Bool.{cases_lt}
 use Rattle.std.proofs.lemmas.Nat.{pow_pos}
@@ -25,7 +27,8 @@ byte_put byte_at out k byte within done is =
     (get_or-set_same out k byte 0 within ∙ is)
 
 -- the byte of eight pels of one colour
-pub whole_byte : (row : List Colour) (from : ℕ) (b : Bool) → from < length row → ((j : ℕ) → j < 8 → get_or (map is_black row) (from + j) false ≡ b)
+pub whole_byte : (row : List Colour) (from : ℕ) (b : Bool) → from < length row
+    → ((j : ℕ) → j < 8 → get_or (map is_black row) (from + j) false ≡ b)
     → packed_byte row from ≡ (if b then 255 else 0)
 unfolding packed_byte
 whole_byte row from b within each = ap bits_number same ∙ number b
@@ -33,13 +36,20 @@ whole_byte row from b within each = ap bits_number same ∙ number b
     eight : length (take 8 (drop from (padded_bits row))) ≡ 8
     eight =
         length-take-le 8 (drop from (padded_bits row))
-        (omega (arith, length-drop from (padded_bits row), length-append (map is_black row) (replicate 8 false), length-map row is_black, length-replicate 8 false))
+        (omega (
+          arith,
+          length-drop from (padded_bits row),
+          length-append (map is_black row) (replicate 8 false),
+          length-map row is_black,
+          length-replicate 8 false,
+        ))
 
     same : take 8 (drop from (padded_bits row)) ≡ replicate 8 b
     same =
         ext_get_or false (take 8 (drop from (padded_bits row))) (replicate 8 b) (eight ∙ sym (length-replicate 8 b))
         (λ j h. get_or-take 8 (drop from (padded_bits row)) j false (omega (arith, eight)) ∙ get_or-drop from (padded_bits row) j false
-        ∙ get_or-padded (map is_black row) 8 (from + j) ∙ each j (omega (arith, eight)) ∙ sym (get_or-replicate 8 j b false (omega (arith, eight))))
+        ∙ get_or-padded (map is_black row) 8 (from + j) ∙ each j (omega (arith, eight))
+        ∙ sym (get_or-replicate 8 j b false (omega (arith, eight))))
 
     number : (bit : Bool) → bits_number (replicate 8 bit) ≡ (if bit then 255 else 0)
     number true = refl
@@ -57,13 +67,14 @@ black_behind k =
     ]
 
 module _ (places : List ℕ) (end width : ℕ) (all : ArePlaces places end width) where
-  -- no pel stands behind the last one
+  -- no pel stands after the last one
   pub none_behind : (i : ℕ) → width ≤ i → get_or (map is_black (row_of places end width)) i false ≡ false
   none_behind i over =
       get_or_past (map is_black (row_of places end width)) i false
       (omega (arith, length-map (row_of places end width) is_black, length-pels_by width (take end places)))
 
-  pub bit_behind : (i k : ℕ) → i < width → IsBehind places end i k → get_or (map is_black (row_of places end width)) i false ≡ nat_eq (k % 2) 0
+  pub bit_behind : (i k : ℕ) → i < width → IsBehind places end i k
+      → get_or (map is_black (row_of places end width)) i false ≡ nat_eq (k % 2) 0
   bit_behind i k within at =
       get_or-map is_black (row_of places end width) i White false (omega (arith, length-pels_by width (take end places)))
       ∙ ap is_black (pel-pels_by width (take end places) i within ∙ colour_behind_places places end all.ascending i k at) ∙ black_behind k
@@ -170,7 +181,7 @@ run_grows byte n bit =
     let double : byte * 2 ^ suc n ≡ byte * (2 * 2 ^ n) = ap (λ p. byte * p) (pow-succ' 2 n) in
     omega (arith, double, ones_grow bit n)
 
--- a run of bits behind the first ones of a byte
+-- a run of bits after the first ones of a byte
 module _ (row : List Colour) (from i byte : ℕ) (bit : Bool) (within : from < length row)
     (byte_is : byte ≡ bits_number (take i (drop from (padded_bits row)))) where
   pub run_more : (n : ℕ) → i + n ≤ 8 → ((m : ℕ) → i ≤ m → m < i + n → get_or (map is_black row) (from + m) false ≡ bit)
@@ -203,12 +214,14 @@ run_fits byte i zero bit fits few = by bit
 run_fits byte i (suc n) bit fits few =
     let next : i + suc n ≡ i + n + 1 = omega arith in
     subst (λ m. byte * 2 ^ suc n + ones bit (suc n) < 2 ^ m) (sym next)
-    (rw (run_grows byte n bit) (byte_fits (byte * 2 ^ n + ones bit n) (bool_byte bit) (i + n) bit (run_fits byte i n bit fits (omega arith)) (omega arith) refl))
+    (rw (run_grows byte n bit) (byte_fits (byte * 2 ^ n + ones bit n) (bool_byte bit) (i + n) bit (run_fits byte i n bit fits (omega arith))
+    (omega arith) refl))
 
 module _ (places : List ℕ) (end width : ℕ) (all : ArePlaces places end width) where
   -- the pels up to the next place have one colour
   pub same_up_to : (from at next k : ℕ) → HasPassed places end at k → from ≤ at → next ≤ width → (k < end → next ≤ get_or places k 0)
-      → (m : ℕ) → at - from ≤ m → m < at - from + (next - at) → get_or (map is_black (row_of places end width)) (from + m) false ≡ nat_eq (k % 2) 0
+      → (m : ℕ) → at - from ≤ m → m < at - from + (next - at)
+      → get_or (map is_black (row_of places end width)) (from + m) false ≡ nat_eq (k % 2) 0
   same_up_to from at next k passed order within before m h l =
       bit_behind places end width all (from + m) k (omega arith) (record {
         some = passed.some;
@@ -218,7 +231,8 @@ module _ (places : List ℕ) (end width : ℕ) (all : ArePlaces places end width
       })
 
   -- a place further right is passed too where none stands between
-  pub still_passed : (at next k : ℕ) → HasPassed places end at k → at ≤ next → (k < end → next ≤ get_or places k 0) → HasPassed places end next k
+  pub still_passed : (at next k : ℕ) → HasPassed places end at k → at ≤ next → (k < end → next ≤ get_or places k 0)
+      → HasPassed places end next k
   still_passed at next k passed order before = record {
     some = passed.some;
     within = passed.within;
@@ -226,19 +240,21 @@ module _ (places : List ℕ) (end width : ℕ) (all : ArePlaces places end width
     right = before;
   }
 
-  -- the next place is not left of it, nor behind the row
+  -- the next place is not left of it, nor after the row
   pub place_ahead : (at k : ℕ) → HasPassed places end at k → at ≤ width → at ≤ get_or places k 0
   place_ahead at k passed within =
       elim (cases_lt k end) [
         | inl less ↦ passed.right less
-        | inr far ↦ let same : k ≡ end = omega (arith, passed.within) in omega (arith, last_is places end width all, ap (λ m. get_or places m 0) same)
+        | inr far ↦ let same : k ≡ end =
+            omega (arith, passed.within) in omega (arith, last_is places end width all, ap (λ m. get_or places m 0) same)
       ]
 
   pub place_at_most : (at k : ℕ) → HasPassed places end at k → get_or places k 0 ≤ width
   place_at_most at k passed =
       elim (cases_lt k end) [
         | inl less ↦ omega (arith, all.below k passed.some less)
-        | inr far ↦ let same : k ≡ end = omega (arith, passed.within) in omega (arith, last_is places end width all, ap (λ m. get_or places m 0) same)
+        | inr far ↦ let same : k ≡ end =
+            omega (arith, passed.within) in omega (arith, last_is places end width all, ap (λ m. get_or places m 0) same)
       ]
 
   -- a place that is reached is passed

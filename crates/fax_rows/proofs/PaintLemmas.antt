@@ -1,5 +1,6 @@
 -- Pels that are painted from a place on.
-use Rattle.std.proofs.Common.{◌≡◌, ℕ, ◌+◌, ◌-◌, ◌<◌, ◌≤◌, List, ◌++◌, length, take, get_or, replicate, sym, ◌∙◌, arith, length-append, inl, inr}
+use Rattle.std.proofs.Common.{◌≡◌, ℕ, ◌+◌, ◌-◌, ◌<◌, ◌≤◌, List, ◌++◌, length, take, get_or, replicate, sym, ◌∙◌, arith, length-append, inl}
+use Rattle.std.proofs.Common.{inr}
 use Rattle.std.specs.Prelude.{◌⊎◌}
 use Rattle.std.proofs.lemmas.Bool.{cases_lt}
 use Rattle.std.proofs.Math.ListN.{get_or-append}
@@ -24,7 +25,8 @@ painted_front old new from n colour within len before painted =
     long : length (take (from + n) new) ≡ from + n
     long = length-take-le (from + n) new (omega arith)
 
-    by : (k : ℕ) → k < from + n → (k < from) ⊎ (from ≤ k) → get_or (take (from + n) new) k White ≡ get_or (take from old ++ replicate n colour) k White
+    by : (k : ℕ) → k < from + n → (k < from) ⊎ (from ≤ k)
+        → get_or (take (from + n) new) k White ≡ get_or (take from old ++ replicate n colour) k White
     by k h (inl less) =
         let left : k < length (take from old) = omega (arith, short) in
         get_or-take (from + n) new k White h ∙ before k less ∙ sym (get_or-take from old k White less)

@@ -1,5 +1,6 @@
 -- Changing elements, place by place.
-use Rattle.std.proofs.Common.{◌≡◌, ℕ, zero, suc, ◌+◌, ◌<◌, ◌≤◌, Bool, true, false, cond, List, length, Option, refl, ap, sym, ◌∙◌, arith, inl, inr}
+use Rattle.std.proofs.Common.{◌≡◌, ℕ, zero, suc, ◌+◌, ◌<◌, ◌≤◌, Bool, true, false, cond, List, length, Option, refl, ap, sym, ◌∙◌, arith}
+use Rattle.std.proofs.Common.{inl, inr}
 use Rattle.std.specs.Prelude.{◌⊎◌, ◌&&◌, not}
 use Rattle.std.proofs.lemmas.Bool.{true≢false}
 use Rattle.std.proofs.Math.Nat.{eq-or-lt_of_le}
@@ -11,7 +12,7 @@ first_place_by : (b : Bool) (i more r : ℕ) → (b ≡ true → i ≡ r) → (b
 first_place_by true i more r pass fail = pass refl
 first_place_by false i more r pass fail = fail refl
 
--- the first place that passes a test, or the place behind them all
+-- the first place that passes a test, or the place after them all
 pub first_place_at : (test : ℕ → Bool) (i n r : ℕ) → i ≤ r → r ≤ i + n
     → ((k : ℕ) → i ≤ k → k < r → test k ≡ false) → (r < i + n → test r ≡ true) → first_place test i n ≡ r
 unfolding first_place
@@ -46,5 +47,6 @@ pub next_of_at : (row : List Colour) (from : Option ℕ) (colour : Colour) (r : 
     → r ≡ next_of row from colour
 unfolding next_of
 next_of_at row from colour r within left at =
-    sym (first_place_at (λ i. is_right_of from i && (is_changing row i && not (same_colour (pel row i) colour))) 0 (length row) r (omega arith) (omega arith)
+    sym (first_place_at (λ i. is_right_of from i && (is_changing row i && not (same_colour (pel row i) colour))) 0 (length row) r
+    (omega arith) (omega arith)
     (λ k l h. left k h) (λ h. at (omega arith)))

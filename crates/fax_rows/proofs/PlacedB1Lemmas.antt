@@ -1,5 +1,6 @@
 -- b1 and b2 by an index into the reference row's places of change.
-use Rattle.std.proofs.Common.{◌≡◌, ℕ, zero, suc, ◌+◌, ◌-◌, ◌<◌, ◌≤◌, List, length, take, get_or, true, false, not, refl, ap, sym, ◌∙◌, subst, arith, inl, inr}
+use Rattle.std.proofs.Common.{◌≡◌, ℕ, zero, suc, ◌+◌, ◌-◌, ◌<◌, ◌≤◌, List, length, take, get_or, true, false, not, refl, ap, sym, ◌∙◌}
+use Rattle.std.proofs.Common.{subst, arith, inl, inr}
 use Rattle.std.specs.Prelude.{◌⊎◌, ◌&&◌, Option, Some, None, unwrap_or}
 use Rattle.std.proofs.lemmas.Bool.{cases_lt, ltb-true, lt-ltb, le-ltb, true≢false}
 use Rattle.std.proofs.Math.Nat.{eq-or-lt_of_le}
@@ -9,7 +10,8 @@ use Rattle.fax_rows.specs.Elements.{other, same_colour, pel, is_changing, is_rig
 use Rattle.fax_rows.specs.code.Turns.{pels_by, alternate, IsAscending, ArePlaces, IsBehind, IsBeforeB1, IsB1At}
 use Rattle.fax_rows.proofs.ChangeLemmas.{still_left, both, next_change_is}
 use Rattle.fax_rows.proofs.PlaceLemmas.{next_of_at}
-use Rattle.fax_rows.proofs.TurnLemmas.{other-other, length-pels_by, alternate-suc, below_later, not_later, pel_behind, changing_at, unchanging}
+use Rattle.fax_rows.proofs.TurnLemmas.{other-other, length-pels_by, alternate-suc, below_later, not_later, pel_behind, changing_at}
+use Rattle.fax_rows.proofs.TurnLemmas.{unchanging}
 use Rattle.fax_rows.proofs.PlacedRowLemmas.{at_end, next_here}
 
 -- a place further right is right of a place too
@@ -30,11 +32,11 @@ module _ (places : List ℕ) (end : ℕ) (up : IsAscending places end) where
       same : k ≡ suc k - 1
       same = omega arith
 
-  -- how many places a place lies behind
+  -- how many places a place lies after
   rank : (i : ℕ) → (j : ℕ) × IsBehind places end i j
   rank i = rank_from i (end - 1) 1 (omega arith) (omega (arith, up.started)) (omega (arith, up.first))
 
-  -- a changing element is a place behind the first
+  -- a changing element is a place after the first
   place_of_change : (width i j : ℕ) → IsBehind places end i j → i < width → is_changing (pels_by width (take end places)) i ≡ true
       → (1 < j) × (get_or places (j - 1) 0 ≡ i)
   place_of_change width i j at inside changes =
@@ -48,7 +50,8 @@ module _ (places : List ℕ) (end : ℕ) (up : IsAscending places end) where
       ]
 
   -- a changing element right of a0 and left of the place of b1 is the one before that
-  before_b1 : (a0 : Option ℕ) (colour : Colour) (b i j : ℕ) → IsB1At places end a0 colour b → i < get_or places b 0 → is_right_of a0 i ≡ true
+  before_b1 : (a0 : Option ℕ) (colour : Colour) (b i j : ℕ) → IsB1At places end a0 colour b → i < get_or places b 0
+      → is_right_of a0 i ≡ true
       → 1 < j → j ≤ end → get_or places (j - 1) 0 ≡ i → j ≡ b
   before_b1 a0 colour b i j at before right some within is =
       elim (cases_lt (j - 1) b) [
@@ -148,8 +151,10 @@ module _ (places : List ℕ) (end width : ℕ) (all : ArePlaces places end width
           → (is_right_of a0 i && (is_changing (pels_by width (take end places)) i
           && not (same_colour (pel (pels_by width (take end places)) i) colour))) ≡ false
       left i h =
-          still_left (is_right_of a0 i) (is_changing (pels_by width (take end places)) i && not (same_colour (pel (pels_by width (take end places)) i) colour))
-          (λ right. still_left (is_changing (pels_by width (take end places)) i) (not (same_colour (pel (pels_by width (take end places)) i) colour))
+          still_left (is_right_of a0 i) (is_changing (pels_by width (take end places)) i
+          && not (same_colour (pel (pels_by width (take end places)) i) colour))
+          (λ right. still_left (is_changing (pels_by width (take end places)) i)
+          (not (same_colour (pel (pels_by width (take end places)) i) colour))
           (λ changes. none_left places end all.ascending width a0 colour b i at h (omega (arith, within)) right changes))
 
       there : get_or places b 0 < length (pels_by width (take end places))
@@ -175,8 +180,9 @@ module _ (places : List ℕ) (end width : ℕ) (all : ArePlaces places end width
             right = λ l. below_later places end all.ascending b (suc b) at.some (omega arith) l;
           }
 
-  -- and b2 is the one behind it
-  pub behind_b1 : (b : ℕ) → 0 < b → b ≤ end + 1 → get_or places (b + 1) 0 ≡ next_change (pels_by width (take end places)) (Some (get_or places b 0))
+  -- and b2 is the one after it
+  pub behind_b1 : (b : ℕ) → 0 < b → b ≤ end + 1
+      → get_or places (b + 1) 0 ≡ next_change (pels_by width (take end places)) (Some (get_or places b 0))
   behind_b1 b some within =
       elim (cases_lt b end) [
         | inl inside ↦
@@ -269,7 +275,7 @@ module _ (places : List ℕ) (end width : ℕ) (all : ArePlaces places end width
         | inr over ↦ omega (arith, over_end (b + 1) over (omega arith))
       ]
 
-  -- behind a pass the next place but one is that of b1
+  -- after a pass the next place but one is that of b1
   pub b1_passed : (a0 : Option ℕ) (colour : Colour) (b : ℕ) → IsB1At places end a0 colour b → get_or places (b + 1) 0 < width
       → IsB1At places end (Some (get_or places (b + 1) 0)) colour (b + 2)
   b1_passed a0 colour b at inside = record {
@@ -332,7 +338,8 @@ module _ (places : List ℕ) (end width : ℕ) (all : ArePlaces places end width
       → IsBeforeB1 places end a1 (other colour) (b - 1)
   left_start a0 colour b a1 at right = record {
     within = omega (arith, at.within);
-    colour_is = sym (other-other (alternate Black (b - 1))) ∙ ap other (sym (alternate-suc Black (b - 1)) ∙ ap (alternate Black) one ∙ at.colour_is);
+    colour_is = sym (other-other (alternate Black (b - 1)))
+        ∙ ap other (sym (alternate-suc Black (b - 1)) ∙ ap (alternate Black) one ∙ at.colour_is);
     passed = λ h.
         let order = not_later places end all.ascending (b - 1 - 2) (b - 2) (omega arith) (omega (arith, at.within)) in
         omega (arith, not_right (get_or places (b - 2) 0) (at.passed (omega arith)));

@@ -1,5 +1,6 @@
 -- A row whose colours are exchanged: it begins with one change at 0 more, or with one less.
-use Rattle.std.proofs.Common.{◌≡◌, ℕ, zero, suc, ◌+◌, ◌-◌, ◌<◌, ◌≤◌, List, [], ◌∷◌, length, take, drop, get_or, map, Bool, true, false, refl, sym, ap, ◌∙◌, subst, arith, inl, inr}
+use Rattle.std.proofs.Common.{◌≡◌, ℕ, zero, suc, ◌+◌, ◌-◌, ◌<◌, ◌≤◌, List, [], ◌∷◌, length, take, drop, get_or, map, Bool, true, false}
+use Rattle.std.proofs.Common.{refl, sym, ap, ◌∙◌, subst, arith, inl, inr}
 use Rattle.std.proofs.Math.Nat.{eq-or-lt_of_le}
 use Rattle.std.specs.Prelude.{nat_le, if◌then◌else◌}
 use Rattle.std.proofs.lemmas.Bool.{le-leb}
@@ -17,7 +18,8 @@ unfolding turned
 turned-other c [] i = refl
 turned-other c (p ∷ places) i = by (nat_le p i) (turned-other (other c) places i) (turned-other c places i)
   where
-    by : (b : Bool) → turned (other (other c)) places i ≡ other (turned (other c) places i) → turned (other c) places i ≡ other (turned c places i)
+    by : (b : Bool) → turned (other (other c)) places i ≡ other (turned (other c) places i)
+        → turned (other c) places i ≡ other (turned c places i)
         → turned (if b then other (other c) else other c) places i ≡ other (turned (if b then other c else c) places i)
     by true first second = first
     by false first second = second
@@ -50,7 +52,7 @@ begins_with_0 : (places : List ℕ) → 0 < length places → get_or places 0 0 
 begins_with_0 [] some first = absurd (omega arith)
 begins_with_0 (p ∷ places) some first = ap (λ q. q ∷ places) first
 
--- the places of a row that begins black, and those behind the first of them
+-- the places of a row that begins black, and those after the first of them
 module _ (old new : List ℕ) (end width : ℕ) (all : ArePlaces old end width) (black : get_or old 1 0 ≡ 0) (len : length new ≡ length old)
     (each : (k : ℕ) → suc k < length old → get_or new k 0 ≡ get_or old (suc k) 0) where
   pub some_change : 1 < end
@@ -154,7 +156,8 @@ module _ (old new : List ℕ) (end width : ℕ) (all : ArePlaces old end width) 
       let here : get_or new 1 0 ≡ get_or old 0 0 = each 0 (omega (arith, all.room)) in
       omega (arith, all.ascending.first, all.some)
   all_below (suc (suc i)) some h =
-      let here : get_or new (suc (suc i)) 0 ≡ get_or old (suc i) 0 = each (suc i) (omega (arith, all.ascending.within, few_changes, all.room)) in
+      let here : get_or new (suc (suc i)) 0 ≡ get_or old (suc i) 0 =
+      each (suc i) (omega (arith, all.ascending.within, few_changes, all.room)) in
       let less = all.below (suc i) (omega arith) (omega arith) in
       omega arith
 

@@ -55,7 +55,8 @@ module _ (reference row : List Colour) (same_width : length reference ≡ length
         limit = left.limit;
         enough = omega (arith, left.enough, ahead.right);
         within = ahead.within;
-        so_far = put_goes_on old mid new _ _ (bits_from reference row a0) _ left.so_far (step_bits-more left.limit reference row a0 inside) more;
+        so_far =
+            put_goes_on old mid new _ _ (bits_from reference row a0) _ left.so_far (step_bits-more left.limit reference row a0 inside) more;
       }
 
   pub place_stops : AppendsPrefix mid (bits_from reference row a0) new → AppendsPrefix old (two_dimensional_bits reference row) new

@@ -1,5 +1,6 @@
--- Places of change that are put one behind the other while a row is read.
-use Rattle.std.proofs.Common.{◌≡◌, ℕ, zero, suc, ◌+◌, ◌-◌, ◌<◌, ◌≤◌, ◌^◌, ◌≢◌, List, [], ◌∷◌, ◌++◌, length, take, drop, get_or, Bool, ap, sym, ◌∙◌, subst, arith, inl, inr, get_or-set_other, get_or-set_same}
+-- Places of change that are put one after the other while a row is read.
+use Rattle.std.proofs.Common.{◌≡◌, ℕ, zero, suc, ◌+◌, ◌-◌, ◌<◌, ◌≤◌, ◌^◌, ◌≢◌, List, [], ◌∷◌, ◌++◌, length, take, drop, get_or, Bool, ap}
+use Rattle.std.proofs.Common.{sym, ◌∙◌, subst, arith, inl, inr, get_or-set_other, get_or-set_same}
 use Rattle.std.specs.Prelude.{◌⊎◌}
 use Rattle.std.proofs.Math.ListN.{set}
 use Rattle.std.proofs.Math.Nat.{eq-or-lt_of_le}
@@ -15,7 +16,8 @@ use Rattle.fax_rows.proofs.TurnLemmas.{other-other, length-pels_by, pel-pels_by,
 use Rattle.fax_rows.proofs.RowLemmas.{IsRowSoFar, row_goes_on}
 
 -- a place that is put
-pub turned_on : (places : List ℕ) (end place : ℕ) → end < length places → IsTurnedFrom (take end places) (take (end + 1) (set places end place)) place
+pub turned_on : (places : List ℕ) (end place : ℕ) → end < length places
+    → IsTurnedFrom (take end places) (take (end + 1) (set places end place)) place
 turned_on places end place room = record {
   left = λ i h. ap (λ ps. turned Black ps i) split ∙ turned-push_left Black (take end places) place i h;
   right = λ i h. ap (λ ps. turned Black ps i) split ∙ turned-push_right Black (take end places) place i h;
@@ -24,7 +26,7 @@ turned_on places end place room = record {
     split : take (end + 1) (set places end place) ≡ take end places ++ place ∷ []
     split = take_more_set places end place room
 
--- the last place stands behind the others
+-- the last place stands after the others
 last_split : (places : List ℕ) (end place : ℕ) → 0 < end → end ≤ length places → get_or places (end - 1) 0 ≡ place
     → take end places ≡ take (end - 1) places ++ place ∷ []
 last_split places end place some within is =
@@ -102,12 +104,12 @@ run_turned width b total n colour old new mid rest so_far unfinished within run 
     (λ k h. pel-pels_by width new k (omega arith) ∙ turn.left k (omega arith) ∙ sym (pel-pels_by width old k (omega arith)))
     (λ k h l. pel-pels_by width new k (omega arith) ∙ turn.left k (omega arith) ∙ behind k h)
 
--- and behind it the other colour
+-- and after it the other colour
 pub run_behind : (total n : ℕ) (colour : Colour) (old new : List ℕ) → ((i : ℕ) → total ≤ i → turned Black old i ≡ colour)
     → IsTurnedFrom old new (total + n) → (i : ℕ) → total + n ≤ i → turned Black new i ≡ other colour
 run_behind total n colour old new behind turn i h = turn.right i h ∙ ap other (behind i (omega arith))
 
--- the places of the runs that are read, behind which the row has a colour
+-- the places of the runs that are read, after which the row has a colour
 pub record HasRead (width : ℕ) (b : List Bool) (total : ℕ) (colour : Colour) (places : List ℕ) (end : ℕ) (rest : List Bool) : Type 0 where
   pub so_far : IsRowSoFar width b total colour (pels_by width (take end places)) rest
   pub behind : (i : ℕ) → total ≤ i → turned Black (take end places) i ≡ colour
@@ -121,17 +123,19 @@ pub read_on : (width : ℕ) (b : List Bool) (total place : ℕ) (colour : Colour
     → HasRead width b place (other colour) new next rest
 read_on width b total place colour old new end next mid rest read unfinished run right within turn up last =
     let sum : total + (place - total) ≡ place = omega arith in
-    let turn_there : IsTurnedFrom (take end old) (take next new) (total + (place - total)) = subst (λ n. IsTurnedFrom (take end old) (take next new) n) (sym sum) turn in
+    let turn_there : IsTurnedFrom (take end old) (take next new) (total + (place - total)) =
+    subst (λ n. IsTurnedFrom (take end old) (take next new) n) (sym sum) turn in
     record {
       so_far = subst (λ n. IsRowSoFar width b n (other colour) (pels_by width (take next new)) rest) sum
-          (run_turned width b total (place - total) colour (take end old) (take next new) mid rest read.so_far unfinished (omega (arith, sum)) run read.behind turn_there);
+          (run_turned width b total (place - total) colour (take end old) (take next new) mid rest read.so_far unfinished
+          (omega (arith, sum)) run read.behind turn_there);
       behind = λ i h. turn.right i h ∙ ap other (read.behind i (omega arith));
       ascending = up;
       last = last;
       within = within;
     }
 
--- the width that is put three times behind the places
+-- the width that is put three times after the places
 abbrev pub closed : List ℕ → ℕ → ℕ → List ℕ
 closed places end width = set (set (set places end width) (end + 1) width) (end + 2) width
 

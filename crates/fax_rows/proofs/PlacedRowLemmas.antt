@@ -1,5 +1,6 @@
 -- What a row of places of change shows: its pels, its changing elements, and the next of them.
-use Rattle.std.proofs.Common.{◌≡◌, ◌≢◌, ℕ, zero, suc, ◌+◌, ◌-◌, ◌%◌, ◌<◌, ◌≤◌, List, [], ◌∷◌, length, take, drop, get_or, replicate, true, false, refl, ap, sym, ◌∙◌, subst, arith, inl, inr, drop-cons}
+use Rattle.std.proofs.Common.{◌≡◌, ◌≢◌, ℕ, zero, suc, ◌+◌, ◌-◌, ◌%◌, ◌<◌, ◌≤◌, List, [], ◌∷◌, length, take, drop, get_or, replicate, true}
+use Rattle.std.proofs.Common.{false, refl, ap, sym, ◌∙◌, subst, arith, inl, inr, drop-cons}
 use Rattle.std.specs.Prelude.{◌⊎◌, Option, Some, None}
 use Rattle.std.specs.List.{filter, range_with_len}
 use Rattle.std.proofs.lemmas.Bool.{cases_lt, ltb-true, lt-ltb, le-leb}
@@ -13,9 +14,10 @@ use Rattle.fax_rows.specs.Elements.{pel, is_changing, is_right_of, next_change}
 use Rattle.fax_rows.specs.code.Turns.{turned, pels_by, alternate, ArePlaces, IsBehind, IsFrom}
 use Rattle.fax_rows.proofs.ChangeLemmas.{still_left, both}
 use Rattle.fax_rows.proofs.PlaceLemmas.{next_change_at}
-use Rattle.fax_rows.proofs.TurnLemmas.{length-pels_by, pel-pels_by, alternate-odd, alternate-even, at_least, below_later, pel_behind, changing_at, unchanging}
+use Rattle.fax_rows.proofs.TurnLemmas.{length-pels_by, pel-pels_by, alternate-odd, alternate-even, at_least, below_later, pel_behind}
+use Rattle.fax_rows.proofs.TurnLemmas.{changing_at, unchanging}
 
--- behind the first place alone all is white
+-- after the first place alone all is white
 pub turned-first : (i : ℕ) → turned Black (0 ∷ []) i ≡ White
 unfolding turned
 turned-first i = rw (le-leb 0 i (omega arith)) refl
@@ -53,7 +55,7 @@ pub record IsNext (row : List Colour) (from : Option ℕ) (r : ℕ) : Type 0 whe
   pub right : r < length row → is_right_of from r ≡ true
 
 module _ (places : List ℕ) (end width : ℕ) (all : ArePlaces places end width) where
-  -- behind the changes stands the width
+  -- after the changes stands the width
   pub at_end : get_or places end 0 ≡ width
   at_end = subst (λ m. get_or places m 0 ≡ width) same (all.behind 0 (omega arith))
     where
@@ -116,7 +118,8 @@ module _ (places : List ℕ) (end width : ℕ) (all : ArePlaces places end width
   pub next_here : (from : Option ℕ) (k : ℕ) → IsFrom places end from k → IsNext (pels_by width (take end places)) from (get_or places k 0)
   next_here from k at = record {
     place = next_change_at (pels_by width (take end places)) from (get_or places k 0) (omega (arith, len, within))
-        (λ i h. still_left (is_right_of from i) (is_changing (pels_by width (take end places)) i) (none_between from k at i h (omega (arith, within))))
+        (λ i h. still_left (is_right_of from i) (is_changing (pels_by width (take end places)) i)
+        (none_between from k at i h (omega (arith, within))))
         (λ h. both (is_right_of from (get_or places k 0)) (is_changing (pels_by width (take end places)) (get_or places k 0)) (right h)
         (changing_at places end all.ascending width (get_or places k 0) k bounds.0 (less h) refl (omega (arith, len))));
     within = omega (arith, len, within);
@@ -151,7 +154,7 @@ module _ (places : List ℕ) (end width : ℕ) (all : ArePlaces places end width
       in_room : end < length places
       in_room = omega (arith, all.room, end_within)
 
-  -- the changing elements among n places from a on are those behind k places
+  -- the changing elements among n places from a on are those after k places
   abbrev AreChangesFrom : ℕ → ℕ → ℕ → Type 0
   AreChangesFrom a n k =
       0 < k → k ≤ end → (k < end → a ≤ get_or places k 0) → (k ≡ 1) ⊎ (get_or places (k - 1) 0 < a)
@@ -210,19 +213,21 @@ module _ (places : List ℕ) (end width : ℕ) (all : ArePlaces places end width
             ]
       ]
 
-  -- the changing elements are the places behind the first
+  -- the changing elements are the places after the first
   pub changes_are : (row : List Colour) → pels_by width (take end places) ≡ row
       → take (end - 1) (drop 1 places) ≡ filter (is_changing row) (range_with_len 0 (length row))
   changes_are row is =
       subst (λ r. take (end - 1) (drop 1 places) ≡ filter (is_changing r) (range_with_len 0 (length r))) is
-      (take-drop_first places end ∙ sym (filter_from 0 width 1 (omega arith) (omega arith) (omega (arith, all.ascending.started)) (λ h. omega arith) (inl refl))
-      ∙ ap (λ n. filter (is_changing (pels_by width (take end places))) (range_with_len 0 n)) (sym (length-pels_by width (take end places))))
+      (take-drop_first places end ∙ sym (filter_from 0 width 1 (omega arith) (omega arith) (omega (arith, all.ascending.started))
+      (λ h. omega arith) (inl refl))
+      ∙ ap (λ n. filter (is_changing (pels_by width (take end places))) (range_with_len 0 n))
+      (sym (length-pels_by width (take end places))))
 
   -- the width is that of the row
   pub width_is : (row : List Colour) → pels_by width (take end places) ≡ row → width ≡ length row
   width_is row is = subst (λ r. width ≡ length r) is (sym (length-pels_by width (take end places)))
 
-  -- the pel at a place is white behind an odd number of the places, and black behind an even one
+  -- the pel at a place is white after an odd number of the places, and black after an even one
   pel_here : (row : List Colour) → pels_by width (take end places) ≡ row → (i k : ℕ) → i < length row → IsBehind places end i k
       → pel row i ≡ alternate Black k
   pel_here row is i k inside at =
@@ -239,7 +244,8 @@ module _ (places : List ℕ) (end width : ℕ) (all : ArePlaces places end width
       sym (pel_here row is i k inside at ∙ alternate-even k none)
 
 -- rows of one width by the same places
-pub same_row : (width wide : ℕ) (places : List ℕ) (row : List Colour) → width ≡ wide → pels_by wide places ≡ row → pels_by width places ≡ row
+pub same_row : (width wide : ℕ) (places : List ℕ) (row : List Colour) → width ≡ wide → pels_by wide places ≡ row
+    → pels_by width places ≡ row
 same_row width wide places row same is = ap (λ n. pels_by n places) same ∙ is
 
 -- the same places elsewhere
@@ -263,7 +269,8 @@ module _ (places other : List ℕ) (end width : ℕ) (all : ArePlaces other end 
   pub same_pels : pels_by width (take end places) ≡ pels_by width (take end other)
   same_pels =
       ap (pels_by width)
-      (ext_get_or 0 (take end places) (take end other) (long places (omega (arith, room, end_within other end width all)) ∙ sym (long other all.ascending.within))
+      (ext_get_or 0 (take end places) (take end other) (long places (omega (arith, room, end_within other end width all))
+      ∙ sym (long other all.ascending.within))
       (λ k h.
       let inside : k < end = omega (arith, long places (omega (arith, room, end_within other end width all))) in
       get_or-take end places k 0 inside ∙ same k (omega arith) ∙ sym (get_or-take end other k 0 inside)))

@@ -1,5 +1,6 @@
 -- Steps of two-dimensional coding over places of change.
-use Rattle.std.proofs.Common.{◌≡◌, ℕ, ◌+◌, ◌-◌, ℤ, negsuc, ◌+ℤ◌, ◌≤ℤ◌, ◌<◌, ◌≤◌, List, [], ◌++◌, length, take, get_or, replicate, Bool, true, refl, ap, sym, ◌∙◌, subst, arith, pos, inl, inr}
+use Rattle.std.proofs.Common.{◌≡◌, ℕ, ◌+◌, ◌-◌, ℤ, negsuc, ◌+ℤ◌, ◌≤ℤ◌, ◌<◌, ◌≤◌, List, [], ◌++◌, length, take, get_or, replicate, Bool}
+use Rattle.std.proofs.Common.{true, refl, ap, sym, ◌∙◌, subst, arith, pos, inl, inr}
 use Rattle.std.specs.Prelude.{Option, Some, None, unwrap_or, ◌<ℤ◌, nat_abs}
 use Rattle.std.proofs.lemmas.Bool.{lt-ltb, ltb-true}
 use Rattle.std.proofs.lemmas.Int.{ints}
@@ -64,7 +65,8 @@ right_behind_first None a1 h = omega arith
 right_behind_first (Some a) a1 h = omega (arith, ltb-true a a1 h)
 
 module _ (reference : List ℕ) (end width : ℕ) (all : ArePlaces reference end width)
-    (places : List ℕ) (at : PlacedReached) (so_far : IsReadTo reference end width places at) (unfinished : reached_pel at.reached < width) where
+    (places : List ℕ) (at : PlacedReached) (so_far : IsReadTo reference end width places at)
+    (unfinished : reached_pel at.reached < width) where
   b2_order : reached_pel at.reached ≤ get_or reference (at.b1 + 1) 0
   b2_order =
       let b1 = so_far.b1 unfinished in
@@ -75,12 +77,14 @@ module _ (reference : List ℕ) (end width : ℕ) (all : ArePlaces reference end
   b2_within : get_or reference (at.b1 + 1) 0 ≤ width
   b2_within = let b1 = so_far.b1 unfinished in b2_at_most reference end width all at.b1 b1.some b1.within
 
-  pub pass_step : position_of (record { a0 = Some (get_or reference (at.b1 + 1) 0); colour = at.reached.colour }) (pels_by width (take at.end places))
+  pub pass_step : position_of (record { a0 = Some (get_or reference (at.b1 + 1) 0); colour = at.reached.colour })
+      (pels_by width (take at.end places))
       ≡ coloured_up_to (placed_position width places at) (b2 (pels_by width (take end reference)) at.reached.a0 at.reached.colour)
   pass_step =
       coloured width (take at.end places) (take at.end places) at.reached (get_or reference (at.b1 + 1) 0) b2_order b2_within
       (λ i h. refl) so_far.behind
-      ∙ ap (coloured_up_to (placed_position width places at)) (b2_is reference end width all at.reached.a0 at.reached.colour at.b1 (so_far.b1 unfinished))
+      ∙ ap (coloured_up_to (placed_position width places at)) (b2_is reference end width all at.reached.a0 at.reached.colour at.b1
+      (so_far.b1 unfinished))
 
   pub pass_so_far : IsReadTo reference end width places
       (record { reached = record { a0 = Some (get_or reference (at.b1 + 1) 0); colour = at.reached.colour }; end = at.end; b1 = at.b1 + 2 })
@@ -100,7 +104,8 @@ module _ (reference : List ℕ) (end width : ℕ) (all : ArePlaces reference end
   -- a place is put where the colour turns
   pub turned_so_far : (new : List ℕ) (next_end a1 next_b1 : ℕ) → reached_pel at.reached ≤ a1 → a1 ≤ width → length new ≡ length places
       → IsAscending new next_end → get_or new (next_end - 1) 0 ≤ a1 → IsTurnedFrom (take at.end places) (take next_end new) a1
-      → (a1 < width → IsB1At reference end (Some a1) (other at.reached.colour) next_b1) → (colour : Colour) → colour ≡ other at.reached.colour
+      → (a1 < width → IsB1At reference end (Some a1) (other at.reached.colour) next_b1) → (colour : Colour)
+      → colour ≡ other at.reached.colour
       → IsReadTo reference end width new (record { reached = record { a0 = Some a1; colour = colour }; end = next_end; b1 = next_b1 })
   turned_so_far new next_end a1 next_b1 order within len up last turn b1 colour is = record {
     room = len ∙ so_far.room;
@@ -115,7 +120,8 @@ module _ (reference : List ℕ) (end width : ℕ) (all : ArePlaces reference end
   -- and up to it the pels have a0's colour
   pub turned_position : (new : List ℕ) (next_end a1 : ℕ) → reached_pel at.reached ≤ a1 → a1 ≤ width
       → IsTurnedFrom (take at.end places) (take next_end new) a1
-      → position_of (record { a0 = Some a1; colour = at.reached.colour }) (pels_by width (take next_end new)) ≡ coloured_up_to (placed_position width places at) a1
+      → position_of (record { a0 = Some a1; colour = at.reached.colour }) (pels_by width (take next_end new))
+      ≡ coloured_up_to (placed_position width places at) a1
   turned_position new next_end a1 order within turn =
       coloured width (take at.end places) (take next_end new) at.reached a1 order within turn.left so_far.behind
 
@@ -155,7 +161,8 @@ module _ (reference : List ℕ) (end width : ℕ) (all : ArePlaces reference end
     vertical_placed new next_end next_b1 colour turn is =
         let same = b1_is reference end width all at.reached.a0 at.reached.colour at.b1 (so_far.b1 unfinished) in
         let len = length-pels_by width (take end reference) in
-        vertical_step (pels_by width (take end reference)) (pels_by width (take at.end places)) (pels_by width (take next_end new)) at.reached
+        vertical_step (pels_by width (take end reference)) (pels_by width (take at.end places)) (pels_by width (take next_end new))
+        at.reached
         (record { a0 = Some (nat_abs z); colour = at.reached.colour }) d (nat_abs z) colour
         (record { right_of_a0 = omega (arith, ints, same); within = omega (arith, ints, same, len) })
         (a1_is ∙ z_is ∙ ap (λ n. pos n +ℤ d) same)
@@ -185,22 +192,29 @@ module _ (reference : List ℕ) (end width : ℕ) (all : ArePlaces reference end
   under_within = let b1 = so_far.b1 unfinished in b1_at_most reference end width all at.b1 b1.some b1.within
 
   -- two places are put where two runs end
-  pub horizontal_placed : (b mid rest : List Bool) (first second : ℕ) (turned_colour : Colour) (between new : List ℕ) (middle_end next_end next_b1 : ℕ)
+  pub horizontal_placed : (b mid rest : List Bool) (first second : ℕ) (turned_colour : Colour) (between new : List ℕ)
+      (middle_end next_end next_b1 : ℕ)
       → IsRun at.reached.colour b first mid → IsRun turned_colour mid second rest → turned_colour ≡ other at.reached.colour
       → reached_pel at.reached + first + second ≤ width
       → IsTurnedFrom (take at.end places) (take middle_end between) (reached_pel at.reached + first)
       → IsTurnedFrom (take middle_end between) (take next_end new) (reached_pel at.reached + first + second)
       → IsHorizontalStep (pels_by width (take end reference)) (placed_position width places at) b
-      (placed_position width new (record { reached = record { a0 = Some (reached_pel at.reached + first + second); colour = at.reached.colour }; end = next_end; b1 = next_b1 })) rest
-  horizontal_placed b mid rest first second turned_colour between new middle_end next_end next_b1 run another is within turn again = record {
-    first = first;
-    second = second;
-    middle = mid;
-    first_run = run;
-    second_run = subst (λ c. IsRun c mid second rest) is another;
-    within = omega (arith, length-pels_by width (take end reference));
-    new_is = ap position pels;
-  }
+      (placed_position width new (record {
+        reached =
+            record { a0 = Some (reached_pel at.reached + first + second); colour = at.reached.colour };
+        end = next_end;
+        b1 = next_b1;
+      })) rest
+  horizontal_placed b mid rest first second turned_colour between new middle_end next_end next_b1 run another is within turn again =
+      record {
+        first = first;
+        second = second;
+        middle = mid;
+        first_run = run;
+        second_run = subst (λ c. IsRun c mid second rest) is another;
+        within = omega (arith, length-pels_by width (take end reference));
+        new_is = ap position pels;
+      }
     where
       position : List Colour → Position
       position pels = record { a0 = Some (reached_pel at.reached + first + second); colour = at.reached.colour; pels = pels }
@@ -212,12 +226,15 @@ module _ (reference : List ℕ) (end width : ℕ) (all : ArePlaces reference end
       two = omega arith
 
       pels : take (reached_pel at.reached + first + second) (pels_by width (take next_end new))
-          ≡ take (reached_pel at.reached) (pels_by width (take at.end places)) ++ replicate first at.reached.colour ++ replicate second (other at.reached.colour)
+          ≡ take (reached_pel at.reached) (pels_by width (take at.end places)) ++ replicate first at.reached.colour ++ replicate second
+          (other at.reached.colour)
       pels =
-          front_to width (reached_pel at.reached + first) (reached_pel at.reached + first + second) (take middle_end between) (take next_end new)
+          front_to width (reached_pel at.reached + first) (reached_pel at.reached + first + second) (take middle_end between)
+          (take next_end new)
           (other at.reached.colour) (omega arith) within again.left
           (λ i h. turn.right i h ∙ ap other (so_far.behind i (omega arith)))
-          ∙ ap (λ n. take (reached_pel at.reached + first) (pels_by width (take middle_end between)) ++ replicate n (other at.reached.colour)) two
+          ∙ ap (λ n. take (reached_pel at.reached + first) (pels_by width (take middle_end between)) ++ replicate n
+          (other at.reached.colour)) two
           ∙ ap (λ xs. xs ++ replicate second (other at.reached.colour))
           (front_to width (reached_pel at.reached) (reached_pel at.reached + first) (take at.end places) (take middle_end between)
           at.reached.colour (omega arith) (omega arith) turn.left so_far.behind
@@ -231,7 +248,12 @@ module _ (reference : List ℕ) (end width : ℕ) (all : ArePlaces reference end
       → (reached_pel at.reached + first + second < width
       → IsB1At reference end (Some (reached_pel at.reached + first + second)) at.reached.colour next_b1)
       → IsReadTo reference end width new
-      (record { reached = record { a0 = Some (reached_pel at.reached + first + second); colour = at.reached.colour }; end = next_end; b1 = next_b1 })
+      (record {
+        reached = record { a0 = Some (reached_pel at.reached + first + second); colour = at.reached.colour };
+        end = next_end;
+        b1 =
+            next_b1;
+      })
   horizontal_so_far first second between new middle_end next_end next_b1 within len up last turn again b1 = record {
     room = len ∙ so_far.room;
     within = within;
@@ -265,7 +287,8 @@ nothing_read reference end width all places room first = record {
 
 -- the row is read to its end
 pub steps_done : (reference : List Colour) (b : List Bool) (at : Reached) (row : List Colour) (rest : List Bool) (width : ℕ)
-    → AreStepsSoFar reference b (position_of at row) rest → 0 < width → reached_pel at ≡ width → length row ≡ width → length reference ≡ width
+    → AreStepsSoFar reference b (position_of at row) rest → 0 < width → reached_pel at ≡ width → length row ≡ width
+    → length reference ≡ width
     → IsTwoDimensionalRow reference b row rest
 steps_done reference b at row rest width so_far some done len same = record {
   positions = so_far.positions;
@@ -281,7 +304,8 @@ steps_done reference b at row rest width so_far some done len same = record {
 
 -- a row that is shown otherwise
 pub two_dimensional_as : (reference shown_reference : List Colour) (b : List Bool) (row shown : List Colour) (rest : List Bool)
-    → IsTwoDimensionalRow reference b row rest → reference ≡ shown_reference → shown ≡ row → IsTwoDimensionalRow shown_reference b shown rest
+    → IsTwoDimensionalRow reference b row rest → reference ≡ shown_reference → shown ≡ row
+    → IsTwoDimensionalRow shown_reference b shown rest
 two_dimensional_as reference shown_reference b row shown rest is same shows =
     subst (λ r. IsTwoDimensionalRow r b shown rest) same (subst (λ r. IsTwoDimensionalRow reference b r rest) (sym shows) is)
 

@@ -15,7 +15,8 @@ pub record IsPutUpTo (old : Sink) (all missing : List Bool) (new : Sink) : Type 
   pub appended : Appends old done new
   pub parts : all ≡ done ++ missing
 
-appends_two : (old mid new : Sink) (first second : List Bool) → Appends old first mid → Appends mid second new → Appends old (first ++ second) new
+appends_two : (old mid new : Sink) (first second : List Bool) → Appends old first mid → Appends mid second new
+    → Appends old (first ++ second) new
 appends_two old mid new first second before behind =
     let bits = append_assoc old.bits first second in
     cc

@@ -1,5 +1,6 @@
 -- A row in one-dimensional coding is read in one way, where the run tables are.
-use Rattle.std.proofs.Common.{◌≡◌, ◌≢◌, ℕ, zero, suc, ◌+◌, ◌<◌, ◌≤◌, List, [], ◌∷◌, length, take, replicate, Bool, refl, ap, sym, ◌∙◌, subst, arith, length-append, inl, inr}
+use Rattle.std.proofs.Common.{◌≡◌, ◌≢◌, ℕ, zero, suc, ◌+◌, ◌<◌, ◌≤◌, List, [], ◌∷◌, length, take, replicate, Bool, refl, ap, sym, ◌∙◌}
+use Rattle.std.proofs.Common.{subst, arith, length-append, inl, inr}
 use Rattle.std.specs.Prelude.{sum, ◌⊎◌}
 use Rattle.std.proofs.lemmas.List.{length-replicate}
 use Rattle.std.proofs.Math.Nat.{eq-or-lt_of_le}
@@ -18,9 +19,16 @@ use Rattle.fax_rows.proofs.RunLaws.{sum-cons, same_run, run_has_no_fault, same_r
 pub length-pels_of : (colour : Colour) (runs : List ℕ) → length (pels_of colour runs) ≡ sum runs
 length-pels_of colour [] = refl
 length-pels_of colour (n ∷ runs) =
-    omega (arith, length-append (replicate n colour) (pels_of (other colour) runs), length-replicate n colour, length-pels_of (other colour) runs, sum-cons n runs)
+    omega (
+      arith,
+      length-append (replicate n colour) (pels_of (other colour) runs),
+      length-replicate n colour,
+      length-pels_of (other colour)
+          runs,
+      sum-cons n runs,
+    )
 
--- behind `so_far` pels come runs up to the width, and no fewer of them reach it
+-- after `so_far` pels come runs up to the width, and no fewer of them reach it
 record IsEnded (width so_far : ℕ) (runs : List ℕ) : Type 0 where
   reached : so_far + sum runs ≡ width
   ends : (k : ℕ) → k < length runs → so_far + sum (take k runs) ≢ width
@@ -43,18 +51,20 @@ ends_behind width so_far n runs unfinished ends (suc k) h e =
     ends k (omega arith) (omega (arith, e, sum-cons n (take k runs)))
 
 -- the runs of a row
-ended_row : (width : ℕ) (b : List Bool) (row : List Colour) (rest : List Bool) → (is : IsOneDimensionalRow width b row rest) → IsEnded width 0 is.runs
+ended_row : (width : ℕ) (b : List Bool) (row : List Colour) (rest : List Bool) → (is : IsOneDimensionalRow width b row rest)
+    → IsEnded width 0 is.runs
 ended_row width b row rest is = record {
   reached = omega (arith, is.whole, ap (λ (pels : List Colour). length pels) is.pels, length-pels_of White is.runs);
   ends = λ k h e. is.ends k h (omega (arith, e));
 }
 
--- behind `so_far` pels come runs up to the width, or runs that do not reach it and a run with a fault
+-- after `so_far` pels come runs up to the width, or runs that do not reach it and a run with a fault
 record AreRunsToEnd (colour : Colour) (width so_far : ℕ) (b : List Bool) (runs : List ℕ) (rest : List Bool) : Type 0 where
   coded : AreRuns colour b runs rest
   ended : IsEnded width so_far runs
 
-record AreRunsToFault (colour : Colour) (width so_far : ℕ) (b : List Bool) (runs : List ℕ) (left : List Bool) (fault : RowFault) : Type 0 where
+record AreRunsToFault (colour : Colour) (width so_far : ℕ) (b : List Bool) (runs : List ℕ) (left : List Bool)
+    (fault : RowFault) : Type 0 where
   coded : AreRuns colour b runs left
   unfinished : so_far + sum runs < width
   at_run : IsRunFault (colour_behind colour runs) width (so_far + sum runs) left fault
@@ -80,9 +90,11 @@ module _ (reads : (colour : Colour) → ReadsOneWay (run_table colour)) where
       (subst (λ k. IsEnded width (so_far + k) more) (sym run.0) (ended_behind width so_far m more done)) in
       (cc (run.0, behind.0), behind.1)
 
-  ended_or_not : (colour : Colour) (width so_far place : ℕ) (b c : List Bool) (runs more : List ℕ) (rest left : List Bool) (fault : RowFault) → b ≡ c
+  ended_or_not : (colour : Colour) (width so_far place : ℕ) (b c : List Bool) (runs more : List ℕ) (rest left : List Bool)
+      (fault : RowFault) → b ≡ c
       → AreRuns colour b runs rest → IsEnded width so_far runs
-      → AreRuns colour c more left → place ≡ so_far + sum more → place < width → IsRunFault (colour_behind colour more) width place left fault → ⊥
+      → AreRuns colour c more left → place ≡ so_far + sum more → place < width
+      → IsRunFault (colour_behind colour more) width place left fault → ⊥
   ended_or_not colour width so_far place b c [] [] rest left fault at first ended second placed unfinished at_run =
       omega (arith, ended.reached)
   ended_or_not colour width so_far place b c [] (m ∷ more) rest left fault at first ended second placed unfinished at_run =
@@ -95,22 +107,28 @@ module _ (reads : (colour : Colour) → ReadsOneWay (run_table colour)) where
       ended_or_not (other colour) width (so_far + n) place first.0 second.0 runs more rest left fault run.1
       first.2 (ended_behind width so_far n runs ended) second.2 (omega (arith, sum-cons m more, run.0)) unfinished at_run
 
-  same_fault : (colour : Colour) (width so_far place spot : ℕ) (b c : List Bool) (runs more : List ℕ) (left behind : List Bool) (fault another : RowFault)
+  same_fault : (colour : Colour) (width so_far place spot : ℕ) (b c : List Bool) (runs more : List ℕ) (left behind : List Bool)
+      (fault another : RowFault)
       → b ≡ c
-      → AreRuns colour b runs left → place ≡ so_far + sum runs → place < width → IsRunFault (colour_behind colour runs) width place left fault
-      → AreRuns colour c more behind → spot ≡ so_far + sum more → spot < width → IsRunFault (colour_behind colour more) width spot behind another
+      → AreRuns colour b runs left → place ≡ so_far + sum runs → place < width
+      → IsRunFault (colour_behind colour runs) width place left fault
+      → AreRuns colour c more behind → spot ≡ so_far + sum more → spot < width
+      → IsRunFault (colour_behind colour more) width spot behind another
       → fault ≡ another
   same_fault colour width so_far place spot b c [] [] left behind fault another at first placed within here second spotted inside there =
       let same : spot ≡ place = omega arith in
       same_run_fault reads colour width place left behind fault another (sym first ∙ at ∙ second) here
       (subst (λ n. IsRunFault colour width n behind another) same there)
-  same_fault colour width so_far place spot b c [] (m ∷ more) left behind fault another at first placed within here second spotted inside there =
+  same_fault colour width so_far place spot b c [] (m ∷ more) left behind fault another at first placed within here second spotted inside
+      there =
       absurd (run_has_no_fault reads colour width place c left m second.0 fault (sym at ∙ first) second.1
       (omega (arith, sum-cons m more)) here)
-  same_fault colour width so_far place spot b c (n ∷ runs) [] left behind fault another at first placed within here second spotted inside there =
+  same_fault colour width so_far place spot b c (n ∷ runs) [] left behind fault another at first placed within here second spotted inside
+      there =
       absurd (run_has_no_fault reads colour width spot b behind n first.0 another (at ∙ second) first.1
       (omega (arith, sum-cons n runs)) there)
-  same_fault colour width so_far place spot b c (n ∷ runs) (m ∷ more) left behind fault another at first placed within here second spotted inside there =
+  same_fault colour width so_far place spot b c (n ∷ runs) (m ∷ more) left behind fault another at first placed within here second spotted
+      inside there =
       let run = same_run reads colour b c n m first.0 second.0 at first.1 second.1 in
       same_fault (other colour) width (so_far + n) place spot first.0 second.0 runs more left behind fault another run.1
       first.2 (omega (arith, sum-cons n runs)) within here second.2 (omega (arith, sum-cons m more, run.0)) inside there
@@ -146,7 +164,8 @@ module _ (reads : (colour : Colour) → ReadsOneWay (run_table colour)) where
         ]
       ]
     where
-      runs_behind : (fuel : ℕ) (colour : Colour) (width so_far : ℕ) (b : List Bool) (n : ℕ) (rest : List Bool) → IsRun colour b n rest → so_far < width
+      runs_behind : (fuel : ℕ) (colour : Colour) (width so_far : ℕ) (b : List Bool) (n : ℕ) (rest : List Bool) → IsRun colour b n rest
+          → so_far < width
           → AreRunsOrFault (other colour) width (so_far + n) rest → AreRunsOrFault colour width so_far b
       runs_behind fuel colour width so_far b n rest run unfinished (inl ended) =
           inl (

@@ -1,5 +1,6 @@
 -- A row in one-dimensional coding, run by run.
-use Rattle.std.proofs.Common.{◌≡◌, ℕ, zero, suc, ◌+◌, ◌-◌, ◌<◌, ◌≤◌, List, [], ◌∷◌, ◌++◌, length, take, get_or, replicate, Bool, refl, ap, sym, ◌∙◌, subst, arith, append_assoc, length-append, inl, inr}
+use Rattle.std.proofs.Common.{◌≡◌, ℕ, zero, suc, ◌+◌, ◌-◌, ◌<◌, ◌≤◌, List, [], ◌∷◌, ◌++◌, length, take, get_or, replicate, Bool, refl, ap}
+use Rattle.std.proofs.Common.{sym, ◌∙◌, subst, arith, append_assoc, length-append, inl, inr}
 use Rattle.std.specs.Prelude.{sum, ◌⊎◌}
 use Rattle.std.proofs.lemmas.Bool.{cases_lt}
 use Rattle.std.proofs.Math.Nat.{eq-or-lt_of_le}
@@ -90,7 +91,8 @@ row_goes_on width b total n colour old new mid rest so_far unfinished run before
     len : length (pels_of White so_far.runs) ≡ total
     len = length-pels_of White so_far.runs ∙ sym so_far.sum_is
 
-    pel_at : (k : ℕ) → k < total + n → (k < total) ⊎ (total ≤ k) → get_or new k White ≡ get_or (pels_of White (so_far.runs ++ n ∷ [])) k White
+    pel_at : (k : ℕ) → k < total + n → (k < total) ⊎ (total ≤ k)
+        → get_or new k White ≡ get_or (pels_of White (so_far.runs ++ n ∷ [])) k White
     pel_at k h (inl less) =
         let short : k < length (pels_of White so_far.runs) = omega (arith, len) in
         before k less ∙ so_far.pels k less
@@ -117,7 +119,8 @@ row_done width b total colour row rest so_far done len = record {
 }
 
 pub row_fault_at : (width : ℕ) (b : List Bool) (total : ℕ) (colour : Colour) (row : List Colour) (rest : List Bool) (fault : RowFault)
-    → IsRowSoFar width b total colour row rest → total < width → IsRunFault colour width total rest fault → IsOneDimensionalFault width b fault
+    → IsRowSoFar width b total colour row rest → total < width → IsRunFault colour width total rest fault
+    → IsOneDimensionalFault width b fault
 row_fault_at width b total colour row rest fault so_far unfinished at = record {
   runs = so_far.runs;
   left = rest;

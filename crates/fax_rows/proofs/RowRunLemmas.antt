@@ -1,5 +1,6 @@
 -- The longest runs of a row, pel by pel.
-use Rattle.std.proofs.Common.{◌≡◌, ◌≢◌, ℕ, zero, suc, ◌+◌, ◌-◌, ◌<◌, ◌≤◌, List, [], ◌∷◌, ◌++◌, length, take, drop, get_or, Bool, true, false, not, refl, ap, sym, ◌∙◌, subst, arith, inl, inr, drop-cons, get_or-drop, length-drop}
+use Rattle.std.proofs.Common.{◌≡◌, ◌≢◌, ℕ, zero, suc, ◌+◌, ◌-◌, ◌<◌, ◌≤◌, List, [], ◌∷◌, ◌++◌, length, take, drop, get_or, Bool, true}
+use Rattle.std.proofs.Common.{false, not, refl, ap, sym, ◌∙◌, subst, arith, inl, inr, drop-cons, get_or-drop, length-drop}
 use Rattle.std.proofs.Math.Numerals.{suc-eq-add-one}
 use Rattle.std.proofs.lemmas.List.{take_more, drop_all, get_or-take, length-take-le}
 use Rattle.fax_bits.specs.declared.Colour.{Colour}
@@ -11,7 +12,7 @@ use Rattle.fax_rows.specs.code.Turns.{ArePlaces}
 use Rattle.std.proofs.lemmas.Bool.{cases_lt}
 use Rattle.fax_rows.proofs.PlacedRowLemmas.{at_end, end_within}
 
--- behind the last pel stands the run so far
+-- after the last pel stands the run so far
 pub runs_behind-nil : (colour : Colour) (n : ℕ) → runs_behind colour n [] ≡ n ∷ []
 unfolding runs_behind
 runs_behind-nil colour n = refl
@@ -78,7 +79,7 @@ changes_so Black Black h e = cc
 changes_so White Black h e = cc
 changes_so Black White h e = cc
 
--- the colour before the pel behind place i
+-- the colour before the pel after place i
 before_next : (row : List Colour) (i : ℕ) → pel_before row (i + 1) ≡ pel row i
 before_next row i = let same : i + 1 ≡ suc i = omega arith in ap (λ k. pel_before row k) same
 
@@ -92,7 +93,7 @@ unfolding gaps_to
 gaps_to-gaps from [] width = refl
 gaps_to-gaps from (next ∷ changes) width = ap (λ runs. (next - from) ∷ runs) (gaps_to-gaps next changes width)
 
--- the gaps between the changing elements behind place i
+-- the gaps between the changing elements after place i
 abbrev GapsFrom : List Colour → ℕ → ℕ → ℕ → Type 0
 GapsFrom row n i from =
     gaps_to from (filter (is_changing row) (range_with_len i n)) (length row) ≡ runs_behind (pel_before row i) (i - from) (drop i row)
@@ -155,7 +156,7 @@ below_all next changes up (suc i) h =
     let step : get_or changes i 0 ≤ get_or changes (suc i) 0 = up (suc i) h in
     omega arith
 
--- the places behind the next one are ahead of it
+-- the places after the next one are ahead of it
 pub ahead_of_next : (from next : ℕ) (ends : List ℕ) → AreAheadOf from (next ∷ ends) → AreAheadOf next ends
 ahead_of_next from next ends all =
     let up = ascend_on next ends all.steps in
@@ -203,11 +204,20 @@ module _ (places : List ℕ) (end width : ℕ) (all : ArePlaces places end width
             | inr last ↦ let same : k ≡ end = omega arith in omega (arith, ap (λ j. get_or places j 0) same, at_end places end width all)
           ]
 
-  -- the width stands behind the changes
+  -- the width stands after the changes
   pub ends_are : take end (drop 1 places) ≡ take (end - 1) (drop 1 places) ++ width ∷ []
   ends_are =
       let next : end - 1 + 1 ≡ end = omega (arith, all.ascending.started) in
       let last : get_or (drop 1 places) (end - 1) 0 ≡ width =
-      get_or-drop 1 places (end - 1) 0 ∙ ap (λ k. get_or places k 0) (let same : 1 + (end - 1) ≡ end = omega (arith, all.ascending.started) in same) ∙ at_end places end width all in
+      get_or-drop 1 places (end - 1) 0 ∙ ap (λ k. get_or places k 0) (let same : 1 + (end - 1) ≡ end =
+      omega (arith, all.ascending.started) in same) ∙ at_end places end width all in
       ap (λ n. take n (drop 1 places)) (sym next)
-      ∙ take_more (drop 1 places) (end - 1) 0 (omega (arith, next, length-drop 1 places, all.ascending.within, all.room, end_within places end width all)) ∙ ap (λ n. take (end - 1) (drop 1 places) ++ n ∷ []) last
+      ∙ take_more (drop 1 places) (end - 1) 0 (omega (
+        arith,
+        next,
+        length-drop 1 places,
+        all.ascending.within,
+        all.room,
+        end_within places
+            end width all,
+      )) ∙ ap (λ n. take (end - 1) (drop 1 places) ++ n ∷ []) last

@@ -1,5 +1,6 @@
 -- A run is read in one way, where the run tables are.
-use Rattle.std.proofs.Common.{◌≡◌, ℕ, zero, suc, ◌+◌, ◌<◌, ◌≤◌, List, [], ◌∷◌, ◌++◌, length, map, Bool, refl, ap, sym, ◌∙◌, subst, arith, inl, inr}
+use Rattle.std.proofs.Common.{◌≡◌, ℕ, zero, suc, ◌+◌, ◌<◌, ◌≤◌, List, [], ◌∷◌, ◌++◌, length, map, Bool, refl, ap, sym, ◌∙◌, subst, arith}
+use Rattle.std.proofs.Common.{inl, inr}
 use Rattle.std.specs.Prelude.{sum, ◌⊎◌}
 use Rattle.std.proofs.lemmas.Bool.{cases_lt}
 use Rattle.std.proofs.lemmas.Grind.{common_steps}
@@ -110,21 +111,27 @@ module _ (reads : (colour : Colour) → ReadsOneWay (run_table colour)) where
       same_code_fault width so_far some.0 fault another some.3
       (fault_of_taken colour width so_far b c some.0 some.1 another at some.2 second)
 
-  same_fault_behind : (colour : Colour) (width from place spot : ℕ) (b c left behind : List Bool) (fault another : RowFault) (ms ns : List ℕ) → b ≡ c
+  same_fault_behind : (colour : Colour) (width from place spot : ℕ) (b c left behind : List Bool) (fault another : RowFault)
+      (ms ns : List ℕ) → b ≡ c
       → Spells (run_table colour) b (map MakeUp ms) left → place ≡ from + sum ms → place ≤ width → IsAtRunCode colour width place left fault
-      → Spells (run_table colour) c (map MakeUp ns) behind → spot ≡ from + sum ns → spot ≤ width → IsAtRunCode colour width spot behind another
+      → Spells (run_table colour) c (map MakeUp ns) behind → spot ≡ from + sum ns → spot ≤ width
+      → IsAtRunCode colour width spot behind another
       → fault ≡ another
-  same_fault_behind colour width from place spot b c left behind fault another [] [] at first placed within here second spotted inside there =
+  same_fault_behind colour width from place spot b c left behind fault another [] [] at first placed within here second spotted inside
+      there =
       let same : spot ≡ place = omega arith in
       same_fault_at_code colour width place left behind fault another (sym first ∙ at ∙ second) here
       (subst (λ n. IsAtRunCode colour width n behind another) same there)
-  same_fault_behind colour width from place spot b c left behind fault another [] (n ∷ ns) at first placed within here second spotted inside there =
+  same_fault_behind colour width from place spot b c left behind fault another [] (n ∷ ns) at first placed within here second spotted inside
+      there =
       let long = fault_of_taken colour width place c left (MakeUp n) second.0 fault (sym at ∙ first) second.1 here in
       absurd (omega (arith, long.0, sum-cons n ns))
-  same_fault_behind colour width from place spot b c left behind fault another (m ∷ ms) [] at first placed within here second spotted inside there =
+  same_fault_behind colour width from place spot b c left behind fault another (m ∷ ms) [] at first placed within here second spotted inside
+      there =
       let long = fault_of_taken colour width spot b behind (MakeUp m) first.0 another (at ∙ second) first.1 there in
       absurd (omega (arith, long.0, sum-cons m ms))
-  same_fault_behind colour width from place spot b c left behind fault another (m ∷ ms) (n ∷ ns) at first placed within here second spotted inside there =
+  same_fault_behind colour width from place spot b c left behind fault another (m ∷ ms) (n ∷ ns) at first placed within here second spotted
+      inside there =
       let same = took_same colour b c (MakeUp m) (MakeUp n) first.0 second.0 at first.1 second.1 in
       let pels : m ≡ n = cc (same.0) in
       same_fault_behind colour width (from + m) place spot first.0 second.0 left behind fault another ms ns same.1
@@ -211,7 +218,8 @@ module _ (reads : (colour : Colour) → ReadsOneWay (run_table colour)) where
         },
       )
 
-  find_run : (fuel : ℕ) (colour : Colour) (width from : ℕ) (b : List Bool) → length b < fuel → from ≤ width → IsRunOrFault colour width from b
+  find_run : (fuel : ℕ) (colour : Colour) (width from : ℕ) (b : List Bool) → length b < fuel → from ≤ width
+      → IsRunOrFault colour width from b
   find_run zero colour width from b short within = absurd (omega arith)
   find_run (suc fuel) colour width from b short within =
       elim ((reads colour).takes_or_fails b) [

@@ -48,7 +48,8 @@ run_done colour b n m mid rest part taken = record {
 }
 
 pub run_fault : (colour : Colour) (width from : ℕ) (b : List Bool) (n : ℕ) (rest : List Bool) (fault : RowFault)
-    → IsPartialRun colour b n rest → from + n ≤ width → IsAtRunCode colour width (from + n) rest fault → IsRunFault colour width from b fault
+    → IsPartialRun colour b n rest → from + n ≤ width → IsAtRunCode colour width (from + n) rest fault
+    → IsRunFault colour width from b fault
 run_fault colour width from b n rest fault part within at = record {
   make_up = part.make_up;
   left = rest;

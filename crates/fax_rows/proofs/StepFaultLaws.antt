@@ -1,5 +1,6 @@
 -- A row in two-dimensional coding or its one fault, where the tables are read in one way.
-use Rattle.std.proofs.Common.{◌≡◌, ◌≢◌, ℕ, zero, suc, ◌+◌, ◌<◌, ◌≤◌, List, [], ◌∷◌, ◌++◌, length, replicate, Bool, refl, ap, sym, ◌∙◌, subst, arith, inl, inr}
+use Rattle.std.proofs.Common.{◌≡◌, ◌≢◌, ℕ, zero, suc, ◌+◌, ◌<◌, ◌≤◌, List, [], ◌∷◌, ◌++◌, length, replicate, Bool, refl, ap, sym, ◌∙◌}
+use Rattle.std.proofs.Common.{subst, arith, inl, inr}
 use Rattle.std.specs.Prelude.{ℤ, pos, negsuc, ◌+ℤ◌, ◌<ℤ◌, ◌≤ℤ◌, ◌⊎◌, Option, Some, None, unwrap_or}
 use Rattle.std.proofs.lemmas.Bool.{cases_lt}
 use Rattle.std.proofs.lemmas.Int.{ints, by_lt_z}
@@ -15,7 +16,8 @@ use Rattle.fax_rows.specs.declared.RowFault.TheVariants.{OutOfRow, Extension as 
 use Rattle.fax_rows.specs.Elements.{other}
 use Rattle.fax_rows.specs.Faults.{row_fault, IsRunFault, IsHorizontalFault, IsModeFault, IsStepFault}
 use Rattle.fax_rows.specs.Laws.{ReadsRowsOverOneWay}
-use Rattle.fax_rows.specs.TwoDimensional.{Position, beginning, first_pel, a0_number, coloured_up_to, b1_from, b2_from, IsStepBy, IsStep, IsUnfinished, AreSteps}
+use Rattle.fax_rows.specs.TwoDimensional.{Position, beginning, first_pel, a0_number, coloured_up_to, b1_from, b2_from, IsStepBy, IsStep}
+use Rattle.fax_rows.specs.TwoDimensional.{IsUnfinished, AreSteps}
 use Rattle.fax_rows.proofs.ChangeLemmas.{next_change_is}
 use Rattle.fax_rows.proofs.RunLaws.{same_run, run_has_no_fault, same_run_fault, run_or_fault}
 use Rattle.fax_rows.proofs.StepLaws.{same_step, one_two_dimensional_row}
@@ -23,13 +25,15 @@ use Rattle.fax_rows.proofs.StepLaws.{same_step, one_two_dimensional_row}
 -- a step that stays in the row and takes bits, or a step with a fault
 abbrev IsStepOrFault : List Colour → Position → List Bool → Type 0
 IsStepOrFault reference old b =
-    ((new : Position) × (rest : List Bool) × IsStep reference old b new rest × (first_pel new ≤ length reference) × (length rest < length b))
+    ((new : Position) × (rest : List Bool) × IsStep reference old b new rest × (first_pel new ≤ length reference)
+    × (length rest < length b))
     ⊎ ((fault : RowFault) × IsStepFault reference old b fault)
 
 -- what a mode does that was taken, or its fault
 abbrev IsModeOrFault : ModeCode → List Colour → Position → List Bool → Type 0
 IsModeOrFault mode reference old b =
-    ((new : Position) × (rest : List Bool) × IsStepBy mode reference old b new rest × (first_pel new ≤ length reference) × (length rest ≤ length b))
+    ((new : Position) × (rest : List Bool) × IsStepBy mode reference old b new rest × (first_pel new ≤ length reference)
+    × (length rest ≤ length b))
     ⊎ ((fault : RowFault) × IsModeFault mode reference old b fault)
 
 -- a number that is not below 0 is a place
@@ -79,7 +83,8 @@ end_or_not (Some a) width =
 
 module _ (runs_read : (colour : Colour) → ReadsOneWay (run_table colour)) (modes_read : ReadsOneWay modes) where
   -- where a mode is taken the fault is that mode's
-  fault_of_mode : (reference : List Colour) (old : Position) (b c : List Bool) (mode : ModeCode) (behind : List Bool) (fault : RowFault) → b ≡ c
+  fault_of_mode : (reference : List Colour) (old : Position) (b c : List Bool) (mode : ModeCode) (behind : List Bool) (fault : RowFault)
+      → b ≡ c
       → Takes modes b mode behind → IsStepFault reference old c fault → IsModeFault mode reference old behind fault
   fault_of_mode reference old b c mode behind fault at taken (inl none) =
       absurd (modes_read.taken_has_no_fault b mode behind none.0 taken (subst (λ x. IsFaultOf modes x none.0) (sym at) none.1))
@@ -89,7 +94,8 @@ module _ (runs_read : (colour : Colour) → ReadsOneWay (run_table colour)) (mod
       (subst (λ x. IsModeFault some.0 reference old x fault) (sym same.1) some.3)
 
   -- horizontal mode is a step or has a fault
-  horizontal_has_no_fault : (reference : List Colour) (old : Position) (b rest : List Bool) (first second : ℕ) (middle : List Bool) (fault : RowFault)
+  horizontal_has_no_fault : (reference : List Colour) (old : Position) (b rest : List Bool) (first second : ℕ) (middle : List Bool)
+      (fault : RowFault)
       → IsRun old.colour b first middle → IsRun (other old.colour) middle second rest → first_pel old + first + second ≤ length reference
       → IsHorizontalFault reference old b fault → ⊥
   horizontal_has_no_fault reference old b rest first second middle fault run more within (inl at) =
@@ -107,7 +113,8 @@ module _ (runs_read : (colour : Colour) → ReadsOneWay (run_table colour)) (mod
       horizontal_has_no_fault reference old b rest step.first step.second step.middle fault step.first_run step.second_run step.within at
   mode_has_no_fault Extension reference old new b rest fault step at = step
 
-  step_has_no_fault : (reference : List Colour) (old : Position) (b c : List Bool) (new : Position) (rest : List Bool) (fault : RowFault) → b ≡ c
+  step_has_no_fault : (reference : List Colour) (old : Position) (b c : List Bool) (new : Position) (rest : List Bool) (fault : RowFault)
+      → b ≡ c
       → IsStep reference old b new rest → IsStepFault reference old c fault → ⊥
   step_has_no_fault reference old b c new rest fault at step fails =
       mode_has_no_fault step.mode reference old new step.behind rest fault step.step
@@ -119,9 +126,11 @@ module _ (runs_read : (colour : Colour) → ReadsOneWay (run_table colour)) (mod
   same_horizontal_fault reference old b fault another (inl first) (inl second) =
       same_run_fault runs_read old.colour (length reference) (first_pel old) b b fault another refl first second
   same_horizontal_fault reference old b fault another (inl first) (inr second) =
-      absurd (run_has_no_fault runs_read old.colour (length reference) (first_pel old) b b second.0 second.1 fault refl second.2 second.3 first)
+      absurd (run_has_no_fault runs_read old.colour (length reference) (first_pel old) b b second.0 second.1 fault refl second.2 second.3
+      first)
   same_horizontal_fault reference old b fault another (inr first) (inl second) =
-      absurd (run_has_no_fault runs_read old.colour (length reference) (first_pel old) b b first.0 first.1 another refl first.2 first.3 second)
+      absurd (run_has_no_fault runs_read old.colour (length reference) (first_pel old) b b first.0 first.1 another refl first.2 first.3
+      second)
   same_horizontal_fault reference old b fault another (inr first) (inr second) =
       let same = same_run runs_read old.colour b b first.0 second.0 first.1 second.1 refl first.2 second.2 in
       same_run_fault runs_read (other old.colour) (length reference) (first_pel old + first.0) first.1 second.1 fault another same.1 first.4
@@ -219,7 +228,8 @@ module _ (runs_read : (colour : Colour) → ReadsOneWay (run_table colour)) (mod
   mode_or_fault Horizontal reference old b within = horizontal_or_fault reference old b within
   mode_or_fault Extension reference old b within = inr (ExtensionFault, refl)
 
-  step_or_fault : (reference : List Colour) (old : Position) (b : List Bool) → first_pel old ≤ length reference → IsStepOrFault reference old b
+  step_or_fault : (reference : List Colour) (old : Position) (b : List Bool) → first_pel old ≤ length reference
+      → IsStepOrFault reference old b
   step_or_fault reference old b within =
       elim (modes_read.takes_or_fails b) [
         | inr fault ↦ inr (row_fault fault.0, inl (fault.0, fault.1, refl))
@@ -280,7 +290,8 @@ module _ (runs_read : (colour : Colour) → ReadsOneWay (run_table colour)) (mod
       ]
 
   -- steps to the end and steps to a fault exclude each other
-  ended_or_not : (reference : List Colour) (old start : Position) (b c : List Bool) (positions more : List Position) (last another : Position)
+  ended_or_not : (reference : List Colour) (old start : Position) (b c : List Bool) (positions more : List Position)
+      (last another : Position)
       (rest left : List Bool) (fault : RowFault) → old ≡ start → b ≡ c
       → AreSteps reference old b positions last rest → last.a0 ≡ Some (length reference)
       → AreSteps reference start c more another left → IsUnfinished reference another → IsStepFault reference another left fault → ⊥
@@ -291,13 +302,16 @@ module _ (runs_read : (colour : Colour) → ReadsOneWay (run_table colour)) (mod
   ended_or_not reference old start b c (next ∷ positions) [] last another rest left fault from at first ended second unfinished fails =
       step_has_no_fault reference old b left next first.1 fault (at ∙ second.1) first.2
       (subst (λ p. IsStepFault reference p left fault) (second.0 ∙ sym from) fails)
-  ended_or_not reference old start b c (next ∷ positions) (onward ∷ more) last another rest left fault from at first ended second unfinished fails =
+  ended_or_not reference old start b c (next ∷ positions) (onward ∷ more) last another rest left fault from at first ended second unfinished
+      fails =
       let step = same_step runs_read modes_read reference old b c next onward first.1 second.1 at first.2
       (subst (λ p. IsStep reference p c onward second.1) (sym from) second.2) in
-      ended_or_not reference next onward first.1 second.1 positions more last another rest left fault step.0 step.1 first.3 ended second.3 unfinished fails
+      ended_or_not reference next onward first.1 second.1 positions more last another rest left fault step.0 step.1 first.3 ended second.3
+      unfinished fails
 
   -- steps to a fault lead to one fault
-  same_fault_behind : (reference : List Colour) (old start : Position) (b c : List Bool) (positions more : List Position) (last end : Position)
+  same_fault_behind : (reference : List Colour) (old start : Position) (b c : List Bool) (positions more : List Position)
+      (last end : Position)
       (left behind : List Bool) (fault another : RowFault) → old ≡ start → b ≡ c
       → AreSteps reference old b positions last left → IsStepFault reference last left fault
       → AreSteps reference start c more end behind → IsStepFault reference end behind another → fault ≡ another
@@ -310,7 +324,8 @@ module _ (runs_read : (colour : Colour) → ReadsOneWay (run_table colour)) (mod
   same_fault_behind reference old start b c (next ∷ positions) [] last end left behind fault another from at first here second there =
       absurd (step_has_no_fault reference old b behind next first.1 another (at ∙ second.1) first.2
       (subst (λ p. IsStepFault reference p behind another) (second.0 ∙ sym from) there))
-  same_fault_behind reference old start b c (next ∷ positions) (onward ∷ more) last end left behind fault another from at first here second there =
+  same_fault_behind reference old start b c (next ∷ positions) (onward ∷ more) last end left behind fault another from at first here second
+      there =
       let step = same_step runs_read modes_read reference old b c next onward first.1 second.1 at first.2
       (subst (λ p. IsStep reference p c onward second.1) (sym from) second.2) in
       same_fault_behind reference next onward first.1 second.1 positions more last end left behind fault another step.0 step.1
@@ -339,7 +354,8 @@ module _ (runs_read : (colour : Colour) → ReadsOneWay (run_table colour)) (mod
           )
         ];
     row_has_no_fault = λ b row rest fault whole not_whole.
-        ended_or_not reference beginning beginning b b whole.positions not_whole.positions whole.last not_whole.last rest not_whole.left fault
+        ended_or_not reference beginning beginning b b whole.positions not_whole.positions whole.last not_whole.last rest not_whole.left
+        fault
         refl refl whole.steps whole.ends not_whole.steps not_whole.unfinished not_whole.at_step;
     one_fault = λ b fault another first second.
         same_fault_behind reference beginning beginning b b first.positions second.positions first.last second.last first.left second.left

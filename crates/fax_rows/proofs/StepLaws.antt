@@ -16,7 +16,8 @@ same_place m n same = cc
 
 module _ (runs_read : (colour : Colour) → ReadsOneWay (run_table colour)) (modes_read : ReadsOneWay modes) where
   -- what a mode does is one step
-  same_by : (mode : ModeCode) (reference : List Colour) (old : Position) (b c : List Bool) (new another : Position) (rest remaining : List Bool)
+  same_by : (mode : ModeCode) (reference : List Colour) (old : Position) (b c : List Bool) (new another : Position)
+      (rest remaining : List Bool)
       → b ≡ c → IsStepBy mode reference old b new rest → IsStepBy mode reference old c another remaining
       → (new ≡ another) × (rest ≡ remaining)
   same_by Pass reference old b c new another rest remaining at first second =
@@ -60,6 +61,7 @@ module _ (runs_read : (colour : Colour) → ReadsOneWay (run_table colour)) (mod
       → IsTwoDimensionalRow reference b row rest → IsTwoDimensionalRow reference b another remaining
       → (row ≡ another) × (rest ≡ remaining)
   one_two_dimensional_row reference b row another rest remaining first second =
-      let same = same_steps reference beginning beginning b b first.positions second.positions first.last second.last rest remaining refl refl
+      let same =
+      same_steps reference beginning beginning b b first.positions second.positions first.last second.last rest remaining refl refl
       first.steps first.ends second.steps second.ends in
       (first.pels ∙ ap (λ (p : Position). p.pels) same.0 ∙ sym second.pels, same.1)

@@ -1,5 +1,6 @@
 -- A row in two-dimensional coding, step by step.
-use Rattle.std.proofs.Common.{◌≡◌, ℕ, ◌<◌, List, [], ◌∷◌, ◌++◌, length, Option, Some, None, Bool, pos, negsuc, ◌+ℤ◌, ◌≤ℤ◌, ℤ, refl, ap, ◌∙◌, arith}
+use Rattle.std.proofs.Common.{◌≡◌, ℕ, ◌<◌, List, [], ◌∷◌, ◌++◌, length, Option, Some, None, Bool, pos, negsuc, ◌+ℤ◌, ◌≤ℤ◌, ℤ, refl, ap, ◌∙◌}
+use Rattle.std.proofs.Common.{arith}
 use Rattle.std.specs.Prelude.{unwrap_or, nat_abs}
 use Rattle.std.proofs.lemmas.Int.{ints}
 use Rattle.fax_bits.specs.declared.Colour.{Colour}
@@ -7,7 +8,8 @@ use Rattle.fax_bits.specs.declared.Colour.TheVariants.{White}
 use Rattle.fax_rows.specs.declared.RowFault.{RowFault}
 use Rattle.fax_rows.specs.declared.two_dimensional.Reached.{Reached}
 use Rattle.fax_rows.specs.Elements.{other}
-use Rattle.fax_rows.specs.TwoDimensional.{Position, beginning, a0_number, coloured_up_to, b1_from, IsInRow, IsVerticalStep, IsStep, IsUnfinished, AreSteps}
+use Rattle.fax_rows.specs.TwoDimensional.{Position, beginning, a0_number, coloured_up_to, b1_from, IsInRow, IsVerticalStep, IsStep}
+use Rattle.fax_rows.specs.TwoDimensional.{IsUnfinished, AreSteps}
 use Rattle.fax_rows.specs.code.Reached.{position_of, reached_pel}
 use Rattle.fax_rows.specs.Faults.{IsHorizontalFault}
 
@@ -51,7 +53,8 @@ pub horizontal_fault : (reference row : List Colour) (at : Position) (b : List B
     → length reference ≡ length row → IsHorizontalFault row at b fault → IsHorizontalFault reference at b fault
 horizontal_fault reference row at b fault same h = rw same h
 
-AreSteps-push : (reference : List Colour) (old : Position) (b : List Bool) (positions : List Position) (at new : Position) (mid rest : List Bool)
+AreSteps-push : (reference : List Colour) (old : Position) (b : List Bool) (positions : List Position) (at new : Position)
+    (mid rest : List Bool)
     → AreSteps reference old b positions at mid → IsUnfinished reference at → IsStep reference at mid new rest
     → AreSteps reference old b (positions ++ new ∷ []) new rest
 AreSteps-push reference old b [] at new mid rest steps unfinished step =

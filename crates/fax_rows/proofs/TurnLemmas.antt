@@ -1,5 +1,6 @@
 -- Rows by their places of change: the pel at a place, and where it changes.
-use Rattle.std.proofs.Common.{◌≡◌, ℕ, zero, suc, ◌+◌, ◌-◌, ◌%◌, ◌<◌, ◌≤◌, List, [], ◌∷◌, ◌++◌, length, take, get_or, true, false, not, refl, ap, sym, ◌∙◌, subst, arith, inl, inr}
+use Rattle.std.proofs.Common.{◌≡◌, ℕ, zero, suc, ◌+◌, ◌-◌, ◌%◌, ◌<◌, ◌≤◌, List, [], ◌∷◌, ◌++◌, length, take, get_or, true, false, not, refl}
+use Rattle.std.proofs.Common.{ap, sym, ◌∙◌, subst, arith, inl, inr}
 use Rattle.std.specs.Prelude.{◌⊎◌, nat_le, if◌then◌else◌}
 use Rattle.std.proofs.lemmas.Bool.{cases_lt, le-leb, lt-leb}
 use Rattle.std.proofs.Math.Nat.{eq-or-lt_of_le}
@@ -39,7 +40,7 @@ pub alternate-suc : (c : Colour) (k : ℕ) → alternate c (suc k) ≡ other (al
 alternate-suc c zero = refl
 alternate-suc c (suc k) = alternate-suc (other c) k
 
--- white behind an odd number of turns from black
+-- white after an odd number of turns from black
 pub alternate-odd : (k : ℕ) → k % 2 ≡ 1 → alternate Black k ≡ White
 alternate-odd zero h = absurd (omega arith)
 alternate-odd (suc zero) h = refl
@@ -62,7 +63,8 @@ turned-rank c (p ∷ places) i zero within left right =
     (turned-rank c places i zero (omega arith) (λ j h. absurd (omega arith)) (λ j h l. right (suc j) (omega arith) (omega arith)))
 turned-rank c (p ∷ places) i (suc k) within left right =
     rw (le-leb p i (left zero (omega arith)))
-    (turned-rank (other c) places i k (omega arith) (λ j h. left (suc j) (omega arith)) (λ j h l. right (suc j) (omega arith) (omega arith)))
+    (turned-rank (other c) places i k (omega arith) (λ j h. left (suc j) (omega arith))
+    (λ j h l. right (suc j) (omega arith) (omega arith)))
 
 module _ (places : List ℕ) (end : ℕ) (up : IsAscending places end) where
   -- places ascend also over several steps
@@ -100,7 +102,7 @@ module _ (places : List ℕ) (end : ℕ) (up : IsAscending places end) where
         | inr less ↦ let l = below_later (suc i) j (omega arith) less h in omega arith
       ]
 
-  -- the colour behind k places
+  -- the colour after k places
   pub colour_behind_places : (i k : ℕ) → IsBehind places end i k → turned Black (take end places) i ≡ alternate Black k
   colour_behind_places i k at =
       turned-rank Black (take end places) i k (omega (arith, len, at.within)) left right
@@ -119,7 +121,7 @@ module _ (places : List ℕ) (end : ℕ) (up : IsAscending places end) where
           let later = not_later k j h (omega (arith, len)) in
           rw (get_or-take end places j 0 (omega (arith, len))) (omega arith)
 
-  -- the pel behind k places
+  -- the pel after k places
   pub pel_behind : (width i k : ℕ) → i < width → IsBehind places end i k → pel (pels_by width (take end places)) i ≡ alternate Black k
   pel_behind width i k h at = pel-pels_by width (take end places) i h ∙ colour_behind_places i k at
 
@@ -175,7 +177,8 @@ module _ (places : List ℕ) (end : ℕ) (up : IsAscending places end) where
       → is_changing (pels_by width (take end places)) i ≡ false
   unchanging width zero k at (inr less) inside = absurd (omega arith)
   unchanging width zero k at (inl one) inside =
-      let here : pel (pels_by width (take end places)) 0 ≡ alternate Black 1 = pel_behind width zero k inside at ∙ ap (alternate Black) one in
+      let here : pel (pels_by width (take end places)) 0 ≡ alternate Black 1 =
+      pel_behind width zero k inside at ∙ ap (alternate Black) one in
       rw here refl
   unchanging width (suc i) k at from inside =
       let here = pel_behind width (suc i) k inside at in

@@ -1,12 +1,14 @@
 -- A row unpacked by words of 64 pels.
-use Rattle.std.proofs.Common.{◌≡◌, ◌≢◌, ℕ, zero, suc, ◌+◌, ◌-◌, ◌*◌, ◌/◌, ◌%◌, ◌^◌, ◌<◌, ◌≤◌, List, [], ◌∷◌, length, get_or, Bool, true, false, not, nat_eq, refl, ap, sym, ◌∙◌, arith, inl, inr}
+use Rattle.std.proofs.Common.{◌≡◌, ◌≢◌, ℕ, zero, suc, ◌+◌, ◌-◌, ◌*◌, ◌/◌, ◌%◌, ◌^◌, ◌<◌, ◌≤◌, List, [], ◌∷◌, length, get_or, Bool, true}
+use Rattle.std.proofs.Common.{false, not, nat_eq, refl, ap, sym, ◌∙◌, arith, inl, inr}
 use Rattle.std.specs.Int.{bit_at, from_be_bytes, w64}
 use Rattle.std.specs.Int.RustNames.{bit_xor}
 use Rattle.std.proofs.lemmas.Bool.{cases_lt, eqb-true, true≢false}
 use Rattle.std.proofs.Math.Nat.{pow-succ'}
 use Rattle.std.proofs.lemmas.List.{get_or_past}
 use Rattle.std.proofs.lemmas.Nat.{be_bytes_8, leading_top, one_shl, pow_pos, shr-shr, xor_block, xor_lt}
-use Rattle.std.proofs.lemmas.Nat.Bits.{bit_at-lt, bit_at-zero, bit_at_xor, bit_at-pow_same, bit_at-pow_other, bit_at_above, bit_at_cat_low, bit_at_cat_high, bit_at_lowest}
+use Rattle.std.proofs.lemmas.Nat.Bits.{bit_at-lt, bit_at-zero, bit_at_xor, bit_at-pow_same, bit_at-pow_other, bit_at_above, bit_at_cat_low}
+use Rattle.std.proofs.lemmas.Nat.Bits.{bit_at_cat_high, bit_at_lowest}
 use lib.Count.{count_leading_zeros}
 use Rattle.fax_bits.specs.declared.FillOrder.TheVariants.{MsbFirst}
 use Rattle.fax_bits.specs.declared.Colour.TheVariants.{Black}
@@ -59,8 +61,10 @@ bits_of_word law bytes at word room fit is i inside =
     ap (λ k. nat_eq (bit_at word (63 - k)) 1) (sym whole)
     ∙ ap (λ b. nat_eq b 1)
     (sym (byte_bit word q r few (omega arith)) ∙ ap (λ b. bit_at b (7 - r))
-    (sym (be_byte word q few) ∙ ap (λ b. get_or b q 0) (be_bytes_8 (eight_at bytes at) word refl (eight_fit bytes at fit) is) ∙ one_of_eight bytes at q few))
-    ∙ sym (law.of_bytes MsbFirst bytes (8 * at + i) (omega arith) ∙ ap (λ k. nat_eq (bit_at (get_or bytes k 0) (7 - (8 * at + i) % 8)) 1) byte
+    (sym (be_byte word q few) ∙ ap (λ b. get_or b q 0) (be_bytes_8 (eight_at bytes at) word refl (eight_fit bytes at fit) is)
+    ∙ one_of_eight bytes at q few))
+    ∙ sym (law.of_bytes MsbFirst bytes (8 * at + i) (omega arith)
+    ∙ ap (λ k. nat_eq (bit_at (get_or bytes k 0) (7 - (8 * at + i) % 8)) 1) byte
     ∙ ap (λ k. nat_eq (bit_at (get_or bytes (at + q) 0) (7 - k)) 1) place)
 
 -- one bit or the other
@@ -68,7 +72,7 @@ abbrev pub turns_bit : Bool → Bool → Bool
 turns_bit true b = not b
 turns_bit false b = b
 
--- the bit before one of a word, behind another word
+-- the bit before one of a word, after another word
 abbrev pub bit_before : ℕ → ℕ → ℕ → Bool
 bit_before before word zero = word_bit before 63
 bit_before before word (suc i) = word_bit word i
@@ -168,7 +172,8 @@ highest left at some fits is =
     let low : left - 2 ^ j < 2 ^ j = omega (arith, top.2, top.3, double) in
     let parts : left ≡ 1 * 2 ^ j + (left - 2 ^ j) = omega (arith, top.2) in
     let one : bit_at left j ≡ 1 =
-    ap (λ n. bit_at n j) parts ∙ bit_at_cat_high 1 j (left - 2 ^ j) j low (omega arith) ∙ ap (bit_at 1) (let none : j - j ≡ 0 = omega arith in none) in
+    ap (λ n. bit_at n j) parts ∙ bit_at_cat_high 1 j (left - 2 ^ j) j low (omega arith)
+    ∙ ap (bit_at 1) (let none : j - j ≡ 0 = omega arith in none) in
     record {
       within = omega (arith, is, top.1);
       before = λ i h. ap (λ b. nat_eq b 1) (bit_at_above left (suc j) (63 - i) top.3 (omega (arith, place)));
@@ -214,7 +219,7 @@ less_without left at top =
     let few : bit_xor (left - half) 0 < half = xor_lt (63 - at) (left - half) 0 low (pow_pos (63 - at)) in
     omega (arith, is, few, top.least)
 
--- The places of the first r pels of a word are put behind the old ones, and the bits of its other changes are left
+-- The places of the first r pels of a word are put after the old ones, and the bits of its other changes are left
 pub record IsPutTo (old places : List ℕ) (from before word left r : ℕ) : Type 0 where
   pub within : r ≤ 64
   pub gone : (i : ℕ) → i < r → word_bit left i ≡ false
@@ -224,7 +229,8 @@ pub record IsPutTo (old places : List ℕ) (from before word left r : ℕ) : Typ
   pub behind : (k : ℕ) → from + r ≤ k → turned Black places k ≡ colour_of_bit (bit_before before word r)
 
 pub put_none : (old : List ℕ) (from before word : ℕ) → word < 2 ^ 64
-    → ((k : ℕ) → from ≤ k → turned Black old k ≡ colour_of_bit (word_bit before 63)) → IsPutTo old old from before word (changes_of before word) 0
+    → ((k : ℕ) → from ≤ k → turned Black old k ≡ colour_of_bit (word_bit before 63))
+    → IsPutTo old old from before word (changes_of before word) 0
 put_none old from before word fits colour = record {
   within = omega arith;
   gone = λ i h. absurd (omega arith);
@@ -236,7 +242,8 @@ put_none old from before word fits colour = record {
 
 module _ (old places : List ℕ) (from before word left r : ℕ) (so_far : IsPutTo old places from before word left r) where
   -- the pels up to the next change
-  pub quiet_to : (at : ℕ) → r ≤ at → at ≤ 64 → ((i : ℕ) → i < at → word_bit left i ≡ false) → bit_before before word at ≡ bit_before before word r
+  pub quiet_to : (at : ℕ) → r ≤ at → at ≤ 64 → ((i : ℕ) → i < at → word_bit left i ≡ false)
+      → bit_before before word at ≡ bit_before before word r
   quiet_to at order within none =
       quiet before word r at order (λ i h l. sym (so_far.rest i h (omega arith)) ∙ none i l)
 
@@ -274,7 +281,8 @@ module _ (old places : List ℕ) (from before word left r : ℕ) (so_far : IsPut
   put_more new at place next top place_is next_is turns = record {
     within = omega (arith, top.within);
     gone = λ i h. elim (cases_lt i at) [
-      | inl less ↦ let differs : i ≢ at = omega arith in other_bits left at i top.within (omega (arith, top.within)) differs ∙ top.before i less
+      | inl less ↦ let differs : i ≢ at =
+          omega arith in other_bits left at i top.within (omega (arith, top.within)) differs ∙ top.before i less
       | inr more ↦
           let same : i ≡ at = omega arith in
           ap (word_bit (without left at)) same ∙ that_bit left at top.there
@@ -287,7 +295,8 @@ module _ (old places : List ℕ) (from before word left r : ℕ) (so_far : IsPut
       | inl less ↦ turns.left (from + i) (omega arith) ∙ up_to i less
       | inr more ↦
           let same : i ≡ at = omega arith in
-          turns.right (from + i) (omega arith) ∙ turned_there (from + i) (omega arith) ∙ ap (λ n. colour_of_bit (word_bit word n)) (sym same)
+          turns.right (from + i) (omega arith) ∙ turned_there (from + i) (omega arith)
+          ∙ ap (λ n. colour_of_bit (word_bit word n)) (sym same)
     ];
     behind = λ k h.
         let last : suc at ≡ next = omega arith in
@@ -308,8 +317,9 @@ module _ (old places : List ℕ) (from before word left r : ℕ) (so_far : IsPut
           ∙ other_colour (word_bit word at) (bit_before before word at)
           (sym (so_far.rest at (not_gone at top) top.within) ∙ top.there)
 
--- there is room for a place behind those of a word
-pub room_behind : (places : List ℕ) (end from r : ℕ) → IsAscending places end → (1 < end → get_or places (end - 1) 0 < from + r) → end ≤ from + r + 2
+-- there is room for a place after those of a word
+pub room_behind : (places : List ℕ) (end from r : ℕ) → IsAscending places end → (1 < end → get_or places (end - 1) 0 < from + r)
+    → end ≤ from + r + 2
 room_behind places end from r up last =
     elim (cases_lt 1 end) [
       | inl more ↦ places_within places end (from + r) up (omega (arith, last more))

@@ -1,5 +1,6 @@
 -- A row that is written is read back.
-use Rattle.std.proofs.Common.{◌≡◌, ◌≢◌, ℕ, zero, suc, ◌+◌, ◌^◌, ◌<◌, ◌≤◌, List, [], ◌∷◌, ◌++◌, length, take, replicate, Bool, true, false, refl, ap, sym, ◌∙◌, subst, arith, inl, inr, append_assoc}
+use Rattle.std.proofs.Common.{◌≡◌, ◌≢◌, ℕ, zero, suc, ◌+◌, ◌^◌, ◌<◌, ◌≤◌, List, [], ◌∷◌, ◌++◌, length, take, replicate, Bool, true, false}
+use Rattle.std.proofs.Common.{refl, ap, sym, ◌∙◌, subst, arith, inl, inr, append_assoc}
 use Rattle.std.specs.Prelude.{nat_eq, sum, Option, Some, None, unwrap_or}
 use Rattle.std.proofs.Math.Seq.{take-length}
 use Rattle.std.proofs.lemmas.Bool.{cases_lt}
@@ -13,7 +14,8 @@ use Rattle.fax_bits.specs.Laws.{RunBitsAreRead, ModeBitsAreRead}
 use Rattle.fax_bits.specs.Runs.{mode_bits}
 use Rattle.fax_bits.specs.Tables.{modes}
 use Rattle.fax_rows.specs.Elements.{other, pels_of, runs_behind, runs_of, HasWidth}
-use Rattle.fax_rows.specs.Coded.{places, colour_of, chosen_mode, run_pair_bits, next_a0, step_bits, two_dimensional_bits, alternating_bits, one_dimensional_bits}
+use Rattle.fax_rows.specs.Coded.{places, colour_of, chosen_mode, run_pair_bits, next_a0, step_bits, two_dimensional_bits, alternating_bits}
+use Rattle.fax_rows.specs.Coded.{one_dimensional_bits}
 use Rattle.fax_rows.specs.OneDimensional.{AreRuns, IsOneDimensionalRow}
 use Rattle.fax_rows.specs.TwoDimensional.{Position, AreSteps, IsTwoDimensionalRow}
 use Rattle.fax_rows.proofs.ChangeLemmas.{first_of}
@@ -30,17 +32,19 @@ pub record IsWrittenBack (reference row : List Colour) (from : Position) (b more
   pub pels : row ≡ last.pels
 
 -- no step is written at the row's end
-pub step_bits-end : (limit : ℕ) (reference row : List Colour) (a0 : Option ℕ) → first_of a0 ≡ length row → step_bits limit reference row a0 ≡ []
+pub step_bits-end : (limit : ℕ) (reference row : List Colour) (a0 : Option ℕ) → first_of a0 ≡ length row
+    → step_bits limit reference row a0 ≡ []
 unfolding step_bits
 step_bits-end zero reference row a0 done = refl
 step_bits-end (suc limit) reference row a0 done =
     let ends : nat_eq (unwrap_or a0 0) (length row) ≡ true = grind (arith, nat_tests) in
     rw ends refl
 
--- elsewhere a step is written, and those behind it
+-- elsewhere a step is written, and those after it
 pub step_bits-more : (limit : ℕ) (reference row : List Colour) (a0 : Option ℕ) → first_of a0 < length row
     → step_bits (suc limit) reference row a0
-    ≡ mode_bits (chosen_mode (places reference row a0)) ++ run_pair_bits (chosen_mode (places reference row a0)) row a0 (places reference row a0)
+    ≡ mode_bits (chosen_mode (places reference row a0)) ++ run_pair_bits (chosen_mode (places reference row a0)) row a0
+    (places reference row a0)
     ++ step_bits limit reference row (Some (next_a0 (chosen_mode (places reference row a0)) (places reference row a0)))
 unfolding step_bits
 step_bits-more limit reference row a0 unfinished =
@@ -59,7 +63,8 @@ still_short : (a0 : Option ℕ) (width limit : ℕ) → width + 1 ≤ passed a0 
 still_short None width limit enough none within = absurd (omega arith)
 still_short (Some a) width limit enough none within = omega arith
 
-module _ (runs_read : RunBitsAreRead) (modes_taken : ModeBitsAreRead) (reference row : List Colour) (same_width : length reference ≡ length row)
+module _ (runs_read : RunBitsAreRead) (modes_taken : ModeBitsAreRead) (reference row : List Colour)
+    (same_width : length reference ≡ length row)
     (limits : HasWidth row) where
   back_at_end : (a0 : Option ℕ) (colour : Colour) (limit : ℕ) (more : List Bool) → first_of a0 ≡ length row
       → IsWrittenBack reference row (here row a0 colour) (step_bits limit reference row a0 ++ more) more
@@ -80,7 +85,8 @@ module _ (runs_read : RunBitsAreRead) (modes_taken : ModeBitsAreRead) (reference
 
   bits_of_step : (limit : ℕ) (a0 : Option ℕ) (more : List Bool) → first_of a0 < length row
       → step_bits (suc limit) reference row a0 ++ more
-      ≡ mode_bits (mode_at a0) ++ (run_pair_bits (mode_at a0) row a0 (places reference row a0) ++ (step_bits limit reference row (Some (next_at a0)) ++ more))
+      ≡ mode_bits (mode_at a0) ++ (run_pair_bits (mode_at a0) row a0 (places reference row a0) ++ (step_bits limit reference row
+      (Some (next_at a0)) ++ more))
   bits_of_step limit a0 more unfinished =
       ap (λ b. b ++ more) (step_bits-more limit reference row a0 unfinished)
       ∙ append_assoc (mode_bits (mode_at a0) ++ run_pair_bits (mode_at a0) row a0 (places reference row a0))
@@ -148,7 +154,8 @@ replicate_more n colour pels =
     rw (← replicate-append-replicate n 1 colour) (append_assoc (replicate n colour) (colour ∷ []) pels)
 
 -- the longest runs make up the pels
-pub pels_of-runs_behind : (colour : Colour) (n : ℕ) (pels : List Colour) → pels_of colour (runs_behind colour n pels) ≡ replicate n colour ++ pels
+pub pels_of-runs_behind : (colour : Colour) (n : ℕ) (pels : List Colour)
+    → pels_of colour (runs_behind colour n pels) ≡ replicate n colour ++ pels
 unfolding runs_behind
 pels_of-runs_behind colour n [] = refl
 pels_of-runs_behind White n (White ∷ pels) =
@@ -189,7 +196,8 @@ pub one_dimensional_back : RunBitsAreRead → (row : List Colour) → HasWidth r
     → IsOneDimensionalRow (length row) (one_dimensional_bits row ++ more) row more
 one_dimensional_back runs_read row limits more =
     let pels : row ≡ pels_of White (runs_of row) = sym (pels_of-runs_behind White 0 row) in
-    let sum_is : sum (runs_of row) ≡ length row = sym (length-pels_of White (runs_of row)) ∙ ap (λ (xs : List Colour). length xs) (sym pels) in
+    let sum_is : sum (runs_of row) ≡ length row =
+    sym (length-pels_of White (runs_of row)) ∙ ap (λ (xs : List Colour). length xs) (sym pels) in
     record {
       runs = runs_of row;
       coded = runs_back runs_read White (runs_of row) more (omega (arith, sum_is, limits.short));

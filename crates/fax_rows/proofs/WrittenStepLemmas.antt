@@ -1,4 +1,4 @@
--- How far a row is written behind a step: the indexes of a1 and b1 behind each mode.
+-- How far a row is written after a step: the indexes of a1 and b1 after each mode.
 use Rattle.std.proofs.Common.{◌≡◌, ℕ, suc, ◌+◌, ◌-◌, ◌<◌, ◌≤◌, List, ◌++◌, length, get_or, true, false, refl, ap, sym, ◌∙◌, subst, arith}
 use Rattle.std.specs.Prelude.{Option, Some, None, unwrap_or, pos, ◌-ℤ◌, nat_lt}
 use Rattle.std.proofs.lemmas.Bool.Decides.{nat_tests}
@@ -46,13 +46,15 @@ module _ (rows : Rows) (ahead : Ahead) (is : IsAhead rows ahead) (unfinished : u
 
   pub from_a1 : ahead.a1 < rows.width → IsFrom rows.row.now rows.row_end (Some ahead.a1) (ahead.row + 1)
   from_a1 inside =
-      let less = inside_end rows.row.now rows.row_end rows.width rows.row_placed ahead.row row_at.0 (omega (arith, row_at.1)) (omega (arith, is.a1_at)) in
+      let less = inside_end rows.row.now rows.row_end rows.width rows.row_placed ahead.row row_at.0 (omega (arith, row_at.1))
+      (omega (arith, is.a1_at)) in
       subst (λ a. IsBehind rows.row.now rows.row_end a (ahead.row + 1)) (sym is.a1_at)
       (behind_place rows.row.now rows.row_end rows.width rows.row_placed ahead.row row_at.0 less)
 
   pub from_a2 : ahead.a2 < rows.width → IsFrom rows.row.now rows.row_end (Some ahead.a2) (ahead.row + 2)
   from_a2 inside =
-      let less = inside_end rows.row.now rows.row_end rows.width rows.row_placed (ahead.row + 1) (omega arith) (omega (arith, row_at.1)) (omega (arith, is.a2_at)) in
+      let less = inside_end rows.row.now rows.row_end rows.width rows.row_placed (ahead.row + 1) (omega arith) (omega (arith, row_at.1))
+      (omega (arith, is.a2_at)) in
       let next : ahead.row + 1 + 1 ≡ ahead.row + 2 = omega arith in
       subst (λ a. IsBehind rows.row.now rows.row_end a (ahead.row + 2)) (sym is.a2_at)
       (subst (λ k. IsBehind rows.row.now rows.row_end (get_or rows.row.now (ahead.row + 1) 0) k) next
@@ -61,8 +63,10 @@ module _ (rows : Rows) (ahead : Ahead) (is : IsAhead rows ahead) (unfinished : u
   -- b2 is not left of a0
   b2_from_a0 : unwrap_or ahead.a0 0 ≤ ahead.b2
   b2_from_a0 =
-      let first = b1_ahead rows.reference.now rows.reference_end rows.width rows.reference_placed ahead.a0 ahead.colour ahead.reference is.reference unfinished in
-      let second = b2_ahead rows.reference.now rows.reference_end rows.width rows.reference_placed ahead.reference is.reference.some is.reference.within in
+      let first = b1_ahead rows.reference.now rows.reference_end rows.width rows.reference_placed ahead.a0 ahead.colour ahead.reference
+      is.reference unfinished in
+      let second = b2_ahead rows.reference.now rows.reference_end rows.width rows.reference_placed ahead.reference is.reference.some
+      is.reference.within in
       omega (arith, first, second, is.b2_at)
 
   pub from_b2 : ahead.b2 < ahead.a1 → IsFrom rows.row.now rows.row_end (Some ahead.b2) ahead.row
@@ -73,7 +77,7 @@ module _ (rows : Rows) (ahead : Ahead) (is : IsAhead rows ahead) (unfinished : u
     right = λ l. omega (arith, left, is.a1_at);
   }
 
-  -- the colour behind one change, and behind two
+  -- the colour after one change, and after two
   turned_colour : other ahead.colour ≡ alternate Black (ahead.row + 1)
   turned_colour =
       let next : ahead.row + 1 ≡ suc ahead.row = omega arith in
@@ -84,11 +88,13 @@ module _ (rows : Rows) (ahead : Ahead) (is : IsAhead rows ahead) (unfinished : u
       let next : ahead.row + 2 ≡ suc (suc ahead.row) = omega arith in
       is.behind ∙ ap (alternate Black) (sym next)
 
-  pub b1_behind_pass : ahead.b2 < rows.width → IsB1At rows.reference.now rows.reference_end (Some ahead.b2) (alternate Black ahead.row) (ahead.reference + 2)
+  pub b1_behind_pass : ahead.b2 < rows.width
+      → IsB1At rows.reference.now rows.reference_end (Some ahead.b2) (alternate Black ahead.row) (ahead.reference + 2)
   b1_behind_pass inside =
       subst (λ colour. IsB1At rows.reference.now rows.reference_end (Some ahead.b2) colour (ahead.reference + 2)) is.behind
       (subst (λ a. IsB1At rows.reference.now rows.reference_end (Some a) ahead.colour (ahead.reference + 2)) (sym is.b2_at)
-      (b1_passed rows.reference.now rows.reference_end rows.width rows.reference_placed ahead.a0 ahead.colour ahead.reference is.reference (omega (arith, is.b2_at))))
+      (b1_passed rows.reference.now rows.reference_end rows.width rows.reference_placed ahead.a0 ahead.colour ahead.reference is.reference
+      (omega (arith, is.b2_at))))
 
   pub b1_behind_b1 : ahead.a1 ≡ ahead.b1 → ahead.a1 < rows.width
       → IsB1At rows.reference.now rows.reference_end (Some ahead.a1) (alternate Black (ahead.row + 1)) (ahead.reference + 1)
@@ -105,7 +111,8 @@ module _ (rows : Rows) (ahead : Ahead) (is : IsAhead rows ahead) (unfinished : u
       let inside : first_of ahead.a0 < length (written_of rows) = omega (arith, written_width rows) in
       let passes = a1_right (reference_of rows) (written_of rows) (same_widths rows) ahead.a0 inside in
       let right = passed_right ahead.a0 ahead.a1 (omega (arith, passes, is.a1)) in
-      subst (λ colour. IsB1At rows.reference.now rows.reference_end (Some ahead.a1) colour b) turned_colour (found ahead.a0 ahead.colour is.reference right)
+      subst (λ colour. IsB1At rows.reference.now rows.reference_end (Some ahead.a1) colour b) turned_colour
+      (found ahead.a0 ahead.colour is.reference right)
 
   pub b1_behind_a2 : (b : ℕ) → ((colour : Colour) → IsBeforeB1 rows.reference.now rows.reference_end ahead.a2 colour ahead.reference
       → IsB1At rows.reference.now rows.reference_end (Some ahead.a2) colour b)
@@ -114,7 +121,8 @@ module _ (rows : Rows) (ahead : Ahead) (is : IsAhead rows ahead) (unfinished : u
       let known = known_bounds rows ahead is unfinished in
       subst (λ colour. IsB1At rows.reference.now rows.reference_end (Some ahead.a2) colour b) same_colour
       (found ahead.colour
-      (same_start rows.reference.now rows.reference_end rows.width rows.reference_placed ahead.a0 ahead.colour ahead.reference ahead.a2 is.reference
+      (same_start rows.reference.now rows.reference_end rows.width rows.reference_placed ahead.a0 ahead.colour ahead.reference ahead.a2
+      is.reference
       (omega (arith, known.a0, known.a1_a2))))
 
   -- the mode that is chosen is that of the step from a0
@@ -124,8 +132,15 @@ module _ (rows : Rows) (ahead : Ahead) (is : IsAhead rows ahead) (unfinished : u
       let reference = reference_of rows in
       let row = written_of rows in
       sym (ap (λ p. chosen_mode (record { a1 = p; a2 = 0; b1 = ahead.b1; b2 = ahead.b2 })) is.a1
-      ∙ ap (λ p. chosen_mode (record { a1 = next_change row ahead.a0; a2 = 0; b1 = p; b2 = ahead.b2 })) (is.b1 ∙ ap (b1 reference ahead.a0) is.colour)
-      ∙ ap (λ p. chosen_mode (record { a1 = next_change row ahead.a0; a2 = 0; b1 = b1 reference ahead.a0 (colour_of row ahead.a0); b2 = p }))
+      ∙ ap (λ p. chosen_mode (record { a1 = next_change row ahead.a0; a2 = 0; b1 = p; b2 = ahead.b2 }))
+      (is.b1 ∙ ap (b1 reference ahead.a0) is.colour)
+      ∙ ap (λ p. chosen_mode (record {
+        a1 = next_change row ahead.a0;
+        a2 = 0;
+        b1 = b1 reference ahead.a0 (colour_of row ahead.a0);
+        b2 =
+            p;
+      }))
       (is.b2 ∙ ap (b2 reference ahead.a0) is.colour))
 
   -- the runs of horizontal mode
@@ -136,9 +151,11 @@ module _ (rows : Rows) (ahead : Ahead) (is : IsAhead rows ahead) (unfinished : u
       sym (ap (λ c. run_bits c (ahead.a1 - from) ++ run_bits (other c) (ahead.a2 - ahead.a1)) is.colour
       ∙ ap (λ p. run_bits (colour_of row ahead.a0) (ahead.a1 - from) ++ run_bits (other (colour_of row ahead.a0)) (p - ahead.a1))
       (is.a2 ∙ ap (λ p. next_change row (Some p)) is.a1)
-      ∙ ap (λ p. run_bits (colour_of row ahead.a0) (p - from) ++ run_bits (other (colour_of row ahead.a0)) (next_change row (Some (next_change row ahead.a0)) - p)) is.a1)
+      ∙ ap (λ p. run_bits (colour_of row ahead.a0) (p - from) ++ run_bits (other (colour_of row ahead.a0))
+      (next_change row (Some (next_change row ahead.a0)) - p)) is.a1)
 
-  pub horizontal_bits : (mode : ModeCode) → mode ≡ chosen_mode (record { a1 = ahead.a1; a2 = 0; b1 = ahead.b1; b2 = ahead.b2 }) → mode ≡ Horizontal
+  pub horizontal_bits : (mode : ModeCode) → mode ≡ chosen_mode (record { a1 = ahead.a1; a2 = 0; b1 = ahead.b1; b2 = ahead.b2 })
+      → mode ≡ Horizontal
       → bits_from (reference_of rows) (written_of rows) ahead.a0 ≡ mode_bits Horizontal ++ run_pair ahead
   horizontal_bits mode chosen is_horizontal =
       let at = places (reference_of rows) (written_of rows) ahead.a0 in
@@ -148,7 +165,8 @@ module _ (rows : Rows) (ahead : Ahead) (is : IsAhead rows ahead) (unfinished : u
   -- a1 under b1
   under_mode : ahead.a1 ≡ ahead.b1 → mode_from (reference_of rows) (written_of rows) ahead.a0 ≡ Vertical (pos 0)
   under_mode same =
-      let second = b2_ahead rows.reference.now rows.reference_end rows.width rows.reference_placed ahead.reference is.reference.some is.reference.within in
+      let second = b2_ahead rows.reference.now rows.reference_end rows.width rows.reference_placed ahead.reference is.reference.some
+      is.reference.within in
       let order : ahead.a1 ≤ ahead.b2 = omega (arith, second, same, is.b1_at, is.b2_at) in
       let no_pass : nat_lt ahead.b2 ahead.a1 ≡ false = grind (arith, nat_tests) in
       let under : pos ahead.a1 -ℤ pos ahead.b1 ≡ pos 0 = omega (arith, ints) in

@@ -41,7 +41,7 @@ abbrev pub is_right_of : Option ℕ → ℕ → Bool
 is_right_of None i = true
 is_right_of (Some a) i = nat_lt a i
 
--- the least of the n places from i on that passes the test, or the place behind them all
+-- the least of the n places from i on that passes the test, or the place after them all
 -- (T.4, section 4.2.1.3.1)
 unfoldable pub first_place : (ℕ → Bool) → ℕ → ℕ → ℕ
 first_place test i zero = i

@@ -56,7 +56,7 @@ pub record IsRunFault (colour : Colour) (width from : ℕ) (b : List Bool)
   pub within : from + sum make_up ≤ width
   pub at_code : IsAtRunCode colour width (from + sum make_up) left fault
 
--- the colour of the run behind these runs (T.4, section 4.1.1)
+-- the colour of the run after these runs (T.4, section 4.1.1)
 abbrev pub colour_behind : Colour → List ℕ → Colour
 colour_behind colour [] = colour
 colour_behind colour (n ∷ runs) = colour_behind (other colour) runs
@@ -79,7 +79,7 @@ IsHorizontalFault reference at b fault =
     × IsRun at.colour b first middle × (first_pel at + first ≤ length reference)
     × IsRunFault (other at.colour) (length reference) (first_pel at + first) middle fault)
 
--- the fault of a mode, with the bits behind its code (this project's profile)
+-- the fault of a mode, with the bits after its code (this project's profile)
 abbrev pub IsModeFault : ModeCode → List Colour → Position → List Bool → RowFault → Type 0
 IsModeFault Pass reference at b fault = ⊥
 IsModeFault (Vertical d) reference at b fault = (IsInRow reference at d → ⊥) × (fault ≡ OutOfRow)

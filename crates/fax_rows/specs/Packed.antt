@@ -23,7 +23,7 @@ abbrev pub colour_of_bit : Bool → Colour
 colour_of_bit false = White
 colour_of_bit true = Black
 
--- the byte of the eight pels from a place on, the leftmost in its highest bit, with zeros behind
+-- the byte of the eight pels from a place on, the leftmost in its highest bit, with zeros after
 -- the last pel (the netpbm format, P4; the zeros are this project's profile)
 unfoldable pub packed_byte : List Colour → ℕ → ℕ
 packed_byte row from = bits_number (take 8 (drop from (map is_black row ++ replicate 8 false)))
@@ -32,13 +32,13 @@ packed_byte row from = bits_number (take 8 (drop from (map is_black row ++ repli
 unfoldable pub packed_row : List Colour → List ℕ
 packed_row row = map (λ k. packed_byte row (8 * k)) (range_with_len 0 (packed_len (length row)))
 
--- the row of some bytes, of which the padding behind the last pel is ignored
+-- the row of some bytes, of which the padding after the last pel is ignored
 -- (the netpbm format, P4)
 unfoldable pub unpacked_row : ℕ → List ℕ → List Colour
 unpacked_row width bytes = take width (map colour_of_bit (bits MsbFirst bytes))
 
 -- the least place from this one on whose bit, the highest of each byte first, is not of the colour,
--- or the place behind the last bit (the netpbm format, P4)
+-- or the place after the last bit (the netpbm format, P4)
 unfoldable pub first_other : List ℕ → ℕ → Colour → ℕ
 first_other bytes from colour =
     first_place (λ i. not (same_colour (colour_of_bit

@@ -49,7 +49,7 @@ b1_from reference at = b1 reference at.a0 at.colour
 abbrev pub b2_from : List Colour → Position → ℕ
 b2_from reference at = b2 reference at.a0 at.colour
 
--- a1 at b1 + d lies right of a0 and not behind the row's end (this project's profile)
+-- a1 at b1 + d lies right of a0 and not after the row's end (this project's profile)
 pub record IsInRow (reference : List Colour) (at : Position) (d : ℤ) : Type 0 where
   pub right_of_a0 : a0_number at <ℤ (pos (b1_from reference at) +ℤ d)
   pub within : (pos (b1_from reference at) +ℤ d) ≤ℤ pos (length reference)
@@ -78,7 +78,7 @@ pub record IsHorizontalStep (reference : List Colour) (old : Position) (b : List
     pels = old.pels ++ replicate first old.colour ++ replicate second (other old.colour);
   }
 
--- what a mode does, with the bits behind its code (T.4, section 4.2.1.3.2)
+-- what a mode does, with the bits after its code (T.4, section 4.2.1.3.2)
 abbrev pub IsStepBy : ModeCode → List Colour → Position → List Bool → Position → List Bool → Type 0
 IsStepBy Pass reference old b new rest =
     (new ≡ coloured_up_to old (b2_from reference old)) × (b ≡ rest)

@@ -44,7 +44,7 @@ fn first_other_in_byte(byte: u8, from: u32, colour: Colour) -> u32
     }
 }
 
-/// The first of the bytes from `from` on that is not `plain`, or the place behind them all.
+/// The first of the bytes from `from` on that is not `plain`, or the place after them all.
 fn first_other_of_rest(bytes: &[u8], from: usize, plain: u8) -> usize
     requires { from ≤ length bytes.now }
     ensures { IsFirstOtherByte bytes.now from plain result }
@@ -57,7 +57,7 @@ fn first_other_of_rest(bytes: &[u8], from: usize, plain: u8) -> usize
     bytes.len()
 }
 
-/// The first of the bytes from `from` on that is not `plain`, or the place behind them all.
+/// The first of the bytes from `from` on that is not `plain`, or the place after them all.
 fn first_other_byte(bytes: &[u8], from: usize, plain: u8) -> usize
     requires { from ≤ length bytes.now }
     ensures { IsFirstOtherByte bytes.now from plain result }
@@ -74,9 +74,9 @@ fn first_other_byte(bytes: &[u8], from: usize, plain: u8) -> usize
     first_other_of_rest(bytes, at, plain)
 }
 
-/// The least place at or behind `from` whose bit, highest of each byte first, is not of the colour,
-/// where 1 is black; where there is none, the place behind the last bit. At most 4,294,967,295
-/// bytes are given, and `from` is no further than the place behind their bits. It takes no memory.
+/// The least place at or after `from` whose bit, highest of each byte first, is not of the colour,
+/// where 1 is black; where there is none, the place after the last bit. At most 4,294,967,295
+/// bytes are given, and `from` is no further than the place after their bits. It takes no memory.
 pub fn first_other(bytes: &[u8], from: u64, colour: Colour) -> u64
     requires count { length bytes.now ≤ 4294967295 }
     requires within { from ≤ 8 * length bytes.now }

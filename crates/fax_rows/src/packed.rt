@@ -20,7 +20,7 @@ pub(crate) const WORD: u32 = 64;
 
 impl Row {
     /// The row of `width` pels, 1 to 65,535, that these bytes hold: pel `i` is black where bit `i`
-    /// is 1, the highest bit of each byte first. The bits behind the last pel are ignored. The row
+    /// is 1, the highest bit of each byte first. The bits after the last pel are ignored. The row
     /// has all the memory that one of this width can need.
     ///
     /// # Errors
@@ -39,7 +39,7 @@ impl Row {
     }
 
     /// Takes the pels that these bytes hold: pel `i` is black where bit `i` is 1, the highest bit
-    /// of each byte first. The bits behind the last pel are ignored. It takes no memory.
+    /// of each byte first. The bits after the last pel are ignored. It takes no memory.
     pub fn set_packed(&mut self, bytes: &[u8])
         requires { length bytes.now ≡ Spec.packed_len (length self.old) }
         ensures pels { self.new ≡ Spec.unpacked_row (length self.old) bytes.now }
@@ -51,7 +51,7 @@ impl Row {
     }
 
     /// Writes the row's pels as bytes, the highest bit of each first, where 1 is black and the bits
-    /// behind the last pel are 0. `out` has just as many bytes as that takes.
+    /// after the last pel are 0. `out` has just as many bytes as that takes.
     pub fn to_packed(&self, out: &mut [u8])
         requires { length out.old ≡ Spec.packed_len (length self.now) }
         ensures { out.new ≡ Spec.packed_row self.now }
@@ -71,7 +71,7 @@ fn pack_places(places: &[u32], end: usize, width: u32, out: &mut [u8])
     pack_rest(places, end, width, 8 * words, passed, out);
 }
 
-/// Writes so many words of 64 pels, and answers how many places of change are passed behind them.
+/// Writes so many words of 64 pels, and answers how many places of change are passed after them.
 fn pack_words(places: &[u32], end: usize, width: u32, words: usize, out: &mut [u8]) -> usize
     requires row { ArePlaces places.now end width }
     requires within { words ≡ width / 64 }
@@ -103,7 +103,7 @@ fn pack_words(places: &[u32], end: usize, width: u32, words: usize, out: &mut [u
 }
 
 /// Word `k` of 64 pels, before which so many places of change are passed; and how many are passed
-/// behind it.
+/// after it.
 #[inline(always)]
 fn packed_word(places: &[u32], end: usize, width: u32, k: u32, passed: usize) -> (u64, usize)
     requires row { ArePlaces places.now end width }
@@ -183,8 +183,8 @@ fn fill(out: &mut [u8], from: usize, to: usize, byte: u8)
     }
 }
 
-/// The byte of the eight pels from a place on, with zeros behind the last pel, where so many places
-/// of change are passed; and how many are passed behind it.
+/// The byte of the eight pels from a place on, with zeros after the last pel, where so many places
+/// of change are passed; and how many are passed after it.
 fn packed_byte(places: &[u32], end: usize, width: u32, from: u32, passed: usize) -> (u8, usize)
     requires row { ArePlaces places.now end width }
     requires within { from < width }
@@ -208,7 +208,7 @@ fn packed_byte(places: &[u32], end: usize, width: u32, from: u32, passed: usize)
     (padded as u8, behind)
 }
 
-/// The number of these bits, and `n` bits more of one colour behind them.
+/// The number of these bits, and `n` bits more of one colour after them.
 fn with_run(number: u32, n: u32, black: bool) -> u32
     requires few { n ≤ 8 }
     requires fits { number < 2 ^ 8 }

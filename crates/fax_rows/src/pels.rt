@@ -15,7 +15,7 @@ use std::marker::Model;
 pub struct Row {
     /// A 0, the places of change in ascending order, and at least three times the width.
     pub(crate) places: Vec<u32>,
-    /// The index behind the last change.
+    /// The index after the last change.
     pub(crate) end: usize,
     pub(crate) width: u32,
 }

@@ -62,7 +62,7 @@ struct Ahead {
     reference: usize,
 }
 
-/// The colour behind so many places, the first of which turns black to white.
+/// The colour after so many places, the first of which turns black to white.
 #[inline(always)]
 pub fn colour_behind(places: usize) -> Colour
     ensures { result ≡ alternate Colour.Black places }
@@ -95,7 +95,7 @@ impl Ahead {
         }
     }
 
-    /// Behind pass mode: a0 is put under b2.
+    /// After pass mode: a0 is put under b2.
     #[inline(always)]
     fn behind_pass(self, rows: Rows) -> Written
         requires places { Spec.IsAhead rows self }
@@ -111,7 +111,7 @@ impl Ahead {
         }
     }
 
-    /// Behind a1 that is under b1: the next b1 is the reference row's next changing element.
+    /// After a1 that is under b1: the next b1 is the reference row's next changing element.
     #[inline(always)]
     fn behind_b1(self, rows: Rows) -> Written
         requires places { Spec.IsAhead rows self }
@@ -127,7 +127,7 @@ impl Ahead {
         }
     }
 
-    /// Behind any a1.
+    /// After any a1.
     #[inline(always)]
     fn behind_a1(self, rows: Rows) -> Written
         requires places { Spec.IsAhead rows self }
@@ -153,7 +153,7 @@ impl Ahead {
         }
     }
 
-    /// Behind horizontal mode: a0 is put on a2.
+    /// After horizontal mode: a0 is put on a2.
     #[inline(always)]
     fn behind_a2(self, rows: Rows) -> Written
         requires places { Spec.IsAhead rows self }

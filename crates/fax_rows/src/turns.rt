@@ -23,7 +23,7 @@ pub fn places_up_to(places: &[u32], end: usize, i: u32) -> usize
     low
 }
 
-/// Turns the colour from a place on, and answers where the places end: it puts the place behind the
+/// Turns the colour from a place on, and answers where the places end: it puts the place after the
 /// last one, or takes the last one away where it is the same.
 pub fn turn(places: &mut [u32], end: usize, place: u32) -> usize
     requires ascending { Spec.IsAscending places.old end }
@@ -41,7 +41,7 @@ pub fn turn(places: &mut [u32], end: usize, place: u32) -> usize
     end + 1
 }
 
-/// What `turn` does, behind a run of pels that ends at the place: where it has some, the last place
+/// What `turn` does, after a run of pels that ends at the place: where it has some, the last place
 /// is another one.
 #[inline(always)]
 pub fn turn_behind(places: &mut [u32], end: usize, place: u32, run: u32) -> usize
@@ -91,7 +91,7 @@ fn end_below(places: &[u32], end: usize, width: u32) -> usize
     }
 }
 
-/// Puts the width behind the places of a row, and answers where its changes end.
+/// Puts the width after the places of a row, and answers where its changes end.
 pub fn close(places: &mut [u32], end: usize, width: u32) -> usize
     requires some { 0 < width }
     requires short { width < 2 ^ 16 }

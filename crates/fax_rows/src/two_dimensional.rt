@@ -67,13 +67,13 @@ impl Reached {
 struct PlacedReached {
     /// a0 and its colour.
     reached: Reached,
-    /// The index behind the last place that is put.
+    /// The index after the last place that is put.
     end: usize,
     /// The index of b1 among the reference row's places.
     b1: usize,
 }
 
-/// The index of b1 as seen from the pel `place`, from an index on that is not behind it.
+/// The index of b1 as seen from the pel `place`, from an index on that is not after it.
 pub(crate) fn find_b1(reference: &[u32], end: usize, width: u32, from: usize, place: u32) -> usize
     requires reference { Turns.ArePlaces reference.now end width }
     requires inside { place < width }

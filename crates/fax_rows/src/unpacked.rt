@@ -48,7 +48,7 @@ fn last_colour(word: u64) -> Colour
     }
 }
 
-/// Puts the places of change of a word of 64 pels, the first of them at place `from`, behind
+/// Puts the places of change of a word of 64 pels, the first of them at place `from`, after
 /// another word, and answers where they end.
 #[inline(always)]
 fn put_word(places: &mut [u32], end: usize, from: u32, before: u64, word: u64) -> usize

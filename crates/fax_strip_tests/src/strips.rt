@@ -31,7 +31,7 @@ fn put_runs(runs: &mut Vec<u32>, alloc: Global, row: &Row) -> Result<(), Fail> {
     Ok(())
 }
 
-/// The runs of the rows of a strip, one row behind another, and then its end, which is answered
+/// The runs of the rows of a strip, one row after another, and then its end, which is answered
 /// again.
 fn read(
     rt: &impl Abort,
@@ -60,7 +60,7 @@ fn read(
 
 #[test]
 fn reads_mh_rows(rt: HostRuntime) -> Result<(), Fail> {
-    // White 3, black 2, white 3; the same behind an EOL with fill.
+    // White 3, black 2, white 3; the same after an EOL with fill.
     let bytes = [0x8E, 0x00, 0x06, 0x38];
     let (runs, end) = read(&rt, rt.alloc(), form_of(Coding::Mh, 2), &bytes)?;
     assert_eq!(rt; runs.as_slice(), [3u32, 2, 3, 3, 2, 3].as_slice());

@@ -62,7 +62,7 @@ fn writes_as_the_options_say(rt: HostRuntime) {
     let mh = to(Target::Mh, FillOrder::MsbFirst, 4, None);
     let file = convert(rt.alloc(), b"P4\n8 1\n\x18", &mh).expect(&rt, "a file");
     assert_eq!(rt; file.as_slice(), ONE_PAGE.as_slice());
-    // Strips of one row begin behind the header.
+    // Strips of one row begin after the header.
     let mmr = to(Target::Mmr, FillOrder::MsbFirst, 4, Some(1));
     let file = convert(rt.alloc(), b"P4\n8 2\n\x00\x18", &mmr).expect(&rt, "a file");
     assert_eq!(rt; file.len(), 248);

@@ -219,7 +219,7 @@ fn replaces_a_resolution_that_is_not_good(rt: HostRuntime) {
 
 #[test]
 fn sees_entries_out_of_order(rt: HostRuntime) {
-    // The tag behind 254: 255, 254 once more, and 253.
+    // The tag after 254: 255, 254 once more, and 253.
     for (tag, in_order) in [(0xFF, true), (0xFE, false), (0xFD, false)] {
         let file = changed(26, &[tag, 0]);
         let tiff = Tiff::read_header(&file).expect(&rt, "the header");

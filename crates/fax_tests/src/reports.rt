@@ -34,7 +34,7 @@ fn reports_notes_up_to_the_first_fault(rt: HostRuntime) {
     file[34] = 6;
     file[38] = 0;
     file[46] = 8;
-    // The first strip has other bits behind its rows, and the second nothing; the third ends in its
+    // The first strip has other bits after its rows, and the second nothing; the third ends in its
     // second row.
     file[10] = 3;
     file[15] = 0;

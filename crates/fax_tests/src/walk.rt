@@ -6,7 +6,7 @@ use std::process::Abort;
 use std::test::Fail;
 
 /// A file of one MH page of 8 pels by 2 rows, with the fields that a page has to have: the first
-/// row is WWWBBWWW, without an EOL; behind it stand an EOL, and the same row up to its black run.
+/// row is WWWBBWWW, without an EOL; after it stand an EOL, and the same row up to its black run.
 #[rattlefmt::skip]
 const TWO_ROWS: [u8; 90] = [
     // Header: II, 42, the directory at 12.
@@ -278,7 +278,7 @@ static ONE_STRIP: [u8; 102] = [
     0, 0, 0, 0,
 ];
 
-/// The place inside a strip behind the rows that the walk has handed out has this text, or none
+/// The place inside a strip after the rows that the walk has handed out has this text, or none
 /// where the text is empty.
 fn assert_place(rt: &impl Abort, alloc: Global, walk: &Walk, text: &str) -> Result<(), Fail> {
     let mut found = String::new(alloc);
@@ -298,7 +298,7 @@ fn names_the_place_behind_a_row(rt: HostRuntime) -> Result<(), Fail> {
     assert_place(&rt, rt.alloc(), &walk, "2:0:1:10:3,2,3")
 }
 
-/// A walk that begins behind the first row of that page hands out the second row, and then ends.
+/// A walk that begins after the first row of that page hands out the second row, and then ends.
 fn assert_second_row(rt: &impl Abort, alloc: Global, walk: &mut Walk) -> Result<(), Fail> {
     assert_eq!(rt; walk.cursor(), Cursor { page: 0, row: 1 });
     assert_place(rt, alloc, walk, "2:0:1:10:3,2,3")?;

@@ -8,7 +8,8 @@ use Rattle.fax_walk.specs.Cursor.{IsCursor, cursor_text}
 use Rattle.fax_walk.specs.LongCursor.{IsLongCursor, LongPlace}
 use Rattle.fax_walk.specs.declared.options.Options.{Options}
 use Rattle.fax_walk.specs.declared.options.Target.TheVariants.{Mmr, Pbm}
-use Rattle.fax_tool.specs.Job.{AreOptions, BeginsAt, BeginsInside, HasNoCursor, HasNoTarget, IsCommand, IsFault, IsJob, IsNoCursor, IsNoLongCursor, IsRefused, command_of, is_set, target_in}
+use Rattle.fax_tool.specs.Job.{AreOptions, BeginsAt, BeginsInside, HasNoCursor, HasNoTarget, IsCommand, IsFault, IsJob, IsNoCursor}
+use Rattle.fax_tool.specs.Job.{IsNoLongCursor, IsRefused, command_of, is_set, target_in}
 use Rattle.fax_tool.specs.WordLaws.{HasCursors, HaveOneAnswer, WordsHaveOneAnswer}
 use Rattle.fax_tool.specs.declared.words.Command.{Command}
 use Rattle.fax_tool.specs.declared.words.Command.TheVariants.{Check, Convert, List as Forms, Rows}
@@ -22,7 +23,8 @@ one_name name a b left right differ = true≢false (sym ((bytes_eq-Decides a b).
 
 same_entries : (words : List Text) (a b : Text) (xs ys : List Row) → command_of words ≡ Some (a, xs) → command_of words ≡ Some (b, ys)
     → ◌≡◌ {A = Text × List Row} (a, xs) (b, ys)
-same_entries words a b xs ys left right = let both : ◌≡◌ {A = Option (Text × List Row)} (Some (a, xs)) (Some (b, ys)) = sym left ∙ right in cc
+same_entries words a b xs ys left right =
+    let both : ◌≡◌ {A = Option (Text × List Row)} (Some (a, xs)) (Some (b, ys)) = sym left ∙ right in cc
 
 -- options have a target, and one with EOLs where these are aligned
 no_options : (entries : List Row) (options : Options) → AreOptions entries options → HasNoTarget entries → ⊥

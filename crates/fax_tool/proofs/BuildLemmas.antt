@@ -9,14 +9,16 @@ use Rattle.clap.specs.declared.builder.command.Command.TheViews.{out-Command}
 use Rattle.fax_tool.specs.CommandLine.{bare_app}
 use Rattle.fax_tool.specs.code.Entries.{IsApp}
 
-pub bare : (new c : Command) (name : Text) → out-Command c ≡ record (out-Command new) { disable_help_flag = true } → app_of new ≡ new_app name
+pub bare : (new c : Command) (name : Text) → out-Command c ≡ record (out-Command new) { disable_help_flag = true }
+    → app_of new ≡ new_app name
     → (out-Command new).has_globals ≡ false → IsApp c (bare_app name)
 bare new c name fields app globals = (
   ap app_of_fields fields ∙ ap (λ (a : App). record a { top = record a.top { disable_help_flag = true } }) app,
   ap (λ f. f.has_globals) fields ∙ globals,
 )
 
-pub add_arg : (c r : Command) (a : Arg) (x : App) (rule : Rule) → AddsArg c a r → IsApp c x → a.global ≡ false → rule_of a ≡ rule → IsApp r (with_rule x rule)
+pub add_arg : (c r : Command) (a : Arg) (x : App) (rule : Rule) → AddsArg c a r → IsApp c x → a.global ≡ false → rule_of a ≡ rule
+    → IsApp r (with_rule x rule)
 add_arg c r a x rule adds is local is_rule = (
   adds.shape local ∙ ap₂ with_rule is.0 is_rule,
   adds.globals ∙ ap₂ (λ a b. a || b) is.1 local,

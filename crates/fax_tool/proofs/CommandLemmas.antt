@@ -63,7 +63,8 @@ of_none are_lines at max all =
 left_at_beginning : (are_lines : List Line → End → Type 0) (at : Cursor) (max : Option ℕ) (refusal : Refusal) (input : Counts) (taken : ℕ)
     (output new_output : Option (List ℕ)) (counts : Counts) → ((lines : List Line) × (end : End) × are_lines lines end)
     → StopsAtBeginning refusal at input taken output new_output counts → LeavesLines are_lines at max refusal output new_output
-left_at_beginning are_lines at max Memory input taken output new_output counts all stops = (next_line at, of_none are_lines at max all, stops)
+left_at_beginning are_lines at max Memory input taken output new_output counts all stops =
+    (next_line at, of_none are_lines at max all, stops)
 left_at_beginning are_lines at max Read input taken output new_output counts all stops = ([], refl, stops.1)
 left_at_beginning are_lines at max Write input taken output new_output counts all stops =
     let front = stops.front in
@@ -76,7 +77,8 @@ reason_at_beginning at Read input taken output new_output counts stops = stops.0
 reason_at_beginning at Write input taken output new_output counts stops = stops.failed
 
 first_of : (are others : List Line → End → Type 0) (at : Cursor) (max : Option ℕ) (text : List ℕ)
-    → ((lines : List Line) (end : End) → are lines end → others lines end) → IsTextOfFirst are at max text → IsTextOfFirst others at max text
+    → ((lines : List Line) (end : End) → are lines end → others lines end) → IsTextOfFirst are at max text
+    → IsTextOfFirst others at max text
 first_of are others at max text same first = record {
   lines = first.lines;
   others = first.others;
@@ -92,7 +94,8 @@ left_by_printing : (are others : List Line → End → Type 0) (at : Cursor) (ma
 left_by_printing are others at max Memory output new_output counts same (text, first, written) =
     (text, first_of are others at max text same first, written)
 left_by_printing are others at max Read output new_output counts same stops = absurd stops
-left_by_printing are others at max Write output new_output counts same (failed, (text, inl (printed, (lines, end, read, is), text_is), front)) =
+left_by_printing are others at max Write output new_output counts same
+    (failed, (text, inl (printed, (lines, end, read, is), text_is), front)) =
     (front.front, (front.rest, inl (printed, (lines, end, same lines end read, is), sym front.parts ∙ text_is)), front.written)
 left_by_printing are others at max Write output new_output counts same (failed, (text, inr first, front)) =
     (front.front, (front.rest, inr (rw (← front.parts) (first_of are others at max text same first))), front.written)
@@ -131,8 +134,15 @@ rows_left_at_beginning file part Memory input taken output new_output counts all
     (next_line (begins_at (begun_of part)), of_none (AreRowLines file (begun_of part)) (begins_at (begun_of part)) part.max all, stops)
 rows_left_at_beginning file part Read input taken output new_output counts all stops = ([], refl, stops.1)
 rows_left_at_beginning file part Write input taken output new_output counts all stops =
-    let front = stops.front in
-    (front.front, (front.rest, inr (rw (← front.parts) (of_none (AreRowLines file (begun_of part)) (begins_at (begun_of part)) part.max all))), front.written)
+    let front = stops.front in (
+      front.front,
+      (
+        front.rest,
+        inr (rw (← front.parts) (of_none (AreRowLines file (begun_of part)) (begins_at (begun_of part)) part.max
+            all)),
+      ),
+      front.written,
+    )
 
 pub rows_stopped_at_beginning : CursorsHaveOneTail → PlacesHaveOneTail → (left : Option (List ℕ)) (part : Part) (refusal : Refusal)
     (input : Counts) (taken : ℕ) (counts : Counts) (output new_output : Option (List ℕ))
@@ -167,28 +177,39 @@ reason_of_rows true walk max Read input taken output new_output counts stops = a
 reason_of_rows true walk max Write input taken output new_output counts stops = stops.0
 
 module _ (file : List ℕ) (part : Part) where
-  lines_of : (lines : List Line) (end : End) → AreRowsDue (walk_begun file (begun_of part)) lines end → AreRowLines file (begun_of part) lines end
+  lines_of : (lines : List Line) (end : End) → AreRowsDue (walk_begun file (begun_of part)) lines end
+      → AreRowLines file (begun_of part) lines end
   lines_of lines end due = record { items = due.items; tail = due.due; lines_are = due.lines_are }
 
   first_rows : (text : List ℕ)
       → IsTextOfFirst (AreRowsDue (walk_begun file (begun_of part))) (begins_at (begun_of part)) part.max text
       → IsTextOfFirst (AreRowLines file (begun_of part)) (begins_at (begun_of part)) part.max text
   first_rows text first =
-      first_of (AreRowsDue (walk_begun file (begun_of part))) (AreRowLines file (begun_of part)) (begins_at (begun_of part)) part.max text lines_of first
+      first_of (AreRowsDue (walk_begun file (begun_of part))) (AreRowLines file (begun_of part)) (begins_at (begun_of part)) part.max text
+      lines_of first
 
   rows_leave : (long : Bool) → part.long ≡ long → (refusal : Refusal) (output new_output : Option (List ℕ)) (counts : Counts)
       → StopsRows long (walk_begun file (begun_of part)) part.max refusal output new_output counts
       → LeavesText refusal (Rows part) file output new_output
   rows_leave false is refusal output new_output counts stops =
       rows_left file part refusal output new_output is
-      (left_by_printing (AreRowsDue (walk_begun file (begun_of part))) (AreRowLines file (begun_of part)) (begins_at (begun_of part)) part.max
+      (left_by_printing (AreRowsDue (walk_begun file (begun_of part))) (AreRowLines file (begun_of part)) (begins_at (begun_of part))
+      part.max
       refusal output new_output counts lines_of stops)
   rows_leave true is Memory output new_output counts (text, first, moved) = (text, first_rows text first, moved)
   rows_leave true is Read output new_output counts stops = absurd stops
   rows_leave true is Write output new_output counts (failed, (text, inl (ending, long), front)) =
       let told = long_text file (begun_of part) part.max ending text long in (
         front.front,
-        (front.rest, inl (told.printed, subst (λ long. IsTextOfRows long file (begun_of part) part.max told.printed) (sym is) told.is, sym front.parts ∙ told.output)),
+        (
+          front.rest,
+          inl (
+            told.printed,
+            subst (λ long. IsTextOfRows long file (begun_of part) part.max told.printed) (sym is) told.is,
+            sym
+                front.parts ∙ told.output,
+          ),
+        ),
         front.written,
       )
   rows_leave true is Write output new_output counts (failed, (text, inr first, front)) =
@@ -232,8 +253,11 @@ pub pages_stopped : (left : Option (List ℕ)) (file : List ℕ) (part : Part) (
     → StopsPrinting (ArePagesDue (pages_from file part.cursor)) part.cursor part.max refusal output new_output counts
     → IsStopped (Forms part) left refusal input taken counts output new_output
 pages_stopped left file part refusal input taken counts output new_output same stops = record {
-  reason = reason_of_printing (ArePagesDue (pages_from file part.cursor)) part.cursor part.max refusal input taken output new_output counts stops;
-  leaves = if_same (λ bytes. LeavesText refusal (Forms part) bytes output new_output) left file same (pages_left file part refusal output new_output
-      (left_by_printing (ArePagesDue (pages_from file part.cursor)) (ArePageLines file part.cursor) part.cursor part.max refusal output new_output counts
+  reason = reason_of_printing (ArePagesDue (pages_from file part.cursor)) part.cursor part.max refusal input taken output new_output counts
+      stops;
+  leaves = if_same (λ bytes. LeavesText refusal (Forms part) bytes output new_output) left file same
+      (pages_left file part refusal output new_output
+      (left_by_printing (ArePagesDue (pages_from file part.cursor)) (ArePageLines file part.cursor) part.cursor part.max refusal output
+      new_output counts
       (page_lines file part.cursor) stops));
 }

@@ -1,5 +1,6 @@
 -- Where a level of a command line has no fault, the values of each entry passed the parser of its argument.
-use Rattle.std.proofs.Common.{◌≡◌, ◌∙◌, ◌++◌, ◌⊎◌, ◌||◌, ◌&&◌, ⊎_elim, cond, ap, ap₂, sym, subst, refl, Bool, true, false, ℕ, zero, suc, List, [], ◌∷◌, Option, Some, None, is_some, length, drop, arith}
+use Rattle.std.proofs.Common.{◌≡◌, ◌∙◌, ◌++◌, ◌⊎◌, ◌||◌, ◌&&◌, ⊎_elim, cond, ap, ap₂, sym, subst, refl, Bool, true, false, ℕ, zero, suc}
+use Rattle.std.proofs.Common.{List, [], ◌∷◌, Option, Some, None, is_some, length, drop, arith}
 use Rattle.std.specs.Prelude.{encode_utf8, slice_get, option_and_then, option_map}
 use Rattle.std.specs.Option.{option_map_or}
 use Rattle.std.specs.List.{find, fold}
@@ -10,9 +11,19 @@ use Rattle.clap.specs.Lexer.{long_of, short_of}
 use Rattle.clap.specs.Facts.{parser_of_value, unwrap_or_range}
 use Rattle.clap.specs.Values.{read_as, reading_of}
 use Rattle.clap.specs.Kinds.{Kinds, or_else, range_kinds, request_kinds, value_kinds, values_kinds}
-use Rattle.clap.specs.Walk.{Held, Names, Outcome, Row, Rule, Step, Text, Waiting, Walk, action_of, after_flag, after_step, arg_by_id, arg_by_index, arg_by_long, arg_by_short, at_row, attached_value, bundle_met, bundle_step, default_rows, done, finished, first_of, flag_met, has_row, is_empty, is_pending, long_met, long_or_other, more_values, most_values, next, nothing_held, one_of, option_met, option, option_word, plain, plain_word, positional, positional_held, refused, waits, bundle, idle, trailing, subcommand, reacted, reading_by, row_text, rows_after, settled, settled_rows, short_met, short_or_plain, subcommand_met, subcommand_or_other, takes_several, takes_values, to_positional, used, used_as, used_by_id, value, values_or_missing, walk, walk_from, walked, walked_from, with_default, with_values, without, word_met}
+use Rattle.clap.specs.Walk.{Held, Names, Outcome, Row, Rule, Step, Text, Waiting, Walk, action_of, after_flag, after_step, arg_by_id}
+use Rattle.clap.specs.Walk.{arg_by_index, arg_by_long, arg_by_short, at_row, attached_value, bundle_met, bundle_step, default_rows, done}
+use Rattle.clap.specs.Walk.{finished, first_of, flag_met, has_row, is_empty, is_pending, long_met, long_or_other, more_values, most_values}
+use Rattle.clap.specs.Walk.{next, nothing_held, one_of, option_met, option, option_word, plain, plain_word, positional, positional_held}
+use Rattle.clap.specs.Walk.{refused, waits, bundle, idle, trailing, subcommand, reacted, reading_by, row_text, rows_after, settled}
+use Rattle.clap.specs.Walk.{settled_rows, short_met, short_or_plain, subcommand_met, subcommand_or_other, takes_several, takes_values}
+use Rattle.clap.specs.Walk.{to_positional, used, used_as, used_by_id, value, values_or_missing, walk, walk_from, walked, walked_from}
+use Rattle.clap.specs.Walk.{with_default, with_values, without, word_met}
 use Rattle.clap.specs.Simple.{Shape}
-use Rattle.clap.specs.Faults.{action_fault, bundle_fault, bundle_step_fault, check_fault, default_fault, defaults_fault, flag_word_fault, flags_fault, level_fault, long_fault, option_fault, other_fault, positional_fault, react_fault, repeat_fault, settle_fault, short_fault, step_fault, turn_fault, use_fault, values_fault, stray_fault, walk_fault, word_fault}
+use Rattle.clap.specs.Faults.{action_fault, bundle_fault, bundle_step_fault, check_fault, default_fault, defaults_fault, flag_word_fault}
+use Rattle.clap.specs.Faults.{flags_fault, level_fault, long_fault, option_fault, other_fault, positional_fault, react_fault, repeat_fault}
+use Rattle.clap.specs.Faults.{settle_fault, short_fault, step_fault, turn_fault, use_fault, values_fault, stray_fault, walk_fault}
+use Rattle.clap.specs.Faults.{word_fault}
 use Rattle.clap.specs.declared.builder.action.ArgAction.TheVariants.{Set, SetTrue}
 use Rattle.clap.specs.declared.error.kind.ErrorKind.TheVariants.{TooManyValues}
 use Rattle.clap.specs.declared.builder.value_parser.Reading.{Reading}
@@ -29,7 +40,8 @@ pub none_then : (a b : Kinds) → or_else a b ≡ [] → b ≡ []
 none_then [] b none = none
 none_then (k ∷ ks) b none = cc
 
-values_append : (i : Bool) (p : ValueParser) (xs ys : List Text) → values_kinds i p xs ≡ [] → values_kinds i p ys ≡ [] → values_kinds i p (xs ++ ys) ≡ []
+values_append : (i : Bool) (p : ValueParser) (xs ys : List Text) → values_kinds i p xs ≡ [] → values_kinds i p ys ≡ []
+    → values_kinds i p (xs ++ ys) ≡ []
 values_append i p [] ys none more = more
 values_append i p (x ∷ xs) ys none more =
     let here = none_first (value_kinds i p x) (values_kinds i p xs) none in
@@ -107,7 +119,8 @@ module _ (id : Text) (parser : ValueParser) where
         ap reading_of own.0,
       )
 
-  used_passes : (again : Bool) (a : Rule) (values : List Text) (rows : List Row) → IsRuleOf a → use_fault again a values rows ≡ [] → ArePassed rows
+  used_passes : (again : Bool) (a : Rule) (values : List Text) (rows : List Row) → IsRuleOf a → use_fault again a values rows ≡ []
+      → ArePassed rows
       → ArePassed (used a values rows)
   used_passes again a values rows fits none all =
       let raw = values_or_missing a values in
@@ -172,7 +185,8 @@ module _ (id : Text) (parser : ValueParser) where
     short_passes (Some a) rest h behind behind_fault others fit none all = go (takes_values a) none
       where
         go : (b : Bool)
-            → cond b (option_fault c again a (attached_value rest) h) (or_else (react_fault c again a [] h) (behind_fault (reacted c a [] h))) ≡ []
+            → cond b (option_fault c again a (attached_value rest) h) (or_else (react_fault c again a [] h)
+            (behind_fault (reacted c a [] h))) ≡ []
             → ArePassed (cond b (option_met c a (attached_value rest) h) (behind (reacted c a [] h))).0.rows
         go true none = option_passes a (attached_value rest) h fit none all
         go false none =
@@ -180,7 +194,8 @@ module _ (id : Text) (parser : ValueParser) where
             let later = behind_fault (reacted c a [] h) in
             others (reacted c a [] h) (none_then react later none) (reacted_passes a [] h fit (none_first react later none) all)
 
-    bundle_passes : (k : ℕ) (flags : Text) (skip : ℕ) (so_far : Outcome) (h : Held) → flags_fault c again k flags skip h ≡ [] → ArePassed h.rows
+    bundle_passes : (k : ℕ) (flags : Text) (skip : ℕ) (so_far : Outcome) (h : Held) → flags_fault c again k flags skip h ≡ []
+        → ArePassed h.rows
         → ArePassed (bundle_met c k flags skip so_far h).0.rows
     unfolding bundle_met flags_fault
     bundle_passes zero flags skip so_far h none all = all
@@ -214,14 +229,16 @@ module _ (id : Text) (parser : ValueParser) where
     flag_word_passes waiting word h plain all = plain_passes waiting word h all
     flag_word_passes waiting word h refused all = plain_passes waiting word h all
 
-    option_word_passes : (waiting : Waiting) (word : Text) (o : Option (Text × Option Text)) (h : Held) → flag_word_fault c again o word h ≡ []
+    option_word_passes : (waiting : Waiting) (word : Text) (o : Option (Text × Option Text)) (h : Held)
+        → flag_word_fault c again o word h ≡ []
         → ArePassed h.rows → ArePassed (long_or_other c waiting word o h).0.rows
     option_word_passes waiting word (Some p) h none all =
         let met = long_met c (arg_by_long c p.0) p.1 h in
         flag_word_passes waiting word met.0 met.1 (long_passes (arg_by_long c p.0) p.1 h (found_fits _ c fits) none all)
     option_word_passes waiting word None h none all = go (short_of word) none
       where
-        go : (o : Option Text) → option_map_or (λ flags. bundle_fault c again flags h) o [] ≡ [] → ArePassed (short_or_plain c waiting word o h).0.rows
+        go : (o : Option Text) → option_map_or (λ flags. bundle_fault c again flags h) o [] ≡ []
+            → ArePassed (short_or_plain c waiting word o h).0.rows
         go None none = plain_passes waiting word h all
         go (Some flags) none =
             let met = bundle c flags h in
@@ -242,7 +259,8 @@ module _ (id : Text) (parser : ValueParser) where
         → word_fault s names is_trailing waiting word h ≡ [] → ArePassed h.rows
         → ArePassed (word_met s.rules names is_trailing waiting position word h).0.rows
     word_passes names true waiting position word h none all = all
-    word_passes names false waiting position word h none all = any_word_passes (subcommand_met names waiting word) waiting position word h none all
+    word_passes names false waiting position word h none all =
+        any_word_passes (subcommand_met names waiting word) waiting position word h none all
 
     file_passes : (a : Rule) (word : Text) (h : Held) → positional_fault s.rules s.args_override_self a h ≡ [] → ArePassed h.rows
         → ArePassed (positional_held s.rules a word h).rows
@@ -290,9 +308,11 @@ module _ (id : Text) (parser : ValueParser) where
     walk_passes names w (word ∷ words) none all =
         let turn = turn_fault s names w word in
         let others = walk_fault s names (walked s.rules names w word) words in
-        walk_passes names (walked s.rules names w word) words (none_then turn others none) (turn_passes names w word (none_first turn others none) all)
+        walk_passes names (walked s.rules names w word) words (none_then turn others none)
+        (turn_passes names w word (none_first turn others none) all)
 
-    default_passes : (a : Rule) (rows : List Row) → IsRuleOf a → default_fault rows a ≡ [] → ArePassed rows → ArePassed (with_default rows a)
+    default_passes : (a : Rule) (rows : List Row) → IsRuleOf a → default_fault rows a ≡ [] → ArePassed rows
+        → ArePassed (with_default rows a)
     default_passes a rows fit none all = go (has_row a.id rows) a.defaults none
       where
         go : (has : Bool) (values : List Text)
@@ -317,7 +337,8 @@ module _ (id : Text) (parser : ValueParser) where
         defaults_pass others (with_default rows a) fits.1 (none_then here later none)
         (default_passes a rows fits.0 (none_first here later none) all)
 
-    pub level_passes : (names : Names) (words : List Text) (has : Bool) (below : Kinds) → level_fault s names nothing_held words has below ≡ []
+    pub level_passes : (names : Names) (words : List Text) (has : Bool) (below : Kinds)
+        → level_fault s names nothing_held words has below ≡ []
         → ArePassed (rows_after s.rules names words)
     level_passes names words has below none =
         let again = s.args_override_self in
@@ -355,7 +376,8 @@ module _ (id : Text) (parser : ValueParser) where
       first [] none is = cc
       first (v ∷ vs) none is =
           let same : v ≡ t = cc in
-          subst (λ (u : Text). value_kinds false parser u ≡ []) same (none_first (value_kinds false parser v) (values_kinds false parser vs) none)
+          subst (λ (u : Text). value_kinds false parser u
+          ≡ []) same (none_first (value_kinds false parser v) (values_kinds false parser vs) none)
 
       go : (o : Option Row) → IsFoundPassed o → option_and_then (λ r. slice_get r.values 0) o ≡ Some t → value_kinds false parser t ≡ []
       go None passed is = cc

@@ -1,9 +1,11 @@
 -- What the entries of a number and of a flag are, where they passed.
-use Rattle.std.proofs.Common.{◌≡◌, ◌∙◌, ◌<◌, ◌≤◌, ◌^◌, ◌==◌, ◌||◌, ap, arith, cond, drop, codes, inl, inr, sym, refl, Bool, true, false, ℕ, List, [], ◌∷◌, Option, Some, None, Result, Ok, Err}
+use Rattle.std.proofs.Common.{◌≡◌, ◌∙◌, ◌<◌, ◌≤◌, ◌^◌, ◌==◌, ◌||◌, ap, arith, cond, drop, codes, inl, inr, sym, refl, Bool, true, false, ℕ}
+use Rattle.std.proofs.Common.{List, [], ◌∷◌, Option, Some, None, Result, Ok, Err}
 use Rattle.std.specs.Prelude.{option_map, pos, unwrap_or}
 use Rattle.std.specs.Option.{option_map_or}
 use Rattle.std.specs.Str.{bytes_eq}
-use Rattle.std.specs.Str.Parse.{ExplainsUnsignedError, HasUnsignedDigitsIfOk, IsNumeral, ParsesUnsigned, digits_value, starts_with_minus, without_leading_plus}
+use Rattle.std.specs.Str.Parse.{ExplainsUnsignedError, HasUnsignedDigitsIfOk, IsNumeral, ParsesUnsigned, digits_value, starts_with_minus}
+use Rattle.std.specs.Str.Parse.{without_leading_plus}
 use Rattle.std.specs.declared.num.ParseIntError.{ParseIntError}
 use Rattle.std.proofs.lemmas.Int.{ints}
 use Rattle.std.proofs.lemmas.Slice.Eq.{bytes_eq-Decides}
@@ -121,7 +123,8 @@ pub in_range : (name : Text) (most : ℕ) (entries : List Row) → HasNumber nam
     → (0 < n) × (n ≤ most)
 in_range name most entries has n is = go (first_of name entries) refl is
   where
-    go : (o : Option Text) → first_of name entries ≡ o → option_map (λ t. digits_value 10 (without_leading_plus t)) o ≡ Some n → (0 < n) × (n ≤ most)
+    go : (o : Option Text) → first_of name entries ≡ o → option_map (λ t. digits_value 10 (without_leading_plus t)) o ≡ Some n
+        → (0 < n) × (n ≤ most)
     go None given is = cc
     go (Some t) given is =
         let text = has.is t given in

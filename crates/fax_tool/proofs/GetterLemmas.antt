@@ -15,7 +15,8 @@ use Rattle.clap.specs.Matches.{first_value}
 use Rattle.clap.specs.declared.parser.matches.Found.{Found}
 use Rattle.clap.proofs.WalkLemmas.{first_value-rows}
 
-pub text_given : (f : Found) (name : Text) (r : Option (Bor Text)) (t : Bor Text) → option_map (λ s. s.now) r ≡ first_value f name → r ≡ Some t
+pub text_given : (f : Found) (name : Text) (r : Option (Bor Text)) (t : Bor Text) → option_map (λ s. s.now) r ≡ first_value f name
+    → r ≡ Some t
     → first_of name (rows_of f) ≡ Some t.now
 text_given f name r t e is = sym (first_value-rows f name) ∙ (sym e ∙ ap (option_map (λ s. s.now)) is)
 
@@ -31,7 +32,8 @@ other_text t u other = go (bytes_eq t u) refl
     go false differs = differs
 
 -- a text that is none of the four words names no target
-pub no_target : (t : Text) → (t ≡ codes "pbm" → ⊥) → (t ≡ codes "mh" → ⊥) → (t ≡ codes "mr" → ⊥) → (t ≡ codes "mmr" → ⊥) → target_of t ≡ None
+pub no_target : (t : Text) → (t ≡ codes "pbm" → ⊥) → (t ≡ codes "mh" → ⊥) → (t ≡ codes "mr" → ⊥) → (t ≡ codes "mmr" → ⊥)
+    → target_of t ≡ None
 no_target t pbm mh mr mmr =
     rw (other_text t (codes "pbm") pbm, other_text t (codes "mh") mh, other_text t (codes "mr") mr, other_text t (codes "mmr") mmr) refl
 

@@ -1,5 +1,6 @@
 -- Where the command line takes words, the entries after the command that they name are read as they stand.
-use Rattle.std.proofs.Common.{◌≡◌, codes, cond, inl, inr, subst, refl, pos, ℕ, Bool, true, false, List, [], ◌∷◌, Option, Some, None, is_some}
+use Rattle.std.proofs.Common.{◌≡◌, codes, cond, inl, inr, subst, refl, pos, ℕ, Bool, true, false, List, [], ◌∷◌, Option, Some, None}
+use Rattle.std.proofs.Common.{is_some}
 use Rattle.std.specs.Prelude.{option_map}
 use Rattle.std.specs.Option.{option_map_or}
 use Rattle.std.specs.List.{find, slice_index_or}
@@ -35,7 +36,8 @@ found_level test (s ∷ others) all = go (test s) (found_level test others all.1
     go true later = all.0
     go false later = later
 
-entered_level : (a : App) (stop : Option (Text × List Text)) (name : Text) (entries : List Row) → AreLevels a.subs → entered a stop ≡ Some (name, entries)
+entered_level : (a : App) (stop : Option (Text × List Text)) (name : Text) (entries : List Row) → AreLevels a.subs
+    → entered a stop ≡ Some (name, entries)
     → entered_fault a stop ≡ [] → HasEntries name entries
 entered_level a None name entries all is none = cc
 entered_level a (Some p) name entries all is none =
@@ -58,12 +60,16 @@ number_passes s name most fits words none =
 
 flag_passes : (s : Shape) (name : Text) → AreRulesOf name parser.Bool s.rules → (words : List Text)
     → level_fault s [] nothing_held words false [] ≡ [] → HasFlag name (rows_after s.rules [] words)
-flag_passes s name fits words none = has_flag name (rows_after s.rules [] words) (level_passes name parser.Bool s fits [] words false [] none)
+flag_passes s name fits words none =
+    has_flag name (rows_after s.rules [] words) (level_passes name parser.Bool s fits [] words false [] none)
 
 list_level : IsLevel (sub_at 0)
 unfolding clap_on_literals
 list_level words none = record {
-  list = λ is. number_passes (sub_at 0) (codes "max") 4294967295 ((inl refl, λ is. cc), ((inl refl, λ is. (refl, refl)), ((inl refl, λ is. cc), tt))) words none;
+  list = λ is. number_passes (sub_at 0) (codes "max") 4294967295 (
+    (inl refl, λ is. cc),
+    ((inl refl, λ is. (refl, refl)), ((inl refl, λ is. cc), tt)),
+  ) words none;
   rows = λ is. cc;
   convert = λ is. cc;
   known = refl;
@@ -74,8 +80,17 @@ unfolding clap_on_literals
 rows_level words none = record {
   list = λ is. cc;
   rows = λ is. (
-    number_passes (sub_at 1) (codes "max") 4294967295 ((inl refl, λ is. cc), ((inl refl, λ is. (refl, refl)), ((inl refl, λ is. cc), ((inr refl, λ is. cc), tt)))) words none,
-    flag_passes (sub_at 1) (codes "long") ((inl refl, λ is. cc), ((inl refl, λ is. cc), ((inl refl, λ is. cc), ((inr refl, λ is. (refl, refl)), tt)))) words none,
+    number_passes (sub_at 1) (codes "max") 4294967295 (
+      (inl refl, λ is. cc),
+      ((inl refl, λ is. (refl, refl)), ((inl refl, λ is. cc), ((inr refl, λ is. cc), tt))),
+    ) words none,
+    flag_passes (sub_at 1) (codes "long") (
+      (inl refl, λ is. cc),
+      (
+        (inl refl, λ is. cc),
+        ((inl refl, λ is. cc), ((inr refl, λ is. (refl, refl)), tt)),
+      ),
+    ) words none,
   );
   convert = λ is. cc;
   known = refl;
@@ -87,10 +102,58 @@ convert_level words none = record {
   list = λ is. cc;
   rows = λ is. cc;
   convert = λ is. record {
-    order = number_passes (sub_at 2) (codes "order") 2 ((inl refl, λ is. cc), ((inl refl, λ is. (refl, refl)), ((inl refl, λ is. cc), ((inl refl, λ is. cc), ((inr refl, λ is. cc), ((inl refl, λ is. cc), tt)))))) words none;
-    k = number_passes (sub_at 2) (codes "k") 1000000 ((inl refl, λ is. cc), ((inl refl, λ is. cc), ((inl refl, λ is. (refl, refl)), ((inl refl, λ is. cc), ((inr refl, λ is. cc), ((inl refl, λ is. cc), tt)))))) words none;
-    strip = number_passes (sub_at 2) (codes "strip") 1000000 ((inl refl, λ is. cc), ((inl refl, λ is. cc), ((inl refl, λ is. cc), ((inl refl, λ is. (refl, refl)), ((inr refl, λ is. cc), ((inl refl, λ is. cc), tt)))))) words none;
-    align = flag_passes (sub_at 2) (codes "align") ((inl refl, λ is. cc), ((inl refl, λ is. cc), ((inl refl, λ is. cc), ((inl refl, λ is. cc), ((inr refl, λ is. (refl, refl)), ((inl refl, λ is. cc), tt)))))) words none;
+    order = number_passes (sub_at 2) (codes "order") 2 (
+      (inl refl, λ is. cc),
+      (
+        (inl refl, λ is. (refl, refl)),
+        (
+          (inl refl, λ is. cc),
+          (
+            (inl refl, λ is. cc),
+            ((inr refl, λ is. cc), ((inl refl, λ is. cc), tt)),
+          ),
+        ),
+      ),
+    ) words none;
+    k = number_passes (sub_at 2) (codes "k") 1000000 (
+      (inl refl, λ is. cc),
+      (
+        (inl refl, λ is. cc),
+        (
+          (inl refl, λ is. (refl, refl)),
+          (
+            (inl refl, λ is. cc),
+            ((inr refl, λ is. cc), ((inl refl, λ is. cc), tt)),
+          ),
+        ),
+      ),
+    ) words none;
+    strip = number_passes (sub_at 2) (codes "strip") 1000000 (
+      (inl refl, λ is. cc),
+      (
+        (inl refl, λ is. cc),
+        (
+          (inl refl, λ is. cc),
+          (
+            (inl refl, λ is. (refl, refl)),
+            ((inr refl, λ is. cc), ((inl refl, λ is. cc), tt)),
+          ),
+        ),
+      ),
+    ) words none;
+    align = flag_passes (sub_at 2) (codes "align") (
+      (inl refl, λ is. cc),
+      (
+        (inl refl, λ is. cc),
+        (
+          (inl refl, λ is. cc),
+          (
+            (inl refl, λ is. cc),
+            ((inr refl, λ is. (refl, refl)), ((inl refl, λ is. cc), tt)),
+          ),
+        ),
+      ),
+    ) words none;
   };
   known = refl;
 }

@@ -16,7 +16,8 @@ use Rattle.fax_tool.specs.code.Printing.{AreRowsDue, ArePagesDue, Said, HasSaid,
 
 -- one row more was handed out
 row_said : (old new : WalkState) (item : Item) → HandsOut old item new
-    → (file : List ℕ) (begun : Begun) (lines : List Line) → HasSaid old file begun lines → HasSaid new file begun (lines ++ line_of_row item ∷ [])
+    → (file : List ℕ) (begun : Begun) (lines : List Line) → HasSaid old file begun lines
+    → HasSaid new file begun (lines ++ line_of_row item ∷ [])
 row_said old new item hands file begun lines said = record {
   same_file = hands.file ∙ said.same_file;
   same_begun = hands.begun ∙ said.same_begun;
@@ -28,7 +29,8 @@ abbrev pub said_no_more : Said
 said_no_more file begun lines = Unit {0}
 
 pub row_put : (old new : WalkState) (item : Item) → HandsOut old item new
-    → PutsLine (AreRowsDue old) (AreRowsDue new) (HasSaid old) (HasSaid new) (line_of_row item) new.cursor (places_left old) (places_left new)
+    → PutsLine (AreRowsDue old) (AreRowsDue new) (HasSaid old) (HasSaid new) (line_of_row item) new.cursor (places_left old)
+    (places_left new)
 row_put old new item hands = record {
   said = λ file begun lines said. row_said old new item hands file begun lines said;
   due = λ lines end due. record {
@@ -41,7 +43,8 @@ row_put old new item hands = record {
 }
 
 pub page_put : FormsLeftGoOn → (old new : PagesView) (item : FormItem) → HandsOutPage old item new
-    → PutsLine (ArePagesDue old) (ArePagesDue new) said_no_more said_no_more (line_of_page item) new.cursor (2 ^ 32 - old.given) (2 ^ 32 - new.given)
+    → PutsLine (ArePagesDue old) (ArePagesDue new) said_no_more said_no_more (line_of_page item) new.cursor (2 ^ 32 - old.given)
+    (2 ^ 32 - new.given)
 page_put go_on old new item hands = record {
   said = λ file begun lines said. tt;
   due = λ lines end due. record {
@@ -69,7 +72,8 @@ rows_ended old new end ended = (
   }),
 )
 
-pub pages_ended : FormsLeftEnd → (old new : PagesView) (end : End) → PagesHaveEnded old end new → ArePagesDue old [] end × (new.cursor ≡ old.cursor)
+pub pages_ended : FormsLeftEnd → (old new : PagesView) (end : End) → PagesHaveEnded old end new
+    → ArePagesDue old [] end × (new.cursor ≡ old.cursor)
 pages_ended ends old new end ended =
     (record { items = []; due = (ends old new end ended).0; lines_are = refl }, ap (λ (p : PagesView). p.cursor) ended.new_is)
 
@@ -85,7 +89,8 @@ rows_refused old new (AtRow page row cause) end ended is = rows_ended old new en
 rows_refused old new CursorOutside end ended is = rows_ended old new end (rw (some_is is) at ended.0)
 rows_refused old new Memory end ended is = absurd (none_is is)
 
-pub pages_refused : FormsLeftEnd → (old new : PagesView) (fault : WalkFault) (end : End) → IsNextPage old (Err fault) new → end_of fault ≡ Some end
+pub pages_refused : FormsLeftEnd → (old new : PagesView) (fault : WalkFault) (end : End) → IsNextPage old (Err fault) new
+    → end_of fault ≡ Some end
     → ArePagesDue old [] end × (new.cursor ≡ old.cursor)
 pages_refused ends old new (AtRow page row cause) end ended is = pages_ended ends old new end (rw (some_is is) at ended)
 pages_refused ends old new CursorOutside end ended is = pages_ended ends old new end (rw (some_is is) at ended)

@@ -1,5 +1,6 @@
 -- Runs with long cursors that go on where the one before them was cut.
-use Rattle.std.proofs.Common.{◌≡◌, ℕ, ◌<◌, List, [], ◌∷◌, ◌++◌, length, take, drop, map, refl, ap, sym, ◌∙◌, subst, true, false, inl, inr, Bool, take-append-drop, append-nil, append_assoc, get_or, arith}
+use Rattle.std.proofs.Common.{◌≡◌, ℕ, ◌<◌, List, [], ◌∷◌, ◌++◌, length, take, drop, map, refl, ap, sym, ◌∙◌, subst, true, false, inl, inr}
+use Rattle.std.proofs.Common.{Bool, take-append-drop, append-nil, append_assoc, get_or, arith}
 use Rattle.std.proofs.lemmas.Bool.{leb-false, or_right, true≢false}
 use Rattle.std.proofs.lemmas.List.{take-map, map-append, length-map, take_all, append_cancel_left}
 use Rattle.std.proofs.lemmas.List.Elements.{Contains-append_left, Contains-push}
@@ -17,7 +18,8 @@ use Rattle.fax_walk.specs.LongTail.{IsTailFrom, IsLongAfter, IsLongNext, begins_
 use Rattle.fax_walk.specs.Laws.{CursorsHaveOneTail}
 use Rattle.fax_walk.specs.LongLaws.{PlacesHaveOneTail, LongTailBehindItem, IsReached, PlacesOfReached, TailBehindReached, ItemsHaveOnePlace}
 use Rattle.fax_tool.specs.Run.{begun_at}
-use Rattle.fax_tool.specs.Text.{Line, Printed, line_of_row, texts_of, last_cursor, line_end, next_text, long_text_of, long_whole_text, names_next, is_fault, up_to}
+use Rattle.fax_tool.specs.Text.{Line, Printed, line_of_row, texts_of, last_cursor, line_end, next_text, long_text_of, long_whole_text}
+use Rattle.fax_tool.specs.Text.{names_next, is_fault, up_to}
 use Rattle.fax_tool.specs.Laws.{printed_lines, is_cut, AreAsOneRun}
 use Rattle.fax_tool.specs.LongLaws.{next_line_of, IsLongRun, AreLongRuns, LongRunsGoOn}
 use Rattle.fax_tool.proofs.PrintLemmas.{last_cursor-push}
@@ -60,12 +62,14 @@ module _ (lines : List Line) (place : Option LongPlace) (at : Cursor) (more : Li
       let letter : 0 ≡ 110 = ap (λ (l : List ℕ). get_or l 0 0) letters in
       absurd (omega (arith, letter))
 
-  by_fault : (end : End) (found : Bool) → is_fault end ≡ found → (long_whole_text lines end place at).output ≡ texts_of lines ++ line → is_fault end ≡ true
+  by_fault : (end : End) (found : Bool) → is_fault end ≡ found → (long_whole_text lines end place at).output ≡ texts_of lines ++ line
+      → is_fault end ≡ true
   by_fault end true is same = is
   by_fault end false is same = absurd (not_end end is same)
 
   by_limit : (end : End) (limit : ℕ) (cut : Bool) → nat_le limit (length lines) ≡ cut
-      → (long_text_of lines end place at (Some limit)).output ≡ texts_of (take limit lines) ++ line → names_next lines end (Some limit) ≡ true
+      → (long_text_of lines end place at (Some limit)).output ≡ texts_of (take limit lines) ++ line
+      → names_next lines end (Some limit) ≡ true
   by_limit end limit true is same = rw is refl
   by_limit end limit false is same =
       let few : length lines < limit = leb-false limit (length lines) is in
@@ -82,19 +86,21 @@ module _ (lines : List Line) (place : Option LongPlace) (at : Cursor) (more : Li
 same_text : (lines : List Line) (end : End) (place another : Option LongPlace) (at : Cursor) → (is_fault end ≡ true → place ≡ another)
     → long_whole_text lines end place at ≡ long_whole_text lines end another at
 same_text lines Proper place another at same = refl
-same_text lines (Fault page row cause) place another at same = ap (λ (p : Option LongPlace). long_whole_text lines (Fault page row cause) p at) (same refl)
+same_text lines (Fault page row cause) place another at same =
+    ap (λ (p : Option LongPlace). long_whole_text lines (Fault page row cause) p at) (same refl)
 same_text lines Outside place another at same = refl
 
 fault_named : (lines : List Line) (end : End) (max : Option ℕ) → is_fault end ≡ true → names_next lines end max ≡ true
 fault_named lines end None fault = fault
 fault_named lines end (Some limit) fault = or_right (nat_le limit (length lines)) (is_fault end) fault
 
--- what begins at a place begins behind the item that it stands behind
+-- what begins at a place begins after the item that it stands after
 by_test : (test : Bool) (x place : LongPlace) → Some place ≡ (if test then (Some x) else None) → place ≡ x
 by_test true x place is = cc is
 by_test false x place is = absurd (cc is)
 
-place_cursor : (file : List ℕ) (begun : Begun) (item : Item) (place : LongPlace) → IsLongAfter file begun item (Some place) → place.at ≡ behind_item item
+place_cursor : (file : List ℕ) (begun : Begun) (item : Item) (place : LongPlace) → IsLongAfter file begun item (Some place)
+    → place.at ≡ behind_item item
 place_cursor file begun item place is = ap (λ (p : LongPlace). p.at) (by_test _ _ place is.place_is)
 
 from_begun : (begun : Begun) → begun_at (begins_inside begun) (begins_at begun) ≡ begun
@@ -105,11 +111,11 @@ from_begun (Inside place) = refl
 abbrev AtMostOne : (Option LongPlace → Type 0) → Type 0
 AtMostOne is = (place another : Option LongPlace) → is place → is another → place ≡ another
 
--- the place behind an item, as it is read from some cursor, or from a place that a walk from one prints
+-- the place after an item, as it is read from some cursor, or from a place that a walk from one prints
 abbrev IsAfter : List ℕ → Item → Option LongPlace → Type 0
 IsAfter file item place = (begun : Begun) × IsReached file begun × IsLongAfter file begun item place
 
--- the place behind the last of these items, or one of which this holds, where there are no items
+-- the place after the last of these items, or one of which this holds, where there are no items
 abbrev IsBehind : List ℕ → (Option LongPlace → Type 0) → List Item → Option LongPlace → Type 0
 IsBehind file is [] place = is place
 IsBehind file is (item ∷ items) place = IsBehind file (IsAfter file item) items place
@@ -136,13 +142,15 @@ behind_other : (file : List ℕ) (is also : Option LongPlace → Type 0) (items 
 behind_other file is also [] place turns behind = turns behind
 behind_other file is also (item ∷ items) place turns behind = behind
 
-behind_next : (file : List ℕ) (begun : Begun) (items : List Item) (place : Option LongPlace) → IsReached file begun → IsLongNext file begun items place
+behind_next : (file : List ℕ) (begun : Begun) (items : List Item) (place : Option LongPlace) → IsReached file begun
+    → IsLongNext file begun items place
     → IsBehind file (Begins begun) items place
 behind_next file begun items place reached (inl (none, is)) = rw none is
 behind_next file begun items place reached (inr (before, item, items_are, after)) =
     rw items_are (behind_last file (Begins begun) before item place (begun, reached, after))
 
-module _ (one_tail : CursorsHaveOneTail) (one_long : PlacesHaveOneTail) (long_behind : LongTailBehindItem) (cursor_behind : TailBehindReached)
+module _ (one_tail : CursorsHaveOneTail) (one_long : PlacesHaveOneTail) (long_behind : LongTailBehindItem)
+    (cursor_behind : TailBehindReached)
     (places : PlacesOfReached) (one_place : ItemsHaveOnePlace) (file : List ℕ) where
   one_after : (item : Item) → AtMostOne (IsAfter file item)
   one_after item place another after again = one_place file after.0 again.0 item place another after.1 again.1 after.2 again.2
@@ -151,7 +159,8 @@ module _ (one_tail : CursorsHaveOneTail) (one_long : PlacesHaveOneTail) (long_be
   one_behind is [] one = one
   one_behind is (item ∷ items) one = one_behind (IsAfter file item) items (one_after item)
 
-  same_items : (begun : Begun) (items others : List Item) (end other : End) → IsTailFrom file begun items end → IsTailFrom file begun others other
+  same_items : (begun : Begun) (items others : List Item) (end other : End) → IsTailFrom file begun items end
+      → IsTailFrom file begun others other
       → (others ≡ items) × (other ≡ end)
   same_items (At at) items others end other tail again =
       let one = one_tail file at in
@@ -164,18 +173,20 @@ module _ (one_tail : CursorsHaveOneTail) (one_long : PlacesHaveOneTail) (long_be
       let second = one.one others other again in
       (second.0 ∙ sym first.0, second.1 ∙ sym first.1)
 
-  -- a run goes on behind these items
+  -- a run goes on after these items
   record GoesOn (begun next : Begun) (first later : List Item) (end : End) (place : Option LongPlace) : Type 0 where
     reached : IsReached file next
     tail : IsTailFrom file next later end
     at_is : begins_at next ≡ last_cursor (begins_at begun) (map line_of_row first)
     inside_is : begins_inside next ≡ place
 
-  module _ (begun : Begun) (first later : List Item) (end : End) (reached : IsReached file begun) (tail : IsTailFrom file begun (first ++ later) end) where
+  module _ (begun : Begun) (first later : List Item) (end : End) (reached : IsReached file begun)
+      (tail : IsTailFrom file begun (first ++ later) end) where
     abbrev cursor : Cursor
     cursor = last_cursor (begins_at begun) (map line_of_row first)
 
-    behind_none : (place : Option LongPlace) → first ≡ [] → place ≡ begins_inside begun → GoesOn begun (begun_at place cursor) first later end place
+    behind_none : (place : Option LongPlace) → first ≡ [] → place ≡ begins_inside begun
+        → GoesOn begun (begun_at place cursor) first later end place
     behind_none place none is =
         let next_is : begun_at place cursor ≡ begun = rw (none, is) (from_begun begun) in
         record {
@@ -199,9 +210,11 @@ module _ (one_tail : CursorsHaveOneTail) (one_long : PlacesHaveOneTail) (long_be
       split = rw all_are at tail
 
       there : Contains (before ++ item ∷ later) item
-      there = subst (λ (l : List Item). Contains l item) (append_assoc before (item ∷ []) later) (Contains-append_left (before ++ item ∷ []) later item (Contains-push before item))
+      there = subst (λ (l : List Item). Contains l item) (append_assoc before (item ∷ []) later)
+          (Contains-append_left (before ++ item ∷ []) later item (Contains-push before item))
 
-      behind_last_of : (place : Option LongPlace) → IsLongAfter file begun item place → GoesOn begun (begun_at place cursor) first later end place
+      behind_last_of : (place : Option LongPlace) → IsLongAfter file begun item place
+          → GoesOn begun (begun_at place cursor) first later end place
       behind_last_of None after = record {
         reached = tt;
         tail = rw cursor_is (cursor_behind file begun before later item end reached split);
@@ -220,7 +233,8 @@ module _ (one_tail : CursorsHaveOneTail) (one_long : PlacesHaveOneTail) (long_be
     goes_on place (inr (before, item, first_is, after)) = behind_last_of before item first_is place after
 
   -- a run of which the items and the end are known
-  record IsRunOf (begun : Begun) (items : List Item) (end : End) (max : Option ℕ) (text : Printed) (rows : List ℕ) (next : Begun) (cut : Bool) : Type 0 where
+  record IsRunOf (begun : Begun) (items : List Item) (end : End) (max : Option ℕ) (text : Printed) (rows : List ℕ) (next : Begun)
+      (cut : Bool) : Type 0 where
     place : Option LongPlace
     place_is : names_next (map line_of_row items) end max ≡ true → IsLongNext file begun (up_to max items) place
     text_is : text ≡ long_text_of (map line_of_row items) end place (begins_at begun) max
@@ -237,12 +251,14 @@ module _ (one_tail : CursorsHaveOneTail) (one_long : PlacesHaveOneTail) (long_be
         place_is = rw (same.0, same.1) at run.is.place_is;
         text_is = rw (same.0, same.1) at run.is.text_is;
         rows_are = rw same.0 at run.rows_are;
-        next_is = (rw same.0 at run.next_is) ∙ ap (λ (l : List Line). begun_at run.is.place (last_cursor (begins_at begun) l)) (printed_are items max);
+        next_is = (rw same.0 at run.next_is)
+            ∙ ap (λ (l : List Line). begun_at run.is.place (last_cursor (begins_at begun) l)) (printed_are items max);
         cut_is = rw same.0 at run.cut_is;
       }
 
   -- what a run without a limit has, from what a run begins with
-  module _ (begun : Begun) (items : List Item) (end : End) (place : Option LongPlace) (reached : IsReached file begun) (tail : IsTailFrom file begun items end)
+  module _ (begun : Begun) (items : List Item) (end : End) (place : Option LongPlace) (reached : IsReached file begun)
+      (tail : IsTailFrom file begun items end)
       (place_is : is_fault end ≡ true → IsBehind file (Begins begun) items place) where
     abbrev lines : List Line
     lines = map line_of_row items
@@ -257,11 +273,13 @@ module _ (one_tail : CursorsHaveOneTail) (one_long : PlacesHaveOneTail) (long_be
         let same : is_cut lines max ≡ false → is_fault end ≡ true → run.place ≡ place =
         λ uncut fault. one_behind (Begins begun) items (one_begins begun) run.place place
         (behind_next file begun items run.place reached
-        (subst (λ (l : List Item). IsLongNext file begun l run.place) (all_printed items max uncut) (run.place_is (fault_named lines end max fault))))
+        (subst (λ (l : List Item). IsLongNext file begun l run.place) (all_printed items max uncut)
+        (run.place_is (fault_named lines end max fault))))
         (place_is fault) in
         alone lines max rows last whole cut run.rows_are
         (λ no. let uncut : is_cut lines max ≡ false = sym run.cut_is ∙ no in
-        run.text_is ∙ not_cut lines end run.place (begins_at begun) max uncut ∙ same_text lines end run.place place (begins_at begun) (same uncut))
+        run.text_is ∙ not_cut lines end run.place (begins_at begun) max uncut
+        ∙ same_text lines end run.place place (begins_at begun) (same uncut))
 
     module _ (limit : Option ℕ) (text : Printed) (first others rows : List ℕ) (next : Begun) (was_cut cut : Bool) (last : Printed)
         (is : IsLongRun file begun limit text first next was_cut) (prints : text.output ≡ first ++ next_line_of next) where
@@ -288,42 +306,57 @@ module _ (one_tail : CursorsHaveOneTail) (one_long : PlacesHaveOneTail) (long_be
       place_left : is_fault end ≡ true → IsBehind file (Begins behind) left place
       place_left fault =
           behind_other file (IsBehind file (Begins begun) now) (Begins behind) left place
-          (λ here. one_behind (Begins begun) now (one_begins begun) place run.place here (behind_next file begun now run.place reached (run.place_is says_next)) ∙ sym goes.inside_is)
+          (λ here. one_behind (Begins begun) now (one_begins begun) place run.place here
+          (behind_next file begun now run.place reached (run.place_is says_next)) ∙ sym goes.inside_is)
           (behind_first file (Begins begun) now left place (rw (items_parts items limit) (place_is fault)))
 
-      as_one : AreAsOneRun others rows last cut (texts_of (map line_of_row left)) (long_whole_text (map line_of_row left) end place (begins_at behind))
+      as_one : AreAsOneRun others rows last cut (texts_of (map line_of_row left))
+          (long_whole_text (map line_of_row left) end place (begins_at behind))
           → AreAsOneRun (first ++ others) rows last cut (texts_of lines) whole
       as_one later =
-          subst (λ (l : List Line). AreAsOneRun (first ++ others) rows last cut (texts_of l) (long_whole_text l end place (begins_at begun)))
+          subst (λ (l : List Line). AreAsOneRun (first ++ others) rows last cut (texts_of l)
+          (long_whole_text l end place (begins_at begun)))
           (sym (map-append line_of_row now left) ∙ ap (map line_of_row) (items_parts items limit))
           (as_one_behind (map line_of_row now) (map line_of_row left) end place (begins_at begun) first others rows last cut
           (run.rows_are ∙ ap texts_of (printed_are items limit))
-          (subst (λ (at : Cursor). AreAsOneRun others rows last cut (texts_of (map line_of_row left)) (long_whole_text (map line_of_row left) end place at)) goes.at_is later))
+          (subst (λ (at : Cursor). AreAsOneRun others rows last cut (texts_of (map line_of_row left))
+          (long_whole_text (map line_of_row left) end place at)) goes.at_is later))
 
       behind_run : (limits : List (Option ℕ)) (max : Option ℕ) → AreLongRuns file next limits max others rows last cut
           → (IsReached file behind → IsTailFrom file behind left end → (is_fault end ≡ true → IsBehind file (Begins behind) left place)
           → AreLongRuns file behind limits max others rows last cut
-          → AreAsOneRun others rows last cut (texts_of (map line_of_row left)) (long_whole_text (map line_of_row left) end place (begins_at behind)))
+          → AreAsOneRun others rows last cut (texts_of (map line_of_row left))
+          (long_whole_text (map line_of_row left) end place (begins_at behind)))
           → AreAsOneRun (first ++ others) rows last cut (texts_of lines) whole
       behind_run limits max runs later =
-          as_one (later goes.reached goes.tail place_left (subst (λ (b : Begun). AreLongRuns file b limits max others rows last cut) run.next_is runs))
+          as_one (later goes.reached goes.tail place_left (subst (λ (b : Begun). AreLongRuns file b limits max others rows last cut)
+          run.next_is runs))
 
-  all_runs : (limits : List (Option ℕ)) (begun : Begun) (max : Option ℕ) (before rows : List ℕ) (last : Printed) (cut : Bool) (items : List Item) (end : End)
-      (place : Option LongPlace) → IsReached file begun → IsTailFrom file begun items end → (is_fault end ≡ true → IsBehind file (Begins begun) items place)
+  all_runs : (limits : List (Option ℕ)) (begun : Begun) (max : Option ℕ) (before rows : List ℕ) (last : Printed) (cut : Bool)
+      (items : List Item) (end : End)
+      (place : Option LongPlace) → IsReached file begun → IsTailFrom file begun items end
+      → (is_fault end ≡ true → IsBehind file (Begins begun) items place)
       → AreLongRuns file begun limits max before rows last cut
-      → AreAsOneRun before rows last cut (texts_of (map line_of_row items)) (long_whole_text (map line_of_row items) end place (begins_at begun))
+      → AreAsOneRun before rows last cut (texts_of (map line_of_row items))
+      (long_whole_text (map line_of_row items) end place (begins_at begun))
   all_runs [] begun max before rows last cut items end place reached tail place_is (next, is, before_is) =
       rw before_is (one_run begun items end place reached tail place_is max rows last next cut is)
-  all_runs (limit ∷ limits) begun max before rows last cut items end place reached tail place_is (text, first, next, was_cut, others, is, prints, runs, before_is) =
-      rw before_is (behind_run begun items end place reached tail place_is limit text first others rows next was_cut cut last is prints limits max runs
+  all_runs (limit ∷ limits) begun max before rows last cut items end place reached tail place_is
+      (text, first, next, was_cut, others, is, prints, runs, before_is) =
+      rw before_is (behind_run begun items end place reached tail place_is limit text first others rows next was_cut cut last is prints
+      limits max runs
       (all_runs limits _ max others rows last cut _ end place))
 
-pub long_runs_go_on : CursorsHaveOneTail → PlacesHaveOneTail → LongTailBehindItem → TailBehindReached → PlacesOfReached → ItemsHaveOnePlace → LongRunsGoOn
-long_runs_go_on one_tail one_long long_behind cursor_behind places one_place file begun limits max before rows last cut all_text all_rows next was_cut reached runs is =
+pub long_runs_go_on : CursorsHaveOneTail → PlacesHaveOneTail → LongTailBehindItem → TailBehindReached → PlacesOfReached → ItemsHaveOnePlace
+    → LongRunsGoOn
+long_runs_go_on one_tail one_long long_behind cursor_behind places one_place file begun limits max before rows last cut all_text all_rows
+    next was_cut reached runs is =
     let items = is.is.items in
     let end = is.is.end in
     let place = is.is.place in
-    let all = all_runs one_tail one_long long_behind cursor_behind places one_place file limits begun max before rows last cut items end place reached is.is.tail
+    let all = all_runs one_tail one_long long_behind cursor_behind places one_place file limits begun max before rows last cut items end
+    place reached is.is.tail
     (λ fault. behind_next file begun items place reached (is.is.place_is fault)) runs in
     subst (λ (text : Printed). AreAsOneRun before rows last cut all_rows text) (sym is.is.text_is)
-    (subst (λ (l : List ℕ). AreAsOneRun before rows last cut l (long_whole_text (map line_of_row items) end place (begins_at begun))) (sym is.rows_are) all)
+    (subst (λ (l : List ℕ). AreAsOneRun before rows last cut l (long_whole_text (map line_of_row items) end place (begins_at begun)))
+    (sym is.rows_are) all)

@@ -1,5 +1,6 @@
 -- Rows that are printed with a long cursor at the end.
-use Rattle.std.proofs.Common.{◌≡◌, ℕ, ◌<◌, List, [], ◌∷◌, ◌++◌, length, take, drop, map, true, false, refl, ap, sym, ◌∙◌, subst, append-nil, take-append-drop, arith, inl, inr}
+use Rattle.std.proofs.Common.{◌≡◌, ℕ, ◌<◌, List, [], ◌∷◌, ◌++◌, length, take, drop, map, true, false, refl, ap, sym, ◌∙◌, subst, append-nil}
+use Rattle.std.proofs.Common.{take-append-drop, arith, inl, inr}
 use Rattle.std.proofs.Math.Seq.{take-append_seam, drop-append_seam}
 use Rattle.std.proofs.lemmas.Bool.{lt-leb, false≢true}
 use Rattle.std.proofs.lemmas.List.{take-map, drop-map, map-append, length-map, take_all}
@@ -19,7 +20,8 @@ use Rattle.fax_tool.specs.Streams.{Counts}
 use Rattle.fax_tool.specs.Text.{Line, Printed, texts_of, last_cursor, next_line, line_of_row, long_text_of, names_next, is_fault, up_to}
 use Rattle.fax_tool.specs.Run.{IsLongText}
 use Rattle.fax_tool.specs.code.Outcome.{error_of, fault_of, status_of}
-use Rattle.fax_tool.specs.code.Printing.{AreRowsDue, HasSaid, EndsWith, PrintsLines, PrintsLong, IsLongOutput, IsLongLastLine, IsNextNamed, StopsLastLine, StopsLines, StopsPrintingLong, long_last_line}
+use Rattle.fax_tool.specs.code.Printing.{AreRowsDue, HasSaid, EndsWith, PrintsLines, PrintsLong, IsLongOutput, IsLongLastLine, IsNextNamed}
+use Rattle.fax_tool.specs.code.Printing.{StopsLastLine, StopsLines, StopsPrintingLong, long_last_line}
 use Rattle.fax_tool.proofs.PrintLemmas.{last_cursor-push}
 use Rattle.fax_tool.proofs.StopLemmas.{all_lines, behind, within_ending}
 use Rattle.fax_tool.proofs.TextLemmas.{by_ending}
@@ -45,7 +47,7 @@ few_items : (items : List Item) (max : Option ℕ) → IfSome max (λ limit. len
 few_items items None few = tt
 few_items items (Some limit) few = omega (arith, length-map items line_of_row)
 
--- a text that names where to go on was cut or ended at a fault, behind these items
+-- a text that names where to go on was cut or ended at a fault, after these items
 record IsNamed (items others : List Item) (max : Option ℕ) (ending : Option End) : Type 0 where
   named : IsNextNamed ending
   written : up_to max (items ++ others) ≡ items
@@ -54,7 +56,8 @@ module _ (items others : List Item) (end : End) (max : Option ℕ) where
   whole_lines : map line_of_row others ≡ [] → map line_of_row (items ++ others) ≡ map line_of_row items
   whole_lines none = ap (λ xs. map line_of_row (items ++ xs)) (none_of others none) ∙ ap (map line_of_row) (append-nil items)
 
-  not_named : (met : End) → is_fault met ≡ false → (end ≡ met) × (map line_of_row others ≡ []) × IfSome max (λ limit. length (map line_of_row items) < limit)
+  not_named : (met : End) → is_fault met ≡ false
+      → (end ≡ met) × (map line_of_row others ≡ []) × IfSome max (λ limit. length (map line_of_row items) < limit)
       → names_next (map line_of_row (items ++ others)) end max ≡ true → ⊥
   not_named met proper ends named =
       false≢true
@@ -107,7 +110,7 @@ long_text file begun max ending text long =
       status = ended.status;
     }
 
--- the items of lines that are printed, and of those behind them
+-- the items of lines that are printed, and of those after them
 record IsSplit (walk : WalkState) (lines others : List Line) (end : End) : Type 0 where
   first : List Item
   later : List Item
@@ -126,7 +129,8 @@ split walk lines others end are = record {
 
 -- lines of rows that were refused
 pub rows_stopped_long : (walk : WalkState) (max : Option ℕ) (output new_output : Option (List ℕ)) (counts : Counts) (refusal : Refusal)
-    → StopsLines (AreRowsDue walk) walk.cursor max refusal output new_output counts → StopsPrintingLong walk max refusal output new_output counts
+    → StopsLines (AreRowsDue walk) walk.cursor max refusal output new_output counts
+    → StopsPrintingLong walk max refusal output new_output counts
 rows_stopped_long walk max output new_output counts Memory stops = stops
 rows_stopped_long walk max output new_output counts Read stops = absurd stops
 rows_stopped_long walk max output new_output counts Write (failed, (text, first, front)) = (failed, (text, inr first, front))

@@ -1,5 +1,6 @@
 -- Numbers in decimals, digit by digit.
-use Rattle.std.proofs.Common.{◌≡◌, refl, ℕ, ◌+◌, ◌/◌, ◌%◌, ◌^◌, ◌<◌, ◌≤◌, List, [], ◌∷◌, ◌++◌, length, take, ap, ◌∙◌, arith, append_assoc, length-set}
+use Rattle.std.proofs.Common.{◌≡◌, refl, ℕ, ◌+◌, ◌/◌, ◌%◌, ◌^◌, ◌<◌, ◌≤◌, List, [], ◌∷◌, ◌++◌, length, take, ap, ◌∙◌, arith, append_assoc}
+use Rattle.std.proofs.Common.{length-set}
 use Rattle.std.specs.Prelude.{decimal}
 use Rattle.std.proofs.Math.ListN.{set}
 use Rattle.std.proofs.lemmas.Grind.{take-set_at}
@@ -39,7 +40,7 @@ length_short n short = length-decimal-le 5 n (omega arith) (omega arith) (omega 
 pub length_long : (n : ℕ) → n < 2 ^ 32 → length (decimal n) ≤ 10
 length_long n short = length-decimal-le 10 n (omega arith) (omega arith) (omega arith)
 
--- a byte that is written behind those before it
+-- a byte that is written after those before it
 pub behind : (bytes before : List ℕ) (at end b : ℕ) → end ≡ at + 1 → at < length bytes → take at bytes ≡ before
     → take end (set bytes at b) ≡ before ++ b ∷ []
 behind bytes before at end b next room is = take-set_at bytes at end b next room ∙ ap (λ xs. xs ++ b ∷ []) is
@@ -50,7 +51,8 @@ module _ (bytes : List ℕ) (at : ℕ) where
 
   pub two : (a b : ℕ) → at + 2 ≤ length bytes → take (at + 2) (set (set bytes at a) (at + 1) b) ≡ take at bytes ++ a ∷ b ∷ []
   two a b room =
-      behind (set bytes at a) (take at bytes ++ a ∷ []) (at + 1) (at + 2) b (omega arith) (omega (arith, length-set bytes at a)) (one a (omega arith))
+      behind (set bytes at a) (take at bytes ++ a ∷ []) (at + 1) (at + 2) b (omega arith) (omega (arith, length-set bytes at a))
+      (one a (omega arith))
       ∙ append_assoc (take at bytes) (a ∷ []) (b ∷ [])
 
   pub three : (a b c : ℕ) → at + 3 ≤ length bytes
@@ -64,7 +66,13 @@ module _ (bytes : List ℕ) (at : ℕ) where
       → take (at + 4) (set (set (set (set bytes at a) (at + 1) b) (at + 2) c) (at + 3) d) ≡ take at bytes ++ a ∷ b ∷ c ∷ d ∷ []
   four a b c d room =
       behind (set (set (set bytes at a) (at + 1) b) (at + 2) c) (take at bytes ++ a ∷ b ∷ c ∷ []) (at + 3) (at + 4) d (omega arith)
-      (omega (arith, length-set bytes at a, length-set (set bytes at a) (at + 1) b, length-set (set (set bytes at a) (at + 1) b) (at + 2) c))
+      (omega (
+        arith,
+        length-set bytes at a,
+        length-set (set bytes at a) (at + 1) b,
+        length-set (set (set bytes at a) (at + 1) b) (at + 2)
+            c,
+      ))
       (three a b c (omega arith))
       ∙ append_assoc (take at bytes) (a ∷ b ∷ c ∷ []) (d ∷ [])
 

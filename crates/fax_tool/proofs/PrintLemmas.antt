@@ -1,5 +1,6 @@
 -- Lines that are printed, one after another.
-use Rattle.std.proofs.Common.{◌≡◌, ℕ, ◌+◌, ◌-◌, ◌<◌, List, [], ◌∷◌, ◌++◌, length, refl, ap, sym, ◌∙◌, append_assoc, append-nil, arith, length-append}
+use Rattle.std.proofs.Common.{◌≡◌, ℕ, ◌+◌, ◌-◌, ◌<◌, List, [], ◌∷◌, ◌++◌, length, refl, ap, sym, ◌∙◌, append_assoc, append-nil, arith}
+use Rattle.std.proofs.Common.{length-append}
 use Rattle.std.specs.Prelude.{Option, Some, None, IfSome, option_map}
 use Rattle.std.specs.Io.KnownBytes.{Appends}
 use Rattle.std.proofs.KnownBytes.{Appends-nil, Appends-trans}
@@ -18,7 +19,8 @@ IsLeftOf None (Some left) count = ⊥
 IsLeftOf (Some limit) None count = ⊥
 
 -- some of the lines are printed, the last part of their text is collected only, and so much of the limit is left
-pub record PrintsSome (old now : List Line → End → Type 0) (old_said now_said : Said) (at place : Cursor) (max left : Option ℕ) (output written : Option (List ℕ)) (text : List ℕ) : Type 0 where
+pub record PrintsSome (old now : List Line → End → Type 0) (old_said now_said : Said) (at place : Cursor) (max left : Option ℕ)
+    (output written : Option (List ℕ)) (text : List ℕ) : Type 0 where
   pub lines : List Line
   pub due : (rest : List Line) (end : End) → now rest end → old (lines ++ rest) end
   pub place_is : place ≡ last_cursor at lines
@@ -61,26 +63,31 @@ one_less_left None (Some left) count new_count is some grown = absurd is
 one_less_left (Some limit) None count new_count is some grown = absurd is
 one_less_left (Some limit) (Some left) count new_count is some grown = omega arith
 
-pub one_more : (old now new : List Line → End → Type 0) (old_said now_said new_said : Said) (at place new_place : Cursor) (max left new_left : Option ℕ) (line : Line)
+pub one_more : (old now new : List Line → End → Type 0) (old_said now_said new_said : Said) (at place new_place : Cursor)
+    (max left new_left : Option ℕ) (line : Line)
     (output written : Option (List ℕ)) (text new_text : List ℕ) (bound new_bound : ℕ)
     → PrintsSome old now old_said now_said at place max left output written text
     → PutsLine now new now_said new_said line new_place bound new_bound → IfSome left (λ n. 0 < n) → new_left ≡ option_map (λ n. n - 1) left
     → new_text ≡ text ++ line.text
     → PrintsSome old new old_said new_said at new_place max new_left output written new_text
-one_more old now new old_said now_said new_said at place new_place max left new_left line output written text new_text bound new_bound some puts above less grown = record {
-  lines = some.lines ++ line ∷ [];
-  due = λ rest end due. rw (append_assoc some.lines (line ∷ []) rest) (some.due (line ∷ rest) end (puts.due rest end due));
-  place_is = puts.place_is ∙ sym (last_cursor-push at some.lines line);
-  told = λ file begun said. puts.said file begun some.lines (some.told file begun said);
-  limit = rw less (one_less_left max left (length some.lines) (length (some.lines ++ line ∷ [])) some.limit above (length-append some.lines (line ∷ [])));
-  sent = some.sent;
-  printed = some.printed;
-  collected = texts_of-push some.lines line ∙ ap (λ xs. xs ++ line.text) some.collected ∙ append_assoc some.sent text line.text
-      ∙ ap (λ xs. some.sent ++ xs) (sym grown);
-}
+one_more old now new old_said now_said new_said at place new_place max left new_left line output written text new_text bound new_bound some
+    puts above less grown = record {
+      lines = some.lines ++ line ∷ [];
+      due = λ rest end due. rw (append_assoc some.lines (line ∷ []) rest) (some.due (line ∷ rest) end (puts.due rest end due));
+      place_is = puts.place_is ∙ sym (last_cursor-push at some.lines line);
+      told = λ file begun said. puts.said file begun some.lines (some.told file begun said);
+      limit = rw less (one_less_left max left (length some.lines) (length (some.lines ++ line ∷ [])) some.limit above
+          (length-append some.lines (line ∷ [])));
+      sent = some.sent;
+      printed = some.printed;
+      collected = texts_of-push some.lines line ∙ ap (λ xs. xs ++ line.text) some.collected ∙ append_assoc some.sent text line.text
+          ∙ ap (λ xs. some.sent ++ xs) (sym grown);
+    }
 
-pub part_sent : (old now : List Line → End → Type 0) (old_said now_said : Said) (at place : Cursor) (max left : Option ℕ) (output written new_written : Option (List ℕ))
-    (text new_text : List ℕ) → PrintsSome old now old_said now_said at place max left output written text → SendsPart written new_written text new_text
+pub part_sent : (old now : List Line → End → Type 0) (old_said now_said : Said) (at place : Cursor) (max left : Option ℕ)
+    (output written new_written : Option (List ℕ))
+    (text new_text : List ℕ) → PrintsSome old now old_said now_said at place max left output written text
+    → SendsPart written new_written text new_text
     → PrintsSome old now old_said now_said at place max left output new_written new_text
 part_sent old now old_said now_said at place max left output written new_written text new_text some sends = record {
   lines = some.lines;
@@ -94,7 +101,8 @@ part_sent old now old_said now_said at place max left output written new_written
 }
 
 -- all of the lines' text is written
-all_written : (old now : List Line → End → Type 0) (old_said now_said : Said) (at place : Cursor) (max left : Option ℕ) (output written new_written : Option (List ℕ))
+all_written : (old now : List Line → End → Type 0) (old_said now_said : Said) (at place : Cursor) (max left : Option ℕ)
+    (output written new_written : Option (List ℕ))
     (text : List ℕ) (some : PrintsSome old now old_said now_said at place max left output written text) → Appends written new_written text
     → Appends output new_written (texts_of some.lines)
 all_written old now old_said now_said at place max left output written new_written text some moved =
@@ -127,28 +135,31 @@ ended_at_limit old now old_said now_said at place max left output written new_wr
 }
 
 -- all lines are printed
-pub ended_at_end : (old now : List Line → End → Type 0) (old_said now_said new_said : Said) (at place new_place : Cursor) (max left : Option ℕ) (end : End)
+pub ended_at_end : (old now : List Line → End → Type 0) (old_said now_said new_said : Said) (at place new_place : Cursor)
+    (max left : Option ℕ) (end : End)
     (output written new_written : Option (List ℕ)) (text new_text : List ℕ)
     → PrintsSome old now old_said now_said at place max left output written text → IfSome left (λ n. 0 < n)
     → now [] end → new_place ≡ place → new_text ≡ text
     → ((file : List ℕ) (begun : Begun) (lines : List Line) → now_said file begun lines → new_said file begun lines)
     → Appends written new_written new_text
     → PrintsLines old old_said new_said at max (Some end) new_place output new_written
-ended_at_end old now old_said now_said new_said at place new_place max left end output written new_written text new_text some above due same_place same still moved = record {
-  lines = some.lines;
-  others = [];
-  end = end;
-  due = some.due [] end due;
-  ends = (refl, refl, below_limit max left (length some.lines) some.limit above);
-  place_is = same_place ∙ some.place_is;
-  told = λ file begun said. still file begun some.lines (some.told file begun said);
-  printed = all_written old now old_said now_said at place max left output written new_written text some (rw same at moved);
-}
+ended_at_end old now old_said now_said new_said at place new_place max left end output written new_written text new_text some above due
+    same_place same still moved = record {
+      lines = some.lines;
+      others = [];
+      end = end;
+      due = some.due [] end due;
+      ends = (refl, refl, below_limit max left (length some.lines) some.limit above);
+      place_is = same_place ∙ some.place_is;
+      told = λ file begun said. still file begun some.lines (some.told file begun said);
+      printed = all_written old now old_said now_said at place max left output written new_written text some (rw same at moved);
+    }
 
--- the last line is printed behind the lines
+-- the last line is printed after the lines
 pub with_last_line : (due : List Line → End → Type 0) (said new_said : Said) (at place : Cursor) (max : Option ℕ) (ending : Option End)
     (output written new_written : Option (List ℕ)) (cursor : Cursor)
-    → PrintsLines due said new_said at max ending place output written → cursor ≡ place → Appends written new_written (last_line ending cursor)
+    → PrintsLines due said new_said at max ending place output written → cursor ≡ place
+    → Appends written new_written (last_line ending cursor)
     → PrintsAll due at max ending output new_written
 with_last_line due said new_said at place max ending output written new_written cursor prints same moved =
     let line : last_line ending cursor ≡ last_line ending (last_cursor at prints.lines) =
@@ -158,6 +169,7 @@ with_last_line due said new_said at place max ending output written new_written 
       end = prints.end;
       due = prints.due;
       ends = prints.ends;
-      printed = Appends-trans output written new_written (texts_of prints.lines) (last_line ending (last_cursor at prints.lines)) prints.printed
+      printed =
+          Appends-trans output written new_written (texts_of prints.lines) (last_line ending (last_cursor at prints.lines)) prints.printed
           (rw line at moved);
     }

@@ -13,7 +13,8 @@ low_status : (fault : Option InputFault) → status_of fault ≡ 3 → ⊥
 low_status None is = omega (arith, is)
 low_status (Some fault) is = omega (arith, is)
 
-module _ (command : Command) (input : Counts) (taken : ℕ) (counts error_counts : Counts) (output new_output error new_error : Option (List ℕ)) where
+module _ (command : Command) (input : Counts) (taken : ℕ) (counts error_counts : Counts)
+    (output new_output error new_error : Option (List ℕ)) where
   output_alone : (left : Option (List ℕ)) (fault : Option InputFault)
       → IfSome left (λ file. WritesOutput command file output new_output fault) → WritesOutputAlone command left output new_output
   output_alone None fault writes = tt

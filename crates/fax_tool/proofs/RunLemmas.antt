@@ -1,5 +1,6 @@
 -- Runs that go on where the one before them was cut.
-use Rattle.std.proofs.Common.{◌≡◌, ℕ, List, [], ◌∷◌, ◌++◌, length, take, drop, map, refl, ap, sym, ◌∙◌, subst, append_assoc, append-nil, false, Bool, take-append-drop}
+use Rattle.std.proofs.Common.{◌≡◌, ℕ, List, [], ◌∷◌, ◌++◌, length, take, drop, map, refl, ap, sym, ◌∙◌, subst, append_assoc, append-nil}
+use Rattle.std.proofs.Common.{false, Bool, take-append-drop}
 use Rattle.std.proofs.lemmas.List.{take-map, drop-map}
 use Rattle.std.specs.Prelude.{Option, Some, None, nat_le, codes}
 use Rattle.fax_walk.specs.declared.cursor.Cursor.{Cursor}
@@ -11,7 +12,8 @@ use Rattle.fax_walk.specs.Items.{Item}
 use Rattle.fax_walk.specs.Tail.{IsTail, behind_item}
 use Rattle.fax_walk.specs.Laws.{CursorsHaveOneTail, TailBehindItem}
 use Rattle.fax_tool.specs.Run.{AreRowLines}
-use Rattle.fax_tool.specs.Text.{Line, Printed, line_of_row, texts_of, last_cursor, long_next_line, long_output_of, long_text_of, long_whole_text, text_of, whole_text}
+use Rattle.fax_tool.specs.Text.{Line, Printed, line_of_row, texts_of, last_cursor, long_next_line, long_output_of, long_text_of}
+use Rattle.fax_tool.specs.Text.{long_whole_text, text_of, whole_text}
 use Rattle.fax_tool.specs.Laws.{printed_lines, is_cut, IsRun, AreRuns, AreAsOneRun, RunsGoOn}
 
 texts_of-append : (xs ys : List Line) → texts_of (xs ++ ys) ≡ texts_of xs ++ texts_of ys
@@ -31,7 +33,7 @@ parts : (lines : List Line) (max : Option ℕ) → printed_lines lines max ++ li
 parts lines None = append-nil lines
 parts lines (Some limit) = take-append-drop limit lines
 
--- an output behind lines that were printed before
+-- an output after lines that were printed before
 output_behind : (xs ys : List Line) (end : End) (place : Option LongPlace) (at : Cursor)
     → texts_of xs ++ long_output_of ys end place (last_cursor at xs) ≡ long_output_of (xs ++ ys) end place at
 output_behind xs ys Proper place at =
@@ -59,8 +61,9 @@ alone lines max rows last whole cut rows_are all = record {
   status = λ no. ap (λ (printed : Printed). printed.status) (all no);
 }
 
--- runs behind these lines are with them as one run
-pub as_one_behind : (xs ys : List Line) (end : End) (place : Option LongPlace) (at : Cursor) (first others rows : List ℕ) (last : Printed) (cut : Bool)
+-- runs after these lines are with them as one run
+pub as_one_behind : (xs ys : List Line) (end : End) (place : Option LongPlace) (at : Cursor) (first others rows : List ℕ) (last : Printed)
+    (cut : Bool)
     → first ≡ texts_of xs → AreAsOneRun others rows last cut (texts_of ys) (long_whole_text ys end place (last_cursor at xs))
     → AreAsOneRun (first ++ others) rows last cut (texts_of (xs ++ ys)) (long_whole_text (xs ++ ys) end place at)
 as_one_behind xs ys end place at first others rows last cut first_is all = record {
@@ -75,7 +78,7 @@ as_one_behind xs ys end place at first others rows last cut first_is all = recor
 }
 
 module _ (one_tail : CursorsHaveOneTail) (behind : TailBehindItem) (file : List ℕ) where
-  -- what follows lines is what follows the cursor behind them
+  -- what follows lines is what follows the cursor after them
   items_behind : (at : Cursor) (xs ys : List Item) (end : End) → IsTail file at (xs ++ ys) end
       → IsTail file (last_cursor at (map line_of_row xs)) ys end
   items_behind at [] ys end tail = tail
@@ -102,7 +105,8 @@ module _ (one_tail : CursorsHaveOneTail) (behind : TailBehindItem) (file : List 
   left_behind at None lines end are = rw are.lines_are (behind_all at are.items end are.tail)
   left_behind at (Some limit) lines end are = rw are.lines_are (behind_limit at limit are.items end are.tail)
 
-  same_lines : (at : Cursor) (lines others : List Line) (end other : End) → AreRowLines file (At at) lines end → AreRowLines file (At at) others other
+  same_lines : (at : Cursor) (lines others : List Line) (end other : End) → AreRowLines file (At at) lines end
+      → AreRowLines file (At at) others other
       → (others ≡ lines) × (other ≡ end)
   same_lines at lines others end other are again =
       let one = one_tail file at in
@@ -133,7 +137,8 @@ module _ (one_tail : CursorsHaveOneTail) (behind : TailBehindItem) (file : List 
   behind_run : (at : Cursor) (limit : Option ℕ) (text : Printed) (first others rows : List ℕ) (next : Cursor) (was_cut cut : Bool)
       (last : Printed) (lines : List Line) (end : End)
       → IsRun file at limit text first next was_cut → AreRowLines file (At at) lines end
-      → ((left : List Line) → AreRowLines file (At next) left end → AreAsOneRun others rows last cut (texts_of left) (text_of left end next None))
+      → ((left : List Line) → AreRowLines file (At next) left end
+      → AreAsOneRun others rows last cut (texts_of left) (text_of left end next None))
       → AreAsOneRun (first ++ others) rows last cut (texts_of lines) (text_of lines end at None)
   behind_run at limit text first others rows next was_cut cut last lines end run are later =
       let same = same_lines at lines run.lines end run.end are run.read in

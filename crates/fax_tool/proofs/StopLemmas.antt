@@ -22,8 +22,10 @@ within_limit (Some limit) None count is = absurd is
 within_limit (Some limit) (Some left) count is = omega arith
 
 -- the text of the lines so far, and where to go on
-first_lines : (old now : List Line → End → Type 0) (old_said now_said : Said) (at place : Cursor) (max left : Option ℕ) (output written : Option (List ℕ))
-    (text : List ℕ) (some : PrintsSome old now old_said now_said at place max left output written text) → ((lines : List Line) × (end : End) × now lines end)
+first_lines : (old now : List Line → End → Type 0) (old_said now_said : Said) (at place : Cursor) (max left : Option ℕ)
+    (output written : Option (List ℕ))
+    (text : List ℕ) (some : PrintsSome old now old_said now_said at place max left output written text)
+    → ((lines : List Line) × (end : End) × now lines end)
     → IsTextOfFirst old at max (some.sent ++ (text ++ next_line place))
 first_lines old now old_said now_said at place max left output written text some others = record {
   lines = some.lines;
@@ -35,7 +37,7 @@ first_lines old now old_said now_said at place max left output written text some
       ∙ ap (λ (at : Cursor). texts_of some.lines ++ next_line at) some.place_is;
 }
 
--- a front of a text is written behind what was
+-- a front of a text is written after what was
 pub behind : (output written new_written : Option (List ℕ)) (sent text : List ℕ) → Appends output written sent
     → WritesFront written new_written text → WritesFront output new_written (sent ++ text)
 behind output written new_written sent text before front = record {
@@ -60,15 +62,16 @@ pub stopped_for_write : (old now : List Line → End → Type 0) (old_said now_s
     (output written new_written : Option (List ℕ)) (text : List ℕ) (counts : Counts) (refusal : Refusal)
     → PrintsSome old now old_said now_said at place max left output written text → ((lines : List Line) × (end : End) × now lines end)
     → IsGivenInPart written new_written text counts refusal → StopsLines old at max refusal output new_written counts
-stopped_for_write old now old_said now_said at place max left output written new_written text counts refusal some others given = rw given.write (
-  given.failed,
-  (
-    some.sent ++ (text ++ next_line place),
-    (first_lines old now old_said now_said at place max left output written text some others),
-    behind output written new_written some.sent (text ++ next_line place) some.printed
-        (longer written new_written text (next_line place) given.front),
-  ),
-)
+stopped_for_write old now old_said now_said at place max left output written new_written text counts refusal some others given =
+    rw given.write (
+      given.failed,
+      (
+        some.sent ++ (text ++ next_line place),
+        (first_lines old now old_said now_said at place max left output written text some others),
+        behind output written new_written some.sent (text ++ next_line place) some.printed
+            (longer written new_written text (next_line place) given.front),
+      ),
+    )
 
 -- memory was refused, and the lines so far and where to go on were written
 stopped_for_memory : (old now : List Line → End → Type 0) (old_said now_said : Said) (at place : Cursor) (max left : Option ℕ)
@@ -97,8 +100,10 @@ pub stopped_behind : (old now : List Line → End → Type 0) (old_said now_said
     → PrintsSome old now old_said now_said at place max left output written text → ((lines : List Line) × (end : End) × now lines end)
     → shown ≡ text → next ≡ next_line place → StopsForMemory refusal written new_written (shown ++ next) counts
     → StopsLines old at max refusal output new_written counts
-stopped_behind old now old_said now_said at place max left output written new_written text shown next counts refusal some others same next_is stops =
-    stopped_for_memory old now old_said now_said at place max left output written new_written text counts refusal some others (rw (same, next_is) at stops)
+stopped_behind old now old_said now_said at place max left output written new_written text shown next counts refusal some others same
+    next_is stops =
+    stopped_for_memory old now old_said now_said at place max left output written new_written text counts refusal some others
+    (rw (same, next_is) at stops)
 
 below : (max : Option ℕ) (count : ℕ) → IfSome max (λ limit. count < limit) → IfSome max (λ limit. count ≤ limit)
 below None count is = tt
@@ -121,7 +126,8 @@ within_ending lines others end max None ends = at_most max (length lines) ends
 within_ending lines others end max (Some met) ends = below max (length lines) ends.2
 
 -- the lines that were printed, and where to go on
-pub all_lines : (due : List Line → End → Type 0) (said new_said : Said) (at place : Cursor) (max : Option ℕ) (ending : Option End) (output written : Option (List ℕ))
+pub all_lines : (due : List Line → End → Type 0) (said new_said : Said) (at place : Cursor) (max : Option ℕ) (ending : Option End)
+    (output written : Option (List ℕ))
     (prints : PrintsLines due said new_said at max ending place output written) → IfSome max (λ limit. length prints.lines ≤ limit)
     → IsTextOfFirst due at max (texts_of prints.lines ++ next_line place)
 all_lines due said new_said at place max ending output written prints within = record {
@@ -134,19 +140,21 @@ all_lines due said new_said at place max ending output written prints within = r
 }
 
 -- the last line was given in part
-pub stopped_at_last_line : (due : List Line → End → Type 0) (said new_said : Said) (at place cursor : Cursor) (max : Option ℕ) (ending : Option End)
+pub stopped_at_last_line : (due : List Line → End → Type 0) (said new_said : Said) (at place cursor : Cursor) (max : Option ℕ)
+    (ending : Option End)
     (output written new_written : Option (List ℕ)) (counts : Counts) (refusal : Refusal)
     → PrintsLines due said new_said at max ending place output written → cursor ≡ place
     → IsGivenInPart written new_written (last_line ending cursor) counts refusal
     → StopsPrinting due at max refusal output new_written counts
-stopped_at_last_line due said new_said at place cursor max None output written new_written counts refusal prints same given = rw given.write (
-  given.failed,
-  (
-    texts_of prints.lines ++ next_line place,
-    inr (all_lines due said new_said at place max None output written prints (at_most max (length prints.lines) prints.ends)),
-    behind output written new_written (texts_of prints.lines) (next_line place) prints.printed (rw same at given.front),
-  ),
-)
+stopped_at_last_line due said new_said at place cursor max None output written new_written counts refusal prints same given =
+    rw given.write (
+      given.failed,
+      (
+        texts_of prints.lines ++ next_line place,
+        inr (all_lines due said new_said at place max None output written prints (at_most max (length prints.lines) prints.ends)),
+        behind output written new_written (texts_of prints.lines) (next_line place) prints.printed (rw same at given.front),
+      ),
+    )
 stopped_at_last_line due said new_said at place cursor max (Some Proper) output written new_written counts refusal prints same given =
     let end_is : prints.end ≡ Proper = prints.ends.0 in
     let none : prints.others ≡ [] = prints.ends.1 in
@@ -156,16 +164,23 @@ stopped_at_last_line due said new_said at place cursor max (Some Proper) output 
       given.failed,
       (
         texts_of prints.lines ++ codes "end\n",
-        inl (text_of prints.lines Proper at max, (prints.lines, Proper, (rw (all, end_is) at prints.due), refl), ap (λ (p : Printed). p.output) (sym text)),
+        inl (
+          text_of prints.lines Proper at max,
+          (prints.lines, Proper, (rw (all, end_is) at prints.due), refl),
+          ap
+              (λ (p : Printed). p.output) (sym text),
+        ),
         behind output written new_written (texts_of prints.lines) (codes "end\n") prints.printed given.front,
       ),
     )
-stopped_at_last_line due said new_said at place cursor max (Some (Fault page row cause)) output written new_written counts refusal prints same given =
+stopped_at_last_line due said new_said at place cursor max (Some (Fault page row cause)) output written new_written counts refusal prints
+    same given =
     rw given.write (
       given.failed,
       (
         texts_of prints.lines ++ next_line place,
-        inr (all_lines due said new_said at place max (Some (Fault page row cause)) output written prints (below max (length prints.lines) prints.ends.2)),
+        inr (all_lines due said new_said at place max (Some (Fault page row cause)) output written prints
+            (below max (length prints.lines) prints.ends.2)),
         behind output written new_written (texts_of prints.lines) (next_line place) prints.printed (rw same at given.front),
       ),
     )

@@ -15,7 +15,8 @@ use Rattle.fax_walk.specs.PagesLeft.{pages_from}
 use Rattle.fax_tool.specs.declared.words.Command.TheVariants.{List as Forms, Rows}
 use Rattle.fax_tool.specs.declared.words.Part.{Part}
 use Rattle.fax_tool.specs.Run.{AreRowLines, ArePageLines, IsTextOfLines, IsTextOfRows, begun_of}
-use Rattle.fax_tool.specs.Text.{Line, Printed, texts_of, last_cursor, error_text, text_of, whole_text, long_output_of, long_text_of, long_cut_text, long_whole_text, status_of as end_status}
+use Rattle.fax_tool.specs.Text.{Line, Printed, texts_of, last_cursor, error_text, text_of, whole_text, long_output_of, long_text_of}
+use Rattle.fax_tool.specs.Text.{long_cut_text, long_whole_text, status_of as end_status}
 use Rattle.fax_tool.specs.code.Outcome.{WritesOutput, error_of, fault_of, status_of}
 use Rattle.fax_tool.specs.code.Printing.{AreRowsDue, ArePagesDue, EndsWith, PrintsAll, long_last_line}
 
@@ -29,7 +30,8 @@ cut lines others end place at = rw (not_above lines others) (ap (λ xs. long_cut
 whole_long : (lines : List Line) (end : End) (place : Option LongPlace) (at : Cursor) (max : Option ℕ)
     → IfSome max (λ limit. length lines < limit) → long_text_of lines end place at max ≡ long_whole_text lines end place at
 whole_long lines end place at None few = refl
-whole_long lines end place at (Some limit) few = let no : nat_le limit (length lines) ≡ false = lt-leb limit (length lines) few in rw no refl
+whole_long lines end place at (Some limit) few =
+    let no : nat_le limit (length lines) ≡ false = lt-leb limit (length lines) few in rw no refl
 
 pub whole : (lines : List Line) (end : End) (at : Cursor) (max : Option ℕ) → IfSome max (λ limit. length lines < limit)
     → text_of lines end at max ≡ whole_text lines end at
@@ -52,8 +54,10 @@ status_is (Fault page row cause) = refl
 status_is Outside = refl
 
 -- the text of the lines, with its output, and the error line and status of its end
-pub record IsEndedText (lines others : List Line) (end : End) (place : Option LongPlace) (at : Cursor) (max : Option ℕ) (ending : Option End) : Type 0 where
-  pub output : texts_of lines ++ long_last_line ending place (last_cursor at lines) ≡ (long_text_of (lines ++ others) end place at max).output
+pub record IsEndedText (lines others : List Line) (end : End) (place : Option LongPlace) (at : Cursor) (max : Option ℕ)
+    (ending : Option End) : Type 0 where
+  pub output : texts_of lines ++ long_last_line ending place (last_cursor at lines)
+      ≡ (long_text_of (lines ++ others) end place at max).output
   pub error : (long_text_of (lines ++ others) end place at max).error ≡ error_of (fault_of ending)
   pub status : (long_text_of (lines ++ others) end place at max).status ≡ status_of (fault_of ending)
 
@@ -115,7 +119,8 @@ rows_of_file file part ending output new_output short prints =
     }
 
 -- what is left of a reader of pages at its beginning is what its cursor has
-pub page_lines : (file : List ℕ) (at : Cursor) (lines : List Line) (end : End) → ArePagesDue (pages_from file at) lines end → ArePageLines file at lines end
+pub page_lines : (file : List ℕ) (at : Cursor) (lines : List Line) (end : End) → ArePagesDue (pages_from file at) lines end
+    → ArePageLines file at lines end
 page_lines file at lines end due = record {
   items = due.items;
   tail = subst (λ (l : List FormItem). IsFormTail file at l end) (sym due.due.rest) due.due.is;

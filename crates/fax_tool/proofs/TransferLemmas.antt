@@ -1,5 +1,6 @@
 -- Bytes that move in several calls.
-use Rattle.std.proofs.Common.{◌≡◌, ℕ, ◌-◌, List, [], ◌++◌, append-nil, refl, length, take, drop, ap, sym, ◌∙◌, append_assoc, length-drop, take-append-drop}
+use Rattle.std.proofs.Common.{◌≡◌, ℕ, ◌-◌, List, [], ◌++◌, append-nil, refl, length, take, drop, ap, sym, ◌∙◌, append_assoc, length-drop}
+use Rattle.std.proofs.Common.{take-append-drop}
 use Rattle.std.proofs.Math.Seq.{take-length}
 use Rattle.std.proofs.KnownBytes.{Appends-nil, Appends-trans, Appends-kept}
 use Rattle.std.specs.Prelude.{Option, Result, Ok, Err, IfErr, ⊤}
@@ -14,7 +15,7 @@ pub record IsPartWritten (old new : Option (List ℕ)) (bytes rest : List ℕ) :
   pub parts : bytes ≡ front ++ rest
   pub written : Appends old new front
 
--- what is left behind n bytes, as the code cuts it
+-- what is left after n bytes, as the code cuts it
 rest_behind : (rest : List ℕ) (n : ℕ) → take (length rest - n) (drop n rest) ≡ drop n rest
 rest_behind rest n = ap (λ k. take k (drop n rest)) (sym (length-drop n rest)) ∙ take-length (drop n rest)
 
@@ -22,7 +23,8 @@ pub more_written : (old mid new : Option (List ℕ)) (bytes rest : List ℕ) (n 
     → Appends mid new (take n rest) → IsPartWritten old new bytes (take (length rest - n) (drop n rest))
 more_written old mid new bytes rest n part appends = rw (rest_behind rest n) (record {
   front = part.front ++ take n rest;
-  parts = part.parts ∙ ap (λ xs. part.front ++ xs) (sym (take-append-drop n rest)) ∙ sym (append_assoc part.front (take n rest) (drop n rest));
+  parts =
+      part.parts ∙ ap (λ xs. part.front ++ xs) (sym (take-append-drop n rest)) ∙ sym (append_assoc part.front (take n rest) (drop n rest));
   written = Appends-trans old mid new part.front (take n rest) part.written appends;
 })
 

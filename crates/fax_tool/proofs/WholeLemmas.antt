@@ -24,7 +24,8 @@ use Rattle.fax_tool.specs.code.Outcome.{IsFaultOf, IsStopped, WritesOutput, erro
 use Rattle.fax_tool.specs.code.Transfers.{IsGivenInPart}
 use Rattle.fax_tool.proofs.CommandLemmas.{if_same, if_some}
 
-module _ (command : Command) (left : Option (List ℕ)) (file : List ℕ) (output new_output : Option (List ℕ)) (input : Counts) (taken : ℕ) (counts : Counts) where
+module _ (command : Command) (left : Option (List ℕ)) (file : List ℕ) (output new_output : Option (List ℕ)) (input : Counts) (taken : ℕ)
+    (counts : Counts) where
   -- a text was given in part
   stopped_text : (printed : Printed) (refusal : Refusal) → IfSome left (λ bytes. file ≡ bytes) → IsTextOf command file printed
       → IsGivenInPart output new_output printed.output counts refusal
@@ -35,7 +36,8 @@ module _ (command : Command) (left : Option (List ℕ)) (file : List ℕ) (outpu
         (given.front.front, (given.front.rest, inl (printed, is, sym given.front.parts)), given.front.written);
   })
 
-module _ (left : Option (List ℕ)) (file : List ℕ) (options : Options) (output new_output : Option (List ℕ)) (input : Counts) (taken : ℕ) (counts : Counts) where
+module _ (left : Option (List ℕ)) (file : List ℕ) (options : Options) (output new_output : Option (List ℕ)) (input : Counts) (taken : ℕ)
+    (counts : Counts) where
   pub conversion_stopped : (bytes : List ℕ) (refusal : Refusal) → IfSome left (λ bytes. file ≡ bytes) → IsConverted file options bytes
       → IsGivenInPart output new_output bytes counts refusal
       → IsStopped (Convert options) left refusal input taken counts output new_output
@@ -62,13 +64,14 @@ module _ (left : Option (List ℕ)) (file : List ℕ) (options : Options) (outpu
   pub not_converted : (fault : ConvertFault) (of : InputFault) → IfSome left (λ bytes. file ≡ bytes)
       → (fault ≢ NoMemory → IsNotConverted file options fault) → IsFaultOf fault of
       → IfSome left (λ file. WritesOutput (Convert options) file output output (Some of))
-  not_converted fault of same refused is = if_same (λ file. WritesOutput (Convert options) file output output (Some of)) left file same (record {
-    printed = record { output = []; error = convert_fault_line fault; status = 1 };
-    is = inr (fault, refused is.0, refl);
-    output_is = Appends-nil output;
-    error_is = is.1;
-    status_is = refl;
-  })
+  not_converted fault of same refused is =
+      if_same (λ file. WritesOutput (Convert options) file output output (Some of)) left file same (record {
+        printed = record { output = []; error = convert_fault_line fault; status = 1 };
+        is = inr (fault, refused is.0, refl);
+        output_is = Appends-nil output;
+        error_is = is.1;
+        status_is = refl;
+      })
 
 output_of : (text : List ℕ) (fault : Option (Place × Cause)) → (printed_report text fault).output ≡ text
 output_of text None = refl

@@ -12,16 +12,18 @@ abbrev pub and_strip : Option ℕ → List ℕ
 and_strip None = []
 and_strip (Some strip) = codes " strip" ++ and_number strip
 
--- `note page P strip S: N3 DataAfterEnd`, and for a note on a directory `note page P: N5 EntriesOutOfOrder`
--- (this project's profile)
+-- `note page P strip S: N3 DataAfterEnd`, and for a note on a directory `note page P: N5
+-- EntriesOutOfOrder` (this project's profile)
 unfoldable pub note_line : Note → List ℕ
 note_line note =
-    codes "note page" ++ and_number note.page ++ and_strip note.strip ++ codes ": N" ++ decimal (note_number note.kind)
+    codes "note page" ++ and_number note.page ++ and_strip note.strip ++ codes ": N" ++ decimal
+    (note_number note.kind)
     ++ codes " " ++ note_name note.kind ++ line_end
 
 -- `pages P rows R`: how many pages were read wholly, and how many rows (this project's profile)
 abbrev pub counts_line : ℕ → ℕ → List ℕ
-counts_line pages rows = codes "pages" ++ and_number pages ++ codes " rows" ++ and_number rows ++ line_end
+counts_line pages rows =
+    codes "pages" ++ and_number pages ++ codes " rows" ++ and_number rows ++ line_end
 
 -- the notes, line by line, and the counts (this project's profile)
 abbrev pub report_output : Report → List ℕ

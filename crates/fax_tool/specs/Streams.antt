@@ -1,5 +1,6 @@
 -- What a call on a stream does to the stream's bytes and to its counts (this project's profile).
-use Rattle.std.specs.Prelude.{◌≡◌, ℕ, ◌+◌, ◌-◌, ◌^◌, ◌<◌, min, List, length, take, Option, Some, None, ⊤, Result, Ok, Err}
+use Rattle.std.specs.Prelude.{◌≡◌, ℕ, ◌+◌, ◌-◌, ◌^◌, ◌<◌, min, List, length, take, Option, Some}
+use Rattle.std.specs.Prelude.{None, ⊤, Result, Ok, Err}
 use Rattle.std.specs.Io.KnownBytes.{Appends, Consumes, IsAtEnd, Keeps}
 use Rattle.fax_tool.specs.declared.streams.StreamFault.{StreamFault}
 use Rattle.fax_tool.specs.declared.streams.StreamFault.TheVariants.{Interrupted, Failed}
@@ -21,13 +22,13 @@ no_faults = counts_of 0 0
 abbrev pub capped_sum : ℕ → ℕ → ℕ
 capped_sum n more = min (n + more) (2 ^ 64 - 1)
 
--- the counts behind a call with this answer (this project's profile)
+-- the counts after a call with this answer (this project's profile)
 abbrev pub counts_after : Result ℕ StreamFault → Counts → Counts
 counts_after (Ok n) counts = counts
 counts_after (Err Interrupted) counts = counts_of (capped_sum counts.interrupted 1) counts.failed
 counts_after (Err Failed) counts = counts_of counts.interrupted (capped_sum counts.failed 1)
 
--- the count of bytes taken behind a call with this answer (this project's profile)
+-- the count of bytes taken after a call with this answer (this project's profile)
 abbrev pub taken_after : Result ℕ StreamFault → ℕ → ℕ
 taken_after (Ok n) taken = capped_sum taken n
 taken_after (Err fault) taken = taken
@@ -37,15 +38,15 @@ abbrev pub KeepsOrForgets : Option (List ℕ) → Option (List ℕ) → Type 0
 KeepsOrForgets known None = ⊤
 KeepsOrForgets known (Some bytes) = Keeps known (Some bytes)
 
--- what a source has left behind a call: the bytes behind those that now stand at the buffer's front, and all of them
--- where the call was interrupted
--- (this project's profile)
+-- what a source has left after a call: the bytes after those that now stand at the buffer's
+-- front, and all of them where the call was interrupted (this project's profile)
 abbrev pub TakesBytes : Option (List ℕ) → Option (List ℕ) → Result ℕ StreamFault → List ℕ → Type 0
-TakesBytes old new (Ok n) buffer = Consumes old new (take n buffer) × (n ≡ 0 → 0 < length buffer → IsAtEnd new)
+TakesBytes old new (Ok n) buffer =
+    Consumes old new (take n buffer) × (n ≡ 0 → 0 < length buffer → IsAtEnd new)
 TakesBytes old new (Err Interrupted) buffer = Keeps old new
 TakesBytes old new (Err Failed) buffer = KeepsOrForgets old new
 
--- what a sink holds behind a call: the bytes that it took at its end (this project's profile)
+-- what a sink holds after a call: the bytes that it took at its end (this project's profile)
 abbrev pub GivesBytes : Option (List ℕ) → Option (List ℕ) → Result ℕ StreamFault → List ℕ → Type 0
 GivesBytes old new (Ok n) bytes = Appends old new (take n bytes)
 GivesBytes old new (Err fault) bytes = Keeps old new

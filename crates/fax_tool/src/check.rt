@@ -91,8 +91,8 @@ fn fault_of(report: &Report) -> Option<InputFault>
     })
 }
 
-/// Reads the input whole and writes what is worth a note in it, how many pages were read wholly, and
-/// how many rows.
+/// Reads the input whole and writes what is worth a note in it, how many pages were read wholly,
+/// and how many rows.
 pub fn check<R: Source, W: Sink>(
     alloc: Global,
     input: &mut R,

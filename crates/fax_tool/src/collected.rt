@@ -8,7 +8,7 @@ use std::marker::Model;
 /// The text that is collected. Contracts see its bytes.
 #[derive(Drop)]
 pub struct Collected {
-    /// The text, and room behind it.
+    /// The text, and room after it.
     pub(crate) bytes: Vec<u8>,
     /// Where the text ends.
     pub(crate) end: usize,
@@ -24,7 +24,7 @@ impl Model for Collected {
     ghost invariant = { λ text. text.end ≤ vec_len text.bytes };
 }
 
-/// Makes room for so many bytes behind a text that ends here.
+/// Makes room for so many bytes after a text that ends here.
 pub(crate) fn make_room(bytes: &mut Vec<u8>, end: usize, more: usize) -> Result<(), Memory>
     requires { end ≤ vec_len bytes.old }
     ensures room { OnOk result (end + more ≤ vec_len bytes.new) }

@@ -12,7 +12,7 @@ use crate::row_line::put_row_line;
 use fax_bits::Memory;
 use fax_walk::{Cursor, End, Pages, Walk, WalkFault};
 
-/// Lines that are printed one after another. Contracts see which lines are due, and the end behind
+/// Lines that are printed one after another. Contracts see which lines are due, and the end after
 /// them, which were told, the cursor that stands before the first of them that is due, and a number
 /// that each line makes less.
 pub trait Lines {
@@ -24,11 +24,11 @@ pub trait Lines {
 
     ghost left: { Self → ℕ };
 
-    /// The place behind what the last line told, or the one that the lines began with.
+    /// The place after what the last line told, or the one that the lines began with.
     fn cursor(&self) -> Cursor
         ensures { result ≡ place self.now };
 
-    /// Collects the next line behind the text, or answers how the lines ended. Where memory is
+    /// Collects the next line after the text, or answers how the lines ended. Where memory is
     /// refused the text is as it was.
     fn put_next(&mut self, text: &mut Collected) -> Result<Option<End>, Memory>
         ensures put { IsLinePut (are_due self.old) (said self.old) (place self.old)

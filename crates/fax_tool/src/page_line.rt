@@ -14,7 +14,7 @@ use itoa::Buffer;
 /// The line of a page, which is made without memory.
 type PageLine = ArrayString<136>;
 
-/// A coding's name, behind a blank.
+/// A coding's name, after a blank.
 fn coding_text(coding: Coding) -> &'static str
     ensures { result.now ≡ and_coding coding }
 {

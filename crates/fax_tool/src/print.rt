@@ -114,7 +114,7 @@ fn write_where_long<W: Sink>(
     write_out(out, interruptions, text)
 }
 
-/// What is left of a limit behind one more line.
+/// What is left of a limit after one more line.
 fn behind_one(left: Option<u32>) -> Option<u32>
     requires { IfSome left (λ n. 0 < n) }
     ensures { result ≡ option_map (λ n. n - 1) left }
@@ -168,8 +168,8 @@ fn print_lines<L: Lines, W: Sink>(
     }
 }
 
-/// Writes the last line of the output: `end`, or where to go on, or none for a cursor outside of the
-/// file. Where printing ended at its limit there is no end.
+/// Writes the last line of the output: `end`, or where to go on, or none for a cursor outside of
+/// the file. Where printing ended at its limit there is no end.
 fn give_last_line<W: Sink>(
     out: &mut W,
     interruptions: &mut Interruptions,
@@ -244,7 +244,7 @@ fn read_or_stop<R: Source, W: Sink>(
     }
 }
 
-/// The line that a run ends with where rows are left, with the long cursor behind the last of them,
+/// The line that a run ends with where rows are left, with the long cursor after the last of them,
 /// where there is one.
 fn long_next_line(alloc: Global, walk: &Walk) -> Result<String, Memory>
     ensures { IfOk result (λ line. (place : Option LongPlace)
@@ -259,7 +259,7 @@ fn long_next_line(alloc: Global, walk: &Walk) -> Result<String, Memory>
     Ok(line)
 }
 
-/// Writes the last line of rows, as `give_last_line`, with the long cursor behind them, where there
+/// Writes the last line of rows, as `give_last_line`, with the long cursor after them, where there
 /// is one.
 fn give_long_last_line<W: Sink>(
     alloc: Global,

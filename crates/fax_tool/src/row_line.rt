@@ -1,5 +1,6 @@
 //! The line of a row.
-ghost use Rattle.std.specs.Prelude.{◌≡◌, ◌+◌, ◌*◌, ◌≤◌, ◌++◌, OnErr, OnOk, decimal, flat_map, length, take};
+ghost use Rattle.std.specs.Prelude.{◌≡◌, ◌+◌, ◌*◌, ◌≤◌, ◌++◌, OnErr, OnOk, decimal, flat_map};
+ghost use Rattle.std.specs.Prelude.{length, take};
 ghost use Rattle.fax_rows.specs.Elements.{runs_of};
 ghost use Rattle.fax_tool.specs.Text.{and_number, row_line_of};
 
@@ -9,11 +10,11 @@ use fax_rows::{LongestRuns, Row};
 use fax_walk::Place;
 use itoa::Buffer;
 
-/// The most bytes of a line but for its runs: a word, two numbers behind a blank each, and the line
+/// The most bytes of a line but for its runs: a word, two numbers after a blank each, and the line
 /// end.
 const LINE_BYTES: usize = 26;
 
-/// The most bytes of a run behind a blank.
+/// The most bytes of a run after a blank.
 const RUN_BYTES: usize = 6;
 
 /// Writes a number of two digits or more at a place, and answers where it ends.
@@ -62,7 +63,7 @@ fn write_number(bytes: &mut [u8], at: usize, number: u32) -> usize
     write_digits(bytes, at + 1, number)
 }
 
-/// Writes the runs of a row at a place, each behind a blank, and answers where they end.
+/// Writes the runs of a row at a place, each after a blank, and answers where they end.
 fn write_runs(bytes: &mut [u8], at: usize, row: &Row) -> usize
     requires { at + 6 * length (runs_of row.now) ≤ length bytes.old }
     ensures written { take result bytes.new ≡ take at bytes.old

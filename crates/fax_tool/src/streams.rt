@@ -1,7 +1,9 @@
 //! The streams that a run reads and writes.
-ghost use Rattle.std.specs.Prelude.{◌≡◌, ℕ, ◌<◌, ◌≤◌, length, take, Option, List, IfOk, IfErr, OnOk, Result};
+ghost use Rattle.std.specs.Prelude.{◌≡◌, ℕ, ◌<◌, ◌≤◌, length, take, Option, List, IfOk, IfErr};
+ghost use Rattle.std.specs.Prelude.{OnOk, Result};
 ghost use Rattle.std.specs.Io.KnownBytes.{Appends, Consumes, IsAtEnd, Keeps};
-ghost use Rattle.fax_tool.specs.Streams.{Counts, counts_after, taken_after, no_faults, TakesBytes, GivesBytes};
+ghost use Rattle.fax_tool.specs.Streams.{Counts, counts_after, taken_after, no_faults, TakesBytes};
+ghost use Rattle.fax_tool.specs.Streams.{GivesBytes};
 ghost use Rattle.fax_tool.specs.code.Adapters.{reader_of, writer_of};
 
 use std::io;
@@ -115,7 +117,7 @@ impl<R: io::Read> FromRead<R> {
         }
     }
 
-    /// The reader, behind the bytes that were taken.
+    /// The reader, after the bytes that were taken.
     pub fn into_inner(self) -> R
         ensures { result ≡ reader_of self }
     {

@@ -1,5 +1,5 @@
-//! Runs over streams in memory, and the words of command lines. Runs of the built program over files
-//! stand as data in the folder `tests` of the repository.
+//! Runs over streams in memory, and the words of command lines. Runs of the built program over
+//! files stand as data in the folder `tests` of the repository.
 
 mod caller;
 mod page;

@@ -1,5 +1,6 @@
 //! Whole transfers: a source to its end, and all of some bytes to a sink.
-ghost use Rattle.std.specs.Prelude.{◌≡◌, ◌≤◌, ◌<◌, ◌-◌, length, IfOk, IfErr, IfSome, OnOk, IsTrue, Err, false, vec_len};
+ghost use Rattle.std.specs.Prelude.{◌≡◌, ◌≤◌, ◌<◌, ◌-◌, length, IfOk, IfErr, IfSome, OnOk, IsTrue};
+ghost use Rattle.std.specs.Prelude.{Err, false, vec_len};
 ghost use Rattle.std.specs.Io.KnownBytes.{Appends};
 ghost use Rattle.fax_tool.specs.declared.refusal.Refusal.TheVariants.{Memory};
 ghost use Rattle.fax_tool.specs.Run.{HasFailed, HasReason, most_input, most_interrupted};

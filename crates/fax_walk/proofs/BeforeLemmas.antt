@@ -9,7 +9,8 @@ use Rattle.fax_walk.specs.declared.begun.Begun.TheVariants.{At, Inside}
 use Rattle.fax_walk.specs.declared.cursor.Cursor.{Cursor}
 use Rattle.fax_walk.specs.Before.{rows_before_at, AreRowsBefore, AreRowsBeforeUnder, AreRowsBeforeBegun}
 
-some_under : FilesHaveOneChain → (file : List ℕ) (at : Cursor) (answer : Result Header FileFault) → (n : ℕ) × AreRowsBeforeUnder file at answer n
+some_under : FilesHaveOneChain → (file : List ℕ) (at : Cursor) (answer : Result Header FileFault)
+    → (n : ℕ) × AreRowsBeforeUnder file at answer n
 some_under chains file at (Err fault) = (0, refl)
 some_under chains file at (Ok head) =
     let one = chains head file in

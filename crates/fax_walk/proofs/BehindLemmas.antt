@@ -1,4 +1,4 @@
--- The page behind the directories that a chain has handed out.
+-- The page after the directories that a chain has handed out.
 use Rattle.std.proofs.Common.{◌≡◌, ℕ, zero, suc, ◌+◌, ◌<◌, List, [], ◌∷◌, drop, Some, None, Result, Ok, Err, inl, inr, refl, ap, ◌∙◌, arith}
 use Rattle.std.specs.Prelude.{slice_get, IfOk, IfErr}
 use Rattle.std.proofs.lemmas.List.{drop_all}
@@ -81,13 +81,14 @@ module _ (chain : ChainState) (chains : FilesHaveOneChain) where
         page_first chain held due (answers.over held.offsets held.end held.is) answers.next.1 answers.next.0 answers.next.2
         (omega (arith, answers.next.2.limits.some_rows))
 
--- an opened page behind one of a file's pages is the file's too
-pub opened_in_file : (result : Result PageState OpenFault) (chain : ChainState) (read : ℕ) (file : List ℕ) → header file ≡ Ok chain.tiff.head
+-- an opened page after one of a file's pages is the file's too
+pub opened_in_file : (result : Result PageState OpenFault) (chain : ChainState) (read : ℕ) (file : List ℕ)
+    → header file ≡ Ok chain.tiff.head
     → chain.tiff.file ≡ file → IfOk result (IsOpenedBehind chain read) → IfOk result (IsPageIn file)
 opened_in_file (Ok page) chain read file head file_is opened = opened.in_file file head file_is
 opened_in_file (Err refused) chain read file head file_is opened = opened
 
--- what is due of an opened page is due of the pages behind a chain
+-- what is due of an opened page is due of the pages after a chain
 pub items_so : (result : Result PageState OpenFault) (due due' : List Item → End → Type 0)
     → ((items : List Item) (end : End) → due items end → due' items end)
     → IfOk result (λ page. (items : List Item) (end : End) → IsDueOnPage page items end → due items end)

@@ -1,5 +1,6 @@
 -- The images of a file, counted.
-use Rattle.std.proofs.Common.{◌≡◌, ℕ, ◌+◌, ◌<◌, inl, inr, List, [], ◌∷◌, ◌++◌, length, Some, None, refl, sym, ap, subst, ◌∙◌, arith, append_assoc, append-nil}
+use Rattle.std.proofs.Common.{◌≡◌, ℕ, ◌+◌, ◌<◌, inl, inr, List, [], ◌∷◌, ◌++◌, length, Some, None, refl, sym, ap, subst, ◌∙◌, arith}
+use Rattle.std.proofs.Common.{append_assoc, append-nil}
 use Rattle.std.proofs.lemmas.List.{length-append}
 use Rattle.fax_files.specs.declared.pbm.PbmFault.{PbmFault}
 use Rattle.fax_files.specs.Pbm.{Image, IsImage, IsImageFault, AreImages}
@@ -26,7 +27,8 @@ all_read bytes left count read empty = record {
   are = read.behind [] None (inl (empty, refl));
 }
 
-pub fault_met : (bytes left : List ℕ) (count : ℕ) (fault : PbmFault) → AreImagesRead bytes left count → (left ≡ [] → ⊥) → IsImageFault left fault
+pub fault_met : (bytes left : List ℕ) (count : ℕ) (fault : PbmFault) → AreImagesRead bytes left count → (left ≡ [] → ⊥)
+    → IsImageFault left fault
     → IsImagesFault bytes (PbmSource count fault)
 fault_met bytes left count fault read some is = record {
   images = read.images ++ [];

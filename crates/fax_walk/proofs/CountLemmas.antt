@@ -15,7 +15,8 @@ use Rattle.fax_walk.specs.declared.opening.OpenFault.TheVariants.{Ended}
 use Rattle.fax_walk.specs.code.Opening.{IsOpenedBehind, EndsShortFrom}
 
 -- the first page of a walk is opened
-pub counted_first : (file : List ℕ) (begun : Begun) (cursor : Cursor) (given : ℕ) (page : PageState) (opened result : Result PageState OpenFault)
+pub counted_first : (file : List ℕ) (begun : Begun) (cursor : Cursor) (given : ℕ) (page : PageState)
+    (opened result : Result PageState OpenFault)
     → (cursor ≡ begins_at begun) × (given ≡ 0) → opened ≡ result → opened ≡ Ok page → IfOk result (IsOpenedFor (begins_at begun))
     → IfOk result (λ page. AreRowsBeforeBegun file begun (skipped page)) → IsOpenFrom cursor page × HasCounted file begun given page
 counted_first file begun cursor given page opened result sound same is for_cursor before =
@@ -32,10 +33,12 @@ counted_first file begun cursor given page opened result sound same is for_curso
       },
     )
 
--- the page behind one that is read to its end is opened
-pub counted_next : (file : List ℕ) (begun : Begun) (cursor : Cursor) (given : ℕ) (old page : PageState) (opened result : Result PageState OpenFault)
+-- the page after one that is read to its end is opened
+pub counted_next : (file : List ℕ) (begun : Begun) (cursor : Cursor) (given : ℕ) (old page : PageState)
+    (opened result : Result PageState OpenFault)
     → IsOpenFrom cursor old × HasCounted file begun given old → row_of old ≡ old.form.rows → old.chain.given ≡ old.page + 1
-    → opened ≡ result → opened ≡ Ok page → IfOk result (IsOpenedBehind old.chain old.read) → IsOpenFrom cursor page × HasCounted file begun given page
+    → opened ≡ result → opened ≡ Ok page → IfOk result (IsOpenedBehind old.chain old.read)
+    → IsOpenFrom cursor page × HasCounted file begun given page
 counted_next file begun cursor given old page opened result (from, counted) all_read number same is behind =
     let is : result ≡ Ok page = rw same at is in
     let behind = rw is at behind in
@@ -44,7 +47,8 @@ counted_next file begun cursor given old page opened result (from, counted) all_
       record {
         is_open = behind.is_open;
         within = let due = behind.row_due in omega (arith, due);
-        behind = let few = from.is_open.limits.rows in omega (arith, from.behind, none_before, all_read, few, number, behind.same_page, behind.first_is);
+        behind = let few =
+            from.is_open.limits.rows in omega (arith, from.behind, none_before, all_read, few, number, behind.same_page, behind.first_is);
       },
       record {
         before = counted.before;
@@ -56,7 +60,8 @@ counted_next file begun cursor given old page opened result (from, counted) all_
     )
 
 -- the rows end on the page that is open
-pub counted_last : (file : List ℕ) (begun : Begun) (given : ℕ) (old new : PageState) (end : End) (read : ℕ) → HasCounted file begun given old
+pub counted_last : (file : List ℕ) (begun : Begun) (given : ℕ) (old new : PageState) (end : End) (read : ℕ)
+    → HasCounted file begun given old
     → GivesNone old new end → read ≡ new.read → HasReadAll file begun given end read
 counted_last file begun given old new end read counted gives is = record {
   before = counted.before;
@@ -71,13 +76,16 @@ counted_last file begun given old new end read counted gives is = record {
         → (read ≡ given + counted.before) ⊎ EndsBefore end (begins_at begun)
     by_order left (inl all) = inl (omega (arith, is, all, counted.count))
     by_order (inl left) (inr before) =
-        let named : record { page = old.page; row = old.first } ≡ begins_at begun = rw ((counted.named left).0, (counted.named left).1) refl in
+        let named : record { page = old.page; row = old.first } ≡ begins_at begun =
+        rw ((counted.named left).0, (counted.named left).1) refl in
         inr (rw named at before)
     by_order (inr none) (inr before) = inl (omega (arith, is, none, gives.some, gives.most, counted.count))
 
 -- the rows end before a page is opened: the first one
-pub ended_first : (file : List ℕ) (begun : Begun) (given : ℕ) (end : End) (read : ℕ) (fault : OpenFault) (opened result : Result PageState OpenFault) → given ≡ 0 → read ≡ 0
-    → opened ≡ result → opened ≡ Err fault → fault ≡ Ended end → IfErr result (EndsShortFrom file begun) → HasReadAll file begun given end read
+pub ended_first : (file : List ℕ) (begun : Begun) (given : ℕ) (end : End) (read : ℕ) (fault : OpenFault)
+    (opened result : Result PageState OpenFault) → given ≡ 0 → read ≡ 0
+    → opened ≡ result → opened ≡ Err fault → fault ≡ Ended end → IfErr result (EndsShortFrom file begun)
+    → HasReadAll file begun given end read
 ended_first file begun given end read fault opened result none_given none_read same is fault_is short =
     let is : result ≡ Err (Ended end) = rw (same, fault_is) at is in
     let ends = rw is at short in
@@ -92,8 +100,9 @@ ended_first file begun given end read fault opened result none_given none_read s
       ];
     }
 
--- the same of the page behind one that is read to its end
-pub ended_next : (file : List ℕ) (begun : Begun) (cursor : Cursor) (given : ℕ) (old : PageState) (end : End) (read : ℕ) → IsOpenFrom cursor old
+-- the same of the page after one that is read to its end
+pub ended_next : (file : List ℕ) (begun : Begun) (cursor : Cursor) (given : ℕ) (old : PageState) (end : End) (read : ℕ)
+    → IsOpenFrom cursor old
     → HasCounted file begun given old → row_of old ≡ old.form.rows → read ≡ old.read → HasReadAll file begun given end read
 ended_next file begun cursor given old end read from counted all_read is =
     let none : skipped old ≡ 0 = let first = from.is_open.first in omega (arith, all_read, first) in

@@ -1,5 +1,6 @@
 -- A cursor's text is cut at its colons, and its numbers are read.
-use Rattle.std.proofs.Common.{◌≡◌, ◌≢◌, ℕ, zero, suc, ◌^◌, ◌<◌, List, [], ◌∷◌, ◌++◌, length, get_or, Result, Ok, Err, ◌∙◌, append_assoc, arith}
+use Rattle.std.proofs.Common.{◌≡◌, ◌≢◌, ℕ, zero, suc, ◌^◌, ◌<◌, List, [], ◌∷◌, ◌++◌, length, get_or, Result, Ok, Err, ◌∙◌, append_assoc}
+use Rattle.std.proofs.Common.{arith}
 use Rattle.std.specs.Prelude.{Option, MatchOption, OnErr, decimal}
 use Rattle.std.specs.Borrow.{Bor}
 use Rattle.std.specs.Str.Parse.{AllDigits, digits_value}
@@ -28,7 +29,7 @@ version_has_no_colon : (i : ℕ) → i < length version → get_or version i 0 �
 version_has_no_colon zero within = λ e. omega arith
 version_has_no_colon (suc i) within = absurd (omega arith)
 
--- the text behind the first colon of a cursor's
+-- the text after the first colon of a cursor's
 pub behind_version : (text : List ℕ) (at : Cursor) (r : Option (Bor (List ℕ) × Bor (List ℕ))) → IsSplitOnceResult 58 text r
     → text ≡ cursor_text at → MatchOption r ⊥ (λ x. (x.0.now ≡ version) × (x.1.now ≡ (decimal at.page ++ 58 ∷ []) ++ decimal at.row))
 behind_version text at r cut is = split_after 58 text version _ r cut (omega arith) is version_has_no_colon
@@ -38,5 +39,6 @@ pub page_and_row : (place : List ℕ) (at : Cursor) (r : Option (Bor (List ℕ) 
     → IsCursor at → place ≡ (decimal at.page ++ 58 ∷ []) ++ decimal at.row
     → MatchOption r ⊥ (λ x. (x.0.now ≡ decimal at.page) × (x.1.now ≡ decimal at.row))
 page_and_row place at r cut limits is =
-    split_after 58 place (decimal at.page) (decimal at.row) r cut (omega arith) (is ∙ append_assoc (decimal at.page) (58 ∷ []) (decimal at.row))
+    split_after 58 place (decimal at.page) (decimal at.row) r cut (omega arith)
+    (is ∙ append_assoc (decimal at.page) (58 ∷ []) (decimal at.row))
     (no_colon at.page limits.page)

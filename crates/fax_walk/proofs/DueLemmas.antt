@@ -1,5 +1,6 @@
 -- What is due on a page, row by row and strip by strip.
-use Rattle.std.proofs.Common.{◌≡◌, ℕ, zero, suc, ◌+◌, ◌-◌, ◌*◌, ◌^◌, ◌<◌, ◌≤◌, min, Bool, true, false, List, [], ◌∷◌, ◌++◌, length, drop, map, Option, Some, None, Err, inl, inr, refl, ap, sym, ◌∙◌, arith, add-mul}
+use Rattle.std.proofs.Common.{◌≡◌, ℕ, zero, suc, ◌+◌, ◌-◌, ◌*◌, ◌^◌, ◌<◌, ◌≤◌, min, Bool, true, false, List, [], ◌∷◌, ◌++◌, length, drop}
+use Rattle.std.proofs.Common.{map, Option, Some, None, Err, inl, inr, refl, ap, sym, ◌∙◌, arith, add-mul}
 use Rattle.std.specs.Prelude.{if◌then◌else◌, ◌⊎◌}
 use Rattle.std.proofs.Math.Nat.{mul-le-mul_right}
 use Rattle.std.proofs.lemmas.Bool.{cases_lt}
@@ -23,7 +24,8 @@ use Rattle.fax_walk.specs.declared.end.End.TheVariants.{Fault}
 use Rattle.fax_walk.specs.Items.{Item, numbered, stop_at, Follows}
 use Rattle.fax_walk.specs.Before.{EndsBefore}
 use Rattle.fax_walk.specs.code.Stages.{PageState, row_of, skipped, row_handed_out}
-use Rattle.fax_walk.specs.code.Due.{AreStripsBehind, IsLeftOnPage, IsDueOnPage, ArePagesBehind, IsOpen, ReadsPageRow, GivesRow, GivesNone, KeepsPage, EndsAtRow, GoesOn}
+use Rattle.fax_walk.specs.code.Due.{AreStripsBehind, IsLeftOnPage, IsDueOnPage, ArePagesBehind, IsOpen, ReadsPageRow, GivesRow, GivesNone}
+use Rattle.fax_walk.specs.code.Due.{KeepsPage, EndsAtRow, GoesOn}
 use Rattle.fax_walk.proofs.GoesOnLemmas.{stays, goes_further, next_goes_on}
 
 -- rows as they are handed out, one after the other
@@ -34,10 +36,12 @@ shown_none form = by_test form.exchanged
     by_test true = refl
     by_test false = refl
 
-shown_more : (form : PageForm) (row : List Colour) (rows : List (List Colour)) → shown form (row ∷ rows) ≡ row_handed_out form row ∷ shown form rows
+shown_more : (form : PageForm) (row : List Colour) (rows : List (List Colour))
+    → shown form (row ∷ rows) ≡ row_handed_out form row ∷ shown form rows
 shown_more form row rows = by_test form.exchanged
   where
-    by_test : (b : Bool) → (if b then map (map other) (row ∷ rows) else (row ∷ rows)) ≡ (if b then map other row else row) ∷ (if b then map (map other) rows else rows)
+    by_test : (b : Bool) → (if b then map (map other) (row ∷ rows) else (row ∷ rows)) ≡ (if b then map other row else row)
+        ∷ (if b then map (map other) rows else rows)
     by_test true = refl
     by_test false = refl
 
@@ -50,7 +54,8 @@ module _ (old : PageState) (strip : StripState) (handed : List Colour) (reads : 
   next_row : row_of new ≡ row_of old + 1
   next_row = omega (arith, reads.next_row)
 
-  still_left : (rows : List (List Colour)) (cause : Option Cause) → IsLeftOnPage new rows cause → IsLeftOnPage old (strip.reference ∷ rows) cause
+  still_left : (rows : List (List Colour)) (cause : Option Cause) → IsLeftOnPage new rows cause
+      → IsLeftOnPage old (strip.reference ∷ rows) cause
   still_left rows cause read = record {
     own = strip.reference ∷ read.own;
     stop = read.stop;
@@ -70,7 +75,7 @@ module _ (old : PageState) (strip : StripState) (handed : List Colour) (reads : 
   rows_shown : (rows : List (List Colour)) → handed ∷ shown old.form rows ≡ shown old.form (strip.reference ∷ rows)
   rows_shown rows = rw handed_is (sym (shown_more old.form strip.reference rows))
 
-  -- behind all rows, the pages that follow are the same
+  -- after all rows, the pages that follow are the same
   still_follows : (rows : List (List Colour)) (cause : Option Cause) (others : List Item) (end : End)
       → Follows old.page (ArePagesBehind old.chain) (stop_at (row_of new + length rows) cause) others end
       → Follows old.page (ArePagesBehind old.chain) (stop_at (row_of old + length (strip.reference ∷ rows)) cause) others end
@@ -101,7 +106,8 @@ module _ (old : PageState) (strip : StripState) (handed : List Colour) (reads : 
   kept_due items end some due =
       let fewer : skipped old ≡ suc (skipped new) = omega (arith, some, next_row) in
       let first : row_of new + skipped new ≡ row_of old + suc (skipped new) = omega (arith, next_row) in
-      let items_are : items ≡ numbered old.page (row_of old + suc (skipped new)) (drop (skipped new) (shown old.form due.rows)) ++ due.others =
+      let items_are : items ≡ numbered old.page (row_of old + suc (skipped new))
+      (drop (skipped new) (shown old.form due.rows)) ++ due.others =
       rw first at due.items_are in
       record {
         rows = strip.reference ∷ due.rows;
@@ -164,11 +170,12 @@ smaller_factor a b n less = by_order (cases_lt a b)
     by_order (inl below) = below
     by_order (inr above) = absurd (omega (arith, less, mul-le-mul_right n above))
 
--- where a row is due behind the end of a strip, there is another strip
+-- where a row is due after the end of a strip, there is another strip
 pub more_strips : (form : PageForm) (number : ℕ) (strip : StripState) → IsPageForm form → strip.form ≡ strip_form form number
     → strip.row ≡ strip.form.rows → number * form.rows_per_strip + strip.row < form.rows → number + 1 < form.strips
 more_strips form number strip limits form_is all_read due =
-    let count : strip.form.rows ≡ min form.rows_per_strip (form.rows - number * form.rows_per_strip) = ap (λ (f : StripForm). f.rows) form_is in
+    let count : strip.form.rows ≡ min form.rows_per_strip (form.rows - number * form.rows_per_strip) =
+    ap (λ (f : StripForm). f.rows) form_is in
     let all_rows = div_ceil_times form.rows form.rows_per_strip limits.some_rows_per_strip in
     let enough : form.rows ≤ form.strips * form.rows_per_strip = rw limits.strips all_rows.0 in
     smaller_factor (number + 1) form.strips form.rows_per_strip
@@ -176,7 +183,7 @@ more_strips form number strip limits form_is all_read due =
 
 -- a page whose strip is read to its end
 module _ (page : PageState) (all_read : page.strip.row ≡ page.strip.form.rows) where
-  -- what is left is what stands in the strips behind it
+  -- what is left is what stands in the strips after it
   left_behind : (others : List (List (List Colour))) (cause : Option Cause)
       → AreStrips page.directory.endian page.directory.file page.directory.offset page.form (page.number + 1) others cause
       → IsLeftOnPage page (joined others) cause
@@ -196,7 +203,8 @@ module _ (page : PageState) (all_read : page.strip.row ≡ page.strip.form.rows)
 
 -- a page that is read to its end
 module _ (page : PageState) (limits : IsPageForm page.form) (form_is : page.strip.form ≡ strip_form page.form page.number)
-    (within : page.number < page.form.strips) (within_strip : page.strip.row ≤ page.strip.form.rows) (all_read : row_of page ≡ page.form.rows) where
+    (within : page.number < page.form.strips) (within_strip : page.strip.row ≤ page.strip.form.rows)
+    (all_read : row_of page ≡ page.form.rows) where
   strip_rows : page.strip.form.rows ≡ min page.form.rows_per_strip (page.form.rows - page.number * page.form.rows_per_strip)
   strip_rows = ap (λ (f : StripForm). f.rows) form_is
 
@@ -217,7 +225,7 @@ module _ (page : PageState) (limits : IsPageForm page.form) (form_is : page.stri
           absurd (omega (arith, product, all_rows, strip_rows, within_strip, all_read, add-mul page.number 2 page.form.rows_per_strip))
       by_order (inr last) = omega (arith, last, within)
 
-  -- what is due is what the pages behind it have
+  -- what is due is what the pages after it have
   pub pages_due : (items : List Item) (end : End) → ArePagesBehind page.chain items end → IsDueOnPage page items end
   pages_due items end behind = record {
     rows = [];
@@ -228,8 +236,9 @@ module _ (page : PageState) (limits : IsPageForm page.form) (form_is : page.stri
     follows = behind;
   }
 
--- what comes behind a strip, by how it ends
-behind_strip : (directory : TiffDirectory) (form : PageForm) (number : ℕ) (stop : Option StripFault) (others : List (List (List Colour))) (cause : Option Cause)
+-- what comes after a strip, by how it ends
+behind_strip : (directory : TiffDirectory) (form : PageForm) (number : ℕ) (stop : Option StripFault) (others : List (List (List Colour)))
+    (cause : Option Cause)
     → AreStripsBehind directory form number stop others cause
     → ((stop ≡ None) × AreStrips directory.endian directory.file directory.offset form (number + 1) others cause)
     ⊎ ((fault : StripFault) × (stop ≡ Some fault) × (others ≡ []) × (cause ≡ Some (Strip fault)))
@@ -244,9 +253,17 @@ module _ (page : PageState) (bytes : List ℕ) (read : ℕ) (begins : page.strip
   own_strip = record { left = left.left; lines = rw begins at left.lines }
 
   -- what is left of it are all strips from this one on
-  pub strips_from_here : AreStrips page.directory.endian page.directory.file page.directory.offset page.form page.number (left.own ∷ left.others) cause
-  strips_from_here =
-      (within, bytes, left.stop, there, own_strip, behind_strip page.directory page.form page.number left.stop left.others cause left.behind)
+  pub strips_from_here : AreStrips page.directory.endian page.directory.file page.directory.offset page.form page.number
+      (left.own ∷ left.others) cause
+  strips_from_here = (
+    within,
+    bytes,
+    left.stop,
+    there,
+    own_strip,
+    behind_strip page.directory page.form page.number left.stop left.others cause
+        left.behind,
+  )
 
 -- the next strip begins
 module _ (page : PageState) (bytes : List ℕ) (handed : List Colour)
@@ -265,7 +282,8 @@ module _ (page : PageState) (bytes : List ℕ) (handed : List Colour)
 
   same_row : row_of at_next ≡ row_of page
   same_row =
-      let count : page.strip.form.rows ≡ min page.form.rows_per_strip (page.form.rows - page.number * page.form.rows_per_strip) = ap (λ (f : StripForm). f.rows) form_is in
+      let count : page.strip.form.rows ≡ min page.form.rows_per_strip (page.form.rows - page.number * page.form.rows_per_strip) =
+      ap (λ (f : StripForm). f.rows) form_is in
       omega (arith, count, all_read, begins, add-mul page.number 1 page.form.rows_per_strip)
 
   still : (items : List Item) (end : End) → IsDueOnPage at_next items end → IsDueOnPage page items end
@@ -334,7 +352,18 @@ pub record Skips (old now : PageState) : Type 0 where
 
 pub none_skipped : (page : PageState) → IsOpen page → row_of page < page.form.rows → Skips page page
 none_skipped page at due =
-    record { due = λ items end d. d; to_go = refl; read = refl; some = omega arith; same_page = refl; same_first = refl; goes_on = stays page; is_open = at; row_due = due }
+    record {
+      due = λ items end d. d;
+      to_go = refl;
+      read = refl;
+      some = omega arith;
+      same_page = refl;
+      same_first = refl;
+      goes_on =
+          stays page;
+      is_open = at;
+      row_due = due;
+    }
 
 -- one more row before the first that is handed out
 pub one_skipped : (old now new : PageState) → Skips old now → ReadsPageRow now new → GoesOn now new → row_of new ≤ new.first → Skips old new
@@ -353,7 +382,8 @@ one_skipped old now new skips reads goes before =
     }
 
 -- the first row that is handed out
-pub row_given : (old now new : PageState) → Skips old now → ReadsPageRow now new → new.first < row_of new → new.read < 2 ^ 64 → GivesRow old new
+pub row_given : (old now new : PageState) → Skips old now → ReadsPageRow now new → new.first < row_of new → new.read < 2 ^ 64
+    → GivesRow old new
 row_given old now new skips reads behind few =
     let none : skipped now ≡ 0 = omega (arith, reads.next_row, reads.same_first, behind) in
     let row : row_of now ≡ row_of old + skipped old = omega (arith, skips.to_go, none) in

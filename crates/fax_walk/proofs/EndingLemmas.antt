@@ -1,5 +1,6 @@
--- Cursors behind which there is nothing but an end.
-use Rattle.std.proofs.Common.{◌≡◌, ℕ, ◌+◌, ◌<◌, ◌≤◌, Bool, true, false, List, length, Option, Some, None, Result, Ok, Err, inl, inr, refl, arith}
+-- Cursors after which there is nothing but an end.
+use Rattle.std.proofs.Common.{◌≡◌, ℕ, ◌+◌, ◌<◌, ◌≤◌, Bool, true, false, List, length, Option, Some, None, Result, Ok, Err, inl, inr, refl}
+use Rattle.std.proofs.Common.{arith}
 use Rattle.std.proofs.lemmas.Bool.Decides.{nat_tests}
 use Rattle.std.specs.Prelude.{slice_get, ◌==◌, ◌&&◌, if◌then◌else◌}
 use Rattle.std.proofs.lemmas.Option.{slice_get_past, slice_get_cases, slice_get_within}
@@ -23,7 +24,7 @@ none_past offsets i none = elim (slice_get_cases offsets i).1 [
   | inr past ↦ past.0
 ]
 
--- behind more pages than a chain has, all is outside
+-- after more pages than a chain has, all is outside
 outside_past : (pages : ℕ) (at : Cursor) → pages < at.page → end_past_chain pages None at ≡ Outside
 outside_past pages at past = let e : (at.page == pages) ≡ false = grind (arith, nat_tests, past) in rw e refl
 
@@ -46,7 +47,16 @@ proper_past pages at page row =
 module _ (file : List ℕ) (at : Cursor) where
   -- the header is refused
   pub header_refused : (fault : FileFault) → header file ≡ Err fault → EndsAt file at (Fault 0 0 (File fault))
-  header_refused fault refused = rw refused ((refl, refl), (Err (Fault 0 0 (File fault)), (Err (Fault 0 0 (File fault)), refl, refl), (refl, refl)), refl, λ bits runs. (refl, refl))
+  header_refused fault refused = rw refused (
+    (refl, refl),
+    (
+      Err (Fault 0 0 (File fault)),
+      (Err (Fault 0 0 (File fault)), refl, refl),
+      (refl, refl),
+    ),
+    refl,
+    λ bits runs. (refl, refl),
+  )
 
   module _ (head : Header) (is : header file ≡ Ok head) (one : HasOneChain head file) where
     -- the chain has no page of this number
@@ -75,14 +85,15 @@ module _ (file : List ℕ) (at : Cursor) where
         let end_is : end_past_chain (length one.offsets) one.end at ≡ Fault number 0 (File fault) = rw (met, count) refl in
         rw end_is at (past_chain (slice_get_past one.offsets at.page (omega (arith, few, before))))
 
-    -- a chain of as many pages ends properly, and the cursor names a row behind them
+    -- a chain of as many pages ends properly, and the cursor names a row after them
     pub row_behind : slice_get one.offsets at.page ≡ None → one.end ≡ None → 0 < at.row → EndsAt file at Outside
     row_behind none proper some =
         let end_is : end_past_chain (length one.offsets) one.end at ≡ Outside = rw proper (outside_row (length one.offsets) at some) in
         rw end_is at (past_chain none)
 
-    -- a chain of as many pages ends properly, and the cursor names the place behind them
-    pub place_behind : slice_get one.offsets at.page ≡ None → at.page ≤ length one.offsets → one.end ≡ None → at.row ≡ 0 → EndsAt file at Proper
+    -- a chain of as many pages ends properly, and the cursor names the place after them
+    pub place_behind : slice_get one.offsets at.page ≡ None → at.page ≤ length one.offsets → one.end ≡ None → at.row ≡ 0
+        → EndsAt file at Proper
     place_behind none within proper row =
         let few = none_past one.offsets at.page none in
         let end_is : end_past_chain (length one.offsets) one.end at ≡ Proper =
@@ -116,7 +127,8 @@ module _ (chain : ChainState) (good : header chain.tiff.file ≡ Ok chain.tiff.h
       fault_before chain.tiff.file at chain.tiff.head good one chain.given fault none.0 within none.1 past
 
 -- a directory stands there
-pub goes_on : (file : List ℕ) (number : ℕ) (chain new : ChainState) (answer : Result (Option TiffDirectory) FileFault) (directory : TiffDirectory)
+pub goes_on : (file : List ℕ) (number : ℕ) (chain new : ChainState) (answer : Result (Option TiffDirectory) FileFault)
+    (directory : TiffDirectory)
     → IsChainBefore file number chain → IsDueAnswer chain answer → answer ≡ Ok (Some directory) → new ≡ behind_answer chain answer
     → IsChainBefore file (number + 1) new
 goes_on file number chain new answer directory before due is counted =
@@ -133,12 +145,14 @@ goes_on file number chain new answer directory before due is counted =
 
 -- the chain ends before a cursor's page
 pub none_before : (file : List ℕ) (number : ℕ) (chain : ChainState) (answer : Result (Option TiffDirectory) FileFault) (at : Cursor)
-    → IsChainBefore file number chain → FilesHaveOneChain → IsDueAnswer chain answer → answer ≡ Ok None → number < at.page → EndsAt file at Outside
+    → IsChainBefore file number chain → FilesHaveOneChain → IsDueAnswer chain answer → answer ≡ Ok None → number < at.page
+    → EndsAt file at Outside
 none_before file number chain answer at before chains due is past =
     rw before.file_is at
     (none_met chain (rw before.file_is before.head) (chains chain.tiff.head chain.tiff.file) answer due at is (rw before.given past))
 
-pub fault_before_page : (file : List ℕ) (number : ℕ) (chain : ChainState) (answer : Result (Option TiffDirectory) FileFault) (at : Cursor) (fault : FileFault)
+pub fault_before_page : (file : List ℕ) (number : ℕ) (chain : ChainState) (answer : Result (Option TiffDirectory) FileFault) (at : Cursor)
+    (fault : FileFault)
     → IsChainBefore file number chain → FilesHaveOneChain → IsDueAnswer chain answer → answer ≡ Err fault → number ≤ at.page
     → EndsAt file at (Fault number 0 (File fault))
 fault_before_page file number chain answer at fault before chains due is past =

@@ -1,5 +1,6 @@
 -- A TIFF file that is converted page by page.
-use Rattle.std.proofs.Common.{◌≡◌, ◌≢◌, ℕ, ◌<◌, ◌≤◌, inr, max, Bool, true, false, List, [], ◌∷◌, ◌++◌, map, length, Option, Some, None, Result, Ok, Err, refl, sym, ap, ◌∙◌, subst, arith, append_assoc, append-nil, length-append}
+use Rattle.std.proofs.Common.{◌≡◌, ◌≢◌, ℕ, ◌<◌, ◌≤◌, inr, max, Bool, true, false, List, [], ◌∷◌, ◌++◌, map, length, Option, Some, None}
+use Rattle.std.proofs.Common.{Result, Ok, Err, refl, sym, ap, ◌∙◌, subst, arith, append_assoc, append-nil, length-append}
 use Rattle.std.specs.Prelude.{if◌then◌else◌, ◌==◌, not, IfOk, IfErr}
 use Rattle.std.proofs.lemmas.Bool.Decides.{nat_tests}
 use Rattle.fax_files.specs.declared.Cause.{Cause}
@@ -89,11 +90,13 @@ proper_chain : (p : ℕ) (fault : Option FileFault) → Proper ≡ chain_end p f
 proper_chain p None is = refl
 proper_chain p (Some fault) is = absurd cc
 
-no_first : (file : List ℕ) (endian : Endian) (q p : ℕ) (answer : Result PageForm FileFault) → FormsAt file p (page_or_end endian q p answer) [] Proper → ⊥
+no_first : (file : List ℕ) (endian : Endian) (q p : ℕ) (answer : Result PageForm FileFault)
+    → FormsAt file p (page_or_end endian q p answer) [] Proper → ⊥
 no_first file endian q p (Err refused) are = let is = are.1 in cc
 no_first file endian q p (Ok form) (others, forms_are, follows) = cc
 
-some_offsets : FilesHaveOneChain → (head : Header) (file : List ℕ) (fault : Option FileFault) (offsets : List ℕ) → header file ≡ Ok head → head.first ≢ 0
+some_offsets : FilesHaveOneChain → (head : Header) (file : List ℕ) (fault : Option FileFault) (offsets : List ℕ) → header file ≡ Ok head
+    → head.first ≢ 0
     → IsChain head file offsets fault → AreForms file [] Proper → ⊥
 some_offsets chains head file fault [] is some chain are =
     let at : Cursor = record { page = 0; row = 0 } in
@@ -120,11 +123,13 @@ some_pages chains file [] are = absurd (some_under chains file (header file) ref
 some_pages chains file (one ∷ forms) are = omega arith
 
 -- what is left of a reader at its beginning is its tail
-pub all_left : (file : List ℕ) (at : Cursor) (forms : List FormItem) (end : End) → AreFormsLeft (pages_from file at) forms end → IsFormTail file at forms end
+pub all_left : (file : List ℕ) (at : Cursor) (forms : List FormItem) (end : End) → AreFormsLeft (pages_from file at) forms end
+    → IsFormTail file at forms end
 all_left file at forms end left = subst (λ (l : List FormItem). IsFormTail file at l end) (sym left.rest) left.is
 
 -- the pages of a file are counted
-module _ (left_end : FormsLeftEnd) (file : List ℕ) (count : ℕ) (pages new : PagesView) (forms : List FormItem) (count_is : length forms ≡ count)
+module _ (left_end : FormsLeftEnd) (file : List ℕ) (count : ℕ) (pages new : PagesView) (forms : List FormItem)
+    (count_is : length forms ≡ count)
     (due : (more : List FormItem) (end : End) → AreFormsLeft pages more end → AreForms file (forms ++ more) end) where
   pub counted_at_end : (end : End) → PagesHaveEnded pages end new → IsPageCount file count
   counted_at_end end ended = record {
@@ -148,12 +153,14 @@ none_written file options total pages walk output tail form_tail pages_is walk_i
   items = [];
   converted = [];
   whole = (refl, refl);
-  forms_due = λ more end due. (form_tail file more end).0 (all_left file start more end (subst (λ (p : PagesView). AreFormsLeft p more end) pages_is due));
+  forms_due = λ more end due. (form_tail file more end).0 (all_left file start more end
+      (subst (λ (p : PagesView). AreFormsLeft p more end) pages_is due));
   items_due = λ more end due. (tail file more end).0 (subst (λ (w : WalkState). IsDue w more end) walk_is due);
   written = begun;
 }
 
-module _ (go_on : FormsLeftGoOn) (left_end : FormsLeftEnd) (one : FilesHaveOneForms) (chains : FilesHaveOneChain) (whole : FormsAreWhole) (file : List ℕ) (options : Options) (total count : ℕ)
+module _ (go_on : FormsLeftGoOn) (left_end : FormsLeftEnd) (one : FilesHaveOneForms) (chains : FilesHaveOneChain) (whole : FormsAreWhole)
+    (file : List ℕ) (options : Options) (total count : ℕ)
     (counted : IsPageCount file count) (total_is : total ≡ max count 1) (pages : PagesView) (walk : WalkState) (output : Output)
     (so_far : ArePagesWritten file options total pages walk output) where
   abbrev pub now : Progress
@@ -181,7 +188,8 @@ module _ (go_on : FormsLeftGoOn) (left_end : FormsLeftEnd) (one : FilesHaveOneFo
     pub page_due : (items : List Item) (end : End) → IsDue walk items end → BeginsWithPage item.form.width item.form.rows items end
     page_due items end due =
         (pages_passed so_far.forms (item ∷ left.0) left.1 so_far.items items end so_far.converted so_far.whole
-        (file_pages chains whole file (so_far.forms ++ item ∷ left.0) left.1 (so_far.items ++ items) end all_forms (so_far.items_due items end due))).0
+        (file_pages chains whole file (so_far.forms ++ item ∷ left.0) left.1 (so_far.items ++ items) end all_forms
+        (so_far.items_due items end due))).0
 
     pub page_written : (begun : Output) (new_walk : WalkState) (put new_output : Output)
         → (rows : ConvertsRows walk begun (form_sheet item.form) new_walk put)
@@ -203,7 +211,16 @@ module _ (go_on : FormsLeftGoOn) (left_end : FormsLeftEnd) (one : FilesHaveOneFo
   pub rows_refused : IsTiff file → (fault : ConvertFault) → EndsWith walk fault → IsRefused file options fault
   rows_refused tiff fault ends =
       subst (IsRefused file options) (sym ends.fault_is)
-      (inr (inr (tiff, so_far.items ++ ends.items, ends.page, ends.row, ends.cause, so_far.items_due ends.items (Fault ends.page ends.row ends.cause) ends.due, refl)))
+      (inr (inr (
+        tiff,
+        so_far.items ++ ends.items,
+        ends.page,
+        ends.row,
+        ends.cause,
+        so_far.items_due ends.items
+            (Fault ends.page ends.row ends.cause) ends.due,
+        refl,
+      )))
 
   module _ (end : End) (ended : AreFormsLeft pages [] end) (left : (items : List Item) × (item_end : End) × IsDue walk items item_end) where
     forms_end : AreForms file so_far.forms end
@@ -212,7 +229,8 @@ module _ (go_on : FormsLeftGoOn) (left_end : FormsLeftEnd) (one : FilesHaveOneFo
     items_end : AreItems file so_far.items end
     items_end =
         let passed = pages_passed so_far.forms [] end so_far.items left.0 left.1 so_far.converted so_far.whole
-        (file_pages chains whole file (so_far.forms ++ []) end (so_far.items ++ left.0) left.1 (so_far.forms_due [] end ended) (so_far.items_due left.0 left.1 left.2)) in
+        (file_pages chains whole file (so_far.forms ++ []) end (so_far.items ++ left.0) left.1 (so_far.forms_due [] end ended)
+        (so_far.items_due left.0 left.1 left.2)) in
         subst (λ (l : List Item). AreItems file l end) (ap (λ (l : List Item). so_far.items ++ l) passed.0 ∙ append-nil so_far.items)
         (subst (λ (e : End). AreItems file (so_far.items ++ left.0) e) passed.1 (so_far.items_due left.0 left.1 left.2))
 
@@ -223,7 +241,8 @@ module _ (go_on : FormsLeftGoOn) (left_end : FormsLeftEnd) (one : FilesHaveOneFo
   pub not_outside : (new : PagesView) (fault : WalkFault) → IsNextPage pages (Err fault) new → fault ≢ CursorOutside
   not_outside new NoMemory ended = absurd ended
   not_outside new (AtRow p r cause) ended = λ is. cc
-  not_outside new CursorOutside ended = λ same. forms_inside chains file (so_far.forms ++ []) (so_far.forms_due [] Outside (left_end pages new Outside ended).0)
+  not_outside new CursorOutside ended =
+      λ same. forms_inside chains file (so_far.forms ++ []) (so_far.forms_due [] Outside (left_end pages new Outside ended).0)
 
   pub told : (new : PagesView) (fault : WalkFault) (answer : ConvertFault) → IsTiff file
       → (items : List Item) × (item_end : End) × IsDue walk items item_end → IsNextPage pages (Err fault) new → answer ≡ source_fault fault
@@ -233,7 +252,8 @@ module _ (go_on : FormsLeftGoOn) (left_end : FormsLeftEnd) (one : FilesHaveOneFo
       subst (IsRefused file options) (sym is) (pages_refused tiff p r cause (left_end pages new (Fault p r cause) ended).0 left)
   told new CursorOutside answer tiff left ended is not_memory = absurd (not_memory is)
 
-  module _ (tiff : IsTiff file) (ended : AreFormsLeft pages [] Proper) (left : (items : List Item) × (item_end : End) × IsDue walk items item_end) where
+  module _ (tiff : IsTiff file) (ended : AreFormsLeft pages [] Proper)
+      (left : (items : List Item) × (item_end : End) × IsDue walk items item_end) where
     pub all_written : length so_far.converted ≡ total
     all_written =
         let are = forms_end Proper ended left in
@@ -243,7 +263,15 @@ module _ (go_on : FormsLeftGoOn) (left_end : FormsLeftEnd) (one : FilesHaveOneFo
     pub file_converted : (result : List ℕ) → IsWhole now result → IsConverted file options result
     file_converted result is = record {
       pages = so_far.converted;
-      source = inr (tiff, so_far.forms, so_far.items, forms_end Proper ended left, items_end Proper ended left, pages_are so_far.forms so_far.items so_far.converted so_far.whole);
+      source = inr (
+        tiff,
+        so_far.forms,
+        so_far.items,
+        forms_end Proper ended left,
+        items_end Proper ended left,
+        pages_are so_far.forms
+            so_far.items so_far.converted so_far.whole,
+      );
       output_is = is.bytes_are;
       fits = is.fits;
     }
@@ -252,6 +280,14 @@ module _ (go_on : FormsLeftGoOn) (left_end : FormsLeftEnd) (one : FilesHaveOneFo
         → IsRefused file options OutputTooLarge
     file_too_large large = (
       so_far.converted,
-      inr (tiff, so_far.forms, so_far.items, forms_end Proper ended left, items_end Proper ended left, pages_are so_far.forms so_far.items so_far.converted so_far.whole),
+      inr (
+        tiff,
+        so_far.forms,
+        so_far.items,
+        forms_end Proper ended left,
+        items_end Proper ended left,
+        pages_are so_far.forms so_far.items
+            so_far.converted so_far.whole,
+      ),
       large,
     )

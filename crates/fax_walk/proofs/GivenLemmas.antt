@@ -1,5 +1,6 @@
 -- What a walk hands out has the number of the items before it.
-use Rattle.std.proofs.Common.{◌≡◌, ℕ, ◌+◌, zero, suc, List, [], ◌∷◌, ◌++◌, map, length, Some, Err, refl, sym, ap, ◌∙◌, arith, append-nil, append_assoc, inl, inr}
+use Rattle.std.proofs.Common.{◌≡◌, ℕ, ◌+◌, zero, suc, List, [], ◌∷◌, ◌++◌, map, length, Some, Err, refl, sym, ap, ◌∙◌, arith, append-nil}
+use Rattle.std.proofs.Common.{append_assoc, inl, inr}
 use Rattle.std.proofs.lemmas.List.{length-map, length_push}
 use Rattle.std.specs.Prelude.{slice_get}
 use Rattle.fax_walk.specs.declared.end.End.{End}
@@ -18,7 +19,8 @@ use Rattle.fax_walk.specs.PageLaws.{plain, RowTailsAreAsBefore}
 use Rattle.fax_walk.specs.code.Due.{WalkState, HasCome, IsDue}
 use Rattle.fax_walk.specs.code.Next.{HandsOut, HasEnded, IsGiven, EndsGiven, IsNext, IsAdvance, seen}
 
-at_number : (all : List Item) (before : List Items.Item) (item : Items.Item) (items : List Items.Item) (n : ℕ) → before ++ item ∷ items ≡ map plain all → length before ≡ n
+at_number : (all : List Item) (before : List Items.Item) (item : Items.Item) (items : List Items.Item) (n : ℕ)
+    → before ++ item ∷ items ≡ map plain all → length before ≡ n
     → (one : Item) × (slice_get all n ≡ Some one) × (plain one ≡ item)
 at_number [] [] item items n same count = absurd cc
 at_number [] (y ∷ before) item items n same count = absurd cc
@@ -33,7 +35,8 @@ at_number (x ∷ all) (y ∷ before) item items (suc n) same count =
 
 module _ (tails : RowTailsAreAsBefore) (walk : WalkState) (come : HasCome walk.file walk.begun walk.given walk.cursor walk.stage) where
   -- an item that is due first is number `given`
-  pub number_given : (new : WalkState) (item : Items.Item) → HandsOut walk item new → (items : List Items.Item) × (end : End) × IsDue new items end → IsGiven walk item
+  pub number_given : (new : WalkState) (item : Items.Item) → HandsOut walk item new
+      → (items : List Items.Item) × (end : End) × IsDue new items end → IsGiven walk item
   number_given new item hands (items, end, due) =
       let all = come (item ∷ items) end (hands.due items end due) in
       let tail = (tails walk.file walk.begun (all.0 ++ item ∷ items) end).0 all.3 in
@@ -45,7 +48,8 @@ module _ (tails : RowTailsAreAsBefore) (walk : WalkState) (come : HasCome walk.f
   ends_given end due =
       let all = come [] end due in
       let tail = (tails walk.file walk.begun (all.0 ++ []) end).0 all.3 in
-      let count : length tail.0 ≡ length (all.0 ++ []) = sym (length-map tail.0 plain) ∙ ap (λ (l : List Items.Item). length l) (sym tail.2) in
+      let count : length tail.0 ≡ length (all.0 ++ []) =
+      sym (length-map tail.0 plain) ∙ ap (λ (l : List Items.Item). length l) (sym tail.2) in
       (tail.0, tail.1, count ∙ ap (λ (l : List Items.Item). length l) (append-nil all.0) ∙ all.1)
 
   pub ended_given : (new : WalkState) (end : End) → HasEnded walk end new → HasEnded walk end new × EndsGiven walk end
@@ -63,7 +67,8 @@ module _ (tails : RowTailsAreAsBefore) (walk : WalkState) (come : HasCome walk.f
       elim all.2 [
         | inl (none, at) ↦ inl (sym all.1 ∙ ap (λ (l : List Items.Item). length l) none, begins_same walk.begun walk.cursor at)
         | inr (front, item, is, at) ↦
-            let parts : all.0 ++ items ≡ front ++ item ∷ items = ap (λ (l : List Items.Item). l ++ items) is ∙ append_assoc front (item ∷ []) items in
+            let parts : all.0 ++ items ≡ front ++ item ∷ items =
+            ap (λ (l : List Items.Item). l ++ items) is ∙ append_assoc front (item ∷ []) items in
             let tail = (tails walk.file walk.begun (all.0 ++ items) end).0 all.3 in
             let here = at_number tail.0 front item items (length front) (sym parts ∙ tail.2) refl in
             let count : walk.given ≡ length front + 1 = sym all.1 ∙ ap (λ (l : List Items.Item). length l) is ∙ length_push front item in

@@ -1,6 +1,7 @@
 -- A page that is read on, and the walk that reads it.
 use Rattle.std.specs.Prelude.{IfOk}
-use Rattle.std.proofs.Common.{◌≡◌, ℕ, ◌+◌, ◌<◌, ◌≤◌, ◌⊎◌, inl, inr, Bool, List, [], ◌∷◌, ◌++◌, length, drop, Option, Some, Result, Ok, Err, refl, sym, ap, ◌∙◌, arith, length-append}
+use Rattle.std.proofs.Common.{◌≡◌, ℕ, ◌+◌, ◌<◌, ◌≤◌, ◌⊎◌, inl, inr, Bool, List, [], ◌∷◌, ◌++◌, length, drop, Option, Some, Result, Ok, Err}
+use Rattle.std.proofs.Common.{refl, sym, ap, ◌∙◌, arith, length-append}
 use Rattle.fax_bits.specs.Bits.{bits}
 use Rattle.fax_bits.specs.declared.Colour.{Colour}
 use Rattle.fax_page.specs.declared.StripFault.{StripFault}
@@ -60,7 +61,8 @@ module _ (old : PageState) (strip : StripState) (handed : List Colour) (reads : 
     abbrev rest : List Bool
     rest = drop strip.place (bits old.form.order old.strip.bytes)
 
-    line : AreLinesUpTo form (read.first + length read.rows) old.strip.reference (drop old.strip.place (bits old.form.order old.strip.bytes)) (strip.reference ∷ []) strip.reference rest
+    line : AreLinesUpTo form (read.first + length read.rows) old.strip.reference
+        (drop old.strip.place (bits old.form.order old.strip.bytes)) (strip.reference ∷ []) strip.reference rest
     line =
         let row : old.strip.row ≡ read.first + length read.rows = read.count in
         let due = rw reached.form_is at reads.due in
@@ -74,7 +76,8 @@ module _ (old : PageState) (strip : StripState) (handed : List Colour) (reads : 
       b = read.b;
       from = read.from;
       rows = read.rows ++ strip.reference ∷ [];
-      lines = joined_lines form read.first read.reference read.b read.rows old.strip.reference (drop old.strip.place (bits old.form.order old.strip.bytes)) (strip.reference ∷ []) strip.reference rest read.lines line;
+      lines = joined_lines form read.first read.reference read.b read.rows old.strip.reference
+          (drop old.strip.place (bits old.form.order old.strip.bytes)) (strip.reference ∷ []) strip.reference rest read.lines line;
       count = omega (arith, reads.next_row, read.count, length-append read.rows (strip.reference ∷ []));
     }
 
@@ -99,7 +102,8 @@ module _ (old : PageState) (strip : StripState) (handed : List Colour) (reads : 
   }
 
 -- a fault is met
-pub fault_goes_on : (page : PageState) (fault : Option StripFault) → GoesOn page (record page { strip = record page.strip { fault = fault } })
+pub fault_goes_on : (page : PageState) (fault : Option StripFault)
+    → GoesOn page (record page { strip = record page.strip { fault = fault } })
 fault_goes_on page fault = record {
   same_page = refl;
   same_chain = refl;
@@ -116,10 +120,12 @@ fault_goes_on page fault = record {
   };
 }
 
--- a strip that begins is read from its beginning by a walk whose place stands in none behind
-pub begins_reached : (page : PageState) (begun : Begun) (bytes : List ℕ) (count : ℕ) → page.strip ≡ strip_behind count (strip_form page.form page.number) bytes
+-- a strip that begins is read from its beginning by a walk whose place stands in none after
+pub begins_reached : (page : PageState) (begun : Begun) (bytes : List ℕ) (count : ℕ)
+    → page.strip ≡ strip_behind count (strip_form page.form page.number) bytes
     → bytes_of page.directory page.number ≡ Some bytes
-    → ((place : LongPlace) → begun ≡ Inside place → (place.at.page < page.page) ⊎ ((place.at.page ≡ page.page) × (strip_at page.form place.at.row < page.number)))
+    → ((place : LongPlace) → begun ≡ Inside place
+    → (place.at.page < page.page) ⊎ ((place.at.page ≡ page.page) × (strip_at page.form place.at.row < page.number)))
     → IsReached begun page
 begins_reached page begun bytes count strip_is there before = rw strip_is (record {
   bytes_are = there;
@@ -137,7 +143,8 @@ begins_reached page begun bytes count strip_is there before = rw strip_is (recor
   not_behind = not_behind begun before;
 })
   where
-    from : (begun : Begun) → ((place : LongPlace) → begun ≡ Inside place → (place.at.page < page.page) ⊎ ((place.at.page ≡ page.page) × (strip_at page.form place.at.row < page.number)))
+    from : (begun : Begun) → ((place : LongPlace) → begun ≡ Inside place
+        → (place.at.page < page.page) ⊎ ((place.at.page ≡ page.page) × (strip_at page.form place.at.row < page.number)))
         → ReadsFrom begun page.page page.form page.number bytes 0 (white_row page.form.width) (bits page.form.order bytes)
     from (At at) before = (refl, refl, refl)
     from (Inside place) before = inr (
@@ -148,7 +155,8 @@ begins_reached page begun bytes count strip_is there before = rw strip_is (recor
       (refl, refl, refl),
     )
 
-    not_behind : (begun : Begun) → ((place : LongPlace) → begun ≡ Inside place → (place.at.page < page.page) ⊎ ((place.at.page ≡ page.page) × (strip_at page.form place.at.row < page.number)))
+    not_behind : (begun : Begun) → ((place : LongPlace) → begun ≡ Inside place
+        → (place.at.page < page.page) ⊎ ((place.at.page ≡ page.page) × (strip_at page.form place.at.row < page.number)))
         → IsNotBehind begun page.page page.form page.number
     not_behind (At at) before = tt
     not_behind (Inside place) before = elim (before place refl) [
@@ -157,8 +165,10 @@ begins_reached page begun bytes count strip_is there before = rw strip_is (recor
     ]
 
 -- the next strip begins
-pub next_goes_on : (old new : PageState) (bytes : List ℕ) → row_of new ≡ row_of old → new ≡ record old { number = old.number + 1; strip = new.strip; shown = new.shown }
-    → new.strip ≡ strip_behind old.strip.read (strip_form old.form (old.number + 1)) bytes → bytes_of old.directory (old.number + 1) ≡ Some bytes → GoesOn old new
+pub next_goes_on : (old new : PageState) (bytes : List ℕ) → row_of new ≡ row_of old
+    → new ≡ record old { number = old.number + 1; strip = new.strip; shown = new.shown }
+    → new.strip ≡ strip_behind old.strip.read (strip_form old.form (old.number + 1)) bytes
+    → bytes_of old.directory (old.number + 1) ≡ Some bytes → GoesOn old new
 next_goes_on old new bytes row new_is strip_is there = rw new_is (record {
   same_page = refl;
   same_chain = refl;
@@ -166,7 +176,8 @@ next_goes_on old new bytes row new_is strip_is there = rw new_is (record {
   same_form = refl;
   count = let same = rw new_is at row in omega (arith, same);
   strips = omega arith;
-  reached = λ begun reached. begins_reached (record old { number = old.number + 1; strip = new.strip; shown = new.shown }) begun bytes old.strip.read strip_is there
+  reached = λ begun reached. begins_reached (record old { number = old.number + 1; strip = new.strip; shown = new.shown }) begun bytes
+      old.strip.read strip_is there
       (λ place is. elim (at_place begun place reached.not_behind is) [
         | inl earlier ↦ inl earlier
         | inr strip ↦ inr (strip.0, let less = strip.1 in omega (arith, less))
@@ -178,7 +189,9 @@ next_goes_on old new bytes row new_is strip_is there = rw new_is (record {
     at_place begun place is begun_is = rw begun_is at is
 
 -- a page that was opened at a strip's beginning, for a walk that began at a cursor
-pub first_reached : (begun : Begun) (at : Cursor) (result : Result PageState OpenFault) → begun ≡ At at → IfOk result IsAtStrip → IfOk result (IsReached begun)
+pub first_reached : (begun : Begun) (at : Cursor) (result : Result PageState OpenFault) → begun ≡ At at → IfOk result IsAtStrip
+    → IfOk result (IsReached begun)
 first_reached begun at (Ok page) is at_strip =
-    begins_reached page begun page.strip.bytes page.strip.read at_strip.strip_is at_strip.bytes_are (λ place inside. absurd (cc (is, inside)))
+    begins_reached page begun page.strip.bytes page.strip.read at_strip.strip_is at_strip.bytes_are
+    (λ place inside. absurd (cc (is, inside)))
 first_reached begun at (Err refused) is at_strip = at_strip

@@ -1,5 +1,6 @@
 -- Images that are converted.
-use Rattle.std.proofs.Common.{◌≡◌, ◌≢◌, ℕ, zero, suc, ◌+◌, ◌*◌, ◌<◌, ◌≤◌, inl, inr, List, [], ◌∷◌, ◌++◌, length, map, take, drop, Some, None, refl, sym, ap, ◌∙◌, subst, arith, append_assoc, append-nil, length-append, length-take, length-drop}
+use Rattle.std.proofs.Common.{◌≡◌, ◌≢◌, ℕ, zero, suc, ◌+◌, ◌*◌, ◌<◌, ◌≤◌, inl, inr, List, [], ◌∷◌, ◌++◌, length, map, take, drop, Some}
+use Rattle.std.proofs.Common.{None, refl, sym, ap, ◌∙◌, subst, arith, append_assoc, append-nil, length-append, length-take, length-drop}
 use Rattle.std.specs.Prelude.{flat_map}
 use Rattle.std.proofs.lemmas.List.{length-map, drop-drop, map-append, length_push, nil_from_length}
 use Rattle.fax_bits.specs.Bits.{bits, byte_bits, code_bits}
@@ -35,7 +36,8 @@ raster_next width (suc n) bytes =
     let place : len + n * len ≡ suc n * len = omega arith in
     ap (λ (i : ℕ). raster_rows width i bytes) count
     ∙ ap (λ (l : List (List Colour)). unpacked_row width (take len bytes) ∷ l) (raster_next width n (drop len bytes))
-    ∙ ap (λ (l : List ℕ). unpacked_row width (take len bytes) ∷ (raster_rows width n (drop len bytes) ++ unpacked_row width (take len l) ∷ []))
+    ∙ ap (λ (l : List ℕ). unpacked_row width (take len bytes)
+    ∷ (raster_rows width n (drop len bytes) ++ unpacked_row width (take len l) ∷ []))
     (drop-drop (n * len) len bytes ∙ ap (λ (i : ℕ). drop i bytes) place)
 
 bits_count : (bytes : List ℕ) → length (bits MsbFirst bytes) ≡ 8 * length bytes
@@ -69,7 +71,8 @@ image_left_out output width height raster large enough = λ at written. record {
   has = rw large (rw large at written.has);
 }
 
-some_by : (images : List Image) (bytes : List ℕ) → IsPbm bytes → AreImages bytes images None → (total : ℕ) → length images ≡ total → 1 ≤ total
+some_by : (images : List Image) (bytes : List ℕ) → IsPbm bytes → AreImages bytes images None → (total : ℕ) → length images ≡ total
+    → 1 ≤ total
 some_by [] bytes pbm (inl none) total count = let spelled = sym none.0 ∙ pbm.1 in absurd cc
 some_by [] bytes pbm (inr fault) total count = absurd cc
 some_by (image ∷ images) bytes pbm are total count = omega (arith, count)
@@ -85,7 +88,8 @@ module _ (reads : ImagesAreReadInOneWay) (begins : ImagesBeginInOneWay) where
   no_end left [] are some empty = omega arith
   no_end left (image ∷ rest) are some empty = no_bytes image are.0 (subst (λ (l : List ℕ). IsImage l image are.0) empty are.1)
 
-  pub no_fault : (left : List ℕ) (rest : List Image) (fault : PbmFault) → AreImages left rest None → (left ≢ []) × IsImageFault left fault → ⊥
+  pub no_fault : (left : List ℕ) (rest : List Image) (fault : PbmFault) → AreImages left rest None → (left ≢ []) × IsImageFault left fault
+      → ⊥
   no_fault left rest fault are is =
       let same = reads left rest [] None (Some fault) are (inr (fault, is.0, is.1, refl)) in
       let no : ⊥ = cc (same.1) in no
@@ -100,7 +104,8 @@ module _ (reads : ImagesAreReadInOneWay) (begins : ImagesBeginInOneWay) where
       (rest, ap (λ (i : Image). i ∷ rest) one.0, subst (λ (l : List ℕ). AreImages l rest None) one.1 are.2)
 
 -- the images before the first one
-pub images_begun : (bytes : List ℕ) (options : Options) (total : ℕ) (output : Output) → IsImageCount bytes total → IsBeginning options total output
+pub images_begun : (bytes : List ℕ) (options : Options) (total : ℕ) (output : Output) → IsImageCount bytes total
+    → IsBeginning options total output
     → AreImagesWritten bytes bytes options total 0 output
 images_begun bytes options total output counted begun = record {
   before = [];
@@ -113,7 +118,8 @@ images_begun bytes options total output counted begun = record {
 }
 
 -- an image more
-module _ (bytes left : List ℕ) (options : Options) (total count : ℕ) (output : Output) (so_far : AreImagesWritten bytes left options total count output) where
+module _ (bytes left : List ℕ) (options : Options) (total count : ℕ) (output : Output)
+    (so_far : AreImagesWritten bytes left options total count output) where
   abbrev pub at : Progress
   at = record { options = options; total = total; pages = map page_of_image so_far.before }
 
@@ -123,8 +129,10 @@ module _ (bytes left : List ℕ) (options : Options) (total count : ℕ) (output
   pub pages_fewer : count < total → length at.pages < total
   pages_fewer fewer = omega (arith, length-map so_far.before page_of_image, so_far.count_is)
 
-  pub image_written : (image : Image) (next : List ℕ) (later : List Image) (new : Output) → so_far.rest ≡ image ∷ later → AreImages next later None
-      → IsWrittenTo new (record at { pages = at.pages ++ page_of_image image ∷ [] }) → AreImagesWritten bytes next options total (count + 1) new
+  pub image_written : (image : Image) (next : List ℕ) (later : List Image) (new : Output) → so_far.rest ≡ image ∷ later
+      → AreImages next later None
+      → IsWrittenTo new (record at { pages = at.pages ++ page_of_image image ∷ [] })
+      → AreImagesWritten bytes next options total (count + 1) new
   image_written image next later new rest_is are written =
       let same : so_far.before ++ so_far.rest ≡ (so_far.before ++ image ∷ []) ++ later =
       ap (λ (l : List Image). so_far.before ++ l) rest_is ∙ sym (append_assoc so_far.before (image ∷ []) later) in
@@ -139,14 +147,16 @@ module _ (bytes left : List ℕ) (options : Options) (total count : ℕ) (output
             (sym (map-append page_of_image so_far.before (image ∷ []))) written;
       }
 
-  -- behind the last image
+  -- after the last image
   pub all_written : count ≡ total → length at.pages ≡ total
   all_written last = length-map so_far.before page_of_image ∙ so_far.count_is ∙ last
 
   whole_source : count ≡ total → AreImages bytes so_far.before None
   whole_source last =
-      let none : so_far.rest ≡ [] = nil_from_length so_far.rest (omega (arith, length-append so_far.before so_far.rest, so_far.total_is, so_far.count_is)) in
-      subst (λ (l : List Image). AreImages bytes l None) (ap (λ (l : List Image). so_far.before ++ l) none ∙ append-nil so_far.before) so_far.all
+      let none : so_far.rest ≡ [] =
+      nil_from_length so_far.rest (omega (arith, length-append so_far.before so_far.rest, so_far.total_is, so_far.count_is)) in
+      subst (λ (l : List Image). AreImages bytes l None) (ap (λ (l : List Image). so_far.before ++ l) none ∙ append-nil so_far.before)
+      so_far.all
 
   pub converted_images : IsPbm bytes → count ≡ total → (result : List ℕ) → IsWhole at result → IsConverted bytes options result
   converted_images pbm last result whole = record {

@@ -1,5 +1,6 @@
 -- What is handed out in order: one answer at each place makes one list, and what follows an item begins after it.
-use Rattle.std.proofs.Common.{◌≡◌, ℕ, zero, suc, ◌+◌, List, [], ◌∷◌, ◌++◌, length, take, drop, Some, Result, Ok, Err, refl, sym, ap, ◌∙◌, subst, arith, append_assoc}
+use Rattle.std.proofs.Common.{◌≡◌, ℕ, zero, suc, ◌+◌, List, [], ◌∷◌, ◌++◌, length, take, drop, Some, Result, Ok, Err, refl, sym, ap, ◌∙◌}
+use Rattle.std.proofs.Common.{subst, arith, append_assoc}
 use Rattle.std.proofs.lemmas.List.{take-append-drop}
 use Rattle.std.specs.Prelude.{slice_get}
 use Rattle.fax_walk.specs.declared.end.End.{End}
@@ -91,7 +92,8 @@ module _ {S A : Type 0} (next : S → Result (A × S) End → Type 0) where
   leads_on at to (x ∷ items) item later (place, first, leads) step = (place, first, leads_on place to items item later leads step)
 
   -- items that lead to a place, and then what is handed out from there
-  pub joined : (at to : S) (items after : List A) (end : End) → LeadTo next at items to → AreFrom next to after end → AreFrom next at (items ++ after) end
+  pub joined : (at to : S) (items after : List A) (end : End) → LeadTo next at items to → AreFrom next to after end
+      → AreFrom next at (items ++ after) end
   joined at to [] after end to_is rest = subst (λ (s : S). AreFrom next s after end) to_is rest
   joined at to (x ∷ items) after end (place, step, leads) rest = (place, step, joined place to items after end leads rest)
 
@@ -130,9 +132,11 @@ module _ {S A : Type 0} (next : S → Result (A × S) End → Type 0) where
   nothing n item e = cc
 
   -- item number n and what is handed out after it
-  pub split_at_number : (begin : Result (S × ℕ) End) (all : List A) (end : End) (n : ℕ) (item : A) → AreBegun next begin all end → slice_get all n ≡ Some item
+  pub split_at_number : (begin : Result (S × ℕ) End) (all : List A) (end : End) (n : ℕ) (item : A) → AreBegun next begin all end
+      → slice_get all n ≡ Some item
       → IsSplit begin item (drop (n + 1) all) end
-  split_at_number (Err none) all end n item are there = absurd (nothing n item (subst (λ (l : List A). slice_get l n ≡ Some item) are.0 there))
+  split_at_number (Err none) all end n item are there =
+      absurd (nothing n item (subst (λ (l : List A). slice_get l n ≡ Some item) are.0 there))
   split_at_number (Ok (from, k)) all end n item (whole, are, all_is) there =
       let split = divided_at all n item there in
       let after = drop (n + 1) all in

@@ -13,7 +13,8 @@ use Rattle.fax_walk.specs.PagesLeft.{PagesView, AreFormsLeft}
 use Rattle.fax_walk.specs.PagesLeft as OfPages
 use Rattle.fax_walk.specs.Rows.{Item, IsTailFrom, cursor_after}
 use Rattle.fax_walk.specs.Left.{IsTailOf, begins_inside}
-use Rattle.fax_walk.specs.PageLaws.{BeginningsHaveOneTail, CursorsHaveOneFormTail, FormsLeftGoOn, FormsLeftEnd, TailsGoOn, LongTailsGoOn, LeftIsOne, LeftGoesOn, LeftEnds, LeftIsTail, LeftIsLongTail}
+use Rattle.fax_walk.specs.PageLaws.{BeginningsHaveOneTail, CursorsHaveOneFormTail, FormsLeftGoOn, FormsLeftEnd, TailsGoOn, LongTailsGoOn}
+use Rattle.fax_walk.specs.PageLaws.{LeftIsOne, LeftGoesOn, LeftEnds, LeftIsTail, LeftIsLongTail}
 use Rattle.fax_walk.proofs.InOrderLemmas.{divided_at}
 
 -- the item at a number is the first of what is left there
@@ -26,7 +27,8 @@ told_none : {A : Type 0} (told : Option End) (items : List A) (end : End) → to
 told_none None items end e = tt
 told_none (Some told) items end e = absurd cc
 
-told_nothing : {A : Type 0} (tail : List A → End → Type 0) (told : Option End) (end : End) → HasToldNoOther told end → IsTold {A = A} told [] end
+told_nothing : {A : Type 0} (tail : List A → End → Type 0) (told : Option End) (end : End) → HasToldNoOther told end
+    → IsTold {A = A} told [] end
 told_nothing tail None end no_other = tt
 told_nothing tail (Some told) end no_other = (refl, sym no_other)
 
@@ -61,7 +63,8 @@ module _ {A : Type 0} (tail : List A → End → Type 0) (one : IsOne tail) wher
         is_told = told_none told (item ∷ items) end none;
       }
 
-  left_at_end : (given : ℕ) (told : Option End) (end : End) → IsTold {A = A} told [] end → EndsAfter tail given end → IsLeftOf tail given told [] end
+  left_at_end : (given : ℕ) (told : Option End) (end : End) → IsTold {A = A} told [] end → EndsAfter tail given end
+      → IsLeftOf tail given told [] end
   left_at_end given told end is_told (all, is, count) = record {
     all = all;
     is = is;
@@ -82,7 +85,8 @@ forms_left_end tails old new end ended =
     let tail = OfPages.IsTailOf old in
     let one = tails old.file old.begun in (
       left_at_end tail one old.given old.told end (told_nothing tail old.told end ended.no_other) ended.ends,
-      subst (λ (v : PagesView). AreFormsLeft v [] end) (sym ended.new_is) (left_at_end tail one old.given (Some end) end (refl, refl) ended.ends),
+      subst (λ (v : PagesView). AreFormsLeft v [] end) (sym ended.new_is)
+          (left_at_end tail one old.given (Some end) end (refl, refl) ended.ends),
     )
 
 module _ (tails : BeginningsHaveOneTail) where
@@ -120,7 +124,8 @@ module _ (tails : BeginningsHaveOneTail) where
   pub left_is_long_tail : LongTailsGoOn → LeftIsLongTail
   left_is_long_tail go_on walk items end place left (inl (none, place_is)) =
       let all : left.all ≡ items = sym (left.rest ∙ ap (λ (n : ℕ). drop n left.all) none) in
-      from_inside walk.file walk.begun place items end place_is (subst (λ (l : List Item). IsTailFrom walk.file walk.begun l end) all left.is)
+      from_inside walk.file walk.begun place items end place_is (subst (λ (l : List Item). IsTailFrom walk.file walk.begun l end) all
+      left.is)
   left_is_long_tail go_on walk items end place left (inr (before, item, here, count, number, page, place_is)) =
       let there = number_in (IsTailOf walk) (tails walk.file walk.begun) left.all end before item left.is number in
       let tail = go_on walk.file walk.begun left.all end before item here place left.is there page (sym place_is) in

@@ -1,5 +1,6 @@
 -- A long cursor's text is cut at its colons and commas, and its numbers are read.
-use Rattle.std.proofs.Common.{◌≡◌, ◌≢◌, ℕ, ◌^◌, ◌<◌, ◌-◌, List, [], ◌∷◌, ◌++◌, length, get_or, refl, ap, sym, ◌∙◌, append_assoc, length-append, arith}
+use Rattle.std.proofs.Common.{◌≡◌, ◌≢◌, ℕ, ◌^◌, ◌<◌, ◌-◌, List, [], ◌∷◌, ◌++◌, length, get_or, refl, ap, sym, ◌∙◌, append_assoc}
+use Rattle.std.proofs.Common.{length-append, arith}
 use Rattle.std.specs.Prelude.{Option, MatchOption, Some, None, decimal, flat_map}
 use Rattle.std.specs.Borrow.{Bor}
 use Rattle.std.specs.List.{All}
@@ -21,7 +22,7 @@ no_comma n small = not_in_digits numerals (decimal n) 44 (digits_decimal numeral
 abbrev pub run_and : ℕ → List ℕ
 run_and run = decimal run ++ 44 ∷ []
 
--- runs behind the first one, and in front of the last
+-- runs after the first one, and in front of the last
 behind_first : (runs : List ℕ) (last : ℕ) → flat_map and_run (runs ++ last ∷ []) ≡ 44 ∷ (flat_map run_and runs ++ decimal last)
 behind_first [] last = append-nil (44 ∷ decimal last)
 behind_first (run ∷ runs) last =
@@ -37,7 +38,8 @@ runs_text-push (run ∷ runs) last =
     ∙ sym (append_assoc (decimal run) (44 ∷ []) (flat_map run_and runs ++ decimal last))
     ∙ sym (append_assoc (run_and run) (flat_map run_and runs) (decimal last))
 
-more_cut : (runs : List ℕ) (run : ℕ) (rest : List ℕ) → flat_map run_and (runs ++ run ∷ []) ++ rest ≡ flat_map run_and runs ++ (decimal run ++ 44 ∷ rest)
+more_cut : (runs : List ℕ) (run : ℕ) (rest : List ℕ)
+    → flat_map run_and (runs ++ run ∷ []) ++ rest ≡ flat_map run_and runs ++ (decimal run ++ 44 ∷ rest)
 more_cut [] run rest =
     ap (λ front. front ++ rest) (append-nil (run_and run)) ∙ append_assoc (decimal run) (44 ∷ []) rest
 more_cut (first ∷ runs) run rest =
@@ -58,7 +60,7 @@ pub record IsRunText (text : List ℕ) : Type 0 where
   pub short : run < 2 ^ 32
   pub text_is : text ≡ decimal run
 
--- These runs stand in front of the rest of a text, each with a comma behind it; where the text is that of some runs, so
+-- These runs stand in front of the rest of a text, each with a comma after it; where the text is that of some runs, so
 -- is the rest
 pub record AreRunsCut (text runs rest : List ℕ) : Type 0 where
   pub parts : text ≡ flat_map run_and runs ++ rest
@@ -67,7 +69,7 @@ pub record AreRunsCut (text runs rest : List ℕ) : Type 0 where
 pub none_cut : (text : List ℕ) → AreRunsCut text [] text
 none_cut text = record { parts = refl; others = λ is. is }
 
--- the text before a comma is a run's, and behind it stand the others
+-- the text before a comma is a run's, and after it stand the others
 before_comma : (rest : List ℕ) (run behind : Bor (List ℕ)) → IsSplitOnceResult 44 rest (Some (run, behind))
     → (runs : List ℕ) → All (λ n. n < 2 ^ 32) runs → 0 < length runs → rest ≡ runs_text runs
     → IsRunText run.now × IsRunsText behind.now
@@ -165,7 +167,8 @@ two = decimal_digit 2 (omega arith)
 
 -- a long cursor's text, number by number
 pub text_by_numbers : (place : LongPlace)
-    → long_cursor_text place ≡ number_and 2 (number_and place.at.page (number_and place.at.row (number_and place.bits (runs_text place.runs))))
+    → long_cursor_text place ≡ number_and 2 (number_and place.at.page
+    (number_and place.at.row (number_and place.bits (runs_text place.runs))))
 text_by_numbers place = rw two (simp append_assoc)
 
 -- a text of these numbers is a long cursor's

@@ -1,5 +1,6 @@
 -- Lines that are read on, and rows by their runs.
-use Rattle.std.proofs.Common.{◌≡◌, ℕ, zero, suc, ◌+◌, ◌≤◌, Bool, List, [], ◌∷◌, ◌++◌, length, replicate, Option, Some, None, refl, sym, ap, ◌∙◌, arith}
+use Rattle.std.proofs.Common.{◌≡◌, ℕ, zero, suc, ◌+◌, ◌≤◌, Bool, List, [], ◌∷◌, ◌++◌, length, replicate, Option, Some, None, refl, sym, ap}
+use Rattle.std.proofs.Common.{◌∙◌, arith}
 use Rattle.fax_bits.specs.declared.Colour.{Colour}
 use Rattle.fax_bits.specs.declared.Colour.TheVariants.{White, Black}
 use Rattle.fax_rows.specs.Elements.{pels_of, runs_behind, runs_of}
@@ -13,22 +14,27 @@ use Rattle.fax_walk.proofs.WidthLemmas.{row_in}
 abbrev pub LinesAreRead : Type 0
 LinesAreRead = (form : StripForm) (i : ℕ) (reference : List Colour) → ReadsLinesOneWay form i reference
 
--- lines go on behind those that were read
-pub record GoesFrom (form : StripForm) (i : ℕ) (rows read : List (List Colour)) (last : List Colour) (rest : List Bool) (end : Option StripFault) (left : List Bool) : Type 0 where
+-- lines go on after those that were read
+pub record GoesFrom (form : StripForm) (i : ℕ) (rows read : List (List Colour)) (last : List Colour) (rest : List Bool)
+    (end : Option StripFault) (left : List Bool) : Type 0 where
   pub more : List (List Colour)
   pub rows_are : rows ≡ read ++ more
   pub lines : AreLines form (i + length read) last rest more end left
 
-pub goes_from : LinesAreRead → (form : StripForm) (i : ℕ) (reference : List Colour) (b : List Bool) (rows : List (List Colour)) (end : Option StripFault) (left : List Bool)
+pub goes_from : LinesAreRead → (form : StripForm) (i : ℕ) (reference : List Colour) (b : List Bool) (rows : List (List Colour))
+    (end : Option StripFault) (left : List Bool)
     (read : List (List Colour)) (last : List Colour) (rest : List Bool)
-    → AreLines form i reference b rows end left → AreLinesUpTo form i reference b read last rest → GoesFrom form i rows read last rest end left
+    → AreLines form i reference b rows end left → AreLinesUpTo form i reference b read last rest
+    → GoesFrom form i rows read last rest end left
 goes_from lines_read form i reference b rows end left [] last rest lines (last_is, rest_is) =
     let n : i + 0 ≡ i = omega arith in
     record { more = rows; rows_are = refl; lines = rw (n, ← last_is, ← rest_is) lines }
-goes_from lines_read form i reference b [] None left (row ∷ read) last rest lines (behind, due, line, after) = absurd (omega (arith, due, lines.1))
+goes_from lines_read form i reference b [] None left (row ∷ read) last rest lines (behind, due, line, after) =
+    absurd (omega (arith, due, lines.1))
 goes_from lines_read form i reference b [] (Some fault) left (row ∷ read) last rest lines (behind, due, line, after) =
     absurd ((lines_read form i reference).line_has_no_cause b row behind fault line lines.1.1)
-goes_from lines_read form i reference b (first ∷ rows) end left (row ∷ read) last rest (next, within, line, after) (behind, due, line', after') =
+goes_from lines_read form i reference b (first ∷ rows) end left (row ∷ read) last rest (next, within, line, after)
+    (behind, due, line', after') =
     let same = (lines_read form i reference).one_line b first row next behind line line' in
     let from : GoesFrom form (i + 1) rows read last rest end left =
     goes_from lines_read form (i + 1) row behind rows end left read last rest (rw (same.0, same.1) at after) after' in
@@ -39,8 +45,9 @@ goes_from lines_read form i reference b (first ∷ rows) end left (row ∷ read)
       lines = rw n at from.lines;
     }
 
--- lines that are read one behind another
-pub joined_lines : (form : StripForm) (i : ℕ) (reference : List Colour) (b : List Bool) (rows : List (List Colour)) (middle : List Colour) (between : List Bool)
+-- lines that are read one after another
+pub joined_lines : (form : StripForm) (i : ℕ) (reference : List Colour) (b : List Bool) (rows : List (List Colour)) (middle : List Colour)
+    (between : List Bool)
     (more : List (List Colour)) (last : List Colour) (rest : List Bool)
     → AreLinesUpTo form i reference b rows middle between → AreLinesUpTo form (i + length rows) middle between more last rest
     → AreLinesUpTo form i reference b (rows ++ more) last rest
@@ -52,7 +59,8 @@ joined_lines form i reference b (row ∷ rows) middle between more last rest (be
     (behind, due, line, joined_lines form (i + 1) row behind rows middle between more last rest after (rw n at lines))
 
 -- no more lines are read than the strip has
-pub lines_within : (form : StripForm) (i : ℕ) (reference : List Colour) (b : List Bool) (rows : List (List Colour)) (last : List Colour) (rest : List Bool)
+pub lines_within : (form : StripForm) (i : ℕ) (reference : List Colour) (b : List Bool) (rows : List (List Colour)) (last : List Colour)
+    (rest : List Bool)
     → AreLinesUpTo form i reference b rows last rest → i ≤ form.rows → i + length rows ≤ form.rows
 lines_within form i reference b [] last rest lines within = omega (arith, within)
 lines_within form i reference b (row ∷ rows) last rest (behind, due, line, after) within =
@@ -60,7 +68,8 @@ lines_within form i reference b (row ∷ rows) last rest (behind, due, line, aft
     omega (arith, more)
 
 -- the row that was read last has the width
-pub last_width : (form : StripForm) (i : ℕ) (reference : List Colour) (b : List Bool) (rows : List (List Colour)) (last : List Colour) (rest : List Bool)
+pub last_width : (form : StripForm) (i : ℕ) (reference : List Colour) (b : List Bool) (rows : List (List Colour)) (last : List Colour)
+    (rest : List Bool)
     → AreLinesUpTo form i reference b rows last rest → length reference ≡ form.width → length last ≡ form.width
 last_width form i reference b [] last rest (last_is, rest_is) width = rw last_is at width
 last_width form i reference b (row ∷ rows) last rest (behind, due, line, after) width =

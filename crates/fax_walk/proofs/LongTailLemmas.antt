@@ -1,5 +1,6 @@
 -- What follows an item of what is handed out from a place inside a strip.
-use Rattle.std.proofs.Common.{◌≡◌, ℕ, ◌+◌, ◌*◌, ◌<◌, ◌≤◌, ◌⊎◌, inl, inr, Bool, true, false, List, [], ◌∷◌, ◌++◌, length, drop, Option, Some, None, Result, Ok, Err, refl, sym, ap, ◌∙◌, subst, arith, append_assoc, length-append}
+use Rattle.std.proofs.Common.{◌≡◌, ℕ, ◌+◌, ◌*◌, ◌<◌, ◌≤◌, ◌⊎◌, inl, inr, Bool, true, false, List, [], ◌∷◌, ◌++◌, length, drop, Option, Some}
+use Rattle.std.proofs.Common.{None, Result, Ok, Err, refl, sym, ap, ◌∙◌, subst, arith, append_assoc, length-append}
 use Rattle.std.proofs.Math.Nat.{div-add-mod}
 use Rattle.std.proofs.lemmas.List.{drop_at, length-replicate}
 use Rattle.std.proofs.lemmas.Bool.Decides.{nat_tests}
@@ -28,12 +29,15 @@ use Rattle.fax_walk.specs.declared.end.End.TheVariants.{Fault}
 use Rattle.fax_walk.specs.LongCursor.{LongPlace}
 use Rattle.fax_walk.specs.Items.{Item, numbered, stop_at, Follows, AreFromRowOf}
 use Rattle.fax_walk.specs.Tail.{IsTail}
-use Rattle.fax_walk.specs.LongTail.{strip_at, row_in_strip, HasPage, IsInside, FollowsStrip, AreFromPlace, AreOnPage, IsLongTail, AreLinesUpTo, place_behind, IsNotLast, IsLongBehind, ReadsFrom, HasReadTo, IsInStrip, IsRowInside, AreInStrip, IsLongTailOver, IsLongTailUnder}
+use Rattle.fax_walk.specs.LongTail.{strip_at, row_in_strip, HasPage, IsInside, FollowsStrip, AreFromPlace, AreOnPage, IsLongTail}
+use Rattle.fax_walk.specs.LongTail.{AreLinesUpTo, place_behind, IsNotLast, IsLongBehind, ReadsFrom, HasReadTo, IsInStrip, IsRowInside}
+use Rattle.fax_walk.specs.LongTail.{AreInStrip, IsLongTailOver, IsLongTailUnder}
 use Rattle.fax_walk.specs.LongLaws.{LongTailBehindItem}
 use Rattle.fax_walk.specs.Laws.{TailBehindItem}
 use Rattle.fax_walk.proofs.TailLemmas.{stands_from, divided, none_holds}
 use Rattle.fax_walk.proofs.LongLineLemmas.{LinesAreRead, GoesFrom, goes_from, last_width, lines_within, one_row}
-use Rattle.fax_walk.proofs.LongStripLemmas.{nothing_left, same_page, Behind, tail_at, tail_of, long_at, in_strip, next_in_strip, strips_behind, numbered_both, shown_both}
+use Rattle.fax_walk.proofs.LongStripLemmas.{nothing_left, same_page, Behind, tail_at, tail_of, long_at, in_strip, next_in_strip}
+use Rattle.fax_walk.proofs.LongStripLemmas.{strips_behind, numbered_both, shown_both}
 use Rattle.fax_walk.proofs.PageItemLemmas.{IsCount, Split, split, counted, strip_count, shown_length, shown_drop}
 
 by_tests : {A : Type 0} (a b : Bool) (x place : A) → Some place ≡ (if a && b then (Some x) else None) → (a ≡ true) × (place ≡ x)
@@ -42,14 +46,15 @@ by_tests true false x place e = absurd (cc e)
 by_tests false true x place e = absurd (cc e)
 by_tests false false x place e = absurd (cc e)
 
--- a place that stands behind a row stands inside its strip
+-- a place that stands after a row stands inside its strip
 abbrev pub place_of : ℕ → ℕ → ℕ → List Colour → LongPlace
 place_of p r n row = record { at = record { page = p; row = r + 1 }; bits = n; runs = runs_of row }
 
 pub some_behind : (form : PageForm) (p r n : ℕ) (row : List Colour) (place : LongPlace) → Some place ≡ place_behind form p r n row
     → (row_in_strip form r + 1 < (strip_form form (strip_at form r)).rows) × (place ≡ place_of p r n row)
 some_behind form p r n row place is =
-    let p = by_tests (nat_lt (row_in_strip form r + 1) (strip_form form (strip_at form r)).rows) (nat_le n 4294967295) (place_of p r n row) place is in
+    let p = by_tests (nat_lt (row_in_strip form r + 1) (strip_form form (strip_at form r)).rows) (nat_le n 4294967295) (place_of p r n row)
+    place is in
     (grind (arith, nat_tests, p.0), p.1)
 
 -- a strip that was read up to a row that is not its last
@@ -72,16 +77,29 @@ module _ (lines_read : LinesAreRead) (chains : FilesHaveOneChain) (file : List �
   row_there : r + 1 < form.rows
   row_there = omega (arith, inside, parts)
 
-  -- what begins behind the row, as lines of its strip and what follows them
+  -- what begins after the row, as lines of its strip and what follows them
   module _ (more : List (List Colour)) (stop : Option StripFault) (left : List Bool)
       (lines : AreLines (strip_form form s) (k + 1) last (drop n (bits form.order bytes)) more stop left)
       (others after : List Item) (end : End) (after_is : after ≡ numbered p (r + 1) (shown form more) ++ others)
       (follows : FollowsStrip file (record { page = p; row = r + 1 + length more }) stop others end) where
     from_place : AreFromPlace file form bytes (place_of p r n last) last after end
-    from_place = record { own = more; stop = stop; left = left; lines = rw (next.0, next.1) lines; others = others; items_are = after_is; follows = follows }
+    from_place = record {
+      own = more;
+      stop = stop;
+      left = left;
+      lines = rw (next.0, next.1) lines;
+      others = others;
+      items_are =
+          after_is;
+      follows = follows;
+    }
 
     on_page : AreOnPage head.endian file q (place_of p r n last) (Ok form) after end
-    on_page = inl ((row_there, omega (arith, next.1)), rw (next.0, bytes_are) (inl (last, record { within = within; width_is = wide; runs = refl }, from_place)))
+    on_page = inl (
+      (row_there, omega (arith, next.1)),
+      rw (next.0, bytes_are)
+          (inl (last, record { within = within; width_is = wide; runs = refl }, from_place)),
+    )
 
     pub begins_behind : IsLongTail file (place_of p r n last) after end
     begins_behind = long_at chains file p head q form here (place_of p r n last) after end refl on_page
@@ -96,9 +114,11 @@ module _ (lines_read : LinesAreRead) (chains : FilesHaveOneChain) (file : List �
     module _ (rows : List (List Colour)) (stop : Option StripFault) (left : List Bool)
         (lines : AreLines (strip_form form s) 0 (white_row form.width) (bits form.order bytes) rows stop left)
         (strips : List (List (List Colour))) (cause : Option Cause) (others : List Item)
-        (follows : Follows p behind (stop_at (s * form.rows_per_strip + length (joined (rows ∷ strips))) cause) others end) (there : s < form.strips) where
+        (follows : Follows p behind (stop_at (s * form.rows_per_strip + length (joined (rows ∷ strips))) cause) others end)
+        (there : s < form.strips) where
       from : GoesFrom (strip_form form s) 0 rows read last (drop n (bits form.order bytes)) stop left
-      from = goes_from lines_read (strip_form form s) 0 (white_row form.width) (bits form.order bytes) rows stop left read last (drop n (bits form.order bytes)) lines up_to
+      from = goes_from lines_read (strip_form form s) 0 (white_row form.width) (bits form.order bytes) rows stop left read last
+          (drop n (bits form.order bytes)) lines up_to
 
       abbrev e : ℕ
       e = r + 1 + length from.more
@@ -112,9 +132,11 @@ module _ (lines_read : LinesAreRead) (chains : FilesHaveOneChain) (file : List �
       follows_strip : (stop ≡ None) × AreStrips head.endian file q form (s + 1) strips cause
           → FollowsStrip file (record { page = p; row = e }) None (numbered p e (shown form (joined strips)) ++ others) end
       follows_strip (none, are) =
-          let whole = strip_count (strip_form form s) (bits form.order bytes) rows None (record { left = left; lines = rw none at lines }) in
+          let whole =
+          strip_count (strip_form form s) (bits form.order bytes) rows None (record { left = left; lines = rw none at lines }) in
           tail_at chains file p head q form here e _ end
-          (strips_behind head.endian file q form limits p s e behind strips cause others end there (omega (arith, strip_end, whole, limits.needed s there)) are
+          (strips_behind head.endian file q form limits p s e behind strips cause others end there
+          (omega (arith, strip_end, whole, limits.needed s there)) are
           (rw (← all_rows) at follows))
 
       stops_strip : (fault : StripFault) → (stop ≡ Some fault) × (strips ≡ []) × (cause ≡ Some (Strip fault))
@@ -125,7 +147,8 @@ module _ (lines_read : LinesAreRead) (chains : FilesHaveOneChain) (file : List �
           subst (λ (c : Option Cause). Follows p behind (stop_at rows_read c) others end) cause_is follows in
           let no_more : length (joined strips) ≡ 0 = ap (λ (l : List (List (List Colour))). length (joined l)) none in
           let row : rows_read ≡ e = omega (arith, all_rows, no_more) in
-          subst (λ (o : Option StripFault). FollowsStrip file (record { page = p; row = e }) o (numbered p e (shown form (joined strips)) ++ others) end)
+          subst (λ (o : Option StripFault). FollowsStrip file (record { page = p; row = e }) o
+          (numbered p e (shown form (joined strips)) ++ others) end)
           (sym is_fault) (nothing_left form p e strips others none stopped.0, stopped.1 ∙ ap (λ (m : ℕ). Fault p m (Strip fault)) row)
 
       items_behind : after ≡ numbered p (r + 1) (drop (k + 1) (shown form (joined (rows ∷ strips)))) ++ others
@@ -136,12 +159,14 @@ module _ (lines_read : LinesAreRead) (chains : FilesHaveOneChain) (file : List �
           let dropped : drop (k + 1) (joined (rows ∷ strips)) ≡ from.more ++ joined strips =
           ap (drop (k + 1)) rows_are ∙ drop_at read (from.more ++ joined strips) (k + 1) (sym count) in
           let left : drop (k + 1) (shown form (joined (rows ∷ strips))) ≡ shown form from.more ++ shown form (joined strips) =
-          sym (shown_drop head.endian file q form limits (k + 1) (joined (rows ∷ strips))) ∙ ap (shown form) dropped ∙ shown_both form from.more (joined strips) in
+          sym (shown_drop head.endian file q form limits (k + 1) (joined (rows ∷ strips))) ∙ ap (shown form) dropped
+          ∙ shown_both form from.more (joined strips) in
           let number : r + 1 + length (shown form from.more) ≡ e =
           ap (λ (m : ℕ). r + 1 + m) (shown_length head.endian file q form limits from.more) in
           is ∙ ap (λ (l : List (List Colour)). numbered p (r + 1) l ++ others) left
           ∙ ap (λ (l : List Item). l ++ others) (numbered_both p (r + 1) (shown form from.more) (shown form (joined strips)))
-          ∙ append_assoc (numbered p (r + 1) (shown form from.more)) (numbered p (r + 1 + length (shown form from.more)) (shown form (joined strips))) others
+          ∙ append_assoc (numbered p (r + 1) (shown form from.more)) (numbered p (r + 1 + length (shown form from.more))
+          (shown form (joined strips))) others
           ∙ ap (λ (m : ℕ). numbered p (r + 1) (shown form from.more) ++ (numbered p m (shown form (joined strips)) ++ others)) number
 
       pub strip_goes_on : ((stop ≡ None) × AreStrips head.endian file q form (s + 1) strips cause)
@@ -150,15 +175,19 @@ module _ (lines_read : LinesAreRead) (chains : FilesHaveOneChain) (file : List �
           → IsLongTail file (place_of p r n last) after end
       strip_goes_on (inl whole) after_is =
           let number : 0 + length read ≡ k + 1 = omega (arith, count) in
-          begins_behind from.more stop left (rw number at from.lines) (numbered p e (shown form (joined strips)) ++ others) after end (items_behind after_is)
-          (subst (λ (o : Option StripFault). FollowsStrip file (record { page = p; row = e }) o (numbered p e (shown form (joined strips)) ++ others) end)
+          begins_behind from.more stop left (rw number at from.lines) (numbered p e (shown form (joined strips)) ++ others) after end
+          (items_behind after_is)
+          (subst (λ (o : Option StripFault). FollowsStrip file (record { page = p; row = e }) o
+          (numbered p e (shown form (joined strips)) ++ others) end)
           (sym whole.0) (follows_strip whole))
       strip_goes_on (inr broken) after_is =
           let number : 0 + length read ≡ k + 1 = omega (arith, count) in
-          begins_behind from.more stop left (rw number at from.lines) (numbered p e (shown form (joined strips)) ++ others) after end (items_behind after_is)
+          begins_behind from.more stop left (rw number at from.lines) (numbered p e (shown form (joined strips)) ++ others) after end
+          (items_behind after_is)
           (stops_strip broken.0 (broken.1, broken.2, broken.3))
 
-    from_strips : (strips : List (List (List Colour))) (cause : Option Cause) (others : List Item) → AreStrips head.endian file q form s strips cause
+    from_strips : (strips : List (List (List Colour))) (cause : Option Cause) (others : List Item)
+        → AreStrips head.endian file q form s strips cause
         → Follows p behind (stop_at (s * form.rows_per_strip + length (joined strips)) cause) others end
         → after ≡ numbered p (r + 1) (drop (k + 1) (shown form (joined strips))) ++ others → IsLongTail file (place_of p r n last) after end
     from_strips [] cause others (inl none) follows after_is =
@@ -170,7 +199,7 @@ module _ (lines_read : LinesAreRead) (chains : FilesHaveOneChain) (file : List �
         let same : some ≡ bytes = cc (some_are, bytes_are) in
         strip_goes_on rows stop strip.left (rw same at strip.lines) strips cause others follows there cont after_is
 
-    -- the tail from the cursor behind the row is the one from the place there
+    -- the tail from the cursor after the row is the one from the place there
     pub tail_behind : IsTail file (record { page = p; row = r + 1 }) after end → IsLongTail file (place_of p r n last) after end
     tail_behind tail = by_row (tail_of chains file p head q form here (r + 1) after end tail)
       where
@@ -185,22 +214,27 @@ module _ (lines_read : LinesAreRead) (chains : FilesHaveOneChain) (file : List �
 -- a walk that began at a cursor
 module _ (lines_read : LinesAreRead) (chains : FilesHaveOneChain) (forms : FormsAreWhole) (file : List ℕ) where
   -- what follows a row that was read from its strip's beginning
-  pub behind_beginning : (at : Cursor) (p r : ℕ) (place : LongPlace) (after : List Item) (end : End) → IsLongBehind file (At at) p r (Some place)
+  pub behind_beginning : (at : Cursor) (p r : ℕ) (place : LongPlace) (after : List Item) (end : End)
+      → IsLongBehind file (At at) p r (Some place)
       → IsTail file (record { page = p; row = r + 1 }) after end → IsLongTail file place after end
   behind_beginning at p r place after end is tail =
       let form = is.form in
       let found = some_behind form p r is.n is.row place is.place_is in
       let read = is.read in
       let white : length (white_row form.width) ≡ form.width = length-replicate form.width White in
-      let lines : AreLinesUpTo (strip_form form (strip_at form r)) 0 (white_row form.width) (bits form.order is.bytes) read.rows is.row (drop is.n (bits form.order is.bytes)) =
+      let lines : AreLinesUpTo (strip_form form (strip_at form r)) 0 (white_row form.width) (bits form.order is.bytes) read.rows is.row
+      (drop is.n (bits form.order is.bytes)) =
       rw (read.from.0, read.from.1, read.from.2) at read.lines in
-      let wide = last_width (strip_form form (strip_at form r)) 0 (white_row form.width) (bits form.order is.bytes) read.rows is.row _ lines white in
+      let wide = last_width (strip_form form (strip_at form r)) 0 (white_row form.width) (bits form.order is.bytes) read.rows is.row _ lines
+      white in
       let count : row_in_strip form r + 1 ≡ length read.rows = omega (arith, read.count, read.from.0) in
-      rw found.1 (tail_behind lines_read chains file p r is.head is.q form is.here (forms is.head.endian file is.q form is.here.form_is) is.bytes is.bytes_are
+      rw found.1 (tail_behind lines_read chains file p r is.head is.q form is.here (forms is.head.endian file is.q form is.here.form_is)
+      is.bytes is.bytes_are
       is.row is.n (is.within found.0) found.0 wide read.rows count lines after end tail)
 
--- the place behind a row of a page that is known
-pub record IsBehindOn (head : Header) (file : List ℕ) (q : ℕ) (form : PageForm) (begun : Begun) (p r : ℕ) (place : Option LongPlace) : Type 0 where
+-- the place after a row of a page that is known
+pub record IsBehindOn (head : Header) (file : List ℕ) (q : ℕ) (form : PageForm) (begun : Begun) (p r : ℕ)
+    (place : Option LongPlace) : Type 0 where
   pub bytes : List ℕ
   pub bytes_are : strip_bytes head.endian file q (strip_at form r) ≡ Some bytes
   pub row : List Colour
@@ -209,7 +243,8 @@ pub record IsBehindOn (head : Header) (file : List ℕ) (q : ℕ) (form : PageFo
   pub within : IsNotLast form r → n ≤ 8 * length bytes
   pub place_is : place ≡ place_behind form p r n row
 
-pub behind_on : FilesHaveOneChain → (file : List ℕ) (begun : Begun) (p r : ℕ) (place : Option LongPlace) (head : Header) (q : ℕ) (form : PageForm)
+pub behind_on : FilesHaveOneChain → (file : List ℕ) (begun : Begun) (p r : ℕ) (place : Option LongPlace) (head : Header) (q : ℕ)
+    (form : PageForm)
     → HasPage file p head q form → IsLongBehind file begun p r place → IsBehindOn head file q form begun p r place
 behind_on chains file begun p r place head q form here is =
     let same = same_page chains file p is.head head is.q q is.form form is.here here in
@@ -227,12 +262,16 @@ same_cursor : (p p' r r' : ℕ) → p ≡ p' → r ≡ r' → record { page = p;
 same_cursor p p' r r' pages rows = rw (pages, rows) refl
 
 -- a walk that began inside a strip, on this page
-module _ (lines_read : LinesAreRead) (chains : FilesHaveOneChain) (forms : FormsAreWhole) (tails : TailBehindItem) (file : List ℕ) (first : LongPlace)
-    (head : Header) (q : ℕ) (form : PageForm) (here : HasPage file first.at.page head q form) (inside : IsRowInside form first.at.row) (bytes : List ℕ)
+module _ (lines_read : LinesAreRead) (chains : FilesHaveOneChain) (forms : FormsAreWhole) (tails : TailBehindItem) (file : List ℕ)
+    (first : LongPlace)
+    (head : Header) (q : ℕ) (form : PageForm) (here : HasPage file first.at.page head q form) (inside : IsRowInside form first.at.row)
+    (bytes : List ℕ)
     (bytes_are : strip_bytes head.endian file q (strip_at form first.at.row) ≡ Some bytes) (reference : List Colour)
     (is_inside : IsInside form.width bytes first reference) (own : List (List Colour)) (stop : Option StripFault) (left : List Bool)
-    (lines : AreLines (strip_form form (strip_at form first.at.row)) (row_in_strip form first.at.row) reference (drop first.bits (bits form.order bytes)) own stop left)
-    (others after : List Item) (end : End) (follows : FollowsStrip file (record { page = first.at.page; row = first.at.row + length own }) stop others end)
+    (lines : AreLines (strip_form form (strip_at form first.at.row)) (row_in_strip form first.at.row) reference
+    (drop first.bits (bits form.order bytes)) own stop left)
+    (others after : List Item) (end : End) (follows : FollowsStrip file (record { page = first.at.page; row = first.at.row + length own })
+    stop others end)
     (item : Item) (place : LongPlace) (is : IsLongBehind file (Inside first) item.page item.row (Some place)) where
   abbrev limits : IsWholeForm form
   limits = forms head.endian file q form here.form_is
@@ -266,7 +305,8 @@ module _ (lines_read : LinesAreRead) (chains : FilesHaveOneChain) (forms : Forms
   page_of_item e = rw e here
 
   -- an item of the strip in which the walk began
-  module _ (before middle : List Item) (split_is : before ++ item ∷ middle ≡ numbered P R (shown form own)) (after_is : after ≡ middle ++ others) where
+  module _ (before middle : List Item) (split_is : before ++ item ∷ middle ≡ numbered P R (shown form own))
+      (after_is : after ≡ middle ++ others) where
     known : Split head.endian file q form limits P R (shown form own) before middle item
     known = split head.endian file q form limits P R (shown form own) before middle item split_is
 
@@ -280,19 +320,25 @@ module _ (lines_read : LinesAreRead) (chains : FilesHaveOneChain) (forms : Forms
     on : IsBehindOn head file q form (Inside first) item.page item.row (Some place)
     on = behind_on chains file (Inside first) item.page item.row (Some place) head q form (page_of_item known.page_is) is
 
-    found : (row_in_strip form item.row + 1 < (strip_form form (strip_at form item.row)).rows) × (place ≡ place_of item.page item.row on.n on.row)
+    found : (row_in_strip form item.row + 1 < (strip_form form (strip_at form item.row)).rows)
+        × (place ≡ place_of item.page item.row on.n on.row)
     found = some_behind form item.page item.row on.n on.row place on.place_is
 
     same_bytes : on.bytes ≡ bytes
     same_bytes = let e : strip_bytes head.endian file q strip ≡ Some on.bytes = rw numbers.0 at on.bytes_are in cc (e, bytes_are)
 
     abbrev Lines : Type 0
-    Lines = AreLinesUpTo (strip_form form strip) from_row reference (drop first.bits (bits form.order bytes)) on.read.rows on.row (drop on.n (bits form.order bytes))
+    Lines = AreLinesUpTo (strip_form form strip) from_row reference (drop first.bits (bits form.order bytes)) on.read.rows on.row
+        (drop on.n (bits form.order bytes))
 
     started : ReadsFrom (Inside first) item.page form (strip_at form item.row) on.bytes on.read.first on.read.reference on.read.b
         → (on.read.first ≡ from_row) × (on.read.reference ≡ reference) × (on.read.b ≡ drop first.bits (bits form.order bytes))
-    started (inl (there, within, row_is, b_is)) =
-        (row_is, one_row on.read.reference reference (within.runs ∙ sym is_inside.runs), b_is ∙ ap (λ (l : List ℕ). drop first.bits (bits form.order l)) same_bytes)
+    started (inl (there, within, row_is, b_is)) = (
+      row_is,
+      one_row on.read.reference reference (within.runs ∙ sym is_inside.runs),
+      b_is
+          ∙ ap (λ (l : List ℕ). drop first.bits (bits form.order l)) same_bytes,
+    )
     started (inr (not_there, beginning)) = absurd (not_there (sym known.page_is, sym numbers.0))
 
     up_to : Lines
@@ -302,7 +348,8 @@ module _ (lines_read : LinesAreRead) (chains : FilesHaveOneChain) (forms : Forms
     read_count = let from = started on.read.from in omega (arith, on.read.count, from.0, numbers.1)
 
     goes : GoesFrom (strip_form form strip) from_row own on.read.rows on.row (drop on.n (bits form.order bytes)) stop left
-    goes = goes_from lines_read (strip_form form strip) from_row reference (drop first.bits (bits form.order bytes)) own stop left on.read.rows on.row _ lines up_to
+    goes = goes_from lines_read (strip_form form strip) from_row reference (drop first.bits (bits form.order bytes)) own stop left
+        on.read.rows on.row _ lines up_to
 
     rows_left : drop (length before + 1) (shown form own) ≡ shown form goes.more
     rows_left =
@@ -318,24 +365,28 @@ module _ (lines_read : LinesAreRead) (chains : FilesHaveOneChain) (forms : Forms
         omega (arith, all, parts, row, read_count)
 
     wide : length on.row ≡ form.width
-    wide = last_width (strip_form form strip) from_row reference (drop first.bits (bits form.order bytes)) on.read.rows on.row _ up_to is_inside.width_is
+    wide = last_width (strip_form form strip) from_row reference (drop first.bits (bits form.order bytes)) on.read.rows on.row _ up_to
+        is_inside.width_is
 
     pub in_own : IsLongTail file place after end
     in_own =
         let row_is : from_row + length on.read.rows ≡ row_in_strip form item.row + 1 = omega (arith, numbers.1, read_count) in
         rw found.1
-        (begins_behind lines_read chains file item.page item.row head q form (page_of_item known.page_is) limits on.bytes on.bytes_are on.row on.n (on.within found.0) found.0 wide
+        (begins_behind lines_read chains file item.page item.row head q form (page_of_item known.page_is) limits on.bytes on.bytes_are
+        on.row on.n (on.within found.0) found.0 wide
         goes.more stop left (rw (same_bytes, numbers.0, ← row_is) goes.lines) others after end
-        (after_is ∙ ap (λ (l : List Item). l ++ others) (known.after_is ∙ ap (λ (m : ℕ). numbered m (item.row + 1) (drop (length before + 1) (shown form own))) (sym known.page_is)
+        (after_is ∙ ap (λ (l : List Item). l ++ others) (known.after_is
+        ∙ ap (λ (m : ℕ). numbered m (item.row + 1) (drop (length before + 1) (shown form own))) (sym known.page_is)
         ∙ ap (numbered item.page (item.row + 1)) rows_left))
         (subst (λ (c : Cursor). FollowsStrip file c stop others end) (same_cursor P item.page _ _ (sym known.page_is) row_behind) follows))
 
-  -- an item behind that strip
+  -- an item after that strip
   module _ (before : List Item) (others_are : others ≡ before ++ item ∷ after) where
     abbrev cursor : Cursor
     cursor = record { page = P; row = R + length own }
 
-    not_in_strip : IsTail file cursor (before ++ item ∷ after) end → stop ≡ None → IsInStrip first item.page is.form (strip_at is.form item.row) → ⊥
+    not_in_strip : IsTail file cursor (before ++ item ∷ after) end → stop ≡ None
+        → IsInStrip first item.page is.form (strip_at is.form item.row) → ⊥
     not_in_strip tail whole (page_is, strip_is) =
         let there : HasPage file item.page head q form = page_of_item (sym page_is) in
         let on : IsBehindOn head file q form (Inside first) item.page item.row (Some place) =
@@ -348,11 +399,13 @@ module _ (lines_read : LinesAreRead) (chains : FilesHaveOneChain) (forms : Forms
           | inl there ↦ omega (arith, there.2, below)
           | inr beginning ↦ omega (arith, beginning.1)
         ] in
-        let within = lines_within (strip_form form strip) on.read.first on.read.reference on.read.b on.read.rows on.row _ (rw (← same_strip) at on.read.lines) started in
+        let within = lines_within (strip_form form strip) on.read.first on.read.reference on.read.b on.read.rows on.row _
+        (rw (← same_strip) at on.read.lines) started in
         let whole_strip : from_row + length own ≡ strip_rows =
         subst (λ (o : Option StripFault). IsCount o (from_row + length own) strip_rows) whole
         (counted (strip_form form strip) from_row reference (drop first.bits (bits form.order bytes)) own stop left lines) in
-        let item_parts : strip_at form item.row * form.rows_per_strip + row_in_strip form item.row ≡ item.row = let e = div-add-mod item.row form.rows_per_strip in omega (arith, e) in
+        let item_parts : strip_at form item.row * form.rows_per_strip + row_in_strip form item.row ≡ item.row =
+        let e = div-add-mod item.row form.rows_per_strip in omega (arith, e) in
         let item_place : strip * form.rows_per_strip + row_in_strip form item.row ≡ item.row = rw (← same_strip) at item_parts in
         elim (stands_from forms file cursor before after item end tail) [
           | inl later ↦ absurd (omega (arith, later, page_is))
@@ -360,7 +413,8 @@ module _ (lines_read : LinesAreRead) (chains : FilesHaveOneChain) (forms : Forms
         ]
 
     by_from : IsTail file cursor (before ++ item ∷ after) end → stop ≡ None
-        → ReadsFrom (Inside first) item.page is.form (strip_at is.form item.row) is.bytes is.read.first is.read.reference is.read.b → IsLongTail file place after end
+        → ReadsFrom (Inside first) item.page is.form (strip_at is.form item.row) is.bytes is.read.first is.read.reference is.read.b
+        → IsLongTail file place after end
     by_from tail whole (inl there) = absurd (not_in_strip tail whole there.0)
     by_from tail whole (inr (not_there, beginning)) =
         behind_beginning lines_read chains forms file cursor item.page item.row place after end (record {
@@ -393,38 +447,48 @@ module _ (lines_read : LinesAreRead) (chains : FilesHaveOneChain) (forms : Forms
     in_rest = by_stop stop refl follows
 
 -- a walk that began inside a strip
-module _ (lines_read : LinesAreRead) (chains : FilesHaveOneChain) (forms : FormsAreWhole) (tails : TailBehindItem) (file : List ℕ) (first : LongPlace)
-    (before after : List Item) (item : Item) (end : End) (place : LongPlace) (is : IsLongBehind file (Inside first) item.page item.row (Some place)) where
-  in_strip_of : (head : Header) (q : ℕ) (form : PageForm) → HasPage file first.at.page head q form → IsRowInside form first.at.row → (found : Option (List ℕ))
-      → strip_bytes head.endian file q (strip_at form first.at.row) ≡ found → AreInStrip file form first found (before ++ item ∷ after) end → IsLongTail file place after end
+module _ (lines_read : LinesAreRead) (chains : FilesHaveOneChain) (forms : FormsAreWhole) (tails : TailBehindItem) (file : List ℕ)
+    (first : LongPlace)
+    (before after : List Item) (item : Item) (end : End) (place : LongPlace)
+    (is : IsLongBehind file (Inside first) item.page item.row (Some place)) where
+  in_strip_of : (head : Header) (q : ℕ) (form : PageForm) → HasPage file first.at.page head q form → IsRowInside form first.at.row
+      → (found : Option (List ℕ))
+      → strip_bytes head.endian file q (strip_at form first.at.row) ≡ found → AreInStrip file form first found (before ++ item ∷ after) end
+      → IsLongTail file place after end
   in_strip_of head q form here inside None e (none, end_is) = absurd (none_holds before after item none)
   in_strip_of head q form here inside (Some bytes) e (inr (outside, none, end_is)) = absurd (none_holds before after item none)
   in_strip_of head q form here inside (Some bytes) e (inl (reference, is_inside, from)) =
       elim (divided (numbered first.at.page first.at.row (shown form from.own)) from.others before after item from.items_are) [
         | inl (some, middle, own_is, after_is) ↦
-            in_own lines_read chains forms tails file first head q form here inside bytes e reference is_inside from.own from.stop from.left from.lines from.others after end
+            in_own lines_read chains forms tails file first head q form here inside bytes e reference is_inside from.own from.stop from.left
+            from.lines from.others after end
             from.follows item place is some middle (sym own_is) after_is
         | inr (some, others_are) ↦
-            in_rest lines_read chains forms tails file first head q form here inside bytes e reference is_inside from.own from.stop from.left from.lines from.others after end
+            in_rest lines_read chains forms tails file first head q form here inside bytes e reference is_inside from.own from.stop
+            from.left from.lines from.others after end
             from.follows item place is some others_are
       ]
 
-  on_page_of : (head : Header) (offsets : List ℕ) (fault : Option FileFault) (q : ℕ) → header file ≡ Ok head → IsChain head file offsets fault
+  on_page_of : (head : Header) (offsets : List ℕ) (fault : Option FileFault) (q : ℕ) → header file ≡ Ok head
+      → IsChain head file offsets fault
       → slice_get offsets first.at.page ≡ Some q → (answer : Result PageForm FileFault) → page head.endian file q ≡ answer
       → AreOnPage head.endian file q first answer (before ++ item ∷ after) end → IsLongTail file place after end
   on_page_of head offsets fault q good chain there (Err refused) e (none, end_is) = absurd (none_holds before after item none)
   on_page_of head offsets fault q good chain there (Ok form) e (inr (outside, none, end_is)) = absurd (none_holds before after item none)
   on_page_of head offsets fault q good chain there (Ok form) e (inl (inside, strip)) =
-      in_strip_of head q form (record { head_is = good; offsets = offsets; fault = fault; chain = chain; there = there; form_is = e }) inside
+      in_strip_of head q form (record { head_is = good; offsets = offsets; fault = fault; chain = chain; there = there; form_is = e })
+      inside
       (strip_bytes head.endian file q (strip_at form first.at.row)) refl strip
 
   over : (head : Header) (offsets : List ℕ) (fault : Option FileFault) → header file ≡ Ok head → IsChain head file offsets fault
-      → (found : Option ℕ) → slice_get offsets first.at.page ≡ found → IsLongTailOver head.endian file offsets fault first found (before ++ item ∷ after) end
+      → (found : Option ℕ) → slice_get offsets first.at.page ≡ found
+      → IsLongTailOver head.endian file offsets fault first found (before ++ item ∷ after) end
       → IsLongTail file place after end
   over head offsets fault good chain None there (none, end_is) = absurd (none_holds before after item none)
   over head offsets fault good chain (Some q) there on = on_page_of head offsets fault q good chain there (page head.endian file q) refl on
 
-  under : (answer : Result Header FileFault) → header file ≡ answer → IsLongTailUnder file first answer (before ++ item ∷ after) end → IsLongTail file place after end
+  under : (answer : Result Header FileFault) → header file ≡ answer → IsLongTailUnder file first answer (before ++ item ∷ after) end
+      → IsLongTail file place after end
   under (Err fault) e (none, end_is) = absurd (none_holds before after item none)
   under (Ok head) e (offsets, fault, chain, tail) = over head offsets fault e chain (slice_get offsets first.at.page) refl tail
 

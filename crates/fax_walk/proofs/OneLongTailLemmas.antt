@@ -1,5 +1,6 @@
 -- There is one tail from each place inside a strip.
-use Rattle.std.proofs.Common.{◌≡◌, ℕ, ◌+◌, ◌-◌, ◌*◌, ◌<◌, ◌≤◌, ◌⊎◌, inl, inr, Bool, List, [], ◌∷◌, ◌++◌, length, drop, Option, Some, None, Result, Ok, Err, refl, sym, ap, ◌∙◌, subst, arith}
+use Rattle.std.proofs.Common.{◌≡◌, ℕ, ◌+◌, ◌-◌, ◌*◌, ◌<◌, ◌≤◌, ◌⊎◌, inl, inr, Bool, List, [], ◌∷◌, ◌++◌, length, drop, Option, Some, None}
+use Rattle.std.proofs.Common.{Result, Ok, Err, refl, sym, ap, ◌∙◌, subst, arith}
 use Rattle.std.proofs.Math.Nat.{div-add-mod}
 use Rattle.std.proofs.lemmas.Bool.{cases_lt}
 use Rattle.std.specs.Prelude.{slice_get}
@@ -25,27 +26,32 @@ use Rattle.fax_walk.specs.declared.end.End.TheVariants.{Fault, Outside}
 use Rattle.fax_walk.specs.LongCursor.{LongPlace}
 use Rattle.fax_walk.specs.Items.{Item, numbered}
 use Rattle.fax_walk.specs.Tail.{end_past_chain}
-use Rattle.fax_walk.specs.LongTail.{strip_at, row_in_strip, IsInside, IsRowInside, FollowsStrip, AreFromPlace, AreInStrip, AreOnPage, IsLongTailOver, IsLongTailUnder}
+use Rattle.fax_walk.specs.LongTail.{strip_at, row_in_strip, IsInside, IsRowInside, FollowsStrip, AreFromPlace, AreInStrip, AreOnPage}
+use Rattle.fax_walk.specs.LongTail.{IsLongTailOver, IsLongTailUnder}
 use Rattle.fax_walk.specs.Laws.{IsOne, CursorsHaveOneTail}
 use Rattle.fax_walk.specs.LongLaws.{PlacesHaveOneTail}
 use Rattle.fax_walk.proofs.LongLineLemmas.{LinesAreRead, one_row, pels_behind}
 use Rattle.fax_walk.proofs.StillDueLemmas.{Lines, lines_from}
 
 -- lines from a row on are one list with one end
-one_lines : LinesAreRead → (form : StripForm) (i : ℕ) (reference : List Colour) (b : List Bool) (rows others : List (List Colour)) (end another : Option StripFault) (left left' : List Bool)
+one_lines : LinesAreRead → (form : StripForm) (i : ℕ) (reference : List Colour) (b : List Bool) (rows others : List (List Colour))
+    (end another : Option StripFault) (left left' : List Bool)
     → AreLines form i reference b rows end left → AreLines form i reference b others another left' → (rows ≡ others) × (end ≡ another)
 one_lines lines_read form i reference b [] [] None None left left' lines lines' = (refl, refl)
 one_lines lines_read form i reference b [] [] (Some fault) (Some fault') left left' lines lines' =
     (refl, ap (λ (f : StripFault). Some f) ((lines_read form i reference).one_cause b fault fault' lines.1.1 lines'.1.1))
 one_lines lines_read form i reference b [] [] None (Some fault') left left' lines lines' = absurd (omega (arith, lines.1, lines'.1.0))
 one_lines lines_read form i reference b [] [] (Some fault) None left left' lines lines' = absurd (omega (arith, lines'.1, lines.1.0))
-one_lines lines_read form i reference b [] (row ∷ others) None another left left' lines (rest, due, line, after) = absurd (omega (arith, lines.1, due))
+one_lines lines_read form i reference b [] (row ∷ others) None another left left' lines (rest, due, line, after) =
+    absurd (omega (arith, lines.1, due))
 one_lines lines_read form i reference b [] (row ∷ others) (Some fault) another left left' lines (rest, due, line, after) =
     absurd ((lines_read form i reference).line_has_no_cause b row rest fault line lines.1.1)
-one_lines lines_read form i reference b (row ∷ rows) [] end None left left' (rest, due, line, after) lines' = absurd (omega (arith, lines'.1, due))
+one_lines lines_read form i reference b (row ∷ rows) [] end None left left' (rest, due, line, after) lines' =
+    absurd (omega (arith, lines'.1, due))
 one_lines lines_read form i reference b (row ∷ rows) [] end (Some fault) left left' (rest, due, line, after) lines' =
     absurd ((lines_read form i reference).line_has_no_cause b row rest fault line lines'.1.1)
-one_lines lines_read form i reference b (row ∷ rows) (row' ∷ others) end another left left' (rest, due, line, after) (rest', due', line', after') =
+one_lines lines_read form i reference b (row ∷ rows) (row' ∷ others) end another left left' (rest, due, line, after)
+    (rest', due', line', after') =
     let same = (lines_read form i reference).one_line b row row' rest rest' line line' in
     let later = one_lines lines_read form (i + 1) row' rest' rows others end another left left' (rw (same.0, same.1) at after) after' in
     (ap (λ (r : List Colour). r ∷ rows) same.0 ∙ ap (λ (l : List (List Colour)). row' ∷ l) later.0, later.1)
@@ -73,7 +79,8 @@ same_list (x ∷ xs) (y ∷ ys) = elim (same_number x y) [
 
 -- either a place is inside, or it is not
 by_place : (width : ℕ) (bytes : List ℕ) (place : LongPlace)
-    → ((reference : List Colour) × IsInside width bytes place reference) ⊎ ((reference : List Colour) → IsInside width bytes place reference → ⊥)
+    → ((reference : List Colour) × IsInside width bytes place reference)
+    ⊎ ((reference : List Colour) → IsInside width bytes place reference → ⊥)
 by_place width bytes place = elim (cases_lt (8 * length bytes) place.bits) [
   | inl far ↦ inr (λ reference is. omega (arith, far, is.within))
   | inr within ↦ elim (same_list (runs_of (pels_of White place.runs)) place.runs) [
@@ -88,7 +95,8 @@ by_place width bytes place = elim (cases_lt (8 * length bytes) place.bits) [
     itself : (reference : List Colour) → IsInside width bytes place reference → reference ≡ pels_of White place.runs
     itself reference is = sym (pels_behind White 0 reference) ∙ ap (pels_of White) is.runs
 
-module _ (lines_read : LinesAreRead) (forms : FormsAreWhole) (chains : FilesHaveOneChain) (tails : CursorsHaveOneTail) (file : List ℕ) (place : LongPlace) where
+module _ (lines_read : LinesAreRead) (forms : FormsAreWhole) (chains : FilesHaveOneChain) (tails : CursorsHaveOneTail) (file : List ℕ)
+    (place : LongPlace) where
   abbrev P : ℕ
   P = place.at.page
 
@@ -97,9 +105,11 @@ module _ (lines_read : LinesAreRead) (forms : FormsAreWhole) (chains : FilesHave
 
   one_follows : (at : Cursor) (stop : Option StripFault) → IsOne (FollowsStrip file at stop)
   one_follows at None = let one = tails file at in record { items = one.items; end = one.end; is = one.is; one = one.one }
-  one_follows at (Some fault) = record { items = []; end = Fault at.page at.row (Strip fault); is = (refl, refl); one = λ others other are. are }
+  one_follows at (Some fault) =
+      record { items = []; end = Fault at.page at.row (Strip fault); is = (refl, refl); one = λ others other are. are }
 
-  module _ (form : PageForm) (some : 0 < form.rows_per_strip) (bytes : List ℕ) (inside : IsRowInside form R) (reference : List Colour) (is_inside : IsInside form.width bytes place reference) where
+  module _ (form : PageForm) (some : 0 < form.rows_per_strip) (bytes : List ℕ) (inside : IsRowInside form R) (reference : List Colour)
+      (is_inside : IsInside form.width bytes place reference) where
     abbrev strip : StripForm
     strip = strip_form form (strip_at form R)
 
@@ -123,12 +133,14 @@ module _ (lines_read : LinesAreRead) (forms : FormsAreWhole) (chains : FilesHave
 
     module _ (others : List Item) (other : End) (from : AreFromPlace file form bytes place reference others other) where
       same : (from.own ≡ lines.rows) × (from.stop ≡ lines.end)
-      same = one_lines lines_read strip (row_in_strip form R) reference b from.own lines.rows from.stop lines.end from.left lines.left from.lines lines.are
+      same = one_lines lines_read strip (row_in_strip form R) reference b from.own lines.rows from.stop lines.end from.left lines.left
+          from.lines lines.are
 
       follows : FollowsStrip file behind lines.end from.others other
       follows =
           subst (λ (o : Option StripFault). FollowsStrip file behind o from.others other) same.1
-          (subst (λ (l : List (List Colour)). FollowsStrip file (record { page = P; row = R + length l }) from.stop from.others other) same.0 from.follows)
+          (subst (λ (l : List (List Colour)). FollowsStrip file (record { page = P; row = R + length l }) from.stop from.others other)
+          same.0 from.follows)
 
       only_from : (others ≡ numbered P R (shown form lines.rows) ++ next.items) × (other ≡ next.end)
       only_from =
@@ -167,25 +179,36 @@ module _ (lines_read : LinesAreRead) (forms : FormsAreWhole) (chains : FilesHave
   only_outside form bytes not others other (inl (another, is_too, from)) = absurd (not another is_too)
   only_outside form bytes not others other (inr (outside, none, end_is)) = (none, end_is)
 
-  one_in_bytes : (form : PageForm) → 0 < form.rows_per_strip → IsRowInside form R → (bytes : List ℕ) → IsOne (AreInStrip file form place (Some bytes))
+  one_in_bytes : (form : PageForm) → 0 < form.rows_per_strip → IsRowInside form R → (bytes : List ℕ)
+      → IsOne (AreInStrip file form place (Some bytes))
   one_in_bytes form some inside bytes = elim (by_place form.width bytes place) [
     | inl (reference, is_inside) ↦
         let one = one_from_place form some bytes inside reference is_inside in
-        record { items = one.items; end = one.end; is = inl (reference, is_inside, one.is); one = only_inside form bytes reference is_inside one }
+        record {
+          items = one.items;
+          end = one.end;
+          is = inl (reference, is_inside, one.is);
+          one =
+              only_inside form bytes reference is_inside one;
+        }
     | inr not ↦ record { items = []; end = Outside; is = inr (not, refl, refl); one = only_outside form bytes not }
   ]
 
-  one_in_strip : (form : PageForm) → 0 < form.rows_per_strip → IsRowInside form R → (found : Option (List ℕ)) → IsOne (AreInStrip file form place found)
+  one_in_strip : (form : PageForm) → 0 < form.rows_per_strip → IsRowInside form R → (found : Option (List ℕ))
+      → IsOne (AreInStrip file form place found)
   one_in_strip form some inside None = record {
     items = [];
     end = Fault P (strip_at form R * form.rows_per_strip) (File StripOutside);
     is = (refl, refl);
     one = λ others other are. are;
   }
-  one_in_strip form some inside (Some bytes) = let one = one_in_bytes form some inside bytes in record { items = one.items; end = one.end; is = one.is; one = one.one }
+  one_in_strip form some inside (Some bytes) =
+      let one = one_in_bytes form some inside bytes in record { items = one.items; end = one.end; is = one.is; one = one.one }
 
-  only_row : (head : Header) (q : ℕ) (form : PageForm) → IsRowInside form R → (one : IsOne (AreInStrip file form place (strip_bytes head.endian file q (strip_at form R))))
-      → (others : List Item) (other : End) → AreOnPage head.endian file q place (Ok form) others other → (others ≡ one.items) × (other ≡ one.end)
+  only_row : (head : Header) (q : ℕ) (form : PageForm) → IsRowInside form R
+      → (one : IsOne (AreInStrip file form place (strip_bytes head.endian file q (strip_at form R))))
+      → (others : List Item) (other : End) → AreOnPage head.endian file q place (Ok form) others other
+      → (others ≡ one.items) × (other ≡ one.end)
   only_row head q form inside one others other (inl there) = one.one others other there.1
   only_row head q form inside one others other (inr outside) = absurd (outside.0 inside)
 
@@ -203,8 +226,10 @@ module _ (lines_read : LinesAreRead) (forms : FormsAreWhole) (chains : FilesHave
     | inr above ↦ inr (λ inside. omega (arith, above, inside.0))
   ]
 
-  one_on_page : (head : Header) (q : ℕ) (answer : Result PageForm FileFault) → page head.endian file q ≡ answer → IsOne (AreOnPage head.endian file q place answer)
-  one_on_page head q (Err refused) e = record { items = []; end = Fault P 0 (File refused); is = (refl, refl); one = λ others other are. are }
+  one_on_page : (head : Header) (q : ℕ) (answer : Result PageForm FileFault) → page head.endian file q ≡ answer
+      → IsOne (AreOnPage head.endian file q place answer)
+  one_on_page head q (Err refused) e =
+      record { items = []; end = Fault P 0 (File refused); is = (refl, refl); one = λ others other are. are }
   one_on_page head q (Ok form) e = elim (by_row form) [
     | inl inside ↦
         let some : 0 < form.rows_per_strip = (forms head.endian file q form e).some_in_strip in
@@ -213,7 +238,8 @@ module _ (lines_read : LinesAreRead) (forms : FormsAreWhole) (chains : FilesHave
     | inr not ↦ record { items = []; end = Outside; is = inr (not, refl, refl); one = only_no_row head q form not }
   ]
 
-  one_over : (head : Header) (offsets : List ℕ) (fault : Option FileFault) (found : Option ℕ) → IsOne (IsLongTailOver head.endian file offsets fault place found)
+  one_over : (head : Header) (offsets : List ℕ) (fault : Option FileFault) (found : Option ℕ)
+      → IsOne (IsLongTailOver head.endian file offsets fault place found)
   one_over head offsets fault None =
       record { items = []; end = end_past_chain (length offsets) fault place.at; is = (refl, refl); one = λ others other are. are }
   one_over head offsets fault (Some q) =
@@ -235,7 +261,8 @@ module _ (lines_read : LinesAreRead) (forms : FormsAreWhole) (chains : FilesHave
             let at_offsets : IsLongTailOver head.endian file chain.offsets are.1 place (slice_get chain.offsets P) others other =
             subst (λ (l : List ℕ). IsLongTailOver head.endian file l are.1 place (slice_get l P) others other) same.0 are.3 in
             all.one others other
-            (subst (λ (e : Option FileFault). IsLongTailOver head.endian file chain.offsets e place (slice_get chain.offsets P) others other) same.1 at_offsets);
+            (subst (λ (e : Option FileFault). IsLongTailOver head.endian file chain.offsets e place (slice_get chain.offsets P) others
+            other) same.1 at_offsets);
       }
 
 pub one_long_tail : LinesAreRead → FormsAreWhole → FilesHaveOneChain → CursorsHaveOneTail → PlacesHaveOneTail

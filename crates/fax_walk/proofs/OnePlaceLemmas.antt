@@ -1,5 +1,6 @@
--- There is one place inside a strip behind each row.
-use Rattle.std.proofs.Common.{◌≡◌, ℕ, ◌+◌, ◌*◌, ◌≤◌, ◌⊎◌, inl, inr, Bool, false, List, [], ◌∷◌, length, drop, Option, refl, sym, ap, ◌∙◌, arith, length-drop}
+-- There is one place inside a strip after each row.
+use Rattle.std.proofs.Common.{◌≡◌, ℕ, ◌+◌, ◌*◌, ◌≤◌, ◌⊎◌, inl, inr, Bool, false, List, [], ◌∷◌, length, drop, Option, refl, sym, ap, ◌∙◌}
+use Rattle.std.proofs.Common.{arith, length-drop}
 use Rattle.std.proofs.lemmas.Bool.{cases_lt}
 use Rattle.std.proofs.lemmas.Bool.Decides.{nat_tests}
 use Rattle.std.specs.Prelude.{nat_lt}
@@ -21,15 +22,20 @@ use Rattle.fax_walk.proofs.LongLineLemmas.{LinesAreRead}
 use Rattle.fax_walk.proofs.LongTailLemmas.{IsBehindOn, behind_on}
 use Rattle.fax_walk.proofs.ReachedLemmas.{behind_reached}
 
--- so many lines that are read one behind another end at one row, and leave one rest
-one_up_to : LinesAreRead → (form : StripForm) (i : ℕ) (reference : List Colour) (b : List Bool) (rows others : List (List Colour)) (last another : List Colour) (rest left : List Bool)
-    → length rows ≡ length others → AreLinesUpTo form i reference b rows last rest → AreLinesUpTo form i reference b others another left → (last ≡ another) × (rest ≡ left)
-one_up_to lines_read form i reference b [] [] last another rest left count (last_is, rest_is) (another_is, left_is) = (sym last_is ∙ another_is, sym rest_is ∙ left_is)
+-- so many lines that are read one after another end at one row, and leave one rest
+one_up_to : LinesAreRead → (form : StripForm) (i : ℕ) (reference : List Colour) (b : List Bool) (rows others : List (List Colour))
+    (last another : List Colour) (rest left : List Bool)
+    → length rows ≡ length others → AreLinesUpTo form i reference b rows last rest → AreLinesUpTo form i reference b others another left
+    → (last ≡ another) × (rest ≡ left)
+one_up_to lines_read form i reference b [] [] last another rest left count (last_is, rest_is) (another_is, left_is) =
+    (sym last_is ∙ another_is, sym rest_is ∙ left_is)
 one_up_to lines_read form i reference b [] (row ∷ others) last another rest left count lines lines' = absurd (omega (arith, count))
 one_up_to lines_read form i reference b (row ∷ rows) [] last another rest left count lines lines' = absurd (omega (arith, count))
-one_up_to lines_read form i reference b (row ∷ rows) (row' ∷ others) last another rest left count (behind, due, line, after) (behind', due', line', after') =
+one_up_to lines_read form i reference b (row ∷ rows) (row' ∷ others) last another rest left count (behind, due, line, after)
+    (behind', due', line', after') =
     let same = (lines_read form i reference).one_line b row row' behind behind' line line' in
-    one_up_to lines_read form (i + 1) row' behind' rows others last another rest left (omega (arith, count)) (rw (same.0, same.1) at after) after'
+    one_up_to lines_read form (i + 1) row' behind' rows others last another rest left (omega (arith, count)) (rw (same.0, same.1) at after)
+    after'
 
 -- as many bits stand before one rest
 one_place : AreBitsByPlace → (order : FillOrder) (bytes : List ℕ) (n m : ℕ) → n ≤ 8 * length bytes → m ≤ 8 * length bytes
@@ -39,18 +45,20 @@ one_place by_place order bytes n m within within' same =
     let left : length (drop n all) ≡ length (drop m all) = ap (λ (b : List Bool). length b) same in
     omega (arith, left, length-drop n all, length-drop m all, by_place.count order bytes, within, within')
 
--- behind a row that is its strip's last there is no place, and else the place is one
+-- after a row that is its strip's last there is no place, and else the place is one
 same_behind : (form : PageForm) (p r n m : ℕ) (row another : List Colour) → row ≡ another → (IsNotLast form r → n ≡ m)
     → place_behind form p r n row ≡ place_behind form p r m another
 same_behind form p r n m row another rows numbers = by_order (cases_lt (row_in_strip form r + 1) (strip_form form (strip_at form r)).rows)
   where
-    by_order : IsNotLast form r ⊎ ((strip_form form (strip_at form r)).rows ≤ row_in_strip form r + 1) → place_behind form p r n row ≡ place_behind form p r m another
+    by_order : IsNotLast form r ⊎ ((strip_form form (strip_at form r)).rows ≤ row_in_strip form r + 1)
+        → place_behind form p r n row ≡ place_behind form p r m another
     by_order (inl inside) = rw (rows, numbers inside) refl
     by_order (inr last) =
         let test : nat_lt (row_in_strip form r + 1) (strip_form form (strip_at form r)).rows ≡ false = grind (arith, nat_tests, last) in
         rw test refl
 
-module _ (by_place : AreBitsByPlace) (lines_read : LinesAreRead) (chains : FilesHaveOneChain) (file : List ℕ) (p r : ℕ) (place another : Option LongPlace)
+module _ (by_place : AreBitsByPlace) (lines_read : LinesAreRead) (chains : FilesHaveOneChain) (file : List ℕ) (p r : ℕ)
+    (place another : Option LongPlace)
     (is : IsLongBehind file (At start) p r place) (again : IsLongBehind file (At start) p r another) where
   abbrev form : PageForm
   form = is.form
@@ -86,5 +94,6 @@ module _ (by_place : AreBitsByPlace) (lines_read : LinesAreRead) (chains : Files
 
 pub items_have_one_place : AreBitsByPlace → LinesAreRead → FilesHaveOneChain → ItemsHaveOnePlace
 items_have_one_place by_place lines_read chains file begun other item place another reached reached' is again =
-    one_from_start by_place lines_read chains file item.page item.row place another (behind_reached chains file begun item.page item.row place reached is)
+    one_from_start by_place lines_read chains file item.page item.row place another
+    (behind_reached chains file begun item.page item.row place reached is)
     (behind_reached chains file other item.page item.row another reached' again)

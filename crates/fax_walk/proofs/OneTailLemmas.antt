@@ -1,5 +1,6 @@
 -- There is one list of items, and one tail.
-use Rattle.std.proofs.Common.{◌≡◌, ℕ, zero, suc, ◌+◌, ◌-◌, ◌*◌, ◌/◌, ◌%◌, ◌<◌, ◌≤◌, inl, inr, Bool, List, [], ◌∷◌, ◌++◌, length, drop, Option, Some, None, Result, Ok, Err, refl, ap, ◌∙◌, subst, arith}
+use Rattle.std.proofs.Common.{◌≡◌, ℕ, zero, suc, ◌+◌, ◌-◌, ◌*◌, ◌/◌, ◌%◌, ◌<◌, ◌≤◌, inl, inr, Bool, List, [], ◌∷◌, ◌++◌, length, drop}
+use Rattle.std.proofs.Common.{Option, Some, None, Result, Ok, Err, refl, ap, ◌∙◌, subst, arith}
 use Rattle.std.proofs.Math.Nat.{mul-le-mul_left}
 use Rattle.std.proofs.lemmas.Bool.{cases_lt}
 use Rattle.std.specs.Prelude.{slice_get}
@@ -22,7 +23,8 @@ use Rattle.fax_walk.specs.declared.cursor.Cursor.{Cursor}
 use Rattle.fax_walk.specs.Items.{Item, numbered}
 use Rattle.fax_walk.specs.declared.end.End.{End}
 use Rattle.fax_walk.specs.declared.end.End.TheVariants.{Outside, Fault}
-use Rattle.fax_walk.specs.Items.{chain_end, stop_at, Follows, ArePageItems, AreFromRow, AreFromRowOf, AreFromPage, ArePagesItems, AreItemsUnder, AreItems}
+use Rattle.fax_walk.specs.Items.{chain_end, stop_at, Follows, ArePageItems, AreFromRow, AreFromRowOf, AreFromPage, ArePagesItems}
+use Rattle.fax_walk.specs.Items.{AreItemsUnder, AreItems}
 use Rattle.fax_walk.specs.Tail.{end_past_chain, IsTailOver, IsTailUnder, IsTail}
 use Rattle.fax_files.specs.Laws.{IsWholeForm, FormsAreWhole}
 use Rattle.fax_page.specs.declared.StripForm.{StripForm}
@@ -56,7 +58,8 @@ module _ (strips_read : (form : StripForm) → ReadsStripsOneWay form) (endian :
       strips : List (List (List Colour))
       end : Option Cause
       are : AreStrips endian file q form s strips end
-      one : (others : List (List (List Colour))) (other : Option Cause) → AreStrips endian file q form s others other → (others ≡ strips) × (other ≡ end)
+      one : (others : List (List (List Colour))) (other : Option Cause) → AreStrips endian file q form s others other
+          → (others ≡ strips) × (other ≡ end)
 
     only_none : (s : ℕ) → s ≡ form.strips → (others : List (List (List Colour))) (other : Option Cause)
         → AreStrips endian file q form s others other → (others ≡ []) × (other ≡ None)
@@ -67,7 +70,8 @@ module _ (strips_read : (form : StripForm) → ReadsStripsOneWay form) (endian :
     none_after : (s : ℕ) → s ≡ form.strips → OneStrips s
     none_after s last = record { strips = []; end = None; are = inl (last, refl); one = only_none s last }
 
-    only_outside : (s : ℕ) → s < form.strips → strip_bytes endian file q s ≡ None → (others : List (List (List Colour))) (other : Option Cause)
+    only_outside : (s : ℕ) → s < form.strips → strip_bytes endian file q s ≡ None
+        → (others : List (List (List Colour))) (other : Option Cause)
         → AreStrips endian file q form s others other → (others ≡ []) × (other ≡ Some (File StripOutside))
     only_outside s due none [] other (inl e) = absurd (omega (arith, e.0))
     only_outside s due none [] other (inr e) = (refl, e.2)
@@ -85,13 +89,15 @@ module _ (strips_read : (form : StripForm) → ReadsStripsOneWay form) (endian :
       abbrev Reading : Type 0
       Reading = OneReading (strip_form form s) (bits form.order bytes)
 
-      same_strip : (read : Reading) (rows : List (List Colour)) (some : List ℕ) (stop : Option StripFault) → strip_bytes endian file q s ≡ Some some
+      same_strip : (read : Reading) (rows : List (List Colour)) (some : List ℕ) (stop : Option StripFault)
+          → strip_bytes endian file q s ≡ Some some
           → IsStrip (strip_form form s) (bits form.order some) rows stop → (rows ≡ read.rows) × (stop ≡ read.end)
       same_strip read rows some stop there_too strip =
           let same : some ≡ bytes = cc in
           read.one rows stop (subst (λ (l : List ℕ). IsStrip (strip_form form s) (bits form.order l) rows stop) same strip)
 
-      only_whole : (read : Reading) → read.end ≡ None → (rest : OneStrips (s + 1)) → (others : List (List (List Colour))) (other : Option Cause)
+      only_whole : (read : Reading) → read.end ≡ None → (rest : OneStrips (s + 1))
+          → (others : List (List (List Colour))) (other : Option Cause)
           → AreStrips endian file q form s others other → (others ≡ read.rows ∷ rest.strips) × (other ≡ rest.end)
       only_whole read whole rest [] other (inl e) = absurd (omega (arith, e.0))
       only_whole read whole rest [] other (inr e) = absurd (cc (e.1, there))
@@ -111,7 +117,8 @@ module _ (strips_read : (form : StripForm) → ReadsStripsOneWay form) (endian :
         one = only_whole read whole rest;
       }
 
-      only_broken : (read : Reading) (fault : StripFault) → read.end ≡ Some fault → (others : List (List (List Colour))) (other : Option Cause)
+      only_broken : (read : Reading) (fault : StripFault) → read.end ≡ Some fault
+          → (others : List (List (List Colour))) (other : Option Cause)
           → AreStrips endian file q form s others other → (others ≡ read.rows ∷ []) × (other ≡ Some (Strip fault))
       only_broken read fault broken [] other (inl e) = absurd (omega (arith, e.0))
       only_broken read fault broken [] other (inr e) = absurd (cc (e.1, there))
@@ -137,7 +144,8 @@ module _ (strips_read : (form : StripForm) → ReadsStripsOneWay form) (endian :
     by_bytes : (s : ℕ) → s < form.strips → (o : Option (List ℕ)) → strip_bytes endian file q s ≡ o → OneStrips (s + 1) → OneStrips s
     by_bytes s due None e rest = is_outside s due e
     by_bytes s due (Some bytes) e rest =
-        let read : OneReading (strip_form form s) (bits form.order bytes) = one_reading (strips_read (strip_form form s)) (bits form.order bytes) in
+        let read : OneReading (strip_form form s) (bits form.order bytes) =
+        one_reading (strips_read (strip_form form s)) (bits form.order bytes) in
         by_stop s due bytes e read read.end refl rest
 
     one_strips : (fuel s : ℕ) → s + fuel ≡ form.strips → OneStrips s
@@ -149,7 +157,8 @@ module _ (strips_read : (form : StripForm) → ReadsStripsOneWay form) (endian :
       items : List Item
       stop : Option (ℕ × Cause)
       part : ArePageItems endian file q form p r items stop
-      one : (others : List Item) (other : Option (ℕ × Cause)) → ArePageItems endian file q form p r others other → (others ≡ items) × (other ≡ stop)
+      one : (others : List Item) (other : Option (ℕ × Cause)) → ArePageItems endian file q form p r others other
+          → (others ≡ items) × (other ≡ stop)
 
     one_part : (p r : ℕ) → r < form.rows → OnePart p r
     one_part p r within =
@@ -199,17 +208,20 @@ module _ (strips_read : (form : StripForm) → ReadsStripsOneWay form) (endian :
       abbrev FromForm : ℕ → List Item → End → Type 0
       FromForm r items end = AreFromRowOf endian file q form p r behind items end
 
-      only_above : (r : ℕ) → form.rows < r → (others : List Item) (other : End) → FromForm r others other → (others ≡ []) × (other ≡ Outside)
+      only_above : (r : ℕ) → form.rows < r → (others : List Item) (other : End) → FromForm r others other
+          → (others ≡ []) × (other ≡ Outside)
       only_above r above others other (inl e) = (e.1, e.2)
       only_above r above others other (inr (inl e)) = absurd (omega (arith, e.0))
       only_above r above others other (inr (inr e)) = absurd (omega (arith, e.0))
 
-      only_at_end : (r : ℕ) → r ≡ form.rows → (others : List Item) (other : End) → FromForm r others other → (others ≡ one_behind.items) × (other ≡ one_behind.end)
+      only_at_end : (r : ℕ) → r ≡ form.rows → (others : List Item) (other : End) → FromForm r others other
+          → (others ≡ one_behind.items) × (other ≡ one_behind.end)
       only_at_end r last others other (inl e) = absurd (omega (arith, e.0))
       only_at_end r last others other (inr (inl e)) = one_behind.one others other e.1
       only_at_end r last others other (inr (inr e)) = absurd (omega (arith, e.0))
 
-      only_within : (r : ℕ) → r < form.rows → (from : IsOne (AreFromRow endian file q form p r behind)) → (others : List Item) (other : End) → FromForm r others other
+      only_within : (r : ℕ) → r < form.rows → (from : IsOne (AreFromRow endian file q form p r behind)) → (others : List Item) (other : End)
+          → FromForm r others other
           → (others ≡ from.items) × (other ≡ from.end)
       only_within r within from others other (inl e) = absurd (omega (arith, e.0))
       only_within r within from others other (inr (inl e)) = absurd (omega (arith, e.0))
@@ -229,9 +241,11 @@ module _ (strips_read : (form : StripForm) → ReadsStripsOneWay form) (endian :
       ]
 
   module _ (forms : FormsAreWhole) where
-    one_from_page : (q p r : ℕ) (behind : List Item → End → Type 0) → IsOne behind → (answer : Result PageForm FileFault) → page endian file q ≡ answer
+    one_from_page : (q p r : ℕ) (behind : List Item → End → Type 0) → IsOne behind → (answer : Result PageForm FileFault)
+        → page endian file q ≡ answer
         → IsOne (AreFromPage endian file q p r behind answer)
-    one_from_page q p r behind one_behind (Err refused) e = record { items = []; end = Fault p 0 (File refused); is = (refl, refl); one = λ others other are. are }
+    one_from_page q p r behind one_behind (Err refused) e =
+        record { items = []; end = Fault p 0 (File refused); is = (refl, refl); one = λ others other are. are }
     one_from_page q p r behind one_behind (Ok form) e =
         let from = one_from_form q form (forms endian file q form e) p behind one_behind r in
         record { items = from.items; end = from.end; is = from.is; one = from.one }
@@ -239,22 +253,27 @@ module _ (strips_read : (form : StripForm) → ReadsStripsOneWay form) (endian :
     pub one_of_pages : (fault : Option FileFault) (p : ℕ) (offsets : List ℕ) → IsOne (ArePagesItems endian file fault p offsets)
     one_of_pages fault p [] = record { items = []; end = chain_end p fault; is = (refl, refl); one = λ others other are. are }
     one_of_pages fault p (q ∷ offsets) =
-        let from = one_from_page q p 0 (ArePagesItems endian file fault (p + 1) offsets) (one_of_pages fault (p + 1) offsets) (page endian file q) refl in
+        let from = one_from_page q p 0 (ArePagesItems endian file fault (p + 1) offsets) (one_of_pages fault (p + 1) offsets)
+        (page endian file q) refl in
         record { items = from.items; end = from.end; is = from.is; one = from.one }
 
-    pub one_over : (offsets : List ℕ) (fault : Option FileFault) (at : Cursor) (here : Option ℕ) → IsOne (IsTailOver endian file offsets fault at here)
-    one_over offsets fault at None = record { items = []; end = end_past_chain (length offsets) fault at; is = (refl, refl); one = λ others other are. are }
+    pub one_over : (offsets : List ℕ) (fault : Option FileFault) (at : Cursor) (here : Option ℕ)
+        → IsOne (IsTailOver endian file offsets fault at here)
+    one_over offsets fault at None =
+        record { items = []; end = end_past_chain (length offsets) fault at; is = (refl, refl); one = λ others other are. are }
     one_over offsets fault at (Some q) =
         let from = one_from_page q at.page at.row (ArePagesItems endian file fault (at.page + 1) (drop (at.page + 1) offsets))
         (one_of_pages fault (at.page + 1) (drop (at.page + 1) offsets)) (page endian file q) refl in
         record { items = from.items; end = from.end; is = from.is; one = from.one }
 
-module _ (strips_read : (form : StripForm) → ReadsStripsOneWay form) (forms : FormsAreWhole) (chains : FilesHaveOneChain) (file : List ℕ) where
+module _ (strips_read : (form : StripForm) → ReadsStripsOneWay form) (forms : FormsAreWhole) (chains : FilesHaveOneChain)
+    (file : List ℕ) where
   one_of_header : (answer : Result Header FileFault) → IsOne (AreItemsUnder file answer)
   one_of_header (Err fault) = record { items = []; end = Fault 0 0 (File fault); is = (refl, refl); one = λ others other are. are }
   one_of_header (Ok head) =
       let chain : HasOneChain head file = chains head file in
-      let all : IsOne (ArePagesItems head.endian file chain.end 0 chain.offsets) = one_of_pages strips_read head.endian file forms chain.end 0 chain.offsets in
+      let all : IsOne (ArePagesItems head.endian file chain.end 0 chain.offsets) =
+      one_of_pages strips_read head.endian file forms chain.end 0 chain.offsets in
       record {
         items = all.items;
         end = all.end;
@@ -263,7 +282,8 @@ module _ (strips_read : (form : StripForm) → ReadsStripsOneWay form) (forms : 
             let same = chain.one are.0 are.1 are.2 in
             let at_offsets : ArePagesItems head.endian file are.1 0 chain.offsets others other =
             subst (λ (l : List ℕ). ArePagesItems head.endian file are.1 0 l others other) same.0 are.3 in
-            all.one others other (subst (λ (e : Option FileFault). ArePagesItems head.endian file e 0 chain.offsets others other) same.1 at_offsets);
+            all.one others other (subst (λ (e : Option FileFault). ArePagesItems head.endian file e 0 chain.offsets others other) same.1
+            at_offsets);
       }
 
   pub one_items : IsOne (AreItems file)
@@ -284,7 +304,8 @@ module _ (strips_read : (form : StripForm) → ReadsStripsOneWay form) (forms : 
             let at_offsets : IsTailOver head.endian file chain.offsets are.1 at (slice_get chain.offsets at.page) others other =
             subst (λ (l : List ℕ). IsTailOver head.endian file l are.1 at (slice_get l at.page) others other) same.0 are.3 in
             all.one others other
-            (subst (λ (e : Option FileFault). IsTailOver head.endian file chain.offsets e at (slice_get chain.offsets at.page) others other) same.1 at_offsets);
+            (subst (λ (e : Option FileFault). IsTailOver head.endian file chain.offsets e at (slice_get chain.offsets at.page) others other)
+            same.1 at_offsets);
       }
 
   pub one_tail : (at : Cursor) → IsOne (IsTail file at)

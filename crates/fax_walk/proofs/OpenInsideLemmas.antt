@@ -1,5 +1,6 @@
 -- A page that is opened at a place inside one of its strips.
-use Rattle.std.proofs.Common.{◌≡◌, ℕ, ◌+◌, ◌*◌, ◌<◌, ◌^◌, ◌≤◌, inl, inr, min, List, [], ◌++◌, length, drop, Option, Some, None, Ok, refl, sym, ap, ◌∙◌, subst, arith, append_assoc, length-append}
+use Rattle.std.proofs.Common.{◌≡◌, ℕ, ◌+◌, ◌*◌, ◌<◌, ◌^◌, ◌≤◌, inl, inr, min, List, [], ◌++◌, length, drop, Option, Some, None, Ok, refl}
+use Rattle.std.proofs.Common.{sym, ap, ◌∙◌, subst, arith, append_assoc, length-append}
 use Rattle.std.proofs.Math.Nat.{div-add-mod}
 use Rattle.fax_bits.specs.Bits.{bits}
 use Rattle.fax_bits.specs.declared.Colour.{Colour}
@@ -27,10 +28,13 @@ use Rattle.fax_walk.proofs.OpenLemmas.{strip_there}
 use Rattle.fax_walk.proofs.PageItemLemmas.{counted, shown_length}
 use Rattle.fax_walk.proofs.LongStripLemmas.{nothing_left, strips_behind, numbered_both, shown_both}
 
-module _ (due : PageDue) (place : LongPlace) (same_page : due.page ≡ place.at.page) (limits : IsPageForm due.form) (whole : IsWholeForm due.form)
-    (inside : IsRowInside due.form place.at.row) (bytes : List ℕ) (there : bytes_of due.directory (strip_at due.form place.at.row) ≡ Some bytes)
+module _ (due : PageDue) (place : LongPlace) (same_page : due.page ≡ place.at.page) (limits : IsPageForm due.form)
+    (whole : IsWholeForm due.form)
+    (inside : IsRowInside due.form place.at.row) (bytes : List ℕ) (there : bytes_of due.directory (strip_at due.form place.at.row)
+    ≡ Some bytes)
     (strip : StripState)
-    (at_place : IsAtPlace (strip_form due.form (strip_at due.form place.at.row)) bytes (row_in_strip due.form place.at.row) place strip) (handed : List Colour) where
+    (at_place : IsAtPlace (strip_form due.form (strip_at due.form place.at.row)) bytes (row_in_strip due.form place.at.row) place strip)
+    (handed : List Colour) where
   abbrev number : ℕ
   number = strip_at due.form place.at.row
 
@@ -56,7 +60,16 @@ module _ (due : PageDue) (place : LongPlace) (same_page : due.page ≡ place.at.
   abbrev reference : List Colour
   reference = at_place.0
 
-  abbrev strip_is : strip ≡ record { form = strip_form form number; bytes = bytes; place = place.bits; row = row; read = 0; reference = reference; fault = None }
+  abbrev strip_is : strip ≡ record {
+    form = strip_form form number;
+    bytes = bytes;
+    place = place.bits;
+    row = row;
+    read = 0;
+    reference =
+        reference;
+    fault = None;
+  }
   strip_is = at_place.2
 
   parts : number * form.rows_per_strip + row ≡ place.at.row
@@ -116,7 +129,8 @@ module _ (due : PageDue) (place : LongPlace) (same_page : due.page ≡ place.at.
     abbrev e : ℕ
     e = place.at.row + length own
 
-    lines : AreLines (strip_form form number) (row_in_strip form place.at.row) reference (drop place.bits (bits form.order bytes)) own still.read.stop still.read.left
+    lines : AreLines (strip_form form number) (row_in_strip form place.at.row) reference (drop place.bits (bits form.order bytes)) own
+        still.read.stop still.read.left
     lines = rw strip_is at still.read.lines
 
     none_skipped : skipped opened ≡ 0
@@ -134,26 +148,38 @@ module _ (due : PageDue) (place : LongPlace) (same_page : due.page ≡ place.at.
     items_are : items ≡ numbered place.at.page place.at.row (shown form own) ++ others
     items_are =
         let first : row_of opened + 0 ≡ place.at.row = omega (arith, row_of_opened) in
-        let all : items ≡ numbered place.at.page place.at.row (shown form still.rows) ++ still.others = rw (none_skipped, first, same_page) at still.items_are in
+        let all : items ≡ numbered place.at.page place.at.row (shown form still.rows) ++ still.others =
+        rw (none_skipped, first, same_page) at still.items_are in
         all
         ∙ ap (λ (l : List (List Colour)). numbered place.at.page place.at.row (shown form l) ++ still.others) still.read.rows_are
-        ∙ ap (λ (l : List (List Colour)). numbered place.at.page place.at.row l ++ still.others) (shown_both form own (joined still.read.others))
-        ∙ ap (λ (l : List Item). l ++ still.others) (numbered_both place.at.page place.at.row (shown form own) (shown form (joined still.read.others)))
+        ∙ ap (λ (l : List (List Colour)). numbered place.at.page place.at.row l ++ still.others)
+        (shown_both form own (joined still.read.others))
+        ∙ ap (λ (l : List Item). l ++ still.others) (numbered_both place.at.page place.at.row (shown form own)
+        (shown form (joined still.read.others)))
         ∙ append_assoc (numbered place.at.page place.at.row (shown form own))
         (numbered place.at.page (place.at.row + length (shown form own)) (shown form (joined still.read.others))) still.others
-        ∙ ap (λ (n : ℕ). numbered place.at.page place.at.row (shown form own) ++ (numbered place.at.page (place.at.row + n) (shown form (joined still.read.others)) ++ still.others))
+        ∙ ap (λ (n : ℕ). numbered place.at.page place.at.row (shown form own) ++ (numbered place.at.page (place.at.row + n)
+        (shown form (joined still.read.others)) ++ still.others))
         (length_own own)
 
     all_rows : row_of opened + length still.rows ≡ e + length (joined still.read.others)
-    all_rows = omega (arith, row_of_opened, ap (λ (l : List (List Colour)). length l) still.read.rows_are, length-append own (joined still.read.others))
+    all_rows = omega (
+      arith,
+      row_of_opened,
+      ap (λ (l : List (List Colour)). length l) still.read.rows_are,
+      length-append own
+          (joined still.read.others),
+    )
 
-    to_tail : e ≤ form.rows → AreFromRowOf due.directory.endian due.directory.file due.directory.offset form place.at.page e behind others end
+    to_tail : e ≤ form.rows → AreFromRowOf due.directory.endian due.directory.file due.directory.offset form place.at.page e behind others
+        end
         → IsTail file (record { page = place.at.page; row = e }) others end
     to_tail within (inl above) = absurd (omega (arith, within, above.0))
     to_tail within (inr (inl (last, are))) =
         subst (λ (n : ℕ). IsTail file (record { page = place.at.page; row = n }) others end) (sym last) (named.from_behind others end are)
     to_tail within (inr (inr (below, from))) = named.from_any e others end below
-        (subst (λ (p : ℕ). AreFromRow due.directory.endian due.directory.file due.directory.offset form p e behind others end) (sym same_page) from)
+        (subst (λ (p : ℕ). AreFromRow due.directory.endian due.directory.file due.directory.offset form p e behind others end)
+        (sym same_page) from)
 
     follows : Follows place.at.page behind (stop_at (e + length (joined still.read.others)) still.cause) still.others end
     follows =
@@ -161,22 +187,29 @@ module _ (due : PageDue) (place : LongPlace) (same_page : due.page ≡ place.at.
         (subst (λ (n : ℕ). Follows due.page behind (stop_at n still.cause) still.others end) all_rows still.follows)
 
     follows_strip : (stop : Option StripFault) → AreStripsBehind due.directory form number stop still.read.others still.cause
-        → AreLines (strip_form form number) (row_in_strip form place.at.row) reference (drop place.bits (bits form.order bytes)) own stop still.read.left
+        → AreLines (strip_form form number) (row_in_strip form place.at.row) reference (drop place.bits (bits form.order bytes)) own stop
+        still.read.left
         → FollowsStrip file (record { page = place.at.page; row = e }) stop others end
     follows_strip None strips read =
-        let count = counted (strip_form form number) (row_in_strip form place.at.row) reference (drop place.bits (bits form.order bytes)) own None still.read.left read in
+        let count = counted (strip_form form number) (row_in_strip form place.at.row) reference (drop place.bits (bits form.order bytes))
+        own None still.read.left read in
         let within = strip_there form place.at.row limits inside.0 in
         let needed = whole.needed number within in
         let e_is : e ≡ min ((number + 1) * form.rows_per_strip) form.rows = omega (arith, count, parts, needed) in
         to_tail (omega (arith, e_is))
-        (strips_behind due.directory.endian due.directory.file due.directory.offset form whole place.at.page number e behind still.read.others still.cause still.others end
+        (strips_behind due.directory.endian due.directory.file due.directory.offset form whole place.at.page number e behind
+        still.read.others still.cause still.others end
         within e_is strips follows)
     follows_strip (Some fault) (none, cause_is) read =
         let stopped : (still.others ≡ []) × (end ≡ Fault place.at.page (e + length (joined still.read.others)) (Strip fault)) =
-        subst (λ (c : Option Cause). Follows place.at.page behind (stop_at (e + length (joined still.read.others)) c) still.others end) cause_is follows in
+        subst (λ (c : Option Cause). Follows place.at.page behind (stop_at (e + length (joined still.read.others)) c) still.others end)
+        cause_is follows in
         let no_more : length (joined still.read.others) ≡ 0 = ap (λ (l : List (List (List Colour))). length (joined l)) none in
-        let row_is : e + length (joined still.read.others) ≡ e = omega (arith, no_more) in
-        (nothing_left form place.at.page e still.read.others still.others none stopped.0, stopped.1 ∙ ap (λ (n : ℕ). Fault place.at.page n (Strip fault)) row_is)
+        let row_is : e + length (joined still.read.others) ≡ e = omega (arith, no_more) in (
+          nothing_left form place.at.page e still.read.others still.others none stopped.0,
+          stopped.1
+              ∙ ap (λ (n : ℕ). Fault place.at.page n (Strip fault)) row_is,
+        )
 
     from_place : AreFromPlace file form bytes place reference items end
     from_place = record {

@@ -42,7 +42,8 @@ module _ (due : PageDue) (first : ℕ) (limits : IsPageForm due.form) (there : f
       end = Some (File StripOutside);
       read = inr (strip_there due.form first limits there, outside, refl);
       items_are = rw (shown_none due.form, drop_none (first % due.form.rows_per_strip)) refl;
-      stop_is = let same : strip_number * due.form.rows_per_strip + 0 ≡ strip_number * due.form.rows_per_strip = omega arith in rw same refl;
+      stop_is =
+          let same : strip_number * due.form.rows_per_strip + 0 ≡ strip_number * due.form.rows_per_strip = omega arith in rw same refl;
     };
     items_are = refl;
     follows = (refl, refl);
@@ -77,7 +78,8 @@ module _ (due : PageDue) (first : ℕ) (limits : IsPageForm due.form) (there : f
     pub first_due : bytes_of due.directory strip_number ≡ Some bytes → (items : List Item) (end : End)
         → IsDueOnPage opened items end → AreDueFrom due first items end
     first_due found items end still =
-        let strips = strips_from_here opened bytes 0 refl (strip_there due.form first limits there) found still.rows still.cause still.read in
+        let strips =
+        strips_from_here opened bytes 0 refl (strip_there due.form first limits there) found still.rows still.cause still.read in
         let rows_are : still.rows ≡ joined (still.read.own ∷ still.read.others) = still.read.rows_are in
         record {
           own = numbered due.page first (drop (first % due.form.rows_per_strip) (shown due.form still.rows));

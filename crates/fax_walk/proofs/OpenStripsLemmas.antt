@@ -1,5 +1,6 @@
 -- Rows that are put on a page, strip by strip.
-use Rattle.std.proofs.Common.{◌≡◌, ℕ, zero, suc, ◌+◌, ◌*◌, ◌<◌, ◌≤◌, inl, inr, min, List, [], ◌∷◌, ◌++◌, length, take, drop, Option, Some, None, Vec, refl, sym, ap, ◌∙◌, subst, arith, length-drop}
+use Rattle.std.proofs.Common.{◌≡◌, ℕ, zero, suc, ◌+◌, ◌*◌, ◌<◌, ◌≤◌, inl, inr, min, List, [], ◌∷◌, ◌++◌, length, take, drop, Option, Some}
+use Rattle.std.proofs.Common.{None, Vec, refl, sym, ap, ◌∙◌, subst, arith, length-drop}
 use Rattle.std.specs.declared.alloc.Global.{Global}
 use Rattle.std.proofs.lemmas.List.{take-append-le, drop-append-le, drop-drop, drop_all, take_all, length_push}
 use Rattle.std.proofs.Math.Nat.{mul-le-mul_left}
@@ -16,7 +17,7 @@ use Rattle.fax_walk.specs.declared.open_strips.OpenStrips.{OpenStrips}
 use Rattle.fax_walk.specs.Converted.{strips_of, coded_strips}
 use Rattle.fax_walk.specs.code.OpenStrips.{AreInStrip, HasPutRows}
 
--- rows behind n strips do not change them
+-- rows after n strips do not change them
 pub strips_more : (in_strip n : ℕ) (rows more : List (List Colour)) → n * in_strip ≤ length rows
     → strips_of in_strip n (rows ++ more) ≡ strips_of in_strip n rows
 strips_more in_strip zero rows more far = refl
@@ -48,7 +49,8 @@ strips_count in_strip zero rows = refl
 strips_count in_strip (suc n) rows = ap suc (strips_count in_strip n (drop in_strip rows))
 
 coded_next : (form : PageForm) (k s : ℕ) (strips : List (List (List Colour))) (rows : List (List Colour))
-    → coded_strips form k s (strips ++ rows ∷ []) ≡ coded_strips form k s strips ++ coded_strip (strip_form form (s + length strips)) k rows ∷ []
+    → coded_strips form k s (strips ++ rows ∷ []) ≡ coded_strips form k s strips ++ coded_strip (strip_form form (s + length strips)) k rows
+    ∷ []
 coded_next form k s [] rows =
     let here : s ≡ s + 0 = omega arith in
     ap (λ (i : ℕ). coded_strip (strip_form form i) k rows ∷ []) here
@@ -58,7 +60,8 @@ coded_next form k s (first ∷ strips) rows =
     (coded_next form k (s + 1) strips rows
     ∙ ap (λ (i : ℕ). coded_strips form k (s + 1) strips ++ coded_strip (strip_form form i) k rows ∷ []) there)
 
-contents_next : (strips : List (Vec ℕ Global)) (bytes : Vec ℕ Global) → contents (strips ++ bytes ∷ []) ≡ contents strips ++ bytes.items ∷ []
+contents_next : (strips : List (Vec ℕ Global)) (bytes : Vec ℕ Global)
+    → contents (strips ++ bytes ∷ []) ≡ contents strips ++ bytes.items ∷ []
 contents_next [] bytes = refl
 contents_next (first ∷ strips) bytes = ap (λ (l : List (List ℕ)). first.items ∷ l) (contents_next strips bytes)
 
@@ -74,7 +77,8 @@ enough form limits =
     let count = limits.strips in
     rw count times.0
 
-module _ (writes : WritesRowByRow) (form : PageForm) (k : ℕ) (rows : List (List Colour)) (page : OpenStrips) (put : HasPutRows form k rows page)
+module _ (writes : WritesRowByRow) (form : PageForm) (k : ℕ) (rows : List (List Colour)) (page : OpenStrips)
+    (put : HasPutRows form k rows page)
     (due : length rows < form.rows) where
   abbrev pub n : ℕ
   n = length page.done.items
@@ -115,10 +119,12 @@ module _ (writes : WritesRowByRow) (form : PageForm) (k : ℕ) (rows : List (Lis
 
   pub ready_new : (writer : WriterState) → page.writer ≡ None → writer ≡ writer_beginning (strip_form page.form n) page.k → IsReady writer
   ready_new writer none is =
-      let whole : min (n * in_strip) form.rows ≡ length rows = subst (λ (w : Option WriterState). AreInStrip form k n rows w) none put.in_strip in
+      let whole : min (n * in_strip) form.rows ≡ length rows =
+      subst (λ (w : Option WriterState). AreInStrip form k n rows w) none put.in_strip in
       let nothing : drop (n * in_strip) rows ≡ [] = drop_all (n * in_strip) rows (omega arith) in
       let begun : writer ≡ writer_beginning (strip_form form n) k =
-      is ∙ ap (λ (f : PageForm). writer_beginning (strip_form f n) page.k) put.form_is ∙ ap (writer_beginning (strip_form form n)) put.k_is in
+      is ∙ ap (λ (f : PageForm). writer_beginning (strip_form f n) page.k) put.form_is
+      ∙ ap (writer_beginning (strip_form form n)) put.k_is in
       subst (λ (l : List (List Colour)). HasPut (strip_form form n) k l writer) (sym nothing)
       (subst (HasPut (strip_form form n) k []) (sym begun) (writes.begins (strip_form form n) k))
 
@@ -177,7 +183,8 @@ module _ (writes : WritesRowByRow) (form : PageForm) (k : ℕ) (rows : List (Lis
         ≡ coded_strips form k 0 (strips_of in_strip n more) ++ coded_strip (strip_form form n) k (drop (n * in_strip) more) ∷ [] =
         ap (coded_strips form k 0) strips_next_are
         ∙ coded_next form k 0 (strips_of in_strip n more) (drop (n * in_strip) more)
-        ∙ ap (λ (i : ℕ). coded_strips form k 0 (strips_of in_strip n more) ++ coded_strip (strip_form form i) k (drop (n * in_strip) more) ∷ []) number in
+        ∙ ap (λ (i : ℕ). coded_strips form k 0 (strips_of in_strip n more) ++ coded_strip (strip_form form i) k (drop (n * in_strip) more)
+        ∷ []) number in
         record {
           form_is = put.form_is;
           k_is = put.k_is;

@@ -17,7 +17,8 @@ answered tiff None None directory is = absurd (cc is)
 answered tiff None (Some fault) directory is = absurd (cc is)
 
 -- no directory is answered where there is none, and the chain ends properly
-none_answered : (tiff : TiffFile) (place : Option ℕ) (end : Option FileFault) → Ok None ≡ answer_at tiff place end → (place ≡ None) × (end ≡ None)
+none_answered : (tiff : TiffFile) (place : Option ℕ) (end : Option FileFault) → Ok None ≡ answer_at tiff place end
+    → (place ≡ None) × (end ≡ None)
 none_answered tiff (Some q) end is = absurd (cc is)
 none_answered tiff None None is = (refl, refl)
 none_answered tiff None (Some fault) is = absurd (cc is)

@@ -1,5 +1,7 @@
 -- An output that is written page by page.
-use Rattle.std.proofs.Common.{◌≡◌, ℕ, suc, ◌+◌, ◌-◌, ◌*◌, ◌<◌, ◌≤◌, inl, inr, List, [], ◌∷◌, ◌++◌, length, map, take, drop, Option, Some, None, Result, Ok, Err, refl, sym, ap, ◌∙◌, subst, arith, append_assoc, append-nil, length-append, length-take, length-drop}
+use Rattle.std.proofs.Common.{◌≡◌, ℕ, suc, ◌+◌, ◌-◌, ◌*◌, ◌<◌, ◌≤◌, inl, inr, List, [], ◌∷◌, ◌++◌, length, map, take, drop, Option, Some}
+use Rattle.std.proofs.Common.{None, Result, Ok, Err, refl, sym, ap, ◌∙◌, subst, arith, append_assoc, append-nil, length-append, length-take}
+use Rattle.std.proofs.Common.{length-drop}
 use Rattle.std.specs.Prelude.{flat_map, OnOk}
 use Rattle.std.proofs.Math.Nat.{mul-le-mul_left}
 use Rattle.std.proofs.lemmas.Bool.{cases_lt}
@@ -16,7 +18,8 @@ use Rattle.fax_page.specs.code.Writer.{WriterState}
 use Rattle.fax_files.specs.declared.PageForm.{PageForm}
 use Rattle.fax_files.specs.Pbm.{Image, head_bytes, image_bytes, pbm_of}
 use Rattle.fax_files.specs.PbmLaws.{AreOfWidth}
-use Rattle.fax_files.specs.Written.{Written, WrittenPage, empty_file, four, with_four_at, page_bytes, directory_place, with_page as with_tiff_page, with_pages, file_of}
+use Rattle.fax_files.specs.Written.{Written, WrittenPage, empty_file, four, with_four_at, page_bytes, directory_place}
+use Rattle.fax_files.specs.Written.{with_page as with_tiff_page, with_pages, file_of}
 use Rattle.fax_files.specs.code.Writing.{Writing, with_one_more, length_with, contents}
 use Rattle.fax_walk.specs.declared.options.Options.{Options}
 use Rattle.fax_walk.specs.declared.options.Target.{Target}
@@ -25,7 +28,8 @@ use Rattle.fax_walk.specs.declared.open_strips.OpenStrips.{OpenStrips}
 use Rattle.fax_walk.specs.declared.sheet.Sheet.{Sheet}
 use Rattle.fax_walk.specs.Converted.{SourcePage, strips_of, coded_strips, written_page, target_bytes, IsTooLarge}
 use Rattle.fax_walk.specs.code.OpenStrips.{HasPutRows, AreInStrip}
-use Rattle.fax_walk.specs.code.Output.{Progress, Part, no_rows, with_row, page_of, behind, nothing_written, sheet_form, coding_of, StaysTooLarge, HasImages, HasPages, HasRowsOnPage, HasImageRows, BecomesTooLarge}
+use Rattle.fax_walk.specs.code.Output.{Progress, Part, no_rows, with_row, page_of, behind, nothing_written, sheet_form, coding_of}
+use Rattle.fax_walk.specs.code.Output.{StaysTooLarge, HasImages, HasPages, HasRowsOnPage, HasImageRows, BecomesTooLarge}
 
 -- what follows where a call was done
 pub on_ok : {E : Type 0} {P Q : Type 0} (result : Result (Unit {0}) E) → OnOk result P → (P → Q) → OnOk result Q
@@ -43,7 +47,8 @@ unfolding packed_row
 packed_length row = length-map-range_with_len (λ k. packed_byte row (8 * k)) 0 (packed_len (length row))
 
 -- how many bytes rows of one width take
-rows_length : (width : ℕ) (rows : List (List Colour)) → AreOfWidth width rows → length (flat_map packed_row rows) ≡ length rows * packed_len width
+rows_length : (width : ℕ) (rows : List (List Colour)) → AreOfWidth width rows
+    → length (flat_map packed_row rows) ≡ length rows * packed_len width
 rows_length width [] are = let none : 0 ≡ 0 * packed_len width = omega arith in none
 rows_length width (row ∷ rows) are =
     let later = rows_length width rows are.1 in
@@ -102,7 +107,7 @@ image_begun at sheet old new has new_is fits = record {
   fits = fits;
 }
 
--- a row is put behind the others of its image
+-- a row is put after the others of its image
 pub image_row : (part : Part) (row : List Colour) (old new : List ℕ) → HasImageRows old part → length part.rows < part.sheet.rows
     → length row ≡ part.sheet.width → new ≡ old ++ packed_row row → HasImageRows new (with_row part row)
 image_row part row old new has due width new_is =
@@ -126,7 +131,8 @@ image_row part row old new has due width new_is =
     }
 
 -- an image is ended
-pub image_ended : (part : Part) (bytes : List ℕ) → HasImageRows bytes part → length part.rows ≡ part.sheet.rows → HasImages bytes (behind part)
+pub image_ended : (part : Part) (bytes : List ℕ) → HasImageRows bytes part → length part.rows ≡ part.sheet.rows
+    → HasImages bytes (behind part)
 image_ended part bytes has all =
     let page = page_of part.sheet part.rows in
     let images = map (λ (page : SourcePage). page.image) part.at.pages in
@@ -180,7 +186,8 @@ pages_grow old total k (page ∷ pages) =
     omega (arith, first, later)
 
 -- a TIFF file of no page yet
-pub file_begun : (options : Options) (total : ℕ) (coding : Coding) (writer : Writing) → coding_of options.target ≡ Some coding → total ≤ 65535
+pub file_begun : (options : Options) (total : ℕ) (coding : Coding) (writer : Writing) → coding_of options.target ≡ Some coding
+    → total ≤ 65535
     → writer ≡ record { written = empty_file; total = total; added = 0 } → HasPages coding writer (nothing_written options total)
 unfolding with_pages
 file_begun options total coding writer coding_is few is =
@@ -199,9 +206,12 @@ file_begun options total coding writer coding_is few is =
 target_file : (target : Target) (options : Options) (coding : Coding) (pages : List SourcePage) → coding_of target ≡ Some coding
     → target_bytes target options pages ≡ file_of (map (written_page options coding) pages)
 target_file Pbm options coding pages is = absurd cc
-target_file ToMh options coding pages is = let same : Mh ≡ coding = cc in ap (λ (c : Coding). file_of (map (written_page options c) pages)) same
-target_file ToMr options coding pages is = let same : Mr ≡ coding = cc in ap (λ (c : Coding). file_of (map (written_page options c) pages)) same
-target_file ToMmr options coding pages is = let same : Mmr ≡ coding = cc in ap (λ (c : Coding). file_of (map (written_page options c) pages)) same
+target_file ToMh options coding pages is =
+    let same : Mh ≡ coding = cc in ap (λ (c : Coding). file_of (map (written_page options c) pages)) same
+target_file ToMr options coding pages is =
+    let same : Mr ≡ coding = cc in ap (λ (c : Coding). file_of (map (written_page options c) pages)) same
+target_file ToMmr options coding pages is =
+    let same : Mmr ≡ coding = cc in ap (λ (c : Coding). file_of (map (written_page options c) pages)) same
 
 reached_by : (form : PageForm) (k n : ℕ) (rows : List (List Colour)) (writer : Option WriterState) → length rows ≡ form.rows
     → AreInStrip form k n rows writer → form.rows ≤ n * form.rows_per_strip
@@ -209,7 +219,8 @@ reached_by form k n rows None all is = omega arith
 reached_by form k n rows (Some writer) all is = absurd (omega (arith, all, is.1))
 
 -- a page whose rows were all put has all its strips
-pub all_strips : (form : PageForm) (k : ℕ) (rows : List (List Colour)) (page : OpenStrips) → HasPutRows form k rows page → length rows ≡ form.rows
+pub all_strips : (form : PageForm) (k : ℕ) (rows : List (List Colour)) (page : OpenStrips) → HasPutRows form k rows page
+    → length rows ≡ form.rows
     → length page.done.items ≡ form.strips
 all_strips form k rows page put all =
     let some : 0 < form.rows_per_strip = put.limits.some_rows_per_strip in
@@ -255,7 +266,8 @@ module _ (part : Part) (coding : Coding) (writer : Writing) (page : OpenStrips) 
   strips_are : contents page.done.items ≡ (written source).strips
   strips_are =
       has.2.done
-      ∙ ap (λ (n : ℕ). coded_strips as_put options.k 0 (strips_of as_put.rows_per_strip n part.rows)) (all_strips as_put options.k part.rows page has.2 all)
+      ∙ ap (λ (n : ℕ). coded_strips as_put options.k 0 (strips_of as_put.rows_per_strip n part.rows))
+      (all_strips as_put options.k part.rows page has.2 all)
       ∙ ap (λ (f : PageForm). coded_strips f options.k 0 (strips_of f.rows_per_strip f.strips part.rows)) same_form
 
   with_source : with_tiff_page writer.written writer.total writer.added page.form (contents page.done.items)
@@ -288,7 +300,8 @@ module _ (part : Part) (coding : Coding) (writer : Writing) (page : OpenStrips) 
       let count_is : length file ≡ total = length-map (pages ++ more) written ∙ count in
       let first = with_pages empty_file total 0 (map written pages) in
       let split : with_pages empty_file total 0 file ≡ with_pages first total (0 + length (map written pages)) (map written more) =
-      ap (with_pages empty_file total 0) (map-append written pages more) ∙ pages_append empty_file total 0 (map written pages) (map written more) in
+      ap (with_pages empty_file total 0) (map-append written pages more)
+      ∙ pages_append empty_file total 0 (map written pages) (map written more) in
       let bytes_are : target_bytes options.target options (pages ++ more) ≡ (with_pages empty_file total 0 file).bytes =
       target_file options.target options coding (pages ++ more) has.0.coding_is
       ∙ ap (λ (n : ℕ). (with_pages empty_file n 0 file).bytes) count_is in

@@ -1,5 +1,6 @@
 -- The page that a cursor names.
-use Rattle.std.proofs.Common.{◌≡◌, ℕ, ◌+◌, ◌<◌, ◌≤◌, List, length, drop, Option, Some, None, Result, Ok, Err, inl, inr, refl, ap, ◌∙◌, arith}
+use Rattle.std.proofs.Common.{◌≡◌, ℕ, ◌+◌, ◌<◌, ◌≤◌, List, length, drop, Option, Some, None, Result, Ok, Err, inl, inr, refl, ap, ◌∙◌}
+use Rattle.std.proofs.Common.{arith}
 use Rattle.std.specs.Prelude.{slice_get, nat_lt, false, nat_le, ◌==◌}
 use Rattle.std.proofs.lemmas.Bool.Decides.{nat_tests}
 use Rattle.fax_files.specs.declared.Cause.{Cause}
@@ -18,7 +19,7 @@ use Rattle.fax_walk.specs.code.Due.{ArePagesBehind, IsInFile}
 use Rattle.fax_walk.specs.code.Opening.{PageDue, IsPageDue, IsPageAnswer, IsAnswerOver, IsChainBefore, EndsAt, IsPageOf}
 use Rattle.fax_walk.proofs.EndingLemmas.{row_behind, place_behind, fields_refused, fault_before}
 
--- what follows a page, with another word for what the pages behind it have
+-- what follows a page, with another word for what the pages after it have
 follows_so : (p : ℕ) (behind behind' : List Item → End → Type 0) → ((items : List Item) (end : End) → behind items end → behind' items end)
     → (stop : Option (ℕ × Cause)) (others : List Item) (end : End) → Follows p behind stop others end → Follows p behind' stop others end
 follows_so p behind behind' same None others end follows = same others end follows
@@ -26,7 +27,8 @@ follows_so p behind behind' same (Some stop) others end follows = follows
 
 pub from_row_so : (endian : Endian) (file : List ℕ) (q : ℕ) (form : PageForm) (p r : ℕ) (behind behind' : List Item → End → Type 0)
     → ((items : List Item) (end : End) → behind items end → behind' items end)
-    → (items : List Item) (end : End) → AreFromRow endian file q form p r behind items end → AreFromRow endian file q form p r behind' items end
+    → (items : List Item) (end : End) → AreFromRow endian file q form p r behind items end
+    → AreFromRow endian file q form p r behind' items end
 from_row_so endian file q form p r behind behind' same items end from = record {
   own = from.own;
   others = from.others;
@@ -38,7 +40,7 @@ from_row_so endian file q form p r behind behind' same items end from = record {
 
 -- the chain of a file, before this directory, and what it answers
 module _ (chain : ChainState) (one : HasOneChain chain.tiff.head chain.tiff.file) where
-  -- the pages behind are those of the one chain
+  -- the pages after are those of the one chain
   pub behind_one : (items : List Item) (end : End) → ArePagesBehind chain items end
       → ArePagesItems chain.tiff.head.endian chain.tiff.file one.end chain.given (drop chain.given one.offsets) items end
   behind_one items end (offsets, fault, chained, are) =
@@ -63,7 +65,7 @@ module _ (chain : ChainState) (good : header chain.tiff.file ≡ Ok chain.tiff.h
   row_behind_last : over (Ok None) → 0 < at.row → EndsAt chain.tiff.file at Outside
   row_behind_last last row = row_behind chain.tiff.file at chain.tiff.head good one (rw given at last.0) last.1 row
 
--- a page that is due, behind the directories that its chain handed out before
+-- a page that is due, after the directories that its chain handed out before
 module _ (chain : ChainState) (good : header chain.tiff.file ≡ Ok chain.tiff.head) (one : HasOneChain chain.tiff.head chain.tiff.file)
     (due : PageDue) (at : Cursor) (given : chain.given ≡ at.page) (there : slice_get one.offsets chain.given ≡ Some due.directory.offset)
     (next : due.chain ≡ record chain { given = chain.given + 1 }) (same_page : due.page ≡ chain.given)
@@ -81,7 +83,7 @@ module _ (chain : ChainState) (good : header chain.tiff.file ≡ Ok chain.tiff.h
   form_is : page chain.tiff.head.endian chain.tiff.file due.directory.offset ≡ Ok due.form
   form_is = rw directory_is at is_due.form_is
 
-  -- the pages behind it are those of the one chain
+  -- the pages after it are those of the one chain
   behind : (items : List Item) (end : End) → ArePagesBehind due.chain items end
       → ArePagesItems chain.tiff.head.endian chain.tiff.file one.end (at.page + 1) (drop (at.page + 1) one.offsets) items end
   behind items end are = rw given at (behind_one (record chain { given = chain.given + 1 }) one items end (rw next at are))
@@ -100,7 +102,13 @@ module _ (chain : ChainState) (good : header chain.tiff.file ≡ Ok chain.tiff.h
       ),
       (refl, refl),
     ),
-    (one.offsets, one.end, one.is, let below : nat_lt at.row due.form.rows ≡ false = grind (arith, nat_tests, above) in rw (some, form_is, below) refl),
+    (
+      one.offsets,
+      one.end,
+      one.is,
+      let below : nat_lt at.row due.form.rows ≡ false =
+          grind (arith, nat_tests, above) in rw (some, form_is, below) refl,
+    ),
     λ bits runs. (one.offsets, one.end, one.is, rw (some, form_is) (inr (λ inside. omega (arith, above, inside.0), refl, refl))),
   )
 
@@ -148,7 +156,8 @@ module _ (file : List ℕ) (at : Cursor) (chain : ChainState) (before : IsChainB
   so answer answers = answers.over one_chain.offsets one_chain.end one_chain.is
 
   pub refused_at : (end : End) → IsPageAnswer chain (Err end) → EndsAt file at end
-  refused_at end answers = rw before.file_is at (answer_refused chain good_header one_chain at before.given enough end (so (Err end) answers))
+  refused_at end answers =
+      rw before.file_is at (answer_refused chain good_header one_chain at before.given enough end (so (Err end) answers))
 
   pub last_at : IsPageAnswer chain (Ok None) → at.row ≡ 0 → EndsAt file at Proper
   last_at answers row = rw before.file_is at (behind_last chain good_header one_chain at before.given enough (so (Ok None) answers) row)

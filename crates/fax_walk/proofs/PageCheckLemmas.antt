@@ -1,5 +1,6 @@
 -- The pages of a file that is checked.
-use Rattle.std.proofs.Common.{◌≡◌, ℕ, ◌+◌, ◌*◌, ◌/◌, ◌%◌, ◌≤◌, List, [], ◌∷◌, ◌++◌, length, drop, Option, Some, None, Ok, Err, refl, sym, ap, ◌∙◌, subst, arith, append_assoc, append-nil, length-append, length-drop, inl, inr}
+use Rattle.std.proofs.Common.{◌≡◌, ℕ, ◌+◌, ◌*◌, ◌/◌, ◌%◌, ◌≤◌, List, [], ◌∷◌, ◌++◌, length, drop, Option, Some, None, Ok, Err, refl, sym}
+use Rattle.std.proofs.Common.{ap, ◌∙◌, subst, arith, append_assoc, append-nil, length-append, length-drop, inl, inr}
 use Rattle.std.specs.Prelude.{slice_get}
 use Rattle.std.proofs.lemmas.List.{drop_all}
 use Rattle.std.proofs.Math.Nat.{zero-div, zero-mod}
@@ -55,7 +56,8 @@ refused_page directory p old new fault same refused = record {
 }
 
 -- a page with a form, whose strips were read
-pub formed_page : (directory : TiffDirectory) (form : PageForm) (p : ℕ) (old middle new : List Note) (read : PageRead) → form_of directory ≡ Ok form
+pub formed_page : (directory : TiffDirectory) (form : PageForm) (p : ℕ) (old middle new : List Note) (read : PageRead)
+    → form_of directory ≡ Ok form
     → IsPageForm form → IsWholeForm form → middle ≡ old ++ note_on_entries directory.endian directory.file directory.offset p
     → AreAllBehind directory form p middle new read → IsPageChecked directory p old new read
 formed_page directory form p old middle new read form_is limits whole middle_is (on_strips, new_is, strips) =
@@ -81,7 +83,8 @@ formed_page directory form p old middle new read form_is limits whole middle_is 
             strips = strips.lists;
             end = read.fault;
             read =
-                subst (λ s. AreStrips directory.endian directory.file directory.offset form s strips.lists read.fault) (sym first) strips.strips;
+                subst (λ s. AreStrips directory.endian directory.file directory.offset form s strips.lists read.fault) (sym first)
+                strips.strips;
             items_are = refl;
             stop_is =
                 ap (λ r. stop_at r read.fault) (same_row (0 / n) n (length (joined strips.lists)) read.rows first strips.count);
@@ -95,12 +98,12 @@ formed_page directory form p old middle new read form_is limits whole middle_is 
       );
     }
 
--- page q of a file behind those that were read
+-- page q of a file after those that were read
 module _ (tiff : TiffFile) (given q : ℕ) where
   abbrev directory : TiffDirectory
   directory = directory_of tiff q
 
-  -- its items and then those of the pages behind it
+  -- its items and then those of the pages after it
   items_from : (old new : List Note) (read : PageRead) (checked : IsPageChecked directory given old new read) → read.fault ≡ None
       → (fault : Option FileFault) (offsets : List ℕ) (more : List Item) (end : End)
       → ArePagesItems tiff.head.endian tiff.file fault (given + 1) offsets more end
@@ -108,7 +111,8 @@ module _ (tiff : TiffFile) (given q : ℕ) where
   items_from old new read checked none fault offsets more end behind =
       elim checked.page [
         | inl (form, page) ↦
-            subst (λ answer. AreFromPage tiff.head.endian tiff.file q given 0 (ArePagesItems tiff.head.endian tiff.file fault (given + 1) offsets) answer (checked.own ++ more) end)
+            subst (λ answer. AreFromPage tiff.head.endian tiff.file q given 0
+            (ArePagesItems tiff.head.endian tiff.file fault (given + 1) offsets) answer (checked.own ++ more) end)
             (sym page.form_is)
             (inr (inr (
               page.some_rows,
@@ -116,7 +120,8 @@ module _ (tiff : TiffFile) (given q : ℕ) where
                 own = checked.own;
                 others = more;
                 stop = None;
-                part = subst (λ f. ArePageItems tiff.head.endian tiff.file q form given 0 checked.own (stop_at read.rows f)) none page.items;
+                part =
+                    subst (λ f. ArePageItems tiff.head.endian tiff.file q form given 0 checked.own (stop_at read.rows f)) none page.items;
                 items_are = refl;
                 follows = behind;
               },
@@ -125,13 +130,15 @@ module _ (tiff : TiffFile) (given q : ℕ) where
       ]
 
   -- its items up to its fault
-  items_to : (old new : List Note) (read : PageRead) (cause : Cause) (checked : IsPageChecked directory given old new read) → read.fault ≡ Some cause
+  items_to : (old new : List Note) (read : PageRead) (cause : Cause) (checked : IsPageChecked directory given old new read)
+      → read.fault ≡ Some cause
       → (fault : Option FileFault) (offsets : List ℕ)
       → ArePagesItems tiff.head.endian tiff.file fault given (q ∷ offsets) checked.own (Fault given read.rows cause)
   items_to old new read cause checked some fault offsets =
       elim checked.page [
         | inl (form, page) ↦
-            subst (λ answer. AreFromPage tiff.head.endian tiff.file q given 0 (ArePagesItems tiff.head.endian tiff.file fault (given + 1) offsets) answer checked.own (Fault given read.rows cause))
+            subst (λ answer. AreFromPage tiff.head.endian tiff.file q given 0
+            (ArePagesItems tiff.head.endian tiff.file fault (given + 1) offsets) answer checked.own (Fault given read.rows cause))
             (sym page.form_is)
             (inr (inr (
               page.some_rows,
@@ -139,26 +146,29 @@ module _ (tiff : TiffFile) (given q : ℕ) where
                 own = checked.own;
                 others = [];
                 stop = Some (read.rows, cause);
-                part = subst (λ f. ArePageItems tiff.head.endian tiff.file q form given 0 checked.own (stop_at read.rows f)) some page.items;
+                part =
+                    subst (λ f. ArePageItems tiff.head.endian tiff.file q form given 0 checked.own (stop_at read.rows f)) some page.items;
                 items_are = sym (append-nil checked.own);
                 follows = (refl, refl);
               },
             )))
         | inr refused ↦
             let same : cause ≡ File refused.refused = let both = sym some ∙ refused.fault_is in cc both in
-            subst (λ answer. AreFromPage tiff.head.endian tiff.file q given 0 (ArePagesItems tiff.head.endian tiff.file fault (given + 1) offsets) answer checked.own (Fault given read.rows cause))
+            subst (λ answer. AreFromPage tiff.head.endian tiff.file q given 0
+            (ArePagesItems tiff.head.endian tiff.file fault (given + 1) offsets) answer checked.own (Fault given read.rows cause))
             (sym refused.form_is)
             (refused.no_items, cc (refused.no_rows, same))
       ]
 
-  -- its notes and then those of the pages behind it
+  -- its notes and then those of the pages after it
   notes_from : (old new : List Note) (read : PageRead) (checked : IsPageChecked directory given old new read) → read.fault ≡ None
       → (offsets : List ℕ) (others : List Note) → ArePagesNoted tiff.head.endian tiff.file (given + 1) offsets others
       → ArePagesNoted tiff.head.endian tiff.file given (q ∷ offsets) (checked.noted ++ others)
   notes_from old new read checked none offsets others behind =
       elim checked.page [
         | inl (form, page) ↦
-            subst (λ answer. IsPageAnswerNoted tiff.head.endian tiff.file q given (ArePagesNoted tiff.head.endian tiff.file (given + 1) offsets) answer (checked.noted ++ others))
+            subst (λ answer. IsPageAnswerNoted tiff.head.endian tiff.file q given
+            (ArePagesNoted tiff.head.endian tiff.file (given + 1) offsets) answer (checked.noted ++ others))
             (sym page.form_is)
             (record {
               found = page.found;
@@ -172,12 +182,14 @@ module _ (tiff : TiffFile) (given q : ℕ) where
       ]
 
   -- its notes where it has a fault
-  notes_to : (old new : List Note) (read : PageRead) (cause : Cause) (checked : IsPageChecked directory given old new read) → read.fault ≡ Some cause
+  notes_to : (old new : List Note) (read : PageRead) (cause : Cause) (checked : IsPageChecked directory given old new read)
+      → read.fault ≡ Some cause
       → (offsets : List ℕ) → ArePagesNoted tiff.head.endian tiff.file given (q ∷ offsets) checked.noted
   notes_to old new read cause checked some offsets =
       elim checked.page [
         | inl (form, page) ↦
-            subst (λ answer. IsPageAnswerNoted tiff.head.endian tiff.file q given (ArePagesNoted tiff.head.endian tiff.file (given + 1) offsets) answer checked.noted)
+            subst (λ answer. IsPageAnswerNoted tiff.head.endian tiff.file q given
+            (ArePagesNoted tiff.head.endian tiff.file (given + 1) offsets) answer checked.noted)
             (sym page.form_is)
             (record {
               found = page.found;
@@ -188,7 +200,8 @@ module _ (tiff : TiffFile) (given q : ℕ) where
               follows = inr (subst (λ f. IsFoundCount (stop_at read.rows f) (length page.found) form.strips) some page.whole, refl);
             })
         | inr refused ↦
-            subst (λ answer. IsPageAnswerNoted tiff.head.endian tiff.file q given (ArePagesNoted tiff.head.endian tiff.file (given + 1) offsets) answer checked.noted)
+            subst (λ answer. IsPageAnswerNoted tiff.head.endian tiff.file q given
+            (ArePagesNoted tiff.head.endian tiff.file (given + 1) offsets) answer checked.noted)
             (sym refused.form_is) refused.no_notes
       ]
 
@@ -242,7 +255,7 @@ module _ (tiff : TiffFile) (offsets : List ℕ) (fault : Option FileFault) (good
     notes_are = subst (λ answer. AreNotesUnder tiff.file answer report.notes.items) (sym good) (offsets, fault, chained, noted);
   }
 
-  -- behind the last page of the chain
+  -- after the last page of the chain
   behind_last : (given : ℕ) (report : Report) → ArePagesChecked tiff given report.rows report.notes.items → slice_get offsets given ≡ None
       → IsReportedEnd tiff.file (chain_end given fault) report.pages report.fault → IsReport tiff.file report
   behind_last given report so_far none end_is =
@@ -260,8 +273,14 @@ module _ (tiff : TiffFile) (offsets : List ℕ) (fault : Option FileFault) (good
   proper_report given report so_far within none proper pages no_fault =
       let past = none_past offsets given none in
       behind_last given report so_far none
-      (subst (λ f. IsReportedEnd tiff.file (chain_end given f) report.pages report.fault) (sym proper)
-      (tiff.head, offsets, good, subst (λ f. IsChain tiff.head tiff.file offsets f) proper chained, omega (arith, pages, within, past), no_fault))
+      (subst (λ f. IsReportedEnd tiff.file (chain_end given f) report.pages report.fault) (sym proper) (
+        tiff.head,
+        offsets,
+        good,
+        subst (λ f. IsChain tiff.head tiff.file offsets f) proper chained,
+        omega (arith, pages, within, past),
+        no_fault,
+      ))
 
   pub chain_report : (given : ℕ) (report : Report) (met : FileFault) → ArePagesChecked tiff given report.rows report.notes.items
       → slice_get offsets given ≡ None → fault ≡ Some met → report.pages ≡ given
@@ -271,7 +290,8 @@ module _ (tiff : TiffFile) (offsets : List ℕ) (fault : Option FileFault) (good
       (subst (λ f. IsReportedEnd tiff.file (chain_end given f) report.pages report.fault) (sym stops) (pages, fault_is))
 
   -- at a fault of a page
-  pub stop_report : (given q rows : ℕ) (old : List Note) (read : PageRead) (cause : Cause) (report : Report) → ArePagesChecked tiff given rows old
+  pub stop_report : (given q rows : ℕ) (old : List Note) (read : PageRead) (cause : Cause) (report : Report)
+      → ArePagesChecked tiff given rows old
       → slice_get offsets given ≡ Some q → IsPageChecked (directory_of tiff q) given old report.notes.items read → read.fault ≡ Some cause
       → report.rows ≡ rows + read.rows → report.pages ≡ given → report.fault ≡ Some (record { page = given; row = read.rows }, cause)
       → IsReport tiff.file report

@@ -1,5 +1,6 @@
 -- The items of a page from a row on.
-use Rattle.std.proofs.Common.{◌≡◌, ℕ, suc, ◌+◌, ◌-◌, ◌*◌, ◌/◌, ◌%◌, ◌<◌, ◌≤◌, ◌⊎◌, inl, inr, min, Bool, true, false, List, [], ◌∷◌, ◌++◌, map, length, drop, Option, Some, None, refl, sym, ap, ◌∙◌, subst, arith, length-append, length-drop}
+use Rattle.std.proofs.Common.{◌≡◌, ℕ, suc, ◌+◌, ◌-◌, ◌*◌, ◌/◌, ◌%◌, ◌<◌, ◌≤◌, ◌⊎◌, inl, inr, min, Bool, true, false, List, [], ◌∷◌, ◌++◌}
+use Rattle.std.proofs.Common.{map, length, drop, Option, Some, None, refl, sym, ap, ◌∙◌, subst, arith, length-append, length-drop}
 use Rattle.std.proofs.Math.Nat.{mul-le-mul_left}
 use Rattle.std.proofs.lemmas.Bool.{cases_lt}
 use Rattle.std.proofs.lemmas.List.{length-map, drop-drop, drop_at, drop_all, drop-map}
@@ -22,7 +23,8 @@ abbrev pub IsCount : {A : Type 0} → Option A → ℕ → ℕ → Type 0
 IsCount None n all = n ≡ all
 IsCount (Some stop) n all = n < all
 
-pub counted : (form : StripForm) (i : ℕ) (reference : List Colour) (b : List Bool) (rows : List (List Colour)) (end : Option StripFault) (left : List Bool)
+pub counted : (form : StripForm) (i : ℕ) (reference : List Colour) (b : List Bool) (rows : List (List Colour)) (end : Option StripFault)
+    (left : List Bool)
     → AreLines form i reference b rows end left → IsCount end (i + length rows) form.rows
 counted form i reference b [] None left lines = omega (arith, lines.1)
 counted form i reference b [] (Some fault) left lines = omega (arith, lines.1.0)
@@ -31,7 +33,8 @@ counted form i reference b (row ∷ rows) end left lines =
     subst (λ (k : ℕ). IsCount end k form.rows) n (counted form (i + 1) row lines.0 rows end left lines.3)
 
 -- how many rows a strip has
-pub strip_count : (form : StripForm) (b : List Bool) (rows : List (List Colour)) (end : Option StripFault) → IsStrip form b rows end → IsCount end (length rows) form.rows
+pub strip_count : (form : StripForm) (b : List Bool) (rows : List (List Colour)) (end : Option StripFault) → IsStrip form b rows end
+    → IsCount end (length rows) form.rows
 strip_count form b rows end strip =
     let n : 0 + length rows ≡ length rows = omega arith in
     subst (λ (k : ℕ). IsCount end k form.rows) n (counted form 0 _ b rows end strip.left strip.lines)
@@ -81,7 +84,8 @@ module _ (endian : Endian) (file : List ℕ) (q : ℕ) (form : PageForm) (limits
       let parts : length (joined (rows ∷ strips)) ≡ length rows + length (joined strips) = length-append rows (joined strips) in
       elim first.1 [
         | inl (whole, rest) ↦
-            let n : min ((s + 1) * in_strip) form.rows + length (joined strips) ≡ min (s * in_strip) form.rows + length (joined (rows ∷ strips)) = omega arith in
+            let n : min ((s + 1) * in_strip) form.rows + length (joined strips)
+            ≡ min (s * in_strip) form.rows + length (joined (rows ∷ strips)) = omega arith in
             subst (λ (k : ℕ). IsCount end k form.rows) n (total (s + 1) strips end rest)
         | inr (cause, fewer, last, end_is) ↦
             let none : length (joined strips) ≡ 0 = ap (λ (l : List (List (List Colour))). length (joined l)) last in
@@ -122,8 +126,10 @@ module _ (endian : Endian) (file : List ℕ) (q : ℕ) (form : PageForm) (limits
               let full : length rows ≡ in_strip = omega arith in
               let next : Later (s + 1) t strips end = later (s + 1) strips end rest t (omega arith) (omega arith) there in
               let n : t * in_strip - s * in_strip ≡ in_strip + (t * in_strip - (s + 1) * in_strip) = omega arith in
-              let rest_is : drop (t * in_strip - (s + 1) * in_strip) (joined strips) ≡ drop (t * in_strip - s * in_strip) (joined (rows ∷ strips)) =
-              sym (drop_strip rows (joined strips) (t * in_strip - (s + 1) * in_strip) full) ∙ ap (λ (k : ℕ). drop k (joined (rows ∷ strips))) (sym n) in
+              let rest_is : drop (t * in_strip - (s + 1) * in_strip) (joined strips)
+              ≡ drop (t * in_strip - s * in_strip) (joined (rows ∷ strips)) =
+              sym (drop_strip rows (joined strips) (t * in_strip - (s + 1) * in_strip) full)
+              ∙ ap (λ (k : ℕ). drop k (joined (rows ∷ strips))) (sym n) in
               (next.0, next.1, next.2 ∙ rest_is)
           | inr (cause, fewer, last, end_is) ↦
               let none : length (joined strips) ≡ 0 = ap (λ (l : List (List (List Colour))). length (joined l)) last in
@@ -143,14 +149,15 @@ module _ (endian : Endian) (file : List ℕ) (q : ℕ) (form : PageForm) (limits
   pub shown_drop : (n : ℕ) (rows : List (List Colour)) → shown form (drop n rows) ≡ drop n (shown form rows)
   shown_drop n rows = drop_exchange form.exchanged n rows
 
-  -- where an item of a page stands, and what stands behind it
+  -- where an item of a page stands, and what stands after it
   pub record Split (p r : ℕ) (rows : List (List Colour)) (before after : List Item) (item : Item) : Type 0 where
     pub page_is : item.page ≡ p
     pub row_is : item.row ≡ r + length before
     pub inside : length before < length rows
     pub after_is : after ≡ numbered p (item.row + 1) (drop (length before + 1) rows)
 
-  pub split : (p r : ℕ) (rows : List (List Colour)) (before after : List Item) (item : Item) → before ++ item ∷ after ≡ numbered p r rows → Split p r rows before after item
+  pub split : (p r : ℕ) (rows : List (List Colour)) (before after : List Item) (item : Item) → before ++ item ∷ after ≡ numbered p r rows
+      → Split p r rows before after item
   split p r [] [] after item e = absurd cc
   split p r [] (x ∷ before) after item e = absurd cc
   split p r (row ∷ rows) [] after item e =
@@ -175,7 +182,7 @@ module _ (endian : Endian) (file : List ℕ) (q : ℕ) (form : PageForm) (limits
         after_is = s.after_is ∙ ap (λ (k : ℕ). numbered p (item.row + 1) (drop k (row ∷ rows))) n;
       }
 
-  -- behind an item of a page: the page's end, or the items from the next row on
+  -- after an item of a page: the page's end, or the items from the next row on
   abbrev Behind : ℕ → List Item → Item → Option (ℕ × Cause) → Type 0
   Behind p after item stop =
       ((item.row + 1 ≡ form.rows) × (after ≡ []) × (stop ≡ None))
@@ -206,7 +213,8 @@ module _ (endian : Endian) (file : List ℕ) (q : ℕ) (form : PageForm) (limits
 
     count : IsCount part.end (s * in_strip + length (joined part.strips)) form.rows
     count =
-        let n : min (s * in_strip) form.rows + length (joined part.strips) ≡ s * in_strip + length (joined part.strips) = omega (arith, place) in
+        let n : min (s * in_strip) form.rows + length (joined part.strips) ≡ s * in_strip + length (joined part.strips) =
+        omega (arith, place) in
         subst (λ (k : ℕ). IsCount part.end k form.rows) n (total s part.strips part.end part.read)
 
     at_most : (end : Option Cause) (n rows : ℕ) → IsCount end n rows → n ≤ rows
@@ -228,7 +236,14 @@ module _ (endian : Endian) (file : List ℕ) (q : ℕ) (form : PageForm) (limits
         let whole : s * in_strip + length (joined part.strips) ≡ form.rows = omega (arith, most, inside, row_is, place, length_all) in
         let none : part.end ≡ None = no_stop part.end form.rows (subst (λ (k : ℕ). IsCount part.end k form.rows) whole count) in
         let nothing : drop (length before + 1) (drop (r % in_strip) all) ≡ [] =
-        drop_all (length before + 1) (drop (r % in_strip) all) (omega (arith, length-drop (r % in_strip) all, whole, row_is, place, length_all)) in
+        drop_all (length before + 1) (drop (r % in_strip) all) (omega (
+          arith,
+          length-drop (r % in_strip) all,
+          whole,
+          row_is,
+          place,
+          length_all,
+        )) in
         inl (
           last,
           known.after_is ∙ ap (λ (l : List (List Colour)). numbered p (item.row + 1) l) nothing,
@@ -251,8 +266,10 @@ module _ (endian : Endian) (file : List ℕ) (q : ℕ) (form : PageForm) (limits
         ] in
         let reached : t * in_strip ≤ s * in_strip + length (joined part.strips) = omega (arith, inside, row_is, place, length_all) in
         let from : Later s t part.strips part.end = later s part.strips part.end part.read t not_before reached (omega arith) in
-        let higher : s * in_strip ≤ t * in_strip = let far : in_strip * s ≤ in_strip * t = mul-le-mul_left in_strip not_before in omega arith in
-        let n : r % in_strip + (length before + 1) ≡ (t * in_strip - s * in_strip) + (item.row + 1) % in_strip = omega (arith, place, row_is) in
+        let higher : s * in_strip ≤ t * in_strip =
+        let far : in_strip * s ≤ in_strip * t = mul-le-mul_left in_strip not_before in omega arith in
+        let n : r % in_strip + (length before + 1) ≡ (t * in_strip - s * in_strip) + (item.row + 1) % in_strip =
+        omega (arith, place, row_is) in
         let same_rows : drop (length before + 1) (drop (r % in_strip) all) ≡ drop ((item.row + 1) % in_strip) (shown form (joined from.0)) =
         drop-drop (length before + 1) (r % in_strip) all
         ∙ ap (λ (k : ℕ). drop k all) n
@@ -260,7 +277,13 @@ module _ (endian : Endian) (file : List ℕ) (q : ℕ) (form : PageForm) (limits
         ∙ ap (drop ((item.row + 1) % in_strip)) (sym (shown_drop (t * in_strip - s * in_strip) (joined part.strips)))
         ∙ ap (λ (l : List (List Colour)). drop ((item.row + 1) % in_strip) (shown form l)) (sym from.2) in
         let same_count : s * in_strip + length (joined part.strips) ≡ t * in_strip + length (joined from.0) =
-        omega (arith, ap (λ (l : List (List Colour)). length l) from.2, length-drop (t * in_strip - s * in_strip) (joined part.strips), reached, higher) in
+        omega (
+          arith,
+          ap (λ (l : List (List Colour)). length l) from.2,
+          length-drop (t * in_strip - s * in_strip) (joined part.strips),
+          reached,
+          higher,
+        ) in
         inr (
           more,
           record {

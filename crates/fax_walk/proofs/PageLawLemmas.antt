@@ -1,5 +1,6 @@
 -- What is asked of a file's pages has one answer, and so have its forms.
-use Rattle.std.proofs.Common.{◌≡◌, ℕ, zero, suc, ◌+◌, List, [], ◌∷◌, length, drop, Option, Some, None, Result, Ok, Err, refl, sym, ap, ◌∙◌, subst, arith, true}
+use Rattle.std.proofs.Common.{◌≡◌, ℕ, zero, suc, ◌+◌, List, [], ◌∷◌, length, drop, Option, Some, None, Result, Ok, Err, refl, sym, ap, ◌∙◌}
+use Rattle.std.proofs.Common.{subst, arith, true}
 use Rattle.std.specs.Prelude.{slice_get, ◌==◌}
 use Rattle.std.proofs.lemmas.Bool.Decides.{nat_tests}
 use Rattle.fax_files.specs.declared.FileFault.{FileFault}
@@ -14,8 +15,10 @@ use Rattle.fax_walk.specs.declared.end.End.{End}
 use Rattle.fax_walk.specs.declared.end.End.TheVariants.{Fault}
 use Rattle.fax_walk.specs.InOrder.{AreFrom, AreBegun}
 use Rattle.fax_walk.specs.Items as Items
-use Rattle.fax_walk.specs.Pages.{FormItem, FilePage, page_over, IsPageUnder, IsPageAt, IsAsked, IsOnPage, IsForm, first_form, IsFormTail, end_past_chain, page_or_end}
-use Rattle.fax_walk.specs.PageLaws.{FilesHaveOneForms, CursorsHaveOneFormTail, FormTailOfPage, FormTailOfStart, FormsStandByNumber, FormTailsGoOn}
+use Rattle.fax_walk.specs.Pages.{FormItem, FilePage, page_over, IsPageUnder, IsPageAt, IsAsked, IsOnPage, IsForm, first_form, IsFormTail}
+use Rattle.fax_walk.specs.Pages.{end_past_chain, page_or_end}
+use Rattle.fax_walk.specs.PageLaws.{FilesHaveOneForms, CursorsHaveOneFormTail, FormTailOfPage, FormTailOfStart, FormsStandByNumber}
+use Rattle.fax_walk.specs.PageLaws.{FormTailsGoOn}
 use Rattle.fax_walk.proofs.InOrderLemmas.{IsOneAnswer, IsListed, same_answer, same_step, one_list, one_begun, split_at_number}
 
 -- an equation has one answer
@@ -46,7 +49,8 @@ dropped_at n [] y e = absurd cc
 dropped_at zero (x ∷ xs) y e = let same : x ≡ y = cc in ap (λ (i : ℕ). i ∷ xs) same
 dropped_at (suc n) (x ∷ xs) y e = let m : suc n + 1 ≡ suc (n + 1) = omega arith in rw m (dropped_at n xs y e)
 
-pub proper_end : (pages : ℕ) (fault : Option FileFault) → Items.chain_end pages fault ≡ end_past_chain pages fault (record { page = pages; row = 0 })
+pub proper_end : (pages : ℕ) (fault : Option FileFault)
+    → Items.chain_end pages fault ≡ end_past_chain pages fault (record { page = pages; row = 0 })
 proper_end pages None = let test : (pages == pages) ≡ true = grind (arith, nat_tests) in rw test refl
 proper_end pages (Some fault) = refl
 
@@ -94,7 +98,8 @@ FormsAt file p (Ok here) forms end =
     (others : List FormItem) × (forms ≡ record { page = p; form = here.form } ∷ others) × AreFrom (IsForm file) (p + 1) others end
 
 module _ (chains : FilesHaveOneChain) (file : List ℕ) where
-  pub forms_at : (p : ℕ) (found : Result FilePage End) → IsPageAt file (record { page = p; row = 0 }) found → (forms : List FormItem) (end : End)
+  pub forms_at : (p : ℕ) (found : Result FilePage End) → IsPageAt file (record { page = p; row = 0 }) found
+      → (forms : List FormItem) (end : End)
       → AreFrom (IsForm file) p forms end → FormsAt file p found forms end
   forms_at p (Err none) is [] end step =
       let same = same_answer (one_form chains file p) (Err end) (Err none) step (Err none, is, refl) in
@@ -103,14 +108,16 @@ module _ (chains : FilesHaveOneChain) (file : List ℕ) where
       let same = same_answer (one_form chains file p) (Ok (x, to)) (Err none) step (Err none, is, refl) in
       absurd cc
   forms_at p (Ok here) is [] end step =
-      let same = same_answer (one_form chains file p) (Err end) (Ok (record { page = p; form = here.form }, p + 1)) step (Ok here, is, refl) in
+      let same =
+      same_answer (one_form chains file p) (Err end) (Ok (record { page = p; form = here.form }, p + 1)) step (Ok here, is, refl) in
       absurd cc
   forms_at p (Ok here) is (x ∷ forms) end (to, step, rest) =
       let same = same_step (one_form chains file p) x (record { page = p; form = here.form }) to (p + 1) step (Ok here, is, refl) in
       (forms, ap (λ (i : FormItem). i ∷ forms) same.0, subst (λ (n : ℕ). AreFrom (IsForm file) n forms end) same.1 rest)
 
 -- the pages after a directory that stands in the chain
-module _ (file : List ℕ) (head : Header) (is_head : header file ≡ Ok head) (offsets : List ℕ) (fault : Option FileFault) (chain : IsChain head file offsets fault) where
+module _ (file : List ℕ) (head : Header) (is_head : header file ≡ Ok head) (offsets : List ℕ) (fault : Option FileFault)
+    (chain : IsChain head file offsets fault) where
   pub page_here : (at : Cursor) → IsPageAt file at (page_over head.endian file offsets fault at (slice_get offsets at.page))
   page_here at = rw is_head (offsets, fault, chain, refl)
 
@@ -123,7 +130,8 @@ module _ (file : List ℕ) (head : Header) (is_head : header file ≡ Ok head) (
 
   form_first : (p q : ℕ) → IsPageAt file (record { page = p; row = 0 }) (page_or_end head.endian q p (page head.endian file q))
       → IsListed (IsForm file) (p + 1) → (answer : Result PageForm FileFault) → page head.endian file q ≡ answer → IsListed (IsForm file) p
-  form_first p q here more (Err refused) is = record { items = []; end = Fault p 0 (File refused); is = (Err (Fault p 0 (File refused)), rw is at here, refl) }
+  form_first p q here more (Err refused) is =
+      record { items = []; end = Fault p 0 (File refused); is = (Err (Fault p 0 (File refused)), rw is at here, refl) }
   form_first p q here more (Ok form) is = record {
     items = record { page = p; form = form } ∷ more.items;
     end = more.end;
@@ -164,15 +172,18 @@ one_form_tail chains file at =
     }
 
 module _ (file : List ℕ) where
-  to_forms : (p : ℕ) (forms : List FormItem) (end : End) → IsFormTail file (record { page = p; row = 0 }) forms end → AreFrom (IsForm file) p forms end
+  to_forms : (p : ℕ) (forms : List FormItem) (end : End) → IsFormTail file (record { page = p; row = 0 }) forms end
+      → AreFrom (IsForm file) p forms end
   to_forms p forms end (begin, (Err none, page, e), are) =
       let both : (forms ≡ []) × (end ≡ none) = subst (λ (b : Result (ℕ × ℕ) End). AreBegun (IsForm file) b forms end) e are in
       rw (both.0, both.1) (Err none, page, refl)
   to_forms p forms end (begin, (Ok here, page, e), are) =
-      let there : AreBegun (IsForm file) (Ok (p, 0)) forms end = subst (λ (b : Result (ℕ × ℕ) End). AreBegun (IsForm file) b forms end) e are in
+      let there : AreBegun (IsForm file) (Ok (p, 0)) forms end =
+      subst (λ (b : Result (ℕ × ℕ) End). AreBegun (IsForm file) b forms end) e are in
       subst (λ (l : List FormItem). AreFrom (IsForm file) p l end) (sym there.2) there.1
 
-  of_forms : (p : ℕ) (forms : List FormItem) (end : End) → AreFrom (IsForm file) p forms end → IsFormTail file (record { page = p; row = 0 }) forms end
+  of_forms : (p : ℕ) (forms : List FormItem) (end : End) → AreFrom (IsForm file) p forms end
+      → IsFormTail file (record { page = p; row = 0 }) forms end
   of_forms p [] end (Err none, page, e) = let same : end ≡ none = cc in (Err none, (Err none, page, refl), (refl, same))
   of_forms p [] end (Ok here, page, e) = absurd cc
   of_forms p (x ∷ forms) end (to, (Err none, page, e), rest) = absurd cc
@@ -204,7 +215,8 @@ module _ (file : List ℕ) where
       item_of (Ok step) = step.0
       item_of (Err none) = item
 
-  stand_by_number : (forms : List FormItem) (p n : ℕ) (item : FormItem) (end : End) → AreFrom (IsForm file) p forms end → slice_get forms n ≡ Some item
+  stand_by_number : (forms : List FormItem) (p n : ℕ) (item : FormItem) (end : End) → AreFrom (IsForm file) p forms end
+      → slice_get forms n ≡ Some item
       → item.page ≡ p + n
   stand_by_number [] p n item end are there = absurd cc
   stand_by_number (x ∷ forms) p zero item end (to, step, rest) there =

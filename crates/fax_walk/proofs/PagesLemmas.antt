@@ -1,5 +1,6 @@
 -- Steps of a reader of pages.
-use Rattle.std.proofs.Common.{◌≡◌, ℕ, zero, suc, ◌+◌, ◌^◌, ◌<◌, true, false, List, [], ◌∷◌, ◌++◌, length, Option, Some, None, Result, Ok, Err, inl, inr, refl, sym, ap, ◌∙◌, subst, arith, append-nil, length-append}
+use Rattle.std.proofs.Common.{◌≡◌, ℕ, zero, suc, ◌+◌, ◌^◌, ◌<◌, true, false, List, [], ◌∷◌, ◌++◌, length, Option, Some, None, Result, Ok}
+use Rattle.std.proofs.Common.{Err, inl, inr, refl, sym, ap, ◌∙◌, subst, arith, append-nil, length-append}
 use Rattle.std.proofs.lemmas.Bool.Decides.{nat_tests}
 use Rattle.std.proofs.lemmas.List.{drop_at, drop_all, length_push}
 use Rattle.std.proofs.lemmas.Option.{slice_get_within}
@@ -41,7 +42,8 @@ module _ (chain : ChainState) (chains : FilesHaveOneChain) (file : List ℕ) (be
   pub refused_form : (end : End) → IsPageAnswer chain (Err end) → IsForm file p (Err end)
   refused_form end answers = by_over (over (Err end) answers)
     where
-      by_over : IsAnswerOver chain (chains chain.tiff.head file).offsets (chains chain.tiff.head file).end (Err end) → IsForm file p (Err end)
+      by_over : IsAnswerOver chain (chains chain.tiff.head file).offsets (chains chain.tiff.head file).end (Err end)
+          → IsForm file p (Err end)
       by_over (inl (met, none, stops, end_is)) =
           let one = chains chain.tiff.head file in
           let few = none_past one.offsets p none in
@@ -118,7 +120,8 @@ module _ (chains : FilesHaveOneChain) (file : List ℕ) (at : Cursor) (due : Pag
   its = its_form chains file due named.in_file named.given
 
   here : (r : ℕ) → IsPageAt file (record { page = at.page; row = r }) (Ok (found_page due))
-  here r = subst (λ (n : ℕ). IsPageAt file (record { page = n; row = r }) (Ok (found_page due))) named.same_page (page_found chains file due named.in_file named.given r)
+  here r = subst (λ (n : ℕ). IsPageAt file (record { page = n; row = r }) (Ok (found_page due))) named.same_page
+      (page_found chains file due named.in_file named.given r)
 
   -- a reader from a page's first row begins with that page
   pub begins_here : at.row ≡ 0 → BeginsWith file at due
@@ -144,7 +147,8 @@ module _ (chains : FilesHaveOneChain) (file : List ℕ) (at : Cursor) (due : Pag
   }
   begins_after some (Err end) after = after
 
-  pub ends_after : 0 < at.row → (result : Result PageDue End) → IfErr result (λ end. IsFormNext due.chain (Err end)) → IfErr result (IsFormTail file at [])
+  pub ends_after : 0 < at.row → (result : Result PageDue End) → IfErr result (λ end. IsFormNext due.chain (Err end))
+      → IfErr result (IsFormTail file at [])
   ends_after some (Ok next) after = after
   ends_after some (Err end) after =
       (Ok (at.page + 1, 0), begins_next some, ([], subst (λ (n : ℕ). IsForm file n (Err end)) number (after file its.before), refl))
@@ -188,14 +192,16 @@ ended_after file begun given p end come is = (
   ap (λ (l : List FormItem). length l) (append-nil come.forms) ∙ come.count,
 )
 
-pub ends_later : (file : List ℕ) (begun cursor : Cursor) (given : ℕ) (told : Option End) (chain : ChainState) (result : Result PageDue End) → told ≡ None
+pub ends_later : (file : List ℕ) (begun cursor : Cursor) (given : ℕ) (told : Option End) (chain : ChainState) (result : Result PageDue End)
+    → told ≡ None
     → HasGiven file begun given chain.given × IsChainBefore file chain.given chain → IfErr result (λ end. IsFormNext chain (Err end))
     → IfErr result (EndsNow (record { file = file; begun = begun; given = given; cursor = cursor; told = told }))
 ends_later file begun cursor given told chain (Ok due) untold sound after = after
 ends_later file begun cursor given told chain (Err end) untold sound after =
     (ended_after file begun given chain.given end sound.0 (after file sound.1), no_other told end untold)
 
-number_of : (front : List FormItem) (item : FormItem) (more : List FormItem) (n : ℕ) → length front ≡ n → slice_get (front ++ item ∷ more) n ≡ Some item
+number_of : (front : List FormItem) (item : FormItem) (more : List FormItem) (n : ℕ) → length front ≡ n
+    → slice_get (front ++ item ∷ more) n ≡ Some item
 number_of [] item more zero e = refl
 number_of [] item more (suc n) e = absurd (omega (arith, e))
 number_of (x ∷ front) item more zero e = absurd (omega (arith, e))
@@ -231,11 +237,17 @@ module _ (tails : CursorsHaveOneFormTail) (of_page : FormTailOfPage) where
         );
         limits = limits;
         few = omega (arith, is.come.few, short);
-        new_is = ap (λ (t : Option End). record pages { given = pages.given + 1; cursor = record { page = due.page + 1; row = 0 }; told = t }) (sym is.untold);
+        new_is = ap (λ (t : Option End). record pages {
+          given = pages.given + 1;
+          cursor = record { page = due.page + 1; row = 0 };
+          told =
+              t;
+        }) (sym is.untold);
       }
 
   pub forms_left : (file : List ℕ) (begun cursor : Cursor) (given p : ℕ) → HasGiven file begun given p
-      → (forms : List FormItem) × (end : End) × AreFormsLeft (record { file = file; begun = begun; given = given; cursor = cursor; told = None }) forms end
+      → (forms : List FormItem) × (end : End)
+      × AreFormsLeft (record { file = file; begun = begun; given = given; cursor = cursor; told = None }) forms end
   forms_left file begun cursor given p come =
       let more = forms_on file p in (
         more.0,
@@ -250,7 +262,8 @@ module _ (tails : CursorsHaveOneFormTail) (of_page : FormTailOfPage) where
       )
 
   pub forms_left_first : (file : List ℕ) (begun cursor : Cursor)
-      → (forms : List FormItem) × (end : End) × AreFormsLeft (record { file = file; begun = begun; given = 0; cursor = cursor; told = None }) forms end
+      → (forms : List FormItem) × (end : End)
+      × AreFormsLeft (record { file = file; begun = begun; given = 0; cursor = cursor; told = None }) forms end
   forms_left_first file begun cursor =
       let one = tails file begun in
       (one.items, one.end, record { all = one.items; is = one.is; within = omega arith; rest = refl; is_told = tt })
@@ -274,7 +287,8 @@ given_more file begun given due come its = (
     begins = come.begins;
     forms = come.forms ++ record { page = due.page; form = due.form } ∷ [];
     lead = subst (LeadTo (IsForm file) come.first (come.forms ++ record { page = due.page; form = due.form } ∷ [])) (sym its.given)
-        (leads_on (IsForm file) come.first due.page come.forms (record { page = due.page; form = due.form }) (due.page + 1) come.lead its.step);
+        (leads_on (IsForm file) come.first due.page come.forms (record { page = due.page; form = due.form }) (due.page + 1) come.lead
+        its.step);
     count = length_push come.forms (record { page = due.page; form = due.form }) ∙ ap (λ (n : ℕ). n + 1) come.count;
     few = omega (arith, come.few, its.given);
   },

@@ -1,5 +1,6 @@
 -- The tail from a printed cursor is the rest of the file.
-use Rattle.std.proofs.Common.{◌≡◌, ℕ, zero, suc, ◌+◌, ◌⊎◌, ◌↔◌, inl, inr, Bool, true, false, List, [], ◌∷◌, ◌++◌, refl, sym, ap, ◌∙◌, subst, arith, append_assoc}
+use Rattle.std.proofs.Common.{◌≡◌, ℕ, zero, suc, ◌+◌, ◌⊎◌, ◌↔◌, inl, inr, Bool, true, false, List, [], ◌∷◌, ◌++◌, refl, sym, ap, ◌∙◌, subst}
+use Rattle.std.proofs.Common.{arith, append_assoc}
 use Rattle.std.specs.Prelude.{nat_lt, nat_le, ◌==◌}
 use Rattle.std.specs.List.{filter, Contains}
 use Rattle.std.proofs.lemmas.Bool.{cases_lt}
@@ -17,13 +18,15 @@ use Rattle.fax_walk.proofs.TailLemmas.{StandsFrom, stands_from, tail_behind_item
 
 module _ {A : Type 0} where
   -- a test keeps each item of a list, or none
-  keeps : (test : A → Bool) (xs : List A) → ((before after : List A) (x : A) → xs ≡ before ++ x ∷ after → test x ≡ true) → filter test xs ≡ xs
+  keeps : (test : A → Bool) (xs : List A) → ((before after : List A) (x : A) → xs ≡ before ++ x ∷ after → test x ≡ true)
+      → filter test xs ≡ xs
   keeps test [] all = refl
   keeps test (x ∷ xs) all =
       let rest = keeps test xs (λ before after y e. all (x ∷ before) after y (ap (λ (l : List A). x ∷ l) e)) in
       rw (all [] xs x refl) (ap (λ (l : List A). x ∷ l) rest)
 
-  drops : (test : A → Bool) (xs : List A) → ((before after : List A) (x : A) → xs ≡ before ++ x ∷ after → test x ≡ false) → filter test xs ≡ []
+  drops : (test : A → Bool) (xs : List A) → ((before after : List A) (x : A) → xs ≡ before ++ x ∷ after → test x ≡ false)
+      → filter test xs ≡ []
   drops test [] all = refl
   drops test (x ∷ xs) all =
       rw (all [] xs x refl) (drops test xs (λ before after y e. all (x ∷ before) after y (ap (λ (l : List A). x ∷ l) e)))
@@ -36,20 +39,24 @@ module _ {A : Type 0} where
       let rest = parts items item (k, omega arith, is) in
       (x ∷ rest.0, rest.1, ap (λ (l : List A). x ∷ l) rest.2)
 
--- what is known of a list and its tails, the cursor behind each item, and the test of standing at a cursor or later
-record IsWalked {A : Type 0} (behind : A → Cursor) (from : Cursor → A → Bool) (whole : List A → End → Type 0) (tail : Cursor → List A → End → Type 0) : Type 0 where
+-- what is known of a list and its tails, the cursor after each item, and the test of standing at a cursor or later
+record IsWalked {A : Type 0} (behind : A → Cursor) (from : Cursor → A → Bool) (whole : List A → End → Type 0)
+    (tail : Cursor → List A → End → Type 0) : Type 0 where
   one_whole : IsOne whole
   one_tail : (at : Cursor) → IsOne (tail at)
   at_start : (items : List A) (end : End) → tail start items end ↔ whole items end
-  goes_on : (at : Cursor) (before after : List A) (item : A) (end : End) → tail at (before ++ item ∷ after) end → tail (behind item) after end
+  goes_on : (at : Cursor) (before after : List A) (item : A) (end : End) → tail at (before ++ item ∷ after) end
+      → tail (behind item) after end
   from_start : (item : A) → from start item ≡ true
   later : (at : Cursor) (before after : List A) (item : A) (end : End) → tail at (before ++ item ∷ after) end → from at item ≡ true
-  earlier : (x : A) (before after : List A) (item : A) (end : End) → tail (behind x) (before ++ item ∷ after) end → from (behind item) x ≡ false
+  earlier : (x : A) (before after : List A) (item : A) (end : End) → tail (behind x) (before ++ item ∷ after) end
+      → from (behind item) x ≡ false
   itself : (item : A) → from (behind item) item ≡ false
 
-module _ {A : Type 0} (behind : A → Cursor) (from : Cursor → A → Bool) (whole : List A → End → Type 0) (tail : Cursor → List A → End → Type 0)
+module _ {A : Type 0} (behind : A → Cursor) (from : Cursor → A → Bool) (whole : List A → End → Type 0)
+    (tail : Cursor → List A → End → Type 0)
     (walked : IsWalked behind from whole tail) where
-  -- the first cursor, or one behind an item of the whole
+  -- the first cursor, or one after an item of the whole
   abbrev Printed : Cursor → Type 0
   Printed at = (at ≡ start) ⊎ ((items : List A) × (end : End) × (item : A) × whole items end × Contains items item × (at ≡ behind item))
 

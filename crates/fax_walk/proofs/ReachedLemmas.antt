@@ -14,17 +14,19 @@ use Rattle.fax_walk.specs.LongLaws.{PlacesHaveOneTail, IsReachedPlace, IsReached
 use Rattle.fax_walk.proofs.LongLineLemmas.{LinesAreRead}
 use Rattle.fax_walk.proofs.LongPrintedLemmas.{tail_of_long, from_cursor, from_place}
 
--- the place behind a row is the same from the file's start
+-- the place after a row is the same from the file's start
 pub behind_reached : FilesHaveOneChain → (file : List ℕ) (begun : Begun) (p r : ℕ) (place : Option LongPlace) → IsReached file begun
     → IsLongBehind file begun p r place → IsLongBehind file (At start) p r place
 behind_reached chains file (At at) p r place reached is = from_cursor file at start p r place is
 behind_reached chains file (Inside first) p r place (at, items, end, item, tail, there, began) is =
     from_place chains file first item (from_cursor file at start item.page item.row (Some first) began) p r place is
 
-module _ (lines_read : LinesAreRead) (chains : FilesHaveOneChain) (forms : FormsAreWhole) (one_tail : CursorsHaveOneTail) (one_long : PlacesHaveOneTail)
+module _ (lines_read : LinesAreRead) (chains : FilesHaveOneChain) (forms : FormsAreWhole) (one_tail : CursorsHaveOneTail)
+    (one_long : PlacesHaveOneTail)
     (file : List ℕ) where
   -- a place has what the cursor has that stands there
-  tail_there : (place : LongPlace) (items : List Item) (end : End) → IsReachedPlace file place → IsLongTail file place items end → IsTail file place.at items end
+  tail_there : (place : LongPlace) (items : List Item) (end : End) → IsReachedPlace file place → IsLongTail file place items end
+      → IsTail file place.at items end
   tail_there place items end (at, others, other, item, tail, there, after) long =
       tail_of_long lines_read chains forms one_tail one_long file at item place after items end long
 
@@ -42,8 +44,10 @@ places_of_reached lines_read chains forms one_tail one_long file (Inside first) 
       (behind_reached chains file (Inside first) item.page item.row (Some place) reached is),
 )
 
-pub tail_behind_reached : LinesAreRead → FilesHaveOneChain → FormsAreWhole → CursorsHaveOneTail → PlacesHaveOneTail → TailBehindItem → TailBehindReached
+pub tail_behind_reached : LinesAreRead → FilesHaveOneChain → FormsAreWhole → CursorsHaveOneTail → PlacesHaveOneTail → TailBehindItem
+    → TailBehindReached
 tail_behind_reached lines_read chains forms one_tail one_long behind file (At at) before after item end reached tail =
     behind file at before after item end tail
 tail_behind_reached lines_read chains forms one_tail one_long behind file (Inside place) before after item end reached tail =
-    behind file place.at before after item end (tail_there lines_read chains forms one_tail one_long file place (before ++ item ∷ after) end reached tail)
+    behind file place.at before after item end (tail_there lines_read chains forms one_tail one_long file place (before ++ item ∷ after) end
+    reached tail)

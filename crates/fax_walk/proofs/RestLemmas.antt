@@ -1,5 +1,6 @@
 -- The rest after a row stands at the end of the bits that the row begins.
-use Rattle.std.proofs.Common.{◌≡◌, ℕ, ◌+◌, ◌≤◌, inl, inr, Bool, true, List, [], ◌∷◌, ◌++◌, length, take, drop, replicate, refl, sym, ap, ◌∙◌, arith, append_assoc, length-append}
+use Rattle.std.proofs.Common.{◌≡◌, ℕ, ◌+◌, ◌≤◌, inl, inr, Bool, true, List, [], ◌∷◌, ◌++◌, length, take, drop, replicate, refl, sym, ap}
+use Rattle.std.proofs.Common.{◌∙◌, arith, append_assoc, length-append}
 use Rattle.std.proofs.lemmas.List.{drop_at, take-append-drop}
 use Rattle.fax_bits.specs.declared.Colour.{Colour}
 use Rattle.fax_bits.specs.declared.codes.CodeEntry.{CodeEntry}
@@ -28,7 +29,8 @@ through : (b middle rest : List Bool) → IsRestOf middle b → IsRestOf rest mi
 through b middle rest (first, e) (second, e') =
     (first ++ second, e ∙ ap (λ (l : List Bool). first ++ l) e' ∙ sym (append_assoc first second rest))
 
-spelled_rest : {M : Type 0} (table : List (CodeEntry M)) (b : List Bool) (meanings : List M) (rest : List Bool) → Spells table b meanings rest → IsRestOf rest b
+spelled_rest : {M : Type 0} (table : List (CodeEntry M)) (b : List Bool) (meanings : List M) (rest : List Bool)
+    → Spells table b meanings rest → IsRestOf rest b
 spelled_rest table b [] rest e = all_of b rest e
 spelled_rest table b (meaning ∷ meanings) rest (middle, taken, more) =
     through b middle rest (bits_of taken.entry, taken.spelled) (spelled_rest table middle meanings rest more)
@@ -55,7 +57,8 @@ steps_rest : (reference : List Colour) (old : Position) (b : List Bool) (positio
 steps_rest reference old b [] new rest steps = all_of b rest steps.1
 steps_rest reference old b (next ∷ more) new rest (unfinished, middle, step, steps) =
     through b middle rest
-    (through b step.behind middle (bits_of step.taken.entry, step.taken.spelled) (step_rest step.mode reference old step.behind next middle step.step))
+    (through b step.behind middle (bits_of step.taken.entry, step.taken.spelled)
+    (step_rest step.mode reference old step.behind next middle step.step))
     (steps_rest reference next middle more new rest steps)
 
 row_rest : (dimension : Dimension) (width : ℕ) (reference : List Colour) (b : List Bool) (row : List Colour) (rest : List Bool)
@@ -66,7 +69,8 @@ row_rest TwoDimensional width reference b row rest is = steps_rest reference _ b
 eol_rest : (b rest : List Bool) → IsEndOfLine b rest → IsRestOf rest b
 eol_rest b rest (zeros, enough, e) = (replicate zeros _ ++ true ∷ [], e ∙ sym (append_assoc (replicate zeros _) (true ∷ []) rest))
 
-start_rest : (coding : Coding) (i : ℕ) (b : List Bool) (dimension : Dimension) (rest : List Bool) → IsStart coding i b dimension rest → IsRestOf rest b
+start_rest : (coding : Coding) (i : ℕ) (b : List Bool) (dimension : Dimension) (rest : List Bool) → IsStart coding i b dimension rest
+    → IsRestOf rest b
 start_rest Mh i b dimension rest (one, inl eol) = eol_rest b rest eol
 start_rest Mh i b dimension rest (one, inr first) = all_of b rest first.2
 start_rest Mr i b dimension rest eol =
@@ -83,6 +87,7 @@ line_rest form i reference b row rest line =
 pub rest_at : (form : StripForm) (i : ℕ) (reference : List Colour) (all : List Bool) (n : ℕ) (row : List Colour) (rest : List Bool)
     → IsLine form i reference (drop n all) row rest → (m : ℕ) × (m ≤ length all) × (drop m all ≡ rest)
 rest_at form i reference all n row rest line =
-    let from = through all (drop n all) rest (take n all, sym (take-append-drop n all)) (line_rest form i reference (drop n all) row rest line) in
+    let from =
+    through all (drop n all) rest (take n all, sym (take-append-drop n all)) (line_rest form i reference (drop n all) row rest line) in
     let count : length all ≡ length from.0 + length rest = ap (λ (b : List Bool). length b) from.1 ∙ length-append from.0 rest in
     (length from.0, omega (arith, count), ap (drop (length from.0)) from.1 ∙ drop_at from.0 rest (length from.0) refl)

@@ -1,5 +1,6 @@
 -- What a walk begins with has one tail and one end.
-use Rattle.std.proofs.Common.{◌≡◌, ℕ, zero, suc, ◌+◌, ◌*◌, ◌<◌, ◌≤◌, ◌⊎◌, inl, inr, Bool, true, false, List, [], ◌∷◌, map, length, drop, Option, Some, None, Result, Ok, Err, refl, sym, ap, ◌∙◌, subst, arith, length-drop}
+use Rattle.std.proofs.Common.{◌≡◌, ℕ, zero, suc, ◌+◌, ◌*◌, ◌<◌, ◌≤◌, ◌⊎◌, inl, inr, Bool, true, false, List, [], ◌∷◌, map, length, drop}
+use Rattle.std.proofs.Common.{Option, Some, None, Result, Ok, Err, refl, sym, ap, ◌∙◌, subst, arith, length-drop}
 use Rattle.std.proofs.lemmas.Bool.{cases_lt}
 use Rattle.std.proofs.lemmas.Bool.Decides.{nat_tests}
 use Rattle.std.specs.Prelude.{if◌then◌else◌, nat_lt, ◌==◌}
@@ -30,7 +31,8 @@ use Rattle.fax_walk.specs.declared.end.End.TheVariants.{Fault, Outside}
 use Rattle.fax_walk.specs.LongCursor.{LongPlace}
 use Rattle.fax_walk.specs.InOrder.{AreBegun}
 use Rattle.fax_walk.specs.Pages.{FilePage, IsPageAt}
-use Rattle.fax_walk.specs.Rows.{Item, Inner, Place, first_at, strip_at, row_in_strip, exchanged, bits_before, reference_of, place_after, IsItem, IsInStrip, cursor_at, IsRow, first_row, FitsStrip, IsInnerOn, inner_at, BeginsOn, begins_at}
+use Rattle.fax_walk.specs.Rows.{Item, Inner, Place, first_at, strip_at, row_in_strip, exchanged, bits_before, reference_of, place_after}
+use Rattle.fax_walk.specs.Rows.{IsItem, IsInStrip, cursor_at, IsRow, first_row, FitsStrip, IsInnerOn, inner_at, BeginsOn, begins_at}
 use Rattle.fax_walk.specs.PageLaws.{BeginningsHaveOneTail}
 use Rattle.fax_walk.proofs.InOrderLemmas.{IsOneAnswer, IsListed, one_begun}
 use Rattle.fax_walk.proofs.PageLawLemmas.{one_on_page, no_page, some_page, next_dropped}
@@ -87,13 +89,15 @@ module _ (by_place : AreBitsByPlace) (lines_read : LinesAreRead) where
 
     one_item : (item another : Item) → IsItem form bytes at item → IsItem form bytes at another → another ≡ item
     one_item item another is is_too =
-        let same = (lines_read strip i reference).one_line b (exchanged form another.pels) (exchanged form item.pels) _ _ is_too.line is.line in
+        let same =
+        (lines_read strip i reference).one_line b (exchanged form another.pels) (exchanged form item.pels) _ _ is_too.line is.line in
         let pels : another.pels ≡ item.pels =
         sym (exchanged_twice form another.pels) ∙ ap (exchanged form) same.0 ∙ exchanged_twice form item.pels in
         let before : another.bits ≡ item.bits = one_place by_place form.order bytes another.bits item.bits is_too.within is.within same.1 in
         same_items another item (is_too.same_page ∙ sym is.same_page) (is_too.same_row ∙ sym is.same_row) pels before
 
-    by_line : ((row : List Colour) × (rest : List Bool) × IsLine strip i reference b row rest) ⊎ ((fault : StripFault) × IsCause strip i reference b fault)
+    by_line : ((row : List Colour) × (rest : List Bool) × IsLine strip i reference b row rest)
+        ⊎ ((fault : StripFault) × IsCause strip i reference b fault)
         → IsOneAnswer (IsInStrip form at (Some bytes))
     by_line (inl (row, rest, line)) =
         let from = rest_at strip i reference all (bits_before at.inner) row rest line in
@@ -108,30 +112,39 @@ module _ (by_place : AreBitsByPlace) (lines_read : LinesAreRead) where
       where
         only_item : (item : Item) → IsItem form bytes at item → (other : Result (Item × Place) End) → IsInStrip form at (Some bytes) other
             → other ≡ Ok (item, place_after form item)
-        only_item item is (Err end) (fault, stop, end_is) = absurd ((lines_read strip i reference).line_has_no_cause b _ _ fault is.line stop)
+        only_item item is (Err end) (fault, stop, end_is) =
+            absurd ((lines_read strip i reference).line_has_no_cause b _ _ fault is.line stop)
         only_item item is (Ok (another, to)) (is_too, to_is) =
             let same = one_item item another is is_too in
             rw (to_is, same) refl
     by_line (inr (fault, stop)) =
         record { it = Err (Fault at.page at.row (Strip fault)); is = (fault, stop, refl); one = only_stop }
       where
-        only_stop : (other : Result (Item × Place) End) → IsInStrip form at (Some bytes) other → other ≡ Err (Fault at.page at.row (Strip fault))
+        only_stop : (other : Result (Item × Place) End) → IsInStrip form at (Some bytes) other
+            → other ≡ Err (Fault at.page at.row (Strip fault))
         only_stop (Err end) (another, stop_too, end_is) =
             let same = (lines_read strip i reference).one_cause b another fault stop_too stop in
             ap (λ (e : End). Err e) (end_is ∙ ap (λ (f : StripFault). Fault at.page at.row (Strip f)) same)
-        only_stop (Ok (another, to)) (is_too, to_is) = absurd ((lines_read strip i reference).line_has_no_cause b _ _ fault is_too.line stop)
+        only_stop (Ok (another, to)) (is_too, to_is) =
+            absurd ((lines_read strip i reference).line_has_no_cause b _ _ fault is_too.line stop)
 
     in_bytes : IsOneAnswer (IsInStrip form at (Some bytes))
     in_bytes = by_line ((lines_read strip i reference).line_or_cause b)
 
   pub one_in_strip : (form : PageForm) (at : Place) (found : Option (List ℕ)) → IsOneAnswer (IsInStrip form at found)
   one_in_strip form at None =
-      record { it = Err (Fault at.page (strip_at form at.row * form.rows_per_strip) (File StripOutside)); is = refl; one = λ other same. same }
+      record {
+        it = Err (Fault at.page (strip_at form at.row * form.rows_per_strip) (File StripOutside));
+        is = refl;
+        one =
+            λ other same. same;
+      }
   one_in_strip form at (Some bytes) = let only = in_bytes form at bytes in record { it = only.it; is = only.is; one = only.one }
 
   module _ (chains : FilesHaveOneChain) (file : List ℕ) where
     pub one_row : (at : Place) → IsOneAnswer (IsRow file at)
-    one_row at = one_on_page chains file (cursor_at at) _ (λ here. one_in_strip here.form at (strip_bytes here.endian file here.offset (strip_at here.form at.row)))
+    one_row at = one_on_page chains file (cursor_at at) _ (λ here. one_in_strip here.form at
+        (strip_bytes here.endian file here.offset (strip_at here.form at.row)))
 
 -- what the row at a place is, and what is after it
 pub step_of : (form : PageForm) (at : Place) (found : Option (List ℕ)) (item : Item) (to : Place) → IsInStrip form at found (Ok (item, to))
@@ -174,7 +187,8 @@ module _ (by_place : AreBitsByPlace) (lines_read : LinesAreRead) (file : List �
   abbrev in_strip : ℕ → PageForm → Place → Result (Item × Place) End → Type 0
   in_strip q form at = IsInStrip form at (strip_bytes head.endian file q (strip_at form at.row))
 
-  module _ (q : ℕ) (form : PageForm) (at : Place) (here : IsPageAt file (cursor_at at) (Ok (record { endian = head.endian; offset = q; form = form }))) where
+  module _ (q : ℕ) (form : PageForm) (at : Place) (here : IsPageAt file (cursor_at at)
+      (Ok (record { endian = head.endian; offset = q; form = form }))) where
     row_after : (item : Item) → item.page ≡ at.page → item.row ≡ at.row
         → ((inner : Option Inner) → at.row + 1 < form.rows → Listed (record { page = at.page; row = at.row + 1; inner = inner }))
         → Listed (first_at (at.page + 1) 0) → Listed (place_after form item)
@@ -182,7 +196,8 @@ module _ (by_place : AreBitsByPlace) (lines_read : LinesAreRead) (file : List �
       | inl (last, is) ↦ rw (is, same_page) more
       | inr (inl (less, first, is)) ↦ rw (is, same_page, same_row) (next None (omega (arith, less, same_row)))
       | inr (inr (less, inside, is)) ↦
-          rw (is, same_page, same_row) (next (Some (record { bits = item.bits; reference = exchanged form item.pels })) (omega (arith, less, same_row)))
+          rw (is, same_page, same_row) (next (Some (record { bits = item.bits; reference = exchanged form item.pels }))
+          (omega (arith, less, same_row)))
     ]
 
     listed_row : (answer : Result (Item × Place) End) → in_strip q form at answer
@@ -194,7 +209,8 @@ module _ (by_place : AreBitsByPlace) (lines_read : LinesAreRead) (file : List �
         let rest : Listed to = rw step.2 (row_after item step.0 step.1 next more) in
         record { items = item ∷ rest.items; end = rest.end; is = (to, (_, here, is), rest.is) }
 
-  rows_on : (fuel q : ℕ) (form : PageForm) (later : List ℕ) (at : Place) → drop at.page offsets ≡ q ∷ later → page head.endian file q ≡ Ok form
+  rows_on : (fuel q : ℕ) (form : PageForm) (later : List ℕ) (at : Place) → drop at.page offsets ≡ q ∷ later
+      → page head.endian file q ≡ Ok form
       → form.rows ≤ at.row + fuel → Listed (first_at (at.page + 1) 0) → Listed at
   rows_on zero q form later at e is enough more =
       let only = one_in_strip by_place lines_read form at (strip_bytes head.endian file q (strip_at form at.row)) in
@@ -204,9 +220,11 @@ module _ (by_place : AreBitsByPlace) (lines_read : LinesAreRead) (file : List �
       let only = one_in_strip by_place lines_read form at (strip_bytes head.endian file q (strip_at form at.row)) in
       let here = rw is at (some_page file head is_head offsets fault chain (cursor_at at) q later e) in
       listed_row q form at here only.it only.is
-      (λ inner less. rows_on fuel q form later (record { page = at.page; row = at.row + 1; inner = inner }) e is (omega (arith, enough)) more) more
+      (λ inner less. rows_on fuel q form later (record { page = at.page; row = at.row + 1; inner = inner }) e is (omega (arith, enough))
+      more) more
 
-  on_page : (q : ℕ) (later : List ℕ) (at : Place) → drop at.page offsets ≡ q ∷ later → (answer : Result PageForm FileFault) → page head.endian file q ≡ answer
+  on_page : (q : ℕ) (later : List ℕ) (at : Place) → drop at.page offsets ≡ q ∷ later → (answer : Result PageForm FileFault)
+      → page head.endian file q ≡ answer
       → Listed (first_at (at.page + 1) 0) → Listed at
   on_page q later at e (Err refused) is more =
       let here = rw is at (some_page file head is_head offsets fault chain (cursor_at at) q later e) in
@@ -217,7 +235,8 @@ module _ (by_place : AreBitsByPlace) (lines_read : LinesAreRead) (file : List �
   pub rows_from : (later : List ℕ) (at : Place) → drop at.page offsets ≡ later → Listed at
   rows_from [] at e = record { items = []; end = _; is = (_, no_page file head is_head offsets fault chain (cursor_at at) e, refl) }
   rows_from (q ∷ later) at e =
-      on_page q later at e (page head.endian file q) refl (rows_from later (first_at (at.page + 1) 0) (next_dropped at.page offsets q later e))
+      on_page q later at e (page head.endian file q) refl (rows_from later (first_at (at.page + 1) 0)
+      (next_dropped at.page offsets q later e))
 
 same_number : (a b : ℕ) → (a ≡ b) ⊎ (a ≡ b → ⊥)
 same_number a b = elim (cases_lt a b) [
@@ -266,7 +285,8 @@ module _ (file : List ℕ) (here : FilePage) where
     | inr above ↦ inr (λ is. omega (arith, above, is.row))
   ]
 
-  by_inner : (place : LongPlace) → IsInnerOn file here place ⊎ (IsInnerOn file here place → ⊥) → IsOneAnswer (BeginsOn file (Inside place) here)
+  by_inner : (place : LongPlace) → IsInnerOn file here place ⊎ (IsInnerOn file here place → ⊥)
+      → IsOneAnswer (BeginsOn file (Inside place) here)
   by_inner place (inl is) = record { it = Ok (inner_at place, 0); is = inl (is, refl); one = only }
     where
       only : (other : Result (Place × ℕ) End) → BeginsOn file (Inside place) here other → other ≡ Ok (inner_at place, 0)

@@ -1,5 +1,6 @@
 -- Rows that are read from a walk and put.
-use Rattle.std.proofs.Common.{◌≡◌, ◌≢◌, ℕ, ◌+◌, ◌-◌, ◌<◌, List, [], ◌∷◌, ◌++◌, map, length, Err, refl, sym, ap, ◌∙◌, subst, arith, append_assoc}
+use Rattle.std.proofs.Common.{◌≡◌, ◌≢◌, ℕ, ◌+◌, ◌-◌, ◌<◌, List, [], ◌∷◌, ◌++◌, map, length, Err, refl, sym, ap, ◌∙◌, subst, arith}
+use Rattle.std.proofs.Common.{append_assoc}
 use Rattle.std.proofs.lemmas.List.{length-map, length_push, map-append}
 use Rattle.fax_bits.specs.declared.Colour.{Colour}
 use Rattle.fax_files.specs.declared.Cause.{Cause}
@@ -39,7 +40,8 @@ went old new is =
     record { item = to.0; pels = to.1; given = to.2 }
 
 -- some rows of a page were read and put
-pub record HasConverted (walk : WalkState) (output : Output) (sheet : Sheet) (count : ℕ) (new_walk : WalkState) (new_output : Output) : Type 0 where
+pub record HasConverted (walk : WalkState) (output : Output) (sheet : Sheet) (count : ℕ) (new_walk : WalkState)
+    (new_output : Output) : Type 0 where
   pub items : List Item
   pub count_is : length items ≡ count
   pub given : HasGiven walk items new_walk
@@ -71,7 +73,8 @@ module _ (walk : WalkState) (output : Output) (sheet : Sheet) (count : ℕ) (old
       → length row ≡ sheet.width → PutsRow middle row new_output → HasConverted walk output sheet (count + 1) new new_output
   one_converted new to row new_output row_is wide puts =
       let rows_are : rows ++ row ∷ [] ≡ map (λ item. item.pels) (so_far.items ++ to.item ∷ []) =
-      ap (λ (r : List Colour). rows ++ r ∷ []) (row_is ∙ sym to.pels) ∙ sym (map-append (λ (item : Item). item.pels) so_far.items (to.item ∷ [])) in
+      ap (λ (r : List Colour). rows ++ r ∷ []) (row_is ∙ sym to.pels)
+      ∙ sym (map-append (λ (item : Item). item.pels) so_far.items (to.item ∷ [])) in
       record {
         items = so_far.items ++ to.item ∷ [];
         count_is = length_push so_far.items to.item ∙ ap (λ n. n + 1) so_far.count_is;
@@ -97,5 +100,13 @@ module _ (walk : WalkState) (output : Output) (sheet : Sheet) (count : ℕ) (old
       → answer ≢ Memory → EndsWith walk answer
   told new NoMemory answer ended is not_memory = absurd (not_memory is)
   told new (AtRow p r cause) answer ended is not_memory =
-      record { items = so_far.items ++ []; page = p; row = r; cause = cause; due = so_far.given [] (Fault p r cause) ended.due; fault_is = is }
+      record {
+        items = so_far.items ++ [];
+        page = p;
+        row = r;
+        cause = cause;
+        due = so_far.given [] (Fault p r cause) ended.due;
+        fault_is =
+            is;
+      }
   told new CursorOutside answer ended is not_memory = absurd (not_memory is)

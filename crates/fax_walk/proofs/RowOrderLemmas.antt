@@ -1,5 +1,6 @@
 -- A file's rows stand before its end.
-use Rattle.std.proofs.Common.{◌≡◌, ℕ, zero, suc, ◌≤◌, ◌+◌, ◌*◌, ◌/◌, ◌%◌, ◌<◌, Bool, true, false, List, [], ◌∷◌, ◌++◌, map, length, drop, Option, Some, None, Result, Ok, Err, inl, inr, refl, ap, sym, ◌∙◌, arith, length-drop}
+use Rattle.std.proofs.Common.{◌≡◌, ℕ, zero, suc, ◌≤◌, ◌+◌, ◌*◌, ◌/◌, ◌%◌, ◌<◌, Bool, true, false, List, [], ◌∷◌, ◌++◌, map, length, drop}
+use Rattle.std.proofs.Common.{Option, Some, None, Result, Ok, Err, inl, inr, refl, ap, sym, ◌∙◌, arith, length-drop}
 use Rattle.std.proofs.lemmas.List.{length-map}
 use Rattle.std.proofs.lemmas.List.Elements.{Contains-append_cases}
 use Rattle.std.specs.List.{Contains}
@@ -22,8 +23,9 @@ use Rattle.fax_walk.specs.Laws.{FilesHaveOneItems, TailOfPrinted, PrintedTailsEn
 none_there : {A : Type 0} (x : A) → Contains [] x → ⊥
 none_there x (k, within, is) = absurd (omega arith)
 
--- rows with numbers stand on their page, before the number behind the last of them
-own_row : (p r : ℕ) (rows : List (List Colour)) (item : Item) → Contains (numbered p r rows) item → (item.page ≡ p) × (item.row < r + length rows)
+-- rows with numbers stand on their page, before the number after the last of them
+own_row : (p r : ℕ) (rows : List (List Colour)) (item : Item) → Contains (numbered p r rows) item
+    → (item.page ≡ p) × (item.row < r + length rows)
 own_row p r [] item there = absurd (none_there item there)
 own_row p r (row ∷ rows) item (zero, within, is) =
     let same : record { page = p; row = r; pels = row } ≡ item = is in
@@ -37,12 +39,12 @@ by_exchange : (exchanged : Bool) (rows : List (List Colour)) → length (if exch
 by_exchange true rows = length-map rows (map other)
 by_exchange false rows = refl
 
--- the rows end at this row of a page: no row of the page stands there or behind it
+-- the rows end at this row of a page: no row of the page stands there or after it
 abbrev AreBefore : List Item → ℕ → ℕ → Type 0
 AreBefore items p row = (item : Item) → Contains items item → item.page ≡ p → item.row < row
 
 module _ (endian : Endian) (file : List ℕ) (fault : Option FileFault) (p row : ℕ) (cause : Cause) where
-  -- the fault stands on one of these pages, behind their rows
+  -- the fault stands on one of these pages, after their rows
   abbrev Holds : ℕ → List Item → Type 0
   Holds first items = (first ≤ p) × AreBefore items p row
 
@@ -58,13 +60,20 @@ module _ (endian : Endian) (file : List ℕ) (fault : Option FileFault) (p row :
       inside = (own_row first 0 rows item (rw part.items_are at there)).1
 
       fewer : length rows ≤ length (joined part.strips)
-      fewer = omega (arith, length-drop (0 % form.rows_per_strip) (shown form (joined part.strips)), by_exchange form.exchanged (joined part.strips))
+      fewer = omega (
+        arith,
+        length-drop (0 % form.rows_per_strip) (shown form (joined part.strips)),
+        by_exchange form.exchanged
+            (joined part.strips),
+      )
 
-      by_end : (end : Option Cause) → Some stop ≡ stop_at (0 / form.rows_per_strip * form.rows_per_strip + length (joined part.strips)) end → item.row < stop.0
+      by_end : (end : Option Cause) → Some stop ≡ stop_at (0 / form.rows_per_strip * form.rows_per_strip + length (joined part.strips)) end
+          → item.row < stop.0
       by_end None is = absurd (cc is)
       by_end (Some met) is =
           let same : stop ≡ (0 / form.rows_per_strip * form.rows_per_strip + length (joined part.strips), met) = cc is in
-          let row_is : stop.0 ≡ 0 / form.rows_per_strip * form.rows_per_strip + length (joined part.strips) = ap (λ (s : ℕ × Cause). s.0) same in
+          let row_is : stop.0 ≡ 0 / form.rows_per_strip * form.rows_per_strip + length (joined part.strips) =
+          ap (λ (s : ℕ × Cause). s.0) same in
           omega (arith, row_is, inside, fewer)
 
   module _ (q first : ℕ) (behind : List Item → End → Type 0)
@@ -78,7 +87,8 @@ module _ (endian : Endian) (file : List ℕ) (fault : Option FileFault) (p row :
       where
         by_part : (item : Item) → item.page ≡ p → Contains own item ⊎ Contains others item → item.row < row
         by_part item on_page (inl there) =
-            let here = own_row first 0 (drop (0 % form.rows_per_strip) (shown form (joined part.strips))) item (rw part.items_are at there) in
+            let here =
+            own_row first 0 (drop (0 % form.rows_per_strip) (shown form (joined part.strips))) item (rw part.items_are at there) in
             let later = behind_holds others end is follows in
             absurd (omega (arith, on_page, here.0, later.0))
         by_part item on_page (inr there) = (behind_holds others end is follows).1 item there on_page

@@ -1,5 +1,6 @@
 -- What a walk from a place inside a strip hands out is what the definitions by strips say; and the laws of both.
-use Rattle.std.proofs.Common.{◌≡◌, ℕ, ◌+◌, ◌*◌, ◌/◌, ◌%◌, ◌<◌, inl, inr, List, [], map, length, drop, Option, Some, None, Result, Ok, Err, refl, sym, ap, ◌∙◌, subst, arith}
+use Rattle.std.proofs.Common.{◌≡◌, ℕ, ◌+◌, ◌*◌, ◌/◌, ◌%◌, ◌<◌, inl, inr, List, [], map, length, drop, Option, Some, None, Result, Ok, Err}
+use Rattle.std.proofs.Common.{refl, sym, ap, ◌∙◌, subst, arith}
 use Rattle.std.proofs.Math.Nat.{div-add-mod}
 use Rattle.std.specs.Prelude.{slice_get}
 use Rattle.fax_bits.specs.declared.Colour.{Colour}
@@ -39,9 +40,11 @@ use Rattle.fax_walk.proofs.PageLawLemmas.{page_here}
 use Rattle.fax_walk.proofs.SameRowLemmas.{HasItems, FollowsLines, row_at, lines_from}
 use Rattle.fax_walk.proofs.SameTailLemmas.{HasTail, Behind, its_page, later_items, at_row, from_first, tail_under}
 
-module _ (by_place : AreBitsByPlace) (forms : FormsAreWhole) (chains : FilesHaveOneChain) (file : List ℕ) (head : Header) (is_head : header file ≡ Ok head)
+module _ (by_place : AreBitsByPlace) (forms : FormsAreWhole) (chains : FilesHaveOneChain) (file : List ℕ) (head : Header)
+    (is_head : header file ≡ Ok head)
     (offsets : List ℕ) (fault : Option FileFault) (chain : IsChain head file offsets fault) where
-  module _ (place : LongPlace) (q : ℕ) (there : slice_get offsets place.at.page ≡ Some q) (form : PageForm) (form_is : page head.endian file q ≡ Ok form) where
+  module _ (place : LongPlace) (q : ℕ) (there : slice_get offsets place.at.page ≡ Some q) (form : PageForm)
+      (form_is : page head.endian file q ≡ Ok form) where
     abbrev p : ℕ
     p = place.at.page
 
@@ -52,7 +55,8 @@ module _ (by_place : AreBitsByPlace) (forms : FormsAreWhole) (chains : FilesHave
     n = form.rows_per_strip
 
     on_its_page : (row : ℕ) → IsPageAt file (record { page = p; row = row }) (Ok (record { endian = head.endian; offset = q; form = form }))
-    on_its_page = at_row by_place forms chains file head is_head offsets fault chain q form p (its_page by_place forms chains file head is_head offsets fault chain p q there) form_is
+    on_its_page = at_row by_place forms chains file head is_head offsets fault chain q form p
+        (its_page by_place forms chains file head is_head offsets fault chain p q there) form_is
 
     limits : IsWholeForm form
     limits = forms head.endian file q form form_is
@@ -60,7 +64,8 @@ module _ (by_place : AreBitsByPlace) (forms : FormsAreWhole) (chains : FilesHave
     abbrev has_page : HasPage file p head q form
     has_page = record { head_is = is_head; offsets = offsets; fault = fault; chain = chain; there = there; form_is = form_is }
 
-    outside_tail : (items : List Items.Item) (end : End) → (IsInnerOn file (record { endian = head.endian; offset = q; form = form }) place → ⊥)
+    outside_tail : (items : List Items.Item) (end : End)
+        → (IsInnerOn file (record { endian = head.endian; offset = q; form = form }) place → ⊥)
         → (items ≡ []) × (end ≡ Outside) → HasTail file (Inside place) items end
     outside_tail items end not (none, end_is) =
         record { all = []; same = none; tail = (Err Outside, (Ok _, on_its_page r, inr (not, refl)), (refl, end_is)) }
@@ -82,9 +87,11 @@ module _ (by_place : AreBitsByPlace) (forms : FormsAreWhole) (chains : FilesHave
       strip_below = let parts = div-add-mod r n in omega (arith, parts, below)
 
       in_its_strip : row_in_strip form r < (strip_form form (strip_at form r)).rows
-      in_its_strip = let parts = div-add-mod r n in let rest : r % n < n = let some = limits.some_in_strip in omega (arith, some) in omega (arith, parts, below, rest)
+      in_its_strip = let parts = div-add-mod r n in let rest : r % n < n =
+          let some = limits.some_in_strip in omega (arith, some) in omega (arith, parts, below, rest)
 
-      by_bytes : (found : Option (List ℕ)) → strip_bytes head.endian file q (strip_at form r) ≡ found → (items : List Items.Item) (end : End)
+      by_bytes : (found : Option (List ℕ)) → strip_bytes head.endian file q (strip_at form r) ≡ found
+          → (items : List Items.Item) (end : End)
           → AreInStrip file form place found items end → HasTail file (Inside place) items end
       by_bytes None e items end (none, end_is) =
           inner_tail items end (rw e tt) (record {
@@ -103,26 +110,30 @@ module _ (by_place : AreBitsByPlace) (forms : FormsAreWhole) (chains : FilesHave
             width_is = rw reference_is is.width_is;
             runs = rw reference_is is.runs;
           } in
-          let count = counted (strip_form form (strip_at form r)) (row_in_strip form r) reference _ from.own from.stop from.left from.lines in
+          let count =
+          counted (strip_form form (strip_at form r)) (row_in_strip form r) reference _ from.own from.stop from.left from.lines in
           let parts = div-add-mod r n in
           let r_is : r ≡ strip_at form r * n + row_in_strip form r = omega (arith, parts) in
           let lines : AreLines (strip_form form (strip_at form r)) (row_in_strip form r) (pels_of White place.runs)
           (drop place.bits (bits form.order bytes)) from.own from.stop from.left =
           rw reference_is from.lines in
           let has = lines_from by_place file head.endian q form p on_its_page limits (strip_at form r) strip_below bytes e
-          (Some (record { bits = place.bits; reference = pels_of White place.runs })) r (row_in_strip form r) from.own from.stop from.left from.others end
+          (Some (record { bits = place.bits; reference = pels_of White place.runs })) r (row_in_strip form r) from.own from.stop from.left
+          from.others end
           r_is in_its_strip lines (followed from.own from.stop count from.others from.follows) in
           inner_tail items end (rw e fits) (rw (from.items_are) has)
         where
           followed : (own : List (List Colour)) (stop : Option StripFault)
               → IsCount stop (row_in_strip form r + length own) (strip_form form (strip_at form r)).rows
               → (others : List Items.Item) → FollowsStrip file (record { page = p; row = r + length own }) stop others end
-              → FollowsLines by_place file head.endian q form p on_its_page limits (strip_at form r) strip_below bytes e stop (r + length own) others end
+              → FollowsLines by_place file head.endian q form p on_its_page limits (strip_at form r) strip_below bytes e stop
+              (r + length own) others end
           followed own (Some cause) count others follows = follows
           followed own None count others follows =
               let parts = div-add-mod r n in
               let last = r + length own in
-              let row : Items.AreFromRowOf head.endian file q form p last (Behind by_place forms chains file head is_head offsets fault chain p q there) others end =
+              let row : Items.AreFromRowOf head.endian file q form p last (Behind by_place forms chains file head is_head offsets fault
+              chain p q there) others end =
               tail_of chains file p head q form has_page last others end follows in
               let whole_strip : last ≡ r / n * n + (strip_form form (r / n)).rows = omega (arith, parts, count) in
               let first : last < form.rows → last % n ≡ 0 = λ less.
@@ -134,11 +145,13 @@ module _ (by_place : AreBitsByPlace) (forms : FormsAreWhole) (chains : FilesHave
               (later_items by_place forms chains file head is_head offsets fault chain p q there) last others end
               (omega (arith, whole_strip, strip_below)) first row
 
-    on_form : (items : List Items.Item) (end : End) → AreOnPage head.endian file q place (Ok form) items end → HasTail file (Inside place) items end
+    on_form : (items : List Items.Item) (end : End) → AreOnPage head.endian file q place (Ok form) items end
+        → HasTail file (Inside place) items end
     on_form items end (inr (not, none, end_is)) = outside_tail items end (λ inner. not (inner.row, inner.not_first)) (none, end_is)
     on_form items end (inl (row, is)) = by_bytes row.0 row.1 (strip_bytes head.endian file q (strip_at form r)) refl items end is
 
-  long_page : (place : LongPlace) (q : ℕ) → slice_get offsets place.at.page ≡ Some q → (answer : Result PageForm FileFault) → page head.endian file q ≡ answer
+  long_page : (place : LongPlace) (q : ℕ) → slice_get offsets place.at.page ≡ Some q → (answer : Result PageForm FileFault)
+      → page head.endian file q ≡ answer
       → (items : List Items.Item) (end : End) → AreOnPage head.endian file q place answer items end → HasTail file (Inside place) items end
   long_page place q there (Err refused) is items end (none, end_is) =
       let here = its_page by_place forms chains file head is_head offsets fault chain place.at.page q there place.at.row in
@@ -149,14 +162,24 @@ module _ (by_place : AreBitsByPlace) (forms : FormsAreWhole) (chains : FilesHave
       → IsLongTailOver head.endian file offsets fault place found items end → HasTail file (Inside place) items end
   long_over place None e items end (none, end_is) =
       let outside = end_past_chain (length offsets) fault place.at in
-      record { all = []; same = none; tail = (Err outside, (Err outside, rw e at (page_here file head is_head offsets fault chain place.at), refl), (refl, end_is)) }
+      record {
+        all = [];
+        same = none;
+        tail =
+            (Err outside, (Err outside, rw e at (page_here file head is_head offsets fault chain place.at), refl), (refl, end_is));
+      }
   long_over place (Some q) e items end tail = long_page place q e (page head.endian file q) refl items end tail
 
 module _ (by_place : AreBitsByPlace) (forms : FormsAreWhole) (chains : FilesHaveOneChain) (file : List ℕ) where
   long_under : (place : LongPlace) (answer : Result Header FileFault) → header file ≡ answer → (items : List Items.Item) (end : End)
       → IsLongTailUnder file place answer items end → HasTail file (Inside place) items end
   long_under place (Err fault) e items end (none, end_is) =
-      record { all = []; same = none; tail = (Err (Fault 0 0 (File fault)), (Err (Fault 0 0 (File fault)), rw e refl, refl), (refl, end_is)) }
+      record {
+        all = [];
+        same = none;
+        tail =
+            (Err (Fault 0 0 (File fault)), (Err (Fault 0 0 (File fault)), rw e refl, refl), (refl, end_is));
+      }
   long_under place (Ok head) e items end (offsets, fault, chain, tail) =
       long_over by_place forms chains file head e offsets fault chain place (slice_get offsets place.at.page) refl items end tail
 
@@ -165,7 +188,8 @@ module _ (by_place : AreBitsByPlace) (forms : FormsAreWhole) (chains : FilesHave
   has_tail (Inside place) items end tail = long_under place (header file) refl items end tail
 
 -- both directions, since there is one tail of either
-pub same_row_tails : AreBitsByPlace → FormsAreWhole → FilesHaveOneChain → BeginningsHaveOneTail → Laws.CursorsHaveOneTail → LongLaws.PlacesHaveOneTail
+pub same_row_tails : AreBitsByPlace → FormsAreWhole → FilesHaveOneChain → BeginningsHaveOneTail → Laws.CursorsHaveOneTail
+    → LongLaws.PlacesHaveOneTail
     → RowTailsAreAsBefore
 same_row_tails by_place forms chains tails cursors places file begun items end = (to, back)
   where
@@ -196,4 +220,5 @@ same_rows tails old_start new_start file items end = (to, back)
         (has.0, (new_start file has.0 end).0 has.1, has.2)
 
     back : HasPlain (AreItems file) items end → Items.AreItems file items end
-    back (all, are, items_are) = (old_start file items end).0 ((tails file (At start) items end).1 (all, (new_start file all end).1 are, items_are))
+    back (all, are, items_are) =
+        (old_start file items end).0 ((tails file (At start) items end).1 (all, (new_start file all end).1 are, items_are))

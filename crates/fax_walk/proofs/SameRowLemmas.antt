@@ -1,5 +1,6 @@
 -- The rows of a page's strips are those of the definitions by strips.
-use Rattle.std.proofs.Common.{◌≡◌, ℕ, ◌+◌, ◌*◌, ◌<◌, ◌≤◌, inl, inr, Bool, true, false, List, [], ◌∷◌, ◌++◌, map, length, drop, Option, Some, None, Result, Ok, Err, refl, sym, ap, ◌∙◌, subst, arith, append_assoc, length-append}
+use Rattle.std.proofs.Common.{◌≡◌, ℕ, ◌+◌, ◌*◌, ◌<◌, ◌≤◌, inl, inr, Bool, true, false, List, [], ◌∷◌, ◌++◌, map, length, drop, Option, Some}
+use Rattle.std.proofs.Common.{None, Result, Ok, Err, refl, sym, ap, ◌∙◌, subst, arith, append_assoc, length-append}
 use Rattle.std.proofs.lemmas.Bool.{cases_lt}
 use Rattle.std.proofs.lemmas.Bool.Decides.{nat_tests}
 use Rattle.std.proofs.lemmas.List.{append-nil}
@@ -25,7 +26,8 @@ use Rattle.fax_walk.specs.Items as Items
 use Rattle.fax_walk.specs.Items.{numbered, stop_at, Follows, AreFromRowOf}
 use Rattle.fax_walk.specs.InOrder.{AreFrom}
 use Rattle.fax_walk.specs.Pages.{IsPageAt}
-use Rattle.fax_walk.specs.Rows.{Item, Inner, Place, first_at, strip_at, row_in_strip, exchanged, bits_before, reference_of, place_after, IsItem, IsInStrip, IsRow}
+use Rattle.fax_walk.specs.Rows.{Item, Inner, Place, first_at, strip_at, row_in_strip, exchanged, bits_before, reference_of, place_after}
+use Rattle.fax_walk.specs.Rows.{IsItem, IsInStrip, IsRow}
 use Rattle.fax_walk.specs.PageLaws.{plain}
 use Rattle.fax_walk.proofs.RestLemmas.{rest_at}
 use Rattle.fax_walk.proofs.RowLawLemmas.{exchanged_twice, cases_after}
@@ -39,10 +41,12 @@ pub record HasItems (file : List ℕ) (at : Place) (items : List Items.Item) (en
   pub same : items ≡ map plain all
   pub are : AreFrom (IsRow file) at all end
 
-shown_row : (form : PageForm) (row : List Colour) (rows : List (List Colour)) → shown form (row ∷ rows) ≡ exchanged form row ∷ shown form rows
+shown_row : (form : PageForm) (row : List Colour) (rows : List (List Colour))
+    → shown form (row ∷ rows) ≡ exchanged form row ∷ shown form rows
 shown_row form row rows = by_test form.exchanged
   where
-    by_test : (b : Bool) → (if b then map (map other) (row ∷ rows) else (row ∷ rows)) ≡ (if b then map other row else row) ∷ (if b then map (map other) rows else rows)
+    by_test : (b : Bool) → (if b then map (map other) (row ∷ rows) else (row ∷ rows)) ≡ (if b then map other row else row)
+        ∷ (if b then map (map other) rows else rows)
     by_test true = refl
     by_test false = refl
 
@@ -61,7 +65,8 @@ module _ (by_place : AreBitsByPlace) (file : List ℕ) (endian : Endian) (q : �
 
   -- what is at a place, by what the file has of its strip
   pub row_at : (r : ℕ) (inner : Option Inner) (found : Option (List ℕ)) (answer : Result (Item × Place) End)
-      → strip_bytes endian file q (strip_at form r) ≡ found → IsInStrip form (place_at r inner) found answer → IsRow file (place_at r inner) answer
+      → strip_bytes endian file q (strip_at form r) ≡ found → IsInStrip form (place_at r inner) found answer
+      → IsRow file (place_at r inner) answer
   row_at r inner found answer e is = (Ok _, page r, subst (λ (o : Option (List ℕ)). IsInStrip form (place_at r inner) o answer) (sym e) is)
 
   module _ (s : ℕ) (below : s * n < form.rows) (bytes : List ℕ) (bytes_are : strip_bytes endian file q s ≡ Some bytes) where
@@ -101,7 +106,8 @@ module _ (by_place : AreBitsByPlace) (file : List ℕ) (endian : Endian) (q : �
     ended i row b [] (Some fault) left last lines = absurd (omega (arith, last, lines.1.0))
     ended i row b (next ∷ rows) stop left last lines = absurd (omega (arith, last, lines.1))
 
-    pub lines_from : (inner : Option Inner) (r i : ℕ) (own : List (List Colour)) (stop : Option StripFault) (left : List Bool) (others : List Items.Item) (end : End)
+    pub lines_from : (inner : Option Inner) (r i : ℕ) (own : List (List Colour)) (stop : Option StripFault) (left : List Bool)
+        (others : List Items.Item) (end : End)
         → r ≡ s * n + i → i < strip.rows → AreLines strip i (reference_of form.width inner) (drop (bits_before inner) all) own stop left
         → FollowsLines stop (r + length own) others end → HasItems file (place_at r inner) (numbered p r (shown form own) ++ others) end
     lines_from inner r i [] None left others end r_is within lines follows = absurd (omega (arith, within, lines.1))
@@ -135,10 +141,12 @@ module _ (by_place : AreBitsByPlace) (file : List ℕ) (endian : Endian) (q : �
                 | inl (last, to_is) ↦ absurd (omega (arith, last, less, r_is))
                 | inr (inl (here, first, to_is)) ↦ absurd (omega (arith, next.1, first))
                 | inr (inr (here, inside, to_is)) ↦
-                    to_is ∙ ap (λ (l : List Colour). place_at (r + 1) (Some (record { bits = from.0; reference = l }))) (exchanged_twice form row)
+                    to_is ∙ ap (λ (l : List Colour). place_at (r + 1) (Some (record { bits = from.0; reference = l })))
+                    (exchanged_twice form row)
               ] in
               subst (λ (at : Place). HasItems file at (numbered p (r + 1) (shown form rows) ++ others) end) (sym to)
-              (lines_from (Some (record { bits = from.0; reference = row })) (r + 1) (i + 1) rows stop left others end (omega (arith, r_is)) less
+              (lines_from (Some (record { bits = from.0; reference = row })) (r + 1) (i + 1) rows stop left others end (omega (arith, r_is))
+              less
               (subst (λ (b : List Bool). AreLines strip (i + 1) row b rows stop left) (sym from.2) more)
               (subst (λ (k : ℕ). FollowsLines stop k others end) count follows))
           | inr last ↦
@@ -152,13 +160,19 @@ module _ (by_place : AreBitsByPlace) (file : List ℕ) (endian : Endian) (q : �
         record {
           all = item ∷ later.all;
           same = rw (shown_row form row rows) (ap (λ (l : List Items.Item). plain item ∷ l) later.same);
-          are = (place_after form item, row_at r inner (Some bytes) (Ok (item, place_after form item)) (rw number.0 bytes_are) (is, refl), later.are);
+          are = (
+            place_after form item,
+            row_at r inner (Some bytes) (Ok (item, place_after form item)) (rw number.0 bytes_are) (is, refl),
+            later.are,
+          );
         }
 
-  module _ (behind : List Items.Item → End → Type 0) (goes_on : (others : List Items.Item) (end : End) → behind others end → HasItems file (first_at (p + 1) 0) others end) where
+  module _ (behind : List Items.Item → End → Type 0) (goes_on : (others : List Items.Item) (end : End) → behind others end
+      → HasItems file (first_at (p + 1) 0) others end) where
     -- rows of a strip, and then those of later ones
     both : (r : ℕ) (rows more : List (List Colour)) (others : List Items.Item)
-        → numbered p r (shown form rows) ++ (numbered p (r + length rows) (shown form more) ++ others) ≡ numbered p r (shown form (rows ++ more)) ++ others
+        → numbered p r (shown form rows) ++ (numbered p (r + length rows) (shown form more) ++ others)
+        ≡ numbered p r (shown form (rows ++ more)) ++ others
     both r rows more others =
         let count = shown_length endian file q form whole rows in
         sym (append_assoc (numbered p r (shown form rows)) (numbered p (r + length rows) (shown form more)) others)
@@ -169,14 +183,16 @@ module _ (by_place : AreBitsByPlace) (file : List ℕ) (endian : Endian) (q : �
     some_in : (s : ℕ) → s * n < form.rows → 0 < (strip_form form s).rows
     some_in s below = omega (arith, below, whole.some_in_strip)
 
-    no_more : (strips : List (List (List Colour))) (s : ℕ) (cause : Option Cause) → form.strips ≤ s → AreStrips endian file q form s strips cause
+    no_more : (strips : List (List (List Colour))) (s : ℕ) (cause : Option Cause) → form.strips ≤ s
+        → AreStrips endian file q form s strips cause
         → (strips ≡ []) × (cause ≡ None)
     no_more [] s cause last (inl stops) = (refl, stops.1)
     no_more [] s cause last (inr more) = absurd (omega (arith, last, more.0))
     no_more (rows ∷ strips) s cause last more = absurd (omega (arith, last, more.0))
 
     pub strips_from : (strips : List (List (List Colour))) (s : ℕ) (cause : Option Cause) (others : List Items.Item) (end : End)
-        → s * n < form.rows → AreStrips endian file q form s strips cause → Follows p behind (stop_at (s * n + length (joined strips)) cause) others end
+        → s * n < form.rows → AreStrips endian file q form s strips cause
+        → Follows p behind (stop_at (s * n + length (joined strips)) cause) others end
         → HasItems file (first_at p (s * n)) (numbered p (s * n) (shown form (joined strips)) ++ others) end
     strips_from [] s cause others end below (inl (s_is, none)) follows =
         absurd (omega (arith, below, whole.enough, ap (λ (m : ℕ). m * n) s_is))
@@ -191,9 +207,11 @@ module _ (by_place : AreBitsByPlace) (file : List ℕ) (endian : Endian) (q : �
           same = rw (shown_none form, stopped.0) refl;
           are = row_at (s * n) None None (Err end) (rw number.0 outside) is;
         }
-    strips_from (rows ∷ strips) s cause others end below (due, bytes, None, there, strip, inr (fault, some, none, cause_is)) follows = absurd cc
+    strips_from (rows ∷ strips) s cause others end below (due, bytes, None, there, strip, inr (fault, some, none, cause_is)) follows =
+        absurd cc
     strips_from (rows ∷ strips) s cause others end below (due, bytes, Some fault', there, strip, inl (none, rest)) follows = absurd cc
-    strips_from (rows ∷ strips) s cause others end below (due, bytes, Some fault', there, strip, inr (fault, some, none, cause_is)) follows =
+    strips_from (rows ∷ strips) s cause others end below (due, bytes, Some fault', there, strip, inr (fault, some, none, cause_is))
+        follows =
         let same : fault' ≡ fault = cc in
         let joined_is : joined (rows ∷ strips) ≡ rows ++ [] = ap (λ (l : List (List (List Colour))). rows ++ joined l) none in
         let all : joined (rows ∷ strips) ≡ rows = joined_is ∙ append-nil rows in
@@ -225,5 +243,6 @@ module _ (by_place : AreBitsByPlace) (file : List ℕ) (endian : Endian) (q : �
               rw (test, ends.0, shown_none form) (goes_on others end more)
         ] in
         subst (λ (l : List Items.Item). HasItems file (first_at p (s * n)) l end) (both (s * n) rows (joined strips) others)
-        (lines_from s below bytes there None (s * n) 0 rows None strip.left (numbered p e (shown form (joined strips)) ++ others) end (omega arith)
+        (lines_from s below bytes there None (s * n) 0 rows None strip.left (numbered p e (shown form (joined strips)) ++ others) end
+        (omega arith)
         (some_in s below) strip.lines later)

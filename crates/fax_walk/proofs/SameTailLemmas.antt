@@ -1,5 +1,6 @@
 -- What a walk hands out is what the definitions by strips say.
-use Rattle.std.proofs.Common.{◌≡◌, ℕ, zero, suc, ◌+◌, ◌*◌, ◌/◌, ◌%◌, ◌<◌, ◌≤◌, ◌⊎◌, inl, inr, true, false, List, [], ◌∷◌, ◌++◌, map, length, drop, Option, Some, None, Result, Ok, Err, refl, sym, ap, ◌∙◌, subst, arith, length-drop}
+use Rattle.std.proofs.Common.{◌≡◌, ℕ, zero, suc, ◌+◌, ◌*◌, ◌/◌, ◌%◌, ◌<◌, ◌≤◌, ◌⊎◌, inl, inr, true, false, List, [], ◌∷◌, ◌++◌, map, length}
+use Rattle.std.proofs.Common.{drop, Option, Some, None, Result, Ok, Err, refl, sym, ap, ◌∙◌, subst, arith, length-drop}
 use Rattle.std.proofs.Math.Nat.{div-add-mod}
 use Rattle.std.proofs.lemmas.Bool.Decides.{nat_tests}
 use Rattle.std.proofs.lemmas.List.{append-nil, drop-map}
@@ -47,7 +48,8 @@ dropped_all (suc k) p r (row ∷ rows) = let e : r + suc k ≡ r + 1 + k = omega
 dropped : (k p r : ℕ) (rows : List (List Colour)) (others : List Items.Item) → (k ≤ length rows) ⊎ (others ≡ [])
     → drop k (numbered p r rows ++ others) ≡ numbered p (r + k) (drop k rows) ++ others
 dropped k p r rows others (inr none) =
-    ap (λ (l : List Items.Item). drop k (numbered p r rows ++ l)) none ∙ ap (drop k) (append-nil (numbered p r rows)) ∙ dropped_all k p r rows
+    ap (λ (l : List Items.Item). drop k (numbered p r rows ++ l)) none ∙ ap (drop k) (append-nil (numbered p r rows))
+    ∙ dropped_all k p r rows
     ∙ sym (append-nil (numbered p (r + k) (drop k rows))) ∙ ap (λ (l : List Items.Item). numbered p (r + k) (drop k rows) ++ l) (sym none)
 dropped zero p r rows others (inl within) = let none : r + 0 ≡ r = omega arith in rw none refl
 dropped (suc k) p r [] others (inl within) = absurd (omega (arith, within))
@@ -55,7 +57,8 @@ dropped (suc k) p r (row ∷ rows) others (inl within) =
     let e : r + suc k ≡ r + 1 + k = omega arith in
     rw e (dropped k p (r + 1) rows others (inl (omega (arith, within))))
 
-module _ (by_place : AreBitsByPlace) (forms : FormsAreWhole) (chains : FilesHaveOneChain) (file : List ℕ) (head : Header) (is_head : header file ≡ Ok head)
+module _ (by_place : AreBitsByPlace) (forms : FormsAreWhole) (chains : FilesHaveOneChain) (file : List ℕ) (head : Header)
+    (is_head : header file ≡ Ok head)
     (offsets : List ℕ) (fault : Option FileFault) (chain : IsChain head file offsets fault) where
   abbrev pub PageIs : ℕ → ℕ → Type 0
   PageIs p q = (r : ℕ) → IsPageAt file (record { page = p; row = r }) (page_or_end head.endian q p (page head.endian file q))
@@ -79,9 +82,11 @@ module _ (by_place : AreBitsByPlace) (forms : FormsAreWhole) (chains : FilesHave
     abbrev HasAt : Place → List Items.Item → End → Type 0
     HasAt at items end = HasItems file at items end
 
-    module _ (behind : List Items.Item → End → Type 0) (goes_on : (others : List Items.Item) (end : End) → behind others end → HasAt (first_at (p + 1) 0) others end) where
+    module _ (behind : List Items.Item → End → Type 0) (goes_on : (others : List Items.Item) (end : End) → behind others end
+        → HasAt (first_at (p + 1) 0) others end) where
       -- the rows of the page from strip s on, and what follows
-      from_strip : (s : ℕ) (strips : List (List (List Colour))) (cause : Option Cause) (others : List Items.Item) (end : End) → s * n < form.rows
+      from_strip : (s : ℕ) (strips : List (List (List Colour))) (cause : Option Cause) (others : List Items.Item) (end : End)
+          → s * n < form.rows
           → AreStrips head.endian file q form s strips cause
           → Follows p behind (stop_at (s * n + length (joined strips)) cause) others end
           → HasAt (first_at p (s * n)) (numbered p (s * n) (shown form (joined strips)) ++ others) end
@@ -90,7 +95,8 @@ module _ (by_place : AreBitsByPlace) (forms : FormsAreWhole) (chains : FilesHave
 
       -- from a strip's first row, or after the page's last
       pub from_first : (r : ℕ) (items : List Items.Item) (end : End) → r ≤ form.rows → (r < form.rows → r % n ≡ 0)
-          → AreFromRowOf head.endian file q form p r behind items end → HasAt (place_of by_place file head.endian q form p at_row whole r) items end
+          → AreFromRowOf head.endian file q form p r behind items end
+          → HasAt (place_of by_place file head.endian q form p at_row whole r) items end
       from_first r items end within first (inl (above, none, end_is)) = absurd (omega (arith, within, above))
       from_first r items end within first (inr (inl (last, more))) =
           let test : nat_lt r form.rows ≡ false = grind (arith, nat_tests, last) in
@@ -101,7 +107,8 @@ module _ (by_place : AreBitsByPlace) (forms : FormsAreWhole) (chains : FilesHave
           let parts = div-add-mod r n in
           let r_is : r ≡ r / n * n = omega (arith, parts, zero_is) in
           let part = from.part in
-          let follows : Follows p behind (stop_at (r / n * n + length (joined part.strips)) part.end) from.others end = rw part.stop_is at from.follows in
+          let follows : Follows p behind (stop_at (r / n * n + length (joined part.strips)) part.end) from.others end =
+          rw part.stop_is at from.follows in
           let all = from_strip (r / n) part.strips part.end from.others end (omega (arith, r_is, below)) part.read follows in
           let own : from.own ≡ numbered p r (shown form (joined part.strips)) =
           part.items_are ∙ ap (λ (k : ℕ). numbered p r (drop k (shown form (joined part.strips)))) zero_is in
@@ -134,9 +141,11 @@ module _ (by_place : AreBitsByPlace) (forms : FormsAreWhole) (chains : FilesHave
           let part = from.part in
           let rows = shown form (joined part.strips) in
           let start_below : r / n * n < form.rows = omega (arith, parts, below) in
-          let follows : Follows p behind (stop_at (r / n * n + length (joined part.strips)) part.end) from.others end = rw part.stop_is at from.follows in
+          let follows : Follows p behind (stop_at (r / n * n + length (joined part.strips)) part.end) from.others end =
+          rw part.stop_is at from.follows in
           let whole_strips = from_strip (r / n) part.strips part.end from.others end start_below part.read follows in
-          let enough : (r % n ≤ length rows) ⊎ (from.others ≡ []) = there_or_none part.strips part.end part.read from.others end follows below in
+          let enough : (r % n ≤ length rows) ⊎ (from.others ≡ []) =
+          there_or_none part.strips part.end part.read from.others end follows below in
           let r_is : r / n * n + r % n ≡ r = omega (arith, parts) in
           let items_are : items ≡ drop (r % n) (map plain whole_strips.all) =
           from.items_are ∙ ap (λ (l : List Items.Item). l ++ from.others) part.items_are
@@ -152,8 +161,10 @@ module _ (by_place : AreBitsByPlace) (forms : FormsAreWhole) (chains : FilesHave
             );
           }
         where
-          there_or_none : (strips : List (List (List Colour))) (cause : Option Cause) → AreStrips head.endian file q form (r / n) strips cause
-              → (others : List Items.Item) (end : End) → Follows p behind (stop_at (r / n * n + length (joined strips)) cause) others end → r < form.rows
+          there_or_none : (strips : List (List (List Colour))) (cause : Option Cause)
+              → AreStrips head.endian file q form (r / n) strips cause
+              → (others : List Items.Item) (end : End) → Follows p behind (stop_at (r / n * n + length (joined strips)) cause) others end
+              → r < form.rows
               → (r % n ≤ length (shown form (joined strips))) ⊎ (others ≡ [])
           there_or_none strips None are others end follows less =
               let parts = div-add-mod r n in
@@ -183,7 +194,12 @@ module _ (by_place : AreBitsByPlace) (forms : FormsAreWhole) (chains : FilesHave
   pages_from [] p e ends items end (none, end_is) =
       let n : p + 0 ≡ p = omega arith in
       let end_too = end_is ∙ (rw n at ends) in
-      record { all = []; same = none; are = rw end_too (_, no_page file head is_head offsets fault chain (record { page = p; row = 0 }) e, refl) }
+      record {
+        all = [];
+        same = none;
+        are =
+            rw end_too (_, no_page file head is_head offsets fault chain (record { page = p; row = 0 }) e, refl);
+      }
   pages_from (q ∷ later) p e ends items end are =
       let n : p + length (q ∷ later) ≡ p + 1 + length later = omega arith in
       page_first q p (page_is p q later e) (ArePagesItems head.endian file fault (p + 1) later)
@@ -207,17 +223,28 @@ module _ (by_place : AreBitsByPlace) (forms : FormsAreWhole) (chains : FilesHave
     on_page : (r : ℕ) (answer : Result PageForm FileFault) → page head.endian file q ≡ answer → (items : List Items.Item) (end : End)
         → AreFromPage head.endian file q p r Behind answer items end → HasTail file (At (record { page = p; row = r })) items end
     on_page r (Err refused) is items end (none, end_is) =
-        record { all = []; same = none; tail = (Err (Fault p 0 (File refused)), (Err (Fault p 0 (File refused)), rw is at (its_page r), refl), (refl, end_is)) }
+        record {
+          all = [];
+          same = none;
+          tail =
+              (Err (Fault p 0 (File refused)), (Err (Fault p 0 (File refused)), rw is at (its_page r), refl), (refl, end_is));
+        }
     on_page r (Ok form) is items end from = from_row q form p its_page is Behind later_items r items end from
 
   tail_over : (at : Cursor) (found : Option ℕ) → slice_get offsets at.page ≡ found → (items : List Items.Item) (end : End)
       → IsTailOver head.endian file offsets fault at found items end → HasTail file (At at) items end
   tail_over at None e items end (none, end_is) =
       let outside = end_past_chain (length offsets) fault at in
-      record { all = []; same = none; tail = (Err outside, (Err outside, rw e at (page_here file head is_head offsets fault chain at), refl), (refl, end_is)) }
+      record {
+        all = [];
+        same = none;
+        tail =
+            (Err outside, (Err outside, rw e at (page_here file head is_head offsets fault chain at), refl), (refl, end_is));
+      }
   tail_over at (Some q) e items end tail = on_page at.page q e at.row (page head.endian file q) refl items end tail
 
-pub tail_under : AreBitsByPlace → FormsAreWhole → FilesHaveOneChain → (file : List ℕ) (at : Cursor) (answer : Result Header FileFault) → header file ≡ answer
+pub tail_under : AreBitsByPlace → FormsAreWhole → FilesHaveOneChain → (file : List ℕ) (at : Cursor) (answer : Result Header FileFault)
+    → header file ≡ answer
     → (items : List Items.Item) (end : End) → IsTailUnder file at answer items end → HasTail file (At at) items end
 tail_under by_place forms chains file at (Err fault) e items end (none, end_is) =
     record { all = []; same = none; tail = (Err (Fault 0 0 (File fault)), (Err (Fault 0 0 (File fault)), rw e refl, refl), (refl, end_is)) }

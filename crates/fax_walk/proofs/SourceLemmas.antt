@@ -1,5 +1,7 @@
 -- The pages of a file that is converted, with their rows.
-use Rattle.std.proofs.Common.{◌≡◌, ℕ, suc, ◌+◌, ◌*◌, ◌/◌, ◌%◌, ◌<◌, inl, inr, min, Bool, true, false, List, [], ◌∷◌, ◌++◌, map, length, take, drop, Option, Some, None, Result, Ok, Err, refl, sym, ap, ◌∙◌, subst, arith, append_assoc, append-nil, length-append}
+use Rattle.std.proofs.Common.{◌≡◌, ℕ, suc, ◌+◌, ◌*◌, ◌/◌, ◌%◌, ◌<◌, inl, inr, min, Bool, true, false, List, [], ◌∷◌, ◌++◌, map, length}
+use Rattle.std.proofs.Common.{take, drop, Option, Some, None, Result, Ok, Err, refl, sym, ap, ◌∙◌, subst, arith, append_assoc, append-nil}
+use Rattle.std.proofs.Common.{length-append}
 use Rattle.std.specs.Prelude.{if◌then◌else◌}
 use Rattle.std.proofs.lemmas.List.{length-map, take_at, drop_at}
 use Rattle.fax_bits.specs.declared.Colour.{Colour}
@@ -17,7 +19,8 @@ use Rattle.fax_files.specs.PbmLaws.{AreOfWidth}
 use Rattle.fax_files.specs.Laws.{FilesHaveOneChain, FormsAreWhole, IsWholeForm}
 use Rattle.fax_walk.specs.declared.end.End.{End}
 use Rattle.fax_walk.specs.declared.end.End.TheVariants.{Fault, Outside}
-use Rattle.fax_walk.specs.Items.{Item, numbered, chain_end, stop_at, Follows, ArePageItems, AreFromRow, AreFromPage, ArePagesItems, AreItemsUnder, AreItems}
+use Rattle.fax_walk.specs.Items.{Item, numbered, chain_end, stop_at, Follows, ArePageItems, AreFromRow, AreFromPage, ArePagesItems}
+use Rattle.fax_walk.specs.Items.{AreItemsUnder, AreItems}
 use Rattle.fax_walk.specs.InOrder.{AreFrom}
 use Rattle.fax_walk.specs.declared.cursor.Cursor.{Cursor}
 use Rattle.fax_walk.specs.Pages.{FormItem, FilePage, IsForm, AreForms, page_or_end, end_past_chain}
@@ -44,7 +47,8 @@ count_at row n all None count = count
 count_at row n all (Some cause) count = count
 
 -- the items of a page from its first row on
-page_items : (endian : Endian) (file : List ℕ) (q : ℕ) (form : PageForm) (p : ℕ) (own : List Item) (stop : Option (ℕ × Cause)) → IsWholeForm form
+page_items : (endian : Endian) (file : List ℕ) (q : ℕ) (form : PageForm) (p : ℕ) (own : List Item) (stop : Option (ℕ × Cause))
+    → IsWholeForm form
     → ArePageItems endian file q form p 0 own stop → AreWide form.width own × IsCount stop (length own) form.rows
 page_items endian file q form p own stop limits part =
     let some : 0 < form.rows_per_strip = limits.some_in_strip in
@@ -60,7 +64,8 @@ page_items endian file q form p own stop limits part =
     let n : min (0 * form.rows_per_strip) form.rows + length (joined part.strips) ≡ length own = omega (arith, len) in
     let count = subst (λ (k : ℕ). IsCount part.end k form.rows) n (total endian file q form limits 0 part.strips part.end read) in (
       subst (AreOfWidth form.width) (sym pels_are) (page_wide endian file q form 0 part.strips part.end read),
-      subst (λ (s : Option (ℕ × Cause)). IsCount s (length own) form.rows) (sym part.stop_is) (count_at _ (length own) form.rows part.end count),
+      subst (λ (s : Option (ℕ × Cause)). IsCount s (length own) form.rows) (sym part.stop_is)
+          (count_at _ (length own) form.rows part.end count),
     )
 
 module _ (endian : Endian) (file : List ℕ) (whole : FormsAreWhole) where
@@ -69,13 +74,15 @@ module _ (endian : Endian) (file : List ℕ) (whole : FormsAreWhole) where
   by_stop p form behind own others end None count follows = inl count
   by_stop p form behind own others end (Some stop) count follows = inr (count, follows.0, p, stop.0, stop.1, follows.1)
 
-  behind_whole : (p : ℕ) (form : PageForm) (behind : List Item → End → Type 0) (own others : List Item) (end : End) (stop : Option (ℕ × Cause))
+  behind_whole : (p : ℕ) (form : PageForm) (behind : List Item → End → Type 0) (own others : List Item) (end : End)
+      (stop : Option (ℕ × Cause))
       → IsCount stop (length own) form.rows → Follows p behind stop others end → length own ≡ form.rows → behind others end
   behind_whole p form behind own others end None count follows all = follows
   behind_whole p form behind own others end (Some stop) count follows all = absurd (omega arith)
 
   -- a page that is not refused, and what follows it
-  from_first : (p q : ℕ) (form : PageForm) (behind : List Item → End → Type 0) (forms : List FormItem) (form_end : End) (items : List Item) (end : End)
+  from_first : (p q : ℕ) (form : PageForm) (behind : List Item → End → Type 0) (forms : List FormItem) (form_end : End) (items : List Item)
+      (end : End)
       → IsWholeForm form → ((others : List Item) → behind others end → ArePagesOf forms form_end others end)
       → AreFromRow endian file q form p 0 behind items end → ArePagesOf (record { page = p; form = form } ∷ forms) form_end items end
   from_first p q form behind forms form_end items end limits later from =
@@ -92,7 +99,8 @@ module _ (endian : Endian) (file : List ℕ) (whole : FormsAreWhole) where
 
   by_answer : (p q : ℕ) (behind : List Item → End → Type 0) (answer : Result PageForm FileFault)
       (forms : List FormItem) (form_end : End) (items : List Item) (end : End) → page endian file q ≡ answer
-      → ((forms : List FormItem) (others : List Item) → AreFrom (IsForm file) (p + 1) forms form_end → behind others end → ArePagesOf forms form_end others end)
+      → ((forms : List FormItem) (others : List Item) → AreFrom (IsForm file) (p + 1) forms form_end → behind others end
+      → ArePagesOf forms form_end others end)
       → FormsAt file p (page_or_end endian q p answer) forms form_end → AreFromPage endian file q p 0 behind answer items end
       → ArePagesOf forms form_end items end
   by_answer p q behind (Err refused) forms form_end items end is later from_forms from =
@@ -115,7 +123,8 @@ no_chain_end : (p : ℕ) (some : Option FileFault) → chain_end p some ≡ Outs
 no_chain_end p None is = cc
 no_chain_end p (Some stop) is = cc
 
-module _ (chains : FilesHaveOneChain) (file : List ℕ) (head : Header) (is_head : header file ≡ Ok head) (offsets : List ℕ) (fault : Option FileFault)
+module _ (chains : FilesHaveOneChain) (file : List ℕ) (head : Header) (is_head : header file ≡ Ok head) (offsets : List ℕ)
+    (fault : Option FileFault)
     (chain : IsChain head file offsets fault) where
   abbrev page_answer : ℕ → ℕ → Result FilePage End
   page_answer q p = page_or_end head.endian q p (page head.endian file q)
@@ -125,17 +134,21 @@ module _ (chains : FilesHaveOneChain) (file : List ℕ) (head : Header) (is_head
   none_there p forms end e ends are =
       let at : Cursor = record { page = p; row = 0 } in
       let none : p + 0 ≡ p = omega arith in
-      let here = forms_at chains file p (Err (end_past_chain (length offsets) fault at)) (no_page file head is_head offsets fault chain at e) forms end are in
+      let here = forms_at chains file p (Err (end_past_chain (length offsets) fault at))
+      (no_page file head is_head offsets fault chain at e) forms end are in
       (here.0, here.1 ∙ sym (rw none at ends))
 
-  one_there : (p q : ℕ) (later : List ℕ) (forms : List FormItem) (end : End) → drop p offsets ≡ q ∷ later → AreFrom (IsForm file) p forms end
+  one_there : (p q : ℕ) (later : List ℕ) (forms : List FormItem) (end : End) → drop p offsets ≡ q ∷ later
+      → AreFrom (IsForm file) p forms end
       → FormsAt file p (page_answer q p) forms end
   one_there p q later forms end e are =
-      forms_at chains file p (page_answer q p) (some_page file head is_head offsets fault chain (record { page = p; row = 0 }) q later e) forms end are
+      forms_at chains file p (page_answer q p) (some_page file head is_head offsets fault chain (record { page = p; row = 0 }) q later e)
+      forms end are
 
   pages_from : FormsAreWhole → (later : List ℕ) (p : ℕ) → drop p offsets ≡ later → EndsProperly (length offsets) fault (p + length later)
       → (forms : List FormItem) (form_end : End) (items : List Item) (end : End)
-      → AreFrom (IsForm file) p forms form_end → ArePagesItems head.endian file fault p later items end → ArePagesOf forms form_end items end
+      → AreFrom (IsForm file) p forms form_end → ArePagesItems head.endian file fault p later items end
+      → ArePagesOf forms form_end items end
   pages_from whole [] p e ends forms form_end items end are_forms are =
       let none = none_there p forms form_end e ends are_forms in
       subst (λ (l : List FormItem). ArePagesOf l form_end items end) (sym none.0) (are.0, are.1 ∙ sym none.1)
@@ -148,42 +161,49 @@ module _ (chains : FilesHaveOneChain) (file : List ℕ) (head : Header) (is_head
       (one_there p q later forms form_end e are_forms) are
 
   inside_page : (p q : ℕ) (answer : Result PageForm FileFault) (forms : List FormItem)
-      → ((forms : List FormItem) → AreFrom (IsForm file) (p + 1) forms Outside → ⊥) → FormsAt file p (page_or_end head.endian q p answer) forms Outside → ⊥
+      → ((forms : List FormItem) → AreFrom (IsForm file) (p + 1) forms Outside → ⊥)
+      → FormsAt file p (page_or_end head.endian q p answer) forms Outside → ⊥
   inside_page p q (Err refused) forms never are = let is = are.1 in cc
   inside_page p q (Ok form) forms never (others, forms_are, follows) = never others follows
 
   -- no list of forms ends outside of its file
-  inside_pages : (later : List ℕ) (p : ℕ) → drop p offsets ≡ later → EndsProperly (length offsets) fault (p + length later) → (forms : List FormItem)
+  inside_pages : (later : List ℕ) (p : ℕ) → drop p offsets ≡ later → EndsProperly (length offsets) fault (p + length later)
+      → (forms : List FormItem)
       → AreFrom (IsForm file) p forms Outside → ⊥
   inside_pages [] p e ends forms are = no_chain_end p fault (sym (none_there p forms Outside e ends are).1)
   inside_pages (q ∷ later) p e ends forms are =
       let n : p + length (q ∷ later) ≡ p + 1 + length later = omega arith in
       inside_page p q (page head.endian file q) forms
-      (λ more left. inside_pages later (p + 1) (next_dropped p offsets q later e) (rw n at ends) more left) (one_there p q later forms Outside e are)
+      (λ more left. inside_pages later (p + 1) (next_dropped p offsets q later e) (rw n at ends) more left)
+      (one_there p q later forms Outside e are)
 
   all_proper : EndsProperly (length offsets) fault (0 + length offsets)
   all_proper = let n : 0 + length offsets ≡ length offsets = omega arith in rw n (proper_end (length offsets) fault)
 
 -- no page is there where the header is refused
-refused_forms : FilesHaveOneChain → (file : List ℕ) (fault : FileFault) → header file ≡ Err fault → (forms : List FormItem) (end : End) → AreForms file forms end
+refused_forms : FilesHaveOneChain → (file : List ℕ) (fault : FileFault) → header file ≡ Err fault → (forms : List FormItem) (end : End)
+    → AreForms file forms end
     → (forms ≡ []) × (end ≡ Fault 0 0 (File fault))
 refused_forms chains file fault is forms end are = forms_at chains file 0 (Err (Fault 0 0 (File fault))) (rw is refl) forms end are
 
 -- the rows of a file are those of its pages
-module _ (chains : FilesHaveOneChain) (whole : FormsAreWhole) (file : List ℕ) (forms : List FormItem) (form_end : End) (items : List Item) (end : End) where
+module _ (chains : FilesHaveOneChain) (whole : FormsAreWhole) (file : List ℕ) (forms : List FormItem) (form_end : End) (items : List Item)
+    (end : End) where
   under : (answer : Result Header FileFault) → header file ≡ answer → AreForms file forms form_end → AreItemsUnder file answer items end
       → ArePagesOf forms form_end items end
   under (Err fault) is are_forms are =
       let none = refused_forms chains file fault is forms form_end are_forms in
       subst (λ (l : List FormItem). ArePagesOf l form_end items end) (sym none.0) (are.0, are.1 ∙ sym none.1)
   under (Ok head) is are_forms (offsets, fault, chain, are) =
-      pages_from chains file head is offsets fault chain whole offsets 0 refl (all_proper chains file head is offsets fault chain) forms form_end items end are_forms are
+      pages_from chains file head is offsets fault chain whole offsets 0 refl (all_proper chains file head is offsets fault chain) forms
+      form_end items end are_forms are
 
   pub file_pages : AreForms file forms form_end → AreItems file items end → ArePagesOf forms form_end items end
   file_pages are_forms are = under (header file) refl are_forms are
 
 -- an item among the first is as wide as they are
-wide_item : (width : ℕ) (own others before after : List Item) (item : Item) → own ++ others ≡ before ++ item ∷ after → length before < length own
+wide_item : (width : ℕ) (own others before after : List Item) (item : Item) → own ++ others ≡ before ++ item ∷ after
+    → length before < length own
     → AreWide width own → length item.pels ≡ width
 wide_item width [] others before after item same within wide = absurd (omega arith)
 wide_item width (first ∷ own) others [] after item same within wide =
@@ -193,7 +213,8 @@ wide_item width (first ∷ own) others (x ∷ before) after item same within wid
     wide_item width own others before after item rest (omega arith) wide.1
 
 -- a row of a page is as wide as the page
-pub item_wide : (width rows : ℕ) (before after : List Item) (item : Item) (end : End) → BeginsWithPage width rows (before ++ item ∷ after) end
+pub item_wide : (width rows : ℕ) (before after : List Item) (item : Item) (end : End)
+    → BeginsWithPage width rows (before ++ item ∷ after) end
     → length before < rows → length item.pels ≡ width
 item_wide width rows before after item end page due =
     let all = ap length page.items_are in
@@ -224,9 +245,10 @@ same_parts (x ∷ own) more (y ∷ other) later same count =
     let parts = same_parts own more other later rest (omega arith) in
     (cc (first, parts.0), parts.1)
 
--- behind whole pages come the pages that are left
+-- after whole pages come the pages that are left
 pub pages_passed : (forms more_forms : List FormItem) (form_end : End) (items more : List Item) (end : End) (pages : List SourcePage)
-    → AreWholePages forms items pages → ArePagesOf (forms ++ more_forms) form_end (items ++ more) end → ArePagesOf more_forms form_end more end
+    → AreWholePages forms items pages → ArePagesOf (forms ++ more_forms) form_end (items ++ more) end
+    → ArePagesOf more_forms form_end more end
 pages_passed [] more_forms form_end items more end pages whole are =
     subst (λ (l : List Item). ArePagesOf more_forms form_end (l ++ more) end) whole.0 are
 pages_passed (one ∷ forms) more_forms form_end items more end pages (own, others, later, items_are, count, pages_are, rest) are =
@@ -266,13 +288,15 @@ pages_grow (form ∷ forms) items pages one own (first, others, later, items_are
   pages_grow forms others later one own rest count,
 )
 
-pub pages_count : (forms : List FormItem) (items : List Item) (pages : List SourcePage) → AreWholePages forms items pages → length pages ≡ length forms
+pub pages_count : (forms : List FormItem) (items : List Item) (pages : List SourcePage) → AreWholePages forms items pages
+    → length pages ≡ length forms
 pages_count [] items pages whole = ap length whole.1
 pages_count (one ∷ forms) items pages (own, others, later, items_are, count, pages_are, rest) =
     ap length pages_are ∙ ap suc (pages_count forms others later rest)
 
 -- whole pages are the pages of their forms and items
-pub pages_are : (forms : List FormItem) (items : List Item) (pages : List SourcePage) → AreWholePages forms items pages → pages ≡ pages_of forms items
+pub pages_are : (forms : List FormItem) (items : List Item) (pages : List SourcePage) → AreWholePages forms items pages
+    → pages ≡ pages_of forms items
 pages_are [] items pages whole = whole.1
 pages_are (one ∷ forms) items pages (own, others, later, items_are, count, is, rest) =
     let first : take one.form.rows items ≡ own = ap (take one.form.rows) items_are ∙ take_at own others one.form.rows count in
@@ -282,11 +306,13 @@ pages_are (one ∷ forms) items pages (own, others, later, items_are, count, is,
     ∙ ap (λ (l : List SourcePage). page_of_form one.form (map (λ item. item.pels) (take one.form.rows items)) ∷ l)
     (pages_are forms others later rest ∙ ap (pages_of forms) (sym second))
 
-inside_under : FilesHaveOneChain → (file : List ℕ) (answer : Result Header FileFault) → header file ≡ answer → (forms : List FormItem) → AreForms file forms Outside → ⊥
+inside_under : FilesHaveOneChain → (file : List ℕ) (answer : Result Header FileFault) → header file ≡ answer → (forms : List FormItem)
+    → AreForms file forms Outside → ⊥
 inside_under chains file (Err fault) is forms are = let ends = (refused_forms chains file fault is forms Outside are).1 in cc
 inside_under chains file (Ok head) is forms are =
     let one = chains head file in
-    inside_pages chains file head is one.offsets one.end one.is one.offsets 0 refl (all_proper chains file head is one.offsets one.end one.is) forms are
+    inside_pages chains file head is one.offsets one.end one.is one.offsets 0 refl
+    (all_proper chains file head is one.offsets one.end one.is) forms are
 
 pub forms_inside : FilesHaveOneChain → (file : List ℕ) (forms : List FormItem) → AreForms file forms Outside → ⊥
 forms_inside chains file forms are = inside_under chains file (header file) refl forms are

@@ -17,7 +17,8 @@ over endian file [] None items end = (λ t. t, λ t. t)
 over endian file [] (Some fault) items end = (λ t. t, λ t. t)
 over endian file (q ∷ offsets) fault items end = (λ t. t, λ t. t)
 
-under : (file : List ℕ) (answer : Result Header FileFault) (items : List Item) (end : End) → IsTailUnder file start answer items end ↔ AreItemsUnder file answer items end
+under : (file : List ℕ) (answer : Result Header FileFault) (items : List Item) (end : End)
+    → IsTailUnder file start answer items end ↔ AreItemsUnder file answer items end
 under file (Err fault) items end = (λ t. t, λ t. t)
 under file (Ok head) items end = (
   λ (offsets, fault, chain, tail). (offsets, fault, chain, (over head.endian file offsets fault items end).0 tail),

@@ -1,5 +1,6 @@
 -- Each walk has rows that are due, and an end, and each reader of pages has pages.
-use Rattle.std.proofs.Common.{◌≡◌, ℕ, zero, suc, ◌+◌, ◌-◌, ◌<◌, ◌≤◌, inl, inr, Bool, List, [], ◌∷◌, ◌++◌, length, drop, Option, Some, None, refl, arith}
+use Rattle.std.proofs.Common.{◌≡◌, ℕ, zero, suc, ◌+◌, ◌-◌, ◌<◌, ◌≤◌, inl, inr, Bool, List, [], ◌∷◌, ◌++◌, length, drop, Option, Some, None}
+use Rattle.std.proofs.Common.{refl, arith}
 use Rattle.fax_bits.specs.declared.Colour.{Colour}
 use Rattle.fax_bits.specs.Bits.{bits}
 use Rattle.fax_page.specs.declared.StripForm.{StripForm}
@@ -79,7 +80,8 @@ module _ (lines_read : (form : StripForm) (i : ℕ) (reference : List Colour) �
   follows_stop p chain (Some stop) = ([], Fault p stop.0 stop.1, (refl, refl))
 
   behind_stop : (page : PageState) → page.number < page.form.strips → (stop : Option StripFault)
-      → (others : List (List (List Colour))) × (cause : Option Cause) × AreStripsBehind page.directory page.form page.number stop others cause
+      → (others : List (List (List Colour))) × (cause : Option Cause)
+      × AreStripsBehind page.directory page.form page.number stop others cause
   behind_stop page within None =
       let more : Strips strips_read page.directory.endian page.directory.file page.directory.offset page.form (page.number + 1) =
       strips_from strips_read page.directory.endian page.directory.file page.directory.offset page.form
@@ -101,7 +103,16 @@ module _ (lines_read : (form : StripForm) (i : ℕ) (reference : List Colour) �
         record {
           rows = rows;
           cause = more.1;
-          read = record { own = own.rows; stop = own.end; left = own.left; lines = own.are; others = more.0; rows_are = refl; behind = more.2 };
+          read = record {
+            own = own.rows;
+            stop = own.end;
+            left = own.left;
+            lines = own.are;
+            others = more.0;
+            rows_are = refl;
+            behind =
+                more.2;
+          };
           others = then.0;
           items_are = refl;
           follows = then.2;

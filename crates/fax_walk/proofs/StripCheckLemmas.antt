@@ -1,5 +1,6 @@
 -- The strips of a page that is checked.
-use Rattle.std.proofs.Common.{◌≡◌, ℕ, ◌+◌, ◌-◌, ◌*◌, ◌<◌, ◌≤◌, List, [], ◌∷◌, ◌++◌, length, min, Option, Some, None, refl, sym, ap, ◌∙◌, subst, arith, append_assoc, append-nil, length-append, inl, inr}
+use Rattle.std.proofs.Common.{◌≡◌, ℕ, ◌+◌, ◌-◌, ◌*◌, ◌<◌, ◌≤◌, List, [], ◌∷◌, ◌++◌, length, min, Option, Some, None, refl, sym, ap, ◌∙◌}
+use Rattle.std.proofs.Common.{subst, arith, append_assoc, append-nil, length-append, inl, inr}
 use Rattle.std.proofs.lemmas.List.Concat.{flat_map-append}
 use Rattle.fax_bits.specs.declared.Colour.{Colour}
 use Rattle.fax_bits.specs.Bits.{bits}
@@ -22,13 +23,14 @@ use Rattle.fax_walk.specs.Report.{notes_on_strip, AreStripsNoted}
 use Rattle.fax_walk.specs.code.Check.{AreStripsBefore, AreStripsChecked, AreAllStripsChecked, IsRowInside, IsReadTo}
 use Rattle.fax_walk.proofs.PageItemLemmas.{strip_count}
 
--- what was read of all strips, with its notes behind those that there were
+-- what was read of all strips, with its notes after those that there were
 abbrev pub AreAllBehind : TiffDirectory → PageForm → ℕ → List Note → List Note → PageRead → Type 0
 AreAllBehind directory form p old new read =
     (noted : List Note) × (new ≡ old ++ noted) × AreAllStripsChecked directory form p noted read
 
 -- one more strip
-joined-push : (before : List (List (List Colour))) (rows : List (List Colour)) → length (joined (before ++ rows ∷ [])) ≡ length (joined before) + length rows
+joined-push : (before : List (List (List Colour))) (rows : List (List Colour))
+    → length (joined (before ++ rows ∷ [])) ≡ length (joined before) + length rows
 joined-push before rows =
     let parts : joined (before ++ rows ∷ []) ≡ joined before ++ rows =
     flat_map-append (λ (strip : List (List Colour)). strip) before (rows ∷ []) ∙ ap (λ l. joined before ++ l) (append-nil rows) in
@@ -63,13 +65,15 @@ module _ (directory : TiffDirectory) (form : PageForm) (p : ℕ) (limits : IsWho
       omega (arith, limits.needed s due, strip_count (strip_form form s) (bits form.order bytes) rows (Some fault) strip)
 
   -- one more strip was read wholly
-  pub strip_behind : (s : ℕ) (old middle new : List Note) (bytes : List ℕ) (rows : List (List Colour)) (found : StripNotes) → s < form.strips
+  pub strip_behind : (s : ℕ) (old middle new : List Note) (bytes : List ℕ) (rows : List (List Colour)) (found : StripNotes)
+      → s < form.strips
       → AreStripsChecked directory form p s old middle → bytes_of directory s ≡ Some bytes
       → IsNotedAs (strip_form form s) (bits form.order bytes) rows found → new ≡ middle ++ notes_on_strip p s found
       → AreStripsChecked directory form p (s + 1) old new
   strip_behind s old middle new bytes rows found due (noted, middle_is, so_far) there is new_is =
       let strip : IsStrip (strip_form form s) (bits form.order bytes) rows None = record { left = is.left; lines = is.lines } in
-      let whole : length rows ≡ min in_strip (form.rows - s * in_strip) = strip_count (strip_form form s) (bits form.order bytes) rows None strip in (
+      let whole : length rows ≡ min in_strip (form.rows - s * in_strip) =
+      strip_count (strip_form form s) (bits form.order bytes) rows None strip in (
         noted ++ notes_on_strip p s found,
         new_is ∙ ap (λ l. l ++ notes_on_strip p s found) middle_is ∙ append_assoc old noted (notes_on_strip p s found),
         record {
@@ -78,10 +82,12 @@ module _ (directory : TiffDirectory) (form : PageForm) (p : ℕ) (limits : IsWho
           found = so_far.found ++ found ∷ [];
           found_count = length-append so_far.found (found ∷ []) ∙ ap (λ n. n + 1) so_far.found_count;
           strips = λ more end strips.
-              subst (λ l. AreStrips directory.endian directory.file directory.offset form 0 l end) (sym (append_assoc so_far.before (rows ∷ []) more))
+              subst (λ l. AreStrips directory.endian directory.file directory.offset form 0 l end)
+              (sym (append_assoc so_far.before (rows ∷ []) more))
               (so_far.strips (rows ∷ more) end (due, bytes, None, there, strip, inl (refl, strips)));
           notes = λ more others notes.
-              subst (λ l. AreStripsNoted directory.endian directory.file directory.offset form p 0 l ((noted ++ notes_on_strip p s found) ++ others))
+              subst (λ l. AreStripsNoted directory.endian directory.file directory.offset form p 0 l
+              ((noted ++ notes_on_strip p s found) ++ others))
               (sym (append_assoc so_far.found (found ∷ []) more))
               (subst (λ l. AreStripsNoted directory.endian directory.file directory.offset form p 0 (so_far.found ++ found ∷ more) l)
               (sym (append_assoc noted (notes_on_strip p s found) others))
@@ -102,7 +108,8 @@ module _ (directory : TiffDirectory) (form : PageForm) (p : ℕ) (limits : IsWho
       → AreStrips directory.endian directory.file directory.offset form s [] end
       → AreStrips directory.endian directory.file directory.offset form 0 so_far.before end
   strips_end s noted so_far end ends =
-      subst (λ l. AreStrips directory.endian directory.file directory.offset form 0 l end) (append-nil so_far.before) (so_far.strips [] end ends)
+      subst (λ l. AreStrips directory.endian directory.file directory.offset form 0 l end) (append-nil so_far.before)
+      (so_far.strips [] end ends)
 
   -- all strips were read
   pub all_read : (s : ℕ) (old new : List Note) → s ≡ form.strips → AreStripsChecked directory form p s old new
@@ -122,7 +129,8 @@ module _ (directory : TiffDirectory) (form : PageForm) (p : ℕ) (limits : IsWho
       )
 
   -- a strip does not lie in the file
-  pub strip_outside : (s : ℕ) (old new : List Note) → s < form.strips → AreStripsChecked directory form p s old new → bytes_of directory s ≡ None
+  pub strip_outside : (s : ℕ) (old new : List Note) → s < form.strips → AreStripsChecked directory form p s old new
+      → bytes_of directory s ≡ None
       → AreAllBehind directory form p old new (record { rows = s * in_strip; fault = Some (File StripOutside) })
   strip_outside s old new due (noted, new_is, so_far) none = (
     noted,
@@ -138,7 +146,8 @@ module _ (directory : TiffDirectory) (form : PageForm) (p : ℕ) (limits : IsWho
   )
 
   -- a row of a strip cannot be read
-  strip_refused : (s : ℕ) (old new : List Note) (bytes : List ℕ) (row : ℕ) (rows : List (List Colour)) (fault : StripFault) → s < form.strips
+  strip_refused : (s : ℕ) (old new : List Note) (bytes : List ℕ) (row : ℕ) (rows : List (List Colour)) (fault : StripFault)
+      → s < form.strips
       → AreStripsChecked directory form p s old new → bytes_of directory s ≡ Some bytes → length rows ≡ row
       → IsStrip (strip_form form s) (bits form.order bytes) rows (Some fault)
       → AreAllBehind directory form p old new (record { rows = s * in_strip + row; fault = Some (Strip fault) })

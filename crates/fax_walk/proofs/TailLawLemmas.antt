@@ -1,5 +1,6 @@
 -- What follows an item is the tail from after it.
-use Rattle.std.proofs.Common.{◌≡◌, ℕ, ◌+◌, ◌*◌, ◌/◌, ◌%◌, ◌<◌, ◌≤◌, inl, inr, Bool, true, false, List, [], ◌∷◌, ◌++◌, length, drop, Option, Some, None, Result, Ok, Err, refl, sym, ap, ◌∙◌, subst, arith, length-append}
+use Rattle.std.proofs.Common.{◌≡◌, ℕ, ◌+◌, ◌*◌, ◌/◌, ◌%◌, ◌<◌, ◌≤◌, inl, inr, Bool, true, false, List, [], ◌∷◌, ◌++◌, length, drop, Option}
+use Rattle.std.proofs.Common.{Some, None, Result, Ok, Err, refl, sym, ap, ◌∙◌, subst, arith, length-append}
 use Rattle.std.proofs.Math.Nat.{div-add-mod}
 use Rattle.std.proofs.lemmas.Bool.{cases_lt}
 use Rattle.std.proofs.lemmas.Bool.Decides.{nat_tests}
@@ -25,7 +26,9 @@ use Rattle.fax_walk.specs.Cursor.{start}
 use Rattle.fax_walk.specs.LongCursor.{LongPlace}
 use Rattle.fax_walk.specs.InOrder.{AreFrom, AreBegun, LeadTo}
 use Rattle.fax_walk.specs.Pages.{FilePage, IsPageUnder, IsPageAt, page_over, page_or_end}
-use Rattle.fax_walk.specs.Rows.{AreItems, IsInnerOn, Item, Inner, Place, first_at, strip_at, row_in_strip, exchanged, reference_of, place_after, IsItem, IsInStrip, cursor_at, IsRow, first_row, IsInner, FitsStrip, inner_at, Begins, IsTailFrom, cursor_after, long_after}
+use Rattle.fax_walk.specs.Rows.{AreItems, IsInnerOn, Item, Inner, Place, first_at, strip_at, row_in_strip, exchanged, reference_of}
+use Rattle.fax_walk.specs.Rows.{place_after, IsItem, IsInStrip, cursor_at, IsRow, first_row, IsInner, FitsStrip, inner_at, Begins}
+use Rattle.fax_walk.specs.Rows.{IsTailFrom, cursor_after, long_after}
 use Rattle.fax_walk.specs.PageLaws.{TailOfStart, IsReachedPlace, TailsGoOn, LongTailsGoOn, PlacesAreReached, IsReached}
 use Rattle.fax_walk.proofs.InOrderLemmas.{one_from, same_answer, leads_on, joined, kept, split_at_number as item_split}
 use Rattle.fax_walk.proofs.PageLawLemmas.{one_page}
@@ -47,7 +50,8 @@ module _ (file : List ℕ) where
     step : IsRow file at (Ok (item, to))
     rest : AreFrom (IsRow file) to after end
 
-  split_at_number : (begun : Begun) (all : List Item) (end : End) (n : ℕ) (item : Item) → IsTailFrom file begun all end → slice_get all n ≡ Some item
+  split_at_number : (begun : Begun) (all : List Item) (end : End) (n : ℕ) (item : Item) → IsTailFrom file begun all end
+      → slice_get all n ≡ Some item
       → IsSplit begun item (drop (n + 1) all) end
   split_at_number begun all end n item (begin, begins, are) there =
       let split = item_split (IsRow file) begin all end n item are there in
@@ -73,9 +77,11 @@ module _ (file : List ℕ) where
     to_is : to ≡ place_after here.form item
 
   in_bytes : (at : Place) (item : Item) (to : Place) (here : FilePage) → IsPageAt file (cursor_at at) (Ok here) → (found : Option (List ℕ))
-      → strip_bytes here.endian file here.offset (strip_at here.form at.row) ≡ found → IsInStrip here.form at found (Ok (item, to)) → IsRead at item to
+      → strip_bytes here.endian file here.offset (strip_at here.form at.row) ≡ found → IsInStrip here.form at found (Ok (item, to))
+      → IsRead at item to
   in_bytes at item to here page None e is = absurd cc
-  in_bytes at item to here page (Some bytes) e (is, to_is) = record { here = here; page = page; bytes = bytes; bytes_are = e; is = is; to_is = to_is }
+  in_bytes at item to here page (Some bytes) e (is, to_is) =
+      record { here = here; page = page; bytes = bytes; bytes_are = e; is = is; to_is = to_is }
 
   read_at : (at : Place) (item : Item) (to : Place) → IsRow file at (Ok (item, to)) → IsRead at item to
   read_at at item to (Err end, page, e) = absurd cc
@@ -83,22 +89,26 @@ module _ (file : List ℕ) where
       in_bytes at item to here page (strip_bytes here.endian file here.offset (strip_at here.form at.row)) refl is
 
   -- a page is the same for each of its rows
-  any_row : (at : Cursor) (r : ℕ) (here : FilePage) → IsPageAt file at (Ok here) → IsPageAt file (record { page = at.page; row = r }) (Ok here)
+  any_row : (at : Cursor) (r : ℕ) (here : FilePage) → IsPageAt file at (Ok here)
+      → IsPageAt file (record { page = at.page; row = r }) (Ok here)
   any_row at r here is = under (header file) is
     where
-      over : (head : Header) (offsets : List ℕ) (fault : Option FileFault) (found : Option ℕ) → Ok here ≡ page_over head.endian file offsets fault at found
+      over : (head : Header) (offsets : List ℕ) (fault : Option FileFault) (found : Option ℕ)
+          → Ok here ≡ page_over head.endian file offsets fault at found
           → Ok here ≡ page_over head.endian file offsets fault (record { page = at.page; row = r }) found
       over head offsets fault None e = absurd cc
       over head offsets fault (Some q) e = e
 
-      under : (answer : Result Header FileFault) → IsPageUnder file at answer (Ok here) → IsPageUnder file (record { page = at.page; row = r }) answer (Ok here)
+      under : (answer : Result Header FileFault) → IsPageUnder file at answer (Ok here)
+          → IsPageUnder file (record { page = at.page; row = r }) answer (Ok here)
       under (Err fault) e = absurd cc
       under (Ok head) (offsets, fault, chain, e) = (offsets, fault, chain, over head offsets fault (slice_get offsets at.page) e)
 
   whole_page : FormsAreWhole → (at : Cursor) (here : FilePage) → IsPageAt file at (Ok here) → IsWholeForm here.form
   whole_page forms at here is = under (header file) is
     where
-      answered : (endian : Endian) (q : ℕ) (answer : Result PageForm FileFault) → page endian file q ≡ answer → Ok here ≡ page_or_end endian q at.page answer
+      answered : (endian : Endian) (q : ℕ) (answer : Result PageForm FileFault) → page endian file q ≡ answer
+          → Ok here ≡ page_or_end endian q at.page answer
           → IsWholeForm here.form
       answered endian q (Err refused) is e = absurd cc
       answered endian q (Ok form) is e =
@@ -106,7 +116,8 @@ module _ (file : List ℕ) where
           let same : this ≡ here = cc in
           subst (λ (h : FilePage). IsWholeForm h.form) same (forms endian file q form is)
 
-      over : (head : Header) (offsets : List ℕ) (fault : Option FileFault) (found : Option ℕ) → Ok here ≡ page_over head.endian file offsets fault at found
+      over : (head : Header) (offsets : List ℕ) (fault : Option FileFault) (found : Option ℕ)
+          → Ok here ≡ page_over head.endian file offsets fault at found
           → IsWholeForm here.form
       over head offsets fault None e = absurd cc
       over head offsets fault (Some q) e = answered head.endian q (page head.endian file q) refl e
@@ -115,7 +126,8 @@ module _ (file : List ℕ) where
       under (Err fault) e = absurd cc
       under (Ok head) (offsets, fault, chain, e) = over head offsets fault (slice_get offsets at.page) e
 
-  same_page : FilesHaveOneChain → (at : Cursor) (here there : FilePage) → IsPageAt file at (Ok here) → IsPageAt file at (Ok there) → here ≡ there
+  same_page : FilesHaveOneChain → (at : Cursor) (here there : FilePage) → IsPageAt file at (Ok here) → IsPageAt file at (Ok there)
+      → here ≡ there
   same_page chains at here there is is_too = let same = same_answer (one_page chains file at) (Ok here) (Ok there) is is_too in cc
 
 -- the row after another stands in the next strip, or in the same
@@ -166,7 +178,8 @@ module _ (forms : FormsAreWhole) (chains : FilesHaveOneChain) (file : List ℕ) 
     form = read.here.form
 
     this_page : (r : ℕ) → IsPageAt file (record { page = item.page; row = r }) (Ok read.here)
-    this_page r = subst (λ (p : ℕ). IsPageAt file (record { page = p; row = r }) (Ok read.here)) (sym read.is.same_page) (any_row file (cursor_at at) r read.here read.page)
+    this_page r = subst (λ (p : ℕ). IsPageAt file (record { page = p; row = r }) (Ok read.here)) (sym read.is.same_page)
+        (any_row file (cursor_at at) r read.here read.page)
 
     only_here : (r : ℕ) (here : FilePage) → IsPageAt file (record { page = item.page; row = r }) (Ok here) → read.here ≡ here
     only_here r here page = same_page file chains (record { page = item.page; row = r }) read.here here (this_page r) page
@@ -213,7 +226,8 @@ module _ (forms : FormsAreWhole) (chains : FilesHaveOneChain) (file : List ℕ) 
   from_strip : (at : Place) (item : Item) (to : Place) → FromStrip at → IsRow file at (Ok (item, to)) → FromStrip to
   from_strip at item to from step = keeps_from at item to (read_at file at item to step) from step
 
-  first_in : (at : Cursor) (here : FilePage) → IsPageAt file at (Ok here) → at.row < here.form.rows → FromStrip (strip_of here at.page at.row)
+  first_in : (at : Cursor) (here : FilePage) → IsPageAt file at (Ok here) → at.row < here.form.rows
+      → FromStrip (strip_of here at.page at.row)
   first_in at here page below there page' =
       let some = (whole_page file forms at here page).some_in_strip in
       let s = strip_at here.form at.row in
@@ -221,9 +235,11 @@ module _ (forms : FormsAreWhole) (chains : FilesHaveOneChain) (file : List ℕ) 
       let parts = div-add-mod at.row n in
       let first = in_strip n s 0 (s * n) some (omega arith) in
       let same = same_page file chains (record { page = at.page; row = s * n }) here there (any_row file at (s * n) here page) page' in
-      subst (λ (h : FilePage). IsFromStrip (first_at at.page (s * n)) h) same (strip_first at.page (s * n) here first.1 (omega (arith, parts, below)))
+      subst (λ (h : FilePage). IsFromStrip (first_at at.page (s * n)) h) same
+      (strip_first at.page (s * n) here first.1 (omega (arith, parts, below)))
 
-  begins_first : (at : Cursor) (here : FilePage) → IsPageAt file at (Ok here) → (from : Place) (k : ℕ) → Ok (from, k) ≡ first_row at here.form → FromStrip from
+  begins_first : (at : Cursor) (here : FilePage) → IsPageAt file at (Ok here) → (from : Place) (k : ℕ)
+      → Ok (from, k) ≡ first_row at here.form → FromStrip from
   begins_first at here page from k e = by_test (nat_lt at.row here.form.rows) refl (at.row == here.form.rows) e
     where
       place_of : Result (Place × ℕ) End → Place
@@ -231,7 +247,8 @@ module _ (forms : FormsAreWhole) (chains : FilesHaveOneChain) (file : List ℕ) 
       place_of (Err end) = from
 
       by_test : (below : Bool) → nat_lt at.row here.form.rows ≡ below → (last : Bool)
-          → ◌≡◌ {A = Result (Place × ℕ) End} (Ok (from, k)) (if below then Ok (strip_of here at.page at.row, row_in_strip here.form at.row) else (if last then Ok (first_at (at.page + 1) 0, 0) else Err Outside))
+          → ◌≡◌ {A = Result (Place × ℕ) End} (Ok (from, k)) (if below then Ok (strip_of here at.page at.row, row_in_strip here.form at.row)
+          else (if last then Ok (first_at (at.page + 1) 0, 0) else Err Outside))
           → FromStrip from
       by_test true below last e =
           let less : at.row < here.form.rows = grind (arith, nat_tests, below) in
@@ -257,9 +274,11 @@ module _ (forms : FormsAreWhole) (chains : FilesHaveOneChain) (file : List ℕ) 
       place_of (Ok begin) = begin.0
       place_of (Err end) = from
 
-  module _ (begun : Begun) (reached : IsReached file begun) (item : Item) (after : List Item) (end : End) (split : IsSplit file begun item after end) where
+  module _ (begun : Begun) (reached : IsReached file begun) (item : Item) (after : List Item) (end : End)
+      (split : IsSplit file begun item after end) where
     here_from : FromStrip split.at
-    here_from = kept (IsRow file) FromStrip from_strip split.from split.at split.front split.lead (begins_from begun reached split.from split.dropped split.begins)
+    here_from = kept (IsRow file) FromStrip from_strip split.from split.at split.front split.lead
+        (begins_from begun reached split.from split.dropped split.begins)
 
     read : IsRead file split.at item split.to
     read = read_at file split.at item split.to split.step
@@ -274,7 +293,8 @@ module _ (forms : FormsAreWhole) (chains : FilesHaveOneChain) (file : List ℕ) 
     page_of = this_page split.at item split.to read (item.row + 1)
 
     -- the next row stands on the page
-    on_page : (inner : Option Inner) → item.row + 1 < on_form.rows → split.to ≡ record { page = item.page; row = item.row + 1; inner = inner }
+    on_page : (inner : Option Inner) → item.row + 1 < on_form.rows
+        → split.to ≡ record { page = item.page; row = item.row + 1; inner = inner }
         → IsTailFrom file (At (cursor_after item)) after end
     on_page inner within is =
         let at : Place = record { page = item.page; row = item.row + 1; inner = inner } in
@@ -306,7 +326,8 @@ module _ (forms : FormsAreWhole) (chains : FilesHaveOneChain) (file : List ℕ) 
     tail_after = elim (cases_after on_form item) [
       | inl (last, is) ↦ on_next last (read.to_is ∙ is)
       | inr (inl (within, first, is)) ↦ on_page None within (read.to_is ∙ is)
-      | inr (inr (within, inside, is)) ↦ on_page (Some (record { bits = item.bits; reference = exchanged on_form item.pels })) within (read.to_is ∙ is)
+      | inr (inr (within, inside, is)) ↦ on_page (Some (record { bits = item.bits; reference = exchanged on_form item.pels })) within
+          (read.to_is ∙ is)
     ]
 
   -- the reference of a row that is read has the page's width
@@ -323,7 +344,8 @@ module _ (forms : FormsAreWhole) (chains : FilesHaveOneChain) (file : List ℕ) 
       → length (exchanged read.here.form item.pels) ≡ read.here.form.width
   row_wide at item to wide read =
       let line = read.is.line in
-      row_in line.dimension read.here.form.width (reference_of read.here.form.width at.inner) line.codes (exchanged read.here.form item.pels) _
+      row_in line.dimension read.here.form.width (reference_of read.here.form.width at.inner) line.codes
+      (exchanged read.here.form item.pels) _
       (wide read.here read.page read.bytes read.bytes_are) line.coded
 
   keeps_wide : (at : Place) (item : Item) (to : Place) → Wide at → IsRow file at (Ok (item, to)) → Wide to
@@ -334,7 +356,8 @@ module _ (forms : FormsAreWhole) (chains : FilesHaveOneChain) (file : List ℕ) 
         | inr (inl (within, first, is)) ↦ subst Wide (sym (read.to_is ∙ is)) (wide_first item.page (item.row + 1))
         | inr (inr (within, inside, is)) ↦
             subst Wide (sym (read.to_is ∙ is)) (λ here page bytes there.
-            subst (λ (h : FilePage). length (exchanged read.here.form item.pels) ≡ h.form.width) (only_here at item to read (item.row + 1) here page)
+            subst (λ (h : FilePage). length (exchanged read.here.form item.pels) ≡ h.form.width)
+            (only_here at item to read (item.row + 1) here page)
             (row_wide at item to wide read))
       ]
 
@@ -364,7 +387,8 @@ module _ (forms : FormsAreWhole) (chains : FilesHaveOneChain) (file : List ℕ) 
   begins_wide (Inside place) from k (Ok here, page, inl (is, e)) = subst Wide (sym (ap place_of e)) (λ there page' bytes bytes_are.
       let same = same_page file chains place.at here there page page' in
       let is_there = subst (λ (h : FilePage). IsInnerOn file h place) same is in
-      let inner : IsInner there.form.width bytes place = subst (λ (o : Option (List ℕ)). FitsStrip there.form.width o place) bytes_are is_there.fits in
+      let inner : IsInner there.form.width bytes place =
+      subst (λ (o : Option (List ℕ)). FitsStrip there.form.width o place) bytes_are is_there.fits in
       inner.width_is)
     where
       place_of : Result (Place × ℕ) End → Place
@@ -380,7 +404,8 @@ module _ (forms : FormsAreWhole) (chains : FilesHaveOneChain) (file : List ℕ) 
   some_if false x place e = absurd cc
 
   long_facts : (form : PageForm) (item : Item) (place : LongPlace) → long_after form item ≡ Some place
-      → (item.row + 1 < form.rows) × (0 < row_in_strip form (item.row + 1)) × (place_after form item ≡ inner_after form item) × (long_of form item ≡ place)
+      → (item.row + 1 < form.rows) × (0 < row_in_strip form (item.row + 1)) × (place_after form item ≡ inner_after form item)
+      × (long_of form item ≡ place)
   long_facts form item place e = elim (cases_after form item) [
     | inl (last, is) ↦ absurd (no_place (rw is at e))
     | inr (inl (within, first, is)) ↦ absurd (no_place (rw is at e))
@@ -399,9 +424,11 @@ module _ (forms : FormsAreWhole) (chains : FilesHaveOneChain) (file : List ℕ) 
     abbrev its : PageForm
     its = this.here.form
 
-    facts : (item.row + 1 < its.rows) × (0 < row_in_strip its (item.row + 1)) × (place_after its item ≡ inner_after its item) × (long_of its item ≡ place)
+    facts : (item.row + 1 < its.rows) × (0 < row_in_strip its (item.row + 1)) × (place_after its item ≡ inner_after its item)
+        × (long_of its item ≡ place)
     facts = long_facts its item place
-        (subst (λ (h : FilePage). long_after h.form item ≡ Some place) (sym (only_here split.at item split.to this item.row here page)) long)
+        (subst (λ (h : FilePage). long_after h.form item ≡ Some place) (sym (only_here split.at item split.to this item.row here page))
+        long)
 
     page_here : IsPageAt file (cursor_after item) (Ok this.here)
     page_here = this_page split.at item split.to this (item.row + 1)
@@ -424,7 +451,8 @@ module _ (forms : FormsAreWhole) (chains : FilesHaveOneChain) (file : List ℕ) 
     }
       where
         wide_here : Wide split.at
-        wide_here = kept (IsRow file) Wide keeps_wide split.from split.at split.front split.lead (begins_wide begun split.from split.dropped split.begins)
+        wide_here = kept (IsRow file) Wide keeps_wide split.from split.at split.front split.lead
+            (begins_wide begun split.from split.dropped split.begins)
 
     is_inner : IsInnerOn file this.here (long_of its item)
     is_inner =
@@ -432,7 +460,8 @@ module _ (forms : FormsAreWhole) (chains : FilesHaveOneChain) (file : List ℕ) 
         record {
           row = facts.0;
           not_first = facts.1;
-          fits = subst (λ (s : ℕ). FitsStrip its.width (strip_bytes this.here.endian file this.here.offset s) (long_of its item)) (sym next.0)
+          fits =
+              subst (λ (s : ℕ). FitsStrip its.width (strip_bytes this.here.endian file this.here.offset s) (long_of its item)) (sym next.0)
               (subst (λ (o : Option (List ℕ)). FitsStrip its.width o (long_of its item)) (sym this.bytes_are) inner);
         }
 
@@ -447,7 +476,14 @@ module _ (forms : FormsAreWhole) (chains : FilesHaveOneChain) (file : List ℕ) 
     reached_too reached =
         let from : IsFromStrip (inner_at (long_of its item)) this.here =
         subst FromStrip to_is (next_from begun reached item after end split) this.here page_here in
-        subst (IsReachedPlace file) facts.3 (record { here = this.here; page = page_here; rows = from.rows; lead = from.lead; count = from.count })
+        subst (IsReachedPlace file) facts.3 (record {
+          here = this.here;
+          page = page_here;
+          rows = from.rows;
+          lead = from.lead;
+          count =
+              from.count;
+        })
 
 pub tails_go_on : FormsAreWhole → FilesHaveOneChain → TailsGoOn
 tails_go_on forms chains file begun all end n item reached tail there =
@@ -455,11 +491,13 @@ tails_go_on forms chains file begun all end n item reached tail there =
 
 pub long_tails_go_on : FormsAreWhole → FilesHaveOneChain → LongTailsGoOn
 long_tails_go_on forms chains file begun all end n item here place tail there page long =
-    long_tail forms chains file begun item (drop (n + 1) all) end (split_at_number file begun all end n item tail there) here page place long
+    long_tail forms chains file begun item (drop (n + 1) all) end (split_at_number file begun all end n item tail there) here page place
+    long
 
 pub places_are_reached : FormsAreWhole → FilesHaveOneChain → PlacesAreReached
 places_are_reached forms chains file begun all end n item here place reached tail there page long =
-    reached_too forms chains file begun item (drop (n + 1) all) end (split_at_number file begun all end n item tail there) here page place long reached
+    reached_too forms chains file begun item (drop (n + 1) all) end (split_at_number file begun all end n item tail there) here page place
+    long reached
 
 module _ (by_place : AreBitsByPlace) (lines_read : LinesAreRead) (chains : FilesHaveOneChain) (forms : FormsAreWhole) (file : List ℕ) where
   from_start : (items : List Item) (end : End) → IsTailFrom file (At start) items end → AreItems file items end
@@ -481,8 +519,10 @@ module _ (by_place : AreBitsByPlace) (lines_read : LinesAreRead) (chains : Files
   to_start : (items : List Item) (end : End) → AreItems file items end → IsTailFrom file (At start) items end
   to_start items end are =
       let one = one_tail_from by_place lines_read chains file (At start) in
-      let same = one_from (IsRow file) (one_row by_place lines_read chains file) (first_at 0 0) one.items items one.end end (from_start one.items one.end one.is) are in
-      subst (λ (e : End). IsTailFrom file (At start) items e) same.1 (subst (λ (l : List Item). IsTailFrom file (At start) l one.end) same.0 one.is)
+      let same = one_from (IsRow file) (one_row by_place lines_read chains file) (first_at 0 0) one.items items one.end end
+      (from_start one.items one.end one.is) are in
+      subst (λ (e : End). IsTailFrom file (At start) items e) same.1 (subst (λ (l : List Item). IsTailFrom file (At start) l one.end) same.0
+      one.is)
 
 pub tail_of_start : AreBitsByPlace → LinesAreRead → FilesHaveOneChain → FormsAreWhole → TailOfStart
 tail_of_start by_place lines_read chains forms file items end =

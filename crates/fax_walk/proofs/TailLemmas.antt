@@ -1,5 +1,6 @@
 -- What follows an item in a tail.
-use Rattle.std.proofs.Common.{◌≡◌, ℕ, zero, suc, ◌+◌, ◌<◌, ◌≤◌, ◌⊎◌, inl, inr, List, [], ◌∷◌, ◌++◌, drop, Option, Some, None, Result, Ok, Err, refl, sym, ap, ◌∙◌, subst, arith}
+use Rattle.std.proofs.Common.{◌≡◌, ℕ, zero, suc, ◌+◌, ◌<◌, ◌≤◌, ◌⊎◌, inl, inr, List, [], ◌∷◌, ◌++◌, drop, Option, Some, None, Result, Ok}
+use Rattle.std.proofs.Common.{Err, refl, sym, ap, ◌∙◌, subst, arith}
 use Rattle.std.specs.Prelude.{slice_get}
 use Rattle.std.proofs.lemmas.List.{drop-drop}
 use Rattle.fax_files.specs.declared.FileFault.{FileFault}
@@ -24,7 +25,8 @@ InFront own others after item = (before middle : List Item) × (own ≡ before +
 abbrev pub InRest : List Item → List Item → Item → Type 0
 InRest others after item = (before : List Item) × (others ≡ before ++ item ∷ after)
 
-pub divided : (own others before after : List Item) (item : Item) → before ++ item ∷ after ≡ own ++ others → InFront own others after item ⊎ InRest others after item
+pub divided : (own others before after : List Item) (item : Item) → before ++ item ∷ after ≡ own ++ others
+    → InFront own others after item ⊎ InRest others after item
 divided [] others before after item e = inr (before, sym e)
 divided (x ∷ own) others [] after item e =
     let head : item ≡ x = cc in
@@ -52,14 +54,16 @@ abbrev pub StandsFrom : Cursor → Item → Type 0
 StandsFrom at item = (at.page < item.page) ⊎ ((at.page ≡ item.page) × (at.row ≤ item.row))
 
 module _ (forms : FormsAreWhole) (endian : Endian) (file : List ℕ) where
-  -- behind an item of what begins at a page: the same page from the next row on, or an item of what follows the page
+  -- after an item of what begins at a page: the same page from the next row on, or an item of what follows the page
   abbrev BehindAtPage : ℕ → ℕ → ℕ → (List Item → End → Type 0) → Result PageForm FileFault → List Item → Item → End → Type 0
   BehindAtPage q p r behind answer after item end =
       ((item.page ≡ p) × (r ≤ item.row) × AreFromPage endian file q p (item.row + 1) behind answer after end)
       ⊎ ((before : List Item) × behind (before ++ item ∷ after) end)
 
-  in_front : (q p : ℕ) (form : PageForm) (behind : List Item → End → Type 0) (middle others after : List Item) (item : Item) (stop : Option (ℕ × Cause)) (end : End)
-      → ((item.row + 1 ≡ form.rows) × (middle ≡ []) × (stop ≡ None)) ⊎ ((item.row + 1 < form.rows) × ArePageItems endian file q form p (item.row + 1) middle stop)
+  in_front : (q p : ℕ) (form : PageForm) (behind : List Item → End → Type 0) (middle others after : List Item) (item : Item)
+      (stop : Option (ℕ × Cause)) (end : End)
+      → ((item.row + 1 ≡ form.rows) × (middle ≡ []) × (stop ≡ None))
+      ⊎ ((item.row + 1 < form.rows) × ArePageItems endian file q form p (item.row + 1) middle stop)
       → after ≡ middle ++ others → Follows p behind stop others end → AreFromRowOf endian file q form p (item.row + 1) behind after end
   in_front q p form behind middle others after item stop end (inl (last, none, no_stop)) after_is follows =
       let same : after ≡ others = after_is ∙ ap (λ (l : List Item). l ++ others) none in
@@ -68,12 +72,15 @@ module _ (forms : FormsAreWhole) (endian : Endian) (file : List ℕ) where
   in_front q p form behind middle others after item stop end (inr (more, part)) after_is follows =
       inr (inr (more, record { own = middle; others = others; stop = stop; part = part; items_are = after_is; follows = follows }))
 
-  in_rest : (p : ℕ) (behind : List Item → End → Type 0) (stop : Option (ℕ × Cause)) (others before after : List Item) (item : Item) (end : End)
+  in_rest : (p : ℕ) (behind : List Item → End → Type 0) (stop : Option (ℕ × Cause)) (others before after : List Item) (item : Item)
+      (end : End)
       → others ≡ before ++ item ∷ after → Follows p behind stop others end → behind (before ++ item ∷ after) end
   in_rest p behind None others before after item end others_are follows = subst (λ (l : List Item). behind l end) others_are follows
-  in_rest p behind (Some stop) others before after item end others_are follows = absurd (none_holds before after item (sym others_are ∙ follows.0))
+  in_rest p behind (Some stop) others before after item end others_are follows =
+      absurd (none_holds before after item (sym others_are ∙ follows.0))
 
-  behind_at_form : (q p r : ℕ) (form : PageForm) (limits : IsWholeForm form) (behind : List Item → End → Type 0) (before after : List Item) (item : Item) (end : End)
+  behind_at_form : (q p r : ℕ) (form : PageForm) (limits : IsWholeForm form) (behind : List Item → End → Type 0) (before after : List Item)
+      (item : Item) (end : End)
       → AreFromRowOf endian file q form p r behind (before ++ item ∷ after) end → BehindAtPage q p r behind (Ok form) after item end
   behind_at_form q p r form limits behind before after item end (inl (above, none, is_outside)) = absurd (none_holds before after item none)
   behind_at_form q p r form limits behind before after item end (inr (inl (at_end, items))) = inr (before, items)
@@ -95,13 +102,15 @@ module _ (forms : FormsAreWhole) (endian : Endian) (file : List ℕ) where
       → (behind : List Item → End → Type 0) (before after : List Item) (item : Item) (end : End)
       → AreFromPage endian file q p r behind answer (before ++ item ∷ after) end → BehindAtPage q p r behind answer after item end
   behind_at q p r (Err refused) e behind before after item end (none, is_fault) = absurd (none_holds before after item none)
-  behind_at q p r (Ok form) e behind before after item end from = behind_at_form q p r form (forms endian file q form e) behind before after item end from
+  behind_at q p r (Ok form) e behind before after item end from =
+      behind_at_form q p r form (forms endian file q form e) behind before after item end from
 
   -- an item of pages stands on one of them, and what follows it begins there
   abbrev BehindInPages : Option FileFault → ℕ → List ℕ → List Item → Item → End → Type 0
   BehindInPages fault p offsets after item end =
       (k q : ℕ) × (item.page ≡ p + k) × (slice_get offsets k ≡ Some q)
-      × AreFromPage endian file q (p + k) (item.row + 1) (ArePagesItems endian file fault (p + k + 1) (drop (k + 1) offsets)) (page endian file q) after end
+      × AreFromPage endian file q (p + k) (item.row + 1) (ArePagesItems endian file fault (p + k + 1) (drop (k + 1) offsets))
+      (page endian file q) after end
 
   behind_in : (fault : Option FileFault) (p : ℕ) (offsets : List ℕ) (before after : List Item) (item : Item) (end : End)
       → ArePagesItems endian file fault p offsets (before ++ item ∷ after) end → BehindInPages fault p offsets after item end
@@ -131,7 +140,8 @@ module _ (forms : FormsAreWhole) (endian : Endian) (file : List ℕ) where
       → StandsFrom at item × IsTailOver endian file offsets fault (behind_item item) (slice_get offsets item.page) after end
   behind_over offsets fault at None there before after item end tail = absurd (none_holds before after item tail.0)
   behind_over offsets fault at (Some q) there before after item end tail =
-      elim (behind_at q at.page at.row (page endian file q) refl (ArePagesItems endian file fault (at.page + 1) (drop (at.page + 1) offsets)) before after item end tail) [
+      elim (behind_at q at.page at.row (page endian file q) refl (ArePagesItems endian file fault (at.page + 1)
+      (drop (at.page + 1) offsets)) before after item end tail) [
         | inl (page_is, row_from, from) ↦ (inr (sym page_is, row_from), rw (page_is, there) from)
         | inr (first, others) ↦
             let later : BehindInPages fault (at.page + 1) (drop (at.page + 1) offsets) after item end =
@@ -144,7 +154,8 @@ module _ (forms : FormsAreWhole) (endian : Endian) (file : List ℕ) where
             (inl (omega (arith, later.2)), rw (later.2, there, ← rest) later.4)
       ]
 
-behind_under : (forms : FormsAreWhole) (file : List ℕ) (at : Cursor) (answer : Result Header FileFault) (before after : List Item) (item : Item) (end : End)
+behind_under : (forms : FormsAreWhole) (file : List ℕ) (at : Cursor) (answer : Result Header FileFault) (before after : List Item)
+    (item : Item) (end : End)
     → IsTailUnder file at answer (before ++ item ∷ after) end → StandsFrom at item × IsTailUnder file (behind_item item) answer after end
 behind_under forms file at (Err fault) before after item end tail = absurd (none_holds before after item tail.0)
 behind_under forms file at (Ok head) before after item end (offsets, fault, chain, tail) =

@@ -1,5 +1,6 @@
 -- Steps of a walk.
-use Rattle.std.proofs.Common.{◌≡◌, ℕ, ◌+◌, ◌-◌, ◌^◌, ◌<◌, List, [], ◌∷◌, ◌++◌, Option, None, Result, Ok, Err, refl, sym, ap, ◌∙◌, subst, arith, append_assoc, inr}
+use Rattle.std.proofs.Common.{◌≡◌, ℕ, ◌+◌, ◌-◌, ◌^◌, ◌<◌, List, [], ◌∷◌, ◌++◌, Option, None, Result, Ok, Err, refl, sym, ap, ◌∙◌, subst}
+use Rattle.std.proofs.Common.{arith, append_assoc, inr}
 use Rattle.std.proofs.lemmas.List.{length_push}
 use Rattle.std.specs.Prelude.{IfOk, IfErr}
 use Rattle.fax_bits.specs.declared.Colour.{Colour}
@@ -18,12 +19,14 @@ use Rattle.fax_walk.specs.Laws.{CursorsHaveOneTail}
 use Rattle.fax_walk.specs.LongLaws.{PlacesHaveOneTail}
 use Rattle.fax_walk.specs.code.Stages.{PageState, row_of, skipped}
 use Rattle.fax_walk.specs.declared.cursor.Cursor.{Cursor}
-use Rattle.fax_walk.specs.code.Due.{WalkState, HasCome, IsDueAt, IsDue, IsDueOnPage, IsOpenedFor, IsOpenFrom, GivesRow, place_number, places_left}
+use Rattle.fax_walk.specs.code.Due.{WalkState, HasCome, IsDueAt, IsDue, IsDueOnPage, IsOpenedFor, IsOpenFrom, GivesRow, place_number}
+use Rattle.fax_walk.specs.code.Due.{places_left}
 use Rattle.fax_walk.specs.code.Opening.{IsOpenedBehind, IsRefusal}
 use Rattle.fax_walk.specs.code.Next.{IsEntered, StepsAs, IsOnPage, HandsOut, HasEnded}
 
 -- each walk hands out some items, and an end
-pub begun_items : CursorsHaveOneTail → PlacesHaveOneTail → (file : List ℕ) (begun : Begun) → (items : List Item) × (end : End) × IsTailFrom file begun items end
+pub begun_items : CursorsHaveOneTail → PlacesHaveOneTail → (file : List ℕ) (begun : Begun)
+    → (items : List Item) × (end : End) × IsTailFrom file begun items end
 begun_items cursors places file (At at) = let one = cursors file at in (one.items, one.end, one.is)
 begun_items cursors places file (Inside place) = let one = places file place in (one.items, one.end, one.is)
 
@@ -46,8 +49,9 @@ takes_first walk page opened result before same is for_cursor items =
     let items = rw is at items in
     record { due = λ xs end due. rw before (items xs end due); row = for_cursor.1 }
 
--- behind a page all rows of which are read
-pub takes_next : (walk : WalkState) (old page : PageState) (read : ℕ) (opened result : Result PageState OpenFault) → walk.stage ≡ Open old → opened ≡ result
+-- after a page all rows of which are read
+pub takes_next : (walk : WalkState) (old page : PageState) (read : ℕ) (opened result : Result PageState OpenFault) → walk.stage ≡ Open old
+    → opened ≡ result
     → opened ≡ Ok page → IfOk result (IsOpenedBehind old.chain read)
     → IfOk result (λ page. (items : List Item) (end : End) → IsDueOnPage page items end → IsDueOnPage old items end)
     → TakesPlace walk page
@@ -61,15 +65,19 @@ takes_next walk old page read opened result stage_is same is behind items =
 ended : (walk : WalkState) (end : End) (read : ℕ) → IsDue walk [] end → IsEntered walk (record walk { stage = Ended end read None })
 ended walk end read due = record { due = λ items other are. rw (are.0, are.1) due; same = refl; at_row = tt }
 
-pub ends_first : (walk : WalkState) (end : End) (read : ℕ) (fault : OpenFault) (opened result : Result PageState OpenFault) → walk.stage ≡ Before → opened ≡ result
-    → opened ≡ Err fault → fault ≡ RowsEnd end → IfErr result (IsRefusal (IsTailFrom walk.file walk.begun)) → IsEntered walk (record walk { stage = Ended end read None })
+pub ends_first : (walk : WalkState) (end : End) (read : ℕ) (fault : OpenFault) (opened result : Result PageState OpenFault)
+    → walk.stage ≡ Before → opened ≡ result
+    → opened ≡ Err fault → fault ≡ RowsEnd end → IfErr result (IsRefusal (IsTailFrom walk.file walk.begun))
+    → IsEntered walk (record walk { stage = Ended end read None })
 ends_first walk end read fault opened result before same is fault_is refused =
     let is : result ≡ Err (RowsEnd end) = rw (same, fault_is) at is in
     let none = rw is at refused in
     ended walk end read (rw before none)
 
-pub ends_next : (walk : WalkState) (old : PageState) (end : End) (read : ℕ) (fault : OpenFault) (opened result : Result PageState OpenFault) → walk.stage ≡ Open old → opened ≡ result
-    → opened ≡ Err fault → fault ≡ RowsEnd end → IfErr result (IsRefusal (IsDueOnPage old)) → IsEntered walk (record walk { stage = Ended end read None })
+pub ends_next : (walk : WalkState) (old : PageState) (end : End) (read : ℕ) (fault : OpenFault) (opened result : Result PageState OpenFault)
+    → walk.stage ≡ Open old → opened ≡ result
+    → opened ≡ Err fault → fault ≡ RowsEnd end → IfErr result (IsRefusal (IsDueOnPage old))
+    → IsEntered walk (record walk { stage = Ended end read None })
 ends_next walk old end read fault opened result stage_is same is fault_is refused =
     let is : result ≡ Err (RowsEnd end) = rw (same, fault_is) at is in
     let none = rw is at refused in
@@ -93,7 +101,8 @@ come_on file begun given cursor next old new item next_is due come items end lef
     )
 
 -- and one whose rows ended
-pub come_ended : (file : List ℕ) (begun : Begun) (given : ℕ) (cursor : Cursor) (old : Stage) (end : End) (read : ℕ) (last : Option PageState)
+pub come_ended : (file : List ℕ) (begun : Begun) (given : ℕ) (cursor : Cursor) (old : Stage) (end : End) (read : ℕ)
+    (last : Option PageState)
     → IsDueAt file begun old [] end → HasCome file begun given cursor old → HasCome file begun given cursor (Ended end read last)
 come_ended file begun given cursor old end read last due come items other left =
     let all = come [] end due in

@@ -1,5 +1,6 @@
 -- The rows of a file are as wide as its pages.
-use Rattle.std.proofs.Common.{◌≡◌, ℕ, zero, suc, ◌+◌, ◌-◌, ◌<◌, ◌≤◌, ◌⊎◌, inl, inr, Bool, true, false, List, [], ◌∷◌, ◌++◌, map, length, replicate, Option, Some, None, pos, negsuc, ◌<ℤ◌, ◌≤ℤ◌, refl, sym, ap, ◌∙◌, subst, arith, length-append}
+use Rattle.std.proofs.Common.{◌≡◌, ℕ, zero, suc, ◌+◌, ◌-◌, ◌<◌, ◌≤◌, ◌⊎◌, inl, inr, Bool, true, false, List, [], ◌∷◌, ◌++◌, map, length}
+use Rattle.std.proofs.Common.{replicate, Option, Some, None, pos, negsuc, ◌<ℤ◌, ◌≤ℤ◌, refl, sym, ap, ◌∙◌, subst, arith, length-append}
 use Rattle.std.specs.Prelude.{◌&&◌, nat_lt, not, unwrap_or, if◌then◌else◌}
 use Rattle.std.proofs.lemmas.Int.{ints}
 use Rattle.std.proofs.lemmas.List.{length-map, length-replicate}
@@ -27,7 +28,7 @@ found_by : (test : ℕ → Bool) (i all later : ℕ) → i < all → (b : Bool) 
 found_by test i all later within true is more = inr (within, is)
 found_by test i all later within false is more = more
 
--- the first place that passes a test, or the place behind them all
+-- the first place that passes a test, or the place after them all
 found : (test : ℕ → Bool) (i n : ℕ)
     → (first_place test i n ≡ i + n) ⊎ ((first_place test i n < i + n) × (test (first_place test i n) ≡ true))
 unfolding first_place
@@ -35,14 +36,15 @@ found test i zero = inl (omega arith)
 found test i (suc n) =
     let there : i + 1 + n ≡ i + suc n = omega arith in
     found_by test i (i + suc n) (first_place test (i + 1) n) (omega arith) (test i) refl
-    (subst (λ (m : ℕ). (first_place test (i + 1) n ≡ m) ⊎ ((first_place test (i + 1) n < m) × (test (first_place test (i + 1) n) ≡ true))) there
+    (subst (λ (m : ℕ). (first_place test (i + 1) n ≡ m) ⊎ ((first_place test (i + 1) n < m) × (test (first_place test (i + 1) n) ≡ true)))
+    there
     (found test (i + 1) n))
 
 right_of : (a i : ℕ) (b : Bool) → (nat_lt a i && b) ≡ true → a < i
 right_of a i true h = grind (arith, nat_tests)
 right_of a i false h = grind (arith, nat_tests)
 
--- b1 stands right of a0, and b2 right of b1, or behind the row
+-- b1 stands right of a0, and b2 right of b1, or after the row
 b1_behind : (reference : List Colour) (a : ℕ) (colour : Colour) → a ≤ length reference → a ≤ next_of reference (Some a) colour
 unfolding next_of
 b1_behind reference a colour within =
@@ -90,7 +92,10 @@ step_paints Pass reference old b new rest painted step =
       | inl last ↦ omega (arith, painted.1)
       | inr later ↦ omega (arith, first)
     ] in
-    subst (IsPainted reference) (sym step.0) (painted_to old.pels (first_pel old) (b2_from reference old) old.colour painted.0 right, second.0)
+    subst (IsPainted reference) (sym step.0) (
+      painted_to old.pels (first_pel old) (b2_from reference old) old.colour painted.0 right,
+      second.0,
+    )
 step_paints (Vertical d) reference old b new rest painted step =
     let v = step.0 in
     let right : first_pel old ≤ v.a1 = left_of old.a0 v.a1 (rw (sym v.a1_is) at v.in_row.right_of_a0) in
@@ -100,8 +105,10 @@ step_paints (Vertical d) reference old b new rest painted step =
 step_paints Horizontal reference old b new rest painted step =
     let second = length-append (old.pels ++ replicate step.first old.colour) (replicate step.second (other old.colour)) in
     let first = length-append old.pels (replicate step.first old.colour) in
-    subst (IsPainted reference) (sym step.new_is)
-    (omega (arith, first, second, length-replicate step.first old.colour, length-replicate step.second (other old.colour), painted.0), step.within)
+    subst (IsPainted reference) (sym step.new_is) (
+      omega (arith, first, second, length-replicate step.first old.colour, length-replicate step.second (other old.colour), painted.0),
+      step.within,
+    )
 step_paints Extension reference old b new rest painted step = absurd step
 
 steps_paint : (reference : List Colour) (old : Position) (b : List Bool) (positions : List Position) (new : Position) (rest : List Bool)
@@ -109,7 +116,8 @@ steps_paint : (reference : List Colour) (old : Position) (b : List Bool) (positi
 steps_paint reference old b [] new rest painted steps = subst (IsPainted reference) (sym steps.0) painted
 steps_paint reference old b (next ∷ positions) new rest painted steps =
     let step = steps.2 in
-    steps_paint reference next steps.1 positions new rest (step_paints step.mode reference old step.behind next steps.1 painted step.step) steps.3
+    steps_paint reference next steps.1 positions new rest (step_paints step.mode reference old step.behind next steps.1 painted step.step)
+    steps.3
 
 pub row_in : (dimension : Dimension) (width : ℕ) (reference : List Colour) (b : List Bool) (row : List Colour) (rest : List Bool)
     → length reference ≡ width → IsRowIn dimension width reference b row rest → length row ≡ width
@@ -118,7 +126,8 @@ row_in TwoDimensional width reference b row rest wide is =
     let painted = steps_paint reference beginning b is.positions is.last rest (refl, omega arith) is.steps in
     ap length is.pels ∙ painted.0 ∙ ap (λ (o : Option ℕ). unwrap_or o 0) is.ends ∙ wide
 
-lines_wide : (form : StripForm) (i : ℕ) (reference : List Colour) (b : List Bool) (rows : List (List Colour)) (end : Option StripFault) (left : List Bool)
+lines_wide : (form : StripForm) (i : ℕ) (reference : List Colour) (b : List Bool) (rows : List (List Colour)) (end : Option StripFault)
+    (left : List Bool)
     → length reference ≡ form.width → AreLines form i reference b rows end left → AreOfWidth form.width rows
 lines_wide form i reference b [] end left wide lines = tt
 lines_wide form i reference b (row ∷ rows) end left wide lines =
@@ -136,7 +145,8 @@ strips_wide endian file q form s [] end are = tt
 strips_wide endian file q form s (rows ∷ strips) end are =
     let white = length-replicate form.width White in
     let strip = are.4 in
-    let own : AreOfWidth form.width rows = lines_wide (strip_form form s) 0 (white_row form.width) _ rows are.2 strip.left white strip.lines in
+    let own : AreOfWidth form.width rows =
+    lines_wide (strip_form form s) 0 (white_row form.width) _ rows are.2 strip.left white strip.lines in
     let later : AreOfWidth form.width (joined strips) = elim are.5 [
       | inl more ↦ strips_wide endian file q form (s + 1) strips end more.1
       | inr stop ↦ subst (λ (l : List (List (List Colour))). AreOfWidth form.width (joined l)) (sym stop.2) tt
@@ -153,6 +163,8 @@ shown_by true width rows are = exchanged_wide width rows are
 shown_by false width rows are = are
 
 -- the rows of a page are as wide as its form
-pub page_wide : (endian : Endian) (file : List ℕ) (q : ℕ) (form : PageForm) (s : ℕ) (strips : List (List (List Colour))) (end : Option Cause)
+pub page_wide : (endian : Endian) (file : List ℕ) (q : ℕ) (form : PageForm) (s : ℕ) (strips : List (List (List Colour)))
+    (end : Option Cause)
     → AreStrips endian file q form s strips end → AreOfWidth form.width (shown form (joined strips))
-page_wide endian file q form s strips end are = shown_by form.exchanged form.width (joined strips) (strips_wide endian file q form s strips end are)
+page_wide endian file q form s strips end are =
+    shown_by form.exchanged form.width (joined strips) (strips_wide endian file q form s strips end are)

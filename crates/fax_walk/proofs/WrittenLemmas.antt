@@ -1,5 +1,6 @@
 -- A written file has the rows and the forms of its pages.
-use Rattle.std.proofs.Common.{◌≡◌, ℕ, ◌+◌, ◌/◌, ◌%◌, ◌≤◌, inr, List, [], ◌∷◌, ◌++◌, length, drop, None, Result, Ok, Err, refl, sym, ap, ◌∙◌, subst, arith}
+use Rattle.std.proofs.Common.{◌≡◌, ℕ, ◌+◌, ◌/◌, ◌%◌, ◌≤◌, inr, List, [], ◌∷◌, ◌++◌, length, drop, None, Result, Ok, Err, refl, sym, ap, ◌∙◌}
+use Rattle.std.proofs.Common.{subst, arith}
 use Rattle.std.specs.List.{AllZip}
 use Rattle.fax_bits.specs.declared.Colour.{Colour}
 use Rattle.fax_files.specs.declared.FileFault.{FileFault}
@@ -43,7 +44,8 @@ module _ (law : WrittenRowsAreRead) (file : List ℕ) where
       → AreFromPage Little file q p 0 behind (page Little file q) (numbered p 0 rows ++ others) Proper
   page_walked p q written rows behind others writable read holds follows =
       let are : ArePageRows Little file q written.form rows None =
-      subst (λ (l : List (List Colour)). ArePageRows Little file q written.form l None) (sym holds.2) (law file q written holds.0 writable read holds.1) in
+      subst (λ (l : List (List Colour)). ArePageRows Little file q written.form l None) (sym holds.2)
+      (law file q written holds.0 writable read holds.1) in
       let from : AreFromRow Little file q written.form p 0 behind (numbered p 0 rows ++ others) Proper =
       record {
         own = numbered p 0 rows;
@@ -53,7 +55,8 @@ module _ (law : WrittenRowsAreRead) (file : List ℕ) where
         items_are = refl;
         follows = follows;
       } in
-      subst (λ (answer : Result PageForm FileFault). AreFromPage Little file q p 0 behind answer (numbered p 0 rows ++ others) Proper) (sym read.form)
+      subst (λ (answer : Result PageForm FileFault). AreFromPage Little file q p 0 behind answer (numbered p 0 rows ++ others) Proper)
+      (sym read.form)
       (inr (inr (writable.limits.some_rows, from)))
 
   pages_walked : (p : ℕ) (offsets : List ℕ) (pages : List WrittenPage) (rows : List (List (List Colour))) → AreWritable pages
@@ -68,13 +71,15 @@ module _ (law : WrittenRowsAreRead) (file : List ℕ) where
       page_walked p q written first (ArePagesItems Little file None (p + 1) offsets) (items_of (p + 1) rows) writable.0 read.0 holds.0
       (pages_walked (p + 1) offsets pages rows writable.1 read.1 holds.1)
 
-  forms_read : (head : Header) → header file ≡ Ok head → head.endian ≡ Little → (offsets : List ℕ) → IsChain head file offsets None → (later : List ℕ) (p : ℕ)
+  forms_read : (head : Header) → header file ≡ Ok head → head.endian ≡ Little → (offsets : List ℕ) → IsChain head file offsets None
+      → (later : List ℕ) (p : ℕ)
       → drop p offsets ≡ later → p + length later ≡ length offsets → (pages : List WrittenPage) → AllZip (IsReadAt file) later pages
       → AreFrom (IsForm file) p (forms_of p pages) Proper
   forms_read head is little offsets chain [] p e count [] read =
       let at : Cursor = record { page = p; row = 0 } in
       let all : p ≡ length offsets = omega (arith, count) in
-      let proper : end_past_chain (length offsets) None at ≡ Proper = ap (λ (n : ℕ). end_past_chain n None at) (sym all) ∙ sym (proper_end p None) in
+      let proper : end_past_chain (length offsets) None at ≡ Proper =
+      ap (λ (n : ℕ). end_past_chain n None at) (sym all) ∙ sym (proper_end p None) in
       (Err Proper, rw proper at (no_page file head is offsets None chain at e), refl)
   forms_read head is little offsets chain [] p e count (written ∷ pages) read = absurd read
   forms_read head is little offsets chain (q ∷ later) p e count [] read = absurd read
@@ -85,7 +90,8 @@ module _ (law : WrittenRowsAreRead) (file : List ℕ) where
         forms_read head is little offsets chain later (p + 1) (next_dropped p offsets q later e) (omega (arith, count)) pages read.1,
       )
 
-  module _ (pages : List WrittenPage) (rows : List (List (List Colour))) (writable : AreWritable pages) (holds : AllZip HoldsRows pages rows)
+  module _ (pages : List WrittenPage) (rows : List (List (List Colour))) (writable : AreWritable pages)
+      (holds : AllZip HoldsRows pages rows)
       (read : IsReadAs file pages) where
     all_items : AreItems file (items_of 0 rows) Proper
     all_items =

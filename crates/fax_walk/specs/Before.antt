@@ -1,5 +1,6 @@
 -- The rows that stand before a cursor's row in its strip: a walk from the cursor reads them again.
-use Rattle.std.specs.Prelude.{◌≡◌, ℕ, ◌%◌, ◌<◌, nat_lt, if◌then◌else◌, List, Option, Some, None, Result, Ok, Err, slice_get}
+use Rattle.std.specs.Prelude.{◌≡◌, ℕ, ◌%◌, ◌<◌, nat_lt, if◌then◌else◌, List, Option, Some, None}
+use Rattle.std.specs.Prelude.{Result, Ok, Err, slice_get}
 use Rattle.fax_files.specs.declared.FileFault.{FileFault}
 use Rattle.fax_files.specs.declared.PageForm.{PageForm}
 use Rattle.fax_files.specs.declared.Endian.{Endian}
@@ -12,13 +13,14 @@ use Rattle.fax_walk.specs.declared.cursor.Cursor.{Cursor}
 use Rattle.fax_walk.specs.declared.end.End.{End}
 use Rattle.fax_walk.specs.declared.end.End.TheVariants.{Proper, Fault, Outside}
 
--- how many rows stand before row r in its strip, where the page's fields give this answer: none where the page has no
--- such row (TIFF 6.0, RowsPerStrip)
+-- how many rows stand before row r in its strip, where the page's fields give this answer: none
+-- where the page has no such row (TIFF 6.0, RowsPerStrip)
 abbrev pub rows_before : Result PageForm FileFault → ℕ → ℕ
 rows_before (Err refused) r = 0
 rows_before (Ok form) r = if nat_lt r form.rows then (r % form.rows_per_strip) else 0
 
--- the same on the page whose directory stands at this offset, if there is one (TIFF 6.0, RowsPerStrip)
+-- the same on the page whose directory stands at this offset, if there is one
+-- (TIFF 6.0, RowsPerStrip)
 abbrev pub rows_before_at : Endian → List ℕ → Option ℕ → ℕ → ℕ
 rows_before_at endian file None r = 0
 rows_before_at endian file (Some q) r = rows_before (page endian file q) r

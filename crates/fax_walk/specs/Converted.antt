@@ -1,5 +1,6 @@
 -- What a file is converted to.
-use Rattle.std.specs.Prelude.{◌≡◌, ◌≢◌, ℕ, zero, suc, ◌+◌, ◌<◌, ◌⊎◌, min, false, List, [], ◌∷◌, ◌++◌, length, map, take, drop, Some, None, unwrap_or, codes}
+use Rattle.std.specs.Prelude.{◌≡◌, ◌≢◌, ℕ, zero, suc, ◌+◌, ◌<◌, ◌⊎◌, min, false, List, [], ◌∷◌}
+use Rattle.std.specs.Prelude.{◌++◌, length, map, take, drop, Some, None, unwrap_or, codes}
 use Rattle.fax_bits.specs.declared.Colour.{Colour}
 use Rattle.fax_page.specs.declared.Coding.{Coding}
 use Rattle.fax_page.specs.declared.Coding.TheVariants.{Mh, Mr, Mmr}
@@ -13,9 +14,11 @@ use Rattle.fax_files.specs.Written.{WrittenPage, file_of}
 use Rattle.fax_files.specs.Pbm.{Image, AreImages, pbm_of}
 use Rattle.fax_walk.specs.declared.options.Options.{Options}
 use Rattle.fax_walk.specs.declared.options.Target.{Target}
-use Rattle.fax_walk.specs.declared.options.Target.TheVariants.{Pbm, Mh as ToMh, Mr as ToMr, Mmr as ToMmr}
+use Rattle.fax_walk.specs.declared.options.Target.TheVariants.{Pbm, Mh as ToMh, Mr as ToMr}
+use Rattle.fax_walk.specs.declared.options.Target.TheVariants.{Mmr as ToMmr}
 use Rattle.fax_walk.specs.declared.options.ConvertFault.{ConvertFault}
-use Rattle.fax_walk.specs.declared.options.ConvertFault.TheVariants.{UnknownInput, Pbm as PbmSource, Source, OutputTooLarge}
+use Rattle.fax_walk.specs.declared.options.ConvertFault.TheVariants.{UnknownInput, Pbm as PbmSource}
+use Rattle.fax_walk.specs.declared.options.ConvertFault.TheVariants.{Source, OutputTooLarge}
 use Rattle.fax_walk.specs.declared.end.End.TheVariants.{Proper, Fault}
 use Rattle.fax_walk.specs.Items.{Item, AreItems}
 use Rattle.fax_walk.specs.Pages.{FormItem, AreForms}
@@ -41,7 +44,8 @@ IsTiff bytes = BeginsWith bytes (codes "II") ⊎ BeginsWith bytes (codes "MM")
 abbrev pub page_of_image : Image → SourcePage
 page_of_image image = record { image = image; resolution = usual_resolution }
 
--- a page of a TIFF file, which keeps its resolution, with the rows that it shows (this project's profile)
+-- a page of a TIFF file, which keeps its resolution, with the rows that it shows
+-- (this project's profile)
 abbrev pub page_of_form : PageForm → List (List Colour) → SourcePage
 page_of_form form rows = record {
   image = record { width = form.width; rows = rows };
@@ -52,12 +56,14 @@ page_of_form form rows = record {
 abbrev pub pages_of : List FormItem → List Item → List SourcePage
 pages_of [] items = []
 pages_of (one ∷ forms) items =
-    page_of_form one.form (map (λ item. item.pels) (take one.form.rows items)) ∷ pages_of forms (drop one.form.rows items)
+    page_of_form one.form (map (λ item. item.pels) (take one.form.rows items))
+    ∷ pages_of forms (drop one.form.rows items)
 
 -- the pages of a source without a fault (this project's profile)
 abbrev pub IsSource : List ℕ → List SourcePage → Type 0
 IsSource bytes pages =
-    (IsPbm bytes × (images : List Image) × AreImages bytes images None × (pages ≡ map page_of_image images))
+    (IsPbm bytes × (images : List Image) × AreImages bytes images None
+    × (pages ≡ map page_of_image images))
     ⊎ (IsTiff bytes × (forms : List FormItem) × (items : List Item) × AreForms bytes forms Proper
     × AreItems bytes items Proper × (pages ≡ pages_of forms items))
 
@@ -65,15 +71,18 @@ IsSource bytes pages =
 abbrev pub IsSourceFault : List ℕ → ConvertFault → Type 0
 IsSourceFault bytes answer =
     ((IsPbm bytes → ⊥) × (IsTiff bytes → ⊥) × (answer ≡ UnknownInput))
-    ⊎ (IsPbm bytes × (images : List Image) × (fault : PbmFault) × AreImages bytes images (Some fault)
+    ⊎ (IsPbm bytes × (images : List Image) × (fault : PbmFault)
+    × AreImages bytes images (Some fault)
     × (answer ≡ PbmSource (length images) fault))
-    ⊎ (IsTiff bytes × (items : List Item) × (p r : ℕ) × (cause : Cause) × AreItems bytes items (Fault p r cause)
+    ⊎ (IsTiff bytes × (items : List Item) × (p r : ℕ) × (cause : Cause)
+    × AreItems bytes items (Fault p r cause)
     × (answer ≡ Source p r cause))
 
 -- the rows of n strips of this many rows, the last one perhaps of fewer (TIFF 6.0, RowsPerStrip)
 abbrev pub strips_of : ℕ → ℕ → List (List Colour) → List (List (List Colour))
 strips_of rows_per_strip zero rows = []
-strips_of rows_per_strip (suc n) rows = take rows_per_strip rows ∷ strips_of rows_per_strip n (drop rows_per_strip rows)
+strips_of rows_per_strip (suc n) rows =
+    take rows_per_strip rows ∷ strips_of rows_per_strip n (drop rows_per_strip rows)
 
 -- the form of a page as it is written (TIFF 6.0; RFC 2306; this project's profile)
 abbrev pub written_form : Options → Coding → SourcePage → PageForm
@@ -97,13 +106,18 @@ written_form options coding source =
 -- these strips of a page, from strip s on, as they are written (TIFF 6.0, StripOffsets)
 abbrev pub coded_strips : PageForm → ℕ → ℕ → List (List (List Colour)) → List (List ℕ)
 coded_strips form k s [] = []
-coded_strips form k s (rows ∷ strips) = coded_strip (strip_form form s) k rows ∷ coded_strips form k (s + 1) strips
+coded_strips form k s (rows ∷ strips) =
+    coded_strip (strip_form form s) k rows ∷ coded_strips form k (s + 1) strips
 
 -- a page as it is written (TIFF 6.0; RFC 2306)
 abbrev pub written_page : Options → Coding → SourcePage → WrittenPage
 written_page options coding source =
     let form = written_form options coding source in
-    record { form = form; strips = coded_strips form options.k 0 (strips_of form.rows_per_strip form.strips source.image.rows) }
+    record {
+      form = form;
+      strips =
+          coded_strips form options.k 0 (strips_of form.rows_per_strip form.strips source.image.rows);
+    }
 
 -- the bytes of the pages in the target's format (this project's profile)
 abbrev pub target_bytes : Target → Options → List SourcePage → List ℕ
@@ -115,7 +129,8 @@ target_bytes ToMmr options pages = file_of (map (written_page options Mmr) pages
 -- the output has more bytes than the limit, or a TIFF file more pages than their number can say
 -- (this project's profile)
 abbrev pub IsTooLarge : Target → List SourcePage → List ℕ → Type 0
-IsTooLarge target pages bytes = (268435456 < length bytes) ⊎ ((target ≢ Pbm) × (65535 < length pages))
+IsTooLarge target pages bytes =
+    (268435456 < length bytes) ⊎ ((target ≢ Pbm) × (65535 < length pages))
 
 -- the bytes are converted to this (this project's profile)
 pub record IsConverted (bytes : List ℕ) (options : Options) (output : List ℕ) : Type 0 where

@@ -1,26 +1,34 @@
 -- What is handed out in order, one item after another, and its end.
-use Rattle.std.specs.Prelude.{◌≡◌, ℕ, ◌≤◌, List, [], ◌∷◌, length, drop, Option, Some, None, Result, Ok, Err, slice_get}
+use Rattle.std.specs.Prelude.{◌≡◌, ℕ, ◌≤◌, List, [], ◌∷◌, length, drop, Option, Some, None, Result}
+use Rattle.std.specs.Prelude.{Ok, Err, slice_get}
 use Rattle.fax_walk.specs.declared.end.End.{End}
 
--- from a place on these items are handed out, and then this end, where each place has an item and the place after it,
--- or the end (this project's profile)
+-- from a place on these items are handed out, and then this end, where each place has an item and
+-- the place after it, or the end (this project's profile)
 abbrev pub AreFrom : {S A : Type 0} → (S → Result (A × S) End → Type 0) → S → List A → End → Type 0
 AreFrom next at [] end = next at (Err end)
-AreFrom {S} next at (item ∷ items) end = (to : S) × next at (Ok (item, to)) × AreFrom next to items end
+AreFrom {S} next at (item ∷ items) end =
+    (to : S) × next at (Ok (item, to)) × AreFrom next to items end
 
--- these items are read from a place on, and the last of them leads to this place (this project's profile)
+-- these items are read from a place on, and the last of them leads to this place
+-- (this project's profile)
 abbrev pub LeadTo : {S A : Type 0} → (S → Result (A × S) End → Type 0) → S → List A → S → Type 0
 LeadTo next at [] to = to ≡ at
-LeadTo {S} next at (item ∷ items) to = (place : S) × next at (Ok (item, place)) × LeadTo next place items to
+LeadTo {S} next at (item ∷ items) to =
+    (place : S) × next at (Ok (item, place)) × LeadTo next place items to
 
--- the same from a beginning: a place and how many items are read and dropped there, or the end (this project's profile)
-abbrev pub AreBegun : {S A : Type 0} → (S → Result (A × S) End → Type 0) → Result (S × ℕ) End → List A → End → Type 0
+-- the same from a beginning: a place and how many items are read and dropped there, or the end
+-- (this project's profile)
+abbrev pub AreBegun : {S A : Type 0} → (S → Result (A × S) End → Type 0) → Result (S × ℕ) End
+    → List A → End → Type 0
 AreBegun next (Err none) items end = (items ≡ []) × (end ≡ none)
-AreBegun {S} {A} next (Ok (at, n)) items end = (all : List A) × AreFrom next at all end × (items ≡ drop n all)
+AreBegun {S} {A} next (Ok (at, n)) items end =
+    (all : List A) × AreFrom next at all end × (items ≡ drop n all)
 
 -- item number n of what is handed out (this project's profile)
 abbrev pub IsNumber : {A : Type 0} → (List A → End → Type 0) → ℕ → A → Type 0
-IsNumber {A} tail n item = (all : List A) × (end : End) × tail all end × (slice_get all n ≡ Some item)
+IsNumber {A} tail n item =
+    (all : List A) × (end : End) × tail all end × (slice_get all n ≡ Some item)
 
 -- n items are handed out, and then they end so (this project's profile)
 abbrev pub EndsAfter : {A : Type 0} → (List A → End → Type 0) → ℕ → End → Type 0
@@ -36,8 +44,10 @@ abbrev pub IsTold : {A : Type 0} → Option End → List A → End → Type 0
 IsTold None items end = Unit {0}
 IsTold (Some told) items end = (items ≡ []) × (end ≡ told)
 
--- what is left where so many items were handed out, and this end was told, if one was (this project's profile)
-pub record IsLeftOf {A : Type 0} (tail : List A → End → Type 0) (given : ℕ) (told : Option End) (items : List A) (end : End) : Type 0 where
+-- what is left where so many items were handed out, and this end was told, if one was
+-- (this project's profile)
+pub record IsLeftOf {A : Type 0} (tail : List A → End → Type 0) (given : ℕ) (told : Option End)
+    (items : List A) (end : End) : Type 0 where
   pub all : List A
   pub is : tail all end
   pub within : given ≤ length all

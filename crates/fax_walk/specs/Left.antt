@@ -16,7 +16,8 @@ use Rattle.fax_walk.specs.Pages.{FilePage, IsPageAt}
 use Rattle.fax_walk.specs.Rows as Rows
 use Rattle.fax_walk.specs.Rows.{Begins, Item, IsTailFrom, begins_at, cursor_after, long_after}
 
--- a walk: its file, what it began with, how many rows it handed out, and how the rows ended, once it told that
+-- a walk: its file, what it began with, how many rows it handed out, and how the rows ended, once
+-- it told that
 pub record WalkView : Type 0 where
   pub file : List ℕ
   pub begun : Begun
@@ -35,26 +36,32 @@ IsLeft walk = IsLeftOf (IsTailOf walk) walk.given walk.told
 abbrev pub IsItemNumber : List ℕ → Begun → ℕ → Item → Type 0
 IsItemNumber file begun n item = IsNumber (IsTailFrom file begun) n item
 
--- a page is entered with item number n: it is the first one, or the one before it was its page's last row
+-- a page is entered with item number n: it is the first one, or the one before it was its page's
+-- last row
 abbrev pub EntersPage : List ℕ → Begun → ℕ → Type 0
 EntersPage file begun n =
     (n ≡ 0)
-    ⊎ ((before : ℕ) × (item : Item) × (here : FilePage) × (n ≡ before + 1) × IsItemNumber file begun before item
+    ⊎ ((before : ℕ) × (item : Item) × (here : FilePage) × (n ≡ before + 1)
+    × IsItemNumber file begun before item
     × IsPageAt file (cursor_after item) (Ok here) × (item.row + 1 ≡ here.form.rows))
 
 -- the rows have ended so
 abbrev pub HasEndedAs : WalkView → End → WalkView → Type 0
 HasEndedAs old end new =
-    EndsAfter (IsTailOf old) old.given end × HasToldNoOther old.told end × (new ≡ record old { told = Some end })
+    EndsAfter (IsTailOf old) old.given end × HasToldNoOther old.told end
+    × (new ≡ record old { told = Some end })
 
 -- a row that is lent, with its place, is this item
 abbrev pub IsLent : Place × Bor (List Colour) → Item → Type 0
-IsLent found item = (item.page ≡ found.0.page) × (item.row ≡ found.0.row) × (item.pels ≡ found.1.now)
+IsLent found item =
+    (item.page ≡ found.0.page) × (item.row ≡ found.0.row) × (item.pels ≡ found.1.now)
 
 -- what a call for the next row answers, and what it leaves: item number `given`, or the end
-abbrev pub IsNext : WalkView → Result (Option (Place × Bor (List Colour))) WalkFault → WalkView → Type 0
+abbrev pub IsNext : WalkView → Result (Option (Place × Bor (List Colour))) WalkFault → WalkView
+    → Type 0
 IsNext old (Ok (Some found)) new =
-    (item : Item) × (old.told ≡ None) × IsItemNumber old.file old.begun old.given item × IsLent found item
+    (item : Item) × (old.told ≡ None) × IsItemNumber old.file old.begun old.given item
+    × IsLent found item
     × (new ≡ record old { given = old.given + 1 })
 IsNext old (Ok None) new = HasEndedAs old Proper new
 IsNext old (Err (AtRow page row cause)) new = HasEndedAs old (Fault page row cause) new
@@ -65,7 +72,8 @@ IsNext old (Err Memory) new = (new ≡ old) × EntersPage old.file old.begun old
 abbrev pub IsCursorOf : WalkView → Cursor → Type 0
 IsCursorOf walk at =
     ((walk.given ≡ 0) × (at ≡ begins_at walk.begun))
-    ⊎ ((before : ℕ) × (item : Item) × (walk.given ≡ before + 1) × IsItemNumber walk.file walk.begun before item
+    ⊎ ((before : ℕ) × (item : Item) × (walk.given ≡ before + 1)
+    × IsItemNumber walk.file walk.begun before item
     × (at ≡ cursor_after item))
 
 -- the place inside a strip that a walk began with, if it did
@@ -73,12 +81,14 @@ abbrev pub begins_inside : Begun → Option LongPlace
 begins_inside (At at) = None
 begins_inside (Inside place) = Some place
 
--- the place inside a strip after the row that was handed out last, or the one that the walk began with, if there is one
+-- the place inside a strip after the row that was handed out last, or the one that the walk began
+-- with, if there is one
 abbrev pub IsLongOf : WalkView → Option LongPlace → Type 0
 IsLongOf walk place =
     ((walk.given ≡ 0) × (place ≡ begins_inside walk.begun))
     ⊎ ((before : ℕ) × (item : Item) × (here : FilePage) × (walk.given ≡ before + 1)
-    × IsItemNumber walk.file walk.begun before item × IsPageAt walk.file (record { page = item.page; row = item.row }) (Ok here)
+    × IsItemNumber walk.file walk.begun before item
+    × IsPageAt walk.file (record { page = item.page; row = item.row }) (Ok here)
     × (place ≡ long_after here.form item))
 
 -- how many rows are read before a beginning's
@@ -86,7 +96,8 @@ abbrev pub dropped : {S : Type 0} → Result (S × ℕ) End → ℕ
 dropped (Err end) = 0
 dropped (Ok begin) = begin.1
 
--- so many rows were read: those that were handed out, and those before the first of them in its strip
+-- so many rows were read: those that were handed out, and those before the first of them in its
+-- strip
 abbrev pub AreRead : WalkView → ℕ → Type 0
 AreRead walk read =
     (begin : Result (Rows.Place × ℕ) End) × Begins walk.file walk.begun begin

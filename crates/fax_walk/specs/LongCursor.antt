@@ -4,8 +4,8 @@ use Rattle.std.specs.List.{All}
 use Rattle.fax_walk.specs.declared.cursor.Cursor.{Cursor}
 use Rattle.fax_walk.specs.Cursor.{IsCursor}
 
--- a place inside a strip: a cursor, the bits of the strip before its row, and the runs of the row's reference
--- (this project's profile)
+-- a place inside a strip: a cursor, the bits of the strip before its row, and the runs of the row's
+-- reference (this project's profile)
 pub record LongPlace : Type 0 where
   pub at : Cursor
   pub bits : ℕ
@@ -23,7 +23,8 @@ runs_text (run ∷ runs) = decimal run ++ flat_map and_run runs
 -- a long cursor's text: `2:P:R:B:n,n,..` (this project's profile)
 abbrev pub long_cursor_text : LongPlace → List ℕ
 long_cursor_text place =
-    codes "2:" ++ decimal place.at.page ++ codes ":" ++ decimal place.at.row ++ codes ":" ++ decimal place.bits ++ codes ":"
+    codes "2:" ++ decimal place.at.page ++ codes ":" ++ decimal place.at.row ++ codes ":" ++ decimal
+    place.bits ++ codes ":"
     ++ runs_text place.runs
 
 -- the numbers of a long cursor have 32 bits, and it has a run (this project's profile)

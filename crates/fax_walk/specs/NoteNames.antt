@@ -1,7 +1,9 @@
 -- How notes are called.
 use Rattle.std.specs.Prelude.{ℕ, List, codes}
 use Rattle.fax_walk.specs.declared.checking.NoteKind.{NoteKind}
-use Rattle.fax_walk.specs.declared.checking.NoteKind.TheVariants.{NoEndOfBlock, ReturnToControl, DataAfterEnd, NotT4Choice, EntriesOutOfOrder}
+use Rattle.fax_walk.specs.declared.checking.NoteKind.TheVariants.{NoEndOfBlock, ReturnToControl}
+use Rattle.fax_walk.specs.declared.checking.NoteKind.TheVariants.{DataAfterEnd, NotT4Choice}
+use Rattle.fax_walk.specs.declared.checking.NoteKind.TheVariants.{EntriesOutOfOrder}
 
 -- the note's name, as text (this project's profile)
 abbrev pub note_name : NoteKind → List ℕ

@@ -1,5 +1,6 @@
 -- Laws of what the pages of a file hand out, which the functions of the module `laws` prove.
-use Rattle.std.specs.Prelude.{◌≡◌, ◌↔◌, ℕ, ◌+◌, ◌*◌, ◌<◌, List, [], ◌∷◌, map, length, drop, Some, None, Ok, slice_get, ⊤}
+use Rattle.std.specs.Prelude.{◌≡◌, ◌↔◌, ℕ, ◌+◌, ◌*◌, ◌<◌, List, [], ◌∷◌, map, length, drop, Some}
+use Rattle.std.specs.Prelude.{None, Ok, slice_get, ⊤}
 use Rattle.fax_walk.specs.declared.begun.Begun.{Begun}
 use Rattle.fax_walk.specs.declared.begun.Begun.TheVariants.{At, Inside}
 use Rattle.fax_walk.specs.declared.cursor.Cursor.{Cursor}
@@ -9,11 +10,13 @@ use Rattle.fax_walk.specs.LongCursor.{LongPlace}
 use Rattle.fax_walk.specs.Laws.{IsOne}
 use Rattle.fax_walk.specs.Items as Items
 use Rattle.fax_walk.specs.LongTail as LongTail
-use Rattle.fax_walk.specs.Pages.{FormItem, IsForm, IsFormTail, AreForms, FilePage, IsPageAt, cursor_after_page}
+use Rattle.fax_walk.specs.Pages.{FormItem, IsForm, IsFormTail, AreForms, FilePage, IsPageAt}
+use Rattle.fax_walk.specs.Pages.{cursor_after_page}
 use Rattle.fax_walk.specs.PagesLeft.{PagesView, AreFormsLeft, HandsOutPage, PagesHaveEnded}
 use Rattle.fax_walk.specs.InOrder.{AreFrom, LeadTo, EndsAfter}
 use Rattle.fax_walk.specs.Left.{WalkView, IsTailOf, IsLeft, IsItemNumber, IsCursorOf, IsLongOf}
-use Rattle.fax_walk.specs.Rows.{Item, first_at, strip_at, row_in_strip, inner_at, IsRow, AreItems, IsTailFrom, cursor_after, long_after}
+use Rattle.fax_walk.specs.Rows.{Item, first_at, strip_at, row_in_strip, inner_at, IsRow, AreItems}
+use Rattle.fax_walk.specs.Rows.{IsTailFrom, cursor_after, long_after}
 
 -- whatever a walk begins with has a tail and an end, and one only (this project's profile)
 abbrev pub BeginningsHaveOneTail : Type 0
@@ -21,14 +24,17 @@ BeginningsHaveOneTail = (file : List ℕ) (begun : Begun) → IsOne (IsTailFrom 
 
 -- the tail from the first cursor is all items of the file (this project's profile)
 abbrev pub TailOfStart : Type 0
-TailOfStart = (file : List ℕ) (items : List Item) (end : End) → IsTailFrom file (At start) items end ↔ AreItems file items end
+TailOfStart = (file : List ℕ) (items : List Item) (end : End)
+    → IsTailFrom file (At start) items end ↔ AreItems file items end
 
--- rows of its strip lead to a place inside a strip, from the strip's first row on (this project's profile)
+-- rows of its strip lead to a place inside a strip, from the strip's first row on
+-- (this project's profile)
 pub record IsReachedPlace (file : List ℕ) (place : LongPlace) : Type 0 where
   pub here : FilePage
   pub page : IsPageAt file place.at (Ok here)
   pub rows : List Item
-  pub lead : LeadTo (IsRow file) (first_at place.at.page (strip_at here.form place.at.row * here.form.rows_per_strip)) rows (inner_at place)
+  pub lead : LeadTo (IsRow file) (first_at place.at.page
+      (strip_at here.form place.at.row * here.form.rows_per_strip)) rows (inner_at place)
   pub count : length rows ≡ row_in_strip here.form place.at.row
 
 -- any cursor, or a place inside a strip to which its strip's rows lead (this project's profile)
@@ -36,28 +42,34 @@ abbrev pub IsReached : List ℕ → Begun → Type 0
 IsReached file (At at) = ⊤
 IsReached file (Inside place) = IsReachedPlace file place
 
--- what follows item number n is the tail from the cursor after it, with the same end (this project's profile)
+-- what follows item number n is the tail from the cursor after it, with the same end
+-- (this project's profile)
 abbrev pub TailsGoOn : Type 0
 TailsGoOn =
     (file : List ℕ) (begun : Begun) (all : List Item) (end : End) (n : ℕ) (item : Item)
     → IsReached file begun → IsTailFrom file begun all end → slice_get all n ≡ Some item
     → IsTailFrom file (At (cursor_after item)) (drop (n + 1) all) end
 
--- what follows item number n is the tail from the place inside a strip after it, if there is one, with the same end
--- (this project's profile)
+-- what follows item number n is the tail from the place inside a strip after it, if there is one,
+-- with the same end (this project's profile)
 abbrev pub LongTailsGoOn : Type 0
 LongTailsGoOn =
-    (file : List ℕ) (begun : Begun) (all : List Item) (end : End) (n : ℕ) (item : Item) (here : FilePage) (place : LongPlace)
+    (file : List ℕ) (begun : Begun) (all : List Item) (end : End) (n : ℕ) (item : Item)
+    (here : FilePage) (place : LongPlace)
     → IsTailFrom file begun all end → slice_get all n ≡ Some item
-    → IsPageAt file (record { page = item.page; row = item.row }) (Ok here) → long_after here.form item ≡ Some place
+    → IsPageAt file (record { page = item.page; row = item.row }) (Ok here)
+    → long_after here.form item ≡ Some place
     → IsTailFrom file (Inside place) (drop (n + 1) all) end
 
--- a place inside a strip after an item is one to which its strip's rows lead (this project's profile)
+-- a place inside a strip after an item is one to which its strip's rows lead
+-- (this project's profile)
 abbrev pub PlacesAreReached : Type 0
 PlacesAreReached =
-    (file : List ℕ) (begun : Begun) (all : List Item) (end : End) (n : ℕ) (item : Item) (here : FilePage) (place : LongPlace)
+    (file : List ℕ) (begun : Begun) (all : List Item) (end : End) (n : ℕ) (item : Item)
+    (here : FilePage) (place : LongPlace)
     → IsReached file begun → IsTailFrom file begun all end → slice_get all n ≡ Some item
-    → IsPageAt file (record { page = item.page; row = item.row }) (Ok here) → long_after here.form item ≡ Some place
+    → IsPageAt file (record { page = item.page; row = item.row }) (Ok here)
+    → long_after here.form item ≡ Some place
     → IsReached file (Inside place)
 
 -- each file has forms and an end, and one list of them only (this project's profile)
@@ -68,7 +80,8 @@ FilesHaveOneForms = (file : List ℕ) → IsOne (AreForms file)
 abbrev pub CursorsHaveOneFormTail : Type 0
 CursorsHaveOneFormTail = (file : List ℕ) (at : Cursor) → IsOne (IsFormTail file at)
 
--- the forms from a page on are what a reader of pages from its first row hands out (this project's profile)
+-- the forms from a page on are what a reader of pages from its first row hands out
+-- (this project's profile)
 abbrev pub FormTailOfPage : Type 0
 FormTailOfPage =
     (file : List ℕ) (p : ℕ) (forms : List FormItem) (end : End)
@@ -76,7 +89,8 @@ FormTailOfPage =
 
 -- the forms from the first cursor on are all forms of the file (this project's profile)
 abbrev pub FormTailOfStart : Type 0
-FormTailOfStart = (file : List ℕ) (forms : List FormItem) (end : End) → IsFormTail file start forms end ↔ AreForms file forms end
+FormTailOfStart = (file : List ℕ) (forms : List FormItem) (end : End)
+    → IsFormTail file start forms end ↔ AreForms file forms end
 
 -- page number n of a file has the number n (this project's profile)
 abbrev pub FormsStandByNumber : Type 0
@@ -84,7 +98,8 @@ FormsStandByNumber =
     (file : List ℕ) (forms : List FormItem) (end : End) (n : ℕ) (item : FormItem)
     → AreForms file forms end → slice_get forms n ≡ Some item → item.page ≡ n
 
--- what follows page number n is the forms from the cursor after it on, with the same end (this project's profile)
+-- what follows page number n is the forms from the cursor after it on, with the same end
+-- (this project's profile)
 abbrev pub FormTailsGoOn : Type 0
 FormTailsGoOn =
     (file : List ℕ) (at : Cursor) (all : List FormItem) (end : End) (n : ℕ) (item : FormItem)
@@ -94,10 +109,12 @@ FormTailsGoOn =
 -- what a walk still hands out is one list with one end (this project's profile)
 abbrev pub LeftIsOne : Type 0
 LeftIsOne =
-    (walk : WalkView) (items others : List Item) (end other : End) → IsLeft walk items end → IsLeft walk others other
+    (walk : WalkView) (items others : List Item) (end other : End) → IsLeft walk items end
+    → IsLeft walk others other
     → (items ≡ others) × (end ≡ other)
 
--- where a walk hands out item number `given`, what was left is that item, and then what is left (this project's profile)
+-- where a walk hands out item number `given`, what was left is that item, and then what is left
+-- (this project's profile)
 abbrev pub LeftGoesOn : Type 0
 LeftGoesOn =
     (walk : WalkView) (item : Item) (items : List Item) (end : End)
@@ -110,20 +127,24 @@ LeftEnds =
     (walk : WalkView) (end : End) → walk.told ≡ None → EndsAfter (IsTailOf walk) walk.given end
     → IsLeft walk [] end × IsLeft (record walk { told = Some end }) [] end
 
--- what a walk still hands out after its first item is the tail from its cursor (this project's profile)
+-- what a walk still hands out after its first item is the tail from its cursor
+-- (this project's profile)
 abbrev pub LeftIsTail : Type 0
 LeftIsTail =
     (walk : WalkView) (items : List Item) (end : End) (at : Cursor)
     → 0 < walk.given → IsReached walk.file walk.begun → IsLeft walk items end → IsCursorOf walk at
     → IsTailFrom walk.file (At at) items end
 
--- what a walk still hands out is the tail from its place inside a strip, where it has one (this project's profile)
+-- what a walk still hands out is the tail from its place inside a strip, where it has one
+-- (this project's profile)
 abbrev pub LeftIsLongTail : Type 0
 LeftIsLongTail =
     (walk : WalkView) (items : List Item) (end : End) (place : LongPlace)
-    → IsLeft walk items end → IsLongOf walk (Some place) → IsTailFrom walk.file (Inside place) items end
+    → IsLeft walk items end → IsLongOf walk (Some place)
+    → IsTailFrom walk.file (Inside place) items end
 
--- where a reader of pages hands out a page, what was left is that page, and then what is left (this project's profile)
+-- where a reader of pages hands out a page, what was left is that page, and then what is left
+-- (this project's profile)
 abbrev pub FormsLeftGoOn : Type 0
 FormsLeftGoOn =
     (old new : PagesView) (item : FormItem) (forms : List FormItem) (end : End)
@@ -131,7 +152,8 @@ FormsLeftGoOn =
 
 -- where its pages end, nothing was left but that end (this project's profile)
 abbrev pub FormsLeftEnd : Type 0
-FormsLeftEnd = (old new : PagesView) (end : End) → PagesHaveEnded old end new → AreFormsLeft old [] end × AreFormsLeft new [] end
+FormsLeftEnd = (old new : PagesView) (end : End) → PagesHaveEnded old end new
+    → AreFormsLeft old [] end × AreFormsLeft new [] end
 
 -- an item of the definitions by strips: one without its bits (this project's profile)
 abbrev pub plain : Item → Items.Item
@@ -150,4 +172,5 @@ RowTailsAreAsBefore =
 -- a file has the items of the definitions by strips (this project's profile)
 abbrev pub RowsAreAsBefore : Type 0
 RowsAreAsBefore =
-    (file : List ℕ) (items : List Items.Item) (end : End) → Items.AreItems file items end ↔ HasPlain (AreItems file) items end
+    (file : List ℕ) (items : List Items.Item) (end : End)
+    → Items.AreItems file items end ↔ HasPlain (AreItems file) items end

@@ -11,8 +11,9 @@ use Rattle.fax_walk.specs.Cursor.{start}
 use Rattle.fax_walk.specs.InOrder.{IsNumber, EndsAfter, HasToldNoOther, IsLeftOf}
 use Rattle.fax_walk.specs.Pages.{FormItem, IsFormTail, cursor_after_page}
 
--- a reader of pages: its file, the cursor that it began with, how many pages it handed out, the cursor after the last
--- of them, or the one that it began with, and how the pages ended, once it told that
+-- a reader of pages: its file, the cursor that it began with, how many pages it handed out, the
+-- cursor after the last of them, or the one that it began with, and how the pages ended, once it
+-- told that
 pub record PagesView : Type 0 where
   pub file : List ℕ
   pub begun : Cursor
@@ -52,7 +53,8 @@ pub record PagesHaveEnded (old : PagesView) (end : End) (new : PagesView) : Type
 
 -- what a call for the next page answers, and what it leaves; memory is never refused
 abbrev pub IsNextPage : PagesView → Result (Option (ℕ × PageForm)) WalkFault → PagesView → Type 0
-IsNextPage old (Ok (Some found)) new = HandsOutPage old (record { page = found.0; form = found.1 }) new
+IsNextPage old (Ok (Some found)) new =
+    HandsOutPage old (record { page = found.0; form = found.1 }) new
 IsNextPage old (Ok None) new = PagesHaveEnded old Proper new
 IsNextPage old (Err (AtRow page row cause)) new = PagesHaveEnded old (Fault page row cause) new
 IsNextPage old (Err CursorOutside) new = PagesHaveEnded old Outside new

@@ -1,5 +1,7 @@
 -- The rows of a file's pages in order, and what a walk hands out that begins anywhere in them.
-use Rattle.std.specs.Prelude.{◌≡◌, ℕ, ◌+◌, ◌*◌, ◌/◌, ◌%◌, ◌<◌, ◌≤◌, ◌⊎◌, ◌==◌, nat_lt, nat_le, if◌then◌else◌, List, map, length, drop, Option, Some, None, Result, Ok, Err, ⊤}
+use Rattle.std.specs.Prelude.{◌≡◌, ℕ, ◌+◌, ◌*◌, ◌/◌, ◌%◌, ◌<◌, ◌≤◌, ◌⊎◌, ◌==◌, nat_lt, nat_le}
+use Rattle.std.specs.Prelude.{if◌then◌else◌, List, map, length, drop, Option, Some, None, Result}
+use Rattle.std.specs.Prelude.{Ok, Err, ⊤}
 use Rattle.fax_bits.specs.declared.Colour.{Colour}
 use Rattle.fax_bits.specs.declared.Colour.TheVariants.{White}
 use Rattle.fax_bits.specs.Bits.{bits}
@@ -21,22 +23,22 @@ use Rattle.fax_walk.specs.LongCursor.{LongPlace}
 use Rattle.fax_walk.specs.InOrder.{AreFrom, AreBegun}
 use Rattle.fax_walk.specs.Pages.{FilePage, IsOnPage}
 
--- a row with its place, its page and its number there, both from 0, and how many bits of its strip stand before what
--- is after it (this project's profile)
+-- a row with its place, its page and its number there, both from 0, and how many bits of its strip
+-- stand before what is after it (this project's profile)
 pub record Item : Type 0 where
   pub page : ℕ
   pub row : ℕ
   pub pels : List Colour
   pub bits : ℕ
 
--- where a row inside a strip is read: after so many bits of the strip, and over the row before it (this project's
--- profile)
+-- where a row inside a strip is read: after so many bits of the strip, and over the row before it
+-- (this project's profile)
 pub record Inner : Type 0 where
   pub bits : ℕ
   pub reference : List Colour
 
--- where a row is read: its page and its number, and, but for a strip's first row, where in the strip (this project's
--- profile)
+-- where a row is read: its page and its number, and, but for a strip's first row, where in the
+-- strip (this project's profile)
 pub record Place : Type 0 where
   pub page : ℕ
   pub row : ℕ
@@ -46,20 +48,21 @@ pub record Place : Type 0 where
 abbrev pub first_at : ℕ → ℕ → Place
 first_at p r = record { page = p; row = r; inner = None }
 
--- the number of the strip that holds row r, and the row's number in that strip (TIFF 6.0, RowsPerStrip)
+-- the number of the strip that holds row r, and the row's number in that strip
+-- (TIFF 6.0, RowsPerStrip)
 abbrev pub strip_at : PageForm → ℕ → ℕ
 strip_at form r = r / form.rows_per_strip
 
 abbrev pub row_in_strip : PageForm → ℕ → ℕ
 row_in_strip form r = r % form.rows_per_strip
 
--- a row as it is handed out, or as it was coded: with colours exchanged where black is coded as white
--- (TIFF 6.0, PhotometricInterpretation)
+-- a row as it is handed out, or as it was coded: with colours exchanged where black is coded as
+-- white (TIFF 6.0, PhotometricInterpretation)
 abbrev pub exchanged : PageForm → List Colour → List Colour
 exchanged form row = if form.exchanged then map other row else row
 
--- the bits before a row in its strip, and its reference: none, and a white row, for a strip's first row
--- (T.4, section 4.2.1.1; T.6, section 2.2.1)
+-- the bits before a row in its strip, and its reference: none, and a white row, for a strip's first
+-- row (T.4, section 4.2.1.1; T.6, section 2.2.1)
 abbrev pub bits_before : Option Inner → ℕ
 bits_before None = 0
 bits_before (Some inner) = inner.bits
@@ -68,12 +71,13 @@ abbrev pub reference_of : ℕ → Option Inner → List Colour
 reference_of width None = white_row width
 reference_of width (Some inner) = inner.reference
 
--- the place after an item of a page: inside its strip, at the next strip, or on the page after (TIFF 6.0,
--- RowsPerStrip)
+-- the place after an item of a page: inside its strip, at the next strip, or on the page after
+-- (TIFF 6.0, RowsPerStrip)
 abbrev pub place_after : PageForm → Item → Place
 place_after form item =
     if nat_lt (item.row + 1) form.rows
-    then (if row_in_strip form (item.row + 1) == 0 then first_at item.page (item.row + 1) else record {
+    then (if row_in_strip form (item.row + 1) == 0 then first_at item.page (item.row + 1)
+    else record {
       page = item.page;
       row = item.row + 1;
       inner = Some (record { bits = item.bits; reference = exchanged form item.pels });
@@ -85,19 +89,25 @@ pub record IsItem (form : PageForm) (bytes : List ℕ) (at : Place) (item : Item
   pub same_page : item.page ≡ at.page
   pub same_row : item.row ≡ at.row
   pub within : item.bits ≤ 8 * length bytes
-  pub line : IsLine (strip_form form (strip_at form at.row)) (row_in_strip form at.row) (reference_of form.width at.inner)
-      (drop (bits_before at.inner) (bits form.order bytes)) (exchanged form item.pels) (drop item.bits (bits form.order bytes))
+  pub line : IsLine (strip_form form (strip_at form at.row)) (row_in_strip form at.row)
+      (reference_of form.width at.inner)
+      (drop (bits_before at.inner) (bits form.order bytes)) (exchanged form item.pels)
+      (drop item.bits (bits form.order bytes))
 
 -- no row is at a place, in these bytes of its strip, for this cause (this project's profile)
 abbrev pub IsStop : PageForm → List ℕ → Place → StripFault → Type 0
 IsStop form bytes at fault =
-    IsCause (strip_form form (strip_at form at.row)) (row_in_strip form at.row) (reference_of form.width at.inner)
+    IsCause (strip_form form (strip_at form at.row)) (row_in_strip form at.row)
+    (reference_of form.width at.inner)
     (drop (bits_before at.inner) (bits form.order bytes)) fault
 
--- the row at a place and the place after it, or the end, with what the file has of its strip (TIFF 6.0, StripOffsets)
+-- the row at a place and the place after it, or the end, with what the file has of its strip
+-- (TIFF 6.0, StripOffsets)
 abbrev pub IsInStrip : PageForm → Place → Option (List ℕ) → Result (Item × Place) End → Type 0
-IsInStrip form at None answer = answer ≡ Err (Fault at.page (strip_at form at.row * form.rows_per_strip) (File StripOutside))
-IsInStrip form at (Some bytes) (Ok (item, to)) = IsItem form bytes at item × (to ≡ place_after form item)
+IsInStrip form at None answer =
+    answer ≡ Err (Fault at.page (strip_at form at.row * form.rows_per_strip) (File StripOutside))
+IsInStrip form at (Some bytes) (Ok (item, to)) =
+    IsItem form bytes at item × (to ≡ place_after form item)
 IsInStrip form at (Some bytes) (Err end) =
     (fault : StripFault) × IsStop form bytes at fault × (end ≡ Fault at.page at.row (Strip fault))
 
@@ -108,17 +118,23 @@ cursor_at at = record { page = at.page; row = at.row }
 abbrev pub IsRow : List ℕ → Place → Result (Item × Place) End → Type 0
 IsRow file at =
     IsOnPage file (cursor_at at)
-    (λ here. IsInStrip here.form at (strip_bytes here.endian file here.offset (strip_at here.form at.row)))
+    (λ here. IsInStrip here.form at (strip_bytes here.endian file here.offset
+    (strip_at here.form at.row)))
 
--- where a walk from a cursor begins, and how many rows it reads before the cursor's: at the beginning of the strip that
--- holds the row (this project's profile)
+-- where a walk from a cursor begins, and how many rows it reads before the cursor's: at the
+-- beginning of the strip that holds the row (this project's profile)
 abbrev pub first_row : Cursor → PageForm → Result (Place × ℕ) End
 first_row at form =
-    if nat_lt at.row form.rows then Ok (first_at at.page (strip_at form at.row * form.rows_per_strip), row_in_strip form at.row)
+    if nat_lt at.row form.rows
+    then Ok (
+      first_at at.page (strip_at form at.row * form.rows_per_strip),
+      row_in_strip form
+          at.row,
+    )
     else (if at.row == form.rows then Ok (first_at (at.page + 1) 0, 0) else Err Outside)
 
--- the runs of a place inside a strip are those of a row of the page's width, and its bits are there in what the file has
--- of the strip (this project's profile)
+-- the runs of a place inside a strip are those of a row of the page's width, and its bits are there
+-- in what the file has of the strip (this project's profile)
 pub record IsInner (width : ℕ) (bytes : List ℕ) (place : LongPlace) : Type 0 where
   pub within : place.bits ≤ 8 * length bytes
   pub width_is : length (pels_of White place.runs) ≡ width
@@ -132,7 +148,8 @@ FitsStrip width (Some bytes) place = IsInner width bytes place
 pub record IsInnerOn (file : List ℕ) (here : FilePage) (place : LongPlace) : Type 0 where
   pub row : place.at.row < here.form.rows
   pub not_first : 0 < row_in_strip here.form place.at.row
-  pub fits : FitsStrip here.form.width (strip_bytes here.endian file here.offset (strip_at here.form place.at.row)) place
+  pub fits : FitsStrip here.form.width (strip_bytes here.endian file here.offset
+      (strip_at here.form place.at.row)) place
 
 -- where a walk from a place inside a strip begins (this project's profile)
 abbrev pub inner_at : LongPlace → Place
@@ -142,7 +159,8 @@ inner_at place = record {
   inner = Some (record { bits = place.bits; reference = pels_of White place.runs });
 }
 
--- where a walk begins on a page, and how many rows it reads before its first (this project's profile)
+-- where a walk begins on a page, and how many rows it reads before its first
+-- (this project's profile)
 abbrev pub BeginsOn : List ℕ → Begun → FilePage → Result (Place × ℕ) End → Type 0
 BeginsOn file (At at) here begin = begin ≡ first_row at here.form
 BeginsOn file (Inside place) here begin =
@@ -160,7 +178,8 @@ Begins file begun = IsOnPage file (begins_at begun) (BeginsOn file begun)
 -- what a walk hands out that begins so (this project's profile)
 abbrev pub IsTailFrom : List ℕ → Begun → List Item → End → Type 0
 IsTailFrom file begun items end =
-    (begin : Result (Place × ℕ) End) × Begins file begun begin × AreBegun (IsRow file) begin items end
+    (begin : Result (Place × ℕ) End) × Begins file begun begin
+    × AreBegun (IsRow file) begin items end
 
 -- the items of a file and their end (TIFF 6.0, section 2)
 abbrev pub AreItems : List ℕ → List Item → End → Type 0
@@ -170,8 +189,8 @@ AreItems file items end = AreFrom (IsRow file) (first_at 0 0) items end
 abbrev pub cursor_after : Item → Cursor
 cursor_after item = record { page = item.page; row = item.row + 1 }
 
--- the place inside a strip at a place, as a long cursor names it, if there is one whose bits are a number of 32 bits
--- (this project's profile)
+-- the place inside a strip at a place, as a long cursor names it, if there is one whose bits are a
+-- number of 32 bits (this project's profile)
 abbrev pub long_at : ℕ → ℕ → Option Inner → Option LongPlace
 long_at p r None = None
 long_at p r (Some inner) =
@@ -181,6 +200,7 @@ long_at p r (Some inner) =
       runs = runs_of inner.reference;
     })) else None
 
--- the place inside a strip after an item of a page of this form, if there is one (this project's profile)
+-- the place inside a strip after an item of a page of this form, if there is one
+-- (this project's profile)
 abbrev pub long_after : PageForm → Item → Option LongPlace
 long_after form item = let after = place_after form item in long_at after.page after.row after.inner

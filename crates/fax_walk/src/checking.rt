@@ -15,12 +15,12 @@ use std::alloc::Global;
 /// What is noted.
 #[derive(Clone, Copy, Debug, PartialEq, Eq)]
 pub enum NoteKind {
-    /// A strip of MMR without the end of a facsimile block behind its last row (T.6,
+    /// A strip of MMR without the end of a facsimile block after its last row (T.6,
     /// End-of-facsimile block).
     NoEndOfBlock,
-    /// A strip of MH or MR with a return to control behind its last row (T.4, section 4.1.4).
+    /// A strip of MH or MR with a return to control after its last row (T.4, section 4.1.4).
     ReturnToControl,
-    /// A strip with a 1 behind its last row, and behind the end of the facsimile block or the
+    /// A strip with a 1 after its last row, and after the end of the facsimile block or the
     /// return to control where there is one.
     DataAfterEnd,
     /// A strip with a row whose codes are others than T.4 chooses (T.4, sections 4.1.1 and
@@ -75,7 +75,7 @@ pub struct Note {
 #[derive(Drop)]
 pub struct Report {
     /// The notes by page: first the one on its directory, then those on its strips in their order.
-    /// A page that is refused and a strip that is not whole have none, and nothing behind a fault
+    /// A page that is refused and a strip that is not whole have none, and nothing after a fault
     /// has.
     pub notes: Vec<Note>,
     /// How many pages were read wholly.
@@ -87,7 +87,7 @@ pub struct Report {
     pub fault: Option<(Place, Cause)>,
 }
 
-/// How far a page was read: how many rows, and the fault behind them where it was not read wholly.
+/// How far a page was read: how many rows, and the fault after them where it was not read wholly.
 #[derive(Clone, Copy)]
 struct PageRead {
     rows: u32,
@@ -147,7 +147,7 @@ fn note_strip(notes: &mut Vec<Note>, page: u32, strip: u32, found: StripNotes) -
     )
 }
 
-/// How far a page was read where a strip that begins behind so many rows has no notes.
+/// How far a page was read where a strip that begins after so many rows has no notes.
 fn read_to(before: u32, fault: NotesFault) -> Result<PageRead, Memory>
     requires { Code.IsRowInside before fault }
     ensures { IfOk result (Code.IsReadTo before fault) }

@@ -6,12 +6,12 @@ use thiserror::Error;
 /// How a file's rows or pages end.
 #[derive(Clone, Copy, Debug, PartialEq, Eq)]
 pub enum End {
-    /// Behind the last page.
+    /// After the last page.
     Proper,
     /// At a fault, with the place of the row that was due there: row 0 for a fault of the header,
     /// of a directory or of a field.
     Fault { page: u32, row: u32, cause: Cause },
-    /// The cursor names no row of the file and no place behind one.
+    /// The cursor names no row of the file and no place after one.
     Outside,
 }
 
@@ -24,7 +24,7 @@ pub enum WalkFault {
     /// The fault that ends the rows, with the place of the row that was due. It is answered again.
     #[error("page {page} row {row}: {cause}")]
     AtRow { page: u32, row: u32, cause: Cause },
-    /// The cursor names no row of the file and no place behind one. It is answered again.
+    /// The cursor names no row of the file and no place after one. It is answered again.
     #[error("the cursor is outside the file")]
     CursorOutside,
 }

@@ -35,7 +35,7 @@ pub fn tail_of_start()
     ensures { Laws.TailOfStart }
 {}
 
-/// What follows a row is the tail from the cursor behind it, with the same end.
+/// What follows a row is the tail from the cursor after it, with the same end.
 pub fn tails_behind_items()
     ensures { Laws.TailBehindItem }
 {
@@ -51,8 +51,8 @@ pub fn tails_of_printed()
     cursors_have_one_tail();
 }
 
-/// A tail from a printed cursor that has no rows ends behind the rows before the cursor's: so a walk
-/// from there has read all of them.
+/// A tail from a printed cursor that has no rows ends after the rows before the cursor's: so a
+/// walk from there has read all of them.
 pub fn printed_tails_end_behind()
     ensures { Laws.PrintedTailsEndBehind }
 {
@@ -70,7 +70,7 @@ pub fn places_have_one_tail()
     cursors_have_one_tail();
 }
 
-/// What follows a row is the tail from the place inside a strip behind it, where there is one, with
+/// What follows a row is the tail from the place inside a strip after it, where there is one, with
 /// the same end.
 pub fn long_tails_behind_items()
     ensures { LongLaws.LongTailBehindItem }
@@ -93,7 +93,8 @@ pub fn tails_from_printed()
     tails_of_printed();
 }
 
-/// The place inside a strip behind a row is printed too, where what the walk began with was printed.
+/// The place inside a strip after a row is printed too, where what the walk began with was
+/// printed.
 pub fn places_of_printed()
     ensures { LongLaws.PlacesOfPrinted }
 {
@@ -101,7 +102,7 @@ pub fn places_of_printed()
     tails_from_printed();
 }
 
-/// The place inside a strip behind a row is one that a walk from a cursor prints, where what the
+/// The place inside a strip after a row is one that a walk from a cursor prints, where what the
 /// walk began with was a cursor or such a place.
 pub fn places_of_reached()
     ensures { LongLaws.PlacesOfReached }
@@ -113,7 +114,7 @@ pub fn places_of_reached()
     places_have_one_tail();
 }
 
-/// What follows a row is the tail from the cursor behind it, with the same end, also where the walk
+/// What follows a row is the tail from the cursor after it, with the same end, also where the walk
 /// began at a place inside a strip that a walk from a cursor prints.
 pub fn tails_behind_reached()
     ensures { LongLaws.TailBehindReached }
@@ -126,7 +127,7 @@ pub fn tails_behind_reached()
     tails_behind_items();
 }
 
-/// There is one place inside a strip behind a row, or none, whichever cursor, or place that a walk
+/// There is one place inside a strip after a row, or none, whichever cursor, or place that a walk
 /// from a cursor prints, the walk began at.
 pub fn items_have_one_place()
     ensures { LongLaws.ItemsHaveOnePlace }
@@ -192,7 +193,8 @@ pub fn form_tails_are_one()
     fax_files::laws::files_have_one_chain();
 }
 
-/// Each page that a reader hands out is the first of what was left of it, and then the rest is left.
+/// Each page that a reader hands out is the first of what was left of it, and then the rest is
+/// left.
 pub fn pages_go_on()
     ensures forms { PageLaws.FormsLeftGoOn }
     ensures ends { PageLaws.FormsLeftEnd }

@@ -16,8 +16,8 @@ use thiserror::Error;
 /// What a long cursor's text begins with, before the first colon.
 const VERSION: u32 = 2;
 
-/// Where to go on inside a strip: a cursor, how many bits of the strip stand before its row, and the
-/// runs of the row before it, before any exchange of colours.
+/// Where to go on inside a strip: a cursor, how many bits of the strip stand before its row, and
+/// the runs of the row before it, before any exchange of colours.
 #[derive(Debug, Drop)]
 pub struct LongCursor {
     pub at: Cursor,
@@ -47,7 +47,7 @@ pub enum LongFault {
     Memory,
 }
 
-/// The number before the first colon, and what stands behind it.
+/// The number before the first colon, and what stands after it.
 fn cut_number(text: &str) -> Option<(u32, &str)>
     ensures { IsNumberCut text.now result }
 {
@@ -168,8 +168,8 @@ impl LongCursor {
         put_runs(text, &self.runs)
     }
 
-    /// Appends the long cursor's text. It is made apart, so that no part of it is appended where memory
-    /// is refused.
+    /// Appends the long cursor's text. It is made apart, so that no part of it is appended where
+    /// memory is refused.
     ///
     /// # Errors
     ///

@@ -41,7 +41,7 @@ impl From<End> for OpenFault {
 #[derive(Drop)]
 pub(crate) struct DuePage<'a> {
     pub(crate) page: u32,
-    /// The chain behind the page's directory.
+    /// The chain after the page's directory.
     pub(crate) chain: Chain<'a>,
     pub(crate) directory: Directory<'a>,
     pub(crate) form: PageForm,
@@ -85,7 +85,7 @@ pub(crate) fn chain_before<'a>(file: &'a [u8], page: u32) -> Result<Chain<'a>, E
 }
 
 impl<'a> DuePage<'a> {
-    /// The page that is due behind the directories that a chain has handed out, or none behind the
+    /// The page that is due after the directories that a chain has handed out, or none after the
     /// last one, or the fault in its place.
     pub(crate) fn behind(mut chain: Chain<'a>) -> Result<Option<Self>, End>
         ensures { Spec.IsPageAnswer chain.entry result }
@@ -108,7 +108,7 @@ impl<'a> DuePage<'a> {
         }
     }
 
-    /// The page that a cursor names, or none behind the last page, or how the rows end where the
+    /// The page that a cursor names, or none after the last page, or how the rows end where the
     /// cursor names no place of the file.
     pub(crate) fn at(file: &'a [u8], cursor: Cursor) -> Result<Option<Self>, End>
         ensures ok { IfOk result (Spec.IsPageAt file.now cursor) }

@@ -47,7 +47,7 @@ pub struct Options {
     pub k: u32,
     /// The rows of a strip, at least 1, or none where a page is one strip.
     pub strip: Option<u32>,
-    /// In MH and MR alone, whether each EOL ends on a byte boundary of its strip, behind fill (T.4,
+    /// In MH and MR alone, whether each EOL ends on a byte boundary of its strip, after fill (T.4,
     /// section 4.1.3; TIFF 6.0, T4Options).
     pub aligned: bool,
     ghost some_k: { 0 < k },

@@ -1,5 +1,6 @@
 //! A page whose rows are read, strip by strip.
-ghost use Rattle.std.specs.Prelude.{◌≡◌, ◌+◌, ◌*◌, ◌<◌, ◌≤◌, ◌==◌, List, [], length, IfErr, IfOk, OnErr, OnOk};
+ghost use Rattle.std.specs.Prelude.{◌≡◌, ◌+◌, ◌*◌, ◌<◌, ◌≤◌, ◌==◌, List, [], length, IfErr, IfOk};
+ghost use Rattle.std.specs.Prelude.{OnErr, OnOk};
 ghost use Rattle.fax_page.specs.Strip.{IsStripForm};
 ghost use Rattle.fax_files.specs.Page.{IsPageForm};
 ghost use Rattle.fax_walk.specs.Items.{Item, AreFromRow};
@@ -20,7 +21,7 @@ use std::marker::Model;
 #[derive(Drop)]
 pub(crate) struct OpenPage<'a> {
     page: u32,
-    /// The chain behind the page's directory.
+    /// The chain after the page's directory.
     chain: Chain<'a>,
     form: PageForm,
     strips: Strips<'a>,
@@ -110,7 +111,7 @@ pub(crate) fn open<'a>(
     })
 }
 
-/// Opens the page behind the directories that a chain has handed out, at its first row. So many
+/// Opens the page after the directories that a chain has handed out, at its first row. So many
 /// rows were read before.
 pub(crate) fn open_behind<'a>(
     alloc: Global,
@@ -207,7 +208,7 @@ pub(crate) fn open_inside<'a>(
 }
 
 impl<'a> OpenPage<'a> {
-    /// Opens the page behind this one, all rows of which are read.
+    /// Opens the page after this one, all rows of which are read.
     pub(crate) fn open_next(&self, alloc: Global) -> Result<OpenPage<'a>, OpenFault>
         requires { row_of self.now ≡ self.now.form.rows }
         ensures opened { IfOk result (Opening.IsOpenedBehind self.now.chain self.now.read) }
@@ -226,7 +227,7 @@ impl<'a> OpenPage<'a> {
         self.row == self.form.rows
     }
 
-    /// Rows of the page and of those behind it are due, and an end. It computes nothing.
+    /// Rows of the page and of those after it are due, and an end. It computes nothing.
     pub(crate) fn has_items(&self)
         ensures { (items : List Item) × (end : End) × Due.IsDueOnPage self.now items end }
     {
@@ -249,7 +250,7 @@ impl<'a> OpenPage<'a> {
         }
     }
 
-    /// The place of the row that is due, or the one behind the last row.
+    /// The place of the row that is due, or the one after the last row.
     pub(crate) fn cursor(&self) -> Cursor
         ensures { result ≡ record { page = self.now.page; row = row_of self.now } }
     {
@@ -266,8 +267,8 @@ impl<'a> OpenPage<'a> {
         self.read
     }
 
-    /// The place inside the strip behind the row that was read last, if the strip goes on behind it,
-    /// and its bits have a number of 32 bits.
+    /// The place inside the strip after the row that was read last, if the strip goes on after
+    /// it, and its bits have a number of 32 bits.
     ///
     /// # Errors
     ///

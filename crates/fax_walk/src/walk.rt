@@ -39,7 +39,7 @@ enum Stage<'a> {
 }
 
 /// A walk over the rows of a file. Contracts see its file, what it began with, how many rows it
-/// handed out, the place behind the last of them, or the one that it began with, and how far it has
+/// handed out, the place after the last of them, or the one that it began with, and how far it has
 /// come: before its first row, on a page, or at the end.
 #[derive(Drop)]
 pub struct Walk<'a> {
@@ -68,7 +68,7 @@ impl<'a> Model for Walk<'a> {
     ghost invariant = { λ w. IsSoundWalk w.file.now w.begun w.given w.cursor w.stage };
 }
 
-/// Opens the page of a cursor's row, or the next one where it stands behind a page's last row.
+/// Opens the page of a cursor's row, or the next one where it stands after a page's last row.
 fn open_at<'a>(alloc: Global, file: &'a [u8], cursor: Cursor) -> Result<OpenPage<'a>, OpenFault>
     ensures opened { IfOk result (Due.IsOpenedFor cursor) }
     ensures before { IfOk result (λ page. AreRowsBefore file.now cursor (skipped page)) }
@@ -129,7 +129,7 @@ fn open_first<'a>(alloc: Global, file: &'a [u8], begun: &Begun) -> Result<OpenPa
 impl Stage<'_> {
     ghost use Rattle.fax_walk.specs.code.Next.{ended_at};
 
-    /// The stage behind a page that is open, where the rows end so.
+    /// The stage after a page that is open, where the rows end so.
     fn ended_at(self, end: End) -> Self
         ensures { result ≡ ended_at self.entry end }
     {
@@ -143,7 +143,8 @@ impl Stage<'_> {
 impl<'a> Walk<'a> {
     ghost use Rattle.fax_walk.specs.code.Due.{walk_from, walk_start, walk_inside};
     ghost use Rattle.fax_walk.specs.code.Due.{rows_read_at, IsLongNow};
-    ghost use Rattle.fax_walk.specs.code.Next.{EndsAs, EntersAs, HasReadRows, IsNext, IsStep, IsAtRow};
+    ghost use Rattle.fax_walk.specs.code.Next.{EndsAs, EntersAs, HasReadRows, IsNext, IsStep};
+    ghost use Rattle.fax_walk.specs.code.Next.{IsAtRow};
     ghost use Rattle.fax_walk.specs.code.Next.{IsAdvance, IsOnPage, seen, shown_at};
     ghost use Rattle.fax_walk.specs.Left.{IsCursorOf};
 
@@ -196,9 +197,9 @@ impl<'a> Walk<'a> {
         self.cursor
     }
 
-    /// The place inside a strip behind the last row that was handed out, or the one that the walk
-    /// began with: `None` where it has none, behind a strip's last row, and where the bits before it
-    /// are more than 4,294,967,295. A fault changes nothing.
+    /// The place inside a strip after the last row that was handed out, or the one that the walk
+    /// began with: `None` where it has none, after a strip's last row, and where the bits before
+    /// it are more than 4,294,967,295. A fault changes nothing.
     ///
     /// # Errors
     ///

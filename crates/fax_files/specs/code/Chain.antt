@@ -11,18 +11,18 @@ use Rattle.fax_files.specs.Directory.{is_directory, next_offset}
 use Rattle.fax_files.specs.Chain.{IsChain}
 use Rattle.fax_files.specs.code.Tiff.{TiffFile, TiffDirectory, directory_of}
 
--- the offset that stands i places behind this one, directory by directory
+-- the offset that stands i places after this one, directory by directory
 abbrev pub link : Endian → List ℕ → ℕ → ℕ → ℕ
 link endian file due zero = due
 link endian file due (suc i) = link endian file (next_offset endian file due) i
 
--- the offset behind a directory, or none where no directory stands
+-- the offset after a directory, or none where no directory stands
 abbrev pub onward : Endian → List ℕ → ℕ → Option ℕ
 onward endian file q =
     if q == 0 then None else (if is_directory endian file q then (Some (next_offset endian file q))
     else None)
 
--- the offset due behind the first i directories of a file
+-- the offset due after the first i directories of a file
 abbrev pub place : TiffFile → ℕ → ℕ
 place tiff i = link tiff.head.endian tiff.file tiff.head.first i
 
@@ -73,7 +73,7 @@ pub record ChainState : Type 0 where
   pub tiff : TiffFile
   pub given : ℕ
 
--- a reader's fields: the offset that is due stands behind the directories handed out, which are the
+-- a reader's fields: the offset that is due stands after the directories handed out, which are the
 -- first of the chain, and it is known at which page the chain turns back
 pub record IsChainPlace (tiff : TiffFile) (due given : ℕ) (turn : Option ℕ) : Type 0 where
   pub due_is : due ≡ place tiff given
@@ -93,7 +93,7 @@ answer_at tiff (Some q) end = Ok (Some (directory_of tiff q))
 answer_at tiff None None = Ok None
 answer_at tiff None (Some fault) = Err fault
 
--- the answer of a reader is the directory of the chain that stands behind those handed out, or else
+-- the answer of a reader is the directory of the chain that stands after those handed out, or else
 -- the end of the chain
 abbrev pub IsDueAnswer : ChainState → Result (Option TiffDirectory) FileFault → Type 0
 IsDueAnswer chain answer =
@@ -101,7 +101,7 @@ IsDueAnswer chain answer =
     → IsChain chain.tiff.head chain.tiff.file offsets end
     → answer ≡ answer_at chain.tiff (slice_get offsets chain.given) end
 
--- a reader behind its answer: one directory on, or as it was
+-- a reader after its answer: one directory on, or as it was
 abbrev pub behind_answer : ChainState → Result (Option TiffDirectory) FileFault → ChainState
 behind_answer chain (Ok (Some directory)) = record chain { given = chain.given + 1 }
 behind_answer chain _ = chain
@@ -122,7 +122,7 @@ pub record IsSearchPlace (tiff : TiffFile) (due given : ℕ) (search : Search) :
   pub search_is : IsSearch tiff given search
   pub few : HasFewPages tiff
 
--- it is known that the chain turns back behind so many directories
+-- it is known that the chain turns back after so many directories
 abbrev pub turns_at : Search → ℕ → Bool
 turns_at (Known (Some turn)) given = turn == given
 turns_at _ given = false

@@ -9,14 +9,14 @@ use Rattle.fax_files.specs.Pbm.{raster_rows}
 abbrev pub begins_piece : ℕ → Bool
 begins_piece c = (c == 35) || is_white_space c
 
--- what stands behind all pieces, where a comment is open or not, and where something stands there
+-- what stands after all pieces, where a comment is open or not, and where something stands there
 abbrev pub behind_pieces : Bool → List ℕ → Option (List ℕ)
 behind_pieces in_comment [] = None
 behind_pieces true (c ∷ bytes) = behind_pieces (not (is_line_end c)) bytes
 behind_pieces false (c ∷ bytes) =
     if begins_piece c then (behind_pieces (c == 35) bytes) else (Some (c ∷ bytes))
 
--- what stands behind a gap
+-- what stands after a gap
 abbrev pub behind_gap : List ℕ → Option (List ℕ)
 behind_gap [] = None
 behind_gap (c ∷ bytes) = if begins_piece c then (behind_pieces false (c ∷ bytes)) else None
@@ -31,7 +31,7 @@ capped_from number [] = number
 capped_from number (c ∷ bytes) =
     if is_digit c then (capped_from (capped (10 * number + (c - 48))) bytes) else number
 
--- what stands behind the digits ahead
+-- what stands after the digits ahead
 abbrev pub behind_digits : List ℕ → List ℕ
 behind_digits [] = []
 behind_digits (c ∷ bytes) = if is_digit c then (behind_digits bytes) else (c ∷ bytes)
@@ -66,7 +66,7 @@ pub record PbmState : Type 0 where
 abbrev pub image_of : ℕ → ℕ → List ℕ → Image
 image_of width height raster = record { width = width; rows = raster_rows width height raster }
 
--- the image is read at the start of the bytes that are left, which then begin behind it
+-- the image is read at the start of the bytes that are left, which then begin after it
 pub record IsImageRead (old : PbmState) (image : Image) (new : PbmState) : Type 0 where
   pub before : old.fault ≡ None
   pub image_is : IsImage old.left image new.left

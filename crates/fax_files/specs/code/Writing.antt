@@ -28,7 +28,7 @@ laid_out_fields at form =
     (long_field Tags.STRIP_OFFSETS at.strips at.offsets)
     (long_field Tags.STRIP_BYTE_COUNTS at.strips at.byte_counts)
 
--- what stands behind the strips of a page, which begin at `start` and end at `end`, where its
+-- what stands after the strips of a page, which begin at `start` and end at `end`, where its
 -- directory has these fields
 abbrev pub tail_bytes : ℕ → List WrittenField → PageForm → ℕ → List (List ℕ) → List ℕ
 tail_bytes end fields form start strips =

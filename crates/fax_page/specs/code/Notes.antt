@@ -44,7 +44,7 @@ pub record AreRowsRead (form : StripForm) (b : List Bool) (i : ℕ) (reference :
       → HasOtherChoice form 0 (white_row form.width) b (before ++ more)
       → (other ≡ true) ⊎ HasOtherChoice form i reference left more
 
--- whether an EOL of a return to control stands next, behind which the source goes then
+-- whether an EOL of a return to control stands next, after which the source goes then
 abbrev pub TakesReturnEol : Coding → List Bool → Bool → List Bool → Type 0
 TakesReturnEol coding b true rest = IsReturnEol coding b rest
 TakesReturnEol coding b false rest = (behind : List Bool) → IsReturnEol coding b behind → ⊥
@@ -58,12 +58,12 @@ pub record AreEolsTaken (coding : Coding) (b : List Bool) (i : ℕ) (ahead : Lis
   pub back : (rest : List Bool) → AreReturnEols coding 6 b rest
       → AreReturnEols coding left ahead rest
 
--- what stands behind a mark, or nothing where there is none
+-- what stands after a mark, or nothing where there is none
 abbrev pub IsBehind : (List Bool → Type 0) → Option Source → Type 0
 IsBehind mark (Some source) = mark source.left
 IsBehind mark None = (rest : List Bool) → mark rest → ⊥
 
--- the notes on a strip by what is left behind its rows, and whether some row is coded otherwise
+-- the notes on a strip by what is left after its rows, and whether some row is coded otherwise
 -- than T.4 chooses
 pub record AreNotesBehind (coding : Coding) (left : List Bool) (other : Bool)
     (notes : StripNotes) : Type 0 where

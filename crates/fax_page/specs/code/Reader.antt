@@ -45,7 +45,7 @@ strip_beginning form bytes = strip_behind 0 form bytes
 abbrev pub restarted : StripState → List ℕ → ℕ → StripState
 restarted old bytes rows = strip_behind old.read (record old.form { rows = rows }) bytes
 
--- before row i of other bytes, which have so many rows, behind so many bits, over this reference;
+-- before row i of other bytes, which have so many rows, after so many bits, over this reference;
 -- the rest of the form stays
 abbrev pub restarted_at : StripState → List ℕ → ℕ → ℕ → ℕ → List Colour → StripState
 restarted_at old bytes rows i place reference = record {
@@ -58,7 +58,7 @@ restarted_at old bytes rows i place reference = record {
   fault = None;
 }
 
--- the form is within the limits, the reference and the row to come have its width, no row behind
+-- the form is within the limits, the reference and the row to come have its width, no row after
 -- its last is due, the place lies in the bytes, and until a fault was met the source stands where
 -- the row that is due begins
 pub record IsReading (form : StripForm) (bytes : List ℕ) (source : Source) (place row : ℕ)
@@ -109,7 +109,7 @@ IsAdvance old (Ok true) new = ReadsRow old new
 IsAdvance old (Ok false) new = IsAtEnd old new
 IsAdvance old (Err fault) new = TellsAgain old fault new ⊎ MeetsFault old fault new
 
--- these rows of the bytes were read, one behind another from the first on, and no more: whatever
+-- these rows of the bytes were read, one after another from the first on, and no more: whatever
 -- lines follow, they follow these rows
 pub record HasRead (form : StripForm) (bytes : List ℕ) (rows : List (List Colour))
     (state : StripState) : Type 0 where
@@ -119,7 +119,7 @@ pub record HasRead (form : StripForm) (bytes : List ℕ) (rows : List (List Colo
       → AreLines form state.row state.reference (bits_left state) more end left
       → AreLines form 0 (white_row form.width) (bits form.order bytes) (rows ++ more) end left
 
--- a reader that reads rows one behind another, from a strip's beginning on, reads the rows of the
+-- a reader that reads rows one after another, from a strip's beginning on, reads the rows of the
 -- strip, up to its end
 pub record ReadsRowByRow : Type 0 where
   pub begins : (read : ℕ) (form : StripForm) (bytes : List ℕ)
@@ -136,7 +136,7 @@ pub record ReadsRowByRow : Type 0 where
       → HasRead form bytes rows old → MeetsFault old fault new
       → IsStrip form (bits form.order bytes) rows (Some fault)
 
--- these rows were read, one behind another, from a place of a reader to a later one: whatever lines
+-- these rows were read, one after another, from a place of a reader to a later one: whatever lines
 -- follow the later one, they follow these rows from the first place on
 pub record HasReadFrom (start : StripState) (rows : List (List Colour))
     (state : StripState) : Type 0 where
@@ -146,7 +146,7 @@ pub record HasReadFrom (start : StripState) (rows : List (List Colour))
       → AreLines start.form state.row state.reference (bits_left state) more end left
       → AreLines start.form start.row start.reference (bits_left start) (rows ++ more) end left
 
--- a reader that reads rows one behind another, from any place on, reads the lines from there, up to
+-- a reader that reads rows one after another, from any place on, reads the lines from there, up to
 -- their end; a fault leaves it before the row that could not be read, over the same reference
 pub record ReadsOn : Type 0 where
   pub begins : (start : StripState) → HasReadFrom start [] start

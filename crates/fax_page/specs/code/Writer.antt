@@ -75,7 +75,7 @@ HasPut form k rows writer =
       refused = false;
     }
 
--- a writer that put rows one behind another, from its beginning on, gives the bytes of their strip
+-- a writer that put rows one after another, from its beginning on, gives the bytes of their strip
 pub record WritesRowByRow : Type 0 where
   pub begins : (form : StripForm) (k : ℕ) → HasPut form k [] (writer_beginning form k)
   pub goes_on : (form : StripForm) (k : ℕ) (rows : List (List Colour)) (row : List Colour)

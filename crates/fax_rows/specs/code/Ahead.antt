@@ -53,7 +53,7 @@ bits_from reference row a0 =
     mode_bits (mode_from reference row a0) ++ run_pair_bits (mode_from reference row a0) row a0
     (places reference row a0)
 
--- where the step behind that from a0 begins (T.4, section 4.2.1.3.2)
+-- where the step after that from a0 begins (T.4, section 4.2.1.3.2)
 abbrev pub place_from : List Colour → List Colour → Option ℕ → ℕ
 place_from reference row a0 = next_a0 (mode_from reference row a0) (places reference row a0)
 

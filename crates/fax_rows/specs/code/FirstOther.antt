@@ -25,7 +25,7 @@ abbrev pub plain_byte : Colour → ℕ
 plain_byte White = 0
 plain_byte Black = 255
 
--- the first of the bytes from a place on that is not this one, or the place behind them all
+-- the first of the bytes from a place on that is not this one, or the place after them all
 pub record IsFirstOtherByte (bytes : List ℕ) (from byte r : ℕ) : Type 0 where
   pub right : from ≤ r
   pub within : r ≤ length bytes

@@ -10,7 +10,7 @@ use Rattle.fax_rows.specs.code.Turns.{turned, pels_by, IsAscending, IsB1At}
 abbrev pub placed_position : ℕ → List ℕ → PlacedReached → Position
 placed_position width places at = position_of at.reached (pels_by width (take at.end places))
 
--- the places that are put are those of the pels before a0, behind which the row has a0's colour,
+-- the places that are put are those of the pels before a0, after which the row has a0's colour,
 -- none just before the first pel, and the index is that of b1 while the row is not at its end
 pub record IsReadTo (reference : List ℕ) (reference_end width : ℕ) (places : List ℕ)
     (at : PlacedReached) : Type 0 where

@@ -33,8 +33,8 @@ pub record IsAscending (places : List ℕ) (end : ℕ) : Type 0 where
   pub first : slice_index places 0 ≡ 0
   pub steps : (i : ℕ) → 0 < i → i + 1 < end → slice_index places i < slice_index places (i + 1)
 
--- the changes of a row stand behind the first place and before `end`, and the width three times
--- behind them
+-- the changes of a row stand after the first place and before `end`, and the width three times
+-- after them
 pub record ArePlaces (places : List ℕ) (end width : ℕ) : Type 0 where
   pub some : 0 < width
   pub short : width < 2 ^ 16
@@ -43,7 +43,7 @@ pub record ArePlaces (places : List ℕ) (end width : ℕ) : Type 0 where
   pub below : (i : ℕ) → 0 < i → i < end → slice_index places i < width
   pub behind : (i : ℕ) → i < 3 → slice_index places (end + i) ≡ width
 
--- place i lies behind k of the first `end` places and before the others
+-- place i lies after k of the first `end` places and before the others
 pub record IsBehind (places : List ℕ) (end i k : ℕ) : Type 0 where
   pub some : 0 < k
   pub within : k ≤ end

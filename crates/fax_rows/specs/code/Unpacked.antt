@@ -5,7 +5,7 @@ use Rattle.fax_bits.specs.declared.Colour.TheVariants.{Black}
 use Rattle.fax_rows.specs.Packed.{colour_of_bit}
 use Rattle.fax_rows.specs.code.Turns.{turned}
 
--- the places that are put are those of the pels of the first i bits, behind which the row has this
+-- the places that are put are those of the pels of the first i bits, after which the row has this
 -- colour
 pub record IsUnpackedTo (b : List Bool) (places : List ℕ) (i : ℕ) (colour : Colour) : Type 0 where
   pub before : (k : ℕ) → k < i → turned Black places k ≡ colour_of_bit (slice_index_or b k false)

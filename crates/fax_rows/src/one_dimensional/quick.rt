@@ -11,7 +11,7 @@ ghost use Rattle.fax_rows.specs.code.Turns.{row_of, IsAscending, IsTurnedFrom};
 use crate::turns::turn_behind;
 use fax_bits::{Ahead, BitSource, Colour};
 
-/// Reads a run behind `total` pels, and answers where the places end then, and how many pels are
+/// Reads a run after `total` pels, and answers where the places end then, and how many pels are
 /// read.
 #[inline(always)]
 fn next_run<'a>(

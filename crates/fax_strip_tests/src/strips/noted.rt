@@ -138,7 +138,7 @@ fn notes_what_stands_in_a_strip(rt: HostRuntime) {
 
 #[test]
 fn notes_a_strip_of_the_lowest_bit_first(rt: HostRuntime) {
-    // An end of block, and a 1 behind it.
+    // An end of block, and a 1 after it.
     let form = StripForm {
         order: FillOrder::LsbFirst,
         ..form_of(Coding::Mmr, 1)

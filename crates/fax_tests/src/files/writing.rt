@@ -115,7 +115,7 @@ fn form_of_page(coding: Coding, rows: u32) -> PageForm
     }
 }
 
-/// The strips of three pages: the row WWWBBWWW in MH; twice in MR; in MMR behind a white row.
+/// The strips of three pages: the row WWWBBWWW in MH; twice in MR; in MMR after a white row.
 const STRIPS: [&[u8]; 3] = [
     &[0x00, 0x18, 0xE0],
     &[0x00, 0x1C, 0x70, 0x00, 0x2E],

@@ -1,12 +1,15 @@
 -- How a command ended that was not refused.
-use Rattle.std.specs.Prelude.{◌≡◌, ◌≢◌, ℕ, ◌⊎◌, List, [], Option, Some, None, IfSome, Result, Ok, Err, codes}
+use Rattle.std.specs.Prelude.{◌≡◌, ◌≢◌, ℕ, ◌⊎◌, List, [], Option, Some, None, IfSome, Result, Ok}
+use Rattle.std.specs.Prelude.{Err, codes}
 use Rattle.std.specs.Io.KnownBytes.{Appends}
 use Rattle.fax_walk.specs.declared.end.End.{End}
 use Rattle.fax_walk.specs.declared.end.End.TheVariants.{Proper, Fault, Outside}
 use Rattle.fax_walk.specs.declared.options.ConvertFault.{ConvertFault}
 use Rattle.fax_walk.specs.declared.options.ConvertFault.TheVariants.{Memory}
 use Rattle.fax_tool.specs.declared.fault.InputFault.{InputFault}
-use Rattle.fax_tool.specs.declared.fault.InputFault.TheVariants.{CursorOutside, AtRow, AtImage, UnknownInput as Unknown, OutputTooLarge as TooLarge}
+use Rattle.fax_tool.specs.declared.fault.InputFault.TheVariants.{CursorOutside, AtRow, AtImage}
+use Rattle.fax_tool.specs.declared.fault.InputFault.TheVariants.{UnknownInput as Unknown}
+use Rattle.fax_tool.specs.declared.fault.InputFault.TheVariants.{OutputTooLarge as TooLarge}
 use Rattle.fax_tool.specs.declared.refusal.Refusal.{Refusal}
 use Rattle.fax_tool.specs.declared.words.Command.{Command}
 use Rattle.fax_tool.specs.Text.{Printed, fault_line, image_fault_line, convert_fault_line}
@@ -43,7 +46,8 @@ status_of None = 0
 status_of (Some fault) = 1
 
 -- the text of a command is written, but for its error line, which is that of the fault
-pub record WritesOutput (command : Command) (file : List ℕ) (output new_output : Option (List ℕ)) (fault : Option InputFault) : Type 0 where
+pub record WritesOutput (command : Command) (file : List ℕ) (output new_output : Option (List ℕ))
+    (fault : Option InputFault) : Type 0 where
   pub printed : Printed
   pub is : IsTextOf command file printed
   pub output_is : Appends output new_output printed.output
@@ -51,7 +55,9 @@ pub record WritesOutput (command : Command) (file : List ℕ) (output new_output
   pub status_is : printed.status ≡ status_of fault
 
 -- a command was refused, for a reason, and has left what it has to
-pub record IsStopped (command : Command) (left : Option (List ℕ)) (refusal : Refusal) (input : Counts) (taken : ℕ) (counts : Counts) (output new_output : Option (List ℕ)) : Type 0 where
+pub record IsStopped (command : Command) (left : Option (List ℕ)) (refusal : Refusal)
+    (input : Counts) (taken : ℕ) (counts : Counts)
+    (output new_output : Option (List ℕ)) : Type 0 where
   pub reason : HasReason refusal input taken counts
   pub leaves : IfSome left (λ file. LeavesText refusal command file output new_output)
 
@@ -61,8 +67,10 @@ IsSaid error new_error counts line status result =
     (Appends error new_error line × (result ≡ status)) ⊎ (HasFailed counts × (result ≡ 3))
 
 -- what is said on the error stream of the way a command ended, with the status
-abbrev pub IsReport : Result (Option InputFault) Refusal → Option (List ℕ) → Option (List ℕ) → Counts → ℕ → Type 0
+abbrev pub IsReport : Result (Option InputFault) Refusal → Option (List ℕ) → Option (List ℕ)
+    → Counts → ℕ → Type 0
 IsReport (Ok fault) error new_error counts status =
-    (Appends error new_error (error_of fault) × (status ≡ status_of fault)) ⊎ (HasFailed counts × (status ≡ 3))
+    (Appends error new_error (error_of fault) × (status ≡ status_of fault))
+    ⊎ (HasFailed counts × (status ≡ 3))
 IsReport (Err refusal) error new_error counts status =
     (HasFailed counts ⊎ Appends error new_error (refusal_line refusal)) × (status ≡ 3)

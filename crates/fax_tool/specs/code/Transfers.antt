@@ -19,7 +19,8 @@ pub record WritesFront (old new : Option (List ℕ)) (bytes : List ℕ) : Type 0
   pub written : Appends old new front
 
 -- a write was refused: the stream failed, and a front of these bytes is written
-pub record IsGivenInPart (old new : Option (List ℕ)) (bytes : List ℕ) (counts : Counts) (refusal : Refusal) : Type 0 where
+pub record IsGivenInPart (old new : Option (List ℕ)) (bytes : List ℕ) (counts : Counts)
+    (refusal : Refusal) : Type 0 where
   pub write : refusal ≡ Write
   pub failed : HasFailed counts
   pub front : WritesFront old new bytes

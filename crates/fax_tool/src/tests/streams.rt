@@ -13,7 +13,7 @@ use std::test::Fail;
 const ROWS: &[u8] = b"row 0 0 3 2 3\nend\n";
 
 /// A stream that plays a script: its first calls are interrupted, then it moves bytes up to its
-/// room, a few at a time, and behind its room it fails or moves nothing.
+/// room, a few at a time, and after its room it fails or moves nothing.
 #[derive(Drop)]
 struct Scripted<'a> {
     /// What is left to read.

@@ -5,11 +5,12 @@ use Rattle.fax_files.specs.Pbm.{Image, AreImages}
 use Rattle.fax_walk.specs.declared.options.ConvertFault.{ConvertFault}
 use Rattle.fax_walk.specs.declared.options.ConvertFault.TheVariants.{Pbm as PbmSource}
 
--- so many images were read, and what is left has the images behind them
+-- so many images were read, and what is left has the images after them
 pub record AreImagesRead (bytes left : List ℕ) (count : ℕ) : Type 0 where
   pub images : List Image
   pub count_is : length images ≡ count
-  pub behind : (more : List Image) (end : Option PbmFault) → AreImages left more end → AreImages bytes (images ++ more) end
+  pub behind : (more : List Image) (end : Option PbmFault) → AreImages left more end
+      → AreImages bytes (images ++ more) end
 
 -- the bytes are so many images, and no fault
 pub record IsImageCount (bytes : List ℕ) (count : ℕ) : Type 0 where
@@ -17,7 +18,7 @@ pub record IsImageCount (bytes : List ℕ) (count : ℕ) : Type 0 where
   pub count_is : length images ≡ count
   pub are : AreImages bytes images None
 
--- the fault behind the images of these bytes
+-- the fault after the images of these bytes
 pub record IsImagesFault (bytes : List ℕ) (answer : ConvertFault) : Type 0 where
   pub images : List Image
   pub fault : PbmFault

@@ -1,5 +1,6 @@
 -- What a call for the next row of a walk answers.
-use Rattle.std.specs.Prelude.{◌≡◌, ℕ, ◌+◌, ◌-◌, ◌<◌, ◌≤◌, ◌⊎◌, Bool, true, false, List, [], ◌∷◌, Option, Some, None, Result, Ok, Err, ⊤}
+use Rattle.std.specs.Prelude.{◌≡◌, ℕ, ◌+◌, ◌-◌, ◌<◌, ◌≤◌, ◌⊎◌, Bool, true, false, List, [], ◌∷◌}
+use Rattle.std.specs.Prelude.{Option, Some, None, Result, Ok, Err, ⊤}
 use Rattle.std.specs.Borrow.{Bor, MutBor, Fml, follows_so}
 use mathlib.Core.Option.{none}
 use mir.Syntax.{named}
@@ -28,7 +29,8 @@ use Rattle.fax_walk.specs.code.Due.{WalkState, IsDue, places_left}
 -- the walk, once the row that it lends is given back, is so
 abbrev pub EndsAs : MutBor WalkState → (WalkState → Type 0) → Fml
 EndsAs walk P =
-    follows_so (the_row (record { mir = named 1; lft = [] })) (the_row (record { mir = named 1; lft = [] }))
+    follows_so (the_row (record { mir = named 1; lft = [] }))
+    (the_row (record { mir = named 1; lft = [] }))
     walk.ghost_name none (λ _ _. ⊤) P
 
 -- the rows have ended so
@@ -37,14 +39,16 @@ HasTold Before end = ⊥
 HasTold (Open page) end = ⊥
 HasTold (Ended ended read last) end = ended ≡ end
 
--- So many rows were read by a walk: those that it handed out, and those before the first of them in its strip. Before
--- it hands out one it has read at most these; and where it has ended so, all of them, but where one cannot be read
+-- So many rows were read by a walk: those that it handed out, and those before the first of them in
+-- its strip. Before it hands out one it has read at most these; and where it has ended so, all of
+-- them, but where one cannot be read
 pub record HasReadRows (walk : WalkState) (read : ℕ) : Type 0 where
   pub before : ℕ
   pub are_before : AreRowsBeforeBegun walk.file walk.begun before
   pub most : read ≤ walk.given + before
   pub all : 0 < walk.given → read ≡ walk.given + before
-  pub told : (end : End) → HasTold walk.stage end → (read ≡ walk.given + before) ⊎ EndsBefore end (begins_at walk.begun)
+  pub told : (end : End) → HasTold walk.stage end
+      → (read ≡ walk.given + before) ⊎ EndsBefore end (begins_at walk.begun)
 
 -- this item is handed out: it is the first of what was due, and what is due then is the rest
 pub record HandsOut (old : WalkState) (item : Item) (new : WalkState) : Type 0 where
@@ -55,7 +59,7 @@ pub record HandsOut (old : WalkState) (item : Item) (new : WalkState) : Type 0 w
   pub one_more : new.given ≡ old.given + 1
   pub fewer : places_left new < places_left old
 
--- the stage behind a page that is open, where the rows end so
+-- the stage after a page that is open, where the rows end so
 abbrev pub ended_at : Stage → End → Stage
 ended_at Before end = Before
 ended_at (Open page) end = Ended end page.read (Some page)
@@ -85,7 +89,8 @@ pub record IsEntered (old new : WalkState) : Type 0 where
   pub same : new ≡ record old { stage = new.stage }
   pub at_row : IsAtRow new.stage
 
--- what it leaves to open the page of the row that is due: memory is refused only where one is to be opened
+-- what it leaves to open the page of the row that is due: memory is refused only where one is to be
+-- opened
 abbrev pub EntersAs : WalkState → Result Unit NoMemory → WalkState → Type 0
 EntersAs old (Ok tt) new = IsEntered old new
 EntersAs old (Err refused) new = (new ≡ old) × IsEntering old.stage
@@ -94,7 +99,8 @@ EntersAs old (Err refused) new = (new ≡ old) × IsEntering old.stage
 abbrev pub StepsAs : WalkState → Stage → WalkState → Type 0
 StepsAs old Before new = ⊥
 StepsAs old (Open page) new =
-    HandsOut old (record { page = page.page; row = row_of page - 1; pels = page.shown }) new × (0 < row_of page)
+    HandsOut old (record { page = page.page; row = row_of page - 1; pels = page.shown }) new
+    × (0 < row_of page)
 StepsAs old (Ended end read last) new = HasEnded old end new
 
 abbrev pub IsStep : WalkState → WalkState → Type 0
@@ -112,7 +118,8 @@ told_at (Ended end read last) = Some end
 
 -- a walk, without what speaks of this code
 abbrev pub seen : WalkState → WalkView
-seen walk = record { file = walk.file; begun = walk.begun; given = walk.given; told = told_at walk.stage }
+seen walk =
+    record { file = walk.file; begun = walk.begun; given = walk.given; told = told_at walk.stage }
 
 -- this item is number `given` of what the walk hands out
 abbrev pub IsGiven : WalkState → Item → Type 0
@@ -123,12 +130,14 @@ IsGiven walk item =
 abbrev pub EndsGiven : WalkState → End → Type 0
 EndsGiven walk end = EndsAfter (IsTailFrom walk.file walk.begun) walk.given end
 
--- what a call for the next row answers, and what it leaves: item number `given` of what the walk hands out, or the end
--- after so many items; memory is refused only where a page is entered
-abbrev pub IsNext : WalkState → Result (Option (Place × Bor (List Colour))) WalkFault → WalkState → Type 0
+-- what a call for the next row answers, and what it leaves: item number `given` of what the walk
+-- hands out, or the end after so many items; memory is refused only where a page is entered
+abbrev pub IsNext : WalkState → Result (Option (Place × Bor (List Colour))) WalkFault → WalkState
+    → Type 0
 IsNext old (Ok (Some found)) new = HandsOut old (item_of found) new × IsGiven old (item_of found)
 IsNext old (Ok None) new = HasEnded old Proper new × EndsGiven old Proper
-IsNext old (Err (AtRow page row cause)) new = HasEnded old (Fault page row cause) new × EndsGiven old (Fault page row cause)
+IsNext old (Err (AtRow page row cause)) new =
+    HasEnded old (Fault page row cause) new × EndsGiven old (Fault page row cause)
 IsNext old (Err CursorOutside) new = HasEnded old Outside new × EndsGiven old Outside
 IsNext old (Err Memory) new = (new ≡ old) × IsEntering old.stage
 

@@ -1,5 +1,6 @@
 -- The strips of a page that is being written.
-use Rattle.std.specs.Prelude.{◌≡◌, ℕ, ◌*◌, ◌<◌, ◌≤◌, min, List, [], ◌∷◌, ◌++◌, length, drop, Option, Some, None}
+use Rattle.std.specs.Prelude.{◌≡◌, ℕ, ◌*◌, ◌<◌, ◌≤◌, min, List, [], ◌∷◌, ◌++◌, length, drop, Option}
+use Rattle.std.specs.Prelude.{Some, None}
 use Rattle.fax_bits.specs.declared.Colour.{Colour}
 use Rattle.fax_page.specs.code.Writer.{WriterState, HasPut}
 use Rattle.fax_files.specs.declared.PageForm.{PageForm}
@@ -10,12 +11,14 @@ use Rattle.fax_walk.specs.declared.open_strips.OpenStrips.{OpenStrips}
 use Rattle.fax_walk.specs.Converted.{strips_of, coded_strips}
 
 -- a strip is open, and these rows of it were put, but not all
-pub record IsOpenStrip (form : PageForm) (k n : ℕ) (rows : List (List Colour)) (writer : WriterState) : Type 0 where
+pub record IsOpenStrip (form : PageForm) (k n : ℕ) (rows : List (List Colour))
+    (writer : WriterState) : Type 0 where
   pub has_put : HasPut (strip_form form n) k rows writer
   pub some : 0 < length rows
   pub fewer : length rows < form.rows_per_strip
 
--- behind n whole strips, of so many rows in all, there are these rows: none, or those of the strip that is open
+-- after n whole strips, of so many rows in all, there are these rows: none, or those of the strip
+-- that is open
 abbrev pub AreInStrip : PageForm → ℕ → ℕ → List (List Colour) → Option WriterState → Type 0
 AreInStrip form k n rows None = min (n * form.rows_per_strip) form.rows ≡ length rows
 AreInStrip form k n rows (Some writer) =
@@ -23,7 +26,8 @@ AreInStrip form k n rows (Some writer) =
     × IsOpenStrip form k n (drop (n * form.rows_per_strip) rows) writer
 
 -- these rows of a page were put, and no more
-pub record HasPutRows (form : PageForm) (k : ℕ) (rows : List (List Colour)) (page : OpenStrips) : Type 0 where
+pub record HasPutRows (form : PageForm) (k : ℕ) (rows : List (List Colour))
+    (page : OpenStrips) : Type 0 where
   pub form_is : page.form ≡ form
   pub k_is : page.k ≡ k
   pub limits : IsPageForm form
@@ -44,8 +48,9 @@ pub record TakesRow (page : OpenStrips) (row : List Colour) : Type 0 where
   pub due : length rows < form.rows
   pub width : length row ≡ form.width
 
--- the row was put behind those that were
+-- the row was put after those that were
 abbrev pub PutsRow : OpenStrips → List Colour → OpenStrips → Type 0
 PutsRow old row new =
-    (form : PageForm) (k : ℕ) (rows : List (List Colour)) → HasPutRows form k rows old → length rows < form.rows
+    (form : PageForm) (k : ℕ) (rows : List (List Colour)) → HasPutRows form k rows old
+    → length rows < form.rows
     → HasPutRows form k (rows ++ row ∷ []) new

@@ -1,5 +1,6 @@
 -- Pages as they become due.
-use Rattle.std.specs.Prelude.{◌≡◌, ℕ, ◌+◌, ◌%◌, ◌<◌, ◌≤◌, ◌⊎◌, List, [], length, Option, Some, None, Result, Ok, Err, slice_get, ⊤}
+use Rattle.std.specs.Prelude.{◌≡◌, ℕ, ◌+◌, ◌%◌, ◌<◌, ◌≤◌, ◌⊎◌, List, [], length, Option, Some, None}
+use Rattle.std.specs.Prelude.{Result, Ok, Err, slice_get, ⊤}
 use Rattle.fax_bits.specs.declared.Colour.{Colour}
 use Rattle.fax_page.specs.declared.StripForm.{StripForm}
 use Rattle.fax_page.specs.code.Reader.{StripState}
@@ -27,7 +28,7 @@ use Rattle.fax_walk.specs.Pages.{FormItem, IsForm, IsFormTail}
 use Rattle.fax_walk.specs.code.Stages.{PageState, row_of, skipped}
 use Rattle.fax_walk.specs.code.Due.{ArePagesBehind, IsOpen, IsInFile, IsAtStrip, IsReached}
 
--- a page that is due: its number, the chain behind its directory, its directory and its form
+-- a page that is due: its number, the chain after its directory, its directory and its form
 pub record PageDue : Type 0 where
   pub page : ℕ
   pub chain : ChainState
@@ -35,16 +36,18 @@ pub record PageDue : Type 0 where
   pub form : PageForm
 
 -- the directory is the last one that the chain has handed out, and it has this form
-pub record IsPageDue (number : ℕ) (chain : ChainState) (directory : TiffDirectory) (form : PageForm) : Type 0 where
+pub record IsPageDue (number : ℕ) (chain : ChainState) (directory : TiffDirectory)
+    (form : PageForm) : Type 0 where
   pub behind : chain.given ≡ number + 1
   pub directory_is : directory ≡ directory_of chain.tiff directory.offset
   pub form_is : form_of directory ≡ Ok form
   pub limits : IsPageForm form
 
--- the items of a page that is due, from this row on, and of those behind it
+-- the items of a page that is due, from this row on, and of those after it
 abbrev pub AreDueFrom : PageDue → ℕ → List Item → End → Type 0
 AreDueFrom due first items end =
-    AreFromRow due.directory.endian due.directory.file due.directory.offset due.form due.page first (ArePagesBehind due.chain)
+    AreFromRow due.directory.endian due.directory.file due.directory.offset due.form due.page first
+    (ArePagesBehind due.chain)
     items end
 
 -- no page was opened: where memory was not refused, nothing was due but this end
@@ -52,8 +55,8 @@ abbrev pub IsRefusal : (List Item → End → Type 0) → OpenFault → Type 0
 IsRefusal due Memory = ⊤
 IsRefusal due (Ended end) = due [] end
 
--- no page was opened for a row of it: where memory was not refused, no row stands before it in its strip, or the rows end
--- before it
+-- no page was opened for a row of it: where memory was not refused, no row stands before it in its
+-- strip, or the rows end before it
 abbrev pub EndsShort : PageDue → ℕ → OpenFault → Type 0
 EndsShort due first Memory = ⊤
 EndsShort due first (Ended end) =
@@ -78,7 +81,8 @@ pub record IsOpenedAt (due : PageDue) (first read : ℕ) (page : PageState) : Ty
   pub same_form : page.form ≡ due.form
   pub at_strip : IsAtStrip page
 
--- the page behind the directories that a chain has handed out is open at its first row, and so many rows were read before
+-- the page after the directories that a chain has handed out is open at its first row, and so many
+-- rows were read before
 --
 pub record IsOpenedBehind (chain : ChainState) (read : ℕ) (page : PageState) : Type 0 where
   pub is_open : IsOpen page
@@ -90,15 +94,19 @@ pub record IsOpenedBehind (chain : ChainState) (read : ℕ) (page : PageState) :
   pub in_file : (file : List ℕ) → header file ≡ Ok chain.tiff.head → chain.tiff.file ≡ file
       → IsInFile file page.page page.chain page.directory page.form
 
--- what a chain's next page is, in a file with these directories: a page, none behind the last one, or the fault in its
--- place
-abbrev pub IsAnswerOver : ChainState → List ℕ → Option FileFault → Result (Option PageDue) End → Type 0
-IsAnswerOver chain offsets fault (Ok (Some due)) = slice_get offsets chain.given ≡ Some due.directory.offset
+-- what a chain's next page is, in a file with these directories: a page, none after the last one,
+-- or the fault in its place
+abbrev pub IsAnswerOver : ChainState → List ℕ → Option FileFault → Result (Option PageDue) End
+    → Type 0
+IsAnswerOver chain offsets fault (Ok (Some due)) =
+    slice_get offsets chain.given ≡ Some due.directory.offset
 IsAnswerOver chain offsets fault (Ok None) = (slice_get offsets chain.given ≡ None) × (fault ≡ None)
 IsAnswerOver chain offsets fault (Err end) =
-    ((met : FileFault) × (slice_get offsets chain.given ≡ None) × (fault ≡ Some met) × (end ≡ Fault chain.given 0 (File met)))
+    ((met : FileFault) × (slice_get offsets chain.given ≡ None) × (fault ≡ Some met)
+    × (end ≡ Fault chain.given 0 (File met)))
     ⊎ ((q : ℕ) × (refused : FileFault) × (slice_get offsets chain.given ≡ Some q)
-    × (page chain.tiff.head.endian chain.tiff.file q ≡ Err refused) × (end ≡ Fault chain.given 0 (File refused)))
+    × (page chain.tiff.head.endian chain.tiff.file q ≡ Err refused)
+    × (end ≡ Fault chain.given 0 (File refused)))
 
 -- a page that is due is the next one of the chain
 abbrev pub IsNextOf : ChainState → Result (Option PageDue) End → Type 0
@@ -110,7 +118,8 @@ IsNextOf chain _ = ⊤
 -- what a chain's next page is
 pub record IsPageAnswer (chain : ChainState) (answer : Result (Option PageDue) End) : Type 0 where
   pub next : IsNextOf chain answer
-  pub over : (offsets : List ℕ) (fault : Option FileFault) → IsChain chain.tiff.head chain.tiff.file offsets fault
+  pub over : (offsets : List ℕ) (fault : Option FileFault)
+      → IsChain chain.tiff.head chain.tiff.file offsets fault
       → IsAnswerOver chain offsets fault answer
 
 -- a file's chain, before the directory of this number
@@ -118,12 +127,14 @@ pub record IsChainBefore (file : List ℕ) (number : ℕ) (chain : ChainState) :
   pub head : header file ≡ Ok chain.tiff.head
   pub file_is : chain.tiff.file ≡ file
   pub given : chain.given ≡ number
-  pub within : (offsets : List ℕ) (fault : Option FileFault) → IsChain chain.tiff.head chain.tiff.file offsets fault
+  pub within : (offsets : List ℕ) (fault : Option FileFault)
+      → IsChain chain.tiff.head chain.tiff.file offsets fault
       → number ≤ length offsets
 
 -- what stands at the next directory of a chain: the form of a page, or the end
 abbrev pub IsFormNext : ChainState → Result (FormItem × ℕ) End → Type 0
-IsFormNext chain answer = (file : List ℕ) → IsChainBefore file chain.given chain → IsForm file chain.given answer
+IsFormNext chain answer =
+    (file : List ℕ) → IsChainBefore file chain.given chain → IsForm file chain.given answer
 
 -- a page that is due is the file's page of its number, and so is the chain after it
 pub record IsFormOf (file : List ℕ) (due : PageDue) : Type 0 where
@@ -139,9 +150,11 @@ place_at at bits runs = record { at = at; bits = bits; runs = runs }
 abbrev pub EndsInside : List ℕ → Cursor → End → Type 0
 EndsInside file at end = (bits : ℕ) (runs : List ℕ) → IsLongTail file (place_at at bits runs) [] end
 
--- from a cursor on there are no rows and no pages, and they end so; nor are there rows before it in a strip
+-- from a cursor on there are no rows and no pages, and they end so; nor are there rows before it in
+-- a strip
 abbrev pub EndsAt : List ℕ → Cursor → End → Type 0
-EndsAt file at end = IsTail file at [] end × IsFormTail file at [] end × AreRowsBefore file at 0 × EndsInside file at end
+EndsAt file at end = IsTail file at [] end × IsFormTail file at [] end × AreRowsBefore file at 0
+    × EndsInside file at end
 
 -- there is no page of this number, and from any row of it on there is nothing but this end
 abbrev pub IsEndBefore : List ℕ → ℕ → End → Type 0
@@ -153,20 +166,26 @@ pub record IsPageOf (file : List ℕ) (at : Cursor) (due : PageDue) : Type 0 whe
   pub given : due.chain.given ≡ due.page + 1
   pub within : at.row ≤ due.form.rows
   pub before : AreRowsBefore file at (rows_before (Ok due.form) at.row)
-  pub from_row : (items : List Item) (end : End) → at.row < due.form.rows → AreDueFrom due at.row items end → IsTail file at items end
-  pub from_next : (items : List Item) (end : End) → at.row ≡ due.form.rows → ArePagesBehind due.chain items end → IsTail file at items end
+  pub from_row : (items : List Item) (end : End) → at.row < due.form.rows
+      → AreDueFrom due at.row items end → IsTail file at items end
+  pub from_next : (items : List Item) (end : End) → at.row ≡ due.form.rows
+      → ArePagesBehind due.chain items end → IsTail file at items end
   pub in_file : IsInFile file due.page due.chain due.directory due.form
-  pub from_any : (row : ℕ) (items : List Item) (end : End) → row < due.form.rows → AreDueFrom due row items end
+  pub from_any : (row : ℕ) (items : List Item) (end : End) → row < due.form.rows
+      → AreDueFrom due row items end
       → IsTail file (record { page = at.page; row = row }) items end
   pub from_behind : (items : List Item) (end : End) → ArePagesBehind due.chain items end
       → IsTail file (record { page = at.page; row = due.form.rows }) items end
   pub from_place : (bits : ℕ) (runs : List ℕ) (items : List Item) (end : End)
-      → AreOnPage due.directory.endian file due.directory.offset (place_at at bits runs) (Ok due.form) items end
+      → AreOnPage due.directory.endian file due.directory.offset (place_at at bits runs)
+      (Ok due.form) items end
       → IsLongTail file (place_at at bits runs) items end
 
--- what is due of a page from a place inside a strip of it is what a walk over its file hands out from there
+-- what is due of a page from a place inside a strip of it is what a walk over its file hands out
+-- from there
 abbrev pub IsPlaceDue : PageDue → LongPlace → List Item → End → Type 0
-IsPlaceDue due place items end = (file : List ℕ) → IsPageOf file place.at due → IsLongTail file place items end
+IsPlaceDue due place items end =
+    (file : List ℕ) → IsPageOf file place.at due → IsLongTail file place items end
 
 -- the page is open at a place inside a strip of it, and no row was read
 pub record IsOpenedInside (due : PageDue) (place : LongPlace) (page : PageState) : Type 0 where
@@ -185,7 +204,16 @@ pub record IsOpenedInside (due : PageDue) (place : LongPlace) (page : PageState)
 abbrev pub IsAtPlace : StripForm → List ℕ → ℕ → LongPlace → StripState → Type 0
 IsAtPlace form bytes row place strip =
     (reference : List Colour) × IsInside form.width bytes place reference
-    × (strip ≡ record { form = form; bytes = bytes; place = place.bits; row = row; read = 0; reference = reference; fault = None })
+    × (strip ≡ record {
+      form = form;
+      bytes = bytes;
+      place = place.bits;
+      row = row;
+      read =
+          0;
+      reference = reference;
+      fault = None;
+    })
 
 -- no strip was opened: where memory was not refused, the place is outside of it
 abbrev pub IsNoPlace : StripForm → List ℕ → LongPlace → OpenFault → Type 0
@@ -199,7 +227,7 @@ EndsShortFrom file begun Memory = ⊤
 EndsShortFrom file begun (Ended end) =
     (n : ℕ) × AreRowsBeforeBegun file begun n × ((n ≡ 0) ⊎ EndsBefore end (begins_at begun))
 
--- what a cursor names: a page, or the place behind the last one
+-- what a cursor names: a page, or the place after the last one
 abbrev pub IsPageAt : List ℕ → Cursor → Option PageDue → Type 0
 IsPageAt file at (Some due) = IsPageOf file at due
 IsPageAt file at None = EndsAt file at Proper

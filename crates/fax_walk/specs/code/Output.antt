@@ -1,5 +1,6 @@
 -- How far an output is written.
-use Rattle.std.specs.Prelude.{◌≡◌, ℕ, ◌+◌, ◌*◌, ◌<◌, ◌≤◌, min, false, List, [], ◌∷◌, ◌++◌, length, map, flat_map, Option, Some, None, unwrap_or, Vec}
+use Rattle.std.specs.Prelude.{◌≡◌, ℕ, ◌+◌, ◌*◌, ◌<◌, ◌≤◌, min, false, List, [], ◌∷◌, ◌++◌, length}
+use Rattle.std.specs.Prelude.{map, flat_map, Option, Some, None, unwrap_or, Vec}
 use Rattle.std.specs.declared.alloc.Global.{Global}
 use Rattle.fax_bits.specs.declared.Colour.{Colour}
 use Rattle.fax_rows.specs.Packed.{packed_len, packed_row}
@@ -13,7 +14,8 @@ use Rattle.fax_files.specs.Written.{empty_file, with_pages}
 use Rattle.fax_files.specs.code.Writing.{Writing}
 use Rattle.fax_walk.specs.declared.options.Options.{Options}
 use Rattle.fax_walk.specs.declared.options.Target.{Target}
-use Rattle.fax_walk.specs.declared.options.Target.TheVariants.{Pbm, Mh as ToMh, Mr as ToMr, Mmr as ToMmr}
+use Rattle.fax_walk.specs.declared.options.Target.TheVariants.{Pbm, Mh as ToMh, Mr as ToMr}
+use Rattle.fax_walk.specs.declared.options.Target.TheVariants.{Mmr as ToMmr}
 use Rattle.fax_walk.specs.declared.options.ConvertFault.{ConvertFault}
 use Rattle.fax_walk.specs.declared.options.ConvertFault.TheVariants.{OutputTooLarge}
 use Rattle.fax_walk.specs.declared.open_strips.OpenStrips.{OpenStrips}
@@ -40,7 +42,8 @@ image_sheet width rows = record { width = width; rows = rows; x = (204, 1); y = 
 
 -- the sheet of a page of a TIFF file
 abbrev pub form_sheet : PageForm → Sheet
-form_sheet form = record { width = form.width; rows = form.rows; x = form.x; y = form.y; unit = form.unit }
+form_sheet form =
+    record { width = form.width; rows = form.rows; x = form.x; y = form.y; unit = form.unit }
 
 -- the sheet of a page that is converted
 abbrev pub sheet_of : SourcePage → Sheet
@@ -112,7 +115,7 @@ no_rows at sheet = record { at = at; sheet = sheet; rows = [] }
 abbrev pub with_row : Part → List Colour → Part
 with_row part row = record part { rows = part.rows ++ row ∷ [] }
 
--- behind the page
+-- after the page
 abbrev pub behind : Part → Progress
 behind part = with_page part.at (page_of part.sheet part.rows)
 
@@ -120,7 +123,8 @@ behind part = with_page part.at (page_of part.sheet part.rows)
 abbrev pub StaysTooLarge : Progress → Type 0
 StaysTooLarge at =
     (more : List SourcePage) → length (at.pages ++ more) ≡ at.total
-    → IsTooLarge at.options.target (at.pages ++ more) (target_bytes at.options.target at.options (at.pages ++ more))
+    → IsTooLarge at.options.target (at.pages ++ more)
+    (target_bytes at.options.target at.options (at.pages ++ more))
 
 -- the images of the pages are written
 pub record HasImages (bytes : List ℕ) (at : Progress) : Type 0 where
@@ -134,7 +138,8 @@ pub record HasPages (coding : Coding) (writer : Writing) (at : Progress) : Type 
   pub few : at.total ≤ 65535
   pub total : writer.total ≡ at.total
   pub added : writer.added ≡ length at.pages
-  pub written : writer.written ≡ with_pages empty_file at.total 0 (map (written_page at.options coding) at.pages)
+  pub written : writer.written
+      ≡ with_pages empty_file at.total 0 (map (written_page at.options coding) at.pages)
   pub fits : length writer.written.bytes ≤ 268435456
 
 -- an output has these pages, and no part of another
@@ -150,7 +155,8 @@ pub record IsWrittenBy (options : Options) (output : Output) : Type 0 where
   pub options_are : at.options ≡ options
   pub written : IsWrittenTo output at
 
--- the page's rows are written behind the images of the pages before it, and there is room for those that are left
+-- the page's rows are written after the images of the pages before it, and there is room for those
+-- that are left
 pub record HasImageRows (bytes : List ℕ) (part : Part) : Type 0 where
   pub target : part.at.options.target ≡ Pbm
   pub bytes_are : bytes
@@ -203,7 +209,8 @@ pub record TakesRow (output : Output) (row : List Colour) : Type 0 where
 -- the row is put
 abbrev pub PutsRow : Output → List Colour → Output → Type 0
 PutsRow old row new =
-    (part : Part) → IsPartWritten old part → length part.rows < part.sheet.rows → length row ≡ part.sheet.width
+    (part : Part) → IsPartWritten old part → length part.rows < part.sheet.rows
+    → length row ≡ part.sheet.width
     → IsPartWritten new (with_row part row)
 
 -- all rows of the page were put
@@ -215,7 +222,8 @@ pub record HasAllRows (output : Output) : Type 0 where
 -- the page is ended
 abbrev pub EndsPage : Output → Output → Type 0
 EndsPage old new =
-    (part : Part) → IsPartWritten old part → length part.rows ≡ part.sheet.rows → IsWrittenTo new (behind part)
+    (part : Part) → IsPartWritten old part → length part.rows ≡ part.sheet.rows
+    → IsWrittenTo new (behind part)
 
 -- all pages were written
 pub record HasAllPages (output : Output) : Type 0 where

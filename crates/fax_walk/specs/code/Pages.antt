@@ -28,12 +28,14 @@ pub record HasGiven (file : List ℕ) (begun : Cursor) (given p : ℕ) : Type 0 
 -- a reader of pages has come as far as its chain, or to its end
 abbrev pub IsSoundReader : List ℕ → Cursor → ℕ → Cursor → PagesStage → Type 0
 IsSoundReader file begun given cursor Before = (given ≡ 0) × (cursor ≡ begun)
-IsSoundReader file begun given cursor (After chain) = HasGiven file begun given chain.given × IsChainBefore file chain.given chain
+IsSoundReader file begun given cursor (After chain) =
+    HasGiven file begun given chain.given × IsChainBefore file chain.given chain
 IsSoundReader file begun given cursor (Ended end) = EndsAfter (IsFormTail file begun) given end
 
 -- a page is the one after the directories that a chain has handed out
 abbrev pub IsPageAfter : ChainState → PageDue → Type 0
-IsPageAfter chain due = (due.page ≡ chain.given) × ((file : List ℕ) → IsChainBefore file chain.given chain → IsFormOf file due)
+IsPageAfter chain due = (due.page ≡ chain.given)
+    × ((file : List ℕ) → IsChainBefore file chain.given chain → IsFormOf file due)
 
 -- a reader from a cursor begins with this page
 pub record BeginsWith (file : List ℕ) (at : Cursor) (due : PageDue) : Type 0 where

@@ -7,7 +7,8 @@ use Rattle.fax_files.specs.PbmLaws.{AreOfWidth}
 use Rattle.fax_walk.specs.declared.end.End.{End}
 use Rattle.fax_walk.specs.declared.end.End.TheVariants.{Fault}
 use Rattle.fax_walk.specs.declared.end.WalkFault.{WalkFault}
-use Rattle.fax_walk.specs.declared.end.WalkFault.TheVariants.{Memory as NoMemory, AtRow, CursorOutside}
+use Rattle.fax_walk.specs.declared.end.WalkFault.TheVariants.{Memory as NoMemory, AtRow}
+use Rattle.fax_walk.specs.declared.end.WalkFault.TheVariants.{CursorOutside}
 use Rattle.fax_walk.specs.declared.options.Options.{Options}
 use Rattle.fax_walk.specs.declared.options.ConvertFault.{ConvertFault}
 use Rattle.fax_walk.specs.declared.options.ConvertFault.TheVariants.{Source, Memory}
@@ -18,7 +19,8 @@ use Rattle.fax_walk.specs.Pages.{FormItem, AreForms}
 use Rattle.fax_walk.specs.Converted.{SourcePage, page_of_image, page_of_form}
 use Rattle.fax_walk.specs.code.Due.{WalkState, IsDue}
 use Rattle.fax_walk.specs.PagesLeft.{PagesView, AreFormsLeft}
-use Rattle.fax_walk.specs.code.Output.{Progress, Part, no_rows, image_sheet, IsPartWritten, IsWrittenTo}
+use Rattle.fax_walk.specs.code.Output.{Progress, Part, no_rows, image_sheet, IsPartWritten}
+use Rattle.fax_walk.specs.code.Output.{IsWrittenTo}
 
 -- a page that is being written, of which these rows were put
 abbrev pub part_of : Progress → Sheet → List (List Colour) → Part
@@ -32,27 +34,35 @@ pub record HasBegun (output : Output) (sheet : Sheet) : Type 0 where
 -- all rows of the page were put
 abbrev pub PutsRows : Output → Sheet → List (List Colour) → Output → Type 0
 PutsRows old sheet rows new =
-    (at : Progress) → IsPartWritten old (no_rows at sheet) → IsPartWritten new (part_of at sheet rows)
+    (at : Progress) → IsPartWritten old (no_rows at sheet)
+    → IsPartWritten new (part_of at sheet rows)
 
 -- all rows of an image were put
 abbrev pub PutsImage : Output → ℕ → ℕ → List ℕ → Output → Type 0
-PutsImage old width height raster new = PutsRows old (image_sheet width height) (raster_rows width height raster) new
+PutsImage old width height raster new =
+    PutsRows old (image_sheet width height) (raster_rows width height raster) new
 
--- the images are written that were read, and the ones that are left are those behind them
-pub record AreImagesWritten (bytes left : List ℕ) (options : Options) (total count : ℕ) (output : Output) : Type 0 where
+-- the images are written that were read, and the ones that are left are those after them
+pub record AreImagesWritten (bytes left : List ℕ) (options : Options) (total count : ℕ)
+    (output : Output) : Type 0 where
   pub before : List Image
   pub rest : List Image
   pub all : AreImages bytes (before ++ rest) None
   pub total_is : length (before ++ rest) ≡ total
   pub count_is : length before ≡ count
   pub left_are : AreImages left rest None
-  pub written : IsWrittenTo output (record { options = options; total = total; pages = map page_of_image before })
+  pub written : IsWrittenTo output (record {
+    options = options;
+    total = total;
+    pages =
+        map page_of_image before;
+  })
 
 -- items whose rows are so wide
 abbrev pub AreWide : ℕ → List Item → Type 0
 AreWide width items = AreOfWidth width (map (λ item. item.pels) items)
 
--- there are all rows of a page, or at a fault fewer, and nothing behind them
+-- there are all rows of a page, or at a fault fewer, and nothing after them
 abbrev pub IsPageEnd : ℕ → List Item → List Item → End → Type 0
 IsPageEnd rows own others end =
     (length own ≡ rows)
@@ -77,15 +87,19 @@ ArePagesOf (one ∷ forms) form_end items end =
 abbrev pub AreWholePages : List FormItem → List Item → List SourcePage → Type 0
 AreWholePages [] items pages = (items ≡ []) × (pages ≡ [])
 AreWholePages (one ∷ forms) items pages =
-    (own others : List Item) × (later : List SourcePage) × (items ≡ own ++ others) × (length own ≡ one.form.rows)
-    × (pages ≡ page_of_form one.form (map (λ item. item.pels) own) ∷ later) × AreWholePages forms others later
+    (own others : List Item) × (later : List SourcePage) × (items ≡ own ++ others)
+    × (length own ≡ one.form.rows)
+    × (pages ≡ page_of_form one.form (map (λ item. item.pels) own) ∷ later)
+    × AreWholePages forms others later
 
 -- a walk has handed out these items
 abbrev pub HasGiven : WalkState → List Item → WalkState → Type 0
-HasGiven old items new = (more : List Item) (end : End) → IsDue new more end → IsDue old (items ++ more) end
+HasGiven old items new =
+    (more : List Item) (end : End) → IsDue new more end → IsDue old (items ++ more) end
 
 -- all rows of a page were read from a walk, and put
-pub record ConvertsRows (walk : WalkState) (output : Output) (sheet : Sheet) (new_walk : WalkState) (new_output : Output) : Type 0 where
+pub record ConvertsRows (walk : WalkState) (output : Output) (sheet : Sheet) (new_walk : WalkState)
+    (new_output : Output) : Type 0 where
   pub items : List Item
   pub count : length items ≡ sheet.rows
   pub given : HasGiven walk items new_walk
@@ -114,11 +128,14 @@ pub record IsPageCount (file : List ℕ) (count : ℕ) : Type 0 where
   pub count_is : length forms ≡ count
 
 -- the pages are written whose forms and rows were read
-pub record ArePagesWritten (file : List ℕ) (options : Options) (total : ℕ) (pages : PagesView) (walk : WalkState) (output : Output) : Type 0 where
+pub record ArePagesWritten (file : List ℕ) (options : Options) (total : ℕ) (pages : PagesView)
+    (walk : WalkState) (output : Output) : Type 0 where
   pub forms : List FormItem
   pub items : List Item
   pub converted : List SourcePage
   pub whole : AreWholePages forms items converted
-  pub forms_due : (more : List FormItem) (end : End) → AreFormsLeft pages more end → AreForms file (forms ++ more) end
-  pub items_due : (more : List Item) (end : End) → IsDue walk more end → AreItems file (items ++ more) end
+  pub forms_due : (more : List FormItem) (end : End) → AreFormsLeft pages more end
+      → AreForms file (forms ++ more) end
+  pub items_due : (more : List Item) (end : End) → IsDue walk more end
+      → AreItems file (items ++ more) end
   pub written : IsWrittenTo output (record { options = options; total = total; pages = converted })

@@ -10,7 +10,8 @@ pub returns-then-not-is_within_limits-clause-err :
     goal.returns-then-not-is_within_limits-clause-err
 returns-then-not-is_within_limits-clause-err c =
     let head = c.in-Some.head in
-    head_outside c.args.bytes.now head.width head.height head.behind.now c.in-Some.ensures.some (sym c.is_within_limits.ensures ∙ c.if-not-is_within_limits.true)
+    head_outside c.args.bytes.now head.width head.height head.behind.now c.in-Some.ensures.some
+    (sym c.is_within_limits.ensures ∙ c.if-not-is_within_limits.true)
 
 pub returns-then-head-len-clause-err : goal.returns-then-head-len-clause-err
 returns-then-head-len-clause-err c =

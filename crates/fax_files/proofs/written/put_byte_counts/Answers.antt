@@ -4,7 +4,12 @@ use Rattle.fax_files.proofs.written.put_byte_counts.Goals as goal
 
 pub overflow_cast-len : goal.overflow_cast-len
 overflow_cast-len c =
-    omega (arith, within c.args.strips.now c.loop-strip.strip-index c.strip-item.result c.loop-strip-test.true c.strip-item.is, c.requires, c.len.ensures)
+    omega (
+      arith,
+      within c.args.strips.now c.loop-strip.strip-index c.strip-item.result c.loop-strip-test.true c.strip-item.is,
+      c.requires,
+      c.len.ensures,
+    )
 
 pub loop-strip-preserved : goal.loop-strip-preserved
 loop-strip-preserved c =

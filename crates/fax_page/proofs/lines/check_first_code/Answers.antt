@@ -9,5 +9,6 @@ returns-in_default-clause-err c =
 
 pub returns-in_default-2-clause-err : goal.returns-in_default-2-clause-err
 returns-in_default-2-clause-err c =
-    let ahead = eleven_alone c.args.source.now.left (omega (arith, c.remaining.ensures, c.if-remaining-lt-EOL_ZEROS.false)) c.in-None.ensures in
+    let ahead =
+    eleven_alone c.args.source.now.left (omega (arith, c.remaining.ensures, c.if-remaining-lt-EOL_ZEROS.false)) c.in-None.ensures in
     inl (ahead.0, ahead.1, refl)

@@ -12,12 +12,15 @@ returns-clause-ok c =
     let form = c.args.form in
     let row = c.read_codes.new.row in
     let width : length row ≡ form.width = c.in_default.ensures.same_width ∙ c.requires.width in
-    let fits : HasWidth row = record { some = omega (arith, width, c.requires.limits.some_pels); short = omega (arith, width, c.requires.limits.short_rows) } in
+    let fits : HasWidth row =
+    record { some = omega (arith, width, c.requires.limits.some_pels); short = omega (arith, width, c.requires.limits.short_rows) } in
     let put : c.put_codes.new.sink.bits ≡ row_bits c.in-Ok.dimension c.args.reference.now row =
-    ap (λ (s : Sink). s.bits) c.in_ok-put_codes.ensures ∙ ap (λ (s : Sink). s.bits ++ row_bits c.in-Ok.dimension c.args.reference.now row) c.clear.ensures in
+    ap (λ (s : Sink). s.bits) c.in_ok-put_codes.ensures
+    ∙ ap (λ (s : Sink). s.bits ++ row_bits c.in-Ok.dimension c.args.reference.now row) c.clear.ensures in
     let begins : IsTrue c.begins.result ↔ BeginsWith c.read_begin.new.source.left c.put_codes.new.sink.bits =
     subst (λ (s : Source). IsTrue c.begins.result ↔ BeginsWith s.left c.put_codes.new.sink.bits) c.again-codes.ensures c.begins.ensures in
     line_read c.one_dimensional_rows_are_read_as_nothing_else.ensures c.two_dimensional_rows_are_read_as_nothing_else.ensures
     form c.args.i c.args.reference.now row c.args.source.now.left _ _ _ _ _ fits width c.requires.reference_width c.in-Ok.ensures.ok
-    (subst (λ n. IsRowIn c.in-Ok.dimension n c.args.reference.now c.read_begin.new.source.left row c.read_codes.new.source.left) c.requires.width c.in_default.ensures.ok)
+    (subst (λ n. IsRowIn c.in-Ok.dimension n c.args.reference.now c.read_begin.new.source.left row c.read_codes.new.source.left)
+    c.requires.width c.in_default.ensures.ok)
     put begins

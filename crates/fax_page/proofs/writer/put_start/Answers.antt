@@ -30,7 +30,8 @@ returns-in-Mr-OneDimensional-clause-ok c =
     let sink = c.args.sink.now in
     rw (c.in-Mr-OneDimensional.is-0, c.in-Mr-OneDimensional.is-1)
     (on_ok_weaker c.put-in-Mr-OneDimensional.result
-    (put_behind_fill sink c.put-in-Mr-OneDimensional.new.self c.args.form.aligned c.len.result c.fill_zeros-fill.result 13 3 (end_of_line ++ true ∷ []) c.len.ensures
+    (put_behind_fill sink c.put-in-Mr-OneDimensional.new.self c.args.form.aligned c.len.result c.fill_zeros-fill.result 13 3
+    (end_of_line ++ true ∷ []) c.len.ensures
     c.fill_zeros-fill.ensures.exact (omega arith) refl)
     c.put-in-Mr-OneDimensional.ensures.ok)
 
@@ -40,6 +41,7 @@ returns-in-Mr-TwoDimensional-clause-ok c =
     let sink = c.args.sink.now in
     rw (c.in-Mr-TwoDimensional.is-0, c.in-Mr-TwoDimensional.is-1)
     (on_ok_weaker c.put-in-Mr-TwoDimensional.result
-    (put_behind_fill sink c.put-in-Mr-TwoDimensional.new.self c.args.form.aligned c.len.result c.fill_zeros-fill.result 13 2 (end_of_line ++ false ∷ []) c.len.ensures
+    (put_behind_fill sink c.put-in-Mr-TwoDimensional.new.self c.args.form.aligned c.len.result c.fill_zeros-fill.result 13 2
+    (end_of_line ++ false ∷ []) c.len.ensures
     c.fill_zeros-fill.ensures.exact (omega arith) refl)
     c.put-in-Mr-TwoDimensional.ensures.ok)

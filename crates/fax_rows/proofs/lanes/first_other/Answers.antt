@@ -1,6 +1,7 @@
 use Rattle.std.proofs.Common.{◌<◌, ◌+◌, ◌*◌, ◌/◌, ◌%◌, sym, ◌∙◌, arith, length, get_or}
 use Rattle.fax_rows.specs.code.FirstOther.{first_other_in_byte}
-use Rattle.fax_rows.proofs.FirstOtherLemmas.{first_other_is, plain_in_byte, other_in_byte, plain_before, plain_on, found_in_byte, in_byte-ge}
+use Rattle.fax_rows.proofs.FirstOtherLemmas.{first_other_is, plain_in_byte, other_in_byte, plain_before, plain_on, found_in_byte}
+use Rattle.fax_rows.proofs.FirstOtherLemmas.{in_byte-ge}
 use Rattle.fax_rows.proofs.lanes.first_other.Goals as goal
 
 pub returns-then-at-bytes : goal.returns-then-at-bytes
@@ -17,9 +18,11 @@ returns-then-here-lt8 c =
     first_other_is bytes c.args.from (8 * (c.args.from / 8) + c.from.result) c.args.colour
     (omega (arith, in_byte-ge (get_or bytes (c.args.from / 8) 0) (c.args.from % 8) c.args.colour, found, c.from.ensures))
     (omega (arith, c.from.ensures, c.if-here-lt8.true))
-    (λ k l h. plain_in_byte c.bits_stand_by_place.ensures bytes c.args.colour (c.args.from / 8) (c.args.from % 8) c.first_other_in_byte-here.result
+    (λ k l h. plain_in_byte c.bits_stand_by_place.ensures bytes c.args.colour (c.args.from / 8) (c.args.from % 8)
+    c.first_other_in_byte-here.result
     inside below (omega (arith, found)) k (omega arith) (omega (arith, c.from.ensures)))
-    (λ h. other_in_byte c.bits_stand_by_place.ensures bytes c.args.colour (c.args.from / 8) (c.args.from % 8) c.first_other_in_byte-here.result
+    (λ h. other_in_byte c.bits_stand_by_place.ensures bytes c.args.colour (c.args.from / 8) (c.args.from % 8)
+    c.first_other_in_byte-here.result
     (8 * (c.args.from / 8) + c.from.result) inside below found c.if-here-lt8.true (omega (arith, c.from.ensures)))
 
 pub returns-then-behind-bytes : goal.returns-then-behind-bytes
@@ -27,7 +30,8 @@ returns-then-behind-bytes c =
     let bytes = c.args.bytes.now in
     let inside : c.args.from / 8 < length bytes = omega (arith, c.requires.within, c.if-at-bytes.false) in
     let first = c.first_other_byte-behind.ensures in
-    first_other_is bytes c.args.from (8 * c.first_other_byte-behind.result) c.args.colour (omega (arith, first.right)) (omega (arith, first.within))
+    first_other_is bytes c.args.from (8 * c.first_other_byte-behind.result) c.args.colour (omega (arith, first.right))
+    (omega (arith, first.within))
     (plain_before c.bits_stand_by_place.ensures bytes c.args.colour c.args.from c.first_other_in_byte-here.result c.plain_byte.result
     c.first_other_byte-behind.result inside c.first_other_in_byte-here.ensures c.if-here-lt8.false c.plain_byte.ensures first)
     (λ h. absurd (omega (arith, c.if-behind-bytes.true)))
@@ -51,5 +55,6 @@ returns c =
     c.first_other_in_byte-here.ensures c.if-here-lt8.false c.plain_byte.ensures first)
     (λ k l h. plain_in_byte law bytes c.args.colour behind 0 c.first_other_in_byte.result within (omega arith) (omega (arith, found)) k
     (omega arith) (omega (arith, c.from-2.ensures))))
-    (λ h. other_in_byte law bytes c.args.colour behind 0 c.first_other_in_byte.result (8 * behind + c.from-2.result) within (omega arith) found
+    (λ h. other_in_byte law bytes c.args.colour behind 0 c.first_other_in_byte.result (8 * behind + c.from-2.result) within (omega arith)
+    found
     (omega (arith, near, found)) (omega (arith, c.from-2.ensures)))

@@ -9,7 +9,11 @@ use Rattle.fax_rows.proofs.one_dimensional.read_exactly.Goals as goal
 
 pub turn-end-requires-clause-room : goal.turn-end-requires-clause-room
 turn-end-requires-clause-room c =
-    omega (arith, places_within c.loop-total.places c.loop-total.end c.loop-total.total c.loop-total.invariant.ascending c.loop-total.invariant.last)
+    omega (
+      arith,
+      places_within c.loop-total.places c.loop-total.end c.loop-total.total c.loop-total.invariant.ascending
+          c.loop-total.invariant.last,
+    )
 
 pub loop-total-init : goal.loop-total-init
 loop-total-init c =

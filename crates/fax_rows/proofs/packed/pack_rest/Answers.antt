@@ -9,7 +9,8 @@ use Rattle.fax_rows.proofs.packed.pack_rest.Goals as goal
 use Rattle.fax_rows.proofs.packed.pack_rest.Goals.{then-passed-eq1, else-passed-eq1}
 
 pub bounds-places-passed : goal.bounds-places-passed
-bounds-places-passed c = passed-lt c.args.places.now c.args.end c.args.width c.requires.row (8 * c.loop-k.k) c.loop-k.passed c.loop-k.invariant.so_far
+bounds-places-passed c =
+    passed-lt c.args.places.now c.args.end c.args.width c.requires.row (8 * c.loop-k.k) c.loop-k.passed c.loop-k.invariant.so_far
 
 pub loop-k-init : goal.loop-k-init
 loop-k-init c = record {
@@ -25,18 +26,22 @@ loop-k-preserved-then-k-change c =
     let so_far = c.loop-k.invariant.so_far in
     let most = place_at_most c.args.places.now c.args.end c.args.width c.requires.row (8 * c.loop-k.k) c.loop-k.passed so_far in
     let passed : (i : ℕ) → c.loop-k.k ≤ i → i < change / 8 → HasPassed c.args.places.now c.args.end (8 * i) c.loop-k.passed =
-    λ i h l. still_passed c.args.places.now c.args.end c.args.width c.requires.row (8 * c.loop-k.k) (8 * i) c.loop-k.passed so_far (omega arith) (λ r. omega arith) in
+    λ i h l. still_passed c.args.places.now c.args.end c.args.width c.requires.row (8 * c.loop-k.k) (8 * i) c.loop-k.passed so_far
+    (omega arith) (λ r. omega arith) in
     let whole : (i : ℕ) → c.loop-k.k ≤ i → i < change / 8 → c.if-passed-eq1.byte ≡ packed_byte row (8 * i) =
     λ i h l. elim c.if-passed-eq1.branch [
-      | then-passed-eq1 w ↦ w.byte-is ∙ whole_white c.args.places.now c.args.end c.args.width c.requires.row (8 * i) c.loop-k.passed (passed i h l) (omega (arith, most)) (omega arith) (omega (arith, w.if-passed-eq1))
-      | else-passed-eq1 w ↦ w.byte-is ∙ whole_black c.args.places.now c.args.end c.args.width c.requires.row (8 * i) c.loop-k.passed (passed i h l) (omega (arith, most)) (omega arith) (omega (arith, w.if-passed-eq1))
+      | then-passed-eq1 w ↦ w.byte-is ∙ whole_white c.args.places.now c.args.end c.args.width c.requires.row (8 * i) c.loop-k.passed
+          (passed i h l) (omega (arith, most)) (omega arith) (omega (arith, w.if-passed-eq1))
+      | else-passed-eq1 w ↦ w.byte-is ∙ whole_black c.args.places.now c.args.end c.args.width c.requires.row (8 * i) c.loop-k.passed
+          (passed i h l) (omega (arith, most)) (omega arith) (omega (arith, w.if-passed-eq1))
     ] in
     record {
       done = λ i h. elim (cases_lt i c.loop-k.k) [
         | inl less ↦ c.fill.ensures.before i less ∙ c.loop-k.invariant.done i less
         | inr more ↦ c.fill.ensures.filled i more h ∙ whole i more h
       ];
-      so_far = still_passed c.args.places.now c.args.end c.args.width c.requires.row (8 * c.loop-k.k) (8 * (change / 8)) c.loop-k.passed so_far (omega arith) (λ r. omega arith);
+      so_far = still_passed c.args.places.now c.args.end c.args.width c.requires.row (8 * c.loop-k.k) (8 * (change / 8)) c.loop-k.passed
+          so_far (omega arith) (λ r. omega arith);
       len = c.fill.ensures.same_len ∙ c.loop-k.invariant.len;
     }
 
@@ -44,4 +49,5 @@ pub returns : goal.returns
 returns c =
     let row = row_of c.args.places.now c.args.end c.args.width in
     let wide = length-pels_by c.args.width (take c.args.end c.args.places.now) in
-    packed_at row c.loop-k.out (omega (arith, wide, c.requires.whole, c.loop-k.invariant.len)) (λ i h. c.loop-k.invariant.done i (omega arith))
+    packed_at row c.loop-k.out (omega (arith, wide, c.requires.whole, c.loop-k.invariant.len))
+    (λ i h. c.loop-k.invariant.done i (omega arith))

@@ -17,11 +17,13 @@ loop-k-init c = record {
 }
 
 pub bounds-places-passed : goal.bounds-places-passed
-bounds-places-passed c = passed-lt c.args.places.now c.args.end c.args.width c.requires.row (64 * c.loop-k.k) c.loop-k.passed c.loop-k.invariant.so_far
+bounds-places-passed c =
+    passed-lt c.args.places.now c.args.end c.args.width c.requires.row (64 * c.loop-k.k) c.loop-k.passed c.loop-k.invariant.so_far
 
 pub fill-requires-clause-within : goal.fill-requires-clause-within
 fill-requires-clause-within c =
-    let most = place_at_most c.args.places.now c.args.end c.args.width c.requires.row (64 * c.loop-k.k) c.loop-k.passed c.loop-k.invariant.so_far in
+    let most = place_at_most c.args.places.now c.args.end c.args.width c.requires.row (64 * c.loop-k.k) c.loop-k.passed
+    c.loop-k.invariant.so_far in
     omega (arith, most, c.requires.within, c.requires.room, c.loop-k.invariant.len)
 
 pub loop-k-preserved-then-k-change : goal.loop-k-preserved-then-k-change
@@ -31,11 +33,14 @@ loop-k-preserved-then-k-change c =
     let so_far = c.loop-k.invariant.so_far in
     let most = place_at_most c.args.places.now c.args.end c.args.width c.requires.row (64 * c.loop-k.k) c.loop-k.passed so_far in
     let passed : (i : ℕ) → 8 * c.loop-k.k ≤ i → i < 8 * (change / 64) → HasPassed c.args.places.now c.args.end (8 * i) c.loop-k.passed =
-    λ i h l. still_passed c.args.places.now c.args.end c.args.width c.requires.row (64 * c.loop-k.k) (8 * i) c.loop-k.passed so_far (omega arith) (λ r. omega arith) in
+    λ i h l. still_passed c.args.places.now c.args.end c.args.width c.requires.row (64 * c.loop-k.k) (8 * i) c.loop-k.passed so_far
+    (omega arith) (λ r. omega arith) in
     let whole : (i : ℕ) → 8 * c.loop-k.k ≤ i → i < 8 * (change / 64) → c.if-passed-eq1.byte ≡ packed_byte row (8 * i) =
     λ i h l. elim c.if-passed-eq1.branch [
-      | then-passed-eq1 w ↦ w.byte-is ∙ whole_white c.args.places.now c.args.end c.args.width c.requires.row (8 * i) c.loop-k.passed (passed i h l) (omega (arith, most)) (omega arith) (omega (arith, w.if-passed-eq1))
-      | else-passed-eq1 w ↦ w.byte-is ∙ whole_black c.args.places.now c.args.end c.args.width c.requires.row (8 * i) c.loop-k.passed (passed i h l) (omega (arith, most)) (omega arith) (omega (arith, w.if-passed-eq1))
+      | then-passed-eq1 w ↦ w.byte-is ∙ whole_white c.args.places.now c.args.end c.args.width c.requires.row (8 * i) c.loop-k.passed
+          (passed i h l) (omega (arith, most)) (omega arith) (omega (arith, w.if-passed-eq1))
+      | else-passed-eq1 w ↦ w.byte-is ∙ whole_black c.args.places.now c.args.end c.args.width c.requires.row (8 * i) c.loop-k.passed
+          (passed i h l) (omega (arith, most)) (omega arith) (omega (arith, w.if-passed-eq1))
     ] in
     record {
       within = omega (arith, most, c.requires.within);
@@ -43,7 +48,8 @@ loop-k-preserved-then-k-change c =
         | inl less ↦ c.fill.ensures.before i less ∙ c.loop-k.invariant.done i less
         | inr more ↦ c.fill.ensures.filled i more h ∙ whole i more h
       ];
-      so_far = still_passed c.args.places.now c.args.end c.args.width c.requires.row (64 * c.loop-k.k) (64 * (change / 64)) c.loop-k.passed so_far (omega arith) (λ r. omega arith);
+      so_far = still_passed c.args.places.now c.args.end c.args.width c.requires.row (64 * c.loop-k.k) (64 * (change / 64)) c.loop-k.passed
+          so_far (omega arith) (λ r. omega arith);
       len = c.fill.ensures.same_len ∙ c.loop-k.invariant.len;
     }
 
@@ -61,7 +67,8 @@ loop-k-preserved c =
             let at : 64 * c.loop-k.k + 8 * (i - 8 * c.loop-k.k) ≡ 8 * i = omega arith in
             ap (λ k. get_or c.write_word.new.out k 0) (sym place)
             ∙ c.write_word.ensures.written (i - 8 * c.loop-k.k) (omega arith)
-            ∙ byte_of_word c.bits_stand_by_place.ensures c.eight_bits_are_a_byte.ensures row (64 * c.loop-k.k) c.packed_word-word.result.0 (i - 8 * c.loop-k.k)
+            ∙ byte_of_word c.bits_stand_by_place.ensures c.eight_bits_are_a_byte.ensures row (64 * c.loop-k.k) c.packed_word-word.result.0
+            (i - 8 * c.loop-k.k)
             c.packed_word-word.ensures.word (omega (arith, wide, c.requires.within)) (omega arith)
             ∙ ap (packed_byte row) at
       ];
@@ -70,4 +77,5 @@ loop-k-preserved c =
     }
 
 pub returns-clause-so_far : goal.returns-clause-so_far
-returns-clause-so_far c = subst (λ n. HasPassed c.args.places.now c.args.end (64 * n) c.loop-k.passed) (omega (arith, c.loop-k.invariant.within)) c.loop-k.invariant.so_far
+returns-clause-so_far c = subst (λ n. HasPassed c.args.places.now c.args.end (64 * n) c.loop-k.passed)
+    (omega (arith, c.loop-k.invariant.within)) c.loop-k.invariant.so_far

@@ -8,9 +8,11 @@ pub loop-behind-init : goal.loop-behind-init
 loop-behind-init c =
     elim c.if-passed-eq1.branch [
       | then-passed-eq1 w ↦ rw w.word-is
-          (begun_white c.args.places.now c.args.end c.args.width c.requires.row (64 * c.args.k) c.args.passed c.requires.so_far (omega (arith, w.if-passed-eq1)))
+          (begun_white c.args.places.now c.args.end c.args.width c.requires.row (64 * c.args.k) c.args.passed c.requires.so_far
+          (omega (arith, w.if-passed-eq1)))
       | else-passed-eq1 w ↦ rw w.word-is
-          (begun_black c.args.places.now c.args.end c.args.width c.requires.row (64 * c.args.k) c.args.passed c.requires.so_far (omega (arith, w.if-passed-eq1)))
+          (begun_black c.args.places.now c.args.end c.args.width c.requires.row (64 * c.args.k) c.args.passed c.requires.so_far
+          (omega (arith, w.if-passed-eq1)))
     ]
 
 pub bounds-places-behind : goal.bounds-places-behind
@@ -28,5 +30,6 @@ loop-behind-preserved c =
 
 pub returns-clause-word : goal.returns-clause-word
 returns-clause-word c =
-    word_done c.args.places.now c.args.end c.args.width c.requires.row (64 * c.args.k) c.loop-behind.word c.loop-behind.behind c.loop-behind.invariant
+    word_done c.args.places.now c.args.end c.args.width c.requires.row (64 * c.args.k) c.loop-behind.word c.loop-behind.behind
+    c.loop-behind.invariant
     c.requires.within (λ h. omega arith)

@@ -28,8 +28,10 @@ put_run_pair-requires-clause-short c =
 pub returns-in_err-put_run_pair-in-Horizontal-clause-err :
     goal.returns-in_err-put_run_pair-in-Horizontal-clause-err
 returns-in_err-put_run_pair-in-Horizontal-clause-err c =
-    let bits = horizontal_bits c.args.rows c.args.ahead c.requires.places c.requires.unfinished c.choose-mode.result c.choose-mode.ensures c.in-Horizontal.is in
+    let bits = horizontal_bits c.args.rows c.args.ahead c.requires.places c.requires.unfinished c.choose-mode.result c.choose-mode.ensures
+    c.in-Horizontal.is in
     on_err c.from_residual-in_err-put_run_pair-in-Horizontal.result
     (put_stops_in_last c.args.sink.now c.put_mode-in-Horizontal.new.sink _ _ _ _
-    (put_goes_on c.args.sink.now c.args.sink.now _ _ _ _ _ (put_begins c.args.sink.now _) bits c.in_ok-put_mode-in-Horizontal.ensures.ok) refl
+    (put_goes_on c.args.sink.now c.args.sink.now _ _ _ _ _ (put_begins c.args.sink.now _) bits c.in_ok-put_mode-in-Horizontal.ensures.ok)
+    refl
     c.in_err-put_run_pair-in-Horizontal.ensures.err)

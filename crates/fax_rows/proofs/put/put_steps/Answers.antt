@@ -17,14 +17,16 @@ pub returns-in_err-at-clause-err : goal.returns-in_err-at-clause-err
 returns-in_err-at-clause-err c =
     let inside : first_of c.loop-at.at.a0 < length (written_of c.args.rows) = omega (arith, written_width c.args.rows) in
     on_err c.from_residual.result
-    (place_stops (reference_of c.args.rows) (written_of c.args.rows) (same_widths c.args.rows) c.args.sink.now c.loop-at.sink c.put_step.new.sink
+    (place_stops (reference_of c.args.rows) (written_of c.args.rows) (same_widths c.args.rows) c.args.sink.now c.loop-at.sink
+    c.put_step.new.sink
     c.loop-at.at.a0 c.loop-at.invariant.placed inside c.in_err-at.ensures.err)
 
 pub loop-at-smaller : goal.loop-at-smaller
 loop-at-smaller c =
     let inside : first_of c.loop-at.at.a0 < length (written_of c.args.rows) = omega (arith, written_width c.args.rows) in
     let smaller =
-    step_smaller (reference_of c.args.rows) (written_of c.args.rows) (same_widths c.args.rows) c.loop-at.at.a0 inside _ refl c.in_ok-at.at.a0
+    step_smaller (reference_of c.args.rows) (written_of c.args.rows) (same_widths c.args.rows) c.loop-at.at.a0 inside _ refl
+    c.in_ok-at.at.a0
     c.in_ok-at.ensures.next in
     omega (arith, written_width c.args.rows, smaller)
 
@@ -33,7 +35,8 @@ loop-at-preserved c =
     let inside : first_of c.loop-at.at.a0 < length (written_of c.args.rows) = omega (arith, written_width c.args.rows) in
     record {
       placed = rw c.in_ok-at.ensures.next
-          (place_goes_on (reference_of c.args.rows) (written_of c.args.rows) (same_widths c.args.rows) c.args.sink.now c.loop-at.sink c.put_step.new.sink
+          (place_goes_on (reference_of c.args.rows) (written_of c.args.rows) (same_widths c.args.rows) c.args.sink.now c.loop-at.sink
+          c.put_step.new.sink
           c.loop-at.at.a0 c.loop-at.invariant.placed inside _ refl c.in_ok-at.ensures.ok);
       places = c.in_ok-at.ensures.places;
     }
@@ -41,4 +44,5 @@ loop-at-preserved c =
 pub returns-clause-ok : goal.returns-clause-ok
 returns-clause-ok c =
     let over : length (written_of c.args.rows) ≤ first_of c.loop-at.at.a0 = omega (arith, written_width c.args.rows) in
-    place_ends (reference_of c.args.rows) (written_of c.args.rows) c.args.sink.now c.loop-at.at.a0 c.loop-at.sink c.loop-at.invariant.placed over
+    place_ends (reference_of c.args.rows) (written_of c.args.rows) c.args.sink.now c.loop-at.at.a0 c.loop-at.sink c.loop-at.invariant.placed
+    over

@@ -2,7 +2,8 @@ use Rattle.std.proofs.Common.{◌≢◌, ◌-◌, ◌≤◌, get_or, arith, inl,
 use Rattle.std.specs.Prelude.{◌⊎◌}
 use Rattle.fax_rows.proofs.PlacedReadLemmas.{below_last, below_width, ends_within, without_last, places_within}
 use Rattle.fax_rows.proofs.turns.end_below.Goals as goal
-use Rattle.fax_rows.proofs.turns.end_below.Goals.{Joined-else-end-gt1, else-end-gt1-via-then-end-gt1+else-places-end, else-end-gt1-via-else-end-gt1}
+use Rattle.fax_rows.proofs.turns.end_below.Goals.{Joined-else-end-gt1, else-end-gt1-via-then-end-gt1+else-places-end}
+use Rattle.fax_rows.proofs.turns.end_below.Goals.{else-end-gt1-via-else-end-gt1}
 
 pub returns-then-places-end-clause-below : goal.returns-then-places-end-clause-below
 returns-then-places-end-clause-below c =

@@ -44,5 +44,6 @@ returns-clause-placed c =
 
 pub returns-clause-turned : goal.returns-clause-turned
 returns-clause-turned c =
-    turned_black c.args.places.now (set c.rotate_right.new.self 0 0) c.args.end c.args.width c.requires (omega (arith, c.if-places-eq0.false))
+    turned_black c.args.places.now (set c.rotate_right.new.self 0 0) c.args.end c.args.width c.requires
+    (omega (arith, c.if-places-eq0.false))
     (len c) (first c) (right_by_one c)

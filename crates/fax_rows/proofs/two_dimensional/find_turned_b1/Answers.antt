@@ -9,13 +9,15 @@ bounds-reference-b1 c = omega (arith, end_within c.args.reference.now c.args.end
 
 pub find_b1-requires-2-clause-within : goal.find_b1-requires-2-clause-within
 find_b1-requires-2-clause-within c =
-    let less = inside_end c.args.reference.now c.args.end c.args.width c.requires.reference c.args.b1 c.requires.some c.requires.within (omega arith) in
+    let less = inside_end c.args.reference.now c.args.end c.args.width c.requires.reference c.args.b1 c.requires.some c.requires.within
+    (omega arith) in
     omega arith
 
 pub returns : goal.returns
 returns c = λ a0 colour at right.
     c.find_b1-2.ensures (other colour)
-    (right_start c.args.reference.now c.args.end c.args.width c.requires.reference a0 colour c.args.b1 c.args.place at (omega arith) c.requires.inside)
+    (right_start c.args.reference.now c.args.end c.args.width c.requires.reference a0 colour c.args.b1 c.args.place at (omega arith)
+    c.requires.inside)
 
 pub returns-then-reference-b1 : goal.returns-then-reference-b1
 returns-then-reference-b1 c = λ a0 colour at right.

@@ -9,16 +9,22 @@ use Rattle.fax_rows.proofs.two_dimensional.read_2d.Goals as goal
 
 pub read_places-requires-clause-reference : goal.read_places-requires-clause-reference
 read_places-requires-clause-reference c =
-    let own : c.row.inside.width ≡ length c.args.row.now = width_is c.row.inside.places.items c.row.inside.end c.row.inside.width c.row.invariant c.args.row.now c.row.view_is in
-    let others : c.reference.inside.width ≡ length c.args.reference.now = width_is c.reference.inside.places.items c.reference.inside.end c.reference.inside.width c.reference.invariant c.args.reference.now c.reference.view_is in
+    let own : c.row.inside.width ≡ length c.args.row.now =
+    width_is c.row.inside.places.items c.row.inside.end c.row.inside.width c.row.invariant c.args.row.now c.row.view_is in
+    let others : c.reference.inside.width ≡ length c.args.reference.now =
+    width_is c.reference.inside.places.items c.reference.inside.end c.reference.inside.width c.reference.invariant c.args.reference.now
+    c.reference.view_is in
     let same : c.row.inside.width ≡ c.reference.inside.width = omega arith in
     rw c.deref.ensures.value
     (subst (λ width. ArePlaces c.reference.inside.places.items c.reference.inside.end width) (sym same) c.reference.invariant)
 
 pub returns-in-Ok-clause-ok : goal.returns-in-Ok-clause-ok
 returns-in-Ok-clause-ok c =
-    let own : c.row.inside.width ≡ length c.args.row.now = width_is c.row.inside.places.items c.row.inside.end c.row.inside.width c.row.invariant c.args.row.now c.row.view_is in
-    let others : c.reference.inside.width ≡ length c.args.reference.now = width_is c.reference.inside.places.items c.reference.inside.end c.reference.inside.width c.reference.invariant c.args.reference.now c.reference.view_is in
+    let own : c.row.inside.width ≡ length c.args.row.now =
+    width_is c.row.inside.places.items c.row.inside.end c.row.inside.width c.row.invariant c.args.row.now c.row.view_is in
+    let others : c.reference.inside.width ≡ length c.args.reference.now =
+    width_is c.reference.inside.places.items c.reference.inside.end c.reference.inside.width c.reference.invariant c.args.reference.now
+    c.reference.view_is in
     let same : c.row.inside.width ≡ c.reference.inside.width = omega arith in
     let reference : pels_by c.row.inside.width (take c.reference.inside.end c.deref.result.now) ≡ c.args.reference.now =
     ap (λ places. pels_by c.row.inside.width (take c.reference.inside.end places)) c.deref.ensures.value
@@ -29,12 +35,16 @@ returns-in-Ok-clause-ok c =
     ∙ c.close-row-inside.ensures.pels)
 
 pub returns-in-Ok-clause-same_width : goal.returns-in-Ok-clause-same_width
-returns-in-Ok-clause-same_width c = length-pels_by c.row.inside.width _ ∙ width_is c.row.inside.places.items c.row.inside.end c.row.inside.width c.row.invariant c.args.row.now c.row.view_is
+returns-in-Ok-clause-same_width c = length-pels_by c.row.inside.width _
+    ∙ width_is c.row.inside.places.items c.row.inside.end c.row.inside.width c.row.invariant c.args.row.now c.row.view_is
 
 pub returns-in-Err-clause-err : goal.returns-in-Err-clause-err
 returns-in-Err-clause-err c =
-    let own : c.row.inside.width ≡ length c.args.row.now = width_is c.row.inside.places.items c.row.inside.end c.row.inside.width c.row.invariant c.args.row.now c.row.view_is in
-    let others : c.reference.inside.width ≡ length c.args.reference.now = width_is c.reference.inside.places.items c.reference.inside.end c.reference.inside.width c.reference.invariant c.args.reference.now c.reference.view_is in
+    let own : c.row.inside.width ≡ length c.args.row.now =
+    width_is c.row.inside.places.items c.row.inside.end c.row.inside.width c.row.invariant c.args.row.now c.row.view_is in
+    let others : c.reference.inside.width ≡ length c.args.reference.now =
+    width_is c.reference.inside.places.items c.reference.inside.end c.reference.inside.width c.reference.invariant c.args.reference.now
+    c.reference.view_is in
     let same : c.row.inside.width ≡ c.reference.inside.width = omega arith in
     let reference : pels_by c.row.inside.width (take c.reference.inside.end c.deref.result.now) ≡ c.args.reference.now =
     ap (λ places. pels_by c.row.inside.width (take c.reference.inside.end places)) c.deref.ensures.value
@@ -42,4 +52,5 @@ returns-in-Err-clause-err c =
     subst (λ row. IsTwoDimensionalFault row c.args.source.now.left c.in-Err.fault) reference c.in-Err.ensures.err
 
 pub returns-in-Err-clause-same_width : goal.returns-in-Err-clause-same_width
-returns-in-Err-clause-same_width c = length-pels_by c.row.inside.width _ ∙ width_is c.row.inside.places.items c.row.inside.end c.row.inside.width c.row.invariant c.args.row.now c.row.view_is
+returns-in-Err-clause-same_width c = length-pels_by c.row.inside.width _
+    ∙ width_is c.row.inside.places.items c.row.inside.end c.row.inside.width c.row.invariant c.args.row.now c.row.view_is

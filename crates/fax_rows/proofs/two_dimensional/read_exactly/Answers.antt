@@ -8,8 +8,10 @@ use Rattle.fax_rows.proofs.two_dimensional.read_exactly.Goals as goal
 
 pub loop-source-init : goal.loop-source-init
 loop-source-init c = record {
-  steps = steps_begin (pels_by c.args.width (take c.args.reference_end c.args.reference.now)) (pels_by c.args.width (take 1 c.args.places.now)) c.args.source.now.left;
-  so_far = nothing_read c.args.reference.now c.args.reference_end c.args.width c.requires.reference c.args.places.now c.requires.room c.requires.first;
+  steps = steps_begin (pels_by c.args.width (take c.args.reference_end c.args.reference.now))
+      (pels_by c.args.width (take 1 c.args.places.now)) c.args.source.now.left;
+  so_far = nothing_read c.args.reference.now c.args.reference_end c.args.width c.requires.reference c.args.places.now c.requires.room
+      c.requires.first;
   same_end = refl;
 }
 
@@ -35,7 +37,8 @@ returns-clause-ok c =
 pub returns-in_err-at-clause-err : goal.returns-in_err-at-clause-err
 returns-in_err-at-clause-err c =
     let len = length-pels_by c.args.width (take c.args.reference_end c.args.reference.now) in
-    let here = fault_here (pels_by c.args.width (take c.args.reference_end c.args.reference.now)) c.args.source.now.left c.loop-source.at.reached
+    let here =
+    fault_here (pels_by c.args.width (take c.args.reference_end c.args.reference.now)) c.args.source.now.left c.loop-source.at.reached
     (pels_by c.args.width (take c.loop-source.at.end c.loop-source.places)) c.loop-source.source.left c.loop-source.invariant.steps
     (omega (arith, len)) in
     let p = err_from_is_err_and c.from_residual.result c.from_residual.ensures.1 in

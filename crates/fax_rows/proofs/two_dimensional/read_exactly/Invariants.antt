@@ -6,7 +6,8 @@ use Rattle.fax_rows.proofs.two_dimensional.read_exactly.Given as goal
 
 abbrev pub invariant-loop-source : goal.invariant-loop-source
 invariant-loop-source l = record {
-  steps : AreStepsSoFar (pels_by l.width (take l.reference_end l.reference)) l.initial.source.left (placed_position l.width l.places l.at) l.source.left;
+  steps : AreStepsSoFar (pels_by l.width (take l.reference_end l.reference)) l.initial.source.left (placed_position l.width l.places l.at)
+      l.source.left;
   so_far : IsReadTo l.reference l.reference_end l.width l.places l.at;
   same_end : l.source.place + length l.source.left ≡ l.initial.source.place + length l.initial.source.left;
 }

@@ -9,20 +9,32 @@ use Rattle.fax_rows.proofs.TurnLemmas.{length-pels_by}
 use Rattle.fax_rows.proofs.PlacedB1Lemmas.{b1_is}
 use Rattle.fax_rows.proofs.PlacedStepLemmas.{b1_in_room, room_left, a1_right, a1_ahead, a1_within, vertical_placed, turned_so_far}
 use Rattle.fax_rows.proofs.two_dimensional.vertical.Goals as goal
-use Rattle.fax_rows.proofs.two_dimensional.vertical.Goals.{then-a1-a0_number-via-then-a1-a0_number, then-a1-a0_number-via-else-a1-a0_number+then-a1-from, then-place-width, else-place-width}
+use Rattle.fax_rows.proofs.two_dimensional.vertical.Goals.{then-a1-a0_number-via-then-a1-a0_number}
+use Rattle.fax_rows.proofs.two_dimensional.vertical.Goals.{then-a1-a0_number-via-else-a1-a0_number+then-a1-from, then-place-width}
+use Rattle.fax_rows.proofs.two_dimensional.vertical.Goals.{else-place-width}
 
 pub bounds-reference-at : goal.bounds-reference-at
-bounds-reference-at c = omega (arith, b1_in_room c.args.reference.now c.args.reference_end c.args.width c.requires.reference c.args.places.now c.args.at c.requires.so_far c.requires.unfinished)
+bounds-reference-at c = omega (
+  arith,
+  b1_in_room c.args.reference.now c.args.reference_end c.args.width c.requires.reference
+      c.args.places.now c.args.at c.requires.so_far c.requires.unfinished,
+)
 
 pub turn-end-requires-clause-room : goal.turn-end-requires-clause-room
-turn-end-requires-clause-room c = omega (arith, room_left c.args.reference.now c.args.reference_end c.args.width c.requires.reference c.args.places.now c.args.at c.requires.so_far c.requires.unfinished)
+turn-end-requires-clause-room c = omega (
+  arith,
+  room_left c.args.reference.now c.args.reference_end c.args.width c.requires.reference
+      c.args.places.now c.args.at c.requires.so_far c.requires.unfinished,
+)
 
 pub returns-then-a1-a0_number-clause-err : goal.returns-then-a1-a0_number-clause-err
 returns-then-a1-a0_number-clause-err c = (out, refl)
   where
-    out : IsInRow (pels_by c.args.width (take c.args.reference_end c.args.reference.now)) (placed_position c.args.width c.args.places.now c.args.at) c.args.d → ⊥
+    out : IsInRow (pels_by c.args.width (take c.args.reference_end c.args.reference.now))
+        (placed_position c.args.width c.args.places.now c.args.at) c.args.d → ⊥
     out in_row =
-        let same = b1_is c.args.reference.now c.args.reference_end c.args.width c.requires.reference c.args.at.reached.a0 c.args.at.reached.colour c.args.at.b1
+        let same = b1_is c.args.reference.now c.args.reference_end c.args.width c.requires.reference c.args.at.reached.a0
+        c.args.at.reached.colour c.args.at.b1
         (c.requires.so_far.b1 c.requires.unfinished) in
         let len = length-pels_by c.args.width (take c.args.reference_end c.args.reference.now) in
         elim c.then-a1-a0_number.branch [
@@ -37,7 +49,8 @@ returns-clause-ok c =
     let right : a0_number (position_of c.args.at.reached []) <ℤ z = omega (arith, ints) in
     let inside : z ≤ℤ pos c.args.width = omega (arith, ints) in
     let least : negsuc 0 ≤ℤ a0_number (position_of c.args.at.reached []) = omega (arith, ints) in
-    vertical_placed c.args.reference.now c.args.reference_end c.args.width c.requires.reference c.args.places.now c.args.at c.requires.so_far c.requires.unfinished c.args.d z z_is least right inside
+    vertical_placed c.args.reference.now c.args.reference_end c.args.width c.requires.reference c.args.places.now c.args.at
+    c.requires.so_far c.requires.unfinished c.args.d z z_is least right inside
     c.turn-end.new.places c.turn-end.result c.if-place-width.b1 c.other.result c.turn-end.ensures.turned c.other.ensures
 
 pub returns-clause-so_far : goal.returns-clause-so_far
@@ -47,10 +60,14 @@ returns-clause-so_far c =
     let right : a0_number (position_of c.args.at.reached []) <ℤ z = omega (arith, ints) in
     let inside : z ≤ℤ pos c.args.width = omega (arith, ints) in
     let least : negsuc 0 ≤ℤ a0_number (position_of c.args.at.reached []) = omega (arith, ints) in
-    let ahead = a1_ahead c.args.reference.now c.args.reference_end c.args.width c.requires.reference c.args.places.now c.args.at c.requires.so_far c.requires.unfinished c.args.d z z_is least right inside in
-    let within = a1_within c.args.reference.now c.args.reference_end c.args.width c.requires.reference c.args.places.now c.args.at c.requires.so_far c.requires.unfinished c.args.d z z_is least right inside in
-    let further = a1_right c.args.reference.now c.args.reference_end c.args.width c.requires.reference c.args.places.now c.args.at c.requires.so_far c.requires.unfinished c.args.d z z_is least right inside in
-    turned_so_far c.args.reference.now c.args.reference_end c.args.width c.requires.reference c.args.places.now c.args.at c.requires.so_far c.requires.unfinished c.turn-end.new.places c.turn-end.result _ c.if-place-width.b1 ahead within c.turn-end.ensures.same_len
+    let ahead = a1_ahead c.args.reference.now c.args.reference_end c.args.width c.requires.reference c.args.places.now c.args.at
+    c.requires.so_far c.requires.unfinished c.args.d z z_is least right inside in
+    let within = a1_within c.args.reference.now c.args.reference_end c.args.width c.requires.reference c.args.places.now c.args.at
+    c.requires.so_far c.requires.unfinished c.args.d z z_is least right inside in
+    let further = a1_right c.args.reference.now c.args.reference_end c.args.width c.requires.reference c.args.places.now c.args.at
+    c.requires.so_far c.requires.unfinished c.args.d z z_is least right inside in
+    turned_so_far c.args.reference.now c.args.reference_end c.args.width c.requires.reference c.args.places.now c.args.at c.requires.so_far
+    c.requires.unfinished c.turn-end.new.places c.turn-end.result _ c.if-place-width.b1 ahead within c.turn-end.ensures.same_len
     c.turn-end.ensures.ascending c.turn-end.ensures.last c.turn-end.ensures.turned
     (λ h. elim c.if-place-width.branch [
       | then-place-width w ↦

@@ -27,7 +27,12 @@ loop-at-init c =
 
 pub turn-end-requires-clause-room : goal.turn-end-requires-clause-room
 turn-end-requires-clause-room c =
-    omega (arith, c.requires.room, places_within c.loop-at.places c.loop-at.end c.loop-at.at c.loop-at.invariant.ascending c.loop-at.invariant.last)
+    omega (
+      arith,
+      c.requires.room,
+      places_within c.loop-at.places c.loop-at.end c.loop-at.at c.loop-at.invariant.ascending
+          c.loop-at.invariant.last,
+    )
 
 pub loop-at-preserved : goal.loop-at-preserved
 loop-at-preserved c =
@@ -38,13 +43,15 @@ loop-at-preserved c =
     let first = first_other_stands bytes (at + 1) c.first_other-at-in-loop-at.result turned c.first_other-at-in-loop-at.ensures in
     let inside = c.loop-at.invariant.turns (omega arith) in
     let here = other_pel (colour_of_bit (get_or b at false)) c.loop-at.colour inside in
-    let so_far = unpacked_turned b (take c.loop-at.end c.loop-at.places) (take c.turn-end.result c.turn-end.new.places) at c.loop-at.colour turned
+    let so_far =
+    unpacked_turned b (take c.loop-at.end c.loop-at.places) (take c.turn-end.result c.turn-end.new.places) at c.loop-at.colour turned
     c.loop-at.invariant.unpacked c.other-colour.ensures (c.other-colour.ensures ∙ here) c.turn-end.ensures.turned in
     record {
       ascending = c.turn-end.ensures.ascending;
       last = omega (arith, c.turn-end.ensures.last, first.from);
       below = omega (arith, c.turn-end.ensures.last);
-      unpacked = unpacked_run b (take c.turn-end.result c.turn-end.new.places) (at + 1) c.first_other-at-in-loop-at.result turned so_far first.from
+      unpacked =
+          unpacked_run b (take c.turn-end.result c.turn-end.new.places) (at + 1) c.first_other-at-in-loop-at.result turned so_far first.from
           (λ k l h. plain_pel (colour_of_bit (get_or b k false)) turned (first.before k l h));
       turns = λ h. first.there (omega (arith, c.requires.whole));
     }
@@ -52,7 +59,8 @@ loop-at-preserved c =
 pub loop-at-smaller : goal.loop-at-smaller
 loop-at-smaller c =
     let first =
-    first_other_stands c.args.bytes.now (c.loop-at.at + 1) c.first_other-at-in-loop-at.result c.other-colour.result c.first_other-at-in-loop-at.ensures in
+    first_other_stands c.args.bytes.now (c.loop-at.at + 1) c.first_other-at-in-loop-at.result c.other-colour.result
+    c.first_other-at-in-loop-at.ensures in
     omega (arith, first.from)
 
 pub returns-clause-pels : goal.returns-clause-pels

@@ -21,7 +21,8 @@ returns-in-Ok-clause-ok g c =
 
 pub returns-in_err-fault_of_conversion-in-Err-clause-err : goal.returns-in_err-fault_of_conversion-in-Err-clause-err
 returns-in_err-fault_of_conversion-in-Err-clause-err g c =
-    let p = err_from_is_err_and c.from_residual-in_err-fault_of_conversion-in-Err.result c.from_residual-in_err-fault_of_conversion-in-Err.ensures.1 in
+    let p = err_from_is_err_and c.from_residual-in_err-fault_of_conversion-in-Err.result
+    c.from_residual-in_err-fault_of_conversion-in-Err.ensures.1 in
     rw (p.1, p.2)
     (conversion_without_memory (g.R.Source.left c.args.input.now) c.in_ok-file.file.items c.args.options (g.W.Sink.written c.args.out.now)
     (g.W.Sink.written c.args.out.now) _ _ _)

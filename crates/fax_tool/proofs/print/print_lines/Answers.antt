@@ -6,7 +6,8 @@ use Rattle.fax_tool.proofs.print.print_lines.Goals as goal
 
 pub loop-left-init : goal.loop-left-init
 loop-left-init g c = record {
-  some = rw c.new-text.ensures (none_printed (g.L.Lines.are_due c.args.lines.now) (g.L.Lines.said c.args.lines.now) (g.L.Lines.place c.args.lines.now) c.args.max (g.W.Sink.written c.args.out.now));
+  some = rw c.new-text.ensures (none_printed (g.L.Lines.are_due c.args.lines.now) (g.L.Lines.said c.args.lines.now)
+      (g.L.Lines.place c.args.lines.now) c.args.max (g.W.Sink.written c.args.out.now));
   counts = c.requires;
 }
 
@@ -14,7 +15,8 @@ pub returns-in_err-write_out-clause-err : goal.returns-in_err-write_out-clause-e
 returns-in_err-write_out-clause-err g c =
     let p = err_from_is_err_and c.from_residual.result c.from_residual.ensures.1 in
     rw (p.1, p.2)
-    (stopped_for_write _ (g.L.Lines.are_due c.loop-left.lines) _ (g.L.Lines.said c.loop-left.lines) _ (g.L.Lines.place c.loop-left.lines) _ c.loop-left.left _
+    (stopped_for_write _ (g.L.Lines.are_due c.loop-left.lines) _ (g.L.Lines.said c.loop-left.lines) _ (g.L.Lines.place c.loop-left.lines) _
+    c.loop-left.left _
     (g.W.Sink.written c.loop-left.out) _ c.loop-left.text _ _ c.loop-left.invariant.some c.have_an_end.ensures
     c.in_err-write_out.ensures.err)
 
@@ -22,7 +24,8 @@ pub returns-in_err-write_where_long-clause-err : goal.returns-in_err-write_where
 returns-in_err-write_where_long-clause-err g c =
     let p = err_from_is_err_and c.from_residual-in_err-write_where_long.result c.from_residual-in_err-write_where_long.ensures.1 in
     rw (p.1, p.2)
-    (stopped_for_write _ (g.L.Lines.are_due c.loop-left.lines) _ (g.L.Lines.said c.loop-left.lines) _ (g.L.Lines.place c.loop-left.lines) _ c.loop-left.left _
+    (stopped_for_write _ (g.L.Lines.are_due c.loop-left.lines) _ (g.L.Lines.said c.loop-left.lines) _ (g.L.Lines.place c.loop-left.lines) _
+    c.loop-left.left _
     (g.W.Sink.written c.loop-left.out) _ c.loop-left.text _ _ c.loop-left.invariant.some c.have_an_end.ensures
     c.in_err-write_where_long.ensures.err)
 
@@ -32,7 +35,8 @@ loop-left-preserved g c =
     let sent = part_sent _ _ _ _ _ _ _ _ _ (g.W.Sink.written c.loop-left.out) _ c.loop-left.text _ c.loop-left.invariant.some
     c.in_ok-write_where_long.ensures.ok in
     record {
-      some = one_more _ _ (g.L.Lines.are_due c.put_next.new.self) _ _ (g.L.Lines.said c.put_next.new.self) _ _ (g.L.Lines.place c.put_next.new.self) _ _ _ put.0 _
+      some = one_more _ _ (g.L.Lines.are_due c.put_next.new.self) _ _ (g.L.Lines.said c.put_next.new.self) _ _
+          (g.L.Lines.place c.put_next.new.self) _ _ _ put.0 _
           (g.W.Sink.written c.write_where_long.new.out) c.write_where_long.new.text _ _ _ sent put.1
           (search rules) c.behind_one-left.ensures put.2;
       counts = c.in_ok-write_where_long.ensures.counts;
@@ -45,7 +49,8 @@ returns-in_err-write_out-in-Ok-Some-clause-err g c =
     let sent = part_sent _ _ _ _ _ _ _ _ _ (g.W.Sink.written c.loop-left.out) _ c.loop-left.text _ c.loop-left.invariant.some
     c.in_ok-write_where_long.ensures.ok in
     rw (p.1, p.2)
-    (stopped_for_write _ (g.L.Lines.are_due c.loop-left.lines) _ (g.L.Lines.said c.loop-left.lines) _ (g.L.Lines.place c.loop-left.lines) _ c.loop-left.left _
+    (stopped_for_write _ (g.L.Lines.are_due c.loop-left.lines) _ (g.L.Lines.said c.loop-left.lines) _ (g.L.Lines.place c.loop-left.lines) _
+    c.loop-left.left _
     (g.W.Sink.written c.write_where_long.new.out) _ c.write_where_long.new.text _ _ sent c.have_an_end.ensures
     (rw put.2 at c.in_err-write_out-in-Ok-Some.ensures.err))
 
@@ -64,6 +69,7 @@ pub returns-in-Err-clause-err : goal.returns-in-Err-clause-err
 returns-in-Err-clause-err g c =
     let sent = part_sent _ _ _ _ _ _ _ _ _ (g.W.Sink.written c.loop-left.out) _ c.loop-left.text _ c.loop-left.invariant.some
     c.in_ok-write_where_long.ensures.ok in
-    stopped_behind _ (g.L.Lines.are_due c.loop-left.lines) _ (g.L.Lines.said c.loop-left.lines) _ (g.L.Lines.place c.loop-left.lines) _ c.loop-left.left _
+    stopped_behind _ (g.L.Lines.are_due c.loop-left.lines) _ (g.L.Lines.said c.loop-left.lines) _ (g.L.Lines.place c.loop-left.lines) _
+    c.loop-left.left _
     (g.W.Sink.written c.write_where_long.new.out) _ c.write_where_long.new.text c.as_bytes.result.now c.deref.result.now _ _
     sent c.have_an_end.ensures (c.as_bytes.ensures ∙ c.in-Err.ensures.put) (search rules) c.stop_for_memory.ensures

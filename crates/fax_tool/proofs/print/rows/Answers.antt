@@ -20,7 +20,13 @@ returns-in_err-file-clause-err g c =
 pub returns-in_err-ending-clause-err : goal.returns-in_err-ending-clause-err
 returns-in_err-ending-clause-err g c =
     let p = err_from_is_err_and c.from_residual-in_err-ending.result c.from_residual-in_err-ending.ensures.1 in
-    let stops = rw (c.walk_of-walk.ensures, c.deref.ensures.value, c.in_ok-begun.ensures.ok, c.in_ok-file.ensures.unwritten, c.in_ok-begun.ensures.unwritten) at
+    let stops = rw (
+      c.walk_of-walk.ensures,
+      c.deref.ensures.value,
+      c.in_ok-begun.ensures.ok,
+      c.in_ok-file.ensures.unwritten,
+      c.in_ok-begun.ensures.unwritten,
+    ) at
     c.in_err-ending.ensures.err in
     rw (p.1, p.2)
     (rows_stopped (g.R.Source.left c.args.input.now) c.in_ok-file.file.items c.args.part.now _ _ _ _ (g.W.Sink.written c.args.out.now) _
@@ -28,7 +34,13 @@ returns-in_err-ending-clause-err g c =
 
 pub returns-clause-ok : goal.returns-clause-ok
 returns-clause-ok g c =
-    let prints = rw (c.walk_of-walk.ensures, c.deref.ensures.value, c.in_ok-begun.ensures.ok, c.in_ok-file.ensures.unwritten, c.in_ok-begun.ensures.unwritten) at
+    let prints = rw (
+      c.walk_of-walk.ensures,
+      c.deref.ensures.value,
+      c.in_ok-begun.ensures.ok,
+      c.in_ok-file.ensures.unwritten,
+      c.in_ok-begun.ensures.unwritten,
+    ) at
     c.in_ok-ending.ensures.ok in
     rw c.fault_of.ensures
     (rows_printed (g.R.Source.left c.args.input.now) c.in_ok-file.file.items c.args.part.now c.in_ok-ending.ending

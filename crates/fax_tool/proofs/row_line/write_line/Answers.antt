@@ -10,15 +10,35 @@ write_number-page_end-requires c = simp length-set (omega (arith, length_long c.
 
 pub write_number-row_end-requires : goal.write_number-row_end-requires
 write_number-row_end-requires c =
-    omega (arith, length-set {A = ℕ}, length_long c.args.place.page (omega arith), length_long c.args.place.row (omega arith), c.write_number-page_end.ensures.end)
+    omega (
+      arith,
+      length-set {A = ℕ},
+      length_long c.args.place.page (omega arith),
+      length_long c.args.place.row (omega arith),
+      c.write_number-page_end.ensures.end,
+    )
 
 pub write_runs-end-requires : goal.write_runs-end-requires
 write_runs-end-requires c =
-    omega (arith, length-set {A = ℕ}, length_long c.args.place.page (omega arith), length_long c.args.place.row (omega arith), c.write_number-page_end.ensures.end, c.write_number-row_end.ensures.end)
+    omega (
+      arith,
+      length-set {A = ℕ},
+      length_long c.args.place.page (omega arith),
+      length_long c.args.place.row (omega arith),
+      c.write_number-page_end.ensures.end,
+      c.write_number-row_end.ensures.end,
+    )
 
 pub bounds-bytes-end : goal.bounds-bytes-end
 bounds-bytes-end c =
-    omega (arith, length-set {A = ℕ}, length_long c.args.place.page (omega arith), length_long c.args.place.row (omega arith), c.write_number-page_end.ensures.end, c.write_number-row_end.ensures.end)
+    omega (
+      arith,
+      length-set {A = ℕ},
+      length_long c.args.place.page (omega arith),
+      length_long c.args.place.row (omega arith),
+      c.write_number-page_end.ensures.end,
+      c.write_number-row_end.ensures.end,
+    )
 
 pub returns-clause-written : goal.returns-clause-written
 unfolding row_line_of
@@ -28,8 +48,22 @@ returns-clause-written c =
     (three c.args.bytes.now c.args.at 114 111 119 (omega arith))
     c.write_number-page_end.ensures.written c.write_number-row_end.ensures.written c.write_runs-end.ensures.written
     (one c.write_runs-end.new.bytes c.write_runs-end.result 10
-    (omega (arith, length-set {A = ℕ}, length_long c.args.place.page (omega arith), length_long c.args.place.row (omega arith), c.write_number-page_end.ensures.end, c.write_number-row_end.ensures.end)))
+    (omega (
+      arith,
+      length-set {A = ℕ},
+      length_long c.args.place.page (omega arith),
+      length_long c.args.place.row (omega arith),
+      c.write_number-page_end.ensures.end,
+      c.write_number-row_end.ensures.end,
+    )))
 
 pub returns-clause-within : goal.returns-clause-within
 returns-clause-within c =
-    omega (arith, length-set {A = ℕ}, length_long c.args.place.page (omega arith), length_long c.args.place.row (omega arith), c.write_number-page_end.ensures.end, c.write_number-row_end.ensures.end)
+    omega (
+      arith,
+      length-set {A = ℕ},
+      length_long c.args.place.page (omega arith),
+      length_long c.args.place.row (omega arith),
+      c.write_number-page_end.ensures.end,
+      c.write_number-row_end.ensures.end,
+    )

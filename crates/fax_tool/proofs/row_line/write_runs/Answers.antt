@@ -17,5 +17,11 @@ loop-run-preserved c =
           ∙ append_assoc (take c.loop-run.end c.loop-run.bytes) (and_number c.in-Some.run') (flat_map and_number c.next_run.new.self)
           ∙ ap (λ runs. take c.loop-run.end c.loop-run.bytes ++ flat_map and_number runs) (sym next.first)
           ∙ c.loop-run.invariant.text;
-      room = omega (arith, ap length next.first, length_short c.in-Some.run' next.short, c.write_number-end.ensures.end, c.loop-run.invariant.room);
+      room = omega (
+        arith,
+        ap length next.first,
+        length_short c.in-Some.run' next.short,
+        c.write_number-end.ensures.end,
+        c.loop-run.invariant.room,
+      );
     }

@@ -4,7 +4,7 @@ use Rattle.fax_rows.specs.Elements.{runs_of}
 use Rattle.fax_tool.specs.Text.{and_number}
 use Rattle.fax_tool.proofs.row_line.write_runs.Given as goal
 
--- what is written and what is due are all runs, behind what stood there
+-- what is written and what is due are all runs, after what stood there
 abbrev pub invariant-loop-run : goal.invariant-loop-run
 invariant-loop-run l = record {
   text : take l.end l.bytes ++ flat_map and_number l.runs ≡ take l.at l.initial.bytes ++ flat_map and_number (runs_of l.row);

@@ -12,10 +12,12 @@ pub returns : goal.returns
 returns c =
     let no_help : app_of c.disable_help_flag.result ≡ on_top (λ s. record s { disable_help_flag = true }) (new_app (codes "faxpages"))
     = ap app_of_fields c.disable_help_flag.ensures ∙ ap (on_top (λ s. record s { disable_help_flag = true })) c.new.ensures.app in
-    let no_topic = ap app_of_fields c.disable_help_subcommand.ensures ∙ ap (on_top (λ s. record s { disable_help_subcommand = true })) no_help in
+    let no_topic =
+    ap app_of_fields c.disable_help_subcommand.ensures ∙ ap (on_top (λ s. record s { disable_help_subcommand = true })) no_help in
     let needs = ap app_of_fields c.subcommand_required.ensures ∙ ap (on_top (λ s. record s { subcommand_required = true })) no_topic in
     let local = ap (λ f. f.has_globals) c.subcommand_required.ensures
-    ∙ (ap (λ f. f.has_globals) c.disable_help_subcommand.ensures ∙ (ap (λ f. f.has_globals) c.disable_help_flag.ensures ∙ c.new.ensures.local)) in
+    ∙ (ap (λ f. f.has_globals) c.disable_help_subcommand.ensures
+    ∙ (ap (λ f. f.has_globals) c.disable_help_flag.ensures ∙ c.new.ensures.local)) in
     let s0 : IsApp c.subcommand_required.result (on_top top_shape (new_app (codes "faxpages"))) = (needs, local) in
     let s1 = add_subcommand _ _ _ _ _ c.in_ok-subcommand.ensures s0 c.in_ok-printing.ensures in
     let s2 = add_subcommand _ _ _ _ _ c.in_ok-subcommand-2.ensures s1 c.in_ok-printing_rows.ensures in

@@ -6,7 +6,8 @@ use Rattle.fax_tool.specs.code.Entries.{entries_of}
 use Rattle.fax_tool.specs.Job.{is_set, number_in, target_in}
 use Rattle.fax_tool.proofs.EntryReadLemmas.{flag_read, in_range, in_range_or, u32_read}
 use Rattle.fax_tool.proofs.words.options_of.Goals as goal
-use Rattle.fax_tool.proofs.words.options_of.Goals.{After-get_flag-aligned, After-get_one-2, else-aligned-via-then-aligned+else-not-has_eols, else-aligned-via-else-aligned}
+use Rattle.fax_tool.proofs.words.options_of.Goals.{After-get_flag-aligned, After-get_one-2, else-aligned-via-then-aligned+else-not-has_eols}
+use Rattle.fax_tool.proofs.words.options_of.Goals.{else-aligned-via-else-aligned}
 
 target_named : (c : After-get_flag-aligned) → target_in (entries_of c.args.matches.now) ≡ Some c.in_ok-target.target
 target_named c = sym c.target_of.ensures ∙ c.in_ok-target.was
@@ -21,7 +22,8 @@ returns-then-not-has_eols-clause-none c is =
     let at = (goal.at.returns-then-not-has_eols-clause-none c).After-get_flag-aligned in
     inr (
       sym (flag at) ∙ c.if-aligned.true,
-      ⊎_elim (λ pbm. inl (target_named at ∙ ap Some pbm)) (λ mmr. inr (target_named at ∙ ap Some mmr)) (c.has_eols.ensures.none c.if-not-has_eols.true),
+      ⊎_elim (λ pbm. inl (target_named at ∙ ap Some pbm)) (λ mmr. inr (target_named at ∙ ap Some mmr))
+          (c.has_eols.ensures.none c.if-not-has_eols.true),
     )
 
 k_read : (c : After-get_one-2) → c.get_one.result ≡ number_in (codes "k") (entries_of c.args.matches.now)
@@ -42,10 +44,12 @@ has_eols c aligned = elim c.else-aligned.branch [
 
 pub invariant_of-result : goal.invariant_of-result
 invariant_of-result c =
-    let k : 0 < unwrap_or (number_in (codes "k") (entries_of c.args.matches.now)) 4 = (in_range_or (codes "k") 1000000 4 (entries_of c.args.matches.now) c.requires.k (lit< tt) (lit≤ tt)).0 in
+    let k : 0 < unwrap_or (number_in (codes "k") (entries_of c.args.matches.now)) 4 =
+    (in_range_or (codes "k") 1000000 4 (entries_of c.args.matches.now) c.requires.k (lit< tt) (lit≤ tt)).0 in
     record {
       some_k = rw (c.unwrap_or.ensures, k_read c) k;
-      some_strip = λ n is. (in_range (codes "strip") 1000000 (entries_of c.args.matches.now) c.requires.strip n (sym (strip_read c) ∙ is)).0;
+      some_strip =
+          λ n is. (in_range (codes "strip") 1000000 (entries_of c.args.matches.now) c.requires.strip n (sym (strip_read c) ∙ is)).0;
       aligned_is_no_pbm = λ aligned. (has_eols c aligned).0;
       aligned_is_no_mmr = λ aligned. (has_eols c aligned).1;
     }

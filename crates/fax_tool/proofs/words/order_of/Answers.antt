@@ -22,7 +22,9 @@ usual : (o : Option ℕ) → (unwrap_or o 1 ≡ 2 → ⊥) → MsbFirst ≡ orde
 usual o other = rw (ne_eqb (unwrap_or o 1) 2 other) refl
 
 pub returns-then-order-eq2 : goal.returns-then-order-eq2
-returns-then-order-eq2 c = last_first (number_in (codes "order") (entries_of c.args.matches.now)) (sym (read (goal.at.returns-then-order-eq2 c).After-unwrap_or-order) ∙ c.if-order-eq2.true)
+returns-then-order-eq2 c = last_first (number_in (codes "order") (entries_of c.args.matches.now))
+    (sym (read (goal.at.returns-then-order-eq2 c).After-unwrap_or-order) ∙ c.if-order-eq2.true)
 
 pub returns-else-order-eq2 : goal.returns-else-order-eq2
-returns-else-order-eq2 c = usual (number_in (codes "order") (entries_of c.args.matches.now)) (λ two. c.if-order-eq2.false (read (goal.at.returns-else-order-eq2 c).After-unwrap_or-order ∙ two))
+returns-else-order-eq2 c = usual (number_in (codes "order") (entries_of c.args.matches.now))
+    (λ two. c.if-order-eq2.false (read (goal.at.returns-else-order-eq2 c).After-unwrap_or-order ∙ two))

@@ -20,13 +20,16 @@ pub command_of-requires : goal.command_of-requires
 command_of-requires c =
     taken_entries (texts c.args.words.now) c.in-Some.name.now (entries_of c.in-Some.of_command.now) (taken c) (named c)
 
-refused : (words : List Text) (name : Text) (entries : List Row) (fault : WordsFault) → AreTaken words → command_of words ≡ Some (name, entries)
+refused : (words : List Text) (name : Text) (entries : List Row) (fault : WordsFault) → AreTaken words
+    → command_of words ≡ Some (name, entries)
     → IsCommandFault name entries fault → IsFault words fault
-refused words name entries Usage taken named is = inr (record { taken = taken; name = name; entries = entries; named = named; command = is })
+refused words name entries Usage taken named is =
+    inr (record { taken = taken; name = name; entries = entries; named = named; command = is })
 refused words name entries NotACursor taken named is = record { taken = taken; name = name; entries = entries; named = named; command = is }
 refused words name entries Memory taken named is = tt
 
-fault_up : {T : Type 0} (r : Result T WordsFault) (fault : WordsFault) (words : List Text) → IsErrAnd r (λ y. y ≡ fault) → IsFault words fault
+fault_up : {T : Type 0} (r : Result T WordsFault) (fault : WordsFault) (words : List Text) → IsErrAnd r (λ y. y ≡ fault)
+    → IsFault words fault
     → IfErr r (IsFault words)
 fault_up (Ok x) fault words same is = tt
 fault_up (Err y) fault words same is = subst (IsFault words) (sym same) is
@@ -36,7 +39,8 @@ returns-in_err-command_of-clause-fault c =
     let at = (goal.at.returns-in_err-command_of-clause-fault c).In-Some in
     let words = texts c.args.words.now in
     fault_up c.from_residual-in_err-command_of.result c.in_err-command_of.field-0.0 words c.from_residual-in_err-command_of.ensures.1
-    (refused words c.in-Some.name.now (entries_of c.in-Some.of_command.now) c.in_err-command_of.field-0.0 (taken at) (named at) c.in_err-command_of.ensures.fault)
+    (refused words c.in-Some.name.now (entries_of c.in-Some.of_command.now) c.in_err-command_of.field-0.0 (taken at) (named at)
+    c.in_err-command_of.ensures.fault)
 
 pub returns-clause-job : goal.returns-clause-job
 returns-clause-job c =

@@ -27,12 +27,20 @@ returns-clause-ok c =
     ⊎ BeginsInside (first_of (codes "cursor") entries) (part c.match-get_str.from) = elim c.match-get_str.branch [
       | in-Some+in-Ok w ↦
           let given = text_given (found_of c.args.matches.now) (codes "cursor") _ w.in-Some.text c.get_str.ensures w.in-Some.is in
-          inl (subst (λ (o : Option Text). BeginsAt o (part c.match-get_str.from)) (sym given)
-          (w.in-Ok.ensures.ok ∙ ap (λ (q : Cursor × Option LongPlace). cursor_text q.0) (sym w.from-is), ap (λ (q : Cursor × Option LongPlace). q.1) w.from-is))
+          inl (subst (λ (o : Option Text). BeginsAt o (part c.match-get_str.from)) (sym given) (
+            w.in-Ok.ensures.ok ∙ ap (λ (q : Cursor × Option LongPlace). cursor_text q.0) (sym w.from-is),
+            ap
+                (λ (q : Cursor × Option LongPlace). q.1) w.from-is,
+          ))
       | in-Some+in-Err+in_ok-from-in-Err w ↦
           let given = text_given (found_of c.args.matches.now) (codes "cursor") _ w.in-Some.text c.get_str.ensures w.in-Some.is in
-          inr (subst (λ (o : Option Text). BeginsInside o (part c.match-get_str.from)) (sym given)
-          (w.in_ok-from-in-Err.from, w.in_ok-from-in-Err.ensures.ok, ap (λ (q : Cursor × Option LongPlace). q.0) w.from-is ∙ ap (λ (place : LongPlace). place.at) w.from.view_is, ap (λ (q : Cursor × Option LongPlace). q.1) w.from-is))
+          inr (subst (λ (o : Option Text). BeginsInside o (part c.match-get_str.from)) (sym given) (
+            w.in_ok-from-in-Err.from,
+            w.in_ok-from-in-Err.ensures.ok,
+            ap (λ (q : Cursor × Option LongPlace). q.0) w.from-is
+                ∙ ap (λ (place : LongPlace). place.at) w.from.view_is,
+            ap (λ (q : Cursor × Option LongPlace). q.1) w.from-is,
+          ))
       | in-None w ↦
           let given = none_given (found_of c.args.matches.now) (codes "cursor") _ c.get_str.ensures w.in-None.is in
           inl (subst (λ (o : Option Text). BeginsAt o (part c.match-get_str.from)) (sym given)

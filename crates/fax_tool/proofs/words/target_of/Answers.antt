@@ -9,10 +9,12 @@ use Rattle.fax_tool.proofs.words.target_of.Goals.{In_ok-get_str}
 
 pub returns-in_err-get_str : goal.returns-in_err-get_str
 returns-in_err-get_str c =
-    c.from_residual.ensures ∙ sym (ap (option_and_then target_of) (none_given (found_of c.args.matches.now) (codes "o") _ c.get_str.ensures c.in_err-get_str.was))
+    c.from_residual.ensures ∙ sym (ap (option_and_then target_of) (none_given (found_of c.args.matches.now) (codes "o") _ c.get_str.ensures
+    c.in_err-get_str.was))
 
 named : (c : In_ok-get_str) → target_in (entries_of c.args.matches.now) ≡ target_of c.in_ok-get_str.field-0.now
-named c = ap (option_and_then target_of) (text_given (found_of c.args.matches.now) (codes "o") _ c.in_ok-get_str.field-0 c.get_str.ensures c.in_ok-get_str.was)
+named c = ap (option_and_then target_of) (text_given (found_of c.args.matches.now) (codes "o") _ c.in_ok-get_str.field-0 c.get_str.ensures
+    c.in_ok-get_str.was)
 
 pub returns-in-pbm : goal.returns-in-pbm
 returns-in-pbm c = sym (named (goal.at.returns-in-pbm c).In_ok-get_str ∙ ap target_of c.in-pbm.is)

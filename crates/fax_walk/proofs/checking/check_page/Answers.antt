@@ -11,7 +11,8 @@ returns-in-Err c = refused_page _ _ _ _ _ refl (sym c.in-Err.ensures.exact)
 pub returns : goal.returns
 returns c =
     let form_is = sym c.in-Ok.ensures.exact in
-    let middle = c.in_ok-note_if.ensures ∙ ap (λ out. c.args.notes.now.items ++ note_if out c.args.page None EntriesOutOfOrder) (ap not c.in_order-out_of_order.ensures) in
+    let middle = c.in_ok-note_if.ensures
+    ∙ ap (λ out. c.args.notes.now.items ++ note_if out c.args.page None EntriesOutOfOrder) (ap not c.in_order-out_of_order.ensures) in
     IfOk-weaker c.check_strips.result _ _
     (λ read is. formed_page _ _ _ _ _ _ read form_is c.in-Ok.ensures.limits (c.forms_are_whole.ensures _ _ _ _ form_is) middle is)
     c.check_strips.ensures

@@ -19,7 +19,8 @@ returns-in-Err c =
 
 pub read_to-requires : goal.read_to-requires
 read_to-requires c =
-    row_inside c.args.directory.now _ c.args.page (c.forms_are_whole.ensures _ _ _ _ c.requires.form) c.loop-s.s c.in-Ok.bytes.now _ c.requires.limits.rows c.loop-s-test.true
+    row_inside c.args.directory.now _ c.args.page (c.forms_are_whole.ensures _ _ _ _ c.requires.form) c.loop-s.s c.in-Ok.bytes.now _
+    c.requires.limits.rows c.loop-s-test.true
     (subst (λ (f : StripForm). IsNotesFault f (bits f.order c.in-Ok.bytes.now) c.in-Err-strip_notes.fault) c.strip_form.ensures.exact
     c.in-Err-strip_notes.ensures.err)
 
@@ -27,11 +28,13 @@ pub returns-in-Err-strip_notes : goal.returns-in-Err-strip_notes
 returns-in-Err-strip_notes c =
     let there : bytes_of c.args.directory.now c.loop-s.s ≡ Some c.in-Ok.bytes.now =
     sym (ap (λ (d : TiffDirectory). bytes_of d c.loop-s.s) c.strips-strips.ensures.directory) ∙ c.in-Ok.ensures.bytes in
-    let refused = subst (λ (f : StripForm). IsNotesFault f (bits f.order c.in-Ok.bytes.now) c.in-Err-strip_notes.fault) c.strip_form.ensures.exact
+    let refused =
+    subst (λ (f : StripForm). IsNotesFault f (bits f.order c.in-Ok.bytes.now) c.in-Err-strip_notes.fault) c.strip_form.ensures.exact
     c.in-Err-strip_notes.ensures.err in
     IfOk-weaker c.read_to.result _ _
     (λ read is.
-    strip_fault _ _ _ (c.forms_are_whole.ensures _ _ _ _ c.requires.form) _ _ _ _ _ read c.loop-s-test.true c.loop-s.invariant there refused is)
+    strip_fault _ _ _ (c.forms_are_whole.ensures _ _ _ _ c.requires.form) _ _ _ _ _ read c.loop-s-test.true c.loop-s.invariant there refused
+    is)
     c.read_to.ensures
 
 pub loop-s-preserved : goal.loop-s-preserved
@@ -39,9 +42,11 @@ loop-s-preserved c =
     let there : bytes_of c.args.directory.now c.loop-s.s ≡ Some c.in-Ok.bytes.now =
     sym (ap (λ (d : TiffDirectory). bytes_of d c.loop-s.s) c.strips-strips.ensures.directory) ∙ c.in-Ok.ensures.bytes in
     let found = c.in-Ok-strip_notes.ensures.ok in
-    strip_behind _ _ _ (c.forms_are_whole.ensures _ _ _ _ c.requires.form) _ _ _ _ c.in-Ok.bytes.now found.0 c.in-Ok-strip_notes.found c.loop-s-test.true
+    strip_behind _ _ _ (c.forms_are_whole.ensures _ _ _ _ c.requires.form) _ _ _ _ c.in-Ok.bytes.now found.0 c.in-Ok-strip_notes.found
+    c.loop-s-test.true
     c.loop-s.invariant there
-    (subst (λ (f : StripForm). IsNotedAs f (bits f.order c.in-Ok.bytes.now) found.0 c.in-Ok-strip_notes.found) c.strip_form.ensures.exact found.1)
+    (subst (λ (f : StripForm). IsNotedAs f (bits f.order c.in-Ok.bytes.now) found.0 c.in-Ok-strip_notes.found) c.strip_form.ensures.exact
+    found.1)
     c.in_ok-note_strip-in-Ok-strip_notes.ensures
 
 pub returns : goal.returns

@@ -7,7 +7,8 @@ use Rattle.fax_walk.proofs.ImageLemmas.{raster_count, raster_next, image_left_ou
 use Rattle.fax_walk.proofs.conversion.convert_raster.Goals as goal
 
 pub returns-in-TooLarge : goal.returns-in-TooLarge
-returns-in-TooLarge c = image_left_out c.args.output.now c.args.image.now.width c.args.image.now.rows c.args.image.now.raster.now c.in-TooLarge.is (omega arith)
+returns-in-TooLarge c =
+    image_left_out c.args.output.now c.args.image.now.width c.args.image.now.rows c.args.image.now.raster.now c.in-TooLarge.is (omega arith)
 
 pub put_row-requires : goal.put_row-requires
 put_row-requires c =

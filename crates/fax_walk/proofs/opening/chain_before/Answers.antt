@@ -15,7 +15,8 @@ returns-in-Err-clause-err c row = rw c.of_file.ensures (header_refused _ _ c.in-
 
 pub returns-in-Ok-None-clause-err : goal.returns-in-Ok-None-clause-err
 returns-in-Ok-None-clause-err c row =
-    none_before _ _ _ _ _ c.loop-number.invariant c.files_have_one_chain.ensures c.next.ensures.answer (c.in-Ok-None.is ∙ ap Ok c.in-Ok-None.field-0-is)
+    none_before _ _ _ _ _ c.loop-number.invariant c.files_have_one_chain.ensures c.next.ensures.answer
+    (c.in-Ok-None.is ∙ ap Ok c.in-Ok-None.field-0-is)
     c.loop-number-test.true
 
 pub returns-in-Err-next-clause-err : goal.returns-in-Err-next-clause-err

@@ -12,7 +12,8 @@ returns-clause-opened c =
     let at_place = rw (c.strip_form.ensures.exact, row, sym c.place.view_is) at c.in_ok-strip.ensures.ok in
     let few : c.due.inside.page < 2 ^ 32 = search rules in
     rw (← c.due.view_is, ← c.place.view_is, c.strips-strips.ensures.directory)
-    (is_opened _ _ same_page c.due.invariant.limits whole (omega (arith, c.if-row-form.false), omega (arith, c.if-row-form-eq0.false)) c.in-Ok.bytes.now there
+    (is_opened _ _ same_page c.due.invariant.limits whole (omega (arith, c.if-row-form.false), omega (arith, c.if-row-form-eq0.false))
+    c.in-Ok.bytes.now there
     _ at_place _ few)
 
 pub returns-clause-items : goal.returns-clause-items
@@ -24,5 +25,6 @@ returns-clause-items c items end still file named =
     let at_place = rw (c.strip_form.ensures.exact, row, sym c.place.view_is) at c.in_ok-strip.ensures.ok in
     let named = rw (sym c.due.view_is, sym c.place.view_is) at named in
     rw (← c.place.view_is)
-    (place_due _ _ same_page c.due.invariant.limits whole (omega (arith, c.if-row-form.false), omega (arith, c.if-row-form-eq0.false)) c.in-Ok.bytes.now there
+    (place_due _ _ same_page c.due.invariant.limits whole (omega (arith, c.if-row-form.false), omega (arith, c.if-row-form-eq0.false))
+    c.in-Ok.bytes.now there
     _ at_place _ file named items end (rw c.strips-strips.ensures.directory at still))

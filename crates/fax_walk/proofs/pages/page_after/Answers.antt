@@ -3,7 +3,8 @@ use Rattle.fax_walk.proofs.pages.page_after.Goals as goal
 
 pub returns-in-Ok-Some-clause-ok : goal.returns-in-Ok-Some-clause-ok
 returns-in-Ok-Some-clause-ok c =
-    page_after_is c.args.chain c.in-Ok-Some.page c.files_have_one_chain.ensures (rw (c.in-Ok-Some.is, c.in-Ok-Some.field-0-is) at c.behind.ensures)
+    page_after_is c.args.chain c.in-Ok-Some.page c.files_have_one_chain.ensures
+    (rw (c.in-Ok-Some.is, c.in-Ok-Some.field-0-is) at c.behind.ensures)
 
 pub returns-in-Ok-None-clause-err : goal.returns-in-Ok-None-clause-err
 returns-in-Ok-None-clause-err c file before =

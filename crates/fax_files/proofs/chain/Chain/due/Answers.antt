@@ -10,7 +10,8 @@ returns-then-self-eq0-clause-answer c = rw (← c.self.view_is) (λ offsets end 
 
 pub returns-then-turns_at-clause-answer : goal.returns-then-turns_at-clause-answer
 returns-then-turns_at-clause-answer c = rw (← c.self.view_is) (λ offsets end is.
-    turned _ _ _ _ (place_of _ _ _ _ c.self.invariant) offsets end is (turned_here c.self.inside.tiff _ _ (sym c.turns_at.ensures ∙ c.if-turns_at.true)))
+    turned _ _ _ _ (place_of _ _ _ _ c.self.invariant) offsets end is
+    (turned_here c.self.inside.tiff _ _ (sym c.turns_at.ensures ∙ c.if-turns_at.true)))
 
 pub returns-in_err-directory-clause-answer : goal.returns-in_err-directory-clause-answer
 returns-in_err-directory-clause-answer c =
@@ -20,5 +21,6 @@ returns-in_err-directory-clause-answer c =
 
 pub returns-clause-answer : goal.returns-clause-answer
 returns-clause-answer c = rw (← c.self.view_is) (λ offsets end is.
-    found _ _ _ _ (place_of _ _ _ _ c.self.invariant) offsets end is _ c.in_ok-directory.ensures.directory c.if-self-eq0.false c.in_ok-directory.ensures.whole
+    found _ _ _ _ (place_of _ _ _ _ c.self.invariant) offsets end is _ c.in_ok-directory.ensures.directory c.if-self-eq0.false
+    c.in_ok-directory.ensures.whole
     (not_here c.self.inside.tiff _ _ c.self.invariant.search_is (sym c.turns_at.ensures ∙ c.if-turns_at.false)))

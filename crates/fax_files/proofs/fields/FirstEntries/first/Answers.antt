@@ -3,7 +3,8 @@ use Rattle.fax_files.proofs.fields.FirstEntries.first.Goals as goal
 
 pub unreachable-requires : goal.unreachable-requires
 unreachable-requires c =
-    sought_stands c.args.tag c.requires (rw c.in-Err.is at (tag_searched c.args.tag c.binary_search.result c.binary_search.ensures.position))
+    sought_stands c.args.tag c.requires (rw c.in-Err.is at (tag_searched c.args.tag c.binary_search.result
+    c.binary_search.ensures.position))
 
 pub returns : goal.returns
 returns c = λ fields h.

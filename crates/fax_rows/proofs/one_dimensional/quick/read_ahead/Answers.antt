@@ -28,7 +28,8 @@ loop-total-preserved c = record {
   colour = Black;
   read = read_on c.args.width c.args.ahead.left c.loop-total.total c.in_ok-behind.place White c.loop-total.places c.next_run.new.places
       c.loop-total.end c.in_ok-behind.next c.loop-total.ahead.left c.in_ok-behind.behind.left
-      (subst (λ colour. HasRead c.args.width c.args.ahead.left c.loop-total.total colour c.loop-total.places c.loop-total.end c.loop-total.ahead.left)
+      (subst (λ colour. HasRead c.args.width c.args.ahead.left c.loop-total.total colour c.loop-total.places c.loop-total.end
+      c.loop-total.ahead.left)
       (c.loop-total.invariant.white c.loop-total-test.true) c.loop-total.invariant.read)
       c.loop-total-test.true c.in_ok-behind.ensures.run c.in_ok-behind.ensures.right c.in_ok-behind.ensures.within
       c.in_ok-behind.ensures.turned c.in_ok-behind.ensures.ascending c.in_ok-behind.ensures.last;
@@ -39,11 +40,13 @@ loop-total-preserved c = record {
 pub loop-total-preserved-then-total-width : goal.loop-total-preserved-then-total-width
 loop-total-preserved-then-total-width c = record {
   colour = White;
-  read = read_on c.args.width c.args.ahead.left c.in_ok-behind.place c.in_ok-behind-2.place Black c.next_run.new.places c.next_run-then-total-width.new.places
+  read = read_on c.args.width c.args.ahead.left c.in_ok-behind.place c.in_ok-behind-2.place Black c.next_run.new.places
+      c.next_run-then-total-width.new.places
       c.in_ok-behind.next c.in_ok-behind-2.next c.in_ok-behind.behind.left c.in_ok-behind-2.behind.left
       (read_on c.args.width c.args.ahead.left c.loop-total.total c.in_ok-behind.place White c.loop-total.places c.next_run.new.places
       c.loop-total.end c.in_ok-behind.next c.loop-total.ahead.left c.in_ok-behind.behind.left
-      (subst (λ colour. HasRead c.args.width c.args.ahead.left c.loop-total.total colour c.loop-total.places c.loop-total.end c.loop-total.ahead.left)
+      (subst (λ colour. HasRead c.args.width c.args.ahead.left c.loop-total.total colour c.loop-total.places c.loop-total.end
+      c.loop-total.ahead.left)
       (c.loop-total.invariant.white c.loop-total-test.true) c.loop-total.invariant.read)
       c.loop-total-test.true c.in_ok-behind.ensures.run c.in_ok-behind.ensures.right c.in_ok-behind.ensures.within
       c.in_ok-behind.ensures.turned c.in_ok-behind.ensures.ascending c.in_ok-behind.ensures.last) c.if-total-width.true c.in_ok-behind-2.ensures.run c.in_ok-behind-2.ensures.right c.in_ok-behind-2.ensures.within

@@ -5,7 +5,11 @@ use Rattle.fax_rows.proofs.pels.Row.next_change.Goals as goal
 
 pub index-requires-in-Some : goal.index-requires-in-Some
 index-requires-in-Some c =
-    omega (arith, end_within c.self.inside.places.items c.self.inside.end c.self.inside.width c.self.invariant, c.places_up_to.ensures.within)
+    omega (
+      arith,
+      end_within c.self.inside.places.items c.self.inside.end c.self.inside.width c.self.invariant,
+      c.places_up_to.ensures.within,
+    )
 
 pub returns-in-None : goal.returns-in-None
 returns-in-None c =

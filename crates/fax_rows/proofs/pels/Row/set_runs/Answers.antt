@@ -11,7 +11,8 @@ use Rattle.fax_rows.proofs.TurnLemmas.{length-pels_by}
 use Rattle.fax_rows.proofs.pels.Row.set_runs.Goals as goal
 
 -- the runs of a row of this width would have passed
-longest_of : (row : List Colour) (runs : List ℕ) (len width : ℕ) → length row ≡ len → width ≡ len → runs_of row ≡ runs → AreLongest runs width
+longest_of : (row : List Colour) (runs : List ℕ) (len width : ℕ) → length row ≡ len → width ≡ len → runs_of row ≡ runs
+    → AreLongest runs width
 longest_of row runs len width same wide is =
     subst (λ n. AreLongest runs n) (same ∙ sym wide) (subst (λ ns. AreLongest ns (length row)) is (runs_are_longest row))
 

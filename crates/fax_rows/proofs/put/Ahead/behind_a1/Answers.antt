@@ -8,7 +8,8 @@ returns-clause-places c = record {
   row = from_a1 c.args.rows c.args.self c.requires.places c.requires.unfinished;
   reference = λ inside. elim c.if-self-rows.branch [
     | then-self-rows w ↦
-        rw w.reference-is (b1_behind_a1 c.args.rows c.args.self c.requires.places c.requires.unfinished _ w.find_turned_b1-reference.ensures)
+        rw w.reference-is (b1_behind_a1 c.args.rows c.args.self c.requires.places c.requires.unfinished _
+        w.find_turned_b1-reference.ensures)
     | else-self-rows w ↦ absurd (omega (arith, w.if-self-rows))
   ];
 }

@@ -5,42 +5,62 @@ use Rattle.fax_rows.specs.Elements.{other}
 use Rattle.fax_rows.specs.TwoDimensional.{a0_number}
 use Rattle.fax_rows.specs.code.Reached.{position_of}
 use Rattle.fax_rows.proofs.PlacedB1Lemmas.{left_start}
-use Rattle.fax_rows.proofs.PlacedStepLemmas.{b1_in_room, room_left, a1_right, a1_ahead, a1_within, under_within, from_start, vertical_placed, turned_so_far}
+use Rattle.fax_rows.proofs.PlacedStepLemmas.{b1_in_room, room_left, a1_right, a1_ahead, a1_within, under_within, from_start}
+use Rattle.fax_rows.proofs.PlacedStepLemmas.{vertical_placed, turned_so_far}
 use Rattle.fax_rows.proofs.two_dimensional.quick.left_of_b1.Goals as goal
 
 pub bounds-reference-at : goal.bounds-reference-at
-bounds-reference-at c = omega (arith, b1_in_room c.args.reference.now c.args.reference_end c.args.width c.requires.reference c.args.places.now c.args.at c.requires.so_far c.requires.unfinished)
+bounds-reference-at c = omega (
+  arith,
+  b1_in_room c.args.reference.now c.args.reference_end c.args.width c.requires.reference
+      c.args.places.now c.args.at c.requires.so_far c.requires.unfinished,
+)
 
 pub turn_right-end-requires-clause-room : goal.turn_right-end-requires-clause-room
-turn_right-end-requires-clause-room c = omega (arith, room_left c.args.reference.now c.args.reference_end c.args.width c.requires.reference c.args.places.now c.args.at c.requires.so_far c.requires.unfinished)
+turn_right-end-requires-clause-room c =
+    omega (
+      arith,
+      room_left c.args.reference.now c.args.reference_end c.args.width c.requires.reference c.args.places.now c.args.at
+          c.requires.so_far c.requires.unfinished,
+    )
 
 pub returns-clause-step : goal.returns-clause-step
 returns-clause-step c =
     let place = get_or c.args.reference.now c.args.at.b1 0 - c.from-back.result in
     let z = pos place in
-    let within = under_within c.args.reference.now c.args.reference_end c.args.width c.requires.reference c.args.places.now c.args.at c.requires.so_far c.requires.unfinished in
-    let z_is : z ≡ pos (get_or c.args.reference.now c.args.at.b1 0) +ℤ c.args.d = omega (arith, ints, c.from-back.ensures, c.unsigned_abs.ensures.value, c.requires.left.le, c.if-b1-back.false) in
+    let within = under_within c.args.reference.now c.args.reference_end c.args.width c.requires.reference c.args.places.now c.args.at
+    c.requires.so_far c.requires.unfinished in
+    let z_is : z ≡ pos (get_or c.args.reference.now c.args.at.b1 0) +ℤ c.args.d =
+    omega (arith, ints, c.from-back.ensures, c.unsigned_abs.ensures.value, c.requires.left.le, c.if-b1-back.false) in
     let least = from_start c.args.at.reached in
     let right : a0_number (position_of c.args.at.reached []) <ℤ z = omega (arith, ints, z_is, c.next_pel.ensures, c.if-b1-back.false) in
     let inside : z ≤ℤ pos c.args.width = omega (arith, ints, within) in
-    vertical_placed c.args.reference.now c.args.reference_end c.args.width c.requires.reference c.args.places.now c.args.at c.requires.so_far c.requires.unfinished c.args.d z z_is least right inside
+    vertical_placed c.args.reference.now c.args.reference_end c.args.width c.requires.reference c.args.places.now c.args.at
+    c.requires.so_far c.requires.unfinished c.args.d z z_is least right inside
     c.turn_right-end.new.places c.turn_right-end.result c.find_b1.result c.other.result c.turn_right-end.ensures.turned c.other.ensures
 
 pub returns-clause-so_far : goal.returns-clause-so_far
 returns-clause-so_far c =
     let place = get_or c.args.reference.now c.args.at.b1 0 - c.from-back.result in
     let z = pos place in
-    let within = under_within c.args.reference.now c.args.reference_end c.args.width c.requires.reference c.args.places.now c.args.at c.requires.so_far c.requires.unfinished in
-    let z_is : z ≡ pos (get_or c.args.reference.now c.args.at.b1 0) +ℤ c.args.d = omega (arith, ints, c.from-back.ensures, c.unsigned_abs.ensures.value, c.requires.left.le, c.if-b1-back.false) in
+    let within = under_within c.args.reference.now c.args.reference_end c.args.width c.requires.reference c.args.places.now c.args.at
+    c.requires.so_far c.requires.unfinished in
+    let z_is : z ≡ pos (get_or c.args.reference.now c.args.at.b1 0) +ℤ c.args.d =
+    omega (arith, ints, c.from-back.ensures, c.unsigned_abs.ensures.value, c.requires.left.le, c.if-b1-back.false) in
     let least = from_start c.args.at.reached in
     let right : a0_number (position_of c.args.at.reached []) <ℤ z = omega (arith, ints, z_is, c.next_pel.ensures, c.if-b1-back.false) in
     let inside : z ≤ℤ pos c.args.width = omega (arith, ints, within) in
-    turned_so_far c.args.reference.now c.args.reference_end c.args.width c.requires.reference c.args.places.now c.args.at c.requires.so_far c.requires.unfinished
+    turned_so_far c.args.reference.now c.args.reference_end c.args.width c.requires.reference c.args.places.now c.args.at c.requires.so_far
+    c.requires.unfinished
     c.turn_right-end.new.places c.turn_right-end.result place c.find_b1.result
-    (a1_ahead c.args.reference.now c.args.reference_end c.args.width c.requires.reference c.args.places.now c.args.at c.requires.so_far c.requires.unfinished c.args.d z z_is least right inside)
-    (a1_within c.args.reference.now c.args.reference_end c.args.width c.requires.reference c.args.places.now c.args.at c.requires.so_far c.requires.unfinished c.args.d z z_is least right inside)
+    (a1_ahead c.args.reference.now c.args.reference_end c.args.width c.requires.reference c.args.places.now c.args.at c.requires.so_far
+    c.requires.unfinished c.args.d z z_is least right inside)
+    (a1_within c.args.reference.now c.args.reference_end c.args.width c.requires.reference c.args.places.now c.args.at c.requires.so_far
+    c.requires.unfinished c.args.d z z_is least right inside)
     c.turn_right-end.ensures.same_len c.turn_right-end.ensures.ascending c.turn_right-end.ensures.last c.turn_right-end.ensures.turned
     (λ h. c.find_b1.ensures (other c.args.at.reached.colour)
-    (left_start c.args.reference.now c.args.reference_end c.args.width c.requires.reference c.args.at.reached.a0 c.args.at.reached.colour c.args.at.b1 place (c.requires.so_far.b1 c.requires.unfinished)
-    (a1_right c.args.reference.now c.args.reference_end c.args.width c.requires.reference c.args.places.now c.args.at c.requires.so_far c.requires.unfinished c.args.d z z_is least right inside)))
+    (left_start c.args.reference.now c.args.reference_end c.args.width c.requires.reference c.args.at.reached.a0 c.args.at.reached.colour
+    c.args.at.b1 place (c.requires.so_far.b1 c.requires.unfinished)
+    (a1_right c.args.reference.now c.args.reference_end c.args.width c.requires.reference c.args.places.now c.args.at c.requires.so_far
+    c.requires.unfinished c.args.d z z_is least right inside)))
     c.other.result c.other.ensures

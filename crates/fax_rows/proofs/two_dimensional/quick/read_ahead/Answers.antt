@@ -7,8 +7,10 @@ use Rattle.fax_rows.proofs.two_dimensional.quick.read_ahead.Goals as goal
 
 pub loop-ahead-init : goal.loop-ahead-init
 loop-ahead-init c = record {
-  steps = steps_begin (pels_by c.args.width (take c.args.reference_end c.args.reference.now)) (pels_by c.args.width (take 1 c.args.places.now)) c.args.ahead.left;
-  so_far = nothing_read c.args.reference.now c.args.reference_end c.args.width c.requires.reference c.args.places.now c.requires.room c.requires.first;
+  steps = steps_begin (pels_by c.args.width (take c.args.reference_end c.args.reference.now))
+      (pels_by c.args.width (take 1 c.args.places.now)) c.args.ahead.left;
+  so_far = nothing_read c.args.reference.now c.args.reference_end c.args.width c.requires.reference c.args.places.now c.requires.room
+      c.requires.first;
   same_end = refl;
 }
 

@@ -6,7 +6,8 @@ use Rattle.fax_rows.proofs.two_dimensional.quick.read_ahead.Given as goal
 
 abbrev pub invariant-loop-ahead : goal.invariant-loop-ahead
 invariant-loop-ahead l = record {
-  steps : AreStepsSoFar (pels_by l.width (take l.reference_end l.reference)) l.initial.ahead.left (placed_position l.width l.places l.at) l.ahead.left;
+  steps : AreStepsSoFar (pels_by l.width (take l.reference_end l.reference)) l.initial.ahead.left (placed_position l.width l.places l.at)
+      l.ahead.left;
   so_far : IsReadTo l.reference l.reference_end l.width l.places l.at;
   same_end : l.ahead.place + length l.ahead.left ≡ l.initial.ahead.place + length l.initial.ahead.left;
 }

@@ -15,7 +15,8 @@ returns-in_ok-put_page_line-in-Ok-Some c =
 
 pub returns-in_ok-end_of-in-Err : goal.returns-in_ok-end_of-in-Err
 returns-in_ok-end_of-in-Err c =
-    let ended = pages_refused c.pages_go_on.ensures.ends _ c.next_page.new.self c.in-Err.fault _ c.in-Err.ensures c.in_ok-end_of-in-Err.ensures in
+    let ended =
+    pages_refused c.pages_go_on.ensures.ends _ c.next_page.new.self c.in-Err.fault _ c.in-Err.ensures c.in_ok-end_of-in-Err.ensures in
     record { put = (ended.0, ended.1, refl, λ file begun lines said. tt) }
 
 pub returns-in-Ok-None : goal.returns-in-Ok-None

@@ -11,7 +11,8 @@ returns-in_err-chain-clause-err c =
 pub returns-in_err-page-clause-err : goal.returns-in_err-page-clause-err
 returns-in_err-page-clause-err c =
     let p = err_from_is_err_and c.from_residual-in_err-page.result c.from_residual-in_err-page.ensures.1 in
-    rw (p.1, p.2) (refused_at c.args.file.now c.args.cursor c.in_ok-chain.chain c.in_ok-chain.ensures.ok c.files_have_one_chain.ensures _ c.in_err-page.ensures)
+    rw (p.1, p.2) (refused_at c.args.file.now c.args.cursor c.in_ok-chain.chain c.in_ok-chain.ensures.ok c.files_have_one_chain.ensures _
+    c.in_err-page.ensures)
 
 pub returns-then-cursor-eq0-clause-ok : goal.returns-then-cursor-eq0-clause-ok
 returns-then-cursor-eq0-clause-ok c =

@@ -26,6 +26,7 @@ returns-else-len-raster-gt-MAX_OUTPUT c = λ at options_are fewer written.
     let len : c.len.result ≡ length c.put_pbm_head.new.out.items = omega (arith, c.len.ensures) in
     record {
       widths = tt;
-      has = image_begun at c.args.sheet.now c.in-Images.bytes.items c.put_pbm_head.new.out.items has c.in_ok-put_pbm_head-in-Images.ensures.ok
+      has =
+          image_begun at c.args.sheet.now c.in-Images.bytes.items c.put_pbm_head.new.out.items has c.in_ok-put_pbm_head-in-Images.ensures.ok
           (omega (arith, c.if-len-raster-gt-MAX_OUTPUT.false, len, raster));
     }

@@ -10,7 +10,8 @@ returns-in-Images c = on_ok c.put_pbm_row.result c.put_pbm_row.ensures.ok (λ pu
 
 pub returns-in-File-default-default-Some : goal.returns-in-File-default-default-Some
 returns-in-File-default-default-Some c =
-    let page_is : c.in-File-default-default-Some.field-2 ≡ Some c.in-File-default-default-Some.page = c.in-File-default-default-Some.field-2-is in
+    let page_is : c.in-File-default-default-Some.field-2 ≡ Some c.in-File-default-default-Some.page =
+    c.in-File-default-default-Some.field-2-is in
     on_ok c.put_row.result c.put_row.ensures (λ put part written due width.
     let has = rw (c.in-File-default-default-Some.is, page_is) at written.has in
     record {

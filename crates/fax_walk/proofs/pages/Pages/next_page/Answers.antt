@@ -23,7 +23,22 @@ pub returns : goal.returns
 returns c =
     let ends = rw (sym c.self.view_is) at c.in-Err.ensures.err in
     elim c.match-end.branch [
-      | in-Proper w ↦ rw (← c.self.view_is, w.result-is) (record { ends = rw w.in-Proper.is at ends.0; no_other = rw w.in-Proper.is at ends.1; new_is = rw w.in-Proper.is refl })
-      | in-Fault w ↦ rw (← c.self.view_is, w.result-is) (record { ends = rw w.in-Fault.is at ends.0; no_other = rw w.in-Fault.is at ends.1; new_is = rw w.in-Fault.is refl })
-      | in-Outside w ↦ rw (← c.self.view_is, w.result-is) (record { ends = rw w.in-Outside.is at ends.0; no_other = rw w.in-Outside.is at ends.1; new_is = rw w.in-Outside.is refl })
+      | in-Proper w ↦ rw (← c.self.view_is, w.result-is) (record {
+        ends = rw w.in-Proper.is at ends.0;
+        no_other =
+            rw w.in-Proper.is at ends.1;
+        new_is = rw w.in-Proper.is refl;
+      })
+      | in-Fault w ↦ rw (← c.self.view_is, w.result-is) (record {
+        ends = rw w.in-Fault.is at ends.0;
+        no_other =
+            rw w.in-Fault.is at ends.1;
+        new_is = rw w.in-Fault.is refl;
+      })
+      | in-Outside w ↦ rw (← c.self.view_is, w.result-is) (record {
+        ends = rw w.in-Outside.is at ends.0;
+        no_other =
+            rw w.in-Outside.is at ends.1;
+        new_is = rw w.in-Outside.is refl;
+      })
     ]

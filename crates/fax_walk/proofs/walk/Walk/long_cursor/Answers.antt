@@ -8,7 +8,8 @@ returns-in-Open c =
     let sound = rw c.in-Open.is at c.self.invariant.0 in
     rw (← c.self.view_is)
     (long_if_now _ _ (λ place is. long_now _ place some
-    (place_on_page c.files_have_one_chain.ensures c.forms_are_whole.ensures _ _ _ _ c.in-Open.page place some sound.2 (rw is at c.long_cursor-in-Open.ensures))))
+    (place_on_page c.files_have_one_chain.ensures c.forms_are_whole.ensures _ _ _ _ c.in-Open.page place some sound.2
+    (rw is at c.long_cursor-in-Open.ensures))))
 
 pub returns-in-Ended-default-default-Some : goal.returns-in-Ended-default-default-Some
 returns-in-Ended-default-default-Some c =

@@ -17,7 +17,8 @@ returns c =
     let stage_is = ap (λ (w : WalkState). w.stage) (sym c.self.view_is) ∙ c.in-Open.is in
     let went = rw c.if-not-branch.false at c.in_ok-advance.ensures in
     let step = subst (λ (s : Stage). StepsAs c.args.self.now s c.advance.new.self) stage_is went.1 in
-    let gives = lent _ c.advance.new.self c.in-Open.page c.last.result c.row.result.now step c.last.ensures.page c.last.ensures.row c.row.ensures in
+    let gives =
+    lent _ c.advance.new.self c.in-Open.page c.last.result c.row.result.now step c.last.ensures.page c.last.ensures.row c.row.ensures in
     let come = c.has_come.ensures in
     let left = c.has_items.ensures in
     let given = number_given c.rows_are_as_before.ensures.tails _ come _ _ gives left in

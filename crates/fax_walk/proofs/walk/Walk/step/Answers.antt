@@ -13,10 +13,12 @@ invariant_of-self-in-Err-6 c =
     rw (c.ended_at.ensures, c.replace.ensures.value) (
       (
         counted_last _ _ _ c.in-Open.page c.next.new.self _ _ sound.1 none refl,
-        ended_on_page c.files_have_one_chain.ensures _ _ _ _ c.in-Open.page c.next.new.self sound.0.is_open.limits sound.2 c.in-Err.ensures.goes_on
+        ended_on_page c.files_have_one_chain.ensures _ _ _ _ c.in-Open.page c.next.new.self sound.0.is_open.limits sound.2
+            c.in-Err.ensures.goes_on
             (λ some. omega (arith, none.some, none.most, sound.1.none_left some)),
       ),
-      come_ended _ _ _ _ (Open c.in-Open.page) _ c.next.new.self.read (Some c.next.new.self) c.in-Err.ensures.err (rw c.in-Open.is at c.self.invariant.1),
+      come_ended _ _ _ _ (Open c.in-Open.page) _ c.next.new.self.read (Some c.next.new.self) c.in-Err.ensures.err
+          (rw c.in-Open.is at c.self.invariant.1),
     )
 
 pub invariant_of-self-in-Ok : goal.invariant_of-self-in-Ok
@@ -35,4 +37,5 @@ pub returns-in-Ok : goal.returns-in-Ok
 returns-in-Ok c =
     let sound = rw c.in-Open.is at c.self.invariant.0 in
     rw (← c.self.view_is)
-    (stepped _ c.in-Open.page c.next.new.self c.cursor-self-inside.result c.in-Open.is sound.0 c.in-Ok.ensures.ok c.cursor-self-inside.ensures)
+    (stepped _ c.in-Open.page c.next.new.self c.cursor-self-inside.result c.in-Open.is sound.0 c.in-Ok.ensures.ok
+    c.cursor-self-inside.ensures)
