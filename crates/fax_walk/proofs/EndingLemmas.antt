@@ -1,21 +1,25 @@
--- Cursors after which there is nothing but an end.
+-- What a chain's next directory is, and where it ends.
 use Rattle.std.proofs.Common.{◌≡◌, ℕ, ◌+◌, ◌<◌, ◌≤◌, Bool, true, false, List, length, Option, Some, None, Result, Ok, Err, inl, inr, refl}
-use Rattle.std.proofs.Common.{arith}
+use Rattle.std.proofs.Common.{sym, ap, ◌∙◌, subst, arith}
 use Rattle.std.proofs.lemmas.Bool.Decides.{nat_tests}
 use Rattle.std.specs.Prelude.{slice_get, ◌==◌, ◌&&◌, if◌then◌else◌}
 use Rattle.std.proofs.lemmas.Option.{slice_get_past, slice_get_cases, slice_get_within}
 use Rattle.fax_files.specs.declared.FileFault.{FileFault}
 use Rattle.fax_files.specs.declared.Cause.TheVariants.{File}
-use Rattle.fax_files.specs.Numbers.{Header, header}
+use Rattle.fax_files.specs.declared.PageForm.{PageForm}
+use Rattle.fax_files.specs.Numbers.{header}
+use Rattle.fax_files.specs.Chain.{IsChain}
 use Rattle.fax_files.specs.Laws.{HasOneChain, FilesHaveOneChain}
-use Rattle.fax_files.specs.Page.{page}
+use Rattle.fax_files.specs.Page.{IsPageForm}
 use Rattle.fax_files.specs.code.Chain.{ChainState, IsDueAnswer, behind_answer}
-use Rattle.fax_files.specs.code.Tiff.{TiffDirectory}
+use Rattle.fax_files.specs.code.Tiff.{TiffDirectory, directory_of, form_of}
 use Rattle.fax_walk.specs.declared.cursor.Cursor.{Cursor}
+use Rattle.fax_walk.specs.declared.end.End.{End}
 use Rattle.fax_walk.specs.declared.end.End.TheVariants.{Proper, Fault, Outside}
-use Rattle.fax_walk.specs.Tail.{end_past_chain}
-use Rattle.fax_walk.specs.code.Opening.{EndsAt, IsChainBefore}
+use Rattle.fax_walk.specs.Pages.{IsPageAt, end_past_chain, page_or_end}
+use Rattle.fax_walk.specs.code.Opening.{EndsAt, IsChainBefore, IsFilePage, IsNamed, IsNoPage, IsPageAnswer, IsPageDue, PageDue, page_with}
 use Rattle.fax_walk.proofs.OpeningLemmas.{due_some, due_none, due_fault}
+use Rattle.fax_walk.proofs.PageLawLemmas.{page_here}
 
 -- past the end of a list there is no element
 pub none_past : (offsets : List ℕ) (i : ℕ) → slice_get offsets i ≡ None → length offsets ≤ i
@@ -38,93 +42,12 @@ outside_row pages at some = by_test (at.page == pages)
     by_test true = rw e refl
     by_test false = refl
 
-proper_past : (pages : ℕ) (at : Cursor) → at.page ≡ pages → at.row ≡ 0 → end_past_chain pages None at ≡ Proper
-proper_past pages at page row =
-    let e : (at.page == pages) ≡ true = grind (arith, nat_tests, page) in
-    let f : (at.row == 0) ≡ true = grind (arith, nat_tests, row) in
-    rw (e, f) refl
+proper_past : (pages : ℕ) → end_past_chain pages None (record { page = pages; row = 0 }) ≡ Proper
+proper_past pages = let e : (pages == pages) ≡ true = grind (arith, nat_tests) in rw e refl
 
-module _ (file : List ℕ) (at : Cursor) where
-  -- the header is refused
-  pub header_refused : (fault : FileFault) → header file ≡ Err fault → EndsAt file at (Fault 0 0 (File fault))
-  header_refused fault refused = rw refused (
-    (refl, refl),
-    (
-      Err (Fault 0 0 (File fault)),
-      (Err (Fault 0 0 (File fault)), refl, refl),
-      (refl, refl),
-    ),
-    refl,
-    λ bits runs. (refl, refl),
-  )
-
-  module _ (head : Header) (is : header file ≡ Ok head) (one : HasOneChain head file) where
-    -- the chain has no page of this number
-    past_chain : slice_get one.offsets at.page ≡ None → EndsAt file at (end_past_chain (length one.offsets) one.end at)
-    past_chain none = rw is (
-      (one.offsets, one.end, one.is, rw none (refl, refl)),
-      (Err _, (Err (end_past_chain (length one.offsets) one.end at), (one.offsets, one.end, one.is, rw none refl), refl), (refl, refl)),
-      (one.offsets, one.end, one.is, rw none refl),
-      λ bits runs. (one.offsets, one.end, one.is, rw none (refl, refl)),
-    )
-
-    -- a chain of fewer pages ends properly
-    pub ends_before : (number : ℕ) → slice_get one.offsets number ≡ None → one.end ≡ None → number < at.page → EndsAt file at Outside
-    ends_before number none proper before =
-        let few = none_past one.offsets number none in
-        let end_is : end_past_chain (length one.offsets) one.end at ≡ Outside =
-        rw proper (outside_past (length one.offsets) at (omega (arith, few, before))) in
-        rw end_is at (past_chain (slice_get_past one.offsets at.page (omega (arith, few, before))))
-
-    -- a chain of at most as many pages ends with a fault
-    pub fault_before : (number : ℕ) (fault : FileFault) → slice_get one.offsets number ≡ None → number ≤ length one.offsets
-        → one.end ≡ Some fault → number ≤ at.page → EndsAt file at (Fault number 0 (File fault))
-    fault_before number fault none within met before =
-        let few = none_past one.offsets number none in
-        let count : length one.offsets ≡ number = omega (arith, few, within) in
-        let end_is : end_past_chain (length one.offsets) one.end at ≡ Fault number 0 (File fault) = rw (met, count) refl in
-        rw end_is at (past_chain (slice_get_past one.offsets at.page (omega (arith, few, before))))
-
-    -- a chain of as many pages ends properly, and the cursor names a row after them
-    pub row_behind : slice_get one.offsets at.page ≡ None → one.end ≡ None → 0 < at.row → EndsAt file at Outside
-    row_behind none proper some =
-        let end_is : end_past_chain (length one.offsets) one.end at ≡ Outside = rw proper (outside_row (length one.offsets) at some) in
-        rw end_is at (past_chain none)
-
-    -- a chain of as many pages ends properly, and the cursor names the place after them
-    pub place_behind : slice_get one.offsets at.page ≡ None → at.page ≤ length one.offsets → one.end ≡ None → at.row ≡ 0
-        → EndsAt file at Proper
-    place_behind none within proper row =
-        let few = none_past one.offsets at.page none in
-        let end_is : end_past_chain (length one.offsets) one.end at ≡ Proper =
-        rw proper (proper_past (length one.offsets) at (omega (arith, few, within)) row) in
-        rw end_is at (past_chain none)
-
-    -- the page's fields are refused
-    pub fields_refused : (q : ℕ) (refused : FileFault) → slice_get one.offsets at.page ≡ Some q → page head.endian file q ≡ Err refused
-        → EndsAt file at (Fault at.page 0 (File refused))
-    fields_refused q refused some bad =
-        rw is (
-          (one.offsets, one.end, one.is, rw (some, bad) (refl, refl)),
-          (Err _, (Err (Fault at.page 0 (File refused)), (one.offsets, one.end, one.is, rw (some, bad) refl), refl), (refl, refl)),
-          (one.offsets, one.end, one.is, rw (some, bad) refl),
-          λ bits runs. (one.offsets, one.end, one.is, rw (some, bad) (refl, refl)),
-        )
-
--- what a file's chain answers for the directory that is due
-module _ (chain : ChainState) (good : header chain.tiff.file ≡ Ok chain.tiff.head) (one : HasOneChain chain.tiff.head chain.tiff.file)
-    (answer : Result (Option TiffDirectory) FileFault) (due : IsDueAnswer chain answer) (at : Cursor) where
-  -- the chain ends before the cursor's page
-  pub none_met : answer ≡ Ok None → chain.given < at.page → EndsAt chain.tiff.file at Outside
-  none_met is past =
-      let none = due_none chain answer due is one.offsets one.end one.is in
-      ends_before chain.tiff.file at chain.tiff.head good one chain.given none.0 none.1 past
-
-  pub fault_met : (fault : FileFault) → chain.given ≤ length one.offsets → answer ≡ Err fault → chain.given ≤ at.page
-      → EndsAt chain.tiff.file at (Fault chain.given 0 (File fault))
-  fault_met fault within is past =
-      let none = due_fault chain answer due fault is one.offsets one.end one.is in
-      fault_before chain.tiff.file at chain.tiff.head good one chain.given fault none.0 within none.1 past
+pub header_refused : (file : List ℕ) (at : Cursor) (fault : FileFault) → header file ≡ Err fault
+    → IsPageAt file at (Err (Fault 0 0 (File fault)))
+header_refused file at fault refused = rw refused refl
 
 -- a directory stands there
 pub goes_on : (file : List ℕ) (number : ℕ) (chain new : ChainState) (answer : Result (Option TiffDirectory) FileFault)
@@ -143,20 +66,118 @@ goes_on file number chain new answer directory before due is counted =
           omega (arith, inside, before.given);
     })
 
--- the chain ends before a cursor's page
-pub none_before : (file : List ℕ) (number : ℕ) (chain : ChainState) (answer : Result (Option TiffDirectory) FileFault) (at : Cursor)
-    → IsChainBefore file number chain → FilesHaveOneChain → IsDueAnswer chain answer → answer ≡ Ok None → number < at.page
-    → EndsAt file at Outside
-none_before file number chain answer at before chains due is past =
-    rw before.file_is at
-    (none_met chain (rw before.file_is before.head) (chains chain.tiff.head chain.tiff.file) answer due at is (rw before.given past))
+-- a file's chain before a directory, and what it answers for it
+module _ (file : List ℕ) (number : ℕ) (chain : ChainState) (answer : Result (Option TiffDirectory) FileFault)
+    (before : IsChainBefore file number chain) (chains : FilesHaveOneChain) (due : IsDueAnswer chain answer) where
+  abbrev one : HasOneChain chain.tiff.head file
+  one = chains chain.tiff.head file
 
-pub fault_before_page : (file : List ℕ) (number : ℕ) (chain : ChainState) (answer : Result (Option TiffDirectory) FileFault) (at : Cursor)
-    (fault : FileFault)
-    → IsChainBefore file number chain → FilesHaveOneChain → IsDueAnswer chain answer → answer ≡ Err fault → number ≤ at.page
-    → EndsAt file at (Fault number 0 (File fault))
-fault_before_page file number chain answer at fault before chains due is past =
-    let one = chains chain.tiff.head chain.tiff.file in
-    let within = before.within one.offsets one.end one.is in
-    rw (before.file_is, before.given) at
-    (fault_met chain (rw before.file_is before.head) one answer due at fault (rw before.given within) is (rw before.given past))
+  is_one : IsChain chain.tiff.head chain.tiff.file one.offsets one.end
+  is_one = rw before.file_is one.is
+
+  -- the chain has no page of a later number
+  past_chain : (at : Cursor) → slice_get one.offsets chain.given ≡ None → number ≤ at.page
+      → IsPageAt file at (Err (end_past_chain (length one.offsets) one.end at))
+  past_chain at none past =
+      let few = none_past one.offsets chain.given none in
+      let there : slice_get one.offsets at.page ≡ None = slice_get_past one.offsets at.page (omega (arith, few, past, before.given)) in
+      rw there at (page_here file chain.tiff.head before.head one.offsets one.end one.is at)
+
+  count_is : slice_get one.offsets chain.given ≡ None → length one.offsets ≡ number
+  count_is none =
+      let few = none_past one.offsets chain.given none in
+      let within = before.within one.offsets one.end is_one in
+      omega (arith, few, within, before.given)
+
+  pub none_before : (at : Cursor) → answer ≡ Ok None → number < at.page → IsPageAt file at (Err Outside)
+  none_before at is past =
+      let none = due_none chain answer due is one.offsets one.end is_one in
+      let count = count_is none.0 in
+      let end_is : end_past_chain (length one.offsets) one.end at ≡ Outside =
+      rw none.1 (outside_past (length one.offsets) at (omega (arith, count, past))) in
+      rw end_is at (past_chain at none.0 (omega (arith, past)))
+
+  pub row_past : (r : ℕ) → answer ≡ Ok None → 0 < r → IsPageAt file (record { page = number; row = r }) (Err Outside)
+  row_past r is some =
+      let at : Cursor = record { page = number; row = r } in
+      let none = due_none chain answer due is one.offsets one.end is_one in
+      let end_is : end_past_chain (length one.offsets) one.end at ≡ Outside = rw none.1 (outside_row (length one.offsets) at some) in
+      rw end_is at (past_chain at none.0 (omega arith))
+
+  pub proper_end_at : answer ≡ Ok None → IsPageAt file (record { page = number; row = 0 }) (Err Proper)
+  proper_end_at is =
+      let at : Cursor = record { page = number; row = 0 } in
+      let none = due_none chain answer due is one.offsets one.end is_one in
+      let end_is : end_past_chain (length one.offsets) one.end at ≡ Proper = rw (none.1, count_is none.0) (proper_past number) in
+      rw end_is at (past_chain at none.0 (omega arith))
+
+  pub fault_before_page : (at : Cursor) (fault : FileFault) → answer ≡ Err fault → number ≤ at.page
+      → IsPageAt file at (Err (Fault number 0 (File fault)))
+  fault_before_page at fault is past =
+      let none = due_fault chain answer due fault is one.offsets one.end is_one in
+      let end_is : end_past_chain (length one.offsets) one.end at ≡ Fault number 0 (File fault) = rw (none.1, count_is none.0) refl in
+      rw end_is at (past_chain at none.0 past)
+
+  -- a directory stands there
+  module _ (directory : TiffDirectory) (is : answer ≡ Ok (Some directory)) where
+    there : (slice_get one.offsets chain.given ≡ Some directory.offset) × (directory ≡ directory_of chain.tiff directory.offset)
+    there = due_some chain answer due directory is one.offsets one.end is_one
+
+    pub same_file : directory.file ≡ chain.tiff.file
+    same_file = ap (λ (d : TiffDirectory). d.file) there.1
+
+    found : (r : ℕ) → IsPageAt directory.file (record { page = number; row = r })
+        (page_or_end directory.endian directory.offset number (form_of directory))
+    found r =
+        let some : slice_get one.offsets number ≡ Some directory.offset = rw before.given at there.0 in
+        rw (there.1, before.file_is)
+        (rw some at (page_here file chain.tiff.head before.head one.offsets one.end one.is (record { page = number; row = r })))
+
+    pub fields_refused : (refused : FileFault) → form_of directory ≡ Err refused → IsNoPage directory.file number (Fault number 0 (File refused))
+    fields_refused refused bad r = rw bad at (found r)
+
+    pub page_due : (new : ChainState) (form : PageForm) → new ≡ behind_answer chain answer → form_of directory ≡ Ok form → IsPageForm form
+        → IsPageDue number new directory form
+    page_due new form counted form_is limits = record {
+      its = record {
+        here = λ r. rw form_is at (found r);
+        after = let same : directory.file ≡ file = same_file ∙ before.file_is in
+            rw same (goes_on file number chain new answer directory before due is counted);
+      };
+      form_is = form_is;
+      limits = limits;
+    }
+
+-- what a cursor names, where its page stands there
+pub named_page : (file : List ℕ) (at : Cursor) (chain : ChainState) (due : PageDue) → IsChainBefore file at.page chain
+    → IsPageAnswer chain (Ok (Some due)) → IsFilePage due.page due.chain due.directory due.form → at.row ≤ due.form.rows
+    → IsNamed file at (Some due)
+named_page file at chain due before answer its within = (
+  answer.1 ∙ before.file_is,
+  answer.0 ∙ before.given,
+  within,
+  rw (answer.1 ∙ before.file_is, answer.0 ∙ before.given) at (its.here at.row),
+)
+
+pub named_outside : (file : List ℕ) (at : Cursor) (chain : ChainState) (due : PageDue) → IsChainBefore file at.page chain
+    → IsPageAnswer chain (Ok (Some due)) → IsFilePage due.page due.chain due.directory due.form → due.form.rows < at.row
+    → EndsAt file at Outside
+named_outside file at chain due before answer its above = inr (
+  page_with due.directory due.form,
+  rw (answer.1 ∙ before.file_is, answer.0 ∙ before.given) at (its.here at.row),
+  above,
+  refl,
+)
+
+-- the same where there is none
+pub named_none : (file : List ℕ) (at : Cursor) (chain : ChainState) → IsChainBefore file at.page chain → IsPageAnswer chain (Ok None)
+    → at.row ≡ 0 → IsPageAt file at (Err Proper)
+named_none file at chain before answer first = rw (← first, before.file_is, before.given) at answer.0
+
+pub named_past : (file : List ℕ) (at : Cursor) (chain : ChainState) → IsChainBefore file at.page chain → IsPageAnswer chain (Ok None)
+    → 0 < at.row → EndsAt file at Outside
+named_past file at chain before answer some = inl (rw (before.file_is, before.given) at (answer.1 at.row some))
+
+pub named_refused : (file : List ℕ) (at : Cursor) (chain : ChainState) (end : End) → IsChainBefore file at.page chain
+    → IsPageAnswer chain (Err end) → EndsAt file at end
+named_refused file at chain end before answer = inl (rw (before.file_is, before.given) at (answer at.row))

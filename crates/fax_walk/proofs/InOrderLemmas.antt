@@ -91,6 +91,12 @@ module _ {S A : Type 0} (next : S → Result (A × S) End → Type 0) where
   leads_on at to [] item later to_is step = (later, rw (← to_is) step, refl)
   leads_on at to (x ∷ items) item later (place, first, leads) step = (place, first, leads_on place to items item later leads step)
 
+  -- items that lead to a place, and then others from there
+  pub leads_over : (at to later : S) (items more : List A) → LeadTo next at items to → LeadTo next to more later
+      → LeadTo next at (items ++ more) later
+  leads_over at to later [] more to_is leads = subst (λ (s : S). LeadTo next s more later) to_is leads
+  leads_over at to later (x ∷ items) more (place, step, rest) leads = (place, step, leads_over place to later items more rest leads)
+
   -- items that lead to a place, and then what is handed out from there
   pub joined : (at to : S) (items after : List A) (end : End) → LeadTo next at items to → AreFrom next to after end
       → AreFrom next at (items ++ after) end
@@ -102,6 +108,22 @@ module _ {S A : Type 0} (next : S → Result (A × S) End → Type 0) where
       → (at to : S) (items : List A) → LeadTo next at items to → holds at → holds to
   kept holds keeps at to [] to_is here = subst holds (sym to_is) here
   kept holds keeps at to (x ∷ items) (place, step, leads) here = kept holds keeps place to items leads (keeps at x place here step)
+
+-- what stands after so many elements of a list, of which some are dropped
+get_after : {A : Type 0} (front : List A) (x : A) (more : List A) (n : ℕ) → length front ≡ n → slice_get (front ++ x ∷ more) n ≡ Some x
+get_after [] x more zero e = refl
+get_after [] x more (suc n) e = absurd (omega (arith, e))
+get_after (y ∷ front) x more zero e = absurd (omega (arith, e))
+get_after (y ∷ front) x more (suc n) e = get_after front x more n (omega (arith, e))
+
+get_dropped : {A : Type 0} (k n : ℕ) (xs : List A) → slice_get (drop k xs) n ≡ slice_get xs (k + n)
+get_dropped zero n xs = let e : 0 + n ≡ n = omega arith in rw e refl
+get_dropped (suc k) n [] = refl
+get_dropped (suc k) n (x ∷ xs) = let e : suc k + n ≡ suc (k + n) = omega arith in rw e (get_dropped k n xs)
+
+pub number_dropped : {A : Type 0} (k n : ℕ) (front : List A) (x : A) (more : List A) → length front ≡ k + n
+    → slice_get (drop k (front ++ x ∷ more)) n ≡ Some x
+number_dropped k n front x more count = get_dropped k n (front ++ x ∷ more) ∙ get_after front x more (k + n) count
 
 -- what stands at a number of a list divides it
 pub divided_at : {A : Type 0} (xs : List A) (n : ℕ) (x : A) → slice_get xs n ≡ Some x

@@ -20,8 +20,15 @@ use Rattle.fax_walk.specs.declared.end.End.{End}
 use Rattle.fax_walk.specs.LongCursor.{LongPlace}
 use Rattle.fax_walk.specs.Items.{Item, numbered, stop_at, Follows, AreFromRowOf, ArePagesItems}
 use Rattle.fax_walk.specs.Tail.{IsTail, IsTailOver, IsTailUnder}
-use Rattle.fax_walk.proofs.DueLemmas.{shown_none}
 use Rattle.fax_walk.specs.LongTail.{strip_at, row_in_strip, HasPage, AreOnPage, IsLongTail}
+
+-- rows as they are handed out, one after the other
+pub shown_none : (form : PageForm) → shown form [] ≡ []
+shown_none form = by_test form.exchanged
+  where
+    by_test : (b : Bool) → (let rows : List (List Colour) = [] in if b then map (map other) rows else rows) ≡ []
+    by_test true = refl
+    by_test false = refl
 
 -- a file's page of a number is one
 pub same_page : FilesHaveOneChain → (file : List ℕ) (p : ℕ) (head head' : Header) (q q' : ℕ) (form form' : PageForm)

@@ -3,155 +3,67 @@ use Rattle.std.proofs.Common.{◌≡◌, ℕ, zero, suc, ◌+◌, ◌^◌, ◌<�
 use Rattle.std.proofs.Common.{Err, inl, inr, refl, sym, ap, ◌∙◌, subst, arith, append-nil, length-append}
 use Rattle.std.proofs.lemmas.Bool.Decides.{nat_tests}
 use Rattle.std.proofs.lemmas.List.{drop_at, drop_all, length_push}
-use Rattle.std.proofs.lemmas.Option.{slice_get_within}
 use Rattle.std.specs.Prelude.{IfOk, IfErr, slice_get, nat_le, ◌==◌}
-use Rattle.fax_files.specs.Laws.{FilesHaveOneChain}
-use Rattle.fax_files.specs.Numbers.{header}
-use Rattle.fax_files.specs.Page.{IsPageForm, page}
+use Rattle.fax_files.specs.declared.PageForm.{PageForm}
 use Rattle.fax_files.specs.code.Chain.{ChainState}
-use Rattle.fax_files.specs.code.Tiff.{TiffFile}
+use Rattle.fax_files.specs.code.Tiff.{TiffDirectory}
 use Rattle.fax_walk.specs.declared.cursor.Cursor.{Cursor}
 use Rattle.fax_walk.specs.declared.end.End.{End}
-use Rattle.fax_walk.specs.declared.end.End.TheVariants.{Proper}
 use Rattle.fax_walk.specs.InOrder.{AreFrom, LeadTo, EndsAfter, HasToldNoOther}
-use Rattle.fax_walk.specs.Pages.{FormItem, FilePage, IsPageAt, IsForm, AreFormsBegun, IsFormTail}
+use Rattle.fax_walk.specs.Pages.{FormItem, IsPageAt, IsForm, AreFormsBegun, IsFormTail}
 use Rattle.fax_walk.specs.PagesLeft.{PagesView, AreFormsLeft, HandsOutPage}
 use Rattle.fax_walk.specs.PageLaws.{CursorsHaveOneFormTail, FormTailOfPage}
-use Rattle.fax_walk.specs.code.Due.{IsInFile}
-use Rattle.fax_walk.specs.code.Opening.{PageDue, IsPageAnswer, IsAnswerOver, IsChainBefore, IsFormNext, IsFormOf, IsPageOf}
+use Rattle.fax_walk.specs.code.Opening.{PageDue, IsPageDue, IsFilePage, IsChainBefore, IsNamed, EndsAt, page_with}
 use Rattle.fax_walk.specs.code.Pages.{HasGiven, IsPageAfter, BeginsWith, IsDueIn, EndsNow}
-use Rattle.fax_walk.proofs.EndingLemmas.{none_past}
 use Rattle.fax_walk.proofs.InOrderLemmas.{joined, leads_on}
-use Rattle.fax_walk.proofs.PageLawLemmas.{page_here}
 
--- what a chain's next page is, in its file
-module _ (chain : ChainState) (chains : FilesHaveOneChain) (file : List ℕ) (before : IsChainBefore file chain.given chain) where
-  abbrev p : ℕ
-  p = chain.given
+-- a page of a file is the form of its number
+pub form_here : (p : ℕ) (chain : ChainState) (directory : TiffDirectory) (form : PageForm) → IsFilePage p chain directory form
+    → IsForm directory.file p (Ok (record { page = p; form = form }, p + 1))
+form_here p chain directory form its = (Ok (page_with directory form), its.here 0, refl)
 
-  abbrev at : Cursor
-  at = record { page = p; row = 0 }
-
-  good : header file ≡ Ok chain.tiff.head
-  good = before.head
-
-  over : (answer : Result (Option PageDue) End) → IsPageAnswer chain answer
-      → IsAnswerOver chain (chains chain.tiff.head file).offsets (chains chain.tiff.head file).end answer
-  over answer answers = let one = chains chain.tiff.head file in answers.over one.offsets one.end (rw before.file_is one.is)
-
-  pub refused_form : (end : End) → IsPageAnswer chain (Err end) → IsForm file p (Err end)
-  refused_form end answers = by_over (over (Err end) answers)
-    where
-      by_over : IsAnswerOver chain (chains chain.tiff.head file).offsets (chains chain.tiff.head file).end (Err end)
-          → IsForm file p (Err end)
-      by_over (inl (met, none, stops, end_is)) =
-          let one = chains chain.tiff.head file in
-          let few = none_past one.offsets p none in
-          let within = before.within one.offsets one.end (rw before.file_is one.is) in
-          let count : length one.offsets ≡ p = omega (arith, few, within) in
-          rw end_is (_, rw (none, stops, count) at (page_here file chain.tiff.head good one.offsets one.end one.is at), refl)
-      by_over (inr (q, refused, some, bad, end_is)) =
-          let one = chains chain.tiff.head file in
-          let bad_here : page chain.tiff.head.endian file q ≡ Err refused = rw before.file_is at bad in
-          rw end_is (_, rw (some, bad_here) at (page_here file chain.tiff.head good one.offsets one.end one.is at), refl)
-
-  pub last_form : IsPageAnswer chain (Ok None) → IsForm file p (Err Proper)
-  last_form answers =
-      let one = chains chain.tiff.head file in
-      let last = over (Ok None) answers in
-      let few = none_past one.offsets p last.0 in
-      let within = before.within one.offsets one.end (rw before.file_is one.is) in
-      let count : (p == length one.offsets) ≡ true = grind (arith, nat_tests, few, within) in
-      (_, rw (last.0, last.1, count) at (page_here file chain.tiff.head good one.offsets one.end one.is at), refl)
-
-  pub in_file_next : (due : PageDue) → IsPageAnswer chain (Ok (Some due)) → IsInFile file due.page due.chain due.directory due.form
-  in_file_next due answers =
-      let tiff_is : due.chain.tiff ≡ chain.tiff = ap (λ (c : ChainState). c.tiff) answers.next.1 in
-      record {
-        head = rw tiff_is good;
-        file_is = ap (λ (t : TiffFile). t.file) tiff_is ∙ before.file_is;
-        there = λ offsets fault chained.
-            let there = answers.over offsets fault (rw tiff_is at chained) in
-            rw (answers.next.0) there;
-        directory_is = answers.next.2.directory_is;
-        form_is = answers.next.2.form_is;
-      }
-
--- a page that is due, as a file's
-abbrev pub found_page : PageDue → FilePage
-found_page due = record { endian = due.chain.tiff.head.endian; offset = due.directory.offset; form = due.form }
-
--- a page of a file, and the chain after it
-module _ (chains : FilesHaveOneChain) (file : List ℕ) (due : PageDue) (in_file : IsInFile file due.page due.chain due.directory due.form)
-    (given : due.chain.given ≡ due.page + 1) where
-  form_is : page due.chain.tiff.head.endian file due.directory.offset ≡ Ok due.form
-  form_is = rw (in_file.directory_is, in_file.file_is) at in_file.form_is
-
-  pub page_found : (r : ℕ)
-      → IsPageAt file (record { page = due.page; row = r }) (Ok (found_page due))
-  page_found r =
-      let one = chains due.chain.tiff.head file in
-      let there = in_file.there one.offsets one.end (rw (in_file.file_is) one.is) in
-      rw (there, form_is) at
-      (page_here file due.chain.tiff.head in_file.head one.offsets one.end one.is (record { page = due.page; row = r }))
-
-  pub its_form : IsFormOf file due
-  its_form = record {
-    step = (Ok (found_page due), page_found 0, refl);
-    given = given;
-    before = record {
-      head = in_file.head;
-      file_is = in_file.file_is;
-      given = refl;
-      within = λ offsets fault chained.
-          let inside = slice_get_within offsets due.page due.directory.offset (in_file.there offsets fault chained) in
-          omega (arith, inside, given);
-    };
-  }
-
-pub page_after_is : (chain : ChainState) (due : PageDue) → FilesHaveOneChain → IsPageAnswer chain (Ok (Some due)) → IsPageAfter chain due
-page_after_is chain due chains answers = (
-  answers.next.0,
-  λ file before. its_form chains file due (in_file_next chain chains file before due answers) answers.next.2.behind,
-)
-
-module _ (chains : FilesHaveOneChain) (file : List ℕ) (at : Cursor) (due : PageDue) (named : IsPageOf file at due) where
-  its : IsFormOf file due
-  its = its_form chains file due named.in_file named.given
-
-  here : (r : ℕ) → IsPageAt file (record { page = at.page; row = r }) (Ok (found_page due))
-  here r = subst (λ (n : ℕ). IsPageAt file (record { page = n; row = r }) (Ok (found_page due))) named.same_page
-      (page_found chains file due named.in_file named.given r)
-
+module _ (file : List ℕ) (at : Cursor) (due : PageDue) (named : IsNamed file at (Some due)) where
   -- a reader from a page's first row begins with that page
   pub begins_here : at.row ≡ 0 → BeginsWith file at due
   begins_here first =
       let test : (at.row == 0) ≡ true = grind (arith, nat_tests, first) in
-      record { begins = (Ok (found_page due), here at.row, rw (test, named.same_page) refl); its = its }
+      record { begins = (Ok (page_with due.directory due.form), named.3, rw (test, named.1) refl); file_is = named.0 }
 
   begins_next : 0 < at.row → AreFormsBegun file at (Ok (at.page + 1, 0))
   begins_next some =
-      let within = named.within in
+      let within = named.2 in
       let later : (at.row == 0) ≡ false = grind (arith, nat_tests, some) in
       let near : nat_le at.row due.form.rows ≡ true = grind (arith, nat_tests, within) in
-      (Ok (found_page due), here at.row, rw (later, near) refl)
+      (Ok (page_with due.directory due.form), named.3, rw (later, near) refl)
 
+module _ (file : List ℕ) (at : Cursor) (due : PageDue) (named : IsNamed file at (Some due))
+    (its : IsFilePage due.page due.chain due.directory due.form) where
   number : due.chain.given ≡ at.page + 1
-  number = named.given ∙ ap (λ (n : ℕ). n + 1) named.same_page
+  number = its.after.given ∙ ap (λ (n : ℕ). n + 1) named.1
+
+  chain_file : due.chain.tiff.file ≡ file
+  chain_file = its.after.file_is ∙ named.0
 
   -- from a later row with the page after it
   pub begins_after : 0 < at.row → (result : Result PageDue End) → IfOk result (IsPageAfter due.chain) → IfOk result (BeginsWith file at)
   begins_after some (Ok next) after = record {
-    begins = subst (λ (n : ℕ). AreFormsBegun file at (Ok (n, 0))) (sym (after.0 ∙ number)) (begins_next some);
-    its = after.1 file its.before;
+    begins = subst (λ (n : ℕ). AreFormsBegun file at (Ok (n, 0))) (sym (after.0 ∙ number)) (begins_next file at due named some);
+    file_is = after.1 ∙ chain_file;
   }
   begins_after some (Err end) after = after
 
-  pub ends_after : 0 < at.row → (result : Result PageDue End) → IfErr result (λ end. IsFormNext due.chain (Err end))
-      → IfErr result (IsFormTail file at [])
+  pub ends_after : 0 < at.row → (result : Result PageDue End)
+      → IfErr result (λ end. IsForm due.chain.tiff.file due.chain.given (Err end)) → IfErr result (IsFormTail file at [])
   ends_after some (Ok next) after = after
-  ends_after some (Err end) after =
-      (Ok (at.page + 1, 0), begins_next some, ([], subst (λ (n : ℕ). IsForm file n (Err end)) number (after file its.before), refl))
+  ends_after some (Err end) after = (Ok (at.page + 1, 0), begins_next file at due named some, ([], rw (chain_file, number) at after, refl))
+
+-- from a cursor on there are no pages
+pub no_forms : (file : List ℕ) (at : Cursor) (end : End) → EndsAt file at end → IsFormTail file at [] end
+no_forms file at end (inl none) = (Err end, (Err end, none, refl), (refl, refl))
+no_forms file at end (inr (here, page, above, end_is)) =
+    let later : (at.row == 0) ≡ false = grind (arith, nat_tests, above) in
+    let far : nat_le at.row here.form.rows ≡ false = grind (arith, nat_tests, above) in
+    (Err end, (Ok here, page, rw (later, far, end_is) refl), (refl, refl))
 
 -- a reader that begins with a page hands it out first
 pub due_first : (pages : PagesView) (result : Result PageDue End) → pages.told ≡ None → pages.given ≡ 0
@@ -159,7 +71,7 @@ pub due_first : (pages : PagesView) (result : Result PageDue End) → pages.told
 due_first pages (Ok due) untold none begins = record {
   untold = untold;
   come = record { first = due.page; begins = begins.begins; forms = []; lead = refl; count = sym none; few = omega (arith, none) };
-  its = begins.its;
+  file_is = begins.file_is;
 }
 due_first pages (Err end) untold none begins = begins
 
@@ -179,7 +91,7 @@ pub due_after : (pages : PagesView) (chain : ChainState) (result : Result PageDu
 due_after pages chain (Ok due) untold sound after = record {
   untold = untold;
   come = subst (HasGiven pages.file pages.begun pages.given) (sym after.0) sound.0;
-  its = after.1 pages.file sound.1;
+  file_is = after.1 ∙ sound.1.file_is;
 }
 due_after pages chain (Err end) untold sound after = after
 
@@ -194,11 +106,11 @@ ended_after file begun given p end come is = (
 
 pub ends_later : (file : List ℕ) (begun cursor : Cursor) (given : ℕ) (told : Option End) (chain : ChainState) (result : Result PageDue End)
     → told ≡ None
-    → HasGiven file begun given chain.given × IsChainBefore file chain.given chain → IfErr result (λ end. IsFormNext chain (Err end))
+    → HasGiven file begun given chain.given × IsChainBefore file chain.given chain → IfErr result (λ end. IsForm chain.tiff.file chain.given (Err end))
     → IfErr result (EndsNow (record { file = file; begun = begun; given = given; cursor = cursor; told = told }))
 ends_later file begun cursor given told chain (Ok due) untold sound after = after
 ends_later file begun cursor given told chain (Err end) untold sound after =
-    (ended_after file begun given chain.given end sound.0 (after file sound.1), no_other told end untold)
+    (ended_after file begun given chain.given end sound.0 (rw (sound.1.file_is) at after), no_other told end untold)
 
 number_of : (front : List FormItem) (item : FormItem) (more : List FormItem) (n : ℕ) → length front ≡ n
     → slice_get (front ++ item ∷ more) n ≡ Some item
@@ -220,13 +132,15 @@ module _ (tails : CursorsHaveOneFormTail) (of_page : FormTailOfPage) where
       (Ok (come.first, 0), come.begins, (come.forms ++ forms, joined (IsForm file) come.first p come.forms forms end come.lead are, refl))
 
   -- the page that is due is handed out
-  pub page_given : (pages : PagesView) (due : PageDue) → IsDueIn pages due → IsPageForm due.form → due.page + 1 < 2 ^ 32
+  pub page_given : (pages : PagesView) (due : PageDue) → IsDueIn pages due → IsPageDue due.page due.chain due.directory due.form
+      → due.page + 1 < 2 ^ 32
       → HandsOutPage pages (record { page = due.page; form = due.form })
       (record pages { given = pages.given + 1; cursor = record { page = due.page + 1; row = 0 }; told = None })
-  page_given pages due is limits short =
+  page_given pages due is its short =
       let item : FormItem = record { page = due.page; form = due.form } in
       let more = forms_on pages.file (due.page + 1) in
-      let from : AreFrom (IsForm pages.file) due.page (item ∷ more.0) more.1 = (due.page + 1, is.its.step, more.2) in
+      let from : AreFrom (IsForm pages.file) due.page (item ∷ more.0) more.1 =
+      (due.page + 1, rw (is.file_is) at (form_here due.page due.chain due.directory due.form its.its), more.2) in
       record {
         untold = is.untold;
         number = (
@@ -235,7 +149,7 @@ module _ (tails : CursorsHaveOneFormTail) (of_page : FormTailOfPage) where
           all_of pages.file pages.begun pages.given due.page is.come (item ∷ more.0) more.1 from,
           number_of is.come.forms item more.0 pages.given is.come.count,
         );
-        limits = limits;
+        limits = its.limits;
         few = omega (arith, is.come.few, short);
         new_is = ap (λ (t : Option End). record pages {
           given = pages.given + 1;
@@ -279,18 +193,19 @@ forms_left_none file begun cursor given end (all, is, count) = record {
 }
 
 -- one page more was handed out
-pub given_more : (file : List ℕ) (begun : Cursor) (given : ℕ) (due : PageDue) → HasGiven file begun given due.page → IsFormOf file due
+pub given_more : (file : List ℕ) (begun : Cursor) (given : ℕ) (due : PageDue) → HasGiven file begun given due.page
+    → due.directory.file ≡ file → IsFilePage due.page due.chain due.directory due.form
     → HasGiven file begun (given + 1) due.chain.given × IsChainBefore file due.chain.given due.chain
-given_more file begun given due come its = (
+given_more file begun given due come file_is its = (
   record {
     first = come.first;
     begins = come.begins;
     forms = come.forms ++ record { page = due.page; form = due.form } ∷ [];
-    lead = subst (LeadTo (IsForm file) come.first (come.forms ++ record { page = due.page; form = due.form } ∷ [])) (sym its.given)
+    lead = subst (LeadTo (IsForm file) come.first (come.forms ++ record { page = due.page; form = due.form } ∷ [])) (sym its.after.given)
         (leads_on (IsForm file) come.first due.page come.forms (record { page = due.page; form = due.form }) (due.page + 1) come.lead
-        its.step);
+        (rw file_is at (form_here due.page due.chain due.directory due.form its)));
     count = length_push come.forms (record { page = due.page; form = due.form }) ∙ ap (λ (n : ℕ). n + 1) come.count;
-    few = omega (arith, come.few, its.given);
+    few = omega (arith, come.few, its.after.given);
   },
-  its.before,
+  rw (file_is, ← its.after.given) at its.after,
 )

@@ -31,9 +31,8 @@ use Rattle.fax_walk.specs.Rows.{IsItem, IsInStrip, IsRow}
 use Rattle.fax_walk.specs.PageLaws.{plain}
 use Rattle.fax_walk.proofs.RestLemmas.{rest_at}
 use Rattle.fax_walk.proofs.RowLawLemmas.{exchanged_twice, cases_after}
-use Rattle.fax_walk.proofs.DueLemmas.{shown_none}
 use Rattle.fax_walk.proofs.PageItemLemmas.{strip_count, shown_length}
-use Rattle.fax_walk.proofs.LongStripLemmas.{in_strip, numbered_both, shown_both}
+use Rattle.fax_walk.proofs.LongStripLemmas.{in_strip, numbered_both, shown_none, shown_both}
 
 -- these items, with the bits after each, are handed out from a place on
 pub record HasItems (file : List ℕ) (at : Place) (items : List Items.Item) (end : End) : Type 0 where

@@ -89,7 +89,7 @@ module _ (file : List ℕ) where
       in_bytes at item to here page (strip_bytes here.endian file here.offset (strip_at here.form at.row)) refl is
 
   -- a page is the same for each of its rows
-  any_row : (at : Cursor) (r : ℕ) (here : FilePage) → IsPageAt file at (Ok here)
+  pub any_row : (at : Cursor) (r : ℕ) (here : FilePage) → IsPageAt file at (Ok here)
       → IsPageAt file (record { page = at.page; row = r }) (Ok here)
   any_row at r here is = under (header file) is
     where

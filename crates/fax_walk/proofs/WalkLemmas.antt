@@ -1,185 +1,555 @@
--- Steps of a walk.
-use Rattle.std.proofs.Common.{◌≡◌, ℕ, ◌+◌, ◌-◌, ◌^◌, ◌<◌, List, [], ◌∷◌, ◌++◌, Option, None, Result, Ok, Err, refl, sym, ap, ◌∙◌, subst}
-use Rattle.std.proofs.Common.{arith, append_assoc, inr}
-use Rattle.std.proofs.lemmas.List.{length_push}
-use Rattle.std.specs.Prelude.{IfOk, IfErr}
+-- A walk that goes on, or ends.
+use Rattle.std.proofs.Common.{◌≡◌, ℕ, ◌+◌, ◌-◌, ◌^◌, ◌<◌, ◌≤◌, ◌⊎◌, inl, inr, Bool, true, false, List, [], ◌∷◌, ◌++◌, length, drop, Option, Some}
+use Rattle.std.proofs.Common.{None, Result, Ok, Err, refl, sym, ap, ◌∙◌, subst, arith, length-append, length-drop, append_assoc, append-nil}
+use Rattle.std.proofs.lemmas.Bool.{cases_lt}
+use Rattle.std.proofs.lemmas.List.{drop_all}
+use Rattle.std.specs.Prelude.{slice_get}
 use Rattle.fax_bits.specs.declared.Colour.{Colour}
-use Rattle.fax_walk.specs.declared.end.End.{End}
-use Rattle.fax_walk.specs.declared.opening.OpenFault.{OpenFault}
-use Rattle.fax_walk.specs.declared.opening.OpenFault.TheVariants.{Ended as RowsEnd}
-use Rattle.fax_walk.specs.declared.walk.Place.{Place}
-use Rattle.fax_walk.specs.declared.walk.Stage.{Stage}
-use Rattle.fax_walk.specs.declared.walk.Stage.TheVariants.{Before, Open, Ended}
-use Rattle.fax_walk.specs.Items.{Item}
-use Rattle.fax_walk.specs.Tail.{behind_item}
-use Rattle.fax_walk.specs.LongTail.{IsTailFrom, begins_at}
+use Rattle.fax_bits.specs.Laws.{AreBitsByPlace}
+use Rattle.fax_files.specs.Numbers.{header}
+use Rattle.fax_files.specs.Laws.{FilesHaveOneChain}
+use Rattle.fax_files.specs.code.Tiff.{TiffDirectory}
 use Rattle.fax_walk.specs.declared.begun.Begun.{Begun}
-use Rattle.fax_walk.specs.declared.begun.Begun.TheVariants.{At, Inside}
-use Rattle.fax_walk.specs.Laws.{CursorsHaveOneTail}
-use Rattle.fax_walk.specs.LongLaws.{PlacesHaveOneTail}
-use Rattle.fax_walk.specs.code.Stages.{PageState, row_of, skipped}
 use Rattle.fax_walk.specs.declared.cursor.Cursor.{Cursor}
-use Rattle.fax_walk.specs.code.Due.{WalkState, HasCome, IsDueAt, IsDue, IsDueOnPage, IsOpenedFor, IsOpenFrom, GivesRow, place_number}
-use Rattle.fax_walk.specs.code.Due.{places_left}
-use Rattle.fax_walk.specs.code.Opening.{IsOpenedBehind, IsRefusal}
-use Rattle.fax_walk.specs.code.Next.{IsEntered, StepsAs, IsOnPage, HandsOut, HasEnded}
+use Rattle.fax_walk.specs.declared.end.End.{End}
+use Rattle.fax_walk.specs.declared.end.End.TheVariants.{Proper, Fault, Outside}
+use Rattle.fax_walk.specs.declared.opening.OpenFault.{OpenFault}
+use Rattle.fax_walk.specs.declared.opening.OpenFault.TheVariants.{Memory, Ended}
+use Rattle.fax_walk.specs.InOrder.{AreFrom, LeadTo, EndsAfter, HasToldNoOther, IsLeftOf}
+use Rattle.fax_walk.specs.Pages.{FilePage, IsPageAt}
+use Rattle.fax_walk.specs.LongCursor.{LongPlace}
+use Rattle.fax_walk.specs.Left.{AreRead, EndsBefore, EntersPage, HasEndedAs, HandsOut, IsCursorOf, IsItemNumber, IsLeft, IsLongOf, IsNext, WalkView}
+use Rattle.fax_walk.specs.Rows.{IsRow, IsTailFrom, Item, Place, begins_at, cursor_after, first_at, long_at, place_after}
+use Rattle.fax_walk.specs.PageLaws.{BeginningsHaveOneTail}
+use Rattle.fax_walk.specs.code.Opening.{page_with}
+use Rattle.fax_walk.specs.code.Stages.{GivesNone, GivesRow, IsOpen, IsOpenedAt, PageState, item_of, place_of, row_of, skipped}
+use Rattle.fax_walk.specs.declared.end.WalkFault.{WalkFault}
+use Rattle.fax_walk.specs.declared.end.WalkFault.TheVariants.{Memory as NoMemory, AtRow, CursorOutside}
+use Rattle.fax_walk.specs.code.Walk.{AreLast, IsAdvance, answer_of, GoesOnFrom, HasCome, HasEndedOn, HasReadTo, IsAfterItem, IsEntered, IsOpenOrNone, IsOpenedFirst}
+use Rattle.fax_walk.specs.code.Walk.{IsReadNext, IsShown, IsSound, ShowsLast, StandsAt}
+use Rattle.fax_walk.proofs.InOrderLemmas.{IsListed, joined, leads_over, number_dropped}
+use Rattle.fax_walk.proofs.OpenPageLemmas.{at_end}
+use Rattle.fax_walk.proofs.RowLawLemmas.{LinesAreRead, cases_after, rows_listed}
+use Rattle.fax_walk.proofs.TailLawLemmas.{any_row}
 
--- each walk hands out some items, and an end
-pub begun_items : CursorsHaveOneTail → PlacesHaveOneTail → (file : List ℕ) (begun : Begun)
-    → (items : List Item) × (end : End) × IsTailFrom file begun items end
-begun_items cursors places file (At at) = let one = cursors file at in (one.items, one.end, one.is)
-begun_items cursors places file (Inside place) = let one = places file place in (one.items, one.end, one.is)
-
--- a page that takes the place of what is due: what it has is due, and a row of it is due
-pub record TakesPlace (walk : WalkState) (page : PageState) : Type 0 where
-  pub due : (items : List Item) (end : End) → IsDueOnPage page items end → IsDue walk items end
-  pub row : row_of page < page.form.rows
-
-pub entered : (walk : WalkState) (page : PageState) → TakesPlace walk page → IsEntered walk (record walk { stage = Open page })
-entered walk page takes = record { due = takes.due; same = refl; at_row = takes.row }
-
--- before the first page
-pub takes_first : (walk : WalkState) (page : PageState) (opened result : Result PageState OpenFault) → walk.stage ≡ Before → opened ≡ result
-    → opened ≡ Ok page → IfOk result (IsOpenedFor (begins_at walk.begun))
-    → IfOk result (λ page. (items : List Item) (end : End) → IsDueOnPage page items end → IsTailFrom walk.file walk.begun items end)
-    → TakesPlace walk page
-takes_first walk page opened result before same is for_cursor items =
-    let is : result ≡ Ok page = rw same at is in
-    let for_cursor = rw is at for_cursor in
-    let items = rw is at items in
-    record { due = λ xs end due. rw before (items xs end due); row = for_cursor.1 }
-
--- after a page all rows of which are read
-pub takes_next : (walk : WalkState) (old page : PageState) (read : ℕ) (opened result : Result PageState OpenFault) → walk.stage ≡ Open old
-    → opened ≡ result
-    → opened ≡ Ok page → IfOk result (IsOpenedBehind old.chain read)
-    → IfOk result (λ page. (items : List Item) (end : End) → IsDueOnPage page items end → IsDueOnPage old items end)
-    → TakesPlace walk page
-takes_next walk old page read opened result stage_is same is behind items =
-    let is : result ≡ Ok page = rw same at is in
-    let behind = rw is at behind in
-    let items = rw is at items in
-    record { due = λ xs end due. rw stage_is (items xs end due); row = behind.row_due }
-
--- the rows end before a page is opened
-ended : (walk : WalkState) (end : End) (read : ℕ) → IsDue walk [] end → IsEntered walk (record walk { stage = Ended end read None })
-ended walk end read due = record { due = λ items other are. rw (are.0, are.1) due; same = refl; at_row = tt }
-
-pub ends_first : (walk : WalkState) (end : End) (read : ℕ) (fault : OpenFault) (opened result : Result PageState OpenFault)
-    → walk.stage ≡ Before → opened ≡ result
-    → opened ≡ Err fault → fault ≡ RowsEnd end → IfErr result (IsRefusal (IsTailFrom walk.file walk.begun))
-    → IsEntered walk (record walk { stage = Ended end read None })
-ends_first walk end read fault opened result before same is fault_is refused =
-    let is : result ≡ Err (RowsEnd end) = rw (same, fault_is) at is in
-    let none = rw is at refused in
-    ended walk end read (rw before none)
-
-pub ends_next : (walk : WalkState) (old : PageState) (end : End) (read : ℕ) (fault : OpenFault) (opened result : Result PageState OpenFault)
-    → walk.stage ≡ Open old → opened ≡ result
-    → opened ≡ Err fault → fault ≡ RowsEnd end → IfErr result (IsRefusal (IsDueOnPage old))
-    → IsEntered walk (record walk { stage = Ended end read None })
-ends_next walk old end read fault opened result stage_is same is fault_is refused =
-    let is : result ≡ Err (RowsEnd end) = rw (same, fault_is) at is in
-    let none = rw is at refused in
-    ended walk end read (rw stage_is none)
-
--- a walk that entered a page has come as far
-pub come_entered : (walk : WalkState) (stage : Stage) → HasCome walk.file walk.begun walk.given walk.cursor walk.stage
-    → IsEntered walk (record walk { stage = stage }) → HasCome walk.file walk.begun walk.given walk.cursor stage
-come_entered walk stage come enters items end due = come items end (enters.due items end due)
-
--- and one that handed out an item, by one more
-pub come_on : (file : List ℕ) (begun : Begun) (given : ℕ) (cursor next : Cursor) (old new : Stage) (item : Item) → next ≡ behind_item item
-    → ((items : List Item) (end : End) → IsDueAt file begun new items end → IsDueAt file begun old (item ∷ items) end)
-    → HasCome file begun given cursor old → HasCome file begun (given + 1) next new
-come_on file begun given cursor next old new item next_is due come items end left =
-    let all = come (item ∷ items) end (due items end left) in (
-      all.0 ++ item ∷ [],
-      length_push all.0 item ∙ ap (λ (n : ℕ). n + 1) all.1,
-      inr (all.0, item, refl, next_is),
-      subst (λ (l : List Item). IsTailFrom file begun l end) (sym (append_assoc all.0 (item ∷ []) items)) all.3,
-    )
-
--- and one whose rows ended
-pub come_ended : (file : List ℕ) (begun : Begun) (given : ℕ) (cursor : Cursor) (old : Stage) (end : End) (read : ℕ)
-    (last : Option PageState)
-    → IsDueAt file begun old [] end → HasCome file begun given cursor old → HasCome file begun given cursor (Ended end read last)
-come_ended file begun given cursor old end read last due come items other left =
-    let all = come [] end due in
-    (all.0, all.1, all.2, rw (left.0, left.1) all.3)
-
--- the next row that is handed out is read
-module _ (walk : WalkState) (old new : PageState) (cursor : Cursor) (stage_is : walk.stage ≡ Open old) (from : IsOpenFrom walk.cursor old)
-    (gives : GivesRow old new) (cursor_is : cursor ≡ record { page = new.page; row = row_of new }) where
-  row_is : row_of new - 1 ≡ row_of old + skipped old
-  row_is = omega (arith, gives.next_row)
-
-  abbrev item : Item
-  item = record { page = new.page; row = row_of new - 1; pels = new.shown }
-
-  item_is : record { page = old.page; row = row_of old + skipped old; pels = new.shown } ≡ item
-  item_is = rw (row_is, gives.same_page) refl
-
-  later : place_number walk.cursor.page walk.cursor.row < place_number cursor.page cursor.row
-  later = rw (cursor_is, gives.same_page) (omega (arith, from.behind, gives.next_row))
-
-  within : place_number walk.cursor.page walk.cursor.row < 2 ^ 64
-  within =
-      let within = gives.within in
-      let limits = gives.still_open.limits.rows in
-      omega (arith, from.behind, from.is_open.page_number, gives.next_row, within, limits)
-
-  pub stepped : StepsAs walk (Open new) (record walk { given = walk.given + 1; cursor = cursor; stage = Open new })
-  stepped = (
-    record {
-      due = λ items end due. rw (stage_is, ← item_is) (gives.due items end due);
-      cursor =
-          let behind : row_of new ≡ row_of new - 1 + 1 = omega (arith, gives.next_row) in
-          cursor_is ∙ ap (λ n. record { page = new.page; row = n }) behind;
-      file = refl;
-      begun = refl;
-      one_more = refl;
-      fewer = omega (arith, later, within);
-    },
-    omega (arith, gives.next_row),
-  )
-
--- a walk that entered a page and read a row of it, or ended there
-module _ (old middle new : WalkState) (enters : IsEntered old middle) (steps : StepsAs middle new.stage new) where
-  -- the steps, where the stage is known
-  steps_at : (stage : Stage) → new.stage ≡ stage → StepsAs middle stage new
-  steps_at stage is = subst (λ (s : Stage). StepsAs middle s new) is steps
-
-  pub went_to_row : (page : PageState) → new.stage ≡ Open page → IsOnPage new.stage × StepsAs old new.stage new
-  went_to_row page stage_is =
-      let step : StepsAs middle (Open page) new = steps_at (Open page) stage_is in
-      let given = step.0 in
-      let gives : StepsAs old (Open page) new = (
+module _ (file : List ℕ) (begun : Begun) (given : ℕ) (cursor : Cursor) where
+  -- the first page is open
+  pub goes_first : (page : PageState) → (given ≡ 0) × (cursor ≡ begins_at begun) → IsOpenedFirst file begun page
+      → GoesOnFrom file begun given cursor (Some page)
+  goes_first page (none, at_is) first =
+      let opened = first.from.opened in (
+        opened.is_open,
         record {
-          due = λ items end due. enters.due _ end (given.due items end due);
-          cursor = given.cursor;
-          file = given.file ∙ ap (λ (w : WalkState). w.file) enters.same;
-          begun = given.begun ∙ ap (λ (w : WalkState). w.begun) enters.same;
-          one_more = given.one_more ∙ ap (λ (w : WalkState). w.given + 1) enters.same;
-          fewer = subst (λ (n : ℕ). places_left new < n) (ap places_left enters.same) given.fewer;
+          file_is = opened.file_is;
+          come = record {
+            first = first.first;
+            dropped = first.dropped;
+            begins = first.begins;
+            items = [];
+            lead = opened.place_is;
+            count = sym opened.read_is;
+            total = omega (arith, opened.read_is, opened.skips, none);
+            none_left = λ some. absurd (omega (arith, some, none));
+          };
+          stands = inl (none, at_is);
+          named = λ some. first.from.named (omega (arith, some, opened.skips));
         },
-        step.1,
-      ) in
-      subst (λ (s : Stage). IsOnPage s × StepsAs old s new) (sym stage_is) (tt, gives)
+      )
 
-  pub went_to_end : (end : End) (read : ℕ) (last : Option PageState) → new.stage ≡ Ended end read last → HasEnded old end new
-  went_to_end end read last stage_is =
-      let ended : StepsAs middle (Ended end read last) new = steps_at (Ended end read last) stage_is in
-      record {
-        due = enters.due [] end ended.due;
-        told = ended.told;
-        same = ended.same ∙ ap (λ (w : WalkState). record w { stage = new.stage }) enters.same;
+  -- nothing is skipped on a page that is read to its end
+  none_skipped : (old : PageState) → IsOpen old → row_of old ≡ old.form.rows → skipped old ≡ 0
+  none_skipped old is_open all = let first = is_open.first in omega (arith, all, first)
+
+  -- the next page is open
+  pub goes_next : (old page : PageState) → GoesOnFrom file begun given cursor (Some old) → row_of old ≡ old.form.rows
+      → IsOpenedAt old.directory.file (place_of old) 0 old.read page → GoesOnFrom file begun given cursor (Some page)
+  goes_next old page (is_open, reads) all opened =
+      let none = none_skipped old is_open all in
+      let come = reads.come in (
+        opened.is_open,
+        record {
+          file_is = opened.file_is ∙ reads.file_is;
+          come = record {
+            first = come.first;
+            dropped = come.dropped;
+            begins = come.begins;
+            items = come.items;
+            lead = subst (λ (t : Place). LeadTo (IsRow file) come.first come.items t) (sym opened.place_is) come.lead;
+            count = come.count ∙ sym opened.read_is;
+            total = omega (arith, come.total, none, opened.read_is, opened.skips);
+            none_left = λ some. opened.skips;
+          };
+          stands = subst (λ (t : Place). StandsAt file begun given cursor t) (sym opened.place_is) reads.stands;
+          named = λ some. absurd (omega (arith, some, opened.skips));
+        },
+      )
+
+  -- the page of the row that is due is open
+  pub entered : (old : Option PageState) (page : PageState) → IsEntered file begun old (Ok tt) (Some page)
+      → GoesOnFrom file begun given cursor old → GoesOnFrom file begun given cursor (Some page)
+  entered None page first from = goes_first page from first
+  entered (Some old) page (inl (due, same)) from = rw same from
+  entered (Some old) page (inr (all, opened)) from = goes_next old page from all opened
+
+  -- there is none
+  pub refused : (old new : Option PageState) (end : End) → IsEntered file begun old (Err (Ended end)) new
+      → GoesOnFrom file begun given cursor old → HasEndedOn file begun given cursor new end
+  refused None new end (none, new_is) from = rw new_is (from.0, from.1, none)
+  refused (Some old) new end (all, stop, new_is) (is_open, reads) =
+      rw new_is (reads, rw (reads.file_is) at stop, inl (none_skipped old is_open all))
+
+  -- memory was refused for it
+  at_page_end : (old : PageState) (last : IsAfterItem file begun given cursor (place_of old)) → row_of old ≡ old.form.rows
+      → last.item.row + 1 ≡ last.here.form.rows
+  at_page_end old last all =
+      let within = last.within in
+      let next : first_at (old.page + 1) 0 ≡ place_after last.here.form last.item =
+      sym (at_end old.form old.page (row_of old) _ all) ∙ last.to_is in
+      elim (cases_after last.here.form last.item) [
+        | inl (past, is) ↦ omega (arith, past, within)
+        | inr (inl (less, first, is)) ↦ let rows = ap (λ (t : Place). t.row) (next ∙ is) in absurd (omega (arith, rows))
+        | inr (inr (less, inside, is)) ↦ let rows = ap (λ (t : Place). t.row) (next ∙ is) in absurd (omega (arith, rows))
+      ]
+
+  pub enters : (old new : Option PageState) → IsEntered file begun old (Err Memory) new → GoesOnFrom file begun given cursor old
+      → EntersPage file begun given
+  enters None new refused from = inl from.0
+  enters (Some old) new (all, refused, same) (is_open, reads) = elim reads.stands [
+    | inl none ↦ inl none.0
+    | inr last ↦ inr (
+      last.before,
+      last.item,
+      last.here,
+      last.count,
+      last.number,
+      any_row file (record { page = last.item.page; row = last.item.row }) (last.item.row + 1) last.here last.page,
+      at_page_end old last all,
+    )
+  ]
+
+  pub same_page : (old new : Option PageState) → IsEntered file begun old (Err Memory) new → new ≡ old
+  same_page None new refused = refused.1
+  same_page (Some old) new refused = refused.2
+
+-- no page was entered
+pub refused_next : (file : List ℕ) (begun : Begun) (old new : Option PageState) (fault : OpenFault)
+    → IsEntered file begun old (Err fault) new → IsReadNext file begun old (Err fault) new
+refused_next file begun old new Memory is =
+    (same_page file begun 0 (begins_at begun) old new is, λ given cursor from. enters file begun given cursor old new is from)
+refused_next file begun old new (Ended end) is = λ given cursor from. refused file begun given cursor old new end is from
+
+-- the page that was entered has a row that is due
+pub entered_open : (file : List ℕ) (begun : Begun) (old : Option PageState) (page : PageState) → IsEntered file begun old (Ok tt) (Some page)
+    → IsOpenOrNone old → IsOpen page × (row_of page < page.form.rows)
+entered_open file begun None page first is_open = (first.from.opened.is_open, first.from.opened.row_due)
+entered_open file begun (Some old) page (inl (due, same)) is_open = rw same (is_open, due)
+entered_open file begun (Some old) page (inr (all, opened)) is_open = (opened.is_open, opened.row_due)
+
+module _ (by_place : AreBitsByPlace) (lines_read : LinesAreRead) (chains : FilesHaveOneChain) (file : List ℕ) (begun : Begun) (given : ℕ)
+    (cursor : Cursor) where
+  listed : (at : Place) → IsListed (IsRow file) at
+  listed at = rows_listed by_place lines_read chains file at (header file) refl
+
+  -- the next row that is handed out is read
+  module _ (old new : PageState) (reads : HasReadTo file begun given cursor old) (gives : GivesRow old new) where
+    abbrev come : HasCome file begun given old.read (skipped old) (place_of old)
+    come = reads.come
+
+    abbrev all : List Item
+    all = come.items ++ gives.items
+
+    lead : LeadTo (IsRow file) come.first all (place_of new)
+    lead = leads_over (IsRow file) come.first (place_of old) (place_of new) come.items gives.items come.lead
+        (subst (λ (f : List ℕ). LeadTo (IsRow f) (place_of old) gives.items (place_of new)) reads.file_is gives.lead)
+
+    front_count : length (come.items ++ gives.front) ≡ come.dropped + given
+    front_count = length-append come.items gives.front ∙ omega (arith, come.count, come.total, gives.count)
+
+    all_is : all ≡ (come.items ++ gives.front) ++ gives.item ∷ []
+    all_is = ap (λ (l : List Item). come.items ++ l) gives.items_are ∙ sym (append_assoc come.items gives.front (gives.item ∷ []))
+
+    number : IsItemNumber file begun given gives.item
+    number =
+        let more = listed (place_of new) in
+        let whole = all ++ more.items in
+        let is : AreFrom (IsRow file) come.first whole more.end =
+        joined (IsRow file) come.first (place_of new) all more.items more.end lead more.is in
+        let parts : whole ≡ (come.items ++ gives.front) ++ gives.item ∷ more.items =
+        ap (λ (l : List Item). l ++ more.items) all_is ∙ append_assoc (come.items ++ gives.front) (gives.item ∷ []) more.items in (
+          drop come.dropped whole,
+          more.end,
+          (Ok (come.first, come.dropped), come.begins, (whole, is, refl)),
+          ap (λ (l : List Item). slice_get (drop come.dropped l) given) parts
+              ∙ number_dropped come.dropped given (come.items ++ gives.front) gives.item more.items front_count,
+        )
+
+    none_left : skipped new ≡ 0
+    none_left = omega (arith, gives.next_row, gives.same.first)
+
+    all_count : length all ≡ new.read
+    all_count =
+        let one = ap (λ (l : List Item). length l) gives.items_are ∙ length-append gives.front (gives.item ∷ []) in
+        length-append come.items gives.items ∙ omega (arith, come.count, one, gives.count, gives.read)
+
+    module _ (after : Cursor) (after_is : after ≡ record { page = new.page; row = row_of new }) where
+      last : IsAfterItem file begun (given + 1) after (place_of new)
+      last = record {
+        before = given;
+        item = gives.item;
+        here = page_with old.directory old.form;
+        count = refl;
+        number = number;
+        page = subst (λ (f : List ℕ). IsPageAt f (record { page = gives.item.page; row = gives.item.row })
+            (Ok (page_with old.directory old.form))) reads.file_is gives.here;
+        within = gives.within;
+        cursor_is =
+            let rows : row_of new ≡ gives.item.row + 1 = gives.next_row ∙ ap (λ (i : Item). i.row + 1) (sym gives.item_is) in
+            let pages : new.page ≡ gives.item.page = gives.same.page ∙ ap (λ (i : Item). i.page) (sym gives.item_is) in
+            after_is ∙ rw (rows, pages) refl;
+        to_is = gives.after;
       }
 
+      pub gone_on : GoesOnFrom file begun (given + 1) after (Some new) × ShowsLast file begun (given + 1) after (Some new)
+      unfolding last
+      gone_on = (
+        (
+          gives.still_open,
+          record {
+            file_is = ap (λ (d : TiffDirectory). d.file) gives.same.directory ∙ reads.file_is;
+            come = record {
+              first = come.first;
+              dropped = come.dropped;
+              begins = come.begins;
+              items = all;
+              lead = lead;
+              count = all_count;
+              total = omega (arith, come.total, gives.read, none_left);
+              none_left = λ some. none_left;
+            };
+            stands = inr last;
+            named = λ some. absurd (omega (arith, some, none_left));
+          },
+        ),
+        record {
+          last = last;
+          pels = ap (λ (i : Item). i.pels) gives.item_is;
+          few = omega (arith, come.total, gives.read, gives.few);
+        },
+      )
+
+-- the rows end before the next one that is handed out
+module _ (file : List ℕ) (begun : Begun) (given : ℕ) (cursor : Cursor) (old new : PageState) (end : End)
+    (reads : HasReadTo file begun given cursor old) (none : GivesNone old end new) where
+  abbrev come_so_far : HasCome file begun given old.read (skipped old) (place_of old)
+  come_so_far = reads.come
+
+  abbrev items : List Item
+  items = none.items
+
+  left : skipped new + length items ≡ skipped old
+  left = omega (arith, none.skips.rows, none.skips.few, none.skips.same.first)
+
+  ended_lead : LeadTo (IsRow file) come_so_far.first (come_so_far.items ++ items) (place_of new)
+  ended_lead = leads_over (IsRow file) come_so_far.first (place_of old) (place_of new) come_so_far.items items come_so_far.lead
+      (subst (λ (f : List ℕ). LeadTo (IsRow f) (place_of old) items (place_of new)) reads.file_is none.skips.lead)
+
+  no_items : (is : List Item) → length is ≡ 0 → LeadTo (IsRow old.directory.file) (place_of old) is (place_of new) → place_of new ≡ place_of old
+  no_items [] count lead = lead
+  no_items (x ∷ is) count lead = absurd (omega (arith, count))
+
+  still_stands : StandsAt file begun given cursor (place_of old) → StandsAt file begun given cursor (place_of new)
+  still_stands (inl first) = inl first
+  still_stands (inr last) =
+      let nothing = come_so_far.none_left (omega (arith, last.count)) in
+      let same = no_items items (omega (arith, left, nothing)) none.skips.lead in
+      inr (subst (λ (t : Place). IsAfterItem file begun given cursor t) (sym same) last)
+
+  named_on : 0 < skipped new → (new.page ≡ (begins_at begun).page) × (new.first ≡ (begins_at begun).row)
+  named_on some =
+      let named = reads.named (omega (arith, some, left)) in
+      (none.skips.same.page ∙ named.0, none.skips.same.first ∙ named.1)
+
+  pub ended_on : HasEndedOn file begun given cursor (Some new) end
+  ended_on = (
+    record {
+      file_is = ap (λ (d : TiffDirectory). d.file) none.skips.same.directory ∙ reads.file_is;
+      come = record {
+        first = come_so_far.first;
+        dropped = come_so_far.dropped;
+        begins = come_so_far.begins;
+        items = come_so_far.items ++ items;
+        lead = ended_lead;
+        count = length-append come_so_far.items items ∙ omega (arith, come_so_far.count, none.skips.read);
+        total = omega (arith, come_so_far.total, none.skips.read, left);
+        none_left = λ some. let nothing = come_so_far.none_left some in omega (arith, left, nothing);
+      };
+      stands = still_stands reads.stands;
+      named = named_on;
+    },
+    subst (λ (f : List ℕ). IsRow f (place_of new) (Err end)) reads.file_is none.stop,
+    elim (cases_lt 0 (skipped new)) [
+      | inl some ↦
+          let named = named_on some in
+          inr (rw (none.told.1) (named.0, omega (arith, some, named.1)))
+      | inr nothing ↦ inl (omega (arith, nothing))
+    ],
+  )
+
+-- what a walk that has ended tells
+module _ (file : List ℕ) (begun : Begun) (given : ℕ) (cursor : Cursor) where
+  pub ends_after : (page : Option PageState) (end : End) → HasEndedOn file begun given cursor page end
+      → EndsAfter (IsTailFrom file begun) given end
+  ends_after None end (none, at_is, no_rows) = ([], no_rows.tail, sym none)
+  ends_after (Some page) end (reads, stop, before) =
+      let come = reads.come in
+      let is : AreFrom (IsRow file) come.first (come.items ++ []) end =
+      joined (IsRow file) come.first (place_of page) come.items [] end come.lead stop in
+      let count = come.count in
+      let total = come.total in
+      let none_left = come.none_left in
+      let all = ap (λ (l : List Item). length l) (append-nil come.items) in (
+        drop come.dropped (come.items ++ []),
+        (Ok (come.first, come.dropped), come.begins, (come.items ++ [], is, refl)),
+        length-drop come.dropped (come.items ++ []) ∙ (elim (cases_lt 0 given) [
+          | inl some ↦ let none = none_left some in omega (arith, all, count, total, none)
+          | inr none ↦ omega (arith, all, count, total, none)
+        ]),
+      )
+
+  ends_left : (tail : List Item → End → Type 0) (end : End) → EndsAfter tail given end → IsLeftOf tail given (Some end) [] end
+  ends_left tail end (all, is, count) = record {
+    all = all;
+    is = is;
+    within = omega (arith, count);
+    rest = sym (drop_all given all (omega (arith, count)));
+    is_told = (refl, refl);
+  }
+
+-- what a walk's contracts say of it
+module _ (walk : WalkView) (cursor : Cursor) (page : Option PageState) where
+  abbrev file : List ℕ
+  file = walk.file
+
+  abbrev begun : Begun
+  begun = walk.begun
+
+  abbrev Sound : Option End → Type 0
+  Sound told = IsSound file begun walk.given cursor page told
+
+  ended : (told : Option End) (end : End) → told ≡ Some end → Sound told → HasEndedOn file begun walk.given cursor page end
+  ended told end is sound = rw is at sound
+
+  -- where the cursor stands
+  stands_on : (page : Option PageState) (told : Option End) → IsSound file begun walk.given cursor page told
+      → ((walk.given ≡ 0) × (cursor ≡ begins_at begun))
+      ⊎ ((at : PageState) × (page ≡ Some at) × IsAfterItem file begun walk.given cursor (place_of at))
+  stands_on None None sound = inl sound.0
+  stands_on None (Some end) sound = inl (sound.0, sound.1)
+  stands_on (Some at) None sound = elim sound.0.1.stands [ | inl first ↦ inl first | inr last ↦ inr (at, refl, last) ]
+  stands_on (Some at) (Some end) sound = elim sound.0.stands [ | inl first ↦ inl first | inr last ↦ inr (at, refl, last) ]
+
+  pub cursor_is : Sound walk.told → IsCursorOf walk cursor
+  cursor_is sound = elim (stands_on page walk.told sound) [
+    | inl first ↦ inl first
+    | inr (at, is, last) ↦ inr (last.before, last.item, last.count, last.number, last.cursor_is)
+  ]
+
+  -- the place inside a strip
+  pub long_is : Sound walk.told → 0 < walk.given → (at : PageState) → page ≡ Some at → (place : Option LongPlace)
+      → place ≡ (let to = place_of at in long_at to.page to.row to.inner) → IsLongOf walk place
+  long_is sound some at page_is place place_is = elim (stands_on page walk.told sound) [
+    | inl first ↦ absurd (omega (arith, some, first.0))
+    | inr (on, is, last) ↦
+        let same : on ≡ at = cc in
+        let to : place_of at ≡ place_after last.here.form last.item = ap place_of (sym same) ∙ last.to_is in
+        inr (
+          last.before,
+          last.item,
+          last.here,
+          last.count,
+          last.number,
+          last.page,
+          place_is ∙ ap (λ (t : Place). long_at t.page t.row t.inner) to,
+        )
+  ]
+
+  pub no_page_given : Sound walk.told → page ≡ None → walk.given ≡ 0
+  no_page_given sound none = elim (stands_on page walk.told sound) [
+    | inl first ↦ first.0
+    | inr (on, is, last) ↦ absurd cc
+  ]
+
+  -- how many rows were read
+  read_on : (at : PageState) (told : Option End) → IsSound file begun walk.given cursor (Some at) told
+      → HasReadTo file begun walk.given cursor at
+      × ((end : End) → told ≡ Some end → (skipped at ≡ 0) ⊎ EndsBefore end (begins_at begun))
+  read_on at None sound = (sound.0.1, λ end is. absurd cc)
+  read_on at (Some told) sound = (
+    sound.0,
+    λ end is.
+        let same : told ≡ end = cc in
+        subst (λ (e : End). (skipped at ≡ 0) ⊎ EndsBefore e (begins_at begun)) same sound.2,
+  )
+
+  pub are_read : (at : PageState) → page ≡ Some at → Sound walk.told → AreRead walk at.read
+  are_read at page_is sound =
+      let on = read_on at walk.told (rw page_is at sound) in
+      let come = on.0.come in
+      record {
+        begin = Ok (come.first, come.dropped);
+        begins = come.begins;
+        most = omega (arith, come.total);
+        all = λ some. let none = come.none_left some in omega (arith, come.total, none);
+        told = λ end is. elim (on.1 end is) [
+          | inl none ↦ inl (omega (arith, come.total, none))
+          | inr before ↦ inr before
+        ];
+      }
+
+  none_read : BeginningsHaveOneTail → (told : Option End) → walk.told ≡ told → IsSound file begun walk.given cursor None told
+      → AreRead walk 0
+  none_read tails None is sound =
+      let tail = (tails file begun).is in
+      record {
+        begin = tail.0;
+        begins = tail.1;
+        most = omega arith;
+        all = λ some. absurd (omega (arith, some, sound.0.0));
+        told = λ end ends. absurd cc;
+      }
+  none_read tails (Some told) is sound =
+      let none = sound.2.read in
+      record {
+        begin = none.begin;
+        begins = none.begins;
+        most = omega arith;
+        all = λ some. absurd (omega (arith, some, sound.0));
+        told = λ end ends. elim (none.told end (let same : told ≡ end = cc in ap (λ (e : End). Some e) same)) [
+          | inl nothing ↦ inl (omega (arith, nothing, sound.0))
+          | inr before ↦ inr before
+        ];
+      }
+
+  pub none_are_read : BeginningsHaveOneTail → page ≡ None → Sound walk.told → AreRead walk 0
+  none_are_read tails page_is sound = none_read tails walk.told refl (rw page_is at sound)
+
+  -- the row that was handed out last
+  pub row_is : (at : PageState) → page ≡ Some at → walk.told ≡ None → Sound walk.told → AreLast walk at.shown
+  row_is at page_is untold sound =
+      let shown = (rw (untold, page_is) at sound).1 in
+      (shown.last.before, shown.last.item, shown.last.count, shown.last.number, sym shown.pels)
+
+  -- the rows have ended
+  pub has_ended : (end : End) → HasEndedOn file begun walk.given cursor page end → HasToldNoOther walk.told end
+      → HasEndedAs walk end (record walk { told = Some end })
+  has_ended end ends no_other = (ends_after file begun walk.given cursor page end ends, no_other, refl)
+
+  -- what is left
+  module _ (by_place : AreBitsByPlace) (lines_read : LinesAreRead) (chains : FilesHaveOneChain) (tails : BeginningsHaveOneTail) where
+    left_first : walk.given ≡ 0 → walk.told ≡ None → (items : List Item) × (end : End) × IsLeft walk items end
+    left_first none untold =
+        let one = tails file begun in (
+          one.items,
+          one.end,
+          record {
+            all = one.items;
+            is = one.is;
+            within = omega (arith, none);
+            rest = rw none refl;
+            is_told = rw untold tt;
+          },
+        )
+
+    left_on : (at : PageState) → HasReadTo file begun walk.given cursor at → walk.told ≡ None
+        → (items : List Item) × (end : End) × IsLeft walk items end
+    left_on at reads untold =
+        let come = reads.come in
+        let more = rows_listed by_place lines_read chains file (place_of at) (header file) refl in
+        let whole = come.items ++ more.items in
+        let all = drop come.dropped whole in
+        let is : AreFrom (IsRow file) come.first whole more.end =
+        joined (IsRow file) come.first (place_of at) come.items more.items more.end come.lead more.is in
+        let count = length-drop come.dropped whole in
+        let parts = length-append come.items more.items in
+        let read = come.count in
+        let total = come.total in
+        let within : walk.given ≤ length all = elim (cases_lt 0 walk.given) [
+          | inl some ↦ let none = come.none_left some in omega (arith, count, parts, read, total, none)
+          | inr none ↦ omega (arith, none)
+        ] in (
+          drop walk.given all,
+          more.end,
+          record {
+            all = all;
+            is = (Ok (come.first, come.dropped), come.begins, (whole, is, refl));
+            within = within;
+            rest = refl;
+            is_told = rw untold tt;
+          },
+        )
+
+    left_told : (end : End) → HasEndedOn file begun walk.given cursor page end → walk.told ≡ Some end
+        → (items : List Item) × (end : End) × IsLeft walk items end
+    left_told end ends told =
+        let tail = IsTailFrom file begun in
+        ([], end, rw told (ends_left file begun walk.given cursor tail end (ends_after file begun walk.given cursor page end ends)))
+
+    by_told : (told : Option End) → walk.told ≡ told → (on : Option PageState) → page ≡ on
+        → IsSound file begun walk.given cursor on told → (items : List Item) × (end : End) × IsLeft walk items end
+    by_told None untold None none sound = left_first sound.0.0 untold
+    by_told None untold (Some at) is sound = left_on at sound.0.1 untold
+    by_told (Some end) told on is sound = left_told end (rw (← is) at sound) told
+
+    pub is_left : Sound walk.told → (items : List Item) × (end : End) × IsLeft walk items end
+    is_left sound = by_told walk.told refl page refl sound
+
+-- where the next row is read
+pub open_or_none : (file : List ℕ) (begun : Begun) (given : ℕ) (cursor : Cursor) (page : Option PageState)
+    → GoesOnFrom file begun given cursor page → IsOpenOrNone page
+open_or_none file begun given cursor None from = tt
+open_or_none file begun given cursor (Some page) from = from.0
+
+pub few_more : (file : List ℕ) (begun : Begun) (given : ℕ) (cursor : Cursor) (page : Option PageState)
+    → ShowsLast file begun (given + 1) cursor page → given + 1 < 2 ^ 64
+few_more file begun given cursor None shows = absurd (omega (arith, shows))
+few_more file begun given cursor (Some page) shows = shows.few
+
+-- the rows have ended so
+pub advance_ends : (old new : WalkView) (end : End) → HasEndedAs old end new → IsAdvance old (answer_of end) new
+advance_ends old new Proper ended = ended
+advance_ends old new (Fault page row cause) ended = ended
+advance_ends old new Outside ended = ended
+
+pub ends_again : (walk : WalkView) (cursor : Cursor) (page : Option PageState) (end : End) → walk.told ≡ Some end
+    → IsSound walk.file walk.begun walk.given cursor page walk.told → HasEndedAs walk end (record walk { told = Some end })
+ends_again walk cursor page end told sound = has_ended walk cursor page end (rw told at sound) (rw told refl)
+
+pub ends_now : (walk : WalkView) (cursor : Cursor) (old new : Option PageState) (end : End) → walk.told ≡ None
+    → IsSound walk.file walk.begun walk.given cursor old walk.told → IsReadNext walk.file walk.begun old (Err (Ended end)) new
+    → HasEndedAs walk end (record walk { told = Some end })
+ends_now walk cursor old new end untold sound next =
+    has_ended walk cursor new end (next walk.given cursor (rw untold at sound).0) (rw untold tt)
+
+pub fault_answer : (old new : WalkView) (fault : WalkFault) → IsAdvance old (Err fault) new → IsNext old (Err fault) new
+fault_answer old new NoMemory refused = refused
+fault_answer old new (AtRow page row cause) ended = ended
+fault_answer old new CursorOutside ended = ended
+
 -- the row that a walk went to is lent with its place
-pub lent : (old new : WalkState) (page : PageState) (place : Place) (row : List Colour) → StepsAs old (Open page) new
-    → place.page ≡ page.page → place.row + 1 ≡ row_of page → row ≡ page.shown
-    → HandsOut old (record { page = place.page; row = place.row; pels = row }) new
-lent old new page place row step page_is row_is pels_are =
-    let number : place.row ≡ row_of page - 1 = omega arith in
-    rw (page_is, number, pels_are) step.0
+pub lent : (old walk : WalkView) (cursor : Cursor) (page : Option PageState) → IsAdvance old (Ok true) walk → (at : PageState)
+    → page ≡ Some at → IsSound walk.file walk.begun walk.given cursor page walk.told → (row : List Colour) → row ≡ at.shown
+    → (item : Item) × HandsOut old item walk
+    × ((item.page ≡ cursor.page) × (item.row ≡ cursor.row - 1) × (item.pels ≡ row))
+lent old walk cursor page (untold, few, new_is) at page_is sound row row_is =
+    let none : walk.told ≡ None = ap (λ (w : WalkView). w.told) new_is ∙ untold in
+    let given : walk.given ≡ old.given + 1 = ap (λ (w : WalkView). w.given) new_is in
+    let shown = (rw (none, page_is) at sound).1 in
+    let last = shown.last in
+    let before : last.before ≡ old.given = omega (arith, given, last.count) in
+    let files : walk.file ≡ old.file = ap (λ (w : WalkView). w.file) new_is in
+    let begins : walk.begun ≡ old.begun = ap (λ (w : WalkView). w.begun) new_is in
+    let rows : cursor.row ≡ last.item.row + 1 = ap (λ (c : Cursor). c.row) last.cursor_is in (
+      last.item,
+      record { untold = untold; number = rw (files, begins, before) at last.number; few = few; new_is = new_is },
+      (sym (ap (λ (c : Cursor). c.page) last.cursor_is), omega (arith, rows), shown.pels ∙ sym row_is),
+    )

@@ -1,5 +1,5 @@
 -- What a walk still hands out.
-use Rattle.std.specs.Prelude.{◌≡◌, ℕ, ◌+◌, ◌<◌, ◌≤◌, ◌⊎◌, List, Option, Some, None, Result, Ok, Err}
+use Rattle.std.specs.Prelude.{◌≡◌, ℕ, ◌+◌, ◌^◌, ◌<◌, ◌≤◌, ◌⊎◌, List, Option, Some, None, Result, Ok, Err}
 use Rattle.std.specs.Borrow.{Bor}
 use Rattle.fax_bits.specs.declared.Colour.{Colour}
 use Rattle.fax_walk.specs.declared.begun.Begun.{Begun}
@@ -10,6 +10,7 @@ use Rattle.fax_walk.specs.declared.end.End.TheVariants.{Proper, Fault, Outside}
 use Rattle.fax_walk.specs.declared.end.WalkFault.{WalkFault}
 use Rattle.fax_walk.specs.declared.end.WalkFault.TheVariants.{Memory, AtRow, CursorOutside}
 use Rattle.fax_walk.specs.declared.walk.Place.{Place}
+use Rattle.fax_walk.specs.Cursor.{start}
 use Rattle.fax_walk.specs.LongCursor.{LongPlace}
 use Rattle.fax_walk.specs.InOrder.{IsNumber, EndsAfter, HasToldNoOther, IsLeftOf}
 use Rattle.fax_walk.specs.Pages.{FilePage, IsPageAt}
@@ -23,6 +24,14 @@ pub record WalkView : Type 0 where
   pub begun : Begun
   pub given : ℕ
   pub told : Option End
+
+-- a walk that begins so, before its first item
+abbrev pub walk_from : List ℕ → Begun → WalkView
+walk_from file begun = record { file = file; begun = begun; given = 0; told = None }
+
+-- a walk before the first item of its file
+abbrev pub walk_start : List ℕ → WalkView
+walk_start file = walk_from file (At start)
 
 -- what a walk hands out in all
 abbrev pub IsTailOf : WalkView → List Item → End → Type 0
@@ -45,6 +54,13 @@ EntersPage file begun n =
     × IsItemNumber file begun before item
     × IsPageAt file (cursor_after item) (Ok here) × (item.row + 1 ≡ here.form.rows))
 
+-- this item is handed out: it is number `given` of what the walk hands out
+pub record HandsOut (old : WalkView) (item : Item) (new : WalkView) : Type 0 where
+  pub untold : old.told ≡ None
+  pub number : IsItemNumber old.file old.begun old.given item
+  pub few : old.given + 1 < 2 ^ 64
+  pub new_is : new ≡ record old { given = old.given + 1 }
+
 -- the rows have ended so
 abbrev pub HasEndedAs : WalkView → End → WalkView → Type 0
 HasEndedAs old end new =
@@ -60,9 +76,7 @@ IsLent found item =
 abbrev pub IsNext : WalkView → Result (Option (Place × Bor (List Colour))) WalkFault → WalkView
     → Type 0
 IsNext old (Ok (Some found)) new =
-    (item : Item) × (old.told ≡ None) × IsItemNumber old.file old.begun old.given item
-    × IsLent found item
-    × (new ≡ record old { given = old.given + 1 })
+    (item : Item) × HandsOut old item new × IsLent found item
 IsNext old (Ok None) new = HasEndedAs old Proper new
 IsNext old (Err (AtRow page row cause)) new = HasEndedAs old (Fault page row cause) new
 IsNext old (Err CursorOutside) new = HasEndedAs old Outside new
@@ -96,9 +110,19 @@ abbrev pub dropped : {S : Type 0} → Result (S × ℕ) End → ℕ
 dropped (Err end) = 0
 dropped (Ok begin) = begin.1
 
+-- the rows end on the cursor's page, before its row
+abbrev pub EndsBefore : End → Cursor → Type 0
+EndsBefore Proper at = ⊥
+EndsBefore Outside at = ⊥
+EndsBefore (Fault page row cause) at = (page ≡ at.page) × (row < at.row)
+
 -- so many rows were read: those that were handed out, and those before the first of them in its
--- strip
-abbrev pub AreRead : WalkView → ℕ → Type 0
-AreRead walk read =
-    (begin : Result (Rows.Place × ℕ) End) × Begins walk.file walk.begun begin
-    × (read ≤ walk.given + dropped begin) × (0 < walk.given → read ≡ walk.given + dropped begin)
+-- strip; where none was handed out yet, at most these, and where the rows have ended, all of them,
+-- but where one of these cannot be read
+pub record AreRead (walk : WalkView) (read : ℕ) : Type 0 where
+  pub begin : Result (Rows.Place × ℕ) End
+  pub begins : Begins walk.file walk.begun begin
+  pub most : read ≤ walk.given + dropped begin
+  pub all : 0 < walk.given → read ≡ walk.given + dropped begin
+  pub told : (end : End) → walk.told ≡ Some end
+      → (read ≡ walk.given + dropped begin) ⊎ EndsBefore end (begins_at walk.begun)

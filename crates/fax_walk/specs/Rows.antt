@@ -71,18 +71,20 @@ abbrev pub reference_of : ℕ → Option Inner → List Colour
 reference_of width None = white_row width
 reference_of width (Some inner) = inner.reference
 
--- the place after an item of a page: inside its strip, at the next strip, or on the page after
+-- the place of row r of a page: inside its strip, at a strip's first row, or on the page after
 -- (TIFF 6.0, RowsPerStrip)
+abbrev pub place_on : PageForm → ℕ → ℕ → Inner → Place
+place_on form p r inner =
+    if nat_lt r form.rows
+    then (if row_in_strip form r == 0 then first_at p r
+    else record { page = p; row = r; inner = Some inner })
+    else first_at (p + 1) 0
+
+-- the place after an item of a page (TIFF 6.0, RowsPerStrip)
 abbrev pub place_after : PageForm → Item → Place
 place_after form item =
-    if nat_lt (item.row + 1) form.rows
-    then (if row_in_strip form (item.row + 1) == 0 then first_at item.page (item.row + 1)
-    else record {
-      page = item.page;
-      row = item.row + 1;
-      inner = Some (record { bits = item.bits; reference = exchanged form item.pels });
-    })
-    else first_at (item.page + 1) 0
+    place_on form item.page (item.row + 1)
+    (record { bits = item.bits; reference = exchanged form item.pels })
 
 -- the row at a place, in these bytes of its strip (TIFF 6.0, RowsPerStrip)
 pub record IsItem (form : PageForm) (bytes : List ℕ) (at : Place) (item : Item) : Type 0 where

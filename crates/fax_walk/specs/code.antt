@@ -1,9 +1,10 @@
 -- What speaks of this code alone: what a walk still hands out.
-pub mod Stages
-pub mod Due
-pub mod LongText
 pub mod Opening
-pub mod Next
+pub mod Stages
+pub mod Walk
+pub mod Lent
+pub mod Bridge
+pub mod LongText
 pub mod Pages
 pub mod Conversion
 pub mod OpenStrips

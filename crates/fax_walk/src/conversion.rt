@@ -4,7 +4,7 @@ ghost use Rattle.fax_walk.specs.declared.end.End.{End};
 ghost use Rattle.fax_walk.specs.Items.{Item};
 ghost use Rattle.fax_walk.specs.Converted as Spec;
 ghost use Rattle.fax_walk.specs.code.Conversion as Code;
-ghost use Rattle.fax_walk.specs.code.Due.{IsDue};
+ghost use Rattle.fax_walk.specs.code.Bridge.{IsDue};
 ghost use Rattle.fax_walk.specs.code.Output.{image_sheet};
 ghost use Rattle.fax_walk.specs.code.Sources as Reads;
 

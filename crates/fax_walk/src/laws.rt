@@ -3,11 +3,11 @@
 ghost use Rattle.std.specs.Prelude.{List};
 ghost use Rattle.fax_walk.specs.Pages.{FormItem};
 ghost use Rattle.fax_walk.specs.PagesLeft.{AreFormsLeft};
-ghost use Rattle.fax_walk.specs.Items.{Item};
 ghost use Rattle.fax_walk.specs.Laws as Laws;
 ghost use Rattle.fax_walk.specs.LongLaws as LongLaws;
 ghost use Rattle.fax_walk.specs.PageLaws as PageLaws;
-ghost use Rattle.fax_walk.specs.code.Due.{IsDue};
+ghost use Rattle.fax_walk.specs.Left.{IsLeft};
+ghost use Rattle.fax_walk.specs.Rows.{Item};
 ghost use Rattle.fax_walk.specs.declared.end.End.{End};
 
 use crate::{Pages, Walk};
@@ -157,7 +157,7 @@ pub fn coded_files_are_walked()
 
 /// Each walk has rows that are due, and an end, also where it has handed out some.
 pub fn walks_have_items(walk: &Walk)
-    ensures { (items : List Item) × (end : End) × IsDue walk.now items end }
+    ensures { (items : List Item) × (end : End) × IsLeft walk.now items end }
 {
     walk.has_items();
 }

@@ -66,7 +66,7 @@ impl<'a> Model for DuePage<'a> {
 /// there are fewer before it.
 pub(crate) fn chain_before<'a>(file: &'a [u8], page: u32) -> Result<Chain<'a>, End>
     ensures ok { IfOk result (λ chain. Spec.IsChainBefore file.now page chain) }
-    ensures err { IfErr result (λ end. Spec.IsEndBefore file.now page end) }
+    ensures err { IfErr result (Spec.IsNoPage file.now page) }
 {
     let tiff = match Tiff::read_header(file) {
         Ok(tiff) => tiff,
@@ -87,7 +87,8 @@ pub(crate) fn chain_before<'a>(file: &'a [u8], page: u32) -> Result<Chain<'a>, E
 impl<'a> DuePage<'a> {
     /// The page that is due after the directories that a chain has handed out, or none after the
     /// last one, or the fault in its place.
-    pub(crate) fn behind(mut chain: Chain<'a>) -> Result<Option<Self>, End>
+    pub(crate) fn after(mut chain: Chain<'a>) -> Result<Option<Self>, End>
+        requires { Spec.IsFileChain chain }
         ensures { Spec.IsPageAnswer chain.entry result }
     {
         fax_files::laws::files_have_one_chain();
@@ -111,12 +112,12 @@ impl<'a> DuePage<'a> {
     /// The page that a cursor names, or none after the last page, or how the rows end where the
     /// cursor names no place of the file.
     pub(crate) fn at(file: &'a [u8], cursor: Cursor) -> Result<Option<Self>, End>
-        ensures ok { IfOk result (Spec.IsPageAt file.now cursor) }
+        ensures ok { IfOk result (Spec.IsNamed file.now cursor) }
         ensures err { IfErr result (Spec.EndsAt file.now cursor) }
     {
         let chain = chain_before(file, cursor.page)?;
         fax_files::laws::files_have_one_chain();
-        let Some(page) = DuePage::behind(chain)? else {
+        let Some(page) = DuePage::after(chain)? else {
             return if cursor.row == 0 {
                 Ok(None)
             } else {

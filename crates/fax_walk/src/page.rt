@@ -1,15 +1,16 @@
 //! A page whose rows are read, strip by strip.
-ghost use Rattle.std.specs.Prelude.{◌≡◌, ◌+◌, ◌*◌, ◌<◌, ◌≤◌, ◌==◌, List, [], length, IfErr, IfOk};
-ghost use Rattle.std.specs.Prelude.{OnErr, OnOk};
+ghost use Rattle.std.specs.Prelude.{◌≡◌, ◌*◌, ◌<◌, ◌≤◌, false, length, true, IfErr, IfOk};
+ghost use Rattle.std.specs.Prelude.{OnErr, OnOk, Err};
 ghost use Rattle.fax_page.specs.Strip.{IsStripForm};
 ghost use Rattle.fax_files.specs.Page.{IsPageForm};
-ghost use Rattle.fax_walk.specs.Items.{Item, AreFromRow};
-ghost use Rattle.fax_walk.specs.code.Due as Due;
-ghost use Rattle.fax_walk.specs.code.Opening as Opening;
-ghost use Rattle.fax_walk.specs.code.Stages.{IsRoomFor, row_handed_out, row_of};
+ghost use Rattle.fax_walk.specs.Rows.{IsRow, exchanged, first_at, inner_at, long_at, row_in_strip};
+ghost use Rattle.fax_walk.specs.Rows.{strip_at, IsInnerOn};
+ghost use Rattle.fax_walk.specs.code.Opening.{IsFileChain, page_with};
+ghost use Rattle.fax_walk.specs.code.Stages as Spec;
+ghost use Rattle.fax_walk.specs.code.Stages.{place_of, row_of};
 
 use crate::opening::{DuePage, OpenFault};
-use crate::{Cursor, End, LongCursor, Place};
+use crate::{Cursor, End, LongCursor};
 use fax_bits::Memory;
 use fax_files::{Cause, Chain, PageForm, Strips};
 use fax_page::{StripForm, StripReader};
@@ -62,7 +63,7 @@ impl<'a> Model for OpenPage<'a> {
 /// A row for colours that are exchanged, where they are.
 fn row_for_exchange(alloc: Global, form: &PageForm) -> Result<Option<Row>, Memory>
     requires { IsPageForm form.now }
-    ensures { IfOk result (IsRoomFor form.now) }
+    ensures { IfOk result (Spec.IsRoomFor form.now) }
 {
     if form.exchanged {
         Ok(Some(Row::white(alloc, form.width)?))
@@ -81,11 +82,12 @@ pub(crate) fn open<'a>(
 ) -> Result<OpenPage<'a>, OpenFault>
     requires there { first < due.form.rows }
     requires few { read ≤ due.page * 1000000 }
-    ensures opened { IfOk result (λ page. Opening.IsOpenedAt due.entry first read page) }
-    ensures items { IfOk result (λ page. (items : List Item) (end : End)
-        → Due.IsDueOnPage page items end → Opening.AreDueFrom due.entry first items end) }
-    ensures refused { IfErr result (Opening.IsRefusal (Opening.AreDueFrom due.entry first)) }
-    ensures short { IfErr result (Opening.EndsShort due.entry first) }
+    ensures opened { IfOk result (Spec.IsOpenedAt due.entry.directory.file
+        (first_at due.entry.page (strip_at due.entry.form first * due.entry.form.rows_per_strip))
+        (row_in_strip due.entry.form first) read) }
+    ensures page { IfOk result (λ page. page.page ≡ due.entry.page) }
+    ensures first { IfOk result (λ page. page.first ≡ first) }
+    ensures refused { IfErr result (Spec.IsRefusal (Spec.IsNoStrip due.entry first)) }
 {
     let form = due.form;
     let strips = due.directory.strips(&form);
@@ -113,19 +115,19 @@ pub(crate) fn open<'a>(
 
 /// Opens the page after the directories that a chain has handed out, at its first row. So many
 /// rows were read before.
-pub(crate) fn open_behind<'a>(
+pub(crate) fn open_after<'a>(
     alloc: Global,
     chain: &Chain<'a>,
     read: u64,
 ) -> Result<OpenPage<'a>, OpenFault>
+    requires chain { IsFileChain chain.now }
     requires few { read ≤ chain.now.given * 1000000 }
-    ensures opened { IfOk result (Opening.IsOpenedBehind chain.now read) }
-    ensures items { IfOk result (λ page. (items : List Item) (end : End)
-        → Due.IsDueOnPage page items end → Due.ArePagesBehind chain.now items end) }
-    ensures refused { IfErr result (Opening.IsRefusal (Due.ArePagesBehind chain.now)) }
+    ensures opened { IfOk result
+        (Spec.IsOpenedAt chain.now.tiff.file (first_at chain.now.given 0) 0 read) }
+    ensures refused { IfErr result (Spec.IsRefusal (λ end.
+        IsRow chain.now.tiff.file (first_at chain.now.given 0) (Err end))) }
 {
-    fax_files::laws::files_have_one_chain();
-    match DuePage::behind(chain.again())? {
+    match DuePage::after(chain.again())? {
         Some(due) => open(alloc, due, 0, read),
         None => Err(OpenFault::Ended(End::Proper)),
     }
@@ -142,8 +144,8 @@ fn strip_at<'a>(
     requires count { length bytes.now ≤ 4294967295 }
     requires limits { IsStripForm form }
     requires row { row < form.rows }
-    ensures ok { IfOk result (Opening.IsAtPlace form bytes.now row place.now) }
-    ensures err { IfErr result (Opening.IsNoPlace form bytes.now place.now) }
+    ensures ok { IfOk result (Spec.IsAtPlace form bytes.now row place.now) }
+    ensures err { IfErr result (Spec.IsNoPlace form bytes.now place.now) }
 {
     let outside = OpenFault::Ended(End::Outside);
     if u64::from(place.bits) > 8 * bytes.len() as u64 {
@@ -165,10 +167,11 @@ pub(crate) fn open_inside<'a>(
     place: &LongCursor,
 ) -> Result<OpenPage<'a>, OpenFault>
     requires { due.page ≡ place.now.at.page }
-    ensures opened { IfOk result (Opening.IsOpenedInside due.entry place.now) }
-    ensures items { IfOk result (λ page. (items : List Item) (end : End)
-        → Due.IsDueOnPage page items end → Opening.IsPlaceDue due.entry place.now items end) }
-    ensures refused { IfErr result (Opening.IsRefusal (Opening.IsPlaceDue due.entry place.now)) }
+    ensures opened { IfOk result
+        (Spec.IsOpenedAt due.entry.directory.file (inner_at place.now) 0 0) }
+    ensures inner { OnOk result (IsInnerOn due.entry.directory.file
+        (page_with due.entry.directory due.entry.form) place.now) }
+    ensures refused { IfErr result (Spec.IsRefusal (Spec.IsNoInner due.entry place.now)) }
 {
     fax_files::laws::forms_are_whole();
     let form = due.form;
@@ -211,43 +214,20 @@ impl<'a> OpenPage<'a> {
     /// Opens the page after this one, all rows of which are read.
     pub(crate) fn open_next(&self, alloc: Global) -> Result<OpenPage<'a>, OpenFault>
         requires { row_of self.now ≡ self.now.form.rows }
-        ensures opened { IfOk result (Opening.IsOpenedBehind self.now.chain self.now.read) }
-        ensures number { self.now.chain.given ≡ self.now.page + 1 }
-        ensures items { IfOk result (λ page. (items : List Item) (end : End)
-            → Due.IsDueOnPage page items end → Due.IsDueOnPage self.now items end) }
-        ensures refused { IfErr result (Opening.IsRefusal (Due.IsDueOnPage self.now)) }
+        ensures opened { IfOk result
+            (Spec.IsOpenedAt self.now.directory.file (place_of self.now) 0 self.now.read) }
+        ensures refused { IfErr result (Spec.IsRefusal (λ end.
+            IsRow self.now.directory.file (place_of self.now) (Err end))) }
     {
-        open_behind(alloc, &self.chain, self.read)
+        open_after(alloc, &self.chain, self.read)
     }
 
     /// Whether all rows of the page are read.
     pub(crate) fn is_read(&self) -> bool
-        ensures { result ≡ (row_of self.now == self.now.form.rows) }
+        ensures read { result ≡ true → row_of self.now ≡ self.now.form.rows }
+        ensures due { result ≡ false → row_of self.now < self.now.form.rows }
     {
         self.row == self.form.rows
-    }
-
-    /// Rows of the page and of those after it are due, and an end. It computes nothing.
-    pub(crate) fn has_items(&self)
-        ensures { (items : List Item) × (end : End) × Due.IsDueOnPage self.now items end }
-    {
-        fax_page::laws::lines_are_read_in_one_way();
-        fax_page::laws::strips_are_read_in_one_way();
-        fax_files::laws::forms_are_whole();
-        fax_files::laws::files_have_one_chain();
-        let _ = &self.page;
-    }
-
-    /// The place of the row that was read last.
-    pub(crate) fn last(&self) -> Place
-        requires { 0 < row_of self.now }
-        ensures page { result.page ≡ self.now.page }
-        ensures row { result.row + 1 ≡ row_of self.now }
-    {
-        Place {
-            page: self.page,
-            row: self.row - 1,
-        }
     }
 
     /// The place of the row that is due, or the one after the last row.
@@ -274,7 +254,8 @@ impl<'a> OpenPage<'a> {
     ///
     /// `Memory` where a growth was refused.
     pub(crate) fn long_cursor(&self, alloc: Global) -> Result<Option<LongCursor>, Memory>
-        ensures { IfOk result (Due.IsLongOnPage self.now) }
+        ensures { IfOk result (λ place. let at = place_of self.now in
+            place ≡ long_at at.page at.row at.inner) }
     {
         let place = self.strip.bit_place();
         let row = self.row - self.number * self.form.rows_per_strip;
@@ -293,15 +274,12 @@ impl<'a> OpenPage<'a> {
 
     /// Goes to the next strip, or answers how the rows end where it lies outside the file.
     fn next_strip(&mut self) -> Result<(), End>
-        requires open { Due.IsOpen self.old }
+        requires open { Spec.IsOpen self.old }
         requires all_read { self.old.strip.row ≡ self.old.strip.form.rows }
         requires due { row_of self.old < self.old.form.rows }
-        ensures ok { OnOk result (Due.KeepsPage self.old self.new) }
-        ensures number { OnOk result (self.new.number ≡ self.old.number + 1) }
-        ensures same_read { self.new.read ≡ self.old.read }
-        ensures place { IfErr result (Due.EndsAtRow self.old) }
-        ensures err { IfErr result (Due.IsDueOnPage self.old []) }
-        ensures goes_on { OnErr result (Due.GoesOn self.old self.new) }
+        ensures keeps { Spec.KeepsPlace self.old self.new }
+        ensures ok { OnOk result (Spec.IsNextStrip self.old self.new) }
+        ensures err { IfErr result (Spec.StopsAtRow self.old) }
     {
         let number = self.number + 1;
         match self.strips.bytes(number) {
@@ -318,7 +296,7 @@ impl<'a> OpenPage<'a> {
     /// Exchanges the colours of the row that was read, where they are exchanged.
     fn exchange(&mut self)
         ensures same { self.new ≡ record self.old { shown = self.new.shown } }
-        ensures shown { self.new.shown ≡ row_handed_out self.old.form self.old.strip.reference }
+        ensures shown { self.new.shown ≡ exchanged self.old.form self.old.strip.reference }
     {
         if let Some(row) = &mut self.exchanged {
             row.set_from(self.strip.reference());
@@ -328,17 +306,16 @@ impl<'a> OpenPage<'a> {
 
     /// Reads the row that is due, or answers how the rows end there.
     fn advance(&mut self) -> Result<(), End>
-        requires open { Due.IsOpen self.old }
+        requires open { Spec.IsOpen self.old }
         requires due { row_of self.old < self.old.form.rows }
-        ensures ok { OnOk result (Due.ReadsPageRow self.old self.new) }
-        ensures err { IfErr result (Due.IsDueOnPage self.old []) }
-        ensures same_read { OnErr result (self.new.read ≡ self.old.read) }
-        ensures place { IfErr result (Due.EndsAtRow self.old) }
-        ensures goes_on { Due.GoesOn self.old self.new }
+        ensures ok { OnOk result (Spec.ReadsPageRow self.old self.new) }
+        ensures keeps { OnErr result (Spec.KeepsPlace self.old self.new) }
+        ensures err { IfErr result (Spec.StopsAtRow self.old) }
     {
-        loop {
+        'strips: loop {
             match self.strip.advance() {
                 Ok(true) => {
+                    let _bits = self.strip.bit_place();
                     self.row += 1;
                     self.read += 1;
                     self.exchange();
@@ -358,14 +335,12 @@ impl<'a> OpenPage<'a> {
 
     /// Reads on to the next row that is handed out, or answers how the rows end before it.
     pub(crate) fn next(&mut self) -> Result<(), End>
-        requires open { Due.IsOpen self.old }
+        requires open { Spec.IsOpen self.old }
         requires due { row_of self.old < self.old.form.rows }
-        ensures ok { OnOk result (Due.GivesRow self.old self.new) }
-        ensures err { IfErr result (Due.IsDueOnPage self.old []) }
-        ensures goes_on { Due.GoesOn self.old self.new }
-        ensures none { IfErr result (Due.GivesNone self.old self.new) }
+        ensures ok { OnOk result (Spec.GivesRow self.old self.new) }
+        ensures err { IfErr result (λ end. Spec.GivesNone self.old end self.new) }
     {
-        loop {
+        'rows: loop {
             self.advance()?;
             if self.row > self.first {
                 return Ok(());

@@ -1,7 +1,7 @@
 //! The pages of a file in the order of their chain, with their forms.
 ghost use Rattle.std.specs.Prelude.{◌≡◌, List, [], IfErr, IfOk, Err};
-ghost use Rattle.fax_walk.specs.Pages.{FormItem, IsFormTail};
-ghost use Rattle.fax_walk.specs.code.Opening.{IsFormNext};
+ghost use Rattle.fax_walk.specs.Pages.{FormItem, IsForm, IsFormTail};
+ghost use Rattle.fax_walk.specs.code.Opening.{IsFileChain};
 ghost use Rattle.fax_walk.specs.code.Pages as Spec;
 
 use crate::opening::DuePage;
@@ -52,11 +52,11 @@ impl<'a> Model for Pages<'a> {
 
 /// The page after the directories that a chain has handed out, or how the pages end there.
 fn page_after<'a>(chain: Chain<'a>) -> Result<DuePage<'a>, End>
+    requires { IsFileChain chain }
     ensures ok { IfOk result (λ due. Spec.IsPageAfter chain.entry due) }
-    ensures err { IfErr result (λ end. IsFormNext chain.entry (Err end)) }
+    ensures err { IfErr result (λ end. IsForm chain.entry.tiff.file chain.entry.given (Err end)) }
 {
-    fax_files::laws::files_have_one_chain();
-    match DuePage::behind(chain) {
+    match DuePage::after(chain) {
         Ok(Some(page)) => Ok(page),
         Ok(None) => Err(End::Proper),
         Err(end) => Err(end),
@@ -69,7 +69,6 @@ fn first_page<'a>(file: &'a [u8], cursor: Cursor) -> Result<DuePage<'a>, End>
     ensures ok { IfOk result (Spec.BeginsWith file.now cursor) }
     ensures err { IfErr result (IsFormTail file.now cursor []) }
 {
-    fax_files::laws::files_have_one_chain();
     let Some(page) = DuePage::at(file, cursor)? else {
         return Err(End::Proper);
     };

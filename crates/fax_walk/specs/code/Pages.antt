@@ -8,7 +8,7 @@ use Rattle.fax_walk.specs.declared.pages.PagesStage.TheVariants.{Before, After, 
 use Rattle.fax_walk.specs.InOrder.{LeadTo, EndsAfter, HasToldNoOther}
 use Rattle.fax_walk.specs.Pages.{FormItem, IsForm, AreFormsBegun, IsFormTail}
 use Rattle.fax_walk.specs.PagesLeft.{PagesView, IsTailOf}
-use Rattle.fax_walk.specs.code.Opening.{PageDue, IsChainBefore, IsFormOf}
+use Rattle.fax_walk.specs.code.Opening.{PageDue, IsChainBefore}
 
 -- how the pages ended, once that was told
 abbrev pub told_of : PagesStage → Option End
@@ -34,19 +34,18 @@ IsSoundReader file begun given cursor (Ended end) = EndsAfter (IsFormTail file b
 
 -- a page is the one after the directories that a chain has handed out
 abbrev pub IsPageAfter : ChainState → PageDue → Type 0
-IsPageAfter chain due = (due.page ≡ chain.given)
-    × ((file : List ℕ) → IsChainBefore file chain.given chain → IsFormOf file due)
+IsPageAfter chain due = (due.page ≡ chain.given) × (due.directory.file ≡ chain.tiff.file)
 
 -- a reader from a cursor begins with this page
 pub record BeginsWith (file : List ℕ) (at : Cursor) (due : PageDue) : Type 0 where
   pub begins : AreFormsBegun file at (Ok (due.page, 0))
-  pub its : IsFormOf file due
+  pub file_is : due.directory.file ≡ file
 
 -- a reader of pages hands out this page next
 pub record IsDueIn (pages : PagesView) (due : PageDue) : Type 0 where
   pub untold : pages.told ≡ None
   pub come : HasGiven pages.file pages.begun pages.given due.page
-  pub its : IsFormOf pages.file due
+  pub file_is : due.directory.file ≡ pages.file
 
 -- the pages of a reader end so
 abbrev pub EndsNow : PagesView → End → Type 0

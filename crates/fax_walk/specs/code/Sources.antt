@@ -17,7 +17,8 @@ use Rattle.fax_walk.specs.declared.sheet.Sheet.{Sheet}
 use Rattle.fax_walk.specs.Items.{Item, AreItems}
 use Rattle.fax_walk.specs.Pages.{FormItem, AreForms}
 use Rattle.fax_walk.specs.Converted.{SourcePage, page_of_image, page_of_form}
-use Rattle.fax_walk.specs.code.Due.{WalkState, IsDue}
+use Rattle.fax_walk.specs.Left.{WalkView}
+use Rattle.fax_walk.specs.code.Bridge.{IsDue}
 use Rattle.fax_walk.specs.PagesLeft.{PagesView, AreFormsLeft}
 use Rattle.fax_walk.specs.code.Output.{Progress, Part, no_rows, image_sheet, IsPartWritten}
 use Rattle.fax_walk.specs.code.Output.{IsWrittenTo}
@@ -93,12 +94,12 @@ AreWholePages (one ∷ forms) items pages =
     × AreWholePages forms others later
 
 -- a walk has handed out these items
-abbrev pub HasGiven : WalkState → List Item → WalkState → Type 0
+abbrev pub HasGiven : WalkView → List Item → WalkView → Type 0
 HasGiven old items new =
     (more : List Item) (end : End) → IsDue new more end → IsDue old (items ++ more) end
 
 -- all rows of a page were read from a walk, and put
-pub record ConvertsRows (walk : WalkState) (output : Output) (sheet : Sheet) (new_walk : WalkState)
+pub record ConvertsRows (walk : WalkView) (output : Output) (sheet : Sheet) (new_walk : WalkView)
     (new_output : Output) : Type 0 where
   pub items : List Item
   pub count : length items ≡ sheet.rows
@@ -106,7 +107,7 @@ pub record ConvertsRows (walk : WalkState) (output : Output) (sheet : Sheet) (ne
   pub put : PutsRows output sheet (map (λ item. item.pels) items) new_output
 
 -- the rows that a walk still had to hand out end with this fault
-pub record EndsWith (walk : WalkState) (fault : ConvertFault) : Type 0 where
+pub record EndsWith (walk : WalkView) (fault : ConvertFault) : Type 0 where
   pub items : List Item
   pub page : ℕ
   pub row : ℕ
@@ -129,7 +130,7 @@ pub record IsPageCount (file : List ℕ) (count : ℕ) : Type 0 where
 
 -- the pages are written whose forms and rows were read
 pub record ArePagesWritten (file : List ℕ) (options : Options) (total : ℕ) (pages : PagesView)
-    (walk : WalkState) (output : Output) : Type 0 where
+    (walk : WalkView) (output : Output) : Type 0 where
   pub forms : List FormItem
   pub items : List Item
   pub converted : List SourcePage

@@ -1,14 +1,29 @@
--- A page that is open.
-use Rattle.std.specs.Prelude.{◌≡◌, ℕ, ◌+◌, ◌-◌, ◌*◌, ◌^◌, ◌<◌, ◌≤◌, true, false, List, length, map}
-use Rattle.std.specs.Prelude.{if◌then◌else◌, Option, Some, None}
+-- A page that is open, and what it is to read on in it.
+use Rattle.std.specs.Prelude.{◌≡◌, ℕ, ◌+◌, ◌-◌, ◌*◌, ◌^◌, ◌<◌, ◌≤◌, ◌⊎◌, false, true, List, length, Option}
+use Rattle.std.specs.Prelude.{Some, None, Ok, Err, ⊤, [], ◌∷◌, ◌++◌}
 use Rattle.fax_bits.specs.declared.Colour.{Colour}
-use Rattle.fax_rows.specs.Elements.{other}
+use Rattle.fax_bits.specs.declared.Colour.TheVariants.{White}
+use Rattle.fax_rows.specs.Elements.{pels_of}
+use Rattle.fax_page.specs.declared.StripForm.{StripForm}
+use Rattle.fax_page.specs.Strip.{white_row}
 use Rattle.fax_page.specs.code.Reader.{StripState}
 use Rattle.fax_files.specs.declared.PageForm.{PageForm}
+use Rattle.fax_files.specs.declared.Cause.{Cause}
 use Rattle.fax_files.specs.Page.{IsPageForm}
 use Rattle.fax_files.specs.PageRows.{strip_form}
 use Rattle.fax_files.specs.code.Chain.{ChainState}
-use Rattle.fax_files.specs.code.Tiff.{TiffDirectory, PageStrips}
+use Rattle.fax_files.specs.code.Tiff.{TiffDirectory, PageStrips, bytes_of}
+use Rattle.fax_walk.specs.declared.cursor.Cursor.{Cursor}
+use Rattle.fax_walk.specs.declared.end.End.{End}
+use Rattle.fax_walk.specs.declared.end.End.TheVariants.{Fault, Outside}
+use Rattle.fax_walk.specs.declared.opening.OpenFault.{OpenFault}
+use Rattle.fax_walk.specs.declared.opening.OpenFault.TheVariants.{Memory, Ended}
+use Rattle.fax_walk.specs.LongCursor.{LongPlace}
+use Rattle.fax_walk.specs.InOrder.{LeadTo}
+use Rattle.fax_walk.specs.Pages.{IsPageAt}
+use Rattle.fax_walk.specs.Rows.{Item, Place, IsInner, IsInnerOn, IsRow, place_on, place_after}
+use Rattle.fax_walk.specs.Rows.{first_at, inner_at, strip_at}
+use Rattle.fax_walk.specs.code.Opening.{IsFilePage, PageDue, page_with}
 
 -- a page that is open: its number, the chain after its directory, its directory and form, the
 -- first row that is handed out, the number of the strip that is read, that strip, as far as it is
@@ -32,15 +47,17 @@ row_of page = page.number * page.form.rows_per_strip + page.strip.row
 abbrev pub skipped : PageState → ℕ
 skipped page = page.first - row_of page
 
+-- the place of the row that is due, or the first one of the page after
+abbrev pub place_of : PageState → Place
+place_of page =
+    place_on page.form page.page (row_of page)
+    (record { bits = page.strip.place; reference = page.strip.reference })
+
 -- the row that was read last, as it is handed out: from the row of its own that colours are
 -- exchanged in, if there is one
 abbrev pub row_shown : StripState → Option (List Colour) → List Colour
 row_shown strip None = strip.reference
 row_shown strip (Some row) = row
-
--- a row as it is handed out: with colours exchanged where black is coded as white
-abbrev pub row_handed_out : PageForm → List Colour → List Colour
-row_handed_out form row = if form.exchanged then map other row else row
 
 -- there is a row of its own for colours that are exchanged where they are, and it has the page's
 -- width
@@ -52,18 +69,165 @@ IsRoomFor form (Some row) = (form.exchanged ≡ true) × (length row ≡ form.wi
 abbrev pub most_rows : ℕ
 most_rows = 1000000
 
--- a page that is read: the strip is the one of that number, of a form within the limits, and the
--- chain goes on after the page
+-- a strip is one of the page's, of its bytes, and no bit stands before its first row, whose
+-- reference is white
+pub record IsStripOf (form : PageForm) (directory : TiffDirectory) (number : ℕ)
+    (strip : StripState) : Type 0 where
+  pub form_is : strip.form ≡ strip_form form number
+  pub bytes_are : bytes_of directory number ≡ Some strip.bytes
+  pub within : strip.row ≤ strip.form.rows
+  pub first : strip.row ≡ 0 → (strip.place ≡ 0) × (strip.reference ≡ white_row form.width)
+
+-- a page that is read: it is its file's, of a form within the limits, and the strip is the one of
+-- that number
 pub record IsReadingPage (page : ℕ) (chain : ChainState) (form : PageForm) (strips : PageStrips)
     (number row : ℕ) (strip : StripState) (exchanged : Option (List Colour))
     (read : ℕ) : Type 0 where
-  pub behind : chain.given ≡ page + 1
+  pub its : IsFilePage page chain strips.directory form
   pub limits : IsPageForm form
   pub counted : strips.count ≡ form.strips
   pub within : number < form.strips
-  pub form_is : strip.form ≡ strip_form form number
-  pub within_strip : strip.row ≤ strip.form.rows
+  pub strip_is : IsStripOf form strips.directory number strip
   pub row_is : row ≡ number * form.rows_per_strip + strip.row
   pub room : IsRoomFor form exchanged
   pub some_page : page < 2 ^ 32
   pub few : read ≤ page * most_rows + row
+
+-- a page whose rows can be read
+pub record IsOpen (page : PageState) : Type 0 where
+  pub no_fault : page.strip.fault ≡ None
+  pub first : page.first < page.form.rows
+
+-- a page of the file was opened at this place; so many rows are read before the first one that is
+-- handed out, and so many were read before
+pub record IsOpenedAt (file : List ℕ) (at : Place) (dropped read : ℕ)
+    (page : PageState) : Type 0 where
+  pub is_open : IsOpen page
+  pub file_is : page.directory.file ≡ file
+  pub row_due : row_of page < page.form.rows
+  pub place_is : place_of page ≡ at
+  pub skips : skipped page ≡ dropped
+  pub read_is : page.read ≡ read
+
+-- the same, and where rows are skipped its first row that is handed out is this one
+pub record IsOpenedFrom (file : List ℕ) (at : Place) (dropped : ℕ) (begun : Cursor)
+    (page : PageState) : Type 0 where
+  pub opened : IsOpenedAt file at dropped 0 page
+  pub named : 0 < dropped → (page.page ≡ begun.page) × (page.first ≡ begun.row)
+
+-- no page was opened: memory was refused, or there is this to say of the end
+abbrev pub IsRefusal : (End → Type 0) → OpenFault → Type 0
+IsRefusal ends Memory = ⊤
+IsRefusal ends (Ended end) = ends end
+
+-- the reader of a strip stands at a place inside it, before this row of the strip
+abbrev pub IsAtPlace : StripForm → List ℕ → ℕ → LongPlace → StripState → Type 0
+IsAtPlace form bytes row place strip =
+    IsInner form.width bytes place
+    × (strip ≡ record {
+      form = form;
+      bytes = bytes;
+      place = place.bits;
+      row = row;
+      read = 0;
+      reference = pels_of White place.runs;
+      fault = None;
+    })
+
+-- no strip was opened: where memory was not refused, the place is outside of it
+abbrev pub IsNoPlace : StripForm → List ℕ → LongPlace → OpenFault → Type 0
+IsNoPlace form bytes place =
+    IsRefusal (λ end. (end ≡ Outside) × (IsInner form.width bytes place → ⊥))
+
+-- the strip of a row of a page that is due is not there: the rows end at its first row
+pub record IsNoStrip (due : PageDue) (first : ℕ) (end : End) : Type 0 where
+  pub stop : IsRow due.directory.file
+      (first_at due.page (strip_at due.form first * due.form.rows_per_strip)) (Err end)
+  pub cause : Cause
+  pub told : end
+      ≡ Fault due.page (strip_at due.form first * due.form.rows_per_strip) cause
+
+-- a place inside a strip of a page that is due is not there, or its strip is not
+abbrev pub IsNoInner : PageDue → LongPlace → End → Type 0
+IsNoInner due place end =
+    (IsInnerOn due.directory.file (page_with due.directory due.form) place
+    × IsRow due.directory.file (inner_at place) (Err end))
+    ⊎ ((IsInnerOn due.directory.file (page_with due.directory due.form) place → ⊥)
+    × (end ≡ Outside))
+
+-- the rows end at the row that is due on a page
+abbrev pub EndsAtRow : PageState → End → Type 0
+EndsAtRow page end = (cause : Cause) × (end ≡ Fault page.page (row_of page) cause)
+
+-- the row that is due is an item
+abbrev pub item_of : PageState → ℕ → PageState → Item
+item_of old r new =
+    record { page = old.page; row = r; pels = new.shown; bits = new.strip.place }
+
+-- the same page, as far as another row of it
+pub record IsSamePage (old new : PageState) : Type 0 where
+  pub page : new.page ≡ old.page
+  pub form : new.form ≡ old.form
+  pub first : new.first ≡ old.first
+  pub directory : new.directory ≡ old.directory
+
+-- the same place of a page, at this strip or at the next one
+pub record KeepsPlace (old new : PageState) : Type 0 where
+  pub same : IsSamePage old new
+  pub row : row_of new ≡ row_of old
+  pub place : place_of new ≡ place_of old
+  pub read : new.read ≡ old.read
+
+-- the next strip of a page was begun
+pub record IsNextStrip (old new : PageState) : Type 0 where
+  pub still_open : IsOpen new
+  pub number : new.number ≡ old.number + 1
+
+-- the row that was due was read
+pub record ReadsPageRow (old new : PageState) : Type 0 where
+  pub same : IsSamePage old new
+  pub still_open : IsOpen new
+  pub step : IsRow old.directory.file (place_of old)
+      (Ok (item_of old (row_of old) new, place_of new))
+  pub next_row : row_of new ≡ row_of old + 1
+  pub one_more : new.read ≡ old.read + 1
+  pub after : place_of new ≡ place_after old.form (item_of old (row_of old) new)
+
+-- the row that was due could not be read
+pub record StopsAtRow (old : PageState) (end : End) : Type 0 where
+  pub stop : IsRow old.directory.file (place_of old) (Err end)
+  pub told : EndsAtRow old end
+
+-- these rows were read, which are not handed out
+pub record HasSkipped (old new : PageState) (items : List Item) : Type 0 where
+  pub same : IsSamePage old new
+  pub lead : LeadTo (IsRow old.directory.file) (place_of old) items (place_of new)
+  pub rows : row_of new ≡ row_of old + length items
+  pub read : new.read ≡ old.read + length items
+  pub few : length items ≤ skipped old
+
+-- the next row that is handed out was read, and those before it
+pub record GivesRow (old new : PageState) : Type 0 where
+  pub same : IsSamePage old new
+  pub still_open : IsOpen new
+  pub items : List Item
+  pub lead : LeadTo (IsRow old.directory.file) (place_of old) items (place_of new)
+  pub front : List Item
+  pub item : Item
+  pub items_are : items ≡ front ++ item ∷ []
+  pub count : length front ≡ skipped old
+  pub item_is : item ≡ item_of old (row_of old + skipped old) new
+  pub here : IsPageAt old.directory.file (record { page = item.page; row = item.row })
+      (Ok (page_with old.directory old.form))
+  pub within : item.row < old.form.rows
+  pub after : place_of new ≡ place_after old.form item
+  pub next_row : row_of new ≡ row_of old + skipped old + 1
+  pub read : new.read ≡ old.read + skipped old + 1
+  pub few : new.read < 2 ^ 64
+
+-- the rows end before the next one that is handed out: some before it were read
+pub record GivesNone (old : PageState) (end : End) (new : PageState) : Type 0 where
+  pub items : List Item
+  pub skips : HasSkipped old new items
+  pub stop : IsRow old.directory.file (place_of new) (Err end)
+  pub told : EndsAtRow new end

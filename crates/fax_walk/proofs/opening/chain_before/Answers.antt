@@ -11,19 +11,18 @@ loop-number-init c = rw c.new-chain.ensures (record {
 })
 
 pub returns-in-Err-clause-err : goal.returns-in-Err-clause-err
-returns-in-Err-clause-err c row = rw c.of_file.ensures (header_refused _ _ c.in-Err.fault c.in-Err.ensures.fault)
+returns-in-Err-clause-err c r = rw c.of_file.ensures (header_refused _ _ c.in-Err.fault c.in-Err.ensures.fault)
 
 pub returns-in-Ok-None-clause-err : goal.returns-in-Ok-None-clause-err
-returns-in-Ok-None-clause-err c row =
-    none_before _ _ _ _ _ c.loop-number.invariant c.files_have_one_chain.ensures c.next.ensures.answer
-    (c.in-Ok-None.is ∙ ap Ok c.in-Ok-None.field-0-is)
-    c.loop-number-test.true
+returns-in-Ok-None-clause-err c r =
+    none_before _ _ _ _ c.loop-number.invariant c.files_have_one_chain.ensures c.next.ensures.answer _
+    (c.in-Ok-None.is ∙ ap Ok c.in-Ok-None.field-0-is) c.loop-number-test.true
 
 pub returns-in-Err-next-clause-err : goal.returns-in-Err-next-clause-err
-returns-in-Err-next-clause-err c row =
+returns-in-Err-next-clause-err c r =
     let past : c.loop-number.number ≤ c.args.page = omega (arith, c.loop-number-test.true) in
     rw c.of_file-in-Err-next.ensures
-    (fault_before_page _ _ _ _ _ _ c.loop-number.invariant c.files_have_one_chain.ensures c.next.ensures.answer c.in-Err-next.is past)
+    (fault_before_page _ _ _ _ c.loop-number.invariant c.files_have_one_chain.ensures c.next.ensures.answer _ _ c.in-Err-next.is past)
 
 pub loop-number-preserved : goal.loop-number-preserved
 loop-number-preserved c =

@@ -1,18 +1,22 @@
-use Rattle.std.proofs.Common.{sym}
-use Rattle.fax_walk.proofs.OpenLemmas.{refused_strip, first_due}
+use Rattle.std.proofs.Common.{ap, sym}
+use Rattle.fax_page.specs.code.Reader.{StripState}
+use Rattle.fax_walk.proofs.OpenPageLemmas.{is_opened, refused_strip}
 use Rattle.fax_walk.proofs.page.open.Goals as goal
 
 pub returns-in-Err-clause-refused : goal.returns-in-Err-clause-refused
 returns-in-Err-clause-refused c =
     let there = rw (sym c.due.view_is) at c.requires.there in
     let outside = rw c.strips-strips.ensures.directory at c.in-Err.ensures.outside in
+    let d = c.due.inside in
     rw (← c.due.view_is, c.of_file.ensures, c.in-Err.ensures.fault)
-    (refused_strip _ c.args.first c.due.invariant.limits there outside)
+    (refused_strip (record { page = d.page; chain = d.chain; directory = d.directory; form = d.form }) c.args.first c.due.invariant.its
+    c.due.invariant.limits there outside)
 
-pub returns-clause-items : goal.returns-clause-items
-returns-clause-items c items end due =
+pub returns-clause-opened : goal.returns-clause-opened
+returns-clause-opened c =
     let there = rw (sym c.due.view_is) at c.requires.there in
-    let found = rw c.strips-strips.ensures.directory at c.in-Ok.ensures.bytes in
-    rw (← c.due.view_is)
-    (first_due _ c.args.first c.due.invariant.limits there c.in-Ok.bytes.now _ _ found items end
-    (rw (c.in_ok-strip.ensures, c.strip_form.ensures.exact, c.strips-strips.ensures.directory) at due))
+    let d = c.due.inside in
+    rw (← c.due.view_is, c.strips-strips.ensures.directory)
+    (is_opened (record { page = d.page; chain = d.chain; directory = d.directory; form = d.form }) c.args.first c.due.invariant.its
+    c.due.invariant.limits there c.in_ok-strip.strip _ c.args.read (ap (λ (s : StripState). s.row) c.in_ok-strip.ensures)
+    (ap (λ (s : StripState). s.fault) c.in_ok-strip.ensures))

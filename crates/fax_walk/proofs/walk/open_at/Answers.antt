@@ -1,20 +1,41 @@
-use Rattle.std.proofs.Common.{◌≡◌, sym, arith}
-use Rattle.fax_walk.proofs.BehindLemmas.{items_so, refused_so, opened_in_file}
+use Rattle.std.proofs.Common.{◌<◌, inl, sym}
+use Rattle.std.proofs.lemmas.Result.{err_from_is_err_and}
+use Rattle.fax_walk.specs.code.Opening.{PageDue}
+use Rattle.fax_walk.proofs.EnterLemmas.{no_page, opened_next, opened_on, refused_next, refused_on}
 use Rattle.fax_walk.proofs.walk.open_at.Goals as goal
 
-pub returns-else-cursor-due-clause-items : goal.returns-else-cursor-due-clause-items
-returns-else-cursor-due-clause-items c =
+pub returns-in_err-due-clause-refused : goal.returns-in_err-due-clause-refused
+returns-in_err-due-clause-refused c =
+    let p = err_from_is_err_and c.from_residual.result c.from_residual.ensures.1 in
+    rw (p.1, p.2) (no_page c.args.file.now c.args.cursor _ c.in_err-due.ensures.err)
+
+pub returns-in_default-clause-refused : goal.returns-in_default-clause-refused
+returns-in_default-clause-refused c =
+    no_page c.args.file.now c.args.cursor _ (inl (rw c.in_default.is at c.in_ok-due.ensures.ok))
+
+pub returns-then-cursor-due-clause-opened : goal.returns-then-cursor-due-clause-opened
+returns-then-cursor-due-clause-opened c =
+    let named = rw c.in-Some.is at c.in_ok-due.ensures.ok in
+    let below : c.args.cursor.row < c.in-Some.due.form.rows = rw (← c.due.view_is) c.if-cursor-due.true in
+    opened_on c.args.file.now c.args.cursor c.in-Some.due named below c.open.result c.open.ensures.opened c.open.ensures.page c.open.ensures.first
+
+pub returns-then-cursor-due-clause-refused : goal.returns-then-cursor-due-clause-refused
+returns-then-cursor-due-clause-refused c =
+    let named = rw c.in-Some.is at c.in_ok-due.ensures.ok in
+    let below : c.args.cursor.row < c.in-Some.due.form.rows = rw (← c.due.view_is) c.if-cursor-due.true in
+    refused_on c.args.file.now c.args.cursor c.in-Some.due named below c.open.result c.open.ensures.refused
+
+pub returns-else-cursor-due-clause-opened : goal.returns-else-cursor-due-clause-opened
+returns-else-cursor-due-clause-opened c =
     let named = rw (sym c.due.view_is) at (rw c.in-Some.is at c.in_ok-due.ensures.ok) in
-    let last : c.args.cursor.row ≡ c.due.inside.form.rows = omega (arith, c.if-cursor-due.false, named.within) in
-    items_so _ _ _ (λ items end behind. named.from_next items end last behind) c.open_behind.ensures.items
+    let d = c.due.inside in
+    let due : PageDue = record { page = d.page; chain = d.chain; directory = d.directory; form = d.form } in
+    opened_next c.args.file.now c.args.cursor due named c.due.invariant.its c.if-cursor-due.false c.open_after.result c.open_after.ensures.opened
 
 pub returns-else-cursor-due-clause-refused : goal.returns-else-cursor-due-clause-refused
 returns-else-cursor-due-clause-refused c =
     let named = rw (sym c.due.view_is) at (rw c.in-Some.is at c.in_ok-due.ensures.ok) in
-    let last : c.args.cursor.row ≡ c.due.inside.form.rows = omega (arith, c.if-cursor-due.false, named.within) in
-    refused_so _ _ _ (λ items end behind. named.from_next items end last behind) c.open_behind.ensures.refused
-
-pub returns-else-cursor-due-clause-in_file : goal.returns-else-cursor-due-clause-in_file
-returns-else-cursor-due-clause-in_file c =
-    let named = rw (sym c.due.view_is) at (rw c.in-Some.is at c.in_ok-due.ensures.ok) in
-    opened_in_file _ _ _ _ named.in_file.head named.in_file.file_is c.open_behind.ensures.opened
+    let d = c.due.inside in
+    let due : PageDue = record { page = d.page; chain = d.chain; directory = d.directory; form = d.form } in
+    refused_next c.args.file.now c.args.cursor due named c.due.invariant.its c.if-cursor-due.false c.open_after.result
+    c.open_after.ensures.refused

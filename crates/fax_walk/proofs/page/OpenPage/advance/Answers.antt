@@ -1,6 +1,6 @@
-use Rattle.std.proofs.Common.{[], sym, arith}
-use Rattle.fax_walk.proofs.DueLemmas.{row_read, fault_met, kept_open, kept_read}
-use Rattle.fax_walk.proofs.GoesOnLemmas.{goes_further, row_goes_on}
+use Rattle.std.proofs.Common.{sym, arith}
+use Rattle.fax_walk.specs.code.Stages.{row_shown}
+use Rattle.fax_walk.proofs.OpenPageLemmas.{fault_stops, reads_kept, stops_kept, state}
 use Rattle.fax_walk.proofs.page.OpenPage.advance.Goals as goal
 
 pub overflow_add-self-in-Ok-true : goal.overflow_add-self-in-Ok-true
@@ -8,20 +8,21 @@ overflow_add-self-in-Ok-true c = omega (arith, c.self.invariant.few, c.self.inva
 
 pub returns-in-Ok-true-clause-ok : goal.returns-in-Ok-true-clause-ok
 returns-in-Ok-true-clause-ok c =
-    let keeps = rw (sym c.self.view_is) at c.loop-self.invariant in
-    let at = kept_open _ _ keeps c.requires.open in
+    let keeps = rw (sym c.self.view_is) at c.strips.invariant.keeps in
     let reads = rw c.in-Ok-true.field-0-test at c.in-Ok-true.ensures in
+    let p = c.self.inside in
+    let page = state p.page p.chain p.strips.directory p.form p.first p.number p.strip (row_shown p.strip p.exchanged) p.read in
     rw c.exchange.ensures.same
-    (kept_read _ _ _ keeps (row_read _ c.advance.new.self c.exchange.new.self.shown reads c.exchange.ensures.shown at))
+    (reads_kept _ page keeps c.advance.new.self c.exchange.new.self.shown c.requires.open c.self.invariant.limits c.self.invariant.strip_is
+    c.self.invariant.its reads c.exchange.ensures.shown
+    (rw c.bit_place-bits.ensures.place at c.bit_place-bits.ensures.within))
 
 pub returns-in-Err-clause-err : goal.returns-in-Err-clause-err
 returns-in-Err-clause-err c =
-    let keeps = rw (sym c.self.view_is) at c.loop-self.invariant in
-    let at = kept_open _ _ keeps c.requires.open in
-    rw c.self.invariant.row_is (keeps.due [] _ (fault_met _ c.advance.new.self _ at c.in-Err.ensures))
-
-pub returns-in-Ok-true-clause-goes_on : goal.returns-in-Ok-true-clause-goes_on
-returns-in-Ok-true-clause-goes_on c =
-    let keeps = rw (sym c.self.view_is) at c.loop-self.invariant in
-    let reads = rw c.in-Ok-true.field-0-test at c.in-Ok-true.ensures in
-    rw c.exchange.ensures.same (goes_further _ _ _ keeps.goes_on (row_goes_on _ c.advance.new.self c.exchange.new.self.shown reads))
+    let keeps = rw (sym c.self.view_is) at c.strips.invariant.keeps in
+    let is_open = rw (sym c.self.view_is) at c.strips.invariant.is_open in
+    let p = c.self.inside in
+    let page = state p.page p.chain p.strips.directory p.form p.first p.number p.strip (row_shown p.strip p.exchanged) p.read in
+    stops_kept _ page keeps _
+    (rw (← c.self.invariant.row_is) at (fault_stops page c.advance.new.self c.in-Err.fault is_open c.self.invariant.limits c.self.invariant.strip_is
+    c.self.invariant.its c.in-Err.ensures))

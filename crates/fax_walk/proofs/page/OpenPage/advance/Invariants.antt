@@ -1,10 +1,10 @@
 use Rattle.std.proofs.Common.{◌-◌}
-use Rattle.fax_walk.specs.code.Due.{KeepsPage}
+use Rattle.fax_walk.specs.code.Stages.{IsOpen, KeepsPlace}
 use Rattle.fax_walk.proofs.page.OpenPage.advance.Given as goal
 
--- the same rows are due, at this strip or a later one
-abbrev pub invariant-loop-self : goal.invariant-loop-self
-invariant-loop-self l = KeepsPage l.initial.self l.self
+-- the same place, at this strip or a later one
+abbrev pub invariant-strips : goal.invariant-strips
+invariant-strips l = record { keeps : KeepsPlace l.initial.self l.self; is_open : IsOpen l.self }
 
-abbrev pub decreases-loop-self : goal.decreases-loop-self
-decreases-loop-self l = l.self.form.strips - l.self.number
+abbrev pub decreases-strips : goal.decreases-strips
+decreases-strips l = l.self.form.strips - l.self.number

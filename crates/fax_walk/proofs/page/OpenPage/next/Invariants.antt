@@ -1,10 +1,16 @@
-use Rattle.fax_walk.specs.code.Stages.{skipped}
-use Rattle.fax_walk.proofs.DueLemmas.{Skips}
+use Rattle.std.proofs.Common.{List, ◌<◌}
+use Rattle.fax_walk.specs.Rows.{Item}
+use Rattle.fax_walk.specs.code.Stages.{HasSkipped, IsOpen, row_of, skipped}
 use Rattle.fax_walk.proofs.page.OpenPage.next.Given as goal
 
 -- only rows that are not handed out were read
-abbrev pub invariant-loop : goal.invariant-loop
-invariant-loop l = Skips l.initial.self l.self
+abbrev pub invariant-rows : goal.invariant-rows
+invariant-rows l = record {
+  items : List Item;
+  skips : HasSkipped l.initial.self l.self items;
+  is_open : IsOpen l.self;
+  due : row_of l.self < l.self.form.rows
+}
 
-abbrev pub decreases-loop : goal.decreases-loop
-decreases-loop l = skipped l.self
+abbrev pub decreases-rows : goal.decreases-rows
+decreases-rows l = skipped l.self

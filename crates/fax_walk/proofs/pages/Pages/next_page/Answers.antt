@@ -6,15 +6,15 @@ use Rattle.fax_walk.proofs.pages.Pages.next_page.Goals as goal
 pub invariant_of-self : goal.invariant_of-self
 invariant_of-self c =
     let due = rw (sym c.page.view_is, sym c.self.view_is) at c.in-Ok.ensures.ok in
-    given_more c.self.inside.file.now c.self.inside.begun c.self.inside.given _ due.come due.its
+    given_more c.self.inside.file.now c.self.inside.begun c.self.inside.given _ due.come due.file_is c.page.invariant.its
 
 pub returns-in-Ok : goal.returns-in-Ok
 returns-in-Ok c =
     let laws = c.form_tails_are_one.ensures in
     let due = rw (sym c.page.view_is, sym c.self.view_is) at c.in-Ok.ensures.ok in
-    let after : c.given.result ≡ c.page.inside.page + 1 = c.given.ensures ∙ c.page.invariant.behind in
+    let after : c.given.result ≡ c.page.inside.page + 1 = c.given.ensures ∙ c.page.invariant.its.after.given in
     let short : c.page.inside.page + 1 < 2 ^ 32 = omega (arith, after, c.given.type_inv) in
-    rw (← c.self.view_is, after) (page_given laws.one laws.first _ _ due c.page.invariant.limits short)
+    rw (← c.self.view_is, after) (page_given laws.one laws.first _ _ due c.page.invariant short)
 
 pub invariant_of-self-2 : goal.invariant_of-self-2
 invariant_of-self-2 c = (rw (sym c.self.view_is) at c.in-Err.ensures.err).0

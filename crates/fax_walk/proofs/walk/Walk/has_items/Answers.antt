@@ -1,11 +1,11 @@
-use Rattle.std.proofs.Common.{[], refl}
-use Rattle.fax_walk.proofs.WalkLemmas.{begun_items}
+use Rattle.fax_walk.specs.Left.{WalkView}
+use Rattle.fax_walk.proofs.WalkLemmas.{is_left}
 use Rattle.fax_walk.proofs.walk.Walk.has_items.Goals as goal
 
-pub returns-in-Before : goal.returns-in-Before
-returns-in-Before c =
-    rw (← c.self.view_is, c.in-Before.is)
-    (begun_items c.cursors_have_one_tail.ensures c.places_have_one_tail.ensures c.self.inside.file.now c.self.inside.begun)
-
-pub returns-in-Ended : goal.returns-in-Ended
-returns-in-Ended c = rw (← c.self.view_is, c.in-Ended.is) ([], c.in-Ended.field-0, (refl, refl))
+pub returns : goal.returns
+returns c =
+    let w = c.self.inside in
+    let walk : WalkView = record { file = w.file.now; begun = w.begun; given = w.given; told = w.told } in
+    rw (← c.self.view_is)
+    (is_left walk w.cursor w.page c.bits_stand_by_place.ensures c.lines_are_read_in_one_way.ensures c.files_have_one_chain.ensures
+    c.beginnings_have_one_tail.ensures c.self.invariant)

@@ -1,15 +1,16 @@
-use Rattle.std.proofs.Common.{arith}
-use Rattle.fax_walk.proofs.BeforeLemmas.{some_before_begun}
+use Rattle.fax_walk.specs.Left.{WalkView}
+use Rattle.fax_walk.proofs.WalkLemmas.{are_read, none_are_read}
 use Rattle.fax_walk.proofs.walk.Walk.rows_read.Goals as goal
 
-pub returns-in-Before-clause-bounded : goal.returns-in-Before-clause-bounded
-returns-in-Before-clause-bounded c =
-    let before = some_before_begun c.files_have_one_chain.ensures c.self.inside.file.now c.self.inside.begun in
-    let sound = rw c.in-Before.is at c.self.invariant.0 in
-    rw (← c.self.view_is) (record {
-      before = before.0;
-      are_before = before.1;
-      all = λ some. absurd (omega (arith, some, sound.1));
-      most = omega arith;
-      told = λ end told. absurd (rw c.in-Before.is at told);
-    })
+pub returns-in-Some : goal.returns-in-Some
+returns-in-Some c =
+    let w = c.self.inside in
+    let walk : WalkView = record { file = w.file.now; begun = w.begun; given = w.given; told = w.told } in
+    rw (← c.self.view_is, c.read.ensures) (are_read walk w.cursor w.page c.in-Some.page c.in-Some.is c.self.invariant)
+
+pub returns-in-None : goal.returns-in-None
+returns-in-None c =
+    let w = c.self.inside in
+    let walk : WalkView = record { file = w.file.now; begun = w.begun; given = w.given; told = w.told } in
+    rw (← c.self.view_is)
+    (none_are_read walk w.cursor w.page c.beginnings_have_one_tail.ensures c.in-None.is c.self.invariant)

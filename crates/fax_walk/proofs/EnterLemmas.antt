@@ -1,0 +1,155 @@
+-- A walk that enters its first page.
+use Rattle.std.proofs.Common.{◌≡◌, ℕ, ◌+◌, ◌*◌, ◌<◌, ◌≤◌, ◌⊎◌, inl, inr, true, false, List, [], drop, Option, Some, None, Result, Ok, Err, refl, sym}
+use Rattle.std.proofs.Common.{ap, ◌∙◌, subst, zero, suc, arith}
+use Rattle.std.proofs.Math.Nat.{div-add-mod}
+use Rattle.std.proofs.lemmas.Bool.{cases_lt}
+use Rattle.std.proofs.lemmas.Bool.Decides.{nat_tests}
+use Rattle.std.specs.Prelude.{IfOk, IfErr, OnOk, nat_lt, ◌==◌}
+use Rattle.fax_walk.specs.declared.begun.Begun.{Begun}
+use Rattle.fax_walk.specs.declared.begun.Begun.TheVariants.{At, Inside}
+use Rattle.fax_walk.specs.declared.cursor.Cursor.{Cursor}
+use Rattle.fax_walk.specs.declared.end.End.{End}
+use Rattle.fax_walk.specs.declared.end.End.TheVariants.{Fault, Outside}
+use Rattle.fax_walk.specs.declared.opening.OpenFault.{OpenFault}
+use Rattle.fax_walk.specs.declared.opening.OpenFault.TheVariants.{Memory, Ended}
+use Rattle.fax_walk.specs.LongCursor.{LongPlace}
+use Rattle.fax_walk.specs.Left.{EndsBefore}
+use Rattle.fax_walk.specs.Rows.{Begins, IsInnerOn, IsRow, Item, Place, begins_at, first_at, first_row, inner_at, row_in_strip, strip_at}
+use Rattle.fax_walk.specs.code.Opening.{EndsAt, IsFilePage, IsNamed, PageDue, page_with}
+use Rattle.fax_walk.specs.code.Stages.{IsNoInner, IsNoStrip, IsOpenedAt, IsRefusal, PageState}
+use Rattle.fax_walk.specs.code.Walk.{HasNoRows, IsOpenedFirst}
+
+none_dropped : (n : ℕ) → drop n (let items : List Item = [] in items) ≡ []
+none_dropped zero = refl
+none_dropped (suc n) = refl
+
+-- a walk that begins at no place of the file
+no_beginning : (file : List ℕ) (begun : Begun) (end : End) → Begins file begun (Err end) → HasNoRows file begun end
+no_beginning file begun end begins = record {
+  tail = (Err end, begins, (refl, refl));
+  read = record { begin = Err end; begins = begins; most = omega arith; all = λ some. omega arith; told = λ told is. inl refl };
+}
+
+-- a walk whose first place has no row
+no_row : (file : List ℕ) (begun : Begun) (end : End) (at : Place) (n : ℕ) → Begins file begun (Ok (at, n)) → IsRow file at (Err end)
+    → (n ≡ 0) ⊎ EndsBefore end (begins_at begun) → HasNoRows file begun end
+no_row file begun end at n begins stop before = record {
+  tail = (Ok (at, n), begins, ([], stop, sym (none_dropped n)));
+  read = record {
+    begin = Ok (at, n);
+    begins = begins;
+    most = omega arith;
+    all = λ some. absurd (omega (arith, some));
+    told = λ told is. elim before [
+      | inl none ↦ inl (omega (arith, none))
+      | inr ends ↦ let same : end ≡ told = cc in inr (rw same at ends)
+    ];
+  };
+}
+
+module _ (file : List ℕ) (at : Cursor) where
+  ends_at : (end : End) → EndsAt file at end → Begins file (At at) (Err end)
+  ends_at end (inl none) = (Err end, none, refl)
+  ends_at end (inr (here, page, above, end_is)) =
+      let below : nat_lt at.row here.form.rows ≡ false = grind (arith, nat_tests, above) in
+      let last : (at.row == here.form.rows) ≡ false = grind (arith, nat_tests, above) in
+      (Ok here, page, rw (below, last, end_is) refl)
+
+  pub no_page : (end : End) → EndsAt file at end → HasNoRows file (At at) end
+  no_page end ends = no_beginning file (At at) end (ends_at end ends)
+
+  module _ (due : PageDue) (named : IsNamed file at (Some due)) where
+    abbrev here : ℕ → Place
+    here r = first_at due.page (strip_at due.form r * due.form.rows_per_strip)
+
+    begins_on : at.row < due.form.rows → Begins file (At at) (Ok (here at.row, row_in_strip due.form at.row))
+    begins_on below =
+        let test : nat_lt at.row due.form.rows ≡ true = grind (arith, nat_tests, below) in
+        (Ok (page_with due.directory due.form), named.3, rw (test, named.1) refl)
+
+    pub opened_on : at.row < due.form.rows → (result : Result PageState OpenFault)
+        → IfOk result (IsOpenedAt due.directory.file (here at.row) (row_in_strip due.form at.row) 0)
+        → IfOk result (λ page. page.page ≡ due.page) → IfOk result (λ page. page.first ≡ at.row)
+        → IfOk result (IsOpenedFirst file (At at))
+    opened_on below (Ok page) opened page_is first_is = record {
+      first = here at.row;
+      dropped = row_in_strip due.form at.row;
+      begins = begins_on below;
+      from = record { opened = rw (named.0) at opened; named = λ some. (page_is ∙ named.1, first_is) };
+    }
+    opened_on below (Err fault) opened page_is first_is = opened
+
+    pub refused_on : at.row < due.form.rows → (result : Result PageState OpenFault) → IfErr result (IsRefusal (IsNoStrip due at.row))
+        → IfErr result (IsRefusal (HasNoRows file (At at)))
+    refused_on below (Ok page) refused = refused
+    refused_on below (Err Memory) refused = tt
+    refused_on below (Err (Ended end)) refused =
+        no_row file (At at) end (here at.row) (row_in_strip due.form at.row) (begins_on below) (rw (named.0) at refused.stop)
+        (elim (cases_lt 0 (row_in_strip due.form at.row)) [
+          | inl some ↦
+              let parts = div-add-mod at.row due.form.rows_per_strip in
+              inr (rw refused.told (named.1, omega (arith, parts, some)))
+          | inr none ↦ inl (omega (arith, none))
+        ])
+
+    module _ (its : IsFilePage due.page due.chain due.directory due.form) where
+      begins_next : due.form.rows ≤ at.row → Begins file (At at) (Ok (first_at due.chain.given 0, 0))
+      begins_next past =
+          let within = named.2 in
+          let below : nat_lt at.row due.form.rows ≡ false = grind (arith, nat_tests, past) in
+          let last : (at.row == due.form.rows) ≡ true = grind (arith, nat_tests, past, within) in
+          (Ok (page_with due.directory due.form), named.3, rw (below, last, its.after.given, named.1) refl)
+
+      its_file : due.chain.tiff.file ≡ file
+      its_file = its.after.file_is ∙ named.0
+
+      pub refused_next : due.form.rows ≤ at.row → (result : Result PageState OpenFault)
+          → IfErr result (IsRefusal (λ end. IsRow due.chain.tiff.file (first_at due.chain.given 0) (Err end)))
+          → IfErr result (IsRefusal (HasNoRows file (At at)))
+      refused_next past (Ok page) refused = refused
+      refused_next past (Err Memory) refused = tt
+      refused_next past (Err (Ended end)) refused =
+          no_row file (At at) end (first_at due.chain.given 0) 0 (begins_next past) (rw its_file at refused) (inl refl)
+
+      pub opened_next : due.form.rows ≤ at.row → (result : Result PageState OpenFault)
+          → IfOk result (IsOpenedAt due.chain.tiff.file (first_at due.chain.given 0) 0 0) → IfOk result (IsOpenedFirst file (At at))
+      opened_next past (Ok page) opened = record {
+        first = first_at due.chain.given 0;
+        dropped = 0;
+        begins = begins_next past;
+        from = record { opened = rw its_file at opened; named = λ some. absurd (omega (arith, some)) };
+      }
+      opened_next past (Err fault) opened = opened
+
+module _ (file : List ℕ) (place : LongPlace) where
+  ends_inside : (end : End) → EndsAt file place.at end → Begins file (Inside place) (Err end)
+  ends_inside end (inl none) = (Err end, none, refl)
+  ends_inside end (inr (here, page, above, end_is)) =
+      (Ok here, page, inr (λ inner. let row = inner.row in omega (arith, above, row), rw end_is refl))
+
+  pub no_page_inside : (end : End) → EndsAt file place.at end → HasNoRows file (Inside place) end
+  no_page_inside end ends = no_beginning file (Inside place) end (ends_inside end ends)
+
+  module _ (due : PageDue) (named : IsNamed file place.at (Some due)) where
+    begins_inside : IsInnerOn due.directory.file (page_with due.directory due.form) place → Begins file (Inside place) (Ok (inner_at place, 0))
+    begins_inside inner = (Ok (page_with due.directory due.form), named.3, inl (rw (named.0) at inner, refl))
+
+    pub opened_inside : (result : Result PageState OpenFault) → IfOk result (IsOpenedAt due.directory.file (inner_at place) 0 0)
+        → OnOk result (IsInnerOn due.directory.file (page_with due.directory due.form) place) → IfOk result (IsOpenedFirst file (Inside place))
+    opened_inside (Ok page) opened inner = record {
+      first = inner_at place;
+      dropped = 0;
+      begins = begins_inside inner;
+      from = record { opened = rw (named.0) at opened; named = λ some. absurd (omega (arith, some)) };
+    }
+    opened_inside (Err fault) opened inner = opened
+
+    pub refused_inside : (result : Result PageState OpenFault) → IfErr result (IsRefusal (IsNoInner due place))
+        → IfErr result (IsRefusal (HasNoRows file (Inside place)))
+    refused_inside (Ok page) refused = refused
+    refused_inside (Err Memory) refused = tt
+    refused_inside (Err (Ended end)) (inl (inner, stop)) =
+        no_row file (Inside place) end (inner_at place) 0 (begins_inside inner) (rw (named.0) at stop) (inl refl)
+    refused_inside (Err (Ended end)) (inr (not, end_is)) =
+        no_beginning file (Inside place) end
+        (Ok (page_with due.directory due.form), named.3, inr (λ inner. not (rw (sym named.0) at inner), rw end_is refl))

@@ -1,0 +1,546 @@
+-- A page that is open: where it stands, and what is read there.
+use Rattle.std.proofs.Common.{◌≡◌, ℕ, ◌+◌, ◌-◌, ◌*◌, ◌/◌, ◌%◌, ◌<◌, ◌≤◌, ◌⊎◌, inl, inr, min, true, false, List, [], ◌∷◌, ◌++◌, length, drop, Option, Some, None}
+use Rattle.std.proofs.Common.{Result, Ok, Err, refl, sym, ap, ◌∙◌, subst, arith, add-mul, length-append, ◌^◌}
+use Rattle.std.proofs.Math.Nat.{mul-le-mul_right, mod-eq-sub-div-mul, div-add-mod, zero-div, zero-mod}
+use Rattle.std.proofs.lemmas.Bool.{cases_lt}
+use Rattle.std.proofs.lemmas.Bool.Decides.{nat_tests}
+use Rattle.std.proofs.lemmas.Nat.{div_below}
+use Rattle.std.proofs.lemmas.Grind.{div_ceil_times}
+use Rattle.std.specs.Prelude.{IfOk, IfErr, nat_lt, nat_le, ◌==◌}
+use Rattle.fax_bits.specs.declared.Colour.{Colour}
+use Rattle.fax_bits.specs.declared.Colour.TheVariants.{White}
+use Rattle.fax_bits.specs.Bits.{bits}
+use Rattle.fax_rows.specs.Elements.{pels_of, runs_of}
+use Rattle.fax_page.specs.declared.StripForm.{StripForm}
+use Rattle.fax_page.specs.declared.StripFault.{StripFault}
+use Rattle.fax_page.specs.Lines.{IsLine}
+use Rattle.fax_page.specs.code.Reader.{StripState, ReadsRow, MeetsFault, IsAdvance, strip_behind, bits_left}
+use Rattle.fax_files.specs.declared.FileFault.TheVariants.{StripOutside}
+use Rattle.fax_files.specs.declared.Cause.TheVariants.{File, Strip}
+use Rattle.fax_files.specs.declared.PageForm.{PageForm}
+use Rattle.fax_files.specs.Page.{IsPageForm}
+use Rattle.fax_files.specs.PageRows.{strip_form}
+use Rattle.fax_files.specs.code.Chain.{ChainState}
+use Rattle.fax_files.specs.code.Tiff.{TiffDirectory, bytes_of}
+use Rattle.fax_walk.specs.declared.end.End.{End}
+use Rattle.fax_walk.specs.declared.end.End.TheVariants.{Fault, Outside}
+use Rattle.fax_walk.specs.declared.opening.OpenFault.{OpenFault}
+use Rattle.fax_walk.specs.declared.opening.OpenFault.TheVariants.{Memory, Ended}
+use Rattle.fax_walk.specs.LongCursor.{LongPlace}
+use Rattle.fax_walk.specs.Rows.{Inner, Item, Place, IsRow, bits_before, exchanged, first_at, place_after, place_on, reference_of}
+use Rattle.fax_walk.specs.Rows.{IsInner, IsInnerOn, inner_at, long_at, row_in_strip, strip_at}
+use Rattle.fax_walk.specs.Pages.{IsPageAt}
+use Rattle.fax_walk.specs.InOrder.{LeadTo}
+use Rattle.fax_walk.specs.code.Opening.{IsFilePage, PageDue, page_with}
+use Rattle.fax_walk.specs.code.Stages.{GivesNone, GivesRow, HasSkipped, IsNoInner, IsNoPlace, IsNoStrip, IsRefusal, IsOpen, IsOpenedAt, IsSamePage, IsStripOf, KeepsPlace}
+use Rattle.fax_walk.specs.code.Stages.{PageState, ReadsPageRow, StopsAtRow, item_of, place_of, row_of, skipped}
+use Rattle.fax_walk.proofs.InOrderLemmas.{leads_on}
+use Rattle.fax_walk.proofs.LongLineLemmas.{pels_behind}
+use Rattle.fax_walk.proofs.LongStripLemmas.{in_strip}
+use Rattle.fax_walk.proofs.RowLawLemmas.{exchanged_twice}
+
+-- each strip of a page holds some of its rows
+pub strip_begins : (form : PageForm) (number : ℕ) → IsPageForm form → number < form.strips → number * form.rows_per_strip < form.rows
+strip_begins form number limits within =
+    let all_rows : (form.rows ≤ form.strips * form.rows_per_strip)
+        × (form.strips * form.rows_per_strip < form.rows + form.rows_per_strip) =
+    rw limits.strips (div_ceil_times form.rows form.rows_per_strip limits.some_rows_per_strip) in
+    let more : number + 1 ≤ form.strips = omega (arith, within) in
+    let product = mul-le-mul_right form.rows_per_strip more in
+    omega (arith, product, all_rows, add-mul number 1 form.rows_per_strip)
+
+-- a smaller product with the same number has a smaller factor
+smaller_factor : (a b n : ℕ) → a * n < b * n → a < b
+smaller_factor a b n less = elim (cases_lt a b) [
+  | inl below ↦ below
+  | inr above ↦ absurd (omega (arith, less, mul-le-mul_right n above))
+]
+
+-- where a row is due after the end of a strip, there is another strip
+pub more_strips : (form : PageForm) (number : ℕ) (strip : StripState) → IsPageForm form → strip.form ≡ strip_form form number
+    → strip.row ≡ strip.form.rows → number * form.rows_per_strip + strip.row < form.rows → number + 1 < form.strips
+more_strips form number strip limits form_is all_read due =
+    let count : strip.form.rows ≡ min form.rows_per_strip (form.rows - number * form.rows_per_strip) =
+    ap (λ (f : StripForm). f.rows) form_is in
+    let all_rows = div_ceil_times form.rows form.rows_per_strip limits.some_rows_per_strip in
+    let enough : form.rows ≤ form.strips * form.rows_per_strip = rw limits.strips all_rows.0 in
+    smaller_factor (number + 1) form.strips form.rows_per_strip
+    (omega (arith, count, all_read, due, enough, add-mul number 1 form.rows_per_strip))
+
+-- the place of a row of a page: a strip's first, or one inside its strip
+pub at_first : (form : PageForm) (p r : ℕ) (inner : Inner) → r < form.rows → row_in_strip form r ≡ 0 → place_on form p r inner ≡ first_at p r
+at_first form p r inner below none =
+    let test : nat_lt r form.rows ≡ true = grind (arith, nat_tests, below) in
+    let first : (row_in_strip form r == 0) ≡ true = grind (arith, nat_tests, none) in
+    rw (test, first) refl
+
+pub at_inner : (form : PageForm) (p r : ℕ) (inner : Inner) → r < form.rows → 0 < row_in_strip form r
+    → place_on form p r inner ≡ record { page = p; row = r; inner = Some inner }
+at_inner form p r inner below some =
+    let test : nat_lt r form.rows ≡ true = grind (arith, nat_tests, below) in
+    let first : (row_in_strip form r == 0) ≡ false = grind (arith, nat_tests, some) in
+    rw (test, first) refl
+
+pub at_end : (form : PageForm) (p r : ℕ) (inner : Inner) → r ≡ form.rows → place_on form p r inner ≡ first_at (p + 1) 0
+at_end form p r inner last =
+    let test : nat_lt r form.rows ≡ false = grind (arith, nat_tests, last) in
+    rw test refl
+
+-- a place on a page where this is the row before, and so many bits of the strip stand before
+pub record IsInnerOf (page : PageState) : Type 0 where
+  pub inner : Option Inner
+  pub place_is : place_of page ≡ record { page = page.page; row = row_of page; inner = inner }
+  pub bits_are : bits_before inner ≡ page.strip.place
+  pub reference_is : reference_of page.form.width inner ≡ page.strip.reference
+
+module _ (page : PageState) (limits : IsPageForm page.form) (strip_is : IsStripOf page.form page.directory page.number page.strip) where
+  abbrev n : ℕ
+  n = page.form.rows_per_strip
+
+  strip_rows : page.strip.form.rows ≡ min n (page.form.rows - page.number * n)
+  strip_rows = ap (λ (f : StripForm). f.rows) strip_is.form_is
+
+  module _ (due : page.strip.row < page.strip.form.rows) where
+    numbers : (strip_at page.form (row_of page) ≡ page.number) × (row_in_strip page.form (row_of page) ≡ page.strip.row)
+    numbers = in_strip n page.number page.strip.row (row_of page) (omega (arith, due, strip_rows)) refl
+
+    pub row_below : row_of page < page.form.rows
+    row_below = omega (arith, due, strip_rows)
+
+    pub stands : IsInnerOf page
+    stands = elim (cases_lt 0 page.strip.row) [
+      | inl some ↦ record {
+        inner = Some (record { bits = page.strip.place; reference = page.strip.reference });
+        place_is = at_inner page.form page.page (row_of page) _ row_below (omega (arith, some, numbers.1));
+        bits_are = refl;
+        reference_is = refl;
+      }
+      | inr none ↦
+          let first = strip_is.first (omega (arith, none)) in
+          record {
+            inner = None;
+            place_is = at_first page.form page.page (row_of page) _ row_below (omega (arith, none, numbers.1));
+            bits_are = sym first.0;
+            reference_is = sym first.1;
+          }
+    ]
+
+    module _ (its : IsFilePage page.page page.chain page.directory page.form) where
+      -- the row that is due is read
+      module _ (strip : StripState) (pels : List Colour) (reads : ReadsRow page.strip strip) (pels_are : pels ≡ exchanged page.form strip.reference)
+          (within : strip.place ≤ 8 * length strip.bytes) where
+        abbrev item : Item
+        item = record { page = page.page; row = row_of page; pels = pels; bits = strip.place }
+
+        twice : exchanged page.form pels ≡ strip.reference
+        twice = ap (exchanged page.form) pels_are ∙ exchanged_twice page.form strip.reference
+
+        line : IsLine (strip_form page.form page.number) page.strip.row page.strip.reference
+            (drop page.strip.place (bits page.form.order page.strip.bytes)) strip.reference
+            (drop strip.place (bits page.form.order page.strip.bytes))
+        line = rw (reads.same_form, reads.same_bytes, strip_is.form_is) at reads.line
+
+        pub row_read : IsRow page.directory.file (place_of page) (Ok (item, place_after page.form item))
+        row_read = rw stands.place_is (
+          Ok (page_with page.directory page.form),
+          its.here (row_of page),
+          rw (numbers.0, strip_is.bytes_are) (
+            record {
+              same_page = refl;
+              same_row = refl;
+              within = rw reads.same_bytes at within;
+              line = rw (numbers.0, numbers.1, stands.bits_are, stands.reference_is, twice) line;
+            },
+            refl,
+          ),
+        )
+
+        pub place_next : place_on page.form page.page (page.number * n + strip.row) (record { bits = strip.place; reference = strip.reference })
+            ≡ place_after page.form item
+        place_next =
+            let next : page.number * n + strip.row ≡ row_of page + 1 = omega (arith, reads.next_row) in
+            rw (next, ← twice) refl
+
+      -- it is not there
+      pub row_fault : (fault : StripFault) (strip : StripState) → MeetsFault page.strip fault strip
+          → IsRow page.directory.file (place_of page) (Err (Fault page.page (row_of page) (Strip fault)))
+      row_fault fault strip meets = rw stands.place_is (
+        Ok (page_with page.directory page.form),
+        its.here (row_of page),
+        rw (numbers.0, strip_is.bytes_are) (
+          fault,
+          rw (numbers.0, numbers.1, stands.bits_are, stands.reference_is) (rw strip_is.form_is at meets.cause),
+          refl,
+        ),
+      )
+
+  -- the strip is read to its end, and the page goes on
+  module _ (all_read : page.strip.row ≡ page.strip.form.rows) (due : row_of page < page.form.rows) where
+    next_row : row_of page ≡ (page.number + 1) * n
+    next_row = omega (arith, all_read, due, strip_rows, add-mul page.number 1 n)
+
+    next_numbers : (strip_at page.form (row_of page) ≡ page.number + 1) × (row_in_strip page.form (row_of page) ≡ 0)
+    next_numbers = in_strip n (page.number + 1) 0 (row_of page) limits.some_rows_per_strip (omega (arith, next_row))
+
+    first_there : place_of page ≡ first_at page.page (row_of page)
+    first_there = at_first page.form page.page (row_of page) _ due next_numbers.1
+
+    pub strip_outside : IsFilePage page.page page.chain page.directory page.form → bytes_of page.directory (page.number + 1) ≡ None
+        → IsRow page.directory.file (place_of page) (Err (Fault page.page (row_of page) (File StripOutside)))
+    strip_outside its outside = rw first_there (
+      Ok (page_with page.directory page.form),
+      its.here (row_of page),
+      rw (next_numbers.0, outside, next_numbers.0) (rw next_row refl),
+    )
+
+    pub next_row_is : (strip : StripState) → strip.row ≡ 0 → (page.number + 1) * n + strip.row ≡ row_of page
+    next_row_is strip none = omega (arith, none, next_row)
+
+    pub next_place : (strip : StripState) → strip.row ≡ 0
+        → place_on page.form page.page ((page.number + 1) * n + strip.row) (record { bits = strip.place; reference = strip.reference })
+        ≡ place_of page
+    next_place strip none =
+        rw (next_row_is strip none) (at_first page.form page.page (row_of page) _ due next_numbers.1 ∙ sym first_there)
+
+-- so many rows of a page are read at most
+pub rows_within : (page : PageState) → IsPageForm page.form → page.number < page.form.strips → page.strip.form ≡ strip_form page.form page.number
+    → page.strip.row ≤ page.strip.form.rows → row_of page ≤ page.form.rows
+rows_within page limits within form_is within_strip =
+    let count : page.strip.form.rows ≡ min page.form.rows_per_strip (page.form.rows - page.number * page.form.rows_per_strip) =
+    ap (λ (f : StripForm). f.rows) form_is in
+    let begins = strip_begins page.form page.number limits within in
+    omega (arith, count, begins, within_strip)
+
+-- a page that is open, as its fields have it
+abbrev pub state : ℕ → ChainState → TiffDirectory → PageForm → ℕ → ℕ → StripState → List Colour → ℕ → PageState
+state page chain directory form first number strip shown read = record {
+  page = page;
+  chain = chain;
+  directory = directory;
+  form = form;
+  first = first;
+  number = number;
+  strip = strip;
+  shown = shown;
+  read = read;
+}
+
+-- the next strip begins
+pub next_keeps : (page : PageState) (strip : StripState) (shown : List Colour) → IsPageForm page.form
+    → IsStripOf page.form page.directory page.number page.strip → page.strip.row ≡ page.strip.form.rows → row_of page < page.form.rows
+    → strip.row ≡ 0 → KeepsPlace page (record page { number = page.number + 1; strip = strip; shown = shown })
+next_keeps page strip shown limits strip_is all_read due none = record {
+  same = record { page = refl; form = refl; first = refl; directory = refl };
+  row = next_row_is page limits strip_is all_read due strip none;
+  place = next_place page limits strip_is all_read due strip none;
+  read = refl;
+}
+
+-- the next strip is not there
+pub next_stops : (page : PageState) → IsPageForm page.form → IsStripOf page.form page.directory page.number page.strip
+    → IsFilePage page.page page.chain page.directory page.form → page.strip.row ≡ page.strip.form.rows → row_of page < page.form.rows
+    → bytes_of page.directory (page.number + 1) ≡ None → StopsAtRow page (Fault page.page (row_of page) (File StripOutside))
+next_stops page limits strip_is its all_read due outside =
+    record { stop = strip_outside page limits strip_is all_read due its outside; told = (File StripOutside, refl) }
+
+module _ (old page : PageState) (keeps : KeepsPlace old page) where
+  -- a row is read at the place that was kept
+  pub reads_kept : (strip : StripState) (shown : List Colour) → IsOpen old → IsPageForm page.form
+      → IsStripOf page.form page.directory page.number page.strip
+      → IsFilePage page.page page.chain page.directory page.form → ReadsRow page.strip strip → shown ≡ exchanged page.form strip.reference
+      → strip.place ≤ 8 * length strip.bytes → ReadsPageRow old (record page { strip = strip; shown = shown; read = page.read + 1 })
+  reads_kept strip shown is_open limits strip_is its reads shown_is within =
+      let new : PageState = record page { strip = strip; shown = shown; read = page.read + 1 } in
+      let due = reads.due in
+      let same = keeps.same in
+      let item : Item = record { page = page.page; row = row_of page; pels = shown; bits = strip.place } in
+      let its_item : Item = item_of old (row_of old) new in
+      let item_is : item ≡ its_item = rw (same.page, keeps.row) refl in
+      let step = row_read page limits strip_is due its strip shown reads shown_is within in
+      let after = place_next page limits strip_is due its strip shown reads shown_is within in
+      let read : IsRow page.directory.file (place_of page) (Ok (its_item, place_of new)) =
+      subst (λ (i : Item). IsRow page.directory.file (place_of page) (Ok (i, place_of new))) item_is
+      (subst (λ (t : Place). IsRow page.directory.file (place_of page) (Ok (item, t))) (sym after) step) in
+      record {
+        same = record { page = same.page; form = same.form; first = same.first; directory = same.directory };
+        still_open = record { no_fault = reads.still_no_fault; first = rw (same.first, same.form) is_open.first };
+        step = subst (λ (d : TiffDirectory). IsRow d.file (place_of old) (Ok (its_item, place_of new))) same.directory
+            (subst (λ (t : Place). IsRow page.directory.file t (Ok (its_item, place_of new))) keeps.place read);
+        next_row = omega (arith, reads.next_row, keeps.row);
+        one_more = omega (arith, keeps.read);
+        after = after ∙ ap (λ (f : PageForm). place_after f item) same.form ∙ ap (place_after old.form) item_is;
+      }
+
+  pub stops_kept : (end : End) → StopsAtRow page end → StopsAtRow old end
+  stops_kept end stops = record {
+    stop = rw (keeps.same.directory, keeps.place) at stops.stop;
+    told = (stops.told.0, rw (keeps.same.page, keeps.row) at stops.told.1);
+  }
+
+  pub keeps_on : (new : PageState) → KeepsPlace page new → KeepsPlace old new
+  keeps_on new later = record {
+    same = record {
+      page = later.same.page ∙ keeps.same.page;
+      form = later.same.form ∙ keeps.same.form;
+      first = later.same.first ∙ keeps.same.first;
+      directory = later.same.directory ∙ keeps.same.directory;
+    };
+    row = later.row ∙ keeps.row;
+    place = later.place ∙ keeps.place;
+    read = later.read ∙ keeps.read;
+  }
+
+-- a fault is met
+pub fault_stops : (page : PageState) (strip : StripState) (fault : StripFault) → IsOpen page → IsPageForm page.form
+    → IsStripOf page.form page.directory page.number page.strip → IsFilePage page.page page.chain page.directory page.form
+    → IsAdvance page.strip (Err fault) strip → StopsAtRow page (Fault page.page (row_of page) (Strip fault))
+fault_stops page strip fault is_open limits strip_is its (inl again) = absurd (cc (is_open.no_fault, again.told))
+fault_stops page strip fault is_open limits strip_is its (inr meets) =
+    record { stop = row_fault page limits strip_is meets.due its fault strip meets; told = (Strip fault, refl) }
+
+-- rows that are not handed out
+pub none_skipped : (page : PageState) → HasSkipped page page []
+none_skipped page = record {
+  same = record { page = refl; form = refl; first = refl; directory = refl };
+  lead = refl;
+  rows = omega arith;
+  read = omega arith;
+  few = omega arith;
+}
+
+module _ (old now new : PageState) (items : List Item) (skips : HasSkipped old now items) (reads : ReadsPageRow now new) where
+  abbrev its_item : Item
+  its_item = item_of now (row_of now) new
+
+  same_on : IsSamePage old new
+  same_on = record {
+    page = reads.same.page ∙ skips.same.page;
+    form = reads.same.form ∙ skips.same.form;
+    first = reads.same.first ∙ skips.same.first;
+    directory = reads.same.directory ∙ skips.same.directory;
+  }
+
+  lead_on : LeadTo (IsRow old.directory.file) (place_of old) (items ++ its_item ∷ []) (place_of new)
+  lead_on = leads_on (IsRow old.directory.file) (place_of old) (place_of now) items its_item (place_of new) skips.lead
+      (subst (λ (d : TiffDirectory). IsRow d.file (place_of now) (Ok (its_item, place_of new))) skips.same.directory reads.step)
+
+  count_on : length (items ++ its_item ∷ []) ≡ length items + 1
+  count_on = length-append items (its_item ∷ [])
+
+  pub one_skipped : row_of new ≤ new.first → HasSkipped old new (items ++ its_item ∷ [])
+  one_skipped before = record {
+    same = same_on;
+    lead = lead_on;
+    rows = omega (arith, count_on, skips.rows, reads.next_row);
+    read = omega (arith, count_on, skips.read, reads.one_more);
+    few = omega (arith, count_on, before, skips.rows, reads.next_row, same_on.first);
+  }
+
+  pub row_given : IsFilePage new.page new.chain new.directory new.form → row_of now < now.form.rows → new.first < row_of new
+      → new.read < 2 ^ 64 → GivesRow old new
+  row_given its due past few =
+      let count : length items ≡ skipped old = omega (arith, past, skips.few, skips.rows, reads.next_row, same_on.first) in
+      let item_is : its_item ≡ item_of old (row_of old + skipped old) new =
+      rw (← skips.same.page, ← count, skips.rows) refl in
+      record {
+        same = same_on;
+        still_open = reads.still_open;
+        items = items ++ its_item ∷ [];
+        lead = lead_on;
+        front = items;
+        item = its_item;
+        items_are = refl;
+        count = count;
+        item_is = item_is;
+        here = rw (same_on.directory, same_on.form, reads.same.page) at (its.here (row_of now));
+        within = subst (λ (f : PageForm). row_of now < f.rows) skips.same.form due;
+        after = reads.after ∙ ap (λ (f : PageForm). place_after f its_item) skips.same.form;
+        next_row = omega (arith, reads.next_row, skips.rows, count);
+        read = omega (arith, reads.one_more, skips.read, count);
+        few = few;
+      }
+
+-- the rows end before the next one that is handed out
+pub none_given : (old now new : PageState) (items : List Item) (end : End) → HasSkipped old now items → KeepsPlace now new
+    → StopsAtRow now end → GivesNone old end new
+none_given old now new items end skips keeps stops =
+    let same = keeps.same in
+    record {
+      items = items;
+      skips = record {
+        same = record {
+          page = same.page ∙ skips.same.page;
+          form = same.form ∙ skips.same.form;
+          first = same.first ∙ skips.same.first;
+          directory = same.directory ∙ skips.same.directory;
+        };
+        lead = subst (λ (t : Place). LeadTo (IsRow old.directory.file) (place_of old) items t) (sym keeps.place) skips.lead;
+        rows = keeps.row ∙ skips.rows;
+        read = keeps.read ∙ skips.read;
+        few = skips.few;
+      };
+      stop = subst (λ (t : Place). IsRow old.directory.file t (Err end)) (sym keeps.place)
+          (subst (λ (d : TiffDirectory). IsRow d.file (place_of now) (Err end)) skips.same.directory stops.stop);
+      told = (stops.told.0, rw (← same.page, ← keeps.row) at stops.told.1);
+    }
+
+-- a page that is due is opened at the strip that holds a row
+module _ (due : PageDue) (first : ℕ) (its : IsFilePage due.page due.chain due.directory due.form) (limits : IsPageForm due.form)
+    (there : first < due.form.rows) where
+  abbrev number : ℕ
+  number = strip_at due.form first
+
+  abbrev begins : ℕ
+  begins = number * due.form.rows_per_strip
+
+  begin_numbers : (strip_at due.form begins ≡ number) × (row_in_strip due.form begins ≡ 0)
+  begin_numbers = in_strip due.form.rows_per_strip number 0 begins limits.some_rows_per_strip (omega arith)
+
+  begins_below : begins ≤ first
+  begins_below = let parts = div-add-mod first due.form.rows_per_strip in omega (arith, parts)
+
+  pub refused_strip : bytes_of due.directory number ≡ None → IsNoStrip due first (Fault due.page begins (File StripOutside))
+  refused_strip outside = record {
+    stop = (
+      Ok (page_with due.directory due.form),
+      its.here begins,
+      rw (begin_numbers.0, outside, begin_numbers.0) refl,
+    );
+    cause = File StripOutside;
+    told = refl;
+  }
+
+  pub is_opened : (strip : StripState) (shown : List Colour) (read : ℕ) → strip.row ≡ 0 → strip.fault ≡ None
+      → IsOpenedAt due.directory.file (first_at due.page begins) (row_in_strip due.form first) read
+      (state due.page due.chain due.directory due.form first number strip shown read)
+  is_opened strip shown read none no_fault =
+      let at : begins + strip.row ≡ begins = omega (arith, none) in
+      let below : begins + strip.row < due.form.rows = omega (arith, at, begins_below, there) in
+      record {
+        is_open = record { no_fault = no_fault; first = there };
+        file_is = refl;
+        row_due = below;
+        place_is = rw at (at_first due.form due.page begins _ (omega (arith, begins_below, there)) begin_numbers.1);
+        skips = ap (λ (r : ℕ). first - r) at ∙ sym (mod-eq-sub-div-mul first due.form.rows_per_strip);
+        read_is = refl;
+      }
+
+-- the first row of a page is that of its first strip
+pub page_first : (due : PageDue) (p : ℕ) → due.page ≡ p → first_at due.page (strip_at due.form 0 * due.form.rows_per_strip) ≡ first_at p 0
+page_first due p is =
+    let none : strip_at due.form 0 * due.form.rows_per_strip ≡ 0 =
+    ap (λ (s : ℕ). s * due.form.rows_per_strip) (zero-div due.form.rows_per_strip) ∙ omega arith in
+    rw (is, none) refl
+
+pub opened_after : (file : List ℕ) (due : PageDue) (p read : ℕ) (result : Result PageState OpenFault) → due.page ≡ p
+    → due.directory.file ≡ file
+    → IfOk result (IsOpenedAt due.directory.file (first_at due.page (strip_at due.form 0 * due.form.rows_per_strip)) (row_in_strip due.form 0)
+    read)
+    → IfOk result (IsOpenedAt file (first_at p 0) 0 read)
+opened_after file due p read (Ok page) page_is file_is opened = record {
+  is_open = opened.is_open;
+  file_is = opened.file_is ∙ file_is;
+  row_due = opened.row_due;
+  place_is = opened.place_is ∙ page_first due p page_is;
+  skips = opened.skips ∙ zero-mod due.form.rows_per_strip;
+  read_is = opened.read_is;
+}
+opened_after file due p read (Err fault) page_is file_is opened = opened
+
+pub refused_after : (file : List ℕ) (due : PageDue) (p : ℕ) (result : Result PageState OpenFault) → due.page ≡ p
+    → due.directory.file ≡ file → IfErr result (IsRefusal (IsNoStrip due 0))
+    → IfErr result (IsRefusal (λ end. IsRow file (first_at p 0) (Err end)))
+refused_after file due p (Ok page) page_is file_is refused = refused
+refused_after file due p (Err Memory) page_is file_is refused = tt
+refused_after file due p (Err (Ended end)) page_is file_is refused =
+    rw file_is at (subst (λ (t : Place). IsRow due.directory.file t (Err end)) (page_first due p page_is) refused.stop)
+
+-- runs that are those of a row are a place's
+pub inner_is : (width : ℕ) (bytes : List ℕ) (place : LongPlace) (reference : List Colour) → place.bits ≤ 8 * length bytes
+    → length reference ≡ width → runs_of reference ≡ place.runs → IsInner width bytes place × (reference ≡ pels_of White place.runs)
+inner_is width bytes place reference within width_is runs =
+    let pels : pels_of White place.runs ≡ reference = ap (pels_of White) (sym runs) ∙ pels_behind White 0 reference in
+    (record { within = within; width_is = rw pels width_is; runs = rw pels runs }, sym pels)
+
+-- a place inside a strip of a page that is due
+module _ (due : PageDue) (place : LongPlace) (its : IsFilePage due.page due.chain due.directory due.form) (same_page : due.page ≡ place.at.page)
+    (below : place.at.row < due.form.rows) (some : 0 < row_in_strip due.form place.at.row) where
+  abbrev its_number : ℕ
+  its_number = strip_at due.form place.at.row
+
+  its_here : IsPageAt due.directory.file place.at (Ok (page_with due.directory due.form))
+  its_here = subst (λ (p : ℕ). IsPageAt due.directory.file (record { page = p; row = place.at.row }) (Ok (page_with due.directory due.form)))
+      same_page (its.here place.at.row)
+
+  pub no_strip : bytes_of due.directory its_number ≡ None
+      → IsNoInner due place (Fault due.page (its_number * due.form.rows_per_strip) (File StripOutside))
+  no_strip outside = inl (
+    record { row = below; not_first = some; fits = rw outside tt },
+    (Ok (page_with due.directory due.form), its_here, rw outside (rw same_page refl)),
+  )
+
+  module _ (bytes : List ℕ) (there : bytes_of due.directory its_number ≡ Some bytes) where
+    pub is_inner : IsInner due.form.width bytes place → IsInnerOn due.directory.file (page_with due.directory due.form) place
+    is_inner inner = record { row = below; not_first = some; fits = rw there inner }
+
+    pub not_inner : (IsInner due.form.width bytes place → ⊥) → IsNoInner due place Outside
+    not_inner not = inr (λ inner. not (rw there at inner.fits), refl)
+
+    pub no_place : (fault : OpenFault) → IsNoPlace (strip_form due.form its_number) bytes place fault → IsRefusal (IsNoInner due place) fault
+    no_place Memory none = tt
+    no_place (Ended end) (end_is, not) = rw end_is (not_inner not)
+
+    pub opened_inside : (strip : StripState) (shown : List Colour) → strip.row ≡ row_in_strip due.form place.at.row → strip.fault ≡ None
+        → strip.place ≡ place.bits → strip.reference ≡ pels_of White place.runs
+        → IsOpenedAt due.directory.file (inner_at place) 0 0
+        (state due.page due.chain due.directory due.form place.at.row its_number strip shown 0)
+    opened_inside strip shown row no_fault bits_are reference_is =
+        let parts = div-add-mod place.at.row due.form.rows_per_strip in
+        let at : its_number * due.form.rows_per_strip + strip.row ≡ place.at.row = omega (arith, parts, row) in
+        record {
+          is_open = record { no_fault = no_fault; first = below };
+          file_is = refl;
+          row_due = omega (arith, at, below);
+          place_is = rw (at, bits_are, reference_is, ← same_page) (at_inner due.form due.page place.at.row _ below some);
+          skips = omega (arith, at);
+          read_is = refl;
+        }
+
+-- the place inside the strip after the row that was read last
+module _ (page : PageState) (limits : IsPageForm page.form) (within : page.number < page.form.strips)
+    (strip_is : IsStripOf page.form page.directory page.number page.strip) where
+  abbrev long_of : Option LongPlace
+  long_of = let at = place_of page in long_at at.page at.row at.inner
+
+  none_first : (p r : ℕ) → place_of page ≡ first_at p r → None ≡ long_of
+  none_first p r is = rw is refl
+
+  pub long_none : (page.strip.row ≡ 0) ⊎ (page.strip.row ≡ page.strip.form.rows) → None ≡ long_of
+  long_none (inl none) =
+      let begins = strip_begins page.form page.number limits within in
+      let numbers = in_strip page.form.rows_per_strip page.number 0 (row_of page) limits.some_rows_per_strip (omega (arith, none)) in
+      none_first page.page (row_of page) (at_first page.form page.page (row_of page) _ (omega (arith, begins, none)) numbers.1)
+  long_none (inr all) = elim (cases_lt (row_of page) page.form.rows) [
+    | inl below ↦ none_first page.page (row_of page) (first_there page limits strip_is all below)
+    | inr past ↦
+        let last = rows_within page limits within strip_is.form_is strip_is.within in
+        none_first (page.page + 1) 0 (at_end page.form page.page (row_of page) _ (omega (arith, past, last)))
+  ]
+
+  module _ (some : 0 < page.strip.row) (due : page.strip.row < page.strip.form.rows) where
+    inside : place_of page
+        ≡ record { page = page.page; row = row_of page; inner = Some (record { bits = page.strip.place; reference = page.strip.reference }) }
+    inside =
+        at_inner page.form page.page (row_of page) _ (row_below page limits strip_is due) (omega (arith, some, (numbers page limits strip_is due).1))
+
+    pub long_some : page.strip.place ≤ 4294967295
+        → Some (record { at = record { page = page.page; row = row_of page }; bits = page.strip.place; runs = runs_of page.strip.reference })
+        ≡ long_of
+    long_some few =
+        let test : nat_le page.strip.place 4294967295 ≡ true = grind (arith, nat_tests, few) in
+        rw (inside, test) refl
+
+    pub long_far : 4294967295 < page.strip.place → None ≡ long_of
+    long_far far =
+        let test : nat_le page.strip.place 4294967295 ≡ false = grind (arith, nat_tests, far) in
+        rw (inside, test) refl

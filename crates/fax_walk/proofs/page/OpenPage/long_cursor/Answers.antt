@@ -1,0 +1,21 @@
+use Rattle.std.proofs.Common.{inl, inr, ap, sym, arith}
+use Rattle.fax_page.specs.declared.StripForm.{StripForm}
+use Rattle.fax_walk.specs.code.Stages.{row_shown}
+use Rattle.fax_walk.proofs.OpenPageLemmas.{long_none, long_some, long_far, state}
+use Rattle.fax_walk.proofs.page.OpenPage.long_cursor.Goals.{then-row-eq0-via-then-row-eq0}
+use Rattle.fax_walk.proofs.page.OpenPage.long_cursor.Goals.{then-row-eq0-via-else-row-eq0+then-row-strip_form}
+use Rattle.fax_walk.proofs.page.OpenPage.long_cursor.Goals as goal
+
+pub returns-then-row-eq0 : goal.returns-then-row-eq0
+returns-then-row-eq0 c =
+    let p = c.self.inside in
+    let page = state p.page p.chain p.strips.directory p.form p.first p.number p.strip (row_shown p.strip p.exchanged) p.read in
+    let row_is = c.self.invariant.row_is in
+    rw (← c.self.view_is) (long_none page c.self.invariant.limits c.self.invariant.within c.self.invariant.strip_is (
+    elim c.then-row-eq0.branch [
+      | then-row-eq0-via-then-row-eq0 w ↦ inl (omega (arith, row_is, w.if-row-eq0.true))
+      | then-row-eq0-via-else-row-eq0+then-row-strip_form w ↦ inr (
+          let count = ap (λ (f : StripForm). f.rows) (sym c.self.invariant.strip_is.form_is) in
+          let exact = ap (λ (f : StripForm). f.rows) w.strip_form.ensures.exact in
+          omega (arith, row_is, count, exact, w.if-row-strip_form.true))
+    ]))

@@ -1,0 +1,33 @@
+use Rattle.std.proofs.Common.{◌≡◌, ◌+◌, ◌^◌, ◌<◌, ◌≤◌, sym, arith}
+use Rattle.fax_walk.specs.code.Stages.{PageState, row_of, row_shown}
+use Rattle.fax_walk.proofs.OpenPageLemmas.{none_skipped, one_skipped, row_given, state}
+use Rattle.fax_walk.proofs.page.OpenPage.next.Goals as goal
+
+pub rows-init : goal.rows-init
+rows-init c = record { items = _; skips = none_skipped c.args.self.now; is_open = c.requires.open; due = c.requires.due }
+
+pub returns-then-self-clause-ok : goal.returns-then-self-clause-ok
+returns-then-self-clause-ok c =
+    let reads = rw (sym c.self.view_is) at c.in_ok-advance.ensures.ok in
+    let row_is = c.self.invariant.row_is in
+    let few : c.self.inside.read < 2 ^ 64 = omega (arith, c.self.invariant.few, c.self.invariant.some_page) in
+    let p = c.self.inside in
+    let page = state p.page p.chain p.strips.directory p.form p.first p.number p.strip (row_shown p.strip p.exchanged) p.read in
+    rw (← c.self.view_is)
+    (row_given c.args.self.now c.rows.self page c.rows.invariant.items c.rows.invariant.skips reads c.self.invariant.its c.rows.invariant.due
+    (rw row_is at c.if-self.true) few)
+
+pub rows-preserved : goal.rows-preserved
+rows-preserved c =
+    let reads = rw (sym c.self.view_is) at c.in_ok-advance.ensures.ok in
+    let p = c.self.inside in
+    let page = state p.page p.chain p.strips.directory p.form p.first p.number p.strip (row_shown p.strip p.exchanged) p.read in
+    let row_is = c.self.invariant.row_is in
+    let before : row_of page ≤ page.first = omega (arith, row_is, c.if-self.false) in
+    let first = reads.still_open.first in
+    rw (← c.self.view_is) (record {
+      items = _;
+      skips = one_skipped c.args.self.now c.rows.self page c.rows.invariant.items c.rows.invariant.skips reads before;
+      is_open = reads.still_open;
+      due = omega (arith, before, first);
+    })

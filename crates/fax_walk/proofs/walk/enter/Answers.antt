@@ -1,0 +1,15 @@
+use Rattle.std.proofs.Common.{inr}
+use Rattle.fax_walk.proofs.walk.enter.Goals.{in-None-At+in_ok-opened-in-None-At, in-None-Inside+in_ok-opened-in-None-Inside}
+use Rattle.fax_walk.proofs.walk.enter.Goals.{in-Some-default+in_ok-opened-in-Some-default}
+use Rattle.fax_walk.proofs.walk.enter.Goals as goal
+
+pub returns : goal.returns
+returns c = elim c.match-page.branch [
+  | in-None-At+in_ok-opened-in-None-At w ↦
+      rw (w.in-None-At.is-0, w.in-None-At.is-1, w.opened-is) w.in_ok-opened-in-None-At.ensures.opened
+  | in-None-Inside+in_ok-opened-in-None-Inside w ↦
+      rw (w.in-None-Inside.is-0, w.in-None-Inside.is-1, w.opened-is) w.in_ok-opened-in-None-Inside.ensures.opened
+  | in-Some-default+in_ok-opened-in-Some-default w ↦
+      rw (w.in-Some-default.is-0, w.opened-is)
+      (inr (w.is_read.ensures.read w.if-is_read.true, w.in_ok-opened-in-Some-default.ensures.opened))
+]

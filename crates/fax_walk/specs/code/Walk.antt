@@ -1,0 +1,164 @@
+-- How far a walk has come.
+use Rattle.std.specs.Prelude.{◌≡◌, ℕ, ◌+◌, ◌^◌, ◌<◌, ◌⊎◌, Bool, true, false, List, [], length, Option}
+use Rattle.std.specs.Prelude.{Some, None, Result, Ok, Err, ⊤}
+use Rattle.fax_bits.specs.declared.Colour.{Colour}
+use Rattle.fax_walk.specs.declared.begun.Begun.{Begun}
+use Rattle.fax_walk.specs.declared.cursor.Cursor.{Cursor}
+use Rattle.fax_walk.specs.declared.end.End.{End}
+use Rattle.fax_walk.specs.declared.end.End.TheVariants.{Proper, Fault, Outside}
+use Rattle.fax_walk.specs.declared.end.WalkFault.{WalkFault}
+use Rattle.fax_walk.specs.declared.end.WalkFault.TheVariants.{Memory, AtRow, CursorOutside}
+use Rattle.fax_walk.specs.declared.opening.OpenFault.{OpenFault}
+use Rattle.fax_walk.specs.declared.opening.OpenFault.TheVariants.{Memory as NoMemory, Ended}
+use Rattle.fax_walk.specs.InOrder.{LeadTo}
+use Rattle.fax_walk.specs.Pages.{FilePage, IsPageAt}
+use Rattle.fax_walk.specs.Rows.{Item, Place, Begins, IsRow, IsTailFrom, begins_at, cursor_after}
+use Rattle.fax_walk.specs.Rows.{place_after}
+use Rattle.fax_walk.specs.Left.{WalkView, IsItemNumber, EntersPage, HasEndedAs, AreRead, EndsBefore}
+use Rattle.fax_walk.specs.Left.{walk_from}
+use Rattle.fax_walk.specs.code.Stages.{PageState, row_of, skipped, place_of, IsOpen, IsOpenedAt}
+use Rattle.fax_walk.specs.code.Stages.{IsOpenedFrom, IsRefusal}
+
+-- the first page of a walk was opened
+pub record IsOpenedFirst (file : List ℕ) (begun : Begun) (page : PageState) : Type 0 where
+  pub first : Place
+  pub dropped : ℕ
+  pub begins : Begins file begun (Ok (first, dropped))
+  pub from : IsOpenedFrom file first dropped (begins_at begun) page
+
+-- a walk that begins so hands out no row, and none is read
+pub record HasNoRows (file : List ℕ) (begun : Begun) (end : End) : Type 0 where
+  pub tail : IsTailFrom file begun [] end
+  pub read : AreRead (record (walk_from file begun) { told = Some end }) 0
+
+-- the page whose rows can be read, if one was opened
+abbrev pub IsOpenOrNone : Option PageState → Type 0
+IsOpenOrNone None = ⊤
+IsOpenOrNone (Some page) = IsOpen page
+
+-- the page of the row that is due was opened, or was open, or there is none
+abbrev pub IsEntered : List ℕ → Begun → Option PageState → Result Unit OpenFault → Option PageState
+    → Type 0
+IsEntered file begun None (Ok tt) (Some new) =
+    IsOpenedFirst file begun new
+IsEntered file begun None (Err fault) new =
+    IsRefusal (HasNoRows file begun) fault × (new ≡ None)
+IsEntered file begun (Some old) (Ok tt) (Some new) =
+    ((row_of old < old.form.rows) × (new ≡ old))
+    ⊎ ((row_of old ≡ old.form.rows)
+    × IsOpenedAt old.directory.file (place_of old) 0 old.read new)
+IsEntered file begun (Some old) (Err fault) new =
+    (row_of old ≡ old.form.rows)
+    × IsRefusal (λ end. IsRow old.directory.file (place_of old) (Err end)) fault
+    × (new ≡ Some old)
+IsEntered file begun old (Ok tt) None = ⊥
+
+-- these items lead to a place from where a walk began: those that it handed out, and those before
+-- the first of them in its strip, but for the ones that it still skips
+pub record HasCome (file : List ℕ) (begun : Begun) (given read skips : ℕ)
+    (to : Place) : Type 0 where
+  pub first : Place
+  pub dropped : ℕ
+  pub begins : Begins file begun (Ok (first, dropped))
+  pub items : List Item
+  pub lead : LeadTo (IsRow file) first items to
+  pub count : length items ≡ read
+  pub total : read + skips ≡ given + dropped
+  pub none_left : 0 < given → skips ≡ 0
+
+-- the item that was handed out last, after which the cursor stands, leads to this place
+pub record IsAfterItem (file : List ℕ) (begun : Begun) (given : ℕ) (cursor : Cursor)
+    (to : Place) : Type 0 where
+  pub before : ℕ
+  pub item : Item
+  pub here : FilePage
+  pub count : given ≡ before + 1
+  pub number : IsItemNumber file begun before item
+  pub page : IsPageAt file (record { page = item.page; row = item.row }) (Ok here)
+  pub within : item.row < here.form.rows
+  pub cursor_is : cursor ≡ cursor_after item
+  pub to_is : to ≡ place_after here.form item
+
+-- the cursor stands where the walk began, or after the item that was handed out last
+abbrev pub StandsAt : List ℕ → Begun → ℕ → Cursor → Place → Type 0
+StandsAt file begun given cursor to =
+    ((given ≡ 0) × (cursor ≡ begins_at begun)) ⊎ IsAfterItem file begun given cursor to
+
+-- a walk that handed out so many rows has come as far as this page, of which it skips rows only
+-- before its first
+pub record HasReadTo (file : List ℕ) (begun : Begun) (given : ℕ) (cursor : Cursor)
+    (page : PageState) : Type 0 where
+  pub file_is : page.directory.file ≡ file
+  pub come : HasCome file begun given page.read (skipped page) (place_of page)
+  pub stands : StandsAt file begun given cursor (place_of page)
+  pub named : 0 < skipped page
+      → (page.page ≡ (begins_at begun).page) × (page.first ≡ (begins_at begun).row)
+
+-- a walk that handed out so many rows goes on from here: it has opened no page, or this one
+abbrev pub GoesOnFrom : List ℕ → Begun → ℕ → Cursor → Option PageState → Type 0
+GoesOnFrom file begun given cursor None = (given ≡ 0) × (cursor ≡ begins_at begun)
+GoesOnFrom file begun given cursor (Some page) = IsOpen page × HasReadTo file begun given cursor page
+
+-- the row that was handed out last is the one that this page shows
+pub record IsShown (file : List ℕ) (begun : Begun) (given : ℕ) (cursor : Cursor)
+    (page : PageState) : Type 0 where
+  pub last : IsAfterItem file begun given cursor (place_of page)
+  pub pels : last.item.pels ≡ page.shown
+  pub few : given < 2 ^ 64
+
+abbrev pub ShowsLast : List ℕ → Begun → ℕ → Cursor → Option PageState → Type 0
+ShowsLast file begun given cursor None = given ≡ 0
+ShowsLast file begun given cursor (Some page) = IsShown file begun given cursor page
+
+-- the rows have ended so, on this page, if one is open
+abbrev pub HasEndedOn : List ℕ → Begun → ℕ → Cursor → Option PageState → End → Type 0
+HasEndedOn file begun given cursor None end =
+    (given ≡ 0) × (cursor ≡ begins_at begun) × HasNoRows file begun end
+HasEndedOn file begun given cursor (Some page) end =
+    HasReadTo file begun given cursor page × IsRow file (place_of page) (Err end)
+    × ((skipped page ≡ 0) ⊎ EndsBefore end (begins_at begun))
+
+-- what a walk that handed out so many rows reads next: item number `given`, or how the rows end
+abbrev pub IsReadNext : List ℕ → Begun → Option PageState → Result Cursor OpenFault
+    → Option PageState → Type 0
+IsReadNext file begun old (Ok after) new =
+    (given : ℕ) (cursor : Cursor) → GoesOnFrom file begun given cursor old
+    → GoesOnFrom file begun (given + 1) after new × ShowsLast file begun (given + 1) after new
+IsReadNext file begun old (Err NoMemory) new =
+    (new ≡ old)
+    × ((given : ℕ) (cursor : Cursor) → GoesOnFrom file begun given cursor old
+    → EntersPage file begun given)
+IsReadNext file begun old (Err (Ended end)) new =
+    (given : ℕ) (cursor : Cursor) → GoesOnFrom file begun given cursor old
+    → HasEndedOn file begun given cursor new end
+
+-- a walk has handed out the first of its items, and goes on, or has ended
+abbrev pub IsSound : List ℕ → Begun → ℕ → Cursor → Option PageState → Option End → Type 0
+IsSound file begun given cursor page None =
+    GoesOnFrom file begun given cursor page × ShowsLast file begun given cursor page
+IsSound file begun given cursor page (Some end) = HasEndedOn file begun given cursor page end
+
+-- a row was handed out, and its memory is not given back
+abbrev pub IsOnRow : WalkView → Type 0
+IsOnRow walk = (walk.told ≡ None) × (0 < walk.given)
+
+-- the pels of the item that was handed out last
+abbrev pub AreLast : WalkView → List Colour → Type 0
+AreLast walk pels =
+    (before : ℕ) × (item : Item) × (walk.given ≡ before + 1)
+    × IsItemNumber walk.file walk.begun before item × (pels ≡ item.pels)
+
+-- what a call answers that goes to the next row, where the rows have ended so
+abbrev pub answer_of : End → Result Bool WalkFault
+answer_of Proper = Ok false
+answer_of (Fault page row cause) = Err (AtRow page row cause)
+answer_of Outside = Err CursorOutside
+
+-- what a call that goes to the next row answers, and what it leaves
+abbrev pub IsAdvance : WalkView → Result Bool WalkFault → WalkView → Type 0
+IsAdvance old (Ok true) new =
+    (old.told ≡ None) × (old.given + 1 < 2 ^ 64) × (new ≡ record old { given = old.given + 1 })
+IsAdvance old (Ok false) new = HasEndedAs old Proper new
+IsAdvance old (Err (AtRow page row cause)) new = HasEndedAs old (Fault page row cause) new
+IsAdvance old (Err CursorOutside) new = HasEndedAs old Outside new
+IsAdvance old (Err Memory) new = (new ≡ old) × EntersPage old.file old.begun old.given
