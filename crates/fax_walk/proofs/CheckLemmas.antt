@@ -1,12 +1,11 @@
 -- What is noted in order, and the rows beside it.
-use Rattle.std.proofs.Common.{◌≡◌, ℕ, ◌+◌, List, [], ◌∷◌, ◌++◌, length, Result, Ok, Err, refl, sym, ap, ◌∙◌, subst, arith, length-append}
+use Rattle.std.proofs.Common.{◌≡◌, ℕ, ◌+◌, List, [], ◌++◌, Err, refl, sym, ap, ◌∙◌, arith, length-append}
 use Rattle.std.specs.Prelude.{flat_map}
 use Rattle.std.proofs.lemmas.List.Concat.{flat_map-append}
 use Rattle.fax_walk.specs.declared.checking.Note.{Note}
 use Rattle.fax_walk.specs.declared.end.End.{End}
-use Rattle.fax_walk.specs.InOrder.{LeadTo}
 use Rattle.fax_walk.specs.Report.{IsNoted}
-use Rattle.fax_walk.specs.Rows.{Item, Place, IsRow}
+use Rattle.fax_walk.specs.Rows.{IsRow}
 use Rattle.fax_walk.specs.code.Check.{CheckPlace, HasChecked, IsCheckedTo}
 use Rattle.fax_walk.proofs.InOrderLemmas.{joined, leads_both}
 

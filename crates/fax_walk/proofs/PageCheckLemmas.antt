@@ -1,6 +1,6 @@
 -- The pages of a file that is checked.
-use Rattle.std.proofs.Common.{◌≡◌, ℕ, ◌+◌, ◌*◌, ◌≤◌, List, [], ◌∷◌, ◌++◌, length, Option, Some, None, Result, Ok, Err, refl, sym, ap, ◌∙◌}
-use Rattle.std.proofs.Common.{subst, arith, append_assoc, append-nil, true, false, inl, inr, ◌<◌}
+use Rattle.std.proofs.Common.{◌≡◌, ℕ, ◌+◌, ◌*◌, ◌≤◌, List, [], ◌∷◌, ◌++◌, length, Option, Some, None, Ok, Err, refl, sym, ap, ◌∙◌}
+use Rattle.std.proofs.Common.{arith, append_assoc, append-nil, true, false, inl, inr, ◌<◌}
 use Rattle.std.specs.Prelude.{slice_get, ◌==◌}
 use Rattle.std.proofs.lemmas.Bool.{cases_lt}
 use Rattle.std.proofs.lemmas.Bool.Decides.{nat_tests}
@@ -18,11 +18,9 @@ use Rattle.fax_walk.specs.declared.checking.Report.{Report}
 use Rattle.fax_walk.specs.declared.end.End.{End}
 use Rattle.fax_walk.specs.declared.end.End.TheVariants.{Proper, Fault}
 use Rattle.fax_walk.specs.Pages.{IsPageAt, end_past_chain}
-use Rattle.fax_walk.specs.Rows.{first_at}
-use Rattle.fax_walk.specs.Report.{note_on_entries, IsReportedEnd, IsReport, directory_at, strip_of, IsNoted}
+use Rattle.fax_walk.specs.Report.{note_on_entries, IsReportedEnd, IsReport, strip_of}
 use Rattle.fax_walk.specs.code.Check.{before_page, before_strip, HasChecked, IsCheckedTo, IsDirectoryOfPage, IsRestChecked, IsReadFrom}
 use Rattle.fax_walk.specs.code.Check.{ArePagesChecked}
-use Rattle.fax_walk.specs.code.Stages.{most_rows}
 use Rattle.fax_walk.proofs.CheckLemmas.{nothing_checked, checked_on, checked_to, ends_at}
 use Rattle.fax_walk.proofs.PageLawLemmas.{page_here}
 

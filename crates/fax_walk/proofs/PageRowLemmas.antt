@@ -1,9 +1,8 @@
 -- The rows of a page without a fault are rows that a walk hands out, one after another.
-use Rattle.std.proofs.Common.{◌≡◌, ℕ, ◌+◌, ◌*◌, ◌<◌, ◌≤◌, inl, inr, Bool, true, false, List, [], ◌∷◌, ◌++◌, map, length, Option, Some, None}
-use Rattle.std.proofs.Common.{Result, Ok, refl, sym, ap, ◌∙◌, subst, arith, append-nil}
+use Rattle.std.proofs.Common.{◌≡◌, ℕ, ◌+◌, ◌*◌, ◌<◌, ◌≤◌, inl, inr, Bool, true, false, List, [], ◌∷◌, ◌++◌, map, length, Some, None}
+use Rattle.std.proofs.Common.{Ok, refl, sym, ap, ◌∙◌, subst, arith, append-nil}
 use Rattle.std.proofs.lemmas.Bool.{cases_lt}
 use Rattle.std.proofs.lemmas.Bool.Decides.{nat_tests}
-use Rattle.std.proofs.lemmas.List.{length-map}
 use Rattle.std.specs.Prelude.{if◌then◌else◌, nat_lt}
 use Rattle.fax_bits.specs.declared.Colour.{Colour}
 use Rattle.fax_bits.specs.Laws.{AreBitsByPlace}
@@ -14,7 +13,7 @@ use Rattle.fax_files.specs.PageRows.{AreStrips, strip_form, joined, shown}
 use Rattle.fax_files.specs.Laws.{IsWholeForm}
 use Rattle.fax_walk.specs.InOrder.{LeadTo}
 use Rattle.fax_walk.specs.Pages.{IsPageAt}
-use Rattle.fax_walk.specs.Rows.{Item, Place, first_at, IsRow}
+use Rattle.fax_walk.specs.Rows.{Place, first_at, IsRow}
 use Rattle.fax_walk.specs.WrittenLaws.{WalkedRow, walked, numbered}
 use Rattle.fax_walk.proofs.InOrderLemmas.{leads_both}
 use Rattle.fax_walk.proofs.StripPlaceLemmas.{shown_length, strip_count}

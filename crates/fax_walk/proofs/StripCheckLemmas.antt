@@ -1,9 +1,8 @@
 -- The strips of a page that is checked.
-use Rattle.std.proofs.Common.{◌≡◌, ℕ, ◌+◌, ◌*◌, ◌<◌, ◌≤◌, List, [], ◌∷◌, ◌++◌, length, map, min, true, false, Option, Some, None, Result, Ok, Err, refl, sym, ap, ◌∙◌}
+use Rattle.std.proofs.Common.{◌≡◌, ℕ, ◌+◌, ◌*◌, ◌<◌, ◌≤◌, List, [], ◌∷◌, ◌++◌, length, min, true, false, Some, None, Result, Ok, Err, refl, sym, ap, ◌∙◌}
 use Rattle.std.proofs.Common.{subst, arith, append_assoc, append-nil, inl, inr}
 use Rattle.std.proofs.lemmas.Bool.{cases_lt}
 use Rattle.std.proofs.lemmas.Bool.Decides.{nat_tests}
-use Rattle.std.proofs.lemmas.List.{length-map}
 use Rattle.std.specs.Prelude.{nat_lt, ◌==◌}
 use Rattle.fax_bits.specs.declared.Colour.{Colour}
 use Rattle.fax_bits.specs.Bits.{bits}
@@ -26,10 +25,10 @@ use Rattle.fax_walk.specs.declared.checking.PageRead.{PageRead}
 use Rattle.fax_walk.specs.declared.end.End.{End}
 use Rattle.fax_walk.specs.declared.end.End.TheVariants.{Fault}
 use Rattle.fax_walk.specs.InOrder.{LeadTo}
-use Rattle.fax_walk.specs.Pages.{IsPageAt, page_or_end}
-use Rattle.fax_walk.specs.Rows.{Item, Place, first_at, strip_at, IsRow}
-use Rattle.fax_walk.specs.Report.{Checked, strip_of, directory_at, after_strip, notes_on_strip, IsStripNoted, IsNoted}
-use Rattle.fax_walk.specs.code.Check.{CheckPlace, before_page, before_strip, HasChecked, IsCheckedTo, IsDirectoryOfPage}
+use Rattle.fax_walk.specs.Pages.{IsPageAt}
+use Rattle.fax_walk.specs.Rows.{Place, first_at, IsRow}
+use Rattle.fax_walk.specs.Report.{Checked, strip_of, after_strip, notes_on_strip, IsStripNoted, IsNoted}
+use Rattle.fax_walk.specs.code.Check.{before_page, before_strip, HasChecked, IsCheckedTo, IsDirectoryOfPage}
 use Rattle.fax_walk.specs.code.Check.{AreStripsChecked, IsRestChecked, IsRowInside, IsReadTo}
 use Rattle.fax_walk.specs.code.Stages.{most_rows}
 use Rattle.fax_walk.proofs.CheckLemmas.{nothing_checked, checked_on, checked_to, ends_at}

@@ -89,7 +89,7 @@ module _ (file : List ℕ) where
       in_bytes at item to here page (strip_bytes here.endian file here.offset (strip_at here.form at.row)) refl is
 
   -- a page is the same for each of its rows
-  any_row : (at : Cursor) (r : ℕ) (here : FilePage) → IsPageAt file at (Ok here)
+  pub any_row : (at : Cursor) (r : ℕ) (here : FilePage) → IsPageAt file at (Ok here)
       → IsPageAt file (record { page = at.page; row = r }) (Ok here)
   any_row at r here is = under (header file) is
     where
@@ -104,7 +104,7 @@ module _ (file : List ℕ) where
       under (Err fault) e = absurd cc
       under (Ok head) (offsets, fault, chain, e) = (offsets, fault, chain, over head offsets fault (slice_get offsets at.page) e)
 
-  whole_page : FormsAreWhole → (at : Cursor) (here : FilePage) → IsPageAt file at (Ok here) → IsWholeForm here.form
+  pub whole_page : FormsAreWhole → (at : Cursor) (here : FilePage) → IsPageAt file at (Ok here) → IsWholeForm here.form
   whole_page forms at here is = under (header file) is
     where
       answered : (endian : Endian) (q : ℕ) (answer : Result PageForm FileFault) → page endian file q ≡ answer

@@ -1,5 +1,5 @@
 -- A written file has the rows and the forms of its pages.
-use Rattle.std.proofs.Common.{◌≡◌, ℕ, ◌+◌, ◌*◌, ◌<◌, ◌≤◌, List, [], ◌∷◌, ◌++◌, map, length, drop, None, Result, Ok, Err, refl, sym, ap, ◌∙◌}
+use Rattle.std.proofs.Common.{◌≡◌, ℕ, ◌+◌, ◌*◌, List, [], ◌∷◌, ◌++◌, map, length, drop, None, Ok, Err, refl, sym, ap, ◌∙◌}
 use Rattle.std.proofs.Common.{subst, arith}
 use Rattle.std.specs.List.{AllZip}
 use Rattle.fax_bits.specs.declared.Colour.{Colour}
@@ -9,13 +9,13 @@ use Rattle.fax_files.specs.Numbers.{Header, header}
 use Rattle.fax_files.specs.Chain.{IsChain}
 use Rattle.fax_files.specs.PageRows.{ArePageRows}
 use Rattle.fax_files.specs.Written.{WrittenPage, file_of}
-use Rattle.fax_files.specs.Laws.{IsWritable, AreWritable, IsReadAt, IsReadAs, WrittenFilesAreRead, WrittenRowsAreRead, FormsAreWhole}
+use Rattle.fax_files.specs.Laws.{IsWritable, AreWritable, IsReadAt, WrittenFilesAreRead, WrittenRowsAreRead, FormsAreWhole}
 use Rattle.fax_walk.specs.declared.cursor.Cursor.{Cursor}
 use Rattle.fax_walk.specs.declared.end.End.TheVariants.{Proper}
 use Rattle.fax_walk.specs.InOrder.{AreFrom}
-use Rattle.fax_walk.specs.Pages.{IsPageAt, IsForm, AreForms, end_past_chain}
+use Rattle.fax_walk.specs.Pages.{IsPageAt, IsForm, end_past_chain}
 use Rattle.fax_walk.specs.Rows.{Item, first_at, IsRow}
-use Rattle.fax_walk.specs.WrittenLaws.{WalkedRow, walked, numbered, HoldsRows, rows_of, forms_of, IsWalkedAs, WrittenFilesAreWalked}
+use Rattle.fax_walk.specs.WrittenLaws.{WalkedRow, walked, numbered, HoldsRows, rows_of, forms_of, WrittenFilesAreWalked}
 use Rattle.fax_walk.proofs.InOrderLemmas.{joined}
 use Rattle.fax_walk.proofs.PageLawLemmas.{no_page, some_page, next_dropped, proper_end}
 use Rattle.fax_walk.proofs.PageRowLemmas.{strips_from, map_both}

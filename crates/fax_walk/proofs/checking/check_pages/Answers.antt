@@ -1,4 +1,4 @@
-use Rattle.std.proofs.Common.{◌≡◌, ℕ, Ok, Some, ◌+◌, length, refl, sym, ◌∙◌, ap, subst, arith}
+use Rattle.std.proofs.Common.{◌≡◌, Ok, Some, ◌+◌, length, refl, sym, ◌∙◌, ap, subst, arith}
 use Rattle.fax_files.specs.Numbers.{header}
 use Rattle.fax_files.specs.declared.Cause.TheVariants.{File}
 use Rattle.fax_files.specs.code.Chain.{ChainState}
