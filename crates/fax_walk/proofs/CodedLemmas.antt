@@ -22,7 +22,7 @@ use Rattle.fax_files.specs.PbmLaws.{AreOfWidth}
 use Rattle.fax_files.specs.Laws.{IsWritable, AreWritable, AreRowsOf}
 use Rattle.fax_walk.specs.declared.options.Options.{Options}
 use Rattle.fax_walk.specs.Converted.{SourcePage, strips_of, written_form, coded_strips, written_page}
-use Rattle.fax_walk.specs.Laws.{HoldsRows, IsWritableSource, written_pages, WrittenFilesAreWalked, CodedFilesAreWalked}
+use Rattle.fax_walk.specs.WrittenLaws.{HoldsRows, IsWritableSource, written_pages, WrittenFilesAreWalked, CodedFilesAreWalked}
 use Rattle.fax_walk.proofs.OpenStripsLemmas.{enough}
 
 -- strips of enough rows are all rows

@@ -91,17 +91,22 @@ module _ {S A : Type 0} (next : S → Result (A × S) End → Type 0) where
   leads_on at to [] item later to_is step = (later, rw (← to_is) step, refl)
   leads_on at to (x ∷ items) item later (place, first, leads) step = (place, first, leads_on place to items item later leads step)
 
-  -- items that lead to a place, and then others from there
-  pub leads_over : (at to later : S) (items more : List A) → LeadTo next at items to → LeadTo next to more later
+  -- items that lead to a place, and then those that lead on from there
+  pub leads_both : (at to : S) (items more : List A) (later : S) → LeadTo next at items to → LeadTo next to more later
       → LeadTo next at (items ++ more) later
-  leads_over at to later [] more to_is leads = subst (λ (s : S). LeadTo next s more later) to_is leads
-  leads_over at to later (x ∷ items) more (place, step, rest) leads = (place, step, leads_over place to later items more rest leads)
+  leads_both at to [] more later to_is rest = subst (λ (s : S). LeadTo next s more later) to_is rest
+  leads_both at to (x ∷ items) more later (place, step, leads) rest = (place, step, leads_both place to items more later leads rest)
 
   -- items that lead to a place, and then what is handed out from there
   pub joined : (at to : S) (items after : List A) (end : End) → LeadTo next at items to → AreFrom next to after end
       → AreFrom next at (items ++ after) end
   joined at to [] after end to_is rest = subst (λ (s : S). AreFrom next s after end) to_is rest
   joined at to (x ∷ items) after end (place, step, leads) rest = (place, step, joined place to items after end leads rest)
+
+  -- items that lead to a place, and the end there
+  pub ended_at : (at to : S) (items : List A) (end : End) → LeadTo next at items to → next to (Err end) → AreFrom next at items end
+  ended_at at to [] end to_is ends = rw (← to_is) ends
+  ended_at at to (x ∷ items) end (place, step, leads) ends = (place, step, ended_at place to items end leads ends)
 
   -- a fact that each step keeps holds where items lead
   pub kept : (holds : S → Type 0) → ((at : S) (item : A) (to : S) → holds at → next at (Ok (item, to)) → holds to)

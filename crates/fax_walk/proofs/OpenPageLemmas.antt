@@ -43,7 +43,7 @@ use Rattle.fax_walk.proofs.RowLawLemmas.{exchanged_twice}
 pub strip_begins : (form : PageForm) (number : ℕ) → IsPageForm form → number < form.strips → number * form.rows_per_strip < form.rows
 strip_begins form number limits within =
     let all_rows : (form.rows ≤ form.strips * form.rows_per_strip)
-        × (form.strips * form.rows_per_strip < form.rows + form.rows_per_strip) =
+    × (form.strips * form.rows_per_strip < form.rows + form.rows_per_strip) =
     rw limits.strips (div_ceil_times form.rows form.rows_per_strip limits.some_rows_per_strip) in
     let more : number + 1 ≤ form.strips = omega (arith, within) in
     let product = mul-le-mul_right form.rows_per_strip more in

@@ -1,112 +1,213 @@
 -- Rows that are read from a walk and put.
-use Rattle.std.proofs.Common.{◌≡◌, ◌≢◌, ℕ, ◌+◌, ◌-◌, ◌<◌, List, [], ◌∷◌, ◌++◌, map, length, Err, refl, sym, ap, ◌∙◌, subst, arith}
-use Rattle.std.proofs.Common.{append_assoc}
-use Rattle.std.proofs.lemmas.List.{length-map, length_push, map-append}
+use Rattle.std.proofs.Common.{◌≡◌, ◌≢◌, ℕ, zero, suc, ◌+◌, ◌<◌, ◌≤◌, ◌⊎◌, inl, inr, List, [], ◌∷◌, ◌++◌, length, take, Some, None, Ok, Err, Bor, refl, sym}
+use Rattle.std.proofs.Common.{ap, ◌∙◌, subst, arith, length-append, length-take}
+use Rattle.std.proofs.lemmas.Bool.{cases_lt}
+use Rattle.std.proofs.lemmas.List.{map-append}
 use Rattle.fax_bits.specs.declared.Colour.{Colour}
 use Rattle.fax_files.specs.declared.Cause.{Cause}
+use Rattle.fax_files.specs.PbmLaws.{AreOfWidth}
+use Rattle.fax_walk.specs.declared.begun.Begun.TheVariants.{At}
 use Rattle.fax_walk.specs.declared.end.End.{End}
 use Rattle.fax_walk.specs.declared.end.End.TheVariants.{Proper, Fault, Outside}
-use Rattle.fax_walk.specs.declared.end.WalkFault.{WalkFault}
-use Rattle.fax_walk.specs.declared.end.WalkFault.TheVariants.{Memory as NoMemory, AtRow, CursorOutside}
 use Rattle.fax_walk.specs.declared.options.ConvertFault.{ConvertFault}
 use Rattle.fax_walk.specs.declared.options.ConvertFault.TheVariants.{Memory}
-use Rattle.fax_walk.specs.declared.walk.Stage.{Stage}
-use Rattle.fax_walk.specs.declared.walk.Stage.TheVariants.{Before, Open, Ended}
+use Rattle.fax_walk.specs.declared.end.WalkFault.{WalkFault}
+use Rattle.fax_walk.specs.declared.end.WalkFault.TheVariants.{Memory as NoMemory, AtRow, CursorOutside}
+use Rattle.fax_walk.specs.declared.walk.Place.{Place as RowPlace}
 use Rattle.fax_walk.specs.declared.output.Output.{Output}
 use Rattle.fax_walk.specs.declared.sheet.Sheet.{Sheet}
-use Rattle.fax_walk.specs.Items.{Item}
-use Rattle.fax_walk.specs.code.Stages.{row_of}
-use Rattle.fax_walk.specs.code.Due.{WalkState, IsDue}
-use Rattle.fax_walk.specs.code.Next.{HandsOut, HasEnded, StepsAs, IsOnPage, shown_at, IsAdvance}
+use Rattle.fax_walk.specs.Cursor.{start}
+use Rattle.fax_walk.specs.InOrder.{EndsAfter, LeadTo}
+use Rattle.fax_walk.specs.Left.{IsItemNumber}
+use Rattle.fax_walk.specs.PageLaws.{TailOfStart}
+use Rattle.fax_walk.specs.Rows.{Item, Place, first_at, IsRow, IsTailFrom}
+use Rattle.fax_walk.specs.Left.{WalkView, IsNext}
 use Rattle.fax_walk.specs.code.Output.{IsPartWritten, PutsRow}
-use Rattle.fax_walk.specs.code.Sources.{part_of, PutsRows, BeginsWithPage, HasGiven, EndsWith, source_fault}
-use Rattle.fax_walk.proofs.SourceLemmas.{item_wide, ends_at_fault}
+use Rattle.fax_walk.specs.code.Sources.{part_of, PutsRows, pels_of, IsFaultAt, IsBeforePage, EndsWith, source_fault}
+use Rattle.fax_walk.proofs.InOrderLemmas.{IsOneAnswer, same_answer, same_step, leads_both}
+use Rattle.fax_walk.proofs.NumberLemmas.{StandsAt, stands_at, next_led, end_led}
 
--- the item of the row that a walk went to
-pub record WentTo (old new : WalkState) : Type 0 where
+-- so many rows of the page were read and put
+pub record HasConverted (walk : WalkView) (output : Output) (sheet : Sheet) (count : ℕ) (new_walk : WalkView)
+    (new_output : Output) (due : IsBeforePage walk sheet.width sheet.rows) : Type 0 where
+  pub same_file : new_walk.file ≡ walk.file
+  pub same_begun : new_walk.begun ≡ walk.begun
+  pub given : new_walk.given ≡ walk.given + count
+  pub within : count ≤ length due.page.own
+  pub put : PutsRows output sheet (take count (pels_of due.page.own)) new_output
+
+pub none_converted : (walk : WalkView) (output : Output) (sheet : Sheet) (due : IsBeforePage walk sheet.width sheet.rows)
+    → HasConverted walk output sheet 0 walk output due
+none_converted walk output sheet due = record {
+  same_file = refl;
+  same_begun = refl;
+  given = omega arith;
+  within = omega arith;
+  put = λ at begun. begun;
+}
+
+take_pels : (n : ℕ) (items : List Item) → take n (pels_of items) ≡ pels_of (take n items)
+take_pels zero items = refl
+take_pels (suc n) [] = refl
+take_pels (suc n) (x ∷ items) = ap (λ (l : List (List Colour)). x.pels ∷ l) (take_pels n items)
+
+wide_at : (width n : ℕ) (items : List Item) (item : Item) → AreOfWidth width (pels_of items) → take (n + 1) items ≡ take n items ++ item ∷ []
+    → length item.pels ≡ width
+wide_at width n [] item wide one =
+    let m = ap (λ (l : List Item). length l) one in
+    let nothing : List Item = [] in
+    absurd (omega (arith, m, length-append (take n nothing) (item ∷ []), length-take (n + 1) nothing))
+wide_at width zero (x ∷ items) item wide one = let same : x ≡ item = cc in sym (ap (λ (i : Item). length i.pels) same) ∙ wide.0
+wide_at width (suc n) (x ∷ items) item wide one =
+    let m : suc n + 1 ≡ suc (n + 1) = omega arith in
+    let one' : x ∷ take (n + 1) items ≡ x ∷ (take n items ++ item ∷ []) = rw m at one in
+    let rest : take (n + 1) items ≡ take n items ++ item ∷ [] = cc in
+    wide_at width n items item wide.1 rest
+
+-- a walk has handed out this row, item number `given`
+pub record GivesRow (old new : WalkView) (row : List Colour) : Type 0 where
   pub item : Item
-  pub pels : item.pels ≡ shown_at new.stage
-  pub given : HandsOut old item new
+  pub number : IsItemNumber old.file old.begun old.given item
+  pub pels : item.pels ≡ row
+  pub same_file : new.file ≡ old.file
+  pub same_begun : new.begun ≡ old.begun
+  pub given : new.given ≡ old.given + 1
 
-went_at : (old new : WalkState) (stage : Stage) → IsOnPage stage → StepsAs old stage new
-    → (item : Item) × (item.pels ≡ shown_at stage) × HandsOut old item new
-went_at old new Before on step = absurd on
-went_at old new (Open page) on step = (record { page = page.page; row = row_of page - 1; pels = page.shown }, refl, step.0)
-went_at old new (Ended end read last) on step = absurd on
+pub row_given : (old new : WalkView) (found : RowPlace × Bor (List Colour)) → IsNext old (Ok (Some found)) new → GivesRow old new found.1.now
+row_given old new found next = record {
+  item = next.0;
+  number = next.1.number;
+  pels = next.2.2;
+  same_file = ap (λ (w : WalkView). w.file) next.1.new_is;
+  same_begun = ap (λ (w : WalkView). w.begun) next.1.new_is;
+  given = ap (λ (w : WalkView). w.given) next.1.new_is;
+}
 
-pub went : (old new : WalkState) → IsOnPage new.stage × StepsAs old new.stage new → WentTo old new
-went old new is =
-    let to = went_at old new new.stage is.0 is.1 in
-    record { item = to.0; pels = to.1; given = to.2 }
+module _ (tail : TailOfStart) (answers : (file : List ℕ) (at : Place) → IsOneAnswer (IsRow file at)) (walk : WalkView) (output : Output)
+    (sheet : Sheet) (count : ℕ) (old : WalkView) (middle : Output) (due : IsBeforePage walk sheet.width sheet.rows)
+    (so_far : HasConverted walk output sheet count old middle due) (some : count < sheet.rows) where
+  abbrev own : List Item
+  own = due.page.own
 
--- some rows of a page were read and put
-pub record HasConverted (walk : WalkState) (output : Output) (sheet : Sheet) (count : ℕ) (new_walk : WalkState)
-    (new_output : Output) : Type 0 where
-  pub items : List Item
-  pub count_is : length items ≡ count
-  pub given : HasGiven walk items new_walk
-  pub put : PutsRows output sheet (map (λ item. item.pels) items) new_output
+  -- the row that is due on the page, or the fault there
+  abbrev IsThere : Type 0
+  IsThere = StandsAt (IsRow walk.file) due.at own count ⊎ ((count ≡ length own) × IsFaultAt walk.file due.page.to)
 
-pub none_converted : (walk : WalkState) (output : Output) (sheet : Sheet) → HasConverted walk output sheet 0 walk output
-none_converted walk output sheet = record { items = []; count_is = refl; given = λ more end due. due; put = λ at begun. begun }
+  there : IsThere
+  there = elim (cases_lt count (length own)) [
+    | inl less ↦ inl (stands_at (IsRow walk.file) due.at due.page.to own count due.page.lead less)
+    | inr all ↦ elim due.page.ends [
+      | inl whole ↦ absurd (omega (arith, whole.0, some, all))
+      | inr stop ↦ inr (omega (arith, all, so_far.within), stop.1)
+    ]
+  ]
 
-module _ (walk : WalkState) (output : Output) (sheet : Sheet) (count : ℕ) (old : WalkState) (middle : Output)
-    (so_far : HasConverted walk output sheet count old middle) (due : count < sheet.rows)
-    (page : (items : List Item) (end : End) → IsDue walk items end → BeginsWithPage sheet.width sheet.rows items end) where
-  few : length so_far.items < sheet.rows
-  few = omega (arith, so_far.count_is)
+  -- all rows that were read before lead to a place
+  led : (to : Place) (front : List Item) → LeadTo (IsRow walk.file) due.at front to → LeadTo (IsRow walk.file) (first_at 0 0) (due.before ++ front) to
+  led to front lead = leads_both (IsRow walk.file) (first_at 0 0) due.at due.before front to due.lead lead
+
+  given_at : (front : List Item) → length front ≡ count → old.given ≡ length (due.before ++ front)
+  given_at front all = omega (arith, so_far.given, due.given, all, length-append due.before front)
+
+  from_file : (items : List Item) (end : End) → IsTailFrom old.file old.begun items end → IsTailFrom walk.file (At start) items end
+  from_file items end is = rw (so_far.same_file, so_far.same_begun ∙ due.from_start) at is
+
+  -- item number `given` is what a place has to which so many items lead
+  next_at : (item : Item) → IsItemNumber old.file old.begun old.given item → (to : Place) (front : List Item)
+      → LeadTo (IsRow walk.file) due.at front to → length front ≡ count → (later : Place) × IsRow walk.file to (Ok (item, later))
+  next_at item (all, end, is, number) to front lead all_read =
+      let are = (tail walk.file all end).0 (from_file all end is) in
+      next_led (IsRow walk.file) (answers walk.file) (first_at 0 0) to (due.before ++ front) all end item are (led to front lead)
+      (rw (given_at front all_read) at number)
+
+  ends_at : (end : End) → EndsAfter (IsTailFrom old.file old.begun) old.given end → (to : Place) (front : List Item)
+      → LeadTo (IsRow walk.file) due.at front to → length front ≡ count → IsRow walk.file to (Err end)
+  ends_at end (all, is, number) to front lead all_read =
+      let are = (tail walk.file all end).0 (from_file all end is) in
+      end_led (IsRow walk.file) (answers walk.file) (first_at 0 0) to (due.before ++ front) all end are (led to front lead)
+      (number ∙ given_at front all_read)
+
+  count_taken : count ≤ length own → length (take count own) ≡ count
+  count_taken within = omega (arith, length-take count own, within)
+
+  -- the item that is handed out is the page's next
+  pub next_of : (item : Item) → IsItemNumber old.file old.begun old.given item
+      → (count < length own) × (take (count + 1) own ≡ take count own ++ item ∷ [])
+  next_of item number = elim there [
+    | inl here ↦
+        let is = next_at item number here.at (take count own) here.lead (count_taken so_far.within) in
+        let same = same_step (answers walk.file here.at) here.item item here.later is.0 here.step is.1 in
+        (more here, subst (λ (i : Item). take (count + 1) own ≡ take count own ++ i ∷ []) same.0 here.one_more)
+    | inr (all, (p, r, cause, stop)) ↦
+        let is = next_at item number due.page.to own due.page.lead (sym all) in
+        let no = same_answer (answers walk.file due.page.to) _ _ is.1 stop in
+        absurd cc
+  ]
+    where
+      more : StandsAt (IsRow walk.file) due.at own count → count < length own
+      more here =
+          let n = ap (λ (l : List Item). length l) here.one_more in
+          omega (arith, n, length-append (take count own) (here.item ∷ []), length-take count own, length-take (count + 1) own)
+
+  -- the row is as wide as the page
+  pub next_wide : (item : Item) → IsItemNumber old.file old.begun old.given item → length item.pels ≡ sheet.width
+  next_wide item number = wide_at sheet.width count own item due.page.wide (next_of item number).1
 
   abbrev pub rows : List (List Colour)
-  rows = map (λ item. item.pels) so_far.items
+  rows = take count (pels_of own)
 
   pub rows_due : length rows < sheet.rows
-  rows_due = omega (arith, length-map so_far.items (λ (item : Item). item.pels), so_far.count_is)
+  rows_due = omega (arith, length-take count (pels_of own), some)
 
-  -- the next row is as wide as the page
-  pub next_wide : (new : WalkState) (to : WentTo old new) (row : List Colour) → row ≡ shown_at new.stage
-      → (more : List Item) × (end : End) × IsDue new more end → length row ≡ sheet.width
-  next_wide new to row row_is (more, end, left) =
-      let all = so_far.given (to.item ∷ more) end (to.given.due more end left) in
-      ap length (row_is ∙ sym to.pels) ∙ item_wide sheet.width sheet.rows so_far.items more to.item end (page _ end all) few
-
-  pub one_converted : (new : WalkState) (to : WentTo old new) (row : List Colour) (new_output : Output) → row ≡ shown_at new.stage
-      → length row ≡ sheet.width → PutsRow middle row new_output → HasConverted walk output sheet (count + 1) new new_output
-  one_converted new to row new_output row_is wide puts =
-      let rows_are : rows ++ row ∷ [] ≡ map (λ item. item.pels) (so_far.items ++ to.item ∷ []) =
-      ap (λ (r : List Colour). rows ++ r ∷ []) (row_is ∙ sym to.pels)
-      ∙ sym (map-append (λ (item : Item). item.pels) so_far.items (to.item ∷ [])) in
+  -- one row more was put
+  pub one_converted : (row : List Colour) (new : WalkView) (new_output : Output) → GivesRow old new row → PutsRow middle row new_output
+      → HasConverted walk output sheet (count + 1) new new_output due
+  one_converted row new new_output gives puts_row =
+      let item = gives.item in
+      let next = next_of item gives.number in
+      let puts : PutsRow middle item.pels new_output = rw gives.pels puts_row in
+      let rows_are : rows ++ item.pels ∷ [] ≡ take (count + 1) (pels_of own) =
+      ap (λ (l : List (List Colour)). l ++ item.pels ∷ []) (take_pels count own)
+      ∙ sym (map-append (λ (i : Item). i.pels) (take count own) (item ∷ [])) ∙ sym (ap pels_of next.1) ∙ sym (take_pels (count + 1) own) in
       record {
-        items = so_far.items ++ to.item ∷ [];
-        count_is = length_push so_far.items to.item ∙ ap (λ n. n + 1) so_far.count_is;
-        given = λ more end left. subst (λ (l : List Item). IsDue walk l end) (sym (append_assoc so_far.items (to.item ∷ []) more))
-            (so_far.given (to.item ∷ more) end (to.given.due more end left));
+        same_file = gives.same_file ∙ so_far.same_file;
+        same_begun = gives.same_begun ∙ so_far.same_begun;
+        given = omega (arith, gives.given, so_far.given);
+        within = omega (arith, next.0);
         put = λ at begun. subst (λ (l : List (List Colour)). IsPartWritten new_output (part_of at sheet l)) rows_are
-            (puts (part_of at sheet rows) (so_far.put at begun) rows_due wide);
+            (puts (part_of at sheet rows) (so_far.put at begun) rows_due (next_wide item gives.number));
       }
 
-  -- where the walk ends here, it ends at a fault
-  stops : (end : End) → IsDue old [] end → (p r : ℕ) × (cause : Cause) × (end ≡ Fault p r cause)
-  stops end none = ends_at_fault sheet.width sheet.rows so_far.items end (page _ end (so_far.given [] end none)) few
+  -- the rows end at a fault, and not else
+  pub stops : (end : End) → EndsAfter (IsTailFrom old.file old.begun) old.given end → (p r : ℕ) × (cause : Cause) × (end ≡ Fault p r cause)
+  stops end ends = elim there [
+    | inl here ↦
+        let is = ends_at end ends here.at (take count own) here.lead (count_taken so_far.within) in
+        let no = same_answer (answers walk.file here.at) _ _ is here.step in
+        absurd cc
+    | inr (all, (p, r, cause, stop)) ↦
+        let is = ends_at end ends due.page.to own due.page.lead (sym all) in
+        let same = same_answer (answers walk.file due.page.to) _ _ is stop in
+        (p, r, cause, cc)
+  ]
 
-  pub not_proper : (new : WalkState) → HasEnded old Proper new → ⊥
-  not_proper new ended = let stop = stops Proper ended.due in let is = stop.3 in cc
+  pub not_proper : (new : WalkView) → IsNext old (Ok None) new → ⊥
+  not_proper new next = let stop = stops Proper next.0 in let is = stop.3 in cc
 
-  pub not_outside : (new : WalkState) (fault : WalkFault) → IsAdvance old (Err fault) new → fault ≢ CursorOutside
-  not_outside new NoMemory ended = λ is. cc
-  not_outside new (AtRow p r cause) ended = λ is. cc
-  not_outside new CursorOutside ended = λ same. let stop = stops Outside ended.due in let is = stop.3 in cc
+  pub not_outside : (new : WalkView) (fault : WalkFault) → IsNext old (Err fault) new → fault ≢ CursorOutside
+  not_outside new NoMemory next = λ is. cc
+  not_outside new (AtRow p r cause) next = λ is. cc
+  not_outside new CursorOutside next = λ same. let stop = stops Outside next.0 in let is = stop.3 in cc
 
-  pub told : (new : WalkState) (fault : WalkFault) (answer : ConvertFault) → IsAdvance old (Err fault) new → answer ≡ source_fault fault
-      → answer ≢ Memory → EndsWith walk answer
-  told new NoMemory answer ended is not_memory = absurd (not_memory is)
-  told new (AtRow p r cause) answer ended is not_memory =
-      record {
-        items = so_far.items ++ [];
-        page = p;
-        row = r;
-        cause = cause;
-        due = so_far.given [] (Fault p r cause) ended.due;
-        fault_is =
-            is;
-      }
-  told new CursorOutside answer ended is not_memory = absurd (not_memory is)
+  pub told : (new : WalkView) (fault : WalkFault) (answer : ConvertFault) → IsNext old (Err fault) new → answer ≡ source_fault fault
+      → answer ≢ Memory → EndsWith walk.file answer
+  told new NoMemory answer next is not_memory = absurd (not_memory is)
+  told new (AtRow p r cause) answer ((all, tail_is, number), no_other, new_is) is not_memory = record {
+    items = all;
+    page = p;
+    row = r;
+    cause = cause;
+    are = (tail walk.file all (Fault p r cause)).0 (from_file all (Fault p r cause) tail_is);
+    fault_is = is;
+  }
+  told new CursorOutside answer next is not_memory = absurd (not_memory is)

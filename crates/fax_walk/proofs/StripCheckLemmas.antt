@@ -1,9 +1,12 @@
 -- The strips of a page that is checked.
-use Rattle.std.proofs.Common.{◌≡◌, ℕ, ◌+◌, ◌-◌, ◌*◌, ◌<◌, ◌≤◌, List, [], ◌∷◌, ◌++◌, length, min, Option, Some, None, refl, sym, ap, ◌∙◌}
-use Rattle.std.proofs.Common.{subst, arith, append_assoc, append-nil, length-append, inl, inr}
-use Rattle.std.proofs.lemmas.List.Concat.{flat_map-append}
+use Rattle.std.proofs.Common.{◌≡◌, ℕ, ◌+◌, ◌*◌, ◌<◌, ◌≤◌, List, [], ◌∷◌, ◌++◌, length, min, true, false, Some, None, Result, Ok, Err, refl, sym, ap, ◌∙◌}
+use Rattle.std.proofs.Common.{subst, arith, append_assoc, append-nil, inl, inr}
+use Rattle.std.proofs.lemmas.Bool.{cases_lt}
+use Rattle.std.proofs.lemmas.Bool.Decides.{nat_tests}
+use Rattle.std.specs.Prelude.{nat_lt, ◌==◌}
 use Rattle.fax_bits.specs.declared.Colour.{Colour}
 use Rattle.fax_bits.specs.Bits.{bits}
+use Rattle.fax_bits.specs.Laws.{AreBitsByPlace}
 use Rattle.fax_page.specs.declared.StripFault.{StripFault}
 use Rattle.fax_page.specs.declared.notes.NotesFault.{NotesFault}
 use Rattle.fax_page.specs.declared.notes.NotesFault.TheVariants.{Memory, Strip as RowOfStrip}
@@ -15,166 +18,202 @@ use Rattle.fax_files.specs.declared.Cause.TheVariants.{File, Strip}
 use Rattle.fax_files.specs.declared.FileFault.TheVariants.{StripOutside}
 use Rattle.fax_files.specs.declared.PageForm.{PageForm}
 use Rattle.fax_files.specs.Laws.{IsWholeForm}
-use Rattle.fax_files.specs.PageRows.{AreStrips, strip_form, joined}
-use Rattle.fax_files.specs.code.Tiff.{TiffDirectory, bytes_of}
+use Rattle.fax_files.specs.PageRows.{strip_form, shown}
+use Rattle.fax_files.specs.code.Tiff.{TiffDirectory, bytes_of, form_of}
 use Rattle.fax_walk.specs.declared.checking.Note.{Note}
 use Rattle.fax_walk.specs.declared.checking.PageRead.{PageRead}
-use Rattle.fax_walk.specs.Report.{notes_on_strip, AreStripsNoted}
-use Rattle.fax_walk.specs.code.Check.{AreStripsBefore, AreStripsChecked, AreAllStripsChecked, IsRowInside, IsReadTo}
-use Rattle.fax_walk.proofs.PageItemLemmas.{strip_count}
+use Rattle.fax_walk.specs.declared.end.End.{End}
+use Rattle.fax_walk.specs.declared.end.End.TheVariants.{Fault}
+use Rattle.fax_walk.specs.InOrder.{LeadTo}
+use Rattle.fax_walk.specs.Pages.{IsPageAt}
+use Rattle.fax_walk.specs.Rows.{Place, first_at, IsRow}
+use Rattle.fax_walk.specs.Report.{Checked, strip_of, after_strip, notes_on_strip, IsStripNoted, IsNoted}
+use Rattle.fax_walk.specs.code.Check.{before_page, before_strip, HasChecked, IsCheckedTo, IsDirectoryOfPage}
+use Rattle.fax_walk.specs.code.Check.{AreStripsChecked, IsRestChecked, IsRowInside, IsReadTo}
+use Rattle.fax_walk.specs.code.Stages.{most_rows}
+use Rattle.fax_walk.proofs.CheckLemmas.{nothing_checked, checked_on, checked_to, ends_at}
+use Rattle.fax_walk.proofs.InOrderLemmas.{ended_at}
+use Rattle.fax_walk.proofs.StripPlaceLemmas.{in_strip, shown_length, strip_count}
+use Rattle.fax_walk.proofs.StripRowLemmas.{place_of, row_at, strip_rows, walked_length}
 
--- what was read of all strips, with its notes after those that there were
-abbrev pub AreAllBehind : TiffDirectory → PageForm → ℕ → List Note → List Note → PageRead → Type 0
-AreAllBehind directory form p old new read =
-    (noted : List Note) × (new ≡ old ++ noted) × AreAllStripsChecked directory form p noted read
+module _ (by_place : AreBitsByPlace) (directory : TiffDirectory) (form : PageForm) (p : ℕ) (whole : IsWholeForm form)
+    (form_is : form_of directory ≡ Ok form) (here : IsDirectoryOfPage directory p) where
+  abbrev file : List ℕ
+  file = directory.file
 
--- one more strip
-joined-push : (before : List (List (List Colour))) (rows : List (List Colour))
-    → length (joined (before ++ rows ∷ [])) ≡ length (joined before) + length rows
-joined-push before rows =
-    let parts : joined (before ++ rows ∷ []) ≡ joined before ++ rows =
-    flat_map-append (λ (strip : List (List Colour)). strip) before (rows ∷ []) ∙ ap (λ l. joined before ++ l) (append-nil rows) in
-    ap length parts ∙ length-append (joined before) rows
+  abbrev n : ℕ
+  n = form.rows_per_strip
 
-module _ (directory : TiffDirectory) (form : PageForm) (p : ℕ) (limits : IsWholeForm form) where
-  abbrev in_strip : ℕ
-  in_strip = form.rows_per_strip
+  page : (r : ℕ)
+      → IsPageAt file (record { page = p; row = r })
+      (Ok (record { endian = directory.endian; offset = directory.offset; form = form }))
+  page r = rw form_is at (here r)
 
-  pub none_before : (old new : List Note) → new ≡ old → AreStripsChecked directory form p 0 old new
-  none_before old new same = (
-    [],
-    same ∙ sym (append-nil old),
-    record {
-      before = [];
-      count = omega arith;
-      found = [];
-      found_count = refl;
-      strips = λ more end strips. strips;
-      notes = λ more others notes. notes;
-    },
-  )
+  abbrev Checks : ℕ → List Note → List Note → Type 0
+  Checks s old new = AreStripsChecked directory form p s old new
 
-  -- a strip begins at a row of the page
-  pub begins_inside : (s : ℕ) → s < form.strips → s * in_strip < form.rows
-  begins_inside s due = limits.needed s due
+  -- before a strip that the page has
+  at_strip : (s : ℕ) → s < form.strips → before_strip form p s ≡ record { next = strip_of p s; row = first_at p (s * n) }
+  at_strip s due = let test : (s == form.strips) ≡ false = grind (arith, nat_tests, due) in rw test refl
 
-  -- and so does its row that cannot be read
-  fault_inside : (s : ℕ) (bytes : List ℕ) (rows : List (List Colour)) (fault : StripFault) → s < form.strips
-      → IsStrip (strip_form form s) (bits form.order bytes) rows (Some fault) → s * in_strip + length rows < form.rows
-  fault_inside s bytes rows fault due strip =
-      omega (arith, limits.needed s due, strip_count (strip_form form s) (bits form.order bytes) rows (Some fault) strip)
+  -- before the page's first strip
+  pub none_before : (old new : List Note) → new ≡ old → Checks 0 old new
+  none_before old new same = record {
+    noted = [];
+    notes_are = same ∙ sym (append-nil old);
+    is = rw (let none : min (0 * n) form.rows ≡ 0 = omega arith in none) (nothing_checked file (before_strip form p 0));
+  }
 
-  -- one more strip was read wholly
-  pub strip_behind : (s : ℕ) (old middle new : List Note) (bytes : List ℕ) (rows : List (List Colour)) (found : StripNotes)
-      → s < form.strips
-      → AreStripsChecked directory form p s old middle → bytes_of directory s ≡ Some bytes
-      → IsNotedAs (strip_form form s) (bits form.order bytes) rows found → new ≡ middle ++ notes_on_strip p s found
-      → AreStripsChecked directory form p (s + 1) old new
-  strip_behind s old middle new bytes rows found due (noted, middle_is, so_far) there is new_is =
+  -- what is found on a strip
+  noted_on : (s : ℕ) (answer : Result (List Note × Checked) End)
+      → IsStripNoted form p s (bytes_of directory s) answer → IsNoted file (strip_of p s) answer
+  noted_on s answer is = (Ok _, page 0, is)
+
+  -- the rows of a strip that is whole lead to the next one
+  next_row : (s : ℕ) (count : ℕ) → s < form.strips → count ≡ (strip_form form s).rows
+      → place_of by_place file directory.endian directory.offset form p page whole (s * n + count) ≡ (before_strip form p (s + 1)).row
+  next_row s count due is = elim (cases_lt (s + 1) form.strips) [
+    | inl more ↦
+        let below = whole.needed (s + 1) more in
+        let first : s * n + count ≡ (s + 1) * n = omega (arith, is, below) in
+        let inside : nat_lt ((s + 1) * n) form.rows ≡ true = grind (arith, nat_tests, below) in
+        let test : (s + 1 == form.strips) ≡ false = grind (arith, nat_tests, more) in
+        rw (first, inside, test) refl
+    | inr last ↦
+        let all : s + 1 ≡ form.strips = omega (arith, due, last) in
+        let enough : form.rows ≤ (s + 1) * n = rw (← all) at whole.enough in
+        let full : s * n + count ≡ form.rows = omega (arith, is, enough, whole.needed s due) in
+        let past : nat_lt form.rows form.rows ≡ false = grind (arith, nat_tests) in
+        let test : (s + 1 == form.strips) ≡ true = grind (arith, nat_tests, all) in
+        rw (full, past, test) refl
+  ]
+
+  -- one strip is whole
+  strip_checked : (s : ℕ) (bytes : List ℕ) (rows : List (List Colour)) (found : StripNotes) → s < form.strips
+      → bytes_of directory s ≡ Some bytes → IsNotedAs (strip_form form s) (bits form.order bytes) rows found
+      → HasChecked file (before_strip form p s) (before_strip form p (s + 1)) (notes_on_strip p s found) (length rows)
+  strip_checked s bytes rows found due there is =
       let strip : IsStrip (strip_form form s) (bits form.order bytes) rows None = record { left = is.left; lines = is.lines } in
-      let whole : length rows ≡ min in_strip (form.rows - s * in_strip) =
-      strip_count (strip_form form s) (bits form.order bytes) rows None strip in (
-        noted ++ notes_on_strip p s found,
-        new_is ∙ ap (λ l. l ++ notes_on_strip p s found) middle_is ∙ append_assoc old noted (notes_on_strip p s found),
-        record {
-          before = so_far.before ++ rows ∷ [];
-          count = joined-push so_far.before rows ∙ omega (arith, so_far.count, whole, limits.needed s due);
-          found = so_far.found ++ found ∷ [];
-          found_count = length-append so_far.found (found ∷ []) ∙ ap (λ n. n + 1) so_far.found_count;
-          strips = λ more end strips.
-              subst (λ l. AreStrips directory.endian directory.file directory.offset form 0 l end)
-              (sym (append_assoc so_far.before (rows ∷ []) more))
-              (so_far.strips (rows ∷ more) end (due, bytes, None, there, strip, inl (refl, strips)));
-          notes = λ more others notes.
-              subst (λ l. AreStripsNoted directory.endian directory.file directory.offset form p 0 l
-              ((noted ++ notes_on_strip p s found) ++ others))
-              (sym (append_assoc so_far.found (found ∷ []) more))
-              (subst (λ l. AreStripsNoted directory.endian directory.file directory.offset form p 0 (so_far.found ++ found ∷ more) l)
-              (sym (append_assoc noted (notes_on_strip p s found) others))
-              (so_far.notes (found ∷ more) (notes_on_strip p s found ++ others) (due, (bytes, rows, there, is), others, refl, notes)));
-        },
-      )
+      let read =
+      strip_rows by_place file directory.endian directory.offset form p page whole s (whole.needed s due) bytes there rows None strip in
+      let to = read.there ∙ next_row s (length rows) due (strip_count (strip_form form s) (bits form.order bytes) rows None strip) in
+      rw (at_strip s due) (record {
+        found = notes_on_strip p s found ∷ [];
+        lead = (
+          after_strip form p s,
+          noted_on s _ (rw there (rows, found, is, refl, refl)),
+          refl,
+        );
+        notes_are = sym (append-nil (notes_on_strip p s found));
+        items = read.items;
+        lead_rows = subst (λ (a : Place). LeadTo (IsRow file) (first_at p (s * n)) read.items a) to read.lead;
+        count = sym (walked_length file (first_at p (s * n)) (s * n) (shown form rows) _ read ∙ shown_length form rows);
+      })
 
-  -- the notes end before a strip
-  notes_end : (s : ℕ) (noted : List Note) (so_far : AreStripsBefore directory form p s noted)
-      → AreStripsNoted directory.endian directory.file directory.offset form p s [] []
-      → AreStripsNoted directory.endian directory.file directory.offset form p 0 so_far.found noted
-  notes_end s noted so_far ends =
-      subst (λ l. AreStripsNoted directory.endian directory.file directory.offset form p 0 l noted) (append-nil so_far.found)
-      (subst (λ l. AreStripsNoted directory.endian directory.file directory.offset form p 0 (so_far.found ++ []) l) (append-nil noted)
-      (so_far.notes [] [] ends))
+  -- one more strip is whole
+  pub strip_after : (s : ℕ) (old middle new : List Note) (bytes : List ℕ) (rows : List (List Colour)) (found : StripNotes)
+      → s < form.strips → Checks s old middle → bytes_of directory s ≡ Some bytes
+      → IsNotedAs (strip_form form s) (bits form.order bytes) rows found → new ≡ middle ++ notes_on_strip p s found
+      → Checks (s + 1) old new
+  strip_after s old middle new bytes rows found due so_far there is new_is =
+      let strip : IsStrip (strip_form form s) (bits form.order bytes) rows None = record { left = is.left; lines = is.lines } in
+      let count = strip_count (strip_form form s) (bits form.order bytes) rows None strip in
+      let total : min (s * n) form.rows + length rows ≡ min ((s + 1) * n) form.rows = omega (arith, count, whole.needed s due) in
+      record {
+        noted = so_far.noted ++ notes_on_strip p s found;
+        notes_are =
+            new_is ∙ ap (λ (l : List Note). l ++ notes_on_strip p s found) so_far.notes_are
+            ∙ append_assoc old so_far.noted (notes_on_strip p s found);
+        is = rw (← total)
+            (checked_on file (before_strip form p 0) (before_strip form p s) (before_strip form p (s + 1)) so_far.noted
+            (notes_on_strip p s found) (min (s * n) form.rows) (length rows) so_far.is
+            (strip_checked s bytes rows found due there is));
+      }
 
-  strips_end : (s : ℕ) (noted : List Note) (so_far : AreStripsBefore directory form p s noted) (end : Option Cause)
-      → AreStrips directory.endian directory.file directory.offset form s [] end
-      → AreStrips directory.endian directory.file directory.offset form 0 so_far.before end
-  strips_end s noted so_far end ends =
-      subst (λ l. AreStrips directory.endian directory.file directory.offset form 0 l end) (append-nil so_far.before)
-      (so_far.strips [] end ends)
+  -- the rest of the page, from its first strip on
+  abbrev Rest : List Note → List Note → PageRead → Type 0
+  Rest old new read = IsRestChecked file (before_strip form p 0) p old new read
 
-  -- all strips were read
-  pub all_read : (s : ℕ) (old new : List Note) → s ≡ form.strips → AreStripsChecked directory form p s old new
-      → AreAllBehind directory form p old new (record { rows = form.rows; fault = None })
-  all_read s old new all (noted, new_is, so_far) =
-      let rows : s * in_strip ≡ form.strips * in_strip = ap (λ n. n * in_strip) all in (
-        noted,
-        new_is,
-        record {
-          lists = so_far.before;
-          strips = strips_end s noted so_far None (inl (all, refl));
-          count = omega (arith, so_far.count, rows, limits.enough);
-          found = so_far.found;
-          notes = notes_end s noted so_far (inl all, refl);
-          whole = so_far.found_count ∙ all;
-        },
-      )
+  -- all strips are whole
+  pub all_read : form.rows ≤ most_rows → (s : ℕ) (old new : List Note) → s ≡ form.strips → Checks s old new
+      → Rest old new (record { rows = form.rows; fault = None })
+  all_read few s old new all so_far =
+      let rows : s * n ≡ form.strips * n = ap (λ (k : ℕ). k * n) all in
+      let total : min (s * n) form.rows ≡ form.rows = omega (arith, rows, whole.enough) in
+      let test : (s == form.strips) ≡ true = grind (arith, nat_tests, all) in
+      let last : before_strip form p s ≡ before_page (p + 1) = rw test refl in
+      record {
+        noted = so_far.noted;
+        notes_are = so_far.notes_are;
+        few = few;
+        is = rw (total, last) at so_far.is;
+      }
+
+  -- the page's rows end at a fault, after so many rows of a strip
+  fault_after : form.rows ≤ most_rows → (s rows : ℕ) (cause : Cause) (old new : List Note) → s < form.strips → s * n + rows < form.rows
+      → Checks s old new → IsCheckedTo file (before_strip form p s) [] rows (Fault p (s * n + rows) cause)
+      → Rest old new (record { rows = s * n + rows; fault = Some cause })
+  fault_after few s rows cause old new due inside so_far is =
+      let total : min (s * n) form.rows + rows ≡ s * n + rows = omega (arith, inside) in
+      let all =
+      checked_to file (before_strip form p 0) (before_strip form p s) so_far.noted [] (min (s * n) form.rows) rows
+      (Fault p (s * n + rows) cause) so_far.is is in
+      record {
+        noted = so_far.noted;
+        notes_are = so_far.notes_are;
+        few = omega (arith, few, inside);
+        is = rw (append-nil so_far.noted, total) at all;
+      }
 
   -- a strip does not lie in the file
-  pub strip_outside : (s : ℕ) (old new : List Note) → s < form.strips → AreStripsChecked directory form p s old new
-      → bytes_of directory s ≡ None
-      → AreAllBehind directory form p old new (record { rows = s * in_strip; fault = Some (File StripOutside) })
-  strip_outside s old new due (noted, new_is, so_far) none = (
-    noted,
-    new_is,
-    record {
-      lists = so_far.before;
-      strips = strips_end s noted so_far (Some (File StripOutside)) (inr (due, none, refl));
-      count = omega (arith, so_far.count, limits.needed s due);
-      found = so_far.found;
-      notes = notes_end s noted so_far (inr (due, inl none), refl);
-      whole = omega (arith, so_far.found_count, due);
-    },
-  )
+  pub strip_outside : form.rows ≤ most_rows → (s : ℕ) (old new : List Note) → s < form.strips → Checks s old new
+      → bytes_of directory s ≡ None → Rest old new (record { rows = s * n; fault = Some (File StripOutside) })
+  strip_outside few s old new due so_far none =
+      let number = in_strip n s 0 (s * n) whole.some_in_strip (omega arith) in
+      let end : End = Fault p (s * n) (File StripOutside) in
+      let zero : s * n + 0 ≡ s * n = omega arith in
+      let row : IsRow file (first_at p (s * n)) (Err end) =
+      row_at by_place file directory.endian directory.offset form p page whole (s * n) None None (Err end) (rw number.0 none)
+      (rw number.0 refl) in
+      let ends = ends_at file (record { next = strip_of p s; row = first_at p (s * n) }) end (noted_on s (Err end) (rw none refl)) row in
+      rw zero at
+      (fault_after few s 0 (File StripOutside) old new due (omega (arith, whole.needed s due)) so_far (rw (at_strip s due, zero) ends))
+
+  -- the rows of a strip end at a fault inside the page
+  inside_page : (s : ℕ) (bytes : List ℕ) (rows : List (List Colour)) (fault : StripFault) → s < form.strips
+      → IsStrip (strip_form form s) (bits form.order bytes) rows (Some fault) → s * n + length rows < form.rows
+  inside_page s bytes rows fault due strip =
+      omega (arith, whole.needed s due, strip_count (strip_form form s) (bits form.order bytes) rows (Some fault) strip)
 
   -- a row of a strip cannot be read
-  strip_refused : (s : ℕ) (old new : List Note) (bytes : List ℕ) (row : ℕ) (rows : List (List Colour)) (fault : StripFault)
-      → s < form.strips
-      → AreStripsChecked directory form p s old new → bytes_of directory s ≡ Some bytes → length rows ≡ row
+  strip_refused : form.rows ≤ most_rows → (s : ℕ) (old new : List Note) (bytes : List ℕ) (rows : List (List Colour)) (fault : StripFault)
+      → s < form.strips → Checks s old new → bytes_of directory s ≡ Some bytes
       → IsStrip (strip_form form s) (bits form.order bytes) rows (Some fault)
-      → AreAllBehind directory form p old new (record { rows = s * in_strip + row; fault = Some (Strip fault) })
-  strip_refused s old new bytes row rows fault due (noted, new_is, so_far) there row_is strip = (
-    noted,
-    new_is,
-    record {
-      lists = so_far.before ++ rows ∷ [];
-      strips = so_far.strips (rows ∷ []) (Some (Strip fault)) (due, bytes, Some fault, there, strip, inr (fault, refl, refl, refl));
-      count = omega (arith, so_far.count, limits.needed s due, joined-push so_far.before rows, row_is);
-      found = so_far.found;
-      notes = notes_end s noted so_far (inr (due, inr (bytes, rows, fault, there, strip)), refl);
-      whole = omega (arith, so_far.found_count, due);
-    },
-  )
+      → Rest old new (record { rows = s * n + length rows; fault = Some (Strip fault) })
+  strip_refused few s old new bytes rows fault due so_far there strip =
+      let end : End = Fault p (s * n + length rows) (Strip fault) in
+      let read =
+      strip_rows by_place file directory.endian directory.offset form p page whole s (whole.needed s due) bytes there rows (Some fault)
+      strip in
+      fault_after few s (length rows) (Strip fault) old new due (inside_page s bytes rows fault due strip) so_far
+      (rw (at_strip s due) (record {
+        found = [];
+        are = noted_on s (Err end) (rw there (rows, fault, strip, refl));
+        notes_are = refl;
+        items = read.items;
+        are_rows = ended_at (IsRow file) (first_at p (s * n)) read.to read.items end read.lead read.there;
+        count = sym (walked_length file (first_at p (s * n)) (s * n) (shown form rows) _ read ∙ shown_length form rows);
+      }))
 
   -- the same where the strip has no notes
-  pub row_inside : (s : ℕ) (b : List ℕ) (fault : NotesFault) → form.rows ≤ 1000000 → s < form.strips
-      → IsNotesFault (strip_form form s) (bits form.order b) fault → IsRowInside (s * in_strip) fault
+  pub row_inside : (s : ℕ) (b : List ℕ) (fault : NotesFault) → form.rows ≤ most_rows → s < form.strips
+      → IsNotesFault (strip_form form s) (bits form.order b) fault → IsRowInside (s * n) fault
   row_inside s b Memory few due refused = tt
-  row_inside s b (RowOfStrip row fault) few due (rows, row_is, strip) = omega (arith, row_is, few, fault_inside s b rows fault due strip)
+  row_inside s b (RowOfStrip row fault) few due (rows, row_is, strip) = omega (arith, row_is, few, inside_page s b rows fault due strip)
 
-  pub strip_fault : (s : ℕ) (old new : List Note) (b : List ℕ) (fault : NotesFault) (read : PageRead) → s < form.strips
-      → AreStripsChecked directory form p s old new → bytes_of directory s ≡ Some b
-      → IsNotesFault (strip_form form s) (bits form.order b) fault → IsReadTo (s * in_strip) fault read
-      → AreAllBehind directory form p old new read
-  strip_fault s old new b Memory read due checked there refused none = absurd none
-  strip_fault s old new b (RowOfStrip row fault) read due checked there (rows, row_is, strip) read_is =
-      subst (λ r. AreAllBehind directory form p old new r) (sym read_is)
-      (strip_refused s old new b row rows fault due checked there row_is strip)
+  pub strip_fault : form.rows ≤ most_rows → (s : ℕ) (old new : List Note) (b : List ℕ) (fault : NotesFault) (read : PageRead)
+      → s < form.strips → Checks s old new → bytes_of directory s ≡ Some b
+      → IsNotesFault (strip_form form s) (bits form.order b) fault → IsReadTo (s * n) fault read → Rest old new read
+  strip_fault few s old new b Memory read due so_far there refused none = absurd none
+  strip_fault few s old new b (RowOfStrip row fault) read due so_far there (rows, row_is, strip) read_is =
+      rw (read_is, ← row_is) (strip_refused few s old new b rows fault due so_far there strip)

@@ -104,7 +104,7 @@ module _ (file : List ℕ) where
       under (Err fault) e = absurd cc
       under (Ok head) (offsets, fault, chain, e) = (offsets, fault, chain, over head offsets fault (slice_get offsets at.page) e)
 
-  whole_page : FormsAreWhole → (at : Cursor) (here : FilePage) → IsPageAt file at (Ok here) → IsWholeForm here.form
+  pub whole_page : FormsAreWhole → (at : Cursor) (here : FilePage) → IsPageAt file at (Ok here) → IsWholeForm here.form
   whole_page forms at here is = under (header file) is
     where
       answered : (endian : Endian) (q : ℕ) (answer : Result PageForm FileFault) → page endian file q ≡ answer

@@ -25,9 +25,9 @@ use Rattle.fax_walk.specs.code.Opening.{page_with}
 use Rattle.fax_walk.specs.code.Stages.{GivesNone, GivesRow, IsOpen, IsOpenedAt, PageState, item_of, place_of, row_of, skipped}
 use Rattle.fax_walk.specs.declared.end.WalkFault.{WalkFault}
 use Rattle.fax_walk.specs.declared.end.WalkFault.TheVariants.{Memory as NoMemory, AtRow, CursorOutside}
-use Rattle.fax_walk.specs.code.Walk.{AreLast, IsAdvance, answer_of, GoesOnFrom, HasCome, HasEndedOn, HasReadTo, IsAfterItem, IsEntered, IsOpenOrNone, IsOpenedFirst}
+use Rattle.fax_walk.specs.code.Walk.{IsAdvance, answer_of, GoesOnFrom, HasCome, HasEndedOn, HasReadTo, IsAfterItem, IsEntered, IsOpenOrNone, IsOpenedFirst}
 use Rattle.fax_walk.specs.code.Walk.{IsReadNext, IsShown, IsSound, ShowsLast, StandsAt}
-use Rattle.fax_walk.proofs.InOrderLemmas.{IsListed, joined, leads_over, number_dropped}
+use Rattle.fax_walk.proofs.InOrderLemmas.{IsListed, joined, leads_both, number_dropped}
 use Rattle.fax_walk.proofs.OpenPageLemmas.{at_end}
 use Rattle.fax_walk.proofs.RowLawLemmas.{LinesAreRead, cases_after, rows_listed}
 use Rattle.fax_walk.proofs.TailLawLemmas.{any_row}
@@ -159,7 +159,7 @@ module _ (by_place : AreBitsByPlace) (lines_read : LinesAreRead) (chains : Files
     all = come.items ++ gives.items
 
     lead : LeadTo (IsRow file) come.first all (place_of new)
-    lead = leads_over (IsRow file) come.first (place_of old) (place_of new) come.items gives.items come.lead
+    lead = leads_both (IsRow file) come.first (place_of old) come.items gives.items (place_of new) come.lead
         (subst (λ (f : List ℕ). LeadTo (IsRow f) (place_of old) gives.items (place_of new)) reads.file_is gives.lead)
 
     front_count : length (come.items ++ gives.front) ≡ come.dropped + given
@@ -250,7 +250,7 @@ module _ (file : List ℕ) (begun : Begun) (given : ℕ) (cursor : Cursor) (old 
   left = omega (arith, none.skips.rows, none.skips.few, none.skips.same.first)
 
   ended_lead : LeadTo (IsRow file) come_so_far.first (come_so_far.items ++ items) (place_of new)
-  ended_lead = leads_over (IsRow file) come_so_far.first (place_of old) (place_of new) come_so_far.items items come_so_far.lead
+  ended_lead = leads_both (IsRow file) come_so_far.first (place_of old) come_so_far.items items (place_of new) come_so_far.lead
       (subst (λ (f : List ℕ). LeadTo (IsRow f) (place_of old) items (place_of new)) reads.file_is none.skips.lead)
 
   no_items : (is : List Item) → length is ≡ 0 → LeadTo (IsRow old.directory.file) (place_of old) is (place_of new) → place_of new ≡ place_of old
@@ -345,8 +345,8 @@ module _ (walk : WalkView) (cursor : Cursor) (page : Option PageState) where
       ⊎ ((at : PageState) × (page ≡ Some at) × IsAfterItem file begun walk.given cursor (place_of at))
   stands_on None None sound = inl sound.0
   stands_on None (Some end) sound = inl (sound.0, sound.1)
-  stands_on (Some at) None sound = elim sound.0.1.stands [ | inl first ↦ inl first | inr last ↦ inr (at, refl, last) ]
-  stands_on (Some at) (Some end) sound = elim sound.0.stands [ | inl first ↦ inl first | inr last ↦ inr (at, refl, last) ]
+  stands_on (Some at) None sound = elim sound.0.1.stands [ inl first ↦ inl first | inr last ↦ inr (at, refl, last) ]
+  stands_on (Some at) (Some end) sound = elim sound.0.stands [ inl first ↦ inl first | inr last ↦ inr (at, refl, last) ]
 
   pub cursor_is : Sound walk.told → IsCursorOf walk cursor
   cursor_is sound = elim (stands_on page walk.told sound) [
@@ -432,12 +432,6 @@ module _ (walk : WalkView) (cursor : Cursor) (page : Option PageState) where
 
   pub none_are_read : BeginningsHaveOneTail → page ≡ None → Sound walk.told → AreRead walk 0
   none_are_read tails page_is sound = none_read tails walk.told refl (rw page_is at sound)
-
-  -- the row that was handed out last
-  pub row_is : (at : PageState) → page ≡ Some at → walk.told ≡ None → Sound walk.told → AreLast walk at.shown
-  row_is at page_is untold sound =
-      let shown = (rw (untold, page_is) at sound).1 in
-      (shown.last.before, shown.last.item, shown.last.count, shown.last.number, sym shown.pels)
 
   -- the rows have ended
   pub has_ended : (end : End) → HasEndedOn file begun walk.given cursor page end → HasToldNoOther walk.told end

@@ -1,113 +1,107 @@
 -- A written file has the rows and the forms of its pages.
-use Rattle.std.proofs.Common.{◌≡◌, ℕ, ◌+◌, ◌/◌, ◌%◌, ◌≤◌, inr, List, [], ◌∷◌, ◌++◌, length, drop, None, Result, Ok, Err, refl, sym, ap, ◌∙◌}
+use Rattle.std.proofs.Common.{◌≡◌, ℕ, ◌+◌, ◌*◌, List, [], ◌∷◌, ◌++◌, map, length, drop, None, Ok, Err, refl, sym, ap, ◌∙◌}
 use Rattle.std.proofs.Common.{subst, arith}
 use Rattle.std.specs.List.{AllZip}
 use Rattle.fax_bits.specs.declared.Colour.{Colour}
-use Rattle.fax_files.specs.declared.FileFault.{FileFault}
-use Rattle.fax_files.specs.declared.PageForm.{PageForm}
-use Rattle.fax_files.specs.declared.Endian.{Endian}
+use Rattle.fax_bits.specs.Laws.{AreBitsByPlace}
 use Rattle.fax_files.specs.declared.Endian.TheVariants.{Little}
 use Rattle.fax_files.specs.Numbers.{Header, header}
 use Rattle.fax_files.specs.Chain.{IsChain}
-use Rattle.fax_files.specs.Page.{page}
-use Rattle.fax_files.specs.PageRows.{AreStrips, ArePageRows, joined, shown}
+use Rattle.fax_files.specs.PageRows.{ArePageRows}
 use Rattle.fax_files.specs.Written.{WrittenPage, file_of}
-use Rattle.fax_files.specs.Laws.{IsWritable, AreWritable, IsReadAt, IsReadAs, WrittenFilesAreRead, WrittenRowsAreRead}
-use Rattle.fax_walk.specs.declared.end.End.{End}
-use Rattle.fax_walk.specs.declared.end.End.TheVariants.{Proper}
-use Rattle.fax_walk.specs.Items.{Item, numbered, ArePageItems, AreFromRow, AreFromPage, ArePagesItems, AreItemsUnder, AreItems}
+use Rattle.fax_files.specs.Laws.{IsWritable, AreWritable, IsReadAt, WrittenFilesAreRead, WrittenRowsAreRead, FormsAreWhole}
 use Rattle.fax_walk.specs.declared.cursor.Cursor.{Cursor}
+use Rattle.fax_walk.specs.declared.end.End.TheVariants.{Proper}
 use Rattle.fax_walk.specs.InOrder.{AreFrom}
-use Rattle.fax_walk.specs.Pages.{IsForm, AreForms, end_past_chain}
+use Rattle.fax_walk.specs.Pages.{IsPageAt, IsForm, end_past_chain}
+use Rattle.fax_walk.specs.Rows.{Item, first_at, IsRow}
+use Rattle.fax_walk.specs.WrittenLaws.{WalkedRow, walked, numbered, HoldsRows, rows_of, forms_of, WrittenFilesAreWalked}
+use Rattle.fax_walk.proofs.InOrderLemmas.{joined}
 use Rattle.fax_walk.proofs.PageLawLemmas.{no_page, some_page, next_dropped, proper_end}
-use Rattle.fax_walk.specs.Laws.{HoldsRows, items_of, forms_of, IsWalkedAs, WrittenFilesAreWalked}
+use Rattle.fax_walk.proofs.PageRowLemmas.{strips_from, map_both}
+use Rattle.fax_walk.proofs.StripRowLemmas.{AreRead}
 
--- the items of a page from its first row on, where no strip has a fault
-page_part : (endian : Endian) (file : List ℕ) (q : ℕ) (form : PageForm) (p : ℕ) (rows : List (List Colour)) → 1 ≤ form.rows_per_strip
-    → ArePageRows endian file q form rows None → ArePageItems endian file q form p 0 (numbered p 0 rows) None
-page_part endian file q form p rows some are =
-    let first : 0 ≡ 0 / form.rows_per_strip = omega arith in
-    let none : 0 ≡ 0 % form.rows_per_strip = omega arith in
-    let all = shown form (joined are.strips) in
-    record {
-      strips = are.strips;
-      end = None;
-      read = subst (λ (s : ℕ). AreStrips endian file q form s are.strips None) first are.read;
-      items_are = ap (numbered p 0) are.rows_are ∙ ap (λ (n : ℕ). numbered p 0 (drop n all)) none;
-      stop_is = refl;
-    }
+-- a page of this number ends the chain properly
+module _ (file : List ℕ) (head : Header) (is : header file ≡ Ok head) (offsets : List ℕ) (chain : IsChain head file offsets None) where
+  proper_after : (p : ℕ) → drop p offsets ≡ [] → p ≡ length offsets → IsPageAt file (record { page = p; row = 0 }) (Err Proper)
+  proper_after p e all =
+      let at : Cursor = record { page = p; row = 0 } in
+      let proper : end_past_chain (length offsets) None at ≡ Proper =
+      ap (λ (n : ℕ). end_past_chain n None at) (sym all) ∙ sym (proper_end p None) in
+      rw proper at (no_page file head is offsets None chain at e)
 
-module _ (law : WrittenRowsAreRead) (file : List ℕ) where
-  -- a page that is read as it was written, and what follows it
-  page_walked : (p q : ℕ) (written : WrittenPage) (rows : List (List Colour)) (behind : List Item → End → Type 0) (others : List Item)
-      → IsWritable written → IsReadAt file q written → HoldsRows written rows → behind others Proper
-      → AreFromPage Little file q p 0 behind (page Little file q) (numbered p 0 rows ++ others) Proper
-  page_walked p q written rows behind others writable read holds follows =
+-- rows that are handed out, and then the rows end properly
+pub record AreAllFrom (file : List ℕ) (p : ℕ) (rows : List WalkedRow) : Type 0 where
+  pub items : List Item
+  pub are : AreFrom (IsRow file) (first_at p 0) items Proper
+  pub rows_are : map walked items ≡ rows
+
+module _ (by_place : AreBitsByPlace) (wholes : FormsAreWhole) (law : WrittenRowsAreRead) (file : List ℕ) (head : Header)
+    (is : header file ≡ Ok head) (little : head.endian ≡ Little) (offsets : List ℕ) (chain : IsChain head file offsets None) where
+  -- the rows of a page that is read as it was written
+  page_read : (p q : ℕ) (later : List ℕ) (written : WrittenPage) (rows : List (List Colour)) → drop p offsets ≡ q ∷ later
+      → IsWritable written → IsReadAt file q written → HoldsRows written rows
+      → AreRead file (first_at p 0) 0 rows (λ to. to ≡ first_at (p + 1) 0)
+  page_read p q later written rows e writable read holds =
       let are : ArePageRows Little file q written.form rows None =
       subst (λ (l : List (List Colour)). ArePageRows Little file q written.form l None) (sym holds.2)
       (law file q written holds.0 writable read holds.1) in
-      let from : AreFromRow Little file q written.form p 0 behind (numbered p 0 rows ++ others) Proper =
+      let zero : 0 * written.form.rows_per_strip ≡ 0 = omega arith in
+      rw are.rows_are
+      (rw zero at
+      (strips_from by_place file Little q written.form p
+      (λ r. rw (little, read.form) at (some_page file head is offsets None chain (record { page = p; row = r }) q later e))
+      (wholes Little file q written.form read.form) are.strips 0 (omega (arith, writable.limits.some_rows)) are.read))
+
+  pages_read : (later : List ℕ) (p : ℕ) (pages : List WrittenPage) (rows : List (List (List Colour))) → drop p offsets ≡ later
+      → p + length later ≡ length offsets → AreWritable pages → AllZip (IsReadAt file) later pages → AllZip HoldsRows pages rows
+      → AreAllFrom file p (rows_of p rows)
+  pages_read [] p [] [] e count writable read holds = record {
+    items = [];
+    are = (Err Proper, proper_after file head is offsets chain p e (omega (arith, count)), refl);
+    rows_are = refl;
+  }
+  pages_read [] p [] (first ∷ rows) e count writable read holds = absurd holds
+  pages_read [] p (written ∷ pages) rows e count writable read holds = absurd read
+  pages_read (q ∷ later) p [] rows e count writable read holds = absurd read
+  pages_read (q ∷ later) p (written ∷ pages) [] e count writable read holds = absurd holds
+  pages_read (q ∷ later) p (written ∷ pages) (first ∷ rows) e count writable read holds =
+      let here = page_read p q later written first e writable.0 read.0 holds.0 in
+      let more =
+      pages_read later (p + 1) pages rows (next_dropped p offsets q later e) (omega (arith, count)) writable.1 read.1 holds.1 in
       record {
-        own = numbered p 0 rows;
-        others = others;
-        stop = None;
-        part = page_part Little file q written.form p rows writable.limits.some_rows_per_strip are;
-        items_are = refl;
-        follows = follows;
-      } in
-      subst (λ (answer : Result PageForm FileFault). AreFromPage Little file q p 0 behind answer (numbered p 0 rows ++ others) Proper)
-      (sym read.form)
-      (inr (inr (writable.limits.some_rows, from)))
+        items = here.items ++ more.items;
+        are = joined (IsRow file) (first_at p 0) here.to here.items more.items Proper here.lead (rw here.there more.are);
+        rows_are =
+            map_both walked here.items more.items ∙ ap (λ (l : List WalkedRow). l ++ map walked more.items) here.rows_are
+            ∙ ap (λ (l : List WalkedRow). numbered p 0 first ++ l) more.rows_are;
+      }
 
-  pages_walked : (p : ℕ) (offsets : List ℕ) (pages : List WrittenPage) (rows : List (List (List Colour))) → AreWritable pages
-      → AllZip (IsReadAt file) offsets pages → AllZip HoldsRows pages rows
-      → ArePagesItems Little file None p offsets (items_of p rows) Proper
-  pages_walked p [] [] [] writable read holds = (refl, refl)
-  pages_walked p [] [] (first ∷ rows) writable read holds = absurd holds
-  pages_walked p [] (written ∷ pages) rows writable read holds = absurd read
-  pages_walked p (q ∷ offsets) [] rows writable read holds = absurd read
-  pages_walked p (q ∷ offsets) (written ∷ pages) [] writable read holds = absurd holds
-  pages_walked p (q ∷ offsets) (written ∷ pages) (first ∷ rows) writable read holds =
-      page_walked p q written first (ArePagesItems Little file None (p + 1) offsets) (items_of (p + 1) rows) writable.0 read.0 holds.0
-      (pages_walked (p + 1) offsets pages rows writable.1 read.1 holds.1)
-
-  forms_read : (head : Header) → header file ≡ Ok head → head.endian ≡ Little → (offsets : List ℕ) → IsChain head file offsets None
-      → (later : List ℕ) (p : ℕ)
-      → drop p offsets ≡ later → p + length later ≡ length offsets → (pages : List WrittenPage) → AllZip (IsReadAt file) later pages
-      → AreFrom (IsForm file) p (forms_of p pages) Proper
-  forms_read head is little offsets chain [] p e count [] read =
-      let at : Cursor = record { page = p; row = 0 } in
-      let all : p ≡ length offsets = omega (arith, count) in
-      let proper : end_past_chain (length offsets) None at ≡ Proper =
-      ap (λ (n : ℕ). end_past_chain n None at) (sym all) ∙ sym (proper_end p None) in
-      (Err Proper, rw proper at (no_page file head is offsets None chain at e), refl)
-  forms_read head is little offsets chain [] p e count (written ∷ pages) read = absurd read
-  forms_read head is little offsets chain (q ∷ later) p e count [] read = absurd read
-  forms_read head is little offsets chain (q ∷ later) p e count (written ∷ pages) read =
+  forms_read : (later : List ℕ) (p : ℕ) (pages : List WrittenPage) → drop p offsets ≡ later → p + length later ≡ length offsets
+      → AllZip (IsReadAt file) later pages → AreFrom (IsForm file) p (forms_of p pages) Proper
+  forms_read [] p [] e count read = (Err Proper, proper_after file head is offsets chain p e (omega (arith, count)), refl)
+  forms_read [] p (written ∷ pages) e count read = absurd read
+  forms_read (q ∷ later) p [] e count read = absurd read
+  forms_read (q ∷ later) p (written ∷ pages) e count read =
       let here = some_page file head is offsets None chain (record { page = p; row = 0 }) q later e in (
         p + 1,
         (Ok (record { endian = Little; offset = q; form = written.form }), rw (little, read.0.form) at here, refl),
-        forms_read head is little offsets chain later (p + 1) (next_dropped p offsets q later e) (omega (arith, count)) pages read.1,
+        forms_read later (p + 1) pages (next_dropped p offsets q later e) (omega (arith, count)) read.1,
       )
 
-  module _ (pages : List WrittenPage) (rows : List (List (List Colour))) (writable : AreWritable pages)
-      (holds : AllZip HoldsRows pages rows)
-      (read : IsReadAs file pages) where
-    all_items : AreItems file (items_of 0 rows) Proper
-    all_items =
-        let here : ArePagesItems read.head.endian file None 0 read.offsets (items_of 0 rows) Proper =
-        subst (λ (e : Endian). ArePagesItems e file None 0 read.offsets (items_of 0 rows) Proper) (sym read.little)
-        (pages_walked 0 read.offsets pages rows writable read.read holds) in
-        subst (λ (answer : Result Header FileFault). AreItemsUnder file answer (items_of 0 rows) Proper) (sym read.head_is)
-        (read.offsets, None, read.chain, here)
-
-    all_forms : AreForms file (forms_of 0 pages) Proper
-    all_forms = forms_read read.head read.head_is read.little read.offsets read.chain read.offsets 0 refl (omega arith) pages read.read
-
-    walked : IsWalkedAs file pages rows
-    walked = record { items = all_items; forms = all_forms }
-
 -- the law of written files
-pub written_files_are_walked : WrittenFilesAreRead → WrittenRowsAreRead → WrittenFilesAreWalked
-written_files_are_walked files rows_law pages rows some few writable holds short =
-    walked rows_law (file_of pages) pages rows writable holds (files pages some few writable short)
+pub written_files_are_walked : AreBitsByPlace → FormsAreWhole → WrittenFilesAreRead → WrittenRowsAreRead → WrittenFilesAreWalked
+written_files_are_walked by_place wholes files law pages rows some few writable holds short =
+    let file = file_of pages in
+    let read = files pages some few writable short in
+    let all =
+    pages_read by_place wholes law file read.head read.head_is read.little read.offsets read.chain read.offsets 0 pages rows refl
+    (omega arith) writable read.read holds in
+    record {
+      items = all.items;
+      are = all.are;
+      rows_are = all.rows_are;
+      forms =
+          forms_read by_place wholes law file read.head read.head_is read.little read.offsets read.chain read.offsets 0 pages refl
+          (omega arith) read.read;
+    }

@@ -20,8 +20,8 @@ use Rattle.fax_walk.specs.declared.options.ConvertFault.{ConvertFault}
 use Rattle.fax_walk.specs.declared.options.ConvertFault.TheVariants.{UnknownInput, Pbm as PbmSource}
 use Rattle.fax_walk.specs.declared.options.ConvertFault.TheVariants.{Source, OutputTooLarge}
 use Rattle.fax_walk.specs.declared.end.End.TheVariants.{Proper, Fault}
-use Rattle.fax_walk.specs.Items.{Item, AreItems}
 use Rattle.fax_walk.specs.Pages.{FormItem, AreForms}
+use Rattle.fax_walk.specs.Rows.{Item, AreItems}
 
 -- a page to be converted: its image and its resolution (this project's profile)
 pub record SourcePage : Type 0 where

@@ -1,20 +1,18 @@
 -- What is reported of a file that is checked.
-use Rattle.std.specs.Prelude.{◌≡◌, ℕ, ◌+◌, ◌<◌, ◌⊎◌, Bool, not, if◌then◌else◌, List, [], ◌∷◌, ◌++◌}
-use Rattle.std.specs.Prelude.{length, Option, Some, None, Result, Ok, Err}
+use Rattle.std.specs.Prelude.{◌≡◌, ℕ, ◌+◌, ◌*◌, ◌==◌, Bool, not, if◌then◌else◌, List, [], ◌∷◌, ◌++◌}
+use Rattle.std.specs.Prelude.{length, flat_map, Option, Some, None, Result, Ok, Err}
 use Rattle.fax_bits.specs.declared.Colour.{Colour}
 use Rattle.fax_bits.specs.Bits.{bits}
 use Rattle.fax_page.specs.declared.StripFault.{StripFault}
 use Rattle.fax_page.specs.declared.notes.StripNotes.{StripNotes}
 use Rattle.fax_page.specs.Strip.{IsStrip}
 use Rattle.fax_page.specs.Notes.{IsNotedAs}
-use Rattle.fax_files.specs.declared.FileFault.{FileFault}
+use Rattle.fax_files.specs.declared.FileFault.TheVariants.{StripOutside}
 use Rattle.fax_files.specs.declared.Cause.{Cause}
+use Rattle.fax_files.specs.declared.Cause.TheVariants.{File, Strip}
 use Rattle.fax_files.specs.declared.PageForm.{PageForm}
 use Rattle.fax_files.specs.declared.Endian.{Endian}
-use Rattle.fax_files.specs.Numbers.{Header, header}
 use Rattle.fax_files.specs.Directory.{entries, ascend}
-use Rattle.fax_files.specs.Chain.{IsChain}
-use Rattle.fax_files.specs.Page.{page}
 use Rattle.fax_files.specs.PageRows.{strip_form}
 use Rattle.fax_files.specs.StripBytes.{strip_bytes}
 use Rattle.fax_walk.specs.declared.checking.Note.{Note}
@@ -26,7 +24,9 @@ use Rattle.fax_walk.specs.declared.checking.Report.{Report}
 use Rattle.fax_walk.specs.declared.end.End.{End}
 use Rattle.fax_walk.specs.declared.end.End.TheVariants.{Proper, Fault, Outside}
 use Rattle.fax_walk.specs.declared.walk.Place.{Place}
-use Rattle.fax_walk.specs.Items.{Item, AreItems}
+use Rattle.fax_walk.specs.InOrder.{AreFrom}
+use Rattle.fax_walk.specs.Pages.{FilePage, IsPageAt, IsOnPage}
+use Rattle.fax_walk.specs.Rows.{Item, AreItems}
 
 -- a note where its test holds (this project's profile)
 abbrev pub note_if : Bool → ℕ → Option ℕ → NoteKind → List Note
@@ -45,77 +45,63 @@ abbrev pub note_on_entries : Endian → List ℕ → ℕ → ℕ → List Note
 note_on_entries endian file q p =
     note_if (not (ascend (entries endian file q))) p None EntriesOutOfOrder
 
--- strip s of a page is not whole: it does not lie in the file, or a row of it cannot be read
+-- what is checked: a page's directory, where no strip is named, or a strip of the page, both from 0
 -- (this project's profile)
-abbrev pub IsStripRefused : Endian → List ℕ → ℕ → PageForm → ℕ → Type 0
-IsStripRefused endian file q form s =
-    (strip_bytes endian file q s ≡ None)
-    ⊎ ((bytes : List ℕ) × (rows : List (List Colour)) × (fault : StripFault)
-    × (strip_bytes endian file q s ≡ Some bytes)
-    × IsStrip (strip_form form s) (bits form.order bytes) rows (Some fault))
+pub record Checked : Type 0 where
+  pub page : ℕ
+  pub strip : Option ℕ
 
--- strip s of a page is whole, and these are its notes (this project's profile)
-abbrev pub IsStripNoted : Endian → List ℕ → ℕ → PageForm → ℕ → StripNotes → Type 0
-IsStripNoted endian file q form s found =
-    (bytes : List ℕ) × (rows : List (List Colour)) × (strip_bytes endian file q s ≡ Some bytes)
-    × IsNotedAs (strip_form form s) (bits form.order bytes) rows found
+-- what is checked first of page p: its directory (this project's profile)
+abbrev pub directory_at : ℕ → Checked
+directory_at p = record { page = p; strip = None }
 
--- from strip s on the strips of page p are noted so, each found whole, up to its last one, or the
--- first that is not whole (this project's profile)
-abbrev pub AreStripsNoted : Endian → List ℕ → ℕ → PageForm → ℕ → ℕ → List StripNotes → List Note
+abbrev pub strip_of : ℕ → ℕ → Checked
+strip_of p s = record { page = p; strip = Some s }
+
+-- what is checked after strip s of page p: the page's next strip, or the page after it
+-- (this project's profile)
+abbrev pub after_strip : PageForm → ℕ → ℕ → Checked
+after_strip form p s = if s + 1 == form.strips then directory_at (p + 1) else strip_of p (s + 1)
+
+-- the notes on strip s of page p, with what the file has of it, and what is checked after it; or
+-- the end, where the strip is not whole (TIFF 6.0, StripOffsets; this project's profile)
+abbrev pub IsStripNoted : PageForm → ℕ → ℕ → Option (List ℕ) → Result (List Note × Checked) End
     → Type 0
-AreStripsNoted endian file q form p s [] notes =
-    ((s ≡ form.strips) ⊎ ((s < form.strips) × IsStripRefused endian file q form s)) × (notes ≡ [])
-AreStripsNoted endian file q form p s (found ∷ more) notes =
-    (s < form.strips) × IsStripNoted endian file q form s found
-    × (others : List Note) × (notes ≡ notes_on_strip p s found ++ others)
-    × AreStripsNoted endian file q form p (s + 1) more others
+IsStripNoted form p s None answer =
+    answer ≡ Err (Fault p (s * form.rows_per_strip) (File StripOutside))
+IsStripNoted form p s (Some bytes) (Ok (notes, to)) =
+    (rows : List (List Colour)) × (found : StripNotes)
+    × IsNotedAs (strip_form form s) (bits form.order bytes) rows found
+    × (notes ≡ notes_on_strip p s found) × (to ≡ after_strip form p s)
+IsStripNoted form p s (Some bytes) (Err end) =
+    (rows : List (List Colour)) × (fault : StripFault)
+    × IsStrip (strip_form form s) (bits form.order bytes) rows (Some fault)
+    × (end ≡ Fault p (s * form.rows_per_strip + length rows) (Strip fault))
 
--- The notes on page p, whose directory stands at q, and then those that the pages after it have;
--- where a strip of it is not whole, these are not looked at (this project's profile)
-pub record IsPageNoted (endian : Endian) (file : List ℕ) (q : ℕ) (form : PageForm) (p : ℕ)
-    (behind : List Note → Type 0) (notes : List Note) : Type 0 where
-  pub found : List StripNotes
-  pub own : List Note
-  pub others : List Note
-  pub strips : AreStripsNoted endian file q form p 0 found own
-  pub notes_are : notes ≡ note_on_entries endian file q p ++ own ++ others
-  pub follows : ((length found ≡ form.strips) × behind others)
-      ⊎ ((length found < form.strips) × (others ≡ []))
+-- the notes on a page's directory, or on a strip of the page (this project's profile)
+abbrev pub IsNotedOn : List ℕ → ℕ → Option ℕ → FilePage → Result (List Note × Checked) End → Type 0
+IsNotedOn file p None here answer =
+    answer ≡ Ok (note_on_entries here.endian file here.offset p, strip_of p 0)
+IsNotedOn file p (Some s) here answer =
+    IsStripNoted here.form p s (strip_bytes here.endian file here.offset s) answer
 
--- the same with the answer that the page's fields give: a page that is refused has none
--- (this project's profile)
-abbrev pub IsPageAnswerNoted : Endian → List ℕ → ℕ → ℕ → (List Note → Type 0)
-    → Result PageForm FileFault → List Note → Type 0
-IsPageAnswerNoted endian file q p behind (Err refused) notes = notes ≡ []
-IsPageAnswerNoted endian file q p behind (Ok form) notes =
-    IsPageNoted endian file q form p behind notes
+-- the notes on what is checked in a file, and what is checked after it, or the end; a page that is
+-- refused has none (this project's profile)
+abbrev pub IsNoted : List ℕ → Checked → Result (List Note × Checked) End → Type 0
+IsNoted file at =
+    IsOnPage file (record { page = at.page; row = 0 }) (IsNotedOn file at.page at.strip)
 
--- the notes on the pages from page p on, whose directories stand at these offsets
--- (this project's profile)
-abbrev pub ArePagesNoted : Endian → List ℕ → ℕ → List ℕ → List Note → Type 0
-ArePagesNoted endian file p [] notes = notes ≡ []
-ArePagesNoted endian file p (q ∷ offsets) notes =
-    IsPageAnswerNoted endian file q p (ArePagesNoted endian file (p + 1) offsets)
-    (page endian file q) notes
-
--- the notes on a file with this header's answer (this project's profile)
-abbrev pub AreNotesUnder : List ℕ → Result Header FileFault → List Note → Type 0
-AreNotesUnder file (Err fault) notes = notes ≡ []
-AreNotesUnder file (Ok head) notes =
-    (offsets : List ℕ) × (fault : Option FileFault) × IsChain head file offsets fault
-    × ArePagesNoted head.endian file 0 offsets notes
-
--- the notes on a file, up to its first fault (this project's profile)
-abbrev pub AreNotes : List ℕ → List Note → Type 0
-AreNotes file notes = AreNotesUnder file (header file) notes
+-- the notes on a file, and its end (this project's profile)
+pub record AreNotes (file : List ℕ) (notes : List Note) (end : End) : Type 0 where
+  pub found : List (List Note)
+  pub are : AreFrom (IsNoted file) (directory_at 0) found end
+  pub notes_are : notes ≡ flat_map (λ own. own) found
 
 -- a file of which the rows end so has so many pages that are read wholly, and this fault
 -- (this project's profile)
 abbrev pub IsReportedEnd : List ℕ → End → ℕ → Option (Place × Cause) → Type 0
 IsReportedEnd file Proper pages fault =
-    (head : Header) × (offsets : List ℕ) × (header file ≡ Ok head) × IsChain head file offsets None
-    × (pages ≡ length offsets) × (fault ≡ None)
+    IsPageAt file (record { page = pages; row = 0 }) (Err Proper) × (fault ≡ None)
 IsReportedEnd file (Fault p r cause) pages fault =
     (pages ≡ p) × (fault ≡ Some (record { page = p; row = r }, cause))
 IsReportedEnd file Outside pages fault = ⊥
@@ -128,4 +114,4 @@ pub record IsReport (file : List ℕ) (report : Report) : Type 0 where
   pub read : AreItems file items end
   pub rows_are : report.rows ≡ length items
   pub end_is : IsReportedEnd file end report.pages report.fault
-  pub notes_are : AreNotes file report.notes.items
+  pub notes_are : AreNotes file report.notes.items end

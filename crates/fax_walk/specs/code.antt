@@ -3,7 +3,6 @@ pub mod Opening
 pub mod Stages
 pub mod Walk
 pub mod Lent
-pub mod Bridge
 pub mod LongText
 pub mod Pages
 pub mod Conversion

@@ -14,7 +14,8 @@ pub enum Begun {
 
 impl Begun {
     ghost use Rattle.std.specs.Prelude.{◌≡◌, IfOk};
-    ghost use Rattle.fax_walk.specs.LongTail.{begins_at, begins_inside};
+    ghost use Rattle.fax_walk.specs.Left.{begins_inside};
+    ghost use Rattle.fax_walk.specs.Rows.{begins_at};
 
     /// The cursor of what it begins with.
     pub(crate) fn cursor(&self) -> Cursor

@@ -1,5 +1,5 @@
 //! A file that is read wholly for what is worth a note in it.
-ghost use Rattle.std.specs.Prelude.{◌≡◌, ◌++◌, List, IfOk, OnOk, Ok};
+ghost use Rattle.std.specs.Prelude.{◌≡◌, ◌++◌, IfOk, OnOk, Ok};
 ghost use Rattle.fax_files.specs.Numbers.{header};
 ghost use Rattle.fax_files.specs.Page.{IsPageForm};
 ghost use Rattle.fax_files.specs.code.Tiff.{form_of};
@@ -171,10 +171,11 @@ fn check_strips(
 ) -> Result<PageRead, Memory>
     requires form { form_of directory.now ≡ Ok form.now }
     requires limits { IsPageForm form.now }
-    ensures { IfOk result (λ read. (noted : List Note)
-        × (notes.new.items ≡ notes.old.items ++ noted)
-        × Code.AreAllStripsChecked directory.now form.now page noted read) }
+    requires here { Code.IsDirectoryOfPage directory.now page }
+    ensures { IfOk result (Code.IsRestChecked directory.now.file (Code.before_strip form.now page 0)
+        page notes.old.items notes.new.items) }
 {
+    fax_bits::laws::bits_stand_by_place();
     fax_files::laws::forms_are_whole();
     let strips = directory.strips(form);
     for s in 0..form.strips {
@@ -206,8 +207,9 @@ fn check_page(
     directory: &Directory,
     notes: &mut Vec<Note>,
 ) -> Result<PageRead, Memory>
-    ensures { IfOk result
-        (Code.IsPageChecked directory.now page notes.old.items notes.new.items) }
+    requires { Code.IsDirectoryOfPage directory.now page }
+    ensures { IfOk result (Code.IsRestChecked directory.now.file (Code.before_page page) page
+        notes.old.items notes.new.items) }
 {
     fax_files::laws::forms_are_whole();
     let form = match directory.page() {

@@ -1,10 +1,7 @@
 //! A file of pages turned into another: raw PBM or TIFF, into either of them.
-ghost use Rattle.std.specs.Prelude.{◌≡◌, ◌≢◌, IfOk, IfErr, OnOk, List};
-ghost use Rattle.fax_walk.specs.declared.end.End.{End};
-ghost use Rattle.fax_walk.specs.Items.{Item};
+ghost use Rattle.std.specs.Prelude.{◌≡◌, ◌≢◌, IfOk, IfErr, OnOk};
 ghost use Rattle.fax_walk.specs.Converted as Spec;
 ghost use Rattle.fax_walk.specs.code.Conversion as Code;
-ghost use Rattle.fax_walk.specs.code.Bridge.{IsDue};
 ghost use Rattle.fax_walk.specs.code.Output.{image_sheet};
 ghost use Rattle.fax_walk.specs.code.Sources as Reads;
 
@@ -93,7 +90,6 @@ fn count_pages(file: &[u8]) -> u64
     ensures { Reads.IsPageCount file.now result }
 {
     crate::laws::form_tails_are_one();
-    crate::laws::pages_go_on();
     let mut pages = Pages::start(file);
     let mut count = 0;
     loop {
@@ -107,21 +103,22 @@ fn count_pages(file: &[u8]) -> u64
 
 /// Reads the rows of a page and puts them.
 fn convert_rows(walk: &mut Walk, sheet: &Sheet, output: &mut Output) -> Result<(), ConvertFault>
-    requires due { (items : List Item) (end : End) → IsDue walk.old items end
-        → Reads.BeginsWithPage sheet.now.width sheet.now.rows items end }
+    requires due { Reads.IsBeforePage walk.old sheet.now.width sheet.now.rows }
     requires begun { Reads.HasBegun output.old sheet.now }
     ensures ok { OnOk result
-        (Reads.ConvertsRows walk.old output.old sheet.now walk.new output.new) }
+        ((due : Reads.IsBeforePage walk.old sheet.now.width sheet.now.rows)
+        → Reads.ConvertsRows walk.old output.old sheet.now walk.new output.new due) }
     ensures err { IfErr result (λ fault. fault ≢ ConvertFault.Memory
-        → Reads.EndsWith walk.old fault) }
+        → Reads.EndsWith walk.old.file fault) }
 {
+    fax_bits::laws::bits_stand_by_place();
+    fax_page::laws::lines_are_read_in_one_way();
+    fax_files::laws::files_have_one_chain();
+    crate::laws::tails_go_on();
     for _ in 0..sheet.rows {
-        match walk.advance() {
-            Ok(true) => {
-                walk.has_items();
-                output.put_row(walk.row())?;
-            }
-            Ok(false) => unreachable!(),
+        match walk.next_row() {
+            Ok(Some((_, row))) => output.put_row(row)?,
+            Ok(None) => unreachable!(),
             Err(fault) => return Err(source_fault(fault)),
         }
     }
@@ -135,24 +132,22 @@ fn convert_file(alloc: Global, file: &[u8], options: &Options) -> Result<Vec<u8>
     ensures err { IfErr result (λ fault. fault ≢ ConvertFault.Memory
         → Spec.IsRefused file.now options.now fault) }
 {
-    crate::laws::tail_of_start();
-    crate::laws::form_tails_are_one();
-    crate::laws::pages_go_on();
+    fax_bits::laws::bits_stand_by_place();
+    fax_page::laws::lines_are_read_in_one_way();
     fax_files::laws::files_have_one_chain();
     fax_files::laws::forms_are_whole();
+    crate::laws::form_tails_are_one();
     let count = count_pages(file);
     // A file without a page is refused where its first one is due.
     let mut output = Output::new(alloc, options, count.max(1))?;
     let mut walk = Walk::start(alloc, file);
     let mut pages = Pages::start(file);
     loop {
-        walk.has_items();
         let form = match pages.next_page() {
             Ok(Some((_, form))) => form,
             Ok(None) => return output.finish(),
             Err(fault) => return Err(source_fault(fault)),
         };
-        pages.has_forms();
         let sheet = Sheet::of_form(&form);
         output.begin(alloc, options, &sheet)?;
         convert_rows(&mut walk, &sheet, &mut output)?;

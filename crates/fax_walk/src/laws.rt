@@ -8,6 +8,7 @@ ghost use Rattle.fax_walk.specs.LongLaws as LongLaws;
 ghost use Rattle.fax_walk.specs.PageLaws as PageLaws;
 ghost use Rattle.fax_walk.specs.Left.{IsLeft};
 ghost use Rattle.fax_walk.specs.Rows.{Item};
+ghost use Rattle.fax_walk.specs.WrittenLaws as WrittenLaws;
 ghost use Rattle.fax_walk.specs.declared.end.End.{End};
 
 use crate::{Pages, Walk};
@@ -140,8 +141,10 @@ pub fn items_have_one_place()
 /// A written file has the rows and the forms of its pages, in their order, and a proper end
 /// (TIFF 6.0).
 pub fn written_files_are_walked()
-    ensures { Laws.WrittenFilesAreWalked }
+    ensures { WrittenLaws.WrittenFilesAreWalked }
 {
+    fax_bits::laws::bits_stand_by_place();
+    fax_files::laws::forms_are_whole();
     fax_files::laws::written_files_are_read();
     fax_files::laws::written_rows_are_read();
 }
@@ -149,7 +152,7 @@ pub fn written_files_are_walked()
 /// A file of coded strips has the rows and the forms of the pages that it was written of, in any
 /// coding and either fill order, for any k and strip height (TIFF 6.0).
 pub fn coded_files_are_walked()
-    ensures { Laws.CodedFilesAreWalked }
+    ensures { WrittenLaws.CodedFilesAreWalked }
 {
     fax_page::laws::coded_strips_are_read_back();
     written_files_are_walked();

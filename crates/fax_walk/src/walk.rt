@@ -230,7 +230,7 @@ impl<'a> Walk<'a> {
     /// # Errors
     ///
     /// As `next_row`.
-    pub(crate) fn advance(&mut self) -> Result<bool, WalkFault>
+    fn advance(&mut self) -> Result<bool, WalkFault>
         ensures { Spec.IsAdvance self.old result self.new }
     {
         if let Some(end) = self.told {
@@ -247,17 +247,6 @@ impl<'a> Walk<'a> {
                 self.told = Some(end);
                 answer_of(end)
             }
-        }
-    }
-
-    /// The row that `advance` went to.
-    pub(crate) fn row(&self) -> &Row
-        requires { Spec.IsOnRow self.now }
-        ensures { Spec.AreLast self.now result.now }
-    {
-        match &self.page {
-            Some(page) => page.row(),
-            None => unreachable!(),
         }
     }
 

@@ -1,60 +1,85 @@
 -- How far a file is checked.
-use Rattle.std.specs.Prelude.{◌≡◌, ℕ, ◌+◌, ◌*◌, ◌<◌, ◌≤◌, ◌⊎◌, ◌^◌, min, List, [], ◌++◌, length}
-use Rattle.std.specs.Prelude.{drop, Option, Some, None, Ok, Err, ⊤}
-use Rattle.fax_bits.specs.declared.Colour.{Colour}
+use Rattle.std.specs.Prelude.{◌≡◌, ℕ, ◌+◌, ◌*◌, ◌==◌, ◌<◌, ◌≤◌, ◌^◌, min, if◌then◌else◌, List, ◌++◌}
+use Rattle.std.specs.Prelude.{length, flat_map, Option, Some, None, ⊤}
 use Rattle.fax_page.specs.declared.notes.NotesFault.{NotesFault}
 use Rattle.fax_page.specs.declared.notes.NotesFault.TheVariants.{Memory, Strip}
-use Rattle.fax_page.specs.declared.notes.StripNotes.{StripNotes}
-use Rattle.fax_files.specs.declared.FileFault.{FileFault}
 use Rattle.fax_files.specs.declared.Cause.{Cause}
-use Rattle.fax_files.specs.declared.Cause.TheVariants.{File, Strip as FaultOfStrip}
+use Rattle.fax_files.specs.declared.Cause.TheVariants.{Strip as FaultOfStrip}
 use Rattle.fax_files.specs.declared.PageForm.{PageForm}
-use Rattle.fax_files.specs.Chain.{IsChain}
-use Rattle.fax_files.specs.PageRows.{AreStrips, joined}
-use Rattle.fax_files.specs.code.Tiff.{TiffFile, TiffDirectory, form_of}
+use Rattle.fax_files.specs.code.Tiff.{TiffDirectory, form_of}
 use Rattle.fax_walk.specs.declared.checking.Note.{Note}
 use Rattle.fax_walk.specs.declared.checking.PageRead.{PageRead}
 use Rattle.fax_walk.specs.declared.end.End.{End}
-use Rattle.fax_walk.specs.Items.{Item, stop_at, ArePageItems, ArePagesItems}
-use Rattle.fax_walk.specs.Report.{AreStripsNoted, ArePagesNoted, note_on_entries}
+use Rattle.fax_walk.specs.declared.end.End.TheVariants.{Fault}
+use Rattle.fax_walk.specs.InOrder.{AreFrom, LeadTo}
+use Rattle.fax_walk.specs.Pages.{IsPageAt, page_or_end}
+use Rattle.fax_walk.specs.Rows.{Item, Place, first_at, IsRow}
+use Rattle.fax_walk.specs.Report.{Checked, directory_at, strip_of, IsNoted}
 use Rattle.fax_walk.specs.code.Stages.{most_rows}
 
--- all of so many were found, or where there is a fault fewer
-abbrev pub IsFoundCount : {A : Type 0} → Option A → ℕ → ℕ → Type 0
-IsFoundCount None found all = found ≡ all
-IsFoundCount (Some fault) found all = found < all
+-- how far a file is checked: what is checked next, and the row that is due
+pub record CheckPlace : Type 0 where
+  pub next : Checked
+  pub row : Place
 
--- the strips of page p before strip s are whole and have these notes: whatever strips and notes
--- follow them
-pub record AreStripsBefore (directory : TiffDirectory) (form : PageForm) (p s : ℕ)
-    (noted : List Note) : Type 0 where
-  pub before : List (List (List Colour))
-  pub count : length (joined before) ≡ min (s * form.rows_per_strip) form.rows
-  pub found : List StripNotes
-  pub found_count : length found ≡ s
-  pub strips : (more : List (List (List Colour))) (end : Option Cause)
-      → AreStrips directory.endian directory.file directory.offset form s more end
-      → AreStrips directory.endian directory.file directory.offset form 0 (before ++ more) end
-  pub notes : (more : List StripNotes) (others : List Note)
-      → AreStripsNoted directory.endian directory.file directory.offset form p s more others
-      → AreStripsNoted directory.endian directory.file directory.offset form p 0 (found ++ more)
-      (noted ++ others)
+-- before page p
+abbrev pub before_page : ℕ → CheckPlace
+before_page p = record { next = directory_at p; row = first_at p 0 }
 
--- the same after the notes that there were
-abbrev pub AreStripsChecked : TiffDirectory → PageForm → ℕ → ℕ → List Note → List Note → Type 0
-AreStripsChecked directory form p s old new =
-    (noted : List Note) × (new ≡ old ++ noted) × AreStripsBefore directory form p s noted
+-- before strip s of page p; after the page's last strip before the next page
+abbrev pub before_strip : PageForm → ℕ → ℕ → CheckPlace
+before_strip form p s = record {
+  next = if s == form.strips then directory_at (p + 1) else strip_of p s;
+  row = if s == form.strips then first_at (p + 1) 0 else first_at p (s * form.rows_per_strip);
+}
 
--- the strips of page p were read up to its end, or up to a cause after so many rows, and have
--- these notes
-pub record AreAllStripsChecked (directory : TiffDirectory) (form : PageForm) (p : ℕ)
-    (noted : List Note) (read : PageRead) : Type 0 where
-  pub lists : List (List (List Colour))
-  pub strips : AreStrips directory.endian directory.file directory.offset form 0 lists read.fault
-  pub count : read.rows ≡ length (joined lists)
-  pub found : List StripNotes
-  pub notes : AreStripsNoted directory.endian directory.file directory.offset form p 0 found noted
-  pub whole : IsFoundCount read.fault (length found) form.strips
+-- from one place to another a file has these notes and so many rows
+pub record HasChecked (file : List ℕ) (from to : CheckPlace) (notes : List Note)
+    (rows : ℕ) : Type 0 where
+  pub found : List (List Note)
+  pub lead : LeadTo (IsNoted file) from.next found to.next
+  pub notes_are : notes ≡ flat_map (λ own. own) found
+  pub items : List Item
+  pub lead_rows : LeadTo (IsRow file) from.row items to.row
+  pub count : rows ≡ length items
+
+-- from a place on a file has these notes and so many rows, and then this end
+pub record IsCheckedTo (file : List ℕ) (from : CheckPlace) (notes : List Note) (rows : ℕ)
+    (end : End) : Type 0 where
+  pub found : List (List Note)
+  pub are : AreFrom (IsNoted file) from.next found end
+  pub notes_are : notes ≡ flat_map (λ own. own) found
+  pub items : List Item
+  pub are_rows : AreFrom (IsRow file) from.row items end
+  pub count : rows ≡ length items
+
+-- a directory is that of page p of its file
+abbrev pub IsDirectoryOfPage : TiffDirectory → ℕ → Type 0
+IsDirectoryOfPage directory p =
+    (r : ℕ) → IsPageAt directory.file (record { page = p; row = r })
+    (page_or_end directory.endian directory.offset p (form_of directory))
+
+-- the first strips of a page are whole: these notes were added, and so many rows are theirs
+pub record AreStripsChecked (directory : TiffDirectory) (form : PageForm) (p s : ℕ)
+    (old new : List Note) : Type 0 where
+  pub noted : List Note
+  pub notes_are : new ≡ old ++ noted
+  pub is : HasChecked directory.file (before_strip form p 0) (before_strip form p s) noted
+      (min (s * form.rows_per_strip) form.rows)
+
+-- from a place on the rest of page p has these notes, and was read wholly, or up to a fault
+abbrev pub IsReadFrom : List ℕ → CheckPlace → ℕ → List Note → ℕ → Option Cause → Type 0
+IsReadFrom file from p notes rows None = HasChecked file from (before_page (p + 1)) notes rows
+IsReadFrom file from p notes rows (Some cause) =
+    IsCheckedTo file from notes rows (Fault p rows cause)
+
+-- the rest of page p was read from a place on, and the notes on it were added
+pub record IsRestChecked (file : List ℕ) (from : CheckPlace) (p : ℕ) (old new : List Note)
+    (read : PageRead) : Type 0 where
+  pub noted : List Note
+  pub notes_are : new ≡ old ++ noted
+  pub few : read.rows ≤ most_rows
+  pub is : IsReadFrom file from p noted read.rows read.fault
 
 -- the row that cannot be read stands after so many rows of the page. Of want of memory nothing is
 -- said
@@ -68,55 +93,7 @@ IsReadTo before Memory read = ⊥
 IsReadTo before (Strip row fault) read =
     read ≡ record { rows = before + row; fault = Some (FaultOfStrip fault) }
 
--- page p has this form and these items, up to a stop, if not all are there, and these notes
-pub record IsFormChecked (directory : TiffDirectory) (form : PageForm) (p : ℕ) (own : List Item)
-    (noted : List Note) (stop : Option (ℕ × Cause)) : Type 0 where
-  pub form_is : form_of directory ≡ Ok form
-  pub some_rows : 0 < form.rows
-  pub items : ArePageItems directory.endian directory.file directory.offset form p 0 own stop
-  pub found : List StripNotes
-  pub on_strips : List Note
-  pub strips : AreStripsNoted directory.endian directory.file directory.offset form p 0 found
-      on_strips
-  pub noted_are : noted ≡ note_on_entries directory.endian directory.file directory.offset
-      p ++ on_strips
-  pub whole : IsFoundCount stop (length found) form.strips
-
--- the page's fields are refused, and it has no items and no notes
-pub record IsPageRefused (directory : TiffDirectory) (own : List Item) (noted : List Note)
-    (read : PageRead) : Type 0 where
-  pub refused : FileFault
-  pub form_is : form_of directory ≡ Err refused
-  pub no_items : own ≡ []
-  pub no_notes : noted ≡ []
-  pub no_rows : read.rows ≡ 0
-  pub fault_is : read.fault ≡ Some (File refused)
-
--- page p was read, wholly or up to a fault, and its notes stand after those that there were
-pub record IsPageChecked (directory : TiffDirectory) (p : ℕ) (old new : List Note)
-    (read : PageRead) : Type 0 where
-  pub own : List Item
-  pub count : length own ≡ read.rows
-  pub few : read.rows ≤ most_rows
-  pub noted : List Note
-  pub notes_are : new ≡ old ++ noted
-  pub page : ((form : PageForm)
-      × IsFormChecked directory form p own noted (stop_at read.rows read.fault))
-      ⊎ IsPageRefused directory own noted read
-
--- the first pages of a chain were read wholly, and have so many rows and these notes: whatever
--- items and notes follow them
-pub record ArePagesChecked (tiff : TiffFile) (given rows : ℕ) (noted : List Note) : Type 0 where
-  pub before : List Item
-  pub count : length before ≡ rows
+-- the first pages of a file were read wholly, and have so many rows and these notes
+pub record ArePagesChecked (file : List ℕ) (given rows : ℕ) (noted : List Note) : Type 0 where
   pub few : rows ≤ given * most_rows
-  pub items : (offsets : List ℕ) (fault : Option FileFault)
-      → IsChain tiff.head tiff.file offsets fault
-      → (more : List Item) (end : End)
-      → ArePagesItems tiff.head.endian tiff.file fault given (drop given offsets) more end
-      → ArePagesItems tiff.head.endian tiff.file fault 0 offsets (before ++ more) end
-  pub notes : (offsets : List ℕ) (fault : Option FileFault)
-      → IsChain tiff.head tiff.file offsets fault
-      → (others : List Note) → ArePagesNoted tiff.head.endian tiff.file given (drop given offsets)
-      others
-      → ArePagesNoted tiff.head.endian tiff.file 0 offsets (noted ++ others)
+  pub is : HasChecked file (before_page 0) (before_page given) noted rows

@@ -1,9 +1,10 @@
 -- How far a source of a conversion is read.
-use Rattle.std.specs.Prelude.{◌≡◌, ℕ, ◌<◌, ◌⊎◌, List, [], ◌∷◌, ◌++◌, length, map, None}
+use Rattle.std.specs.Prelude.{◌≡◌, ℕ, ◌+◌, ◌<◌, ◌⊎◌, List, [], ◌∷◌, ◌++◌, length, map, None, Err}
 use Rattle.fax_bits.specs.declared.Colour.{Colour}
 use Rattle.fax_files.specs.declared.Cause.{Cause}
 use Rattle.fax_files.specs.Pbm.{Image, AreImages, raster_rows}
 use Rattle.fax_files.specs.PbmLaws.{AreOfWidth}
+use Rattle.fax_walk.specs.declared.begun.Begun.TheVariants.{At}
 use Rattle.fax_walk.specs.declared.end.End.{End}
 use Rattle.fax_walk.specs.declared.end.End.TheVariants.{Fault}
 use Rattle.fax_walk.specs.declared.end.WalkFault.{WalkFault}
@@ -14,12 +15,13 @@ use Rattle.fax_walk.specs.declared.options.ConvertFault.{ConvertFault}
 use Rattle.fax_walk.specs.declared.options.ConvertFault.TheVariants.{Source, Memory}
 use Rattle.fax_walk.specs.declared.output.Output.{Output}
 use Rattle.fax_walk.specs.declared.sheet.Sheet.{Sheet}
-use Rattle.fax_walk.specs.Items.{Item, AreItems}
-use Rattle.fax_walk.specs.Pages.{FormItem, AreForms}
+use Rattle.fax_walk.specs.Cursor.{start}
+use Rattle.fax_walk.specs.InOrder.{LeadTo, EndsAfter}
+use Rattle.fax_walk.specs.Pages.{FormItem, IsForm, AreForms}
+use Rattle.fax_walk.specs.Rows.{Item, Place, first_at, IsRow, AreItems}
 use Rattle.fax_walk.specs.Converted.{SourcePage, page_of_image, page_of_form}
 use Rattle.fax_walk.specs.Left.{WalkView}
-use Rattle.fax_walk.specs.code.Bridge.{IsDue}
-use Rattle.fax_walk.specs.PagesLeft.{PagesView, AreFormsLeft}
+use Rattle.fax_walk.specs.PagesLeft.{PagesView}
 use Rattle.fax_walk.specs.code.Output.{Progress, Part, no_rows, image_sheet, IsPartWritten}
 use Rattle.fax_walk.specs.code.Output.{IsWrittenTo}
 
@@ -59,30 +61,32 @@ pub record AreImagesWritten (bytes left : List ℕ) (options : Options) (total c
         map page_of_image before;
   })
 
--- items whose rows are so wide
-abbrev pub AreWide : ℕ → List Item → Type 0
-AreWide width items = AreOfWidth width (map (λ item. item.pels) items)
+-- the rows of items
+abbrev pub pels_of : List Item → List (List Colour)
+pels_of items = map (λ item. item.pels) items
 
--- there are all rows of a page, or at a fault fewer, and nothing after them
-abbrev pub IsPageEnd : ℕ → List Item → List Item → End → Type 0
-IsPageEnd rows own others end =
-    (length own ≡ rows)
-    ⊎ ((length own < rows) × (others ≡ []) × (p r : ℕ) × (cause : Cause) × (end ≡ Fault p r cause))
+-- the rows end at a place with a fault
+abbrev pub IsFaultAt : List ℕ → Place → Type 0
+IsFaultAt file to = (p r : ℕ) × (cause : Cause) × IsRow file to (Err (Fault p r cause))
 
--- the items begin with the rows of a page that is so wide and has so many
-pub record BeginsWithPage (width rows : ℕ) (items : List Item) (end : End) : Type 0 where
+-- from a place on so many rows stand, so wide, and lead to the last place; or fewer, and a fault
+pub record HasRows (file : List ℕ) (from : Place) (width rows : ℕ) (last : Place) : Type 0 where
   pub own : List Item
-  pub others : List Item
-  pub items_are : items ≡ own ++ others
-  pub wide : AreWide width own
-  pub ends : IsPageEnd rows own others end
+  pub to : Place
+  pub lead : LeadTo (IsRow file) from own to
+  pub wide : AreOfWidth width (pels_of own)
+  pub ends : ((length own ≡ rows) × (to ≡ last)) ⊎ ((length own < rows) × IsFaultAt file to)
 
--- the items are the rows of pages of these forms, up to the first fault
-abbrev pub ArePagesOf : List FormItem → End → List Item → End → Type 0
-ArePagesOf [] form_end items end = (items ≡ []) × (end ≡ form_end)
-ArePagesOf (one ∷ forms) form_end items end =
-    (page : BeginsWithPage one.form.width one.form.rows items end)
-    × (length page.own ≡ one.form.rows → ArePagesOf forms form_end page.others end)
+-- a walk over all rows of its file has handed out those before a place, where a page of so many
+-- rows begins, so wide
+pub record IsBeforePage (walk : WalkView) (width rows : ℕ) : Type 0 where
+  pub from_start : walk.begun ≡ At start
+  pub before : List Item
+  pub at : Place
+  pub lead : LeadTo (IsRow walk.file) (first_at 0 0) before at
+  pub given : length before ≡ walk.given
+  pub last : Place
+  pub page : HasRows walk.file at width rows last
 
 -- the items are all rows of pages of these forms, which are these pages
 abbrev pub AreWholePages : List FormItem → List Item → List SourcePage → Type 0
@@ -93,26 +97,22 @@ AreWholePages (one ∷ forms) items pages =
     × (pages ≡ page_of_form one.form (map (λ item. item.pels) own) ∷ later)
     × AreWholePages forms others later
 
--- a walk has handed out these items
-abbrev pub HasGiven : WalkView → List Item → WalkView → Type 0
-HasGiven old items new =
-    (more : List Item) (end : End) → IsDue new more end → IsDue old (items ++ more) end
-
 -- all rows of a page were read from a walk, and put
 pub record ConvertsRows (walk : WalkView) (output : Output) (sheet : Sheet) (new_walk : WalkView)
-    (new_output : Output) : Type 0 where
-  pub items : List Item
-  pub count : length items ≡ sheet.rows
-  pub given : HasGiven walk items new_walk
-  pub put : PutsRows output sheet (map (λ item. item.pels) items) new_output
+    (new_output : Output) (due : IsBeforePage walk sheet.width sheet.rows) : Type 0 where
+  pub same_file : new_walk.file ≡ walk.file
+  pub same_begun : new_walk.begun ≡ walk.begun
+  pub given : new_walk.given ≡ walk.given + sheet.rows
+  pub all : length due.page.own ≡ sheet.rows
+  pub put : PutsRows output sheet (pels_of due.page.own) new_output
 
--- the rows that a walk still had to hand out end with this fault
-pub record EndsWith (walk : WalkView) (fault : ConvertFault) : Type 0 where
+-- the rows of a file end with this fault
+pub record EndsWith (file : List ℕ) (fault : ConvertFault) : Type 0 where
   pub items : List Item
   pub page : ℕ
   pub row : ℕ
   pub cause : Cause
-  pub due : IsDue walk items (Fault page row cause)
+  pub are : AreItems file items (Fault page row cause)
   pub fault_is : fault ≡ Source page row cause
 
 -- how a walk's refusal is told
@@ -122,21 +122,20 @@ source_fault (AtRow page row cause) = Source page row cause
 source_fault CursorOutside = Memory
 
 -- so many pages of a file are not refused
-pub record IsPageCount (file : List ℕ) (count : ℕ) : Type 0 where
-  pub forms : List FormItem
-  pub end : End
-  pub are : AreForms file forms end
-  pub count_is : length forms ≡ count
+abbrev pub IsPageCount : List ℕ → ℕ → Type 0
+IsPageCount file count = (end : End) × EndsAfter (AreForms file) count end
 
 -- the pages are written whose forms and rows were read
 pub record ArePagesWritten (file : List ℕ) (options : Options) (total : ℕ) (pages : PagesView)
     (walk : WalkView) (output : Output) : Type 0 where
   pub forms : List FormItem
+  pub lead_forms : LeadTo (IsForm file) 0 forms pages.given
+  pub forms_given : length forms ≡ pages.given
+  pub pages_from : (pages.file ≡ file) × (pages.begun ≡ start)
   pub items : List Item
+  pub lead_items : LeadTo (IsRow file) (first_at 0 0) items (first_at pages.given 0)
+  pub items_given : length items ≡ walk.given
+  pub walk_from : (walk.file ≡ file) × (walk.begun ≡ At start)
   pub converted : List SourcePage
   pub whole : AreWholePages forms items converted
-  pub forms_due : (more : List FormItem) (end : End) → AreFormsLeft pages more end
-      → AreForms file (forms ++ more) end
-  pub items_due : (more : List Item) (end : End) → IsDue walk more end
-      → AreItems file (items ++ more) end
   pub written : IsWrittenTo output (record { options = options; total = total; pages = converted })

@@ -138,16 +138,6 @@ IsSound file begun given cursor page None =
     GoesOnFrom file begun given cursor page × ShowsLast file begun given cursor page
 IsSound file begun given cursor page (Some end) = HasEndedOn file begun given cursor page end
 
--- a row was handed out, and its memory is not given back
-abbrev pub IsOnRow : WalkView → Type 0
-IsOnRow walk = (walk.told ≡ None) × (0 < walk.given)
-
--- the pels of the item that was handed out last
-abbrev pub AreLast : WalkView → List Colour → Type 0
-AreLast walk pels =
-    (before : ℕ) × (item : Item) × (walk.given ≡ before + 1)
-    × IsItemNumber walk.file walk.begun before item × (pels ≡ item.pels)
-
 -- what a call answers that goes to the next row, where the rows have ended so
 abbrev pub answer_of : End → Result Bool WalkFault
 answer_of Proper = Ok false

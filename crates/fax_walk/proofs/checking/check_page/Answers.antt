@@ -6,7 +6,7 @@ use Rattle.fax_walk.proofs.PageCheckLemmas.{refused_page, formed_page}
 use Rattle.fax_walk.proofs.checking.check_page.Goals as goal
 
 pub returns-in-Err : goal.returns-in-Err
-returns-in-Err c = refused_page _ _ _ _ _ refl (sym c.in-Err.ensures.exact)
+returns-in-Err c = refused_page _ _ _ _ _ c.requires refl (sym c.in-Err.ensures.exact)
 
 pub returns : goal.returns
 returns c =
@@ -14,5 +14,5 @@ returns c =
     let middle = c.in_ok-note_if.ensures
     ∙ ap (λ out. c.args.notes.now.items ++ note_if out c.args.page None EntriesOutOfOrder) (ap not c.in_order-out_of_order.ensures) in
     IfOk-weaker c.check_strips.result _ _
-    (λ read is. formed_page _ _ _ _ _ _ read form_is c.in-Ok.ensures.limits (c.forms_are_whole.ensures _ _ _ _ form_is) middle is)
+    (λ read is. formed_page _ _ _ (c.forms_are_whole.ensures _ _ _ _ form_is) form_is c.requires _ _ _ read middle is)
     c.check_strips.ensures

@@ -6,7 +6,7 @@ use Rattle.fax_walk.proofs.checking.check_pages.Given as goal
 abbrev pub invariant-loop-directory : goal.invariant-loop-directory
 invariant-loop-directory l = record {
   before : IsChainBefore l.fn.tiff.file l.chain.given l.chain;
-  read : ArePagesChecked l.chain.tiff l.chain.given l.rows l.notes.items;
+  read : ArePagesChecked l.fn.tiff.file l.chain.given l.rows l.notes.items;
 }
 
 abbrev pub decreases-loop-directory : goal.decreases-loop-directory

@@ -4,22 +4,26 @@ use Rattle.fax_bits.specs.Bits.{bits}
 use Rattle.fax_page.specs.Notes.{IsNotesFault, IsNotedAs}
 use Rattle.fax_page.specs.declared.StripForm.{StripForm}
 use Rattle.fax_files.specs.code.Tiff.{TiffDirectory, bytes_of}
-use Rattle.fax_walk.proofs.StripCheckLemmas.{none_before, strip_behind, all_read, strip_outside, row_inside, strip_fault}
+use Rattle.fax_walk.proofs.StripCheckLemmas.{none_before, strip_after, all_read, strip_outside, row_inside, strip_fault}
 use Rattle.fax_walk.proofs.checking.check_strips.Goals as goal
 
 pub loop-s-init : goal.loop-s-init
-loop-s-init c = none_before _ _ _ (c.forms_are_whole.ensures _ _ _ _ c.requires.form) _ _ refl
+loop-s-init c =
+    none_before c.bits_stand_by_place.ensures _ _ _ (c.forms_are_whole.ensures _ _ _ _ c.requires.form) c.requires.form c.requires.here _ _
+    refl
 
 pub returns-in-Err : goal.returns-in-Err
 returns-in-Err c =
     let none : bytes_of c.args.directory.now c.loop-s.s ≡ None =
     sym (ap (λ (d : TiffDirectory). bytes_of d c.loop-s.s) c.strips-strips.ensures.directory) ∙ c.in-Err.ensures.outside in
     rw c.in-Err.ensures.fault
-    (strip_outside _ _ _ (c.forms_are_whole.ensures _ _ _ _ c.requires.form) _ _ _ c.loop-s-test.true c.loop-s.invariant none)
+    (strip_outside c.bits_stand_by_place.ensures _ _ _ (c.forms_are_whole.ensures _ _ _ _ c.requires.form) c.requires.form c.requires.here
+    c.requires.limits.rows _ _ _ c.loop-s-test.true c.loop-s.invariant none)
 
 pub read_to-requires : goal.read_to-requires
 read_to-requires c =
-    row_inside c.args.directory.now _ c.args.page (c.forms_are_whole.ensures _ _ _ _ c.requires.form) c.loop-s.s c.in-Ok.bytes.now _
+    row_inside c.bits_stand_by_place.ensures c.args.directory.now _ c.args.page (c.forms_are_whole.ensures _ _ _ _ c.requires.form)
+    c.requires.form c.requires.here c.loop-s.s c.in-Ok.bytes.now _
     c.requires.limits.rows c.loop-s-test.true
     (subst (λ (f : StripForm). IsNotesFault f (bits f.order c.in-Ok.bytes.now) c.in-Err-strip_notes.fault) c.strip_form.ensures.exact
     c.in-Err-strip_notes.ensures.err)
@@ -33,7 +37,8 @@ returns-in-Err-strip_notes c =
     c.in-Err-strip_notes.ensures.err in
     IfOk-weaker c.read_to.result _ _
     (λ read is.
-    strip_fault _ _ _ (c.forms_are_whole.ensures _ _ _ _ c.requires.form) _ _ _ _ _ read c.loop-s-test.true c.loop-s.invariant there refused
+    strip_fault c.bits_stand_by_place.ensures _ _ _ (c.forms_are_whole.ensures _ _ _ _ c.requires.form) c.requires.form c.requires.here
+    c.requires.limits.rows _ _ _ _ _ read c.loop-s-test.true c.loop-s.invariant there refused
     is)
     c.read_to.ensures
 
@@ -42,7 +47,8 @@ loop-s-preserved c =
     let there : bytes_of c.args.directory.now c.loop-s.s ≡ Some c.in-Ok.bytes.now =
     sym (ap (λ (d : TiffDirectory). bytes_of d c.loop-s.s) c.strips-strips.ensures.directory) ∙ c.in-Ok.ensures.bytes in
     let found = c.in-Ok-strip_notes.ensures.ok in
-    strip_behind _ _ _ (c.forms_are_whole.ensures _ _ _ _ c.requires.form) _ _ _ _ c.in-Ok.bytes.now found.0 c.in-Ok-strip_notes.found
+    strip_after c.bits_stand_by_place.ensures _ _ _ (c.forms_are_whole.ensures _ _ _ _ c.requires.form) c.requires.form c.requires.here
+    _ _ _ _ c.in-Ok.bytes.now found.0 c.in-Ok-strip_notes.found
     c.loop-s-test.true
     c.loop-s.invariant there
     (subst (λ (f : StripForm). IsNotedAs f (bits f.order c.in-Ok.bytes.now) found.0 c.in-Ok-strip_notes.found) c.strip_form.ensures.exact
@@ -52,4 +58,5 @@ loop-s-preserved c =
 pub returns : goal.returns
 returns c =
     let all : c.loop-s.s ≡ c.args.form.now.strips = omega arith in
-    all_read _ _ _ (c.forms_are_whole.ensures _ _ _ _ c.requires.form) _ _ _ all c.loop-s.invariant
+    all_read c.bits_stand_by_place.ensures _ _ _ (c.forms_are_whole.ensures _ _ _ _ c.requires.form) c.requires.form c.requires.here
+    c.requires.limits.rows _ _ _ all c.loop-s.invariant

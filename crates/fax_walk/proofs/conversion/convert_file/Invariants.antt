@@ -1,5 +1,6 @@
 use Rattle.std.proofs.Common.{◌≡◌, ℕ, ◌^◌, ◌-◌, max}
 use Rattle.fax_walk.specs.code.Sources.{IsPageCount, ArePagesWritten}
+use Rattle.fax_walk.proofs.FileLemmas.{SourceLaws}
 use Rattle.fax_walk.proofs.conversion.convert_file.Given as goal
 
 abbrev pub invariant-loop-form : goal.invariant-loop-form
@@ -8,6 +9,7 @@ invariant-loop-form l = record {
   count : ℕ;
   counted : IsPageCount l.file count;
   total_is : total ≡ max count 1;
+  laws : SourceLaws;
   so_far : ArePagesWritten l.file l.options total l.pages l.walk l.output;
 }
 

@@ -9,7 +9,7 @@ invariant-rows l = record {
   items : List Item;
   skips : HasSkipped l.initial.self l.self items;
   is_open : IsOpen l.self;
-  due : row_of l.self < l.self.form.rows
+  due : row_of l.self < l.self.form.rows;
 }
 
 abbrev pub decreases-rows : goal.decreases-rows

@@ -7,8 +7,7 @@ pub returns : goal.returns
 returns c =
     let w = c.self.inside in
     let walk : WalkView = record { file = w.file.now; begun = w.begun; given = w.given; told = w.told } in
-    let went = rw (c.if-not-branch.false, sym c.self.view_is) at c.in_ok-advance.ensures in
-    (
+    let went = rw (c.if-not-branch.false, sym c.self.view_is) at c.in_ok-advance.ensures in (
       (
         refl,
         λ _. tt,

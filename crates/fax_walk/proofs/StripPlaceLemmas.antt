@@ -1,0 +1,62 @@
+-- Rows of a page in their strips, and as they are handed out.
+use Rattle.std.proofs.Common.{◌≡◌, ℕ, ◌+◌, ◌*◌, ◌/◌, ◌%◌, ◌<◌, Bool, true, false, List, [], ◌∷◌, map, length, Option, Some, None, refl}
+use Rattle.std.proofs.Common.{subst, arith}
+use Rattle.std.proofs.lemmas.Nat.{div-mul-add, mod-mul-add}
+use Rattle.std.proofs.lemmas.List.{length-map}
+use Rattle.std.specs.Prelude.{if◌then◌else◌}
+use Rattle.fax_bits.specs.declared.Colour.{Colour}
+use Rattle.fax_rows.specs.Elements.{other}
+use Rattle.fax_page.specs.declared.StripForm.{StripForm}
+use Rattle.fax_page.specs.declared.StripFault.{StripFault}
+use Rattle.fax_page.specs.Strip.{AreLines, IsStrip}
+use Rattle.fax_files.specs.declared.PageForm.{PageForm}
+use Rattle.fax_files.specs.PageRows.{shown}
+use Rattle.fax_walk.specs.Rows.{exchanged}
+
+-- row e of a page, row k of strip s
+pub in_strip : (m s k e : ℕ) → k < m → e ≡ s * m + k → (e / m ≡ s) × (e % m ≡ k)
+in_strip m s k e less is = (rw is (div-mul-add s m k less), rw is (mod-mul-add s m k less))
+
+pub shown_none : (form : PageForm) → shown form [] ≡ []
+shown_none form = by_test form.exchanged
+  where
+    by_test : (b : Bool) → (let rows : List (List Colour) = [] in if b then map (map other) rows else rows) ≡ []
+    by_test true = refl
+    by_test false = refl
+
+pub shown_row : (form : PageForm) (row : List Colour) (rows : List (List Colour))
+    → shown form (row ∷ rows) ≡ exchanged form row ∷ shown form rows
+shown_row form row rows = by_test form.exchanged
+  where
+    by_test : (b : Bool) → (if b then map (map other) (row ∷ rows) else (row ∷ rows)) ≡ (if b then map other row else row)
+        ∷ (if b then map (map other) rows else rows)
+    by_test true = refl
+    by_test false = refl
+
+pub shown_length : (form : PageForm) (rows : List (List Colour)) → length (shown form rows) ≡ length rows
+shown_length form rows = by_test form.exchanged
+  where
+    by_test : (b : Bool) → length (if b then map (map other) rows else rows) ≡ length rows
+    by_test true = length-map rows (map other)
+    by_test false = refl
+
+-- all of so many are there, or where there is a fault fewer
+abbrev pub IsCount : Option StripFault → ℕ → ℕ → Type 0
+IsCount None n all = n ≡ all
+IsCount (Some fault) n all = n < all
+
+counted : (form : StripForm) (i : ℕ) (reference : List Colour) (b : List Bool) (rows : List (List Colour)) (end : Option StripFault)
+    (left : List Bool)
+    → AreLines form i reference b rows end left → IsCount end (i + length rows) form.rows
+counted form i reference b [] None left lines = omega (arith, lines.1)
+counted form i reference b [] (Some fault) left lines = omega (arith, lines.1.0)
+counted form i reference b (row ∷ rows) end left lines =
+    let n : i + 1 + length rows ≡ i + length (row ∷ rows) = omega arith in
+    subst (λ (k : ℕ). IsCount end k form.rows) n (counted form (i + 1) row lines.0 rows end left lines.3)
+
+-- how many rows a strip has
+pub strip_count : (form : StripForm) (b : List Bool) (rows : List (List Colour)) (end : Option StripFault) → IsStrip form b rows end
+    → IsCount end (length rows) form.rows
+strip_count form b rows end strip =
+    let n : 0 + length rows ≡ length rows = omega arith in
+    subst (λ (k : ℕ). IsCount end k form.rows) n (counted form 0 _ b rows end strip.left strip.lines)
