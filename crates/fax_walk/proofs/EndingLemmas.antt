@@ -1,6 +1,6 @@
 -- What a chain's next directory is, and where it ends.
 use Rattle.std.proofs.Common.{◌≡◌, ℕ, ◌+◌, ◌<◌, ◌≤◌, Bool, true, false, List, length, Option, Some, None, Result, Ok, Err, inl, inr, refl}
-use Rattle.std.proofs.Common.{sym, ap, ◌∙◌, subst, arith}
+use Rattle.std.proofs.Common.{ap, ◌∙◌, arith}
 use Rattle.std.proofs.lemmas.Bool.Decides.{nat_tests}
 use Rattle.std.specs.Prelude.{slice_get, ◌==◌, ◌&&◌, if◌then◌else◌}
 use Rattle.std.proofs.lemmas.Option.{slice_get_past, slice_get_cases, slice_get_within}
@@ -19,7 +19,7 @@ use Rattle.fax_walk.specs.declared.end.End.TheVariants.{Proper, Fault, Outside}
 use Rattle.fax_walk.specs.Pages.{IsPageAt, end_past_chain, page_or_end}
 use Rattle.fax_walk.specs.code.Opening.{EndsAt, IsChainBefore, IsFilePage, IsNamed, IsNoPage, IsPageAnswer, IsPageDue, PageDue, page_with}
 use Rattle.fax_walk.proofs.OpeningLemmas.{due_some, due_none, due_fault}
-use Rattle.fax_walk.proofs.PageLawLemmas.{page_here}
+use Rattle.fax_walk.proofs.PageLawLemmas.{page_here, proper_end}
 
 -- past the end of a list there is no element
 pub none_past : (offsets : List ℕ) (i : ℕ) → slice_get offsets i ≡ None → length offsets ≤ i
@@ -41,9 +41,6 @@ outside_row pages at some = by_test (at.page == pages)
     by_test : (b : Bool) → (if b && (at.row == 0) then Proper else Outside) ≡ Outside
     by_test true = rw e refl
     by_test false = refl
-
-proper_past : (pages : ℕ) → end_past_chain pages None (record { page = pages; row = 0 }) ≡ Proper
-proper_past pages = let e : (pages == pages) ≡ true = grind (arith, nat_tests) in rw e refl
 
 pub header_refused : (file : List ℕ) (at : Cursor) (fault : FileFault) → header file ≡ Err fault
     → IsPageAt file at (Err (Fault 0 0 (File fault)))
@@ -108,7 +105,7 @@ module _ (file : List ℕ) (number : ℕ) (chain : ChainState) (answer : Result 
   proper_end_at is =
       let at : Cursor = record { page = number; row = 0 } in
       let none = due_none chain answer due is one.offsets one.end is_one in
-      let end_is : end_past_chain (length one.offsets) one.end at ≡ Proper = rw (none.1, count_is none.0) (proper_past number) in
+      let end_is : end_past_chain (length one.offsets) one.end at ≡ Proper = rw (none.1, count_is none.0) (proper_end number) in
       rw end_is at (past_chain at none.0 (omega arith))
 
   pub fault_before_page : (at : Cursor) (fault : FileFault) → answer ≡ Err fault → number ≤ at.page

@@ -1,6 +1,6 @@
 -- A walk that enters its first page.
-use Rattle.std.proofs.Common.{◌≡◌, ℕ, ◌+◌, ◌*◌, ◌<◌, ◌≤◌, ◌⊎◌, inl, inr, true, false, List, [], drop, Option, Some, None, Result, Ok, Err, refl, sym}
-use Rattle.std.proofs.Common.{ap, ◌∙◌, subst, zero, suc, arith}
+use Rattle.std.proofs.Common.{◌≡◌, ℕ, ◌*◌, ◌<◌, ◌≤◌, ◌⊎◌, inl, inr, true, false, List, [], drop, Some, Result, Ok, Err, refl, sym}
+use Rattle.std.proofs.Common.{◌∙◌, zero, suc, arith}
 use Rattle.std.proofs.Math.Nat.{div-add-mod}
 use Rattle.std.proofs.lemmas.Bool.{cases_lt}
 use Rattle.std.proofs.lemmas.Bool.Decides.{nat_tests}
@@ -9,12 +9,11 @@ use Rattle.fax_walk.specs.declared.begun.Begun.{Begun}
 use Rattle.fax_walk.specs.declared.begun.Begun.TheVariants.{At, Inside}
 use Rattle.fax_walk.specs.declared.cursor.Cursor.{Cursor}
 use Rattle.fax_walk.specs.declared.end.End.{End}
-use Rattle.fax_walk.specs.declared.end.End.TheVariants.{Fault, Outside}
 use Rattle.fax_walk.specs.declared.opening.OpenFault.{OpenFault}
 use Rattle.fax_walk.specs.declared.opening.OpenFault.TheVariants.{Memory, Ended}
 use Rattle.fax_walk.specs.LongCursor.{LongPlace}
 use Rattle.fax_walk.specs.Left.{EndsBefore}
-use Rattle.fax_walk.specs.Rows.{Begins, IsInnerOn, IsRow, Item, Place, begins_at, first_at, first_row, inner_at, row_in_strip, strip_at}
+use Rattle.fax_walk.specs.Rows.{Begins, IsInnerOn, IsRow, Item, Place, begins_at, first_at, inner_at, row_in_strip, strip_at}
 use Rattle.fax_walk.specs.code.Opening.{EndsAt, IsFilePage, IsNamed, PageDue, page_with}
 use Rattle.fax_walk.specs.code.Stages.{IsNoInner, IsNoStrip, IsOpenedAt, IsRefusal, PageState}
 use Rattle.fax_walk.specs.code.Walk.{HasNoRows, IsOpenedFirst}

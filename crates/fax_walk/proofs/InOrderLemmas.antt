@@ -4,8 +4,7 @@ use Rattle.std.proofs.Common.{subst, arith, append_assoc}
 use Rattle.std.proofs.lemmas.List.{take-append-drop}
 use Rattle.std.specs.Prelude.{slice_get}
 use Rattle.fax_walk.specs.declared.end.End.{End}
-use Rattle.fax_walk.specs.InOrder.{AreFrom, LeadTo, AreBegun}
-use Rattle.fax_walk.specs.Laws.{IsOne}
+use Rattle.fax_walk.specs.InOrder.{AreFrom, LeadTo, AreBegun, IsOne}
 
 -- there is one answer, and no other
 pub record IsOneAnswer {A : Type 0} (holds : A → Type 0) : Type 0 where
@@ -53,6 +52,16 @@ module _ {S A : Type 0} (next : S → Result (A × S) End → Type 0) (answers :
       let same = same_step (answers at) x y to to' is is_too in
       let later = one_from to' items others end other (rw same.1 at rest) rest' in
       (ap (λ (i : A). i ∷ items) same.0 ∙ ap (λ (l : List A). y ∷ l) later.0, later.1)
+
+  -- as many items lead to one place
+  pub one_led : (at : S) (items others : List A) (to another : S) → length items ≡ length others → LeadTo next at items to
+      → LeadTo next at others another → to ≡ another
+  one_led at [] [] to another count is is_too = is ∙ sym is_too
+  one_led at [] (y ∷ others) to another count is is_too = absurd (omega (arith, count))
+  one_led at (x ∷ items) [] to another count is is_too = absurd (omega (arith, count))
+  one_led at (x ∷ items) (y ∷ others) to another count (place, step, leads) (place', step', leads') =
+      let same = same_step (answers at) x y place place' step step' in
+      one_led place' items others to another (omega (arith, count)) (subst (λ (s : S). LeadTo next s items to) same.1 leads) leads'
 
   pub one_list : (at : S) → IsListed next at → IsOne (AreFrom next at)
   one_list at listed = record {

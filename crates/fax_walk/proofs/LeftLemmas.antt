@@ -7,8 +7,7 @@ use Rattle.fax_walk.specs.declared.begun.Begun.TheVariants.{At, Inside}
 use Rattle.fax_walk.specs.declared.cursor.Cursor.{Cursor}
 use Rattle.fax_walk.specs.declared.end.End.{End}
 use Rattle.fax_walk.specs.LongCursor.{LongPlace}
-use Rattle.fax_walk.specs.Laws.{IsOne}
-use Rattle.fax_walk.specs.InOrder.{IsNumber, EndsAfter, HasToldNoOther, IsTold, IsLeftOf}
+use Rattle.fax_walk.specs.InOrder.{IsOne, IsNumber, EndsAfter, HasToldNoOther, IsTold, IsLeftOf}
 use Rattle.fax_walk.specs.PagesLeft.{PagesView, AreFormsLeft}
 use Rattle.fax_walk.specs.PagesLeft as OfPages
 use Rattle.fax_walk.specs.Rows.{Item, IsTailFrom, cursor_after}

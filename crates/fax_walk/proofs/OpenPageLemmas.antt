@@ -1,10 +1,9 @@
 -- A page that is open: where it stands, and what is read there.
-use Rattle.std.proofs.Common.{◌≡◌, ℕ, ◌+◌, ◌-◌, ◌*◌, ◌/◌, ◌%◌, ◌<◌, ◌≤◌, ◌⊎◌, inl, inr, min, true, false, List, [], ◌∷◌, ◌++◌, length, drop, Option, Some, None}
+use Rattle.std.proofs.Common.{◌≡◌, ℕ, ◌+◌, ◌-◌, ◌*◌, ◌<◌, ◌≤◌, ◌⊎◌, inl, inr, min, true, false, List, [], ◌∷◌, ◌++◌, length, drop, Option, Some, None}
 use Rattle.std.proofs.Common.{Result, Ok, Err, refl, sym, ap, ◌∙◌, subst, arith, add-mul, length-append, ◌^◌}
 use Rattle.std.proofs.Math.Nat.{mul-le-mul_right, mod-eq-sub-div-mul, div-add-mod, zero-div, zero-mod}
 use Rattle.std.proofs.lemmas.Bool.{cases_lt}
 use Rattle.std.proofs.lemmas.Bool.Decides.{nat_tests}
-use Rattle.std.proofs.lemmas.Nat.{div_below}
 use Rattle.std.proofs.lemmas.Grind.{div_ceil_times}
 use Rattle.std.specs.Prelude.{IfOk, IfErr, nat_lt, nat_le, ◌==◌}
 use Rattle.fax_bits.specs.declared.Colour.{Colour}
@@ -14,7 +13,7 @@ use Rattle.fax_rows.specs.Elements.{pels_of, runs_of}
 use Rattle.fax_page.specs.declared.StripForm.{StripForm}
 use Rattle.fax_page.specs.declared.StripFault.{StripFault}
 use Rattle.fax_page.specs.Lines.{IsLine}
-use Rattle.fax_page.specs.code.Reader.{StripState, ReadsRow, MeetsFault, IsAdvance, strip_behind, bits_left}
+use Rattle.fax_page.specs.code.Reader.{StripState, ReadsRow, MeetsFault, IsAdvance}
 use Rattle.fax_files.specs.declared.FileFault.TheVariants.{StripOutside}
 use Rattle.fax_files.specs.declared.Cause.TheVariants.{File, Strip}
 use Rattle.fax_files.specs.declared.PageForm.{PageForm}
@@ -32,11 +31,10 @@ use Rattle.fax_walk.specs.Rows.{IsInner, IsInnerOn, inner_at, long_at, row_in_st
 use Rattle.fax_walk.specs.Pages.{IsPageAt}
 use Rattle.fax_walk.specs.InOrder.{LeadTo}
 use Rattle.fax_walk.specs.code.Opening.{IsFilePage, PageDue, page_with}
-use Rattle.fax_walk.specs.code.Stages.{GivesNone, GivesRow, HasSkipped, IsNoInner, IsNoPlace, IsNoStrip, IsRefusal, IsOpen, IsOpenedAt, IsSamePage, IsStripOf, KeepsPlace}
+use Rattle.fax_walk.specs.code.Stages.{GivesRow, HasSkipped, IsNoInner, IsNoPlace, IsNoStrip, IsRefusal, IsOpen, IsOpenedAt, IsSamePage, IsStripOf, KeepsPlace}
 use Rattle.fax_walk.specs.code.Stages.{PageState, ReadsPageRow, StopsAtRow, item_of, place_of, row_of, skipped}
 use Rattle.fax_walk.proofs.InOrderLemmas.{leads_on}
-use Rattle.fax_walk.proofs.LongLineLemmas.{pels_behind}
-use Rattle.fax_walk.proofs.LongStripLemmas.{in_strip}
+use Rattle.fax_walk.proofs.RunLemmas.{in_strip, pels_behind}
 use Rattle.fax_walk.proofs.RowLawLemmas.{exchanged_twice}
 
 -- each strip of a page holds some of its rows
@@ -277,19 +275,6 @@ module _ (old page : PageState) (keeps : KeepsPlace old page) where
     told = (stops.told.0, rw (keeps.same.page, keeps.row) at stops.told.1);
   }
 
-  pub keeps_on : (new : PageState) → KeepsPlace page new → KeepsPlace old new
-  keeps_on new later = record {
-    same = record {
-      page = later.same.page ∙ keeps.same.page;
-      form = later.same.form ∙ keeps.same.form;
-      first = later.same.first ∙ keeps.same.first;
-      directory = later.same.directory ∙ keeps.same.directory;
-    };
-    row = later.row ∙ keeps.row;
-    place = later.place ∙ keeps.place;
-    read = later.read ∙ keeps.read;
-  }
-
 -- a fault is met
 pub fault_stops : (page : PageState) (strip : StripState) (fault : StripFault) → IsOpen page → IsPageForm page.form
     → IsStripOf page.form page.directory page.number page.strip → IsFilePage page.page page.chain page.directory page.form
@@ -359,30 +344,6 @@ module _ (old now new : PageState) (items : List Item) (skips : HasSkipped old n
         read = omega (arith, reads.one_more, skips.read, count);
         few = few;
       }
-
--- the rows end before the next one that is handed out
-pub none_given : (old now new : PageState) (items : List Item) (end : End) → HasSkipped old now items → KeepsPlace now new
-    → StopsAtRow now end → GivesNone old end new
-none_given old now new items end skips keeps stops =
-    let same = keeps.same in
-    record {
-      items = items;
-      skips = record {
-        same = record {
-          page = same.page ∙ skips.same.page;
-          form = same.form ∙ skips.same.form;
-          first = same.first ∙ skips.same.first;
-          directory = same.directory ∙ skips.same.directory;
-        };
-        lead = subst (λ (t : Place). LeadTo (IsRow old.directory.file) (place_of old) items t) (sym keeps.place) skips.lead;
-        rows = keeps.row ∙ skips.rows;
-        read = keeps.read ∙ skips.read;
-        few = skips.few;
-      };
-      stop = subst (λ (t : Place). IsRow old.directory.file t (Err end)) (sym keeps.place)
-          (subst (λ (d : TiffDirectory). IsRow d.file (place_of now) (Err end)) skips.same.directory stops.stop);
-      told = (stops.told.0, rw (← same.page, ← keeps.row) at stops.told.1);
-    }
 
 -- a page that is due is opened at the strip that holds a row
 module _ (due : PageDue) (first : ℕ) (its : IsFilePage due.page due.chain due.directory due.form) (limits : IsPageForm due.form)

@@ -3,7 +3,6 @@ use Rattle.std.proofs.Common.{◌≡◌, ℕ, List, Option, Some, None, Result, 
 use Rattle.std.specs.Prelude.{slice_get}
 use Rattle.fax_files.specs.declared.FileFault.{FileFault}
 use Rattle.fax_files.specs.Chain.{IsChain}
-use Rattle.fax_files.specs.Laws.{FilesHaveOneChain}
 use Rattle.fax_files.specs.code.Chain.{ChainState, IsDueAnswer, answer_at}
 use Rattle.fax_files.specs.code.Tiff.{TiffFile, TiffDirectory, directory_of}
 
@@ -44,10 +43,3 @@ module _ (chain : ChainState) (answer : Result (Option TiffDirectory) FileFault)
   pub due_fault : (met : FileFault) → answer ≡ Err met → (offsets : List ℕ) (end : Option FileFault)
       → IsChain chain.tiff.head chain.tiff.file offsets end → (slice_get offsets chain.given ≡ None) × (end ≡ Some met)
   due_fault met is offsets end held = fault_answered chain.tiff (slice_get offsets chain.given) end met (sym is ∙ due offsets end held)
-
-  -- a directory that is answered belongs to the chain's file
-  pub due_directory : FilesHaveOneChain → (directory : TiffDirectory) → answer ≡ Ok (Some directory)
-      → directory ≡ directory_of chain.tiff directory.offset
-  due_directory one directory is =
-      let held = one chain.tiff.head chain.tiff.file in
-      (due_some directory is held.offsets held.end held.is).1

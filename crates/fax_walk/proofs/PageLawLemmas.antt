@@ -12,9 +12,8 @@ use Rattle.fax_files.specs.Page.{page}
 use Rattle.fax_files.specs.Laws.{FilesHaveOneChain}
 use Rattle.fax_walk.specs.declared.cursor.Cursor.{Cursor}
 use Rattle.fax_walk.specs.declared.end.End.{End}
-use Rattle.fax_walk.specs.declared.end.End.TheVariants.{Fault}
+use Rattle.fax_walk.specs.declared.end.End.TheVariants.{Fault, Proper}
 use Rattle.fax_walk.specs.InOrder.{AreFrom, AreBegun}
-use Rattle.fax_walk.specs.Items as Items
 use Rattle.fax_walk.specs.Pages.{FormItem, FilePage, page_over, IsPageUnder, IsPageAt, IsAsked, IsOnPage, IsForm, first_form, IsFormTail}
 use Rattle.fax_walk.specs.Pages.{end_past_chain, page_or_end}
 use Rattle.fax_walk.specs.PageLaws.{FilesHaveOneForms, CursorsHaveOneFormTail, FormTailOfPage, FormTailOfStart, FormsStandByNumber}
@@ -49,10 +48,8 @@ dropped_at n [] y e = absurd cc
 dropped_at zero (x ∷ xs) y e = let same : x ≡ y = cc in ap (λ (i : ℕ). i ∷ xs) same
 dropped_at (suc n) (x ∷ xs) y e = let m : suc n + 1 ≡ suc (n + 1) = omega arith in rw m (dropped_at n xs y e)
 
-pub proper_end : (pages : ℕ) (fault : Option FileFault)
-    → Items.chain_end pages fault ≡ end_past_chain pages fault (record { page = pages; row = 0 })
-proper_end pages None = let test : (pages == pages) ≡ true = grind (arith, nat_tests) in rw test refl
-proper_end pages (Some fault) = refl
+pub proper_end : (pages : ℕ) → end_past_chain pages None (record { page = pages; row = 0 }) ≡ Proper
+proper_end pages = let test : (pages == pages) ≡ true = grind (arith, nat_tests) in rw test refl
 
 module _ (chains : FilesHaveOneChain) (file : List ℕ) where
   page_under : (at : Cursor) (answer : Result Header FileFault) → IsOneAnswer (IsPageUnder file at answer)

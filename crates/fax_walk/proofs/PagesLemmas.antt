@@ -10,7 +10,7 @@ use Rattle.fax_files.specs.code.Tiff.{TiffDirectory}
 use Rattle.fax_walk.specs.declared.cursor.Cursor.{Cursor}
 use Rattle.fax_walk.specs.declared.end.End.{End}
 use Rattle.fax_walk.specs.InOrder.{AreFrom, LeadTo, EndsAfter, HasToldNoOther}
-use Rattle.fax_walk.specs.Pages.{FormItem, IsPageAt, IsForm, AreFormsBegun, IsFormTail}
+use Rattle.fax_walk.specs.Pages.{FormItem, IsForm, AreFormsBegun, IsFormTail}
 use Rattle.fax_walk.specs.PagesLeft.{PagesView, AreFormsLeft, HandsOutPage}
 use Rattle.fax_walk.specs.PageLaws.{CursorsHaveOneFormTail, FormTailOfPage}
 use Rattle.fax_walk.specs.code.Opening.{PageDue, IsPageDue, IsFilePage, IsChainBefore, IsNamed, EndsAt, page_with}

@@ -4,13 +4,16 @@ use Rattle.std.proofs.Common.{Some, None, Result, Ok, Err, refl, sym, ap, ◌∙
 use Rattle.std.proofs.Math.Nat.{div-add-mod}
 use Rattle.std.proofs.lemmas.Bool.{cases_lt}
 use Rattle.std.proofs.lemmas.Bool.Decides.{nat_tests}
-use Rattle.std.proofs.lemmas.List.{drop_at, length-replicate}
-use Rattle.std.specs.Prelude.{slice_get, if◌then◌else◌, nat_lt, nat_le, ◌==◌}
+use Rattle.std.proofs.lemmas.List.{drop_all, drop_at, length-replicate}
+use Rattle.std.proofs.lemmas.Option.{slice_get_within}
+use Rattle.std.specs.Prelude.{slice_get, if◌then◌else◌, nat_lt, nat_le, ◌==◌, ◌&&◌}
 use Rattle.fax_bits.specs.declared.Colour.{Colour}
 use Rattle.fax_bits.specs.declared.Colour.TheVariants.{White}
 use Rattle.fax_bits.specs.Laws.{AreBitsByPlace}
 use Rattle.fax_rows.specs.Elements.{pels_of, runs_of}
 use Rattle.fax_files.specs.declared.FileFault.{FileFault}
+use Rattle.fax_files.specs.declared.FileFault.TheVariants.{StripOutside}
+use Rattle.fax_files.specs.declared.Cause.TheVariants.{File}
 use Rattle.fax_files.specs.declared.PageForm.{PageForm}
 use Rattle.fax_files.specs.declared.Endian.{Endian}
 use Rattle.fax_files.specs.Numbers.{Header, header}
@@ -21,20 +24,20 @@ use Rattle.fax_walk.specs.declared.begun.Begun.{Begun}
 use Rattle.fax_walk.specs.declared.begun.Begun.TheVariants.{At, Inside}
 use Rattle.fax_walk.specs.declared.cursor.Cursor.{Cursor}
 use Rattle.fax_walk.specs.declared.end.End.{End}
-use Rattle.fax_walk.specs.declared.end.End.TheVariants.{Outside}
+use Rattle.fax_walk.specs.declared.end.End.TheVariants.{Fault, Outside, Proper}
 use Rattle.fax_walk.specs.Cursor.{start}
 use Rattle.fax_walk.specs.LongCursor.{LongPlace}
 use Rattle.fax_walk.specs.InOrder.{AreFrom, AreBegun, LeadTo}
-use Rattle.fax_walk.specs.Pages.{FilePage, IsPageUnder, IsPageAt, page_over, page_or_end}
+use Rattle.fax_walk.specs.Left.{EndsBefore}
+use Rattle.fax_walk.specs.Pages.{FilePage, IsPageUnder, IsPageAt, end_past_chain, page_over, page_or_end}
 use Rattle.fax_walk.specs.Rows.{AreItems, IsInnerOn, Item, Inner, Place, first_at, strip_at, row_in_strip, exchanged, reference_of}
 use Rattle.fax_walk.specs.Rows.{place_after, IsItem, IsInStrip, cursor_at, IsRow, first_row, IsInner, FitsStrip, inner_at, Begins}
 use Rattle.fax_walk.specs.Rows.{IsTailFrom, cursor_after, long_after}
-use Rattle.fax_walk.specs.PageLaws.{TailOfStart, IsReachedPlace, TailsGoOn, LongTailsGoOn, PlacesAreReached, IsReached}
-use Rattle.fax_walk.proofs.InOrderLemmas.{one_from, same_answer, leads_on, joined, kept, split_at_number as item_split}
+use Rattle.fax_walk.specs.PageLaws.{FilesHaveOneItems, ItemsStandByPlace, TailsEndAfter, TailOfStart, IsReachedPlace, TailsGoOn, LongTailsGoOn, PlacesAreReached, IsReached}
+use Rattle.fax_walk.proofs.InOrderLemmas.{one_from, one_led, one_list, same_answer, same_step, leads_on, joined, kept, split_at_number as item_split}
 use Rattle.fax_walk.proofs.PageLawLemmas.{one_page}
-use Rattle.fax_walk.proofs.RowLawLemmas.{LinesAreRead, inner_after, cases_after, one_row, one_tail_from}
-use Rattle.fax_walk.proofs.LongLineLemmas.{pels_behind}
-use Rattle.fax_walk.proofs.LongStripLemmas.{in_strip}
+use Rattle.fax_walk.proofs.RowLawLemmas.{LinesAreRead, inner_after, cases_after, one_row, one_tail_from, rows_listed}
+use Rattle.fax_walk.proofs.RunLemmas.{in_strip, pels_behind}
 use Rattle.fax_walk.proofs.WidthLemmas.{row_in}
 
 module _ (file : List ℕ) where
@@ -527,3 +530,157 @@ module _ (by_place : AreBitsByPlace) (lines_read : LinesAreRead) (chains : Files
 pub tail_of_start : AreBitsByPlace → LinesAreRead → FilesHaveOneChain → FormsAreWhole → TailOfStart
 tail_of_start by_place lines_read chains forms file items end =
     (from_start by_place lines_read chains forms file items end, to_start by_place lines_read chains forms file items end)
+
+module _ (by_place : AreBitsByPlace) (lines_read : LinesAreRead) (chains : FilesHaveOneChain) (forms : FormsAreWhole) (file : List ℕ) where
+  same_items : (begun other : Begun) (item its : Item) (after more : List Item) (end another : End) → IsReached file begun
+      → IsReached file other
+      → (one : IsSplit file begun item after end) → (two : IsSplit file other its more another) → item.page ≡ its.page → item.row ≡ its.row
+      → item ≡ its
+  same_items begun other item its after more end another reached reached' one two pages rows =
+      let read = read_at file one.at item one.to one.step in
+      let read' = read_at file two.at its two.to two.step in
+      let at_page : two.at.page ≡ one.at.page = sym read'.is.same_page ∙ sym pages ∙ read.is.same_page in
+      let at_row : two.at.row ≡ one.at.row = sym read'.is.same_row ∙ sym rows ∙ read.is.same_row in
+      let page' : IsPageAt file (cursor_at one.at) (Ok read'.here) =
+      subst (λ (p : ℕ). IsPageAt file (record { page = p; row = one.at.row }) (Ok read'.here)) at_page
+      (subst (λ (r : ℕ). IsPageAt file (record { page = two.at.page; row = r }) (Ok read'.here)) at_row read'.page) in
+      let here = same_page file chains (cursor_at one.at) read.here read'.here read.page page' in
+      let from = here_from forms chains file begun reached item after end one read.here read.page in
+      let from' = here_from forms chains file other reached' its more another two read'.here read'.page in
+      let lead : LeadTo (IsRow file) (strip_of forms chains file read.here one.at.page one.at.row) from'.rows two.at =
+      subst (λ (h : FilePage). LeadTo (IsRow file) (strip_of forms chains file h one.at.page one.at.row) from'.rows two.at) (sym here)
+      (subst (λ (p : ℕ). LeadTo (IsRow file) (strip_of forms chains file read'.here p one.at.row) from'.rows two.at) at_page
+      (subst (λ (r : ℕ). LeadTo (IsRow file) (strip_of forms chains file read'.here two.at.page r) from'.rows two.at) at_row from'.lead)) in
+      let count : length from.rows ≡ length from'.rows =
+      from.count ∙ ap (λ (h : FilePage). row_in_strip h.form one.at.row) here
+      ∙ ap (λ (r : ℕ). row_in_strip read'.here.form r) (sym at_row) ∙ sym from'.count in
+      let same_at = one_led (IsRow file) (one_row by_place lines_read chains file)
+      (strip_of forms chains file read.here one.at.page one.at.row) from.rows from'.rows one.at two.at count from.lead lead in
+      (same_step (one_row by_place lines_read chains file one.at) item its one.to two.to one.step
+      (subst (λ (t : Place). IsRow file t (Ok (its, two.to))) (sym same_at) two.step)).0
+
+pub items_stand_by_place : AreBitsByPlace → LinesAreRead → FilesHaveOneChain → FormsAreWhole → ItemsStandByPlace
+items_stand_by_place by_place lines_read chains forms file begun other all others end another n m item its reached reached' tail tail' there
+    there' pages rows =
+    same_items by_place lines_read chains forms file begun other item its (drop (n + 1) all) (drop (m + 1) others) end another reached reached'
+    (split_at_number file begun all end n item tail there) (split_at_number file other others another m its tail' there') pages rows
+
+pub files_have_one_items : AreBitsByPlace → LinesAreRead → FilesHaveOneChain → FilesHaveOneItems
+files_have_one_items by_place lines_read chains file =
+    one_list (IsRow file) (one_row by_place lines_read chains file) (first_at 0 0)
+    (rows_listed by_place lines_read chains file (first_at 0 0) (header file) refl)
+
+-- at a row of a page the rows end there, or at its strip's first row
+stops_at : (form : PageForm) (at : Place) (found : Option (List ℕ)) (end : End) → IsInStrip form at found (Err end)
+    → (found ≡ None → at.row ≡ strip_at form at.row * form.rows_per_strip) → EndsBefore end (cursor_at at) → ⊥
+stops_at form at None end stop first before =
+    let is : end ≡ Fault at.page (strip_at form at.row * form.rows_per_strip) (File StripOutside) = cc in
+    let ends = rw is at before in
+    omega (arith, ends.1, first refl)
+stops_at form at (Some bytes) end (fault, stop, end_is) first before = let ends = rw end_is at before in omega (arith, ends.1)
+
+module _ (chains : FilesHaveOneChain) (file : List ℕ) where
+  ends_on : (at : Place) (here : FilePage) → IsPageAt file (cursor_at at) (Ok here) → (end : End) → IsRow file at (Err end)
+      → (strip_bytes here.endian file here.offset (strip_at here.form at.row) ≡ None
+      → at.row ≡ strip_at here.form at.row * here.form.rows_per_strip)
+      → EndsBefore end (cursor_at at) → ⊥
+  ends_on at here page end (Err none, page', is) first before =
+      let same = same_answer (one_page chains file (cursor_at at)) (Err none) (Ok here) page' page in absurd cc
+  ends_on at here page end (Ok there, page', is) first before =
+      let same = same_answer (one_page chains file (cursor_at at)) (Ok there) (Ok here) page' page in
+      let is_here : there ≡ here = cc in
+      let stop = rw is_here at is in
+      stops_at here.form at (strip_bytes here.endian file here.offset (strip_at here.form at.row)) end stop first before
+
+  -- after a page's last row they end on the page after it, or there is none
+  next_under : (p r : ℕ) (here : FilePage) (answer : Result Header FileFault) (end : End)
+      → IsPageUnder file (record { page = p; row = r }) answer (Ok here)
+      → IsPageUnder file (record { page = p + 1; row = 0 }) answer (Err end) → (at : Cursor) → at.page ≡ p → EndsBefore end at → ⊥
+  next_under p r here (Err fault) end is next at same before = cc
+  next_under p r here (Ok head) end (offsets, fault, chain, is) (offsets', fault', chain', next) at same before =
+      let one = chains head file in
+      let same_offsets : offsets' ≡ offsets = (one.one offsets' fault' chain').0 ∙ sym (one.one offsets fault chain).0 in
+      by_page (slice_get offsets p) refl is (slice_get offsets' (p + 1)) next (ap (λ (l : List ℕ). length l) same_offsets)
+    where
+      fault_or_not : (fault : Option FileFault) (pages : ℕ) → p < pages → end ≡ end_past_chain pages fault (record { page = p + 1; row = 0 })
+          → ⊥
+      fault_or_not (Some met) pages within end_is = let ends = rw end_is at before in omega (arith, ends.0, same, within)
+      fault_or_not None pages within end_is = by_test ((p + 1) == pages) (rw end_is at before)
+        where
+          by_test : (b : Bool) → EndsBefore (if b && (0 == 0) then Proper else Outside) at → ⊥
+          by_test true ends = ends
+          by_test false ends = ends
+
+      on_next : (q : ℕ) (answer : Result PageForm FileFault)
+          → ◌≡◌ {A = Result FilePage End} (Err end) (page_or_end head.endian q (p + 1) answer) → ⊥
+      on_next q (Ok form) e = cc
+      on_next q (Err refused) e =
+          let end_is : end ≡ Fault (p + 1) 0 (File refused) = cc in
+          let ends = rw end_is at before in
+          omega (arith, ends.0, same)
+
+      by_page : (found : Option ℕ) → slice_get offsets p ≡ found
+          → Ok here ≡ page_over head.endian file offsets fault (record { page = p; row = r }) found
+          → (later : Option ℕ) → Err end ≡ page_over head.endian file offsets' fault' (record { page = p + 1; row = 0 }) later
+          → length offsets' ≡ length offsets → ⊥
+      by_page None none is later next counts = cc
+      by_page (Some q) there is None next counts =
+          let within = slice_get_within offsets p q there in
+          let end_is : end ≡ end_past_chain (length offsets') fault' (record { page = p + 1; row = 0 }) = cc in
+          fault_or_not fault' (length offsets') (omega (arith, within, counts)) end_is
+      by_page (Some q) there is (Some q') next counts = on_next q' (page head.endian file q') next
+
+  in_page : (form : PageForm) (at : Place) (found : Option (List ℕ)) (end : End) (before : Cursor) → IsInStrip form at found (Err end)
+      → before.page < at.page → EndsBefore end before → ⊥
+  in_page form at None end before stop less ends =
+      let is : end ≡ Fault at.page (strip_at form at.row * form.rows_per_strip) (File StripOutside) = cc in
+      let both = rw is at ends in
+      omega (arith, both.0, less)
+  in_page form at (Some bytes) end before (fault, stop, end_is) less ends =
+      let both = rw end_is at ends in
+      omega (arith, both.0, less)
+
+  ends_next : (p r : ℕ) (here : FilePage) → IsPageAt file (record { page = p; row = r }) (Ok here) → (end : End)
+      → IsRow file (first_at (p + 1) 0) (Err end) → (at : Cursor) → at.page ≡ p → EndsBefore end at → ⊥
+  ends_next p r here page end (Err none, page', is) at same before =
+      let end_is : end ≡ none = cc in
+      next_under p r here (header file) none page page' at same (rw end_is at before)
+  ends_next p r here page end (Ok there, page', is) at same before =
+      in_page there.form (first_at (p + 1) 0) (strip_bytes there.endian file there.offset (strip_at there.form 0)) end at is
+      (omega (arith, same)) before
+
+  module _ (forms : FormsAreWhole) (begun : Begun) (item : Item) (end : End) (split : IsSplit file begun item [] end) where
+    abbrev end_read : IsRead file split.at item split.to
+    end_read = read_at file split.at item split.to split.step
+
+    abbrev its_form : PageForm
+    its_form = end_read.here.form
+
+    page_there : (r : ℕ) → IsPageAt file (record { page = item.page; row = r }) (Ok end_read.here)
+    page_there r = subst (λ (p : ℕ). IsPageAt file (record { page = p; row = r }) (Ok end_read.here)) (sym end_read.is.same_page)
+        (any_row file (cursor_at split.at) r end_read.here end_read.page)
+
+    stop_at : (to : Place) → place_after its_form item ≡ to → IsRow file to (Err end)
+    stop_at to is = subst (λ (t : Place). IsRow file t (Err end)) (end_read.to_is ∙ is) split.rest
+
+    ends_after_item : EndsBefore end (cursor_after item) → ⊥
+    ends_after_item before = elim (cases_after its_form item) [
+      | inl (last, is) ↦
+          ends_next item.page item.row end_read.here (page_there item.row) end (stop_at _ is) (cursor_after item) refl before
+      | inr (inl (within, first, is)) ↦
+          ends_on (first_at item.page (item.row + 1)) end_read.here (page_there (item.row + 1)) end (stop_at _ is)
+          (λ none. strip_begin its_form.rows_per_strip (item.row + 1) first) before
+      | inr (inr (within, inside, is)) ↦
+          let next = same_strip forms chains file split.at item split.to end_read inside in
+          ends_on (inner_after its_form item) end_read.here (page_there (item.row + 1)) end (stop_at _ is)
+          (λ none.
+          let there = rw (sym next.0) at end_read.bytes_are in
+          let nothing : ◌≡◌ {A = Option (List ℕ)} None (Some end_read.bytes) = sym none ∙ there in
+          absurd cc) before
+    ]
+
+pub tails_end_after : FormsAreWhole → FilesHaveOneChain → TailsEndAfter
+tails_end_after forms chains file begun all end n item tail there last before =
+    let split = split_at_number file begun all end n item tail there in
+    ends_after_item chains file forms begun item end
+    (subst (λ (l : List Item). IsSplit file begun item l end) (drop_all (n + 1) all (omega (arith, last))) split) before

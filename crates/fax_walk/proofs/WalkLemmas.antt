@@ -1,6 +1,6 @@
 -- A walk that goes on, or ends.
-use Rattle.std.proofs.Common.{◌≡◌, ℕ, ◌+◌, ◌-◌, ◌^◌, ◌<◌, ◌≤◌, ◌⊎◌, inl, inr, Bool, true, false, List, [], ◌∷◌, ◌++◌, length, drop, Option, Some}
-use Rattle.std.proofs.Common.{None, Result, Ok, Err, refl, sym, ap, ◌∙◌, subst, arith, length-append, length-drop, append_assoc, append-nil}
+use Rattle.std.proofs.Common.{◌≡◌, ℕ, ◌+◌, ◌-◌, ◌^◌, ◌<◌, ◌≤◌, ◌⊎◌, inl, inr, true, List, [], ◌∷◌, ◌++◌, length, drop, Option, Some}
+use Rattle.std.proofs.Common.{None, Ok, Err, refl, sym, ap, ◌∙◌, subst, arith, length-append, length-drop, append_assoc, append-nil}
 use Rattle.std.proofs.lemmas.Bool.{cases_lt}
 use Rattle.std.proofs.lemmas.List.{drop_all}
 use Rattle.std.specs.Prelude.{slice_get}
@@ -16,17 +16,17 @@ use Rattle.fax_walk.specs.declared.end.End.TheVariants.{Proper, Fault, Outside}
 use Rattle.fax_walk.specs.declared.opening.OpenFault.{OpenFault}
 use Rattle.fax_walk.specs.declared.opening.OpenFault.TheVariants.{Memory, Ended}
 use Rattle.fax_walk.specs.InOrder.{AreFrom, LeadTo, EndsAfter, HasToldNoOther, IsLeftOf}
-use Rattle.fax_walk.specs.Pages.{FilePage, IsPageAt}
+use Rattle.fax_walk.specs.Pages.{IsPageAt}
 use Rattle.fax_walk.specs.LongCursor.{LongPlace}
 use Rattle.fax_walk.specs.Left.{AreRead, EndsBefore, EntersPage, HasEndedAs, HandsOut, IsCursorOf, IsItemNumber, IsLeft, IsLongOf, IsNext, WalkView}
-use Rattle.fax_walk.specs.Rows.{IsRow, IsTailFrom, Item, Place, begins_at, cursor_after, first_at, long_at, place_after}
+use Rattle.fax_walk.specs.Rows.{IsRow, IsTailFrom, Item, Place, begins_at, first_at, long_at, place_after}
 use Rattle.fax_walk.specs.PageLaws.{BeginningsHaveOneTail}
 use Rattle.fax_walk.specs.code.Opening.{page_with}
-use Rattle.fax_walk.specs.code.Stages.{GivesNone, GivesRow, IsOpen, IsOpenedAt, PageState, item_of, place_of, row_of, skipped}
+use Rattle.fax_walk.specs.code.Stages.{GivesNone, GivesRow, IsOpen, IsOpenedAt, PageState, place_of, row_of, skipped}
 use Rattle.fax_walk.specs.declared.end.WalkFault.{WalkFault}
 use Rattle.fax_walk.specs.declared.end.WalkFault.TheVariants.{Memory as NoMemory, AtRow, CursorOutside}
 use Rattle.fax_walk.specs.code.Walk.{IsAdvance, answer_of, GoesOnFrom, HasCome, HasEndedOn, HasReadTo, IsAfterItem, IsEntered, IsOpenOrNone, IsOpenedFirst}
-use Rattle.fax_walk.specs.code.Walk.{IsReadNext, IsShown, IsSound, ShowsLast, StandsAt}
+use Rattle.fax_walk.specs.code.Walk.{IsReadNext, IsSound, ShowsLast, StandsAt}
 use Rattle.fax_walk.proofs.InOrderLemmas.{IsListed, joined, leads_both, number_dropped}
 use Rattle.fax_walk.proofs.OpenPageLemmas.{at_end}
 use Rattle.fax_walk.proofs.RowLawLemmas.{LinesAreRead, cases_after, rows_listed}
@@ -500,13 +500,13 @@ module _ (walk : WalkView) (cursor : Cursor) (page : Option PageState) where
 -- where the next row is read
 pub open_or_none : (file : List ℕ) (begun : Begun) (given : ℕ) (cursor : Cursor) (page : Option PageState)
     → GoesOnFrom file begun given cursor page → IsOpenOrNone page
-open_or_none file begun given cursor None from = tt
-open_or_none file begun given cursor (Some page) from = from.0
+open_or_none _ _ given cursor None from = tt
+open_or_none _ _ given cursor (Some page) from = from.0
 
 pub few_more : (file : List ℕ) (begun : Begun) (given : ℕ) (cursor : Cursor) (page : Option PageState)
     → ShowsLast file begun (given + 1) cursor page → given + 1 < 2 ^ 64
-few_more file begun given cursor None shows = absurd (omega (arith, shows))
-few_more file begun given cursor (Some page) shows = shows.few
+few_more _ _ given cursor None shows = absurd (omega (arith, shows))
+few_more _ _ given cursor (Some page) shows = shows.few
 
 -- the rows have ended so
 pub advance_ends : (old new : WalkView) (end : End) → HasEndedAs old end new → IsAdvance old (answer_of end) new

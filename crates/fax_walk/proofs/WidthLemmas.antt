@@ -1,27 +1,18 @@
--- The rows of a file are as wide as its pages.
-use Rattle.std.proofs.Common.{◌≡◌, ℕ, zero, suc, ◌+◌, ◌-◌, ◌<◌, ◌≤◌, ◌⊎◌, inl, inr, Bool, true, false, List, [], ◌∷◌, ◌++◌, map, length}
+-- A row that is read is as wide as its reference.
+use Rattle.std.proofs.Common.{◌≡◌, ℕ, zero, suc, ◌+◌, ◌-◌, ◌<◌, ◌≤◌, ◌⊎◌, inl, inr, Bool, true, false, List, [], ◌∷◌, ◌++◌, length}
 use Rattle.std.proofs.Common.{replicate, Option, Some, None, pos, negsuc, ◌<ℤ◌, ◌≤ℤ◌, refl, sym, ap, ◌∙◌, subst, arith, length-append}
 use Rattle.std.specs.Prelude.{◌&&◌, nat_lt, not, unwrap_or, if◌then◌else◌}
 use Rattle.std.proofs.lemmas.Int.{ints}
-use Rattle.std.proofs.lemmas.List.{length-map, length-replicate}
+use Rattle.std.proofs.lemmas.List.{length-replicate}
 use Rattle.std.proofs.lemmas.Bool.Decides.{nat_tests}
 use Rattle.fax_bits.specs.declared.Colour.{Colour}
-use Rattle.fax_bits.specs.declared.Colour.TheVariants.{White}
 use Rattle.fax_bits.specs.declared.modes.ModeCode.{ModeCode}
 use Rattle.fax_bits.specs.declared.modes.ModeCode.TheVariants.{Pass, Horizontal, Vertical, Extension}
 use Rattle.fax_rows.specs.Elements.{other, is_changing, same_colour, pel, is_right_of, first_place, next_change, next_of}
 use Rattle.fax_rows.specs.TwoDimensional.{Position, beginning, first_pel, b1_from, b2_from, IsStepBy, AreSteps}
 use Rattle.fax_page.specs.declared.Dimension.{Dimension}
 use Rattle.fax_page.specs.declared.Dimension.TheVariants.{OneDimensional, TwoDimensional}
-use Rattle.fax_page.specs.declared.StripForm.{StripForm}
-use Rattle.fax_page.specs.declared.StripFault.{StripFault}
 use Rattle.fax_page.specs.Lines.{IsRowIn}
-use Rattle.fax_page.specs.Strip.{AreLines, white_row}
-use Rattle.fax_files.specs.declared.Cause.{Cause}
-use Rattle.fax_files.specs.declared.PageForm.{PageForm}
-use Rattle.fax_files.specs.declared.Endian.{Endian}
-use Rattle.fax_files.specs.PageRows.{AreStrips, strip_form, joined, shown}
-use Rattle.fax_files.specs.PbmLaws.{AreOfWidth}
 
 found_by : (test : ℕ → Bool) (i all later : ℕ) → i < all → (b : Bool) → test i ≡ b → (later ≡ all) ⊎ ((later < all) × (test later ≡ true))
     → ((if b then i else later) ≡ all) ⊎ (((if b then i else later) < all) × (test (if b then i else later) ≡ true))
@@ -125,46 +116,3 @@ row_in OneDimensional width reference b row rest wide is = is.whole
 row_in TwoDimensional width reference b row rest wide is =
     let painted = steps_paint reference beginning b is.positions is.last rest (refl, omega arith) is.steps in
     ap length is.pels ∙ painted.0 ∙ ap (λ (o : Option ℕ). unwrap_or o 0) is.ends ∙ wide
-
-lines_wide : (form : StripForm) (i : ℕ) (reference : List Colour) (b : List Bool) (rows : List (List Colour)) (end : Option StripFault)
-    (left : List Bool)
-    → length reference ≡ form.width → AreLines form i reference b rows end left → AreOfWidth form.width rows
-lines_wide form i reference b [] end left wide lines = tt
-lines_wide form i reference b (row ∷ rows) end left wide lines =
-    let line = lines.2 in
-    let here : length row ≡ form.width = row_in line.dimension form.width reference line.codes row lines.0 wide line.coded in
-    (here, lines_wide form (i + 1) row lines.0 rows end left here lines.3)
-
-joined_wide : (width : ℕ) (rows more : List (List Colour)) → AreOfWidth width rows → AreOfWidth width more → AreOfWidth width (rows ++ more)
-joined_wide width [] more first second = second
-joined_wide width (row ∷ rows) more first second = (first.0, joined_wide width rows more first.1 second)
-
-strips_wide : (endian : Endian) (file : List ℕ) (q : ℕ) (form : PageForm) (s : ℕ) (strips : List (List (List Colour))) (end : Option Cause)
-    → AreStrips endian file q form s strips end → AreOfWidth form.width (joined strips)
-strips_wide endian file q form s [] end are = tt
-strips_wide endian file q form s (rows ∷ strips) end are =
-    let white = length-replicate form.width White in
-    let strip = are.4 in
-    let own : AreOfWidth form.width rows =
-    lines_wide (strip_form form s) 0 (white_row form.width) _ rows are.2 strip.left white strip.lines in
-    let later : AreOfWidth form.width (joined strips) = elim are.5 [
-      | inl more ↦ strips_wide endian file q form (s + 1) strips end more.1
-      | inr stop ↦ subst (λ (l : List (List (List Colour))). AreOfWidth form.width (joined l)) (sym stop.2) tt
-    ] in
-    joined_wide form.width rows (joined strips) own later
-
-exchanged_wide : (width : ℕ) (rows : List (List Colour)) → AreOfWidth width rows → AreOfWidth width (map (map other) rows)
-exchanged_wide width [] are = tt
-exchanged_wide width (row ∷ rows) are = (length-map row other ∙ are.0, exchanged_wide width rows are.1)
-
-shown_by : (exchanged : Bool) (width : ℕ) (rows : List (List Colour)) → AreOfWidth width rows
-    → AreOfWidth width (if exchanged then map (map other) rows else rows)
-shown_by true width rows are = exchanged_wide width rows are
-shown_by false width rows are = are
-
--- the rows of a page are as wide as its form
-pub page_wide : (endian : Endian) (file : List ℕ) (q : ℕ) (form : PageForm) (s : ℕ) (strips : List (List (List Colour)))
-    (end : Option Cause)
-    → AreStrips endian file q form s strips end → AreOfWidth form.width (shown form (joined strips))
-page_wide endian file q form s strips end are =
-    shown_by form.exchanged form.width (joined strips) (strips_wide endian file q form s strips end are)

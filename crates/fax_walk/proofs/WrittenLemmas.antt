@@ -27,7 +27,7 @@ module _ (file : List ℕ) (head : Header) (is : header file ≡ Ok head) (offse
   proper_after p e all =
       let at : Cursor = record { page = p; row = 0 } in
       let proper : end_past_chain (length offsets) None at ≡ Proper =
-      ap (λ (n : ℕ). end_past_chain n None at) (sym all) ∙ sym (proper_end p None) in
+      ap (λ (n : ℕ). end_past_chain n None at) (sym all) ∙ proper_end p in
       rw proper at (no_page file head is offsets None chain at e)
 
 -- rows that are handed out, and then the rows end properly

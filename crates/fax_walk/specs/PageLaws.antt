@@ -1,5 +1,5 @@
 -- Laws of what the pages of a file hand out, which the functions of the module `laws` prove.
-use Rattle.std.specs.Prelude.{◌≡◌, ◌↔◌, ℕ, ◌+◌, ◌*◌, ◌<◌, List, [], ◌∷◌, map, length, drop, Some}
+use Rattle.std.specs.Prelude.{◌≡◌, ◌↔◌, ℕ, ◌+◌, ◌*◌, ◌<◌, List, [], ◌∷◌, length, drop, Some}
 use Rattle.std.specs.Prelude.{None, Ok, slice_get, ⊤}
 use Rattle.fax_walk.specs.declared.begun.Begun.{Begun}
 use Rattle.fax_walk.specs.declared.begun.Begun.TheVariants.{At, Inside}
@@ -7,14 +7,11 @@ use Rattle.fax_walk.specs.declared.cursor.Cursor.{Cursor}
 use Rattle.fax_walk.specs.declared.end.End.{End}
 use Rattle.fax_walk.specs.Cursor.{start}
 use Rattle.fax_walk.specs.LongCursor.{LongPlace}
-use Rattle.fax_walk.specs.Laws.{IsOne}
-use Rattle.fax_walk.specs.Items as Items
-use Rattle.fax_walk.specs.LongTail as LongTail
 use Rattle.fax_walk.specs.Pages.{FormItem, IsForm, IsFormTail, AreForms, FilePage, IsPageAt}
 use Rattle.fax_walk.specs.Pages.{cursor_after_page}
 use Rattle.fax_walk.specs.PagesLeft.{PagesView, AreFormsLeft, HandsOutPage, PagesHaveEnded}
-use Rattle.fax_walk.specs.InOrder.{AreFrom, LeadTo, EndsAfter}
-use Rattle.fax_walk.specs.Left.{WalkView, IsTailOf, IsLeft, IsItemNumber, IsCursorOf, IsLongOf}
+use Rattle.fax_walk.specs.InOrder.{AreFrom, LeadTo, EndsAfter, IsOne}
+use Rattle.fax_walk.specs.Left.{WalkView, EndsBefore, IsTailOf, IsLeft, IsItemNumber, IsCursorOf, IsLongOf}
 use Rattle.fax_walk.specs.Rows.{Item, first_at, strip_at, row_in_strip, inner_at, IsRow, AreItems}
 use Rattle.fax_walk.specs.Rows.{IsTailFrom, cursor_after, long_after}
 
@@ -71,6 +68,28 @@ PlacesAreReached =
     → IsPageAt file (record { page = item.page; row = item.row }) (Ok here)
     → long_after here.form item ≡ Some place
     → IsReached file (Inside place)
+
+-- two items of the same page and row are one, whatever the walks began with that handed them out:
+-- so there is one place inside a strip after an item, or none (this project's profile)
+abbrev pub ItemsStandByPlace : Type 0
+ItemsStandByPlace =
+    (file : List ℕ) (begun other : Begun) (all others : List Item) (end another : End) (n m : ℕ)
+    (item its : Item)
+    → IsReached file begun → IsReached file other → IsTailFrom file begun all end
+    → IsTailFrom file other others another → slice_get all n ≡ Some item
+    → slice_get others m ≡ Some its → item.page ≡ its.page → item.row ≡ its.row → item ≡ its
+
+-- where item number n is the last, the rows end after it: so a walk from the cursor after it has
+-- read all rows before the cursor's in its strip (this project's profile)
+abbrev pub TailsEndAfter : Type 0
+TailsEndAfter =
+    (file : List ℕ) (begun : Begun) (all : List Item) (end : End) (n : ℕ) (item : Item)
+    → IsTailFrom file begun all end → slice_get all n ≡ Some item → n + 1 ≡ length all
+    → EndsBefore end (cursor_after item) → ⊥
+
+-- each file has items and an end, and one list of them only (this project's profile)
+abbrev pub FilesHaveOneItems : Type 0
+FilesHaveOneItems = (file : List ℕ) → IsOne (AreItems file)
 
 -- each file has forms and an end, and one list of them only (this project's profile)
 abbrev pub FilesHaveOneForms : Type 0
@@ -154,23 +173,3 @@ FormsLeftGoOn =
 abbrev pub FormsLeftEnd : Type 0
 FormsLeftEnd = (old new : PagesView) (end : End) → PagesHaveEnded old end new
     → AreFormsLeft old [] end × AreFormsLeft new [] end
-
--- an item of the definitions by strips: one without its bits (this project's profile)
-abbrev pub plain : Item → Items.Item
-plain item = record { page = item.page; row = item.row; pels = item.pels }
-
--- these items without their bits (this project's profile)
-abbrev pub HasPlain : (List Item → End → Type 0) → List Items.Item → End → Type 0
-HasPlain holds items end = (all : List Item) × holds all end × (items ≡ map plain all)
-
--- a walk that begins so hands out the items of the definitions by strips (this project's profile)
-abbrev pub RowTailsAreAsBefore : Type 0
-RowTailsAreAsBefore =
-    (file : List ℕ) (begun : Begun) (items : List Items.Item) (end : End)
-    → LongTail.IsTailFrom file begun items end ↔ HasPlain (IsTailFrom file begun) items end
-
--- a file has the items of the definitions by strips (this project's profile)
-abbrev pub RowsAreAsBefore : Type 0
-RowsAreAsBefore =
-    (file : List ℕ) (items : List Items.Item) (end : End)
-    → Items.AreItems file items end ↔ HasPlain (AreItems file) items end

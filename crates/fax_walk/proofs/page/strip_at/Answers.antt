@@ -1,5 +1,4 @@
 use Rattle.std.proofs.Common.{◌∙◌}
-use Rattle.fax_walk.specs.LongCursor.{LongPlace}
 use Rattle.fax_walk.proofs.OpenPageLemmas.{inner_is}
 use Rattle.fax_walk.proofs.page.strip_at.Goals as goal
 

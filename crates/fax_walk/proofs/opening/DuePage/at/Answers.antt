@@ -1,4 +1,4 @@
-use Rattle.std.proofs.Common.{◌≡◌, inl, sym, arith}
+use Rattle.std.proofs.Common.{inl, sym, arith}
 use Rattle.std.proofs.lemmas.Result.{err_from_is_err_and}
 use Rattle.fax_walk.proofs.EndingLemmas.{named_none, named_past, named_outside, named_page, named_refused}
 use Rattle.fax_walk.proofs.opening.DuePage.at.Goals as goal

@@ -1,4 +1,4 @@
-use Rattle.std.proofs.Common.{◌≡◌, ◌≤◌, sym, arith}
+use Rattle.std.proofs.Common.{◌≤◌, arith}
 use Rattle.std.proofs.lemmas.Bool.Decides.{nat_tests}
 use Rattle.fax_walk.specs.code.Stages.{PageState, row_of, row_shown}
 use Rattle.fax_walk.proofs.OpenPageLemmas.{rows_within, state}

@@ -1,7 +1,7 @@
 use Rattle.std.proofs.Common.{inl, inr, ap, sym, arith}
 use Rattle.fax_page.specs.declared.StripForm.{StripForm}
 use Rattle.fax_walk.specs.code.Stages.{row_shown}
-use Rattle.fax_walk.proofs.OpenPageLemmas.{long_none, long_some, long_far, state}
+use Rattle.fax_walk.proofs.OpenPageLemmas.{long_none, state}
 use Rattle.fax_walk.proofs.page.OpenPage.long_cursor.Goals.{then-row-eq0-via-then-row-eq0}
 use Rattle.fax_walk.proofs.page.OpenPage.long_cursor.Goals.{then-row-eq0-via-else-row-eq0+then-row-strip_form}
 use Rattle.fax_walk.proofs.page.OpenPage.long_cursor.Goals as goal

@@ -1,5 +1,5 @@
-use Rattle.std.proofs.Common.{◌≡◌, ◌+◌, ◌^◌, ◌<◌, ◌≤◌, sym, arith}
-use Rattle.fax_walk.specs.code.Stages.{PageState, row_of, row_shown}
+use Rattle.std.proofs.Common.{◌^◌, ◌<◌, ◌≤◌, sym, arith}
+use Rattle.fax_walk.specs.code.Stages.{row_of, row_shown}
 use Rattle.fax_walk.proofs.OpenPageLemmas.{none_skipped, one_skipped, row_given, state}
 use Rattle.fax_walk.proofs.page.OpenPage.next.Goals as goal
 

@@ -3,7 +3,7 @@ use Rattle.std.specs.Prelude.{IfOk}
 use Rattle.fax_bits.specs.declared.Memory.{Memory}
 use Rattle.fax_walk.specs.LongCursor.{LongPlace}
 use Rattle.fax_walk.specs.Left.{WalkView}
-use Rattle.fax_walk.proofs.WalkLemmas.{long_is, no_page_given}
+use Rattle.fax_walk.proofs.WalkLemmas.{long_is}
 use Rattle.fax_walk.proofs.walk.Walk.long_cursor.Goals as goal
 
 if_ok : (result : Result (Option LongPlace) Memory) (P Q : Option LongPlace → Type 0) → ((place : Option LongPlace) → P place → Q place)

@@ -1,6 +1,6 @@
 use Rattle.std.proofs.Common.{refl, sym}
 use Rattle.fax_walk.specs.Left.{WalkView}
-use Rattle.fax_walk.proofs.WalkLemmas.{fault_answer, lent}
+use Rattle.fax_walk.proofs.WalkLemmas.{lent}
 use Rattle.fax_walk.proofs.walk.Walk.next_row.Goals as goal
 
 pub returns : goal.returns

@@ -1,0 +1,25 @@
+-- The runs of a row, and the strip of a row's number.
+use Rattle.std.proofs.Common.{◌≡◌, ℕ, zero, suc, ◌+◌, ◌*◌, ◌/◌, ◌%◌, ◌<◌, List, [], ◌∷◌, ◌++◌, replicate, refl, ap, ◌∙◌, arith}
+use Rattle.std.proofs.lemmas.Nat.{div-mul-add, mod-mul-add}
+use Rattle.fax_bits.specs.declared.Colour.{Colour}
+use Rattle.fax_bits.specs.declared.Colour.TheVariants.{White, Black}
+use Rattle.fax_rows.specs.Elements.{pels_of, runs_behind}
+
+-- a number by its quotient and rest
+pub in_strip : (m s k e : ℕ) → k < m → e ≡ s * m + k → (e / m ≡ s) × (e % m ≡ k)
+in_strip m s k e less is = (rw is (div-mul-add s m k less), rw is (mod-mul-add s m k less))
+
+replicate_more : (n : ℕ) (colour : Colour) (pels : List Colour) → replicate (n + 1) colour ++ pels ≡ replicate n colour ++ colour ∷ pels
+replicate_more zero colour pels = refl
+replicate_more (suc n) colour pels =
+    let e : suc n + 1 ≡ suc (n + 1) = omega arith in
+    rw e (ap (λ (l : List Colour). colour ∷ l) (replicate_more n colour pels))
+
+-- the pels of a row's runs are the row
+pub pels_behind : (colour : Colour) (n : ℕ) (row : List Colour) → pels_of colour (runs_behind colour n row) ≡ replicate n colour ++ row
+unfolding runs_behind
+pels_behind colour n [] = refl
+pels_behind White n (White ∷ row) = pels_behind White (n + 1) row ∙ replicate_more n White row
+pels_behind Black n (Black ∷ row) = pels_behind Black (n + 1) row ∙ replicate_more n Black row
+pels_behind White n (Black ∷ row) = ap (λ (l : List Colour). replicate n White ++ l) (pels_behind Black 1 row)
+pels_behind Black n (White ∷ row) = ap (λ (l : List Colour). replicate n Black ++ l) (pels_behind White 1 row)
