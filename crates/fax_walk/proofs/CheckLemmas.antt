@@ -31,7 +31,8 @@ module _ (file : List ℕ) where
     count = omega (arith, is.count, next.count, length-append is.items next.items);
   }
 
-  pub checked_to : (from middle : CheckPlace) (notes others : List Note) (rows more : ℕ) (end : End) → HasChecked file from middle notes rows
+  pub checked_to : (from middle : CheckPlace) (notes others : List Note) (rows more : ℕ) (end : End) → HasChecked file from middle notes
+      rows
       → IsCheckedTo file middle others more end → IsCheckedTo file from (notes ++ others) (rows + more) end
   checked_to from middle notes others rows more end is next = record {
     found = is.found ++ next.found;

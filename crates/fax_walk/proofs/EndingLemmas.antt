@@ -130,7 +130,8 @@ module _ (file : List ℕ) (number : ℕ) (chain : ChainState) (answer : Result 
         rw (there.1, before.file_is)
         (rw some at (page_here file chain.tiff.head before.head one.offsets one.end one.is (record { page = number; row = r })))
 
-    pub fields_refused : (refused : FileFault) → form_of directory ≡ Err refused → IsNoPage directory.file number (Fault number 0 (File refused))
+    pub fields_refused : (refused : FileFault) → form_of directory ≡ Err refused → IsNoPage directory.file number
+        (Fault number 0 (File refused))
     fields_refused refused bad r = rw bad at (found r)
 
     pub page_due : (new : ChainState) (form : PageForm) → new ≡ behind_answer chain answer → form_of directory ≡ Ok form → IsPageForm form

@@ -130,11 +130,13 @@ module _ (file : List ℕ) (place : LongPlace) where
   no_page_inside end ends = no_beginning file (Inside place) end (ends_inside end ends)
 
   module _ (due : PageDue) (named : IsNamed file place.at (Some due)) where
-    begins_inside : IsInnerOn due.directory.file (page_with due.directory due.form) place → Begins file (Inside place) (Ok (inner_at place, 0))
+    begins_inside : IsInnerOn due.directory.file (page_with due.directory due.form) place → Begins file (Inside place)
+        (Ok (inner_at place, 0))
     begins_inside inner = (Ok (page_with due.directory due.form), named.3, inl (rw (named.0) at inner, refl))
 
     pub opened_inside : (result : Result PageState OpenFault) → IfOk result (IsOpenedAt due.directory.file (inner_at place) 0 0)
-        → OnOk result (IsInnerOn due.directory.file (page_with due.directory due.form) place) → IfOk result (IsOpenedFirst file (Inside place))
+        → OnOk result (IsInnerOn due.directory.file (page_with due.directory due.form) place) → IfOk result
+        (IsOpenedFirst file (Inside place))
     opened_inside (Ok page) opened inner = record {
       first = inner_at place;
       dropped = 0;

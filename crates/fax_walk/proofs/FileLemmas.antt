@@ -1,6 +1,8 @@
 -- A TIFF file that is converted page by page.
-use Rattle.std.proofs.Common.{◌≡◌, ◌≢◌, ℕ, suc, ◌+◌, ◌<◌, ◌≤◌, inl, inr, max, Bool, true, false, List, [], ◌∷◌, ◌++◌, map, take, drop, length}
-use Rattle.std.proofs.Common.{Option, Some, None, Result, Ok, Err, refl, sym, ap, ◌∙◌, subst, arith, append_assoc, append-nil, length-append}
+use Rattle.std.proofs.Common.{◌≡◌, ◌≢◌, ℕ, suc, ◌+◌, ◌<◌, ◌≤◌, inl, inr, max, Bool, true, false, List, [], ◌∷◌, ◌++◌, map, take, drop}
+use Rattle.std.proofs.Common.{length}
+use Rattle.std.proofs.Common.{Option, Some, None, Result, Ok, Err, refl, sym, ap, ◌∙◌, subst, arith, append_assoc, append-nil}
+use Rattle.std.proofs.Common.{length-append}
 use Rattle.std.specs.Prelude.{if◌then◌else◌, ◌==◌, not, IfOk, IfErr, slice_get}
 use Rattle.std.proofs.lemmas.Bool.Decides.{nat_tests}
 use Rattle.std.proofs.lemmas.List.{take_at, drop_at}
@@ -26,14 +28,16 @@ use Rattle.fax_walk.specs.declared.options.ConvertFault.TheVariants.{OutputTooLa
 use Rattle.fax_walk.specs.declared.output.Output.{Output}
 use Rattle.fax_walk.specs.Cursor.{start}
 use Rattle.fax_walk.specs.InOrder.{LeadTo, EndsAfter}
-use Rattle.fax_walk.specs.Pages.{FormItem, FilePage, IsPageAt, IsPageUnder, page_over, IsForm, IsFormTail, AreForms, page_or_end, end_past_chain}
+use Rattle.fax_walk.specs.Pages.{FormItem, FilePage, IsPageAt, IsPageUnder, page_over, IsForm, IsFormTail, AreForms, page_or_end}
+use Rattle.fax_walk.specs.Pages.{end_past_chain}
 use Rattle.fax_walk.specs.Rows.{Item, Place, first_at, IsRow, AreItems}
 use Rattle.fax_walk.specs.PageLaws.{FilesHaveOneForms, FormTailOfStart}
 use Rattle.fax_walk.specs.Converted.{IsTiff, IsTooLarge, target_bytes, IsConverted, IsRefused, IsSource, SourcePage, page_of_form, pages_of}
 use Rattle.fax_walk.specs.PagesLeft.{PagesView, HandsOutPage, PagesHaveEnded, IsNextPage, pages_start}
 use Rattle.fax_walk.specs.Left.{WalkView, walk_start}
 use Rattle.fax_walk.specs.code.Output.{Progress, with_page, page_of, form_sheet, IsWrittenTo, IsBeginning, IsWhole}
-use Rattle.fax_walk.specs.code.Sources.{AreWholePages, IsBeforePage, ConvertsRows, EndsWith, IsPageCount, ArePagesWritten, source_fault, pels_of}
+use Rattle.fax_walk.specs.code.Sources.{AreWholePages, IsBeforePage, ConvertsRows, EndsWith, IsPageCount, ArePagesWritten, source_fault}
+use Rattle.fax_walk.specs.code.Sources.{pels_of}
 use Rattle.fax_walk.specs.code.Sources.{HasRows}
 use Rattle.fax_walk.proofs.InOrderLemmas.{leads_on, leads_both, ended_at}
 use Rattle.fax_walk.proofs.NumberLemmas.{next_led, end_led}
@@ -134,11 +138,13 @@ pages_are (one ∷ forms) items pages (own, others, later, items_are, count, is,
     ∙ ap (λ (l : List SourcePage). page_of_form one.form (map (λ item. item.pels) (take one.form.rows items)) ∷ l)
     (pages_are forms others later rest ∙ ap (pages_of forms) (sym second))
 
-no_first : (endian : Endian) (q p : ℕ) (answer : Result PageForm FileFault) → ◌≡◌ {A = Result FilePage End} (Err Proper) (page_or_end endian q p answer) → ⊥
+no_first : (endian : Endian) (q p : ℕ) (answer : Result PageForm FileFault) → ◌≡◌ {A = Result FilePage End} (Err Proper)
+    (page_or_end endian q p answer) → ⊥
 no_first endian q p (Err refused) e = cc
 no_first endian q p (Ok form) e = cc
 
-some_offsets : (head : Header) (file : List ℕ) (fault : Option FileFault) (offsets : List ℕ) → head.first ≢ 0 → IsChain head file offsets fault
+some_offsets : (head : Header) (file : List ℕ) (fault : Option FileFault) (offsets : List ℕ) → head.first ≢ 0 → IsChain head file offsets
+    fault
     → ◌≡◌ {A = Result FilePage End} (Err Proper)
     (page_over head.endian file offsets fault (record { page = 0; row = 0 }) (slice_get offsets 0))
     → ⊥
@@ -165,7 +171,8 @@ some_pages file (one ∷ forms) are = omega arith
 
 -- pages that are handed out stand in the chain
 module _ (file : List ℕ) where
-  pages_inside : (head : Header) (is : header file ≡ Ok head) (offsets : List ℕ) (fault : Option FileFault) → IsChain head file offsets fault
+  pages_inside : (head : Header) (is : header file ≡ Ok head) (offsets : List ℕ) (fault : Option FileFault) → IsChain head file offsets
+      fault
       → FilesHaveOneChain → (forms : List FormItem) (p k : ℕ) → LeadTo (IsForm file) p forms k → p ≤ length offsets → k ≤ length offsets
   pages_inside head is offsets fault chain chains [] p k to_is within = rw to_is within
   pages_inside head is offsets fault chain chains (item ∷ forms) p k (later, step, lead) within =
@@ -176,7 +183,8 @@ module _ (file : List ℕ) where
       over None here offsets' fault' e is = absurd cc
       over (Some q) here offsets' fault' e is = slice_get_within offsets' p q e
 
-      under : (answer : Result Header FileFault) (here : FilePage) → header file ≡ answer → IsPageUnder file (record { page = p; row = 0 }) answer (Ok here)
+      under : (answer : Result Header FileFault) (here : FilePage) → header file ≡ answer → IsPageUnder file
+          (record { page = p; row = 0 }) answer (Ok here)
           → p < length offsets
       under (Err met) here e is = absurd cc
       under (Ok head') here e (offsets', fault', chain', is') =
@@ -201,7 +209,8 @@ module _ (file : List ℕ) where
       → IsPageAt file (record { page = k; row = 0 }) (Err Outside) → ⊥
   never_outside chains forms k lead there = by_header (header file) refl there
     where
-      by_header : (answer : Result Header FileFault) → header file ≡ answer → IsPageUnder file (record { page = k; row = 0 }) answer (Err Outside)
+      by_header : (answer : Result Header FileFault) → header file ≡ answer → IsPageUnder file (record { page = k; row = 0 }) answer
+          (Err Outside)
           → ⊥
       by_header (Err met) e is = cc
       by_header (Ok head) e (offsets, fault, chain, is) =

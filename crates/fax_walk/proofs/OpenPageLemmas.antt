@@ -1,5 +1,6 @@
 -- A page that is open: where it stands, and what is read there.
-use Rattle.std.proofs.Common.{◌≡◌, ℕ, ◌+◌, ◌-◌, ◌*◌, ◌<◌, ◌≤◌, ◌⊎◌, inl, inr, min, true, false, List, [], ◌∷◌, ◌++◌, length, drop, Option, Some, None}
+use Rattle.std.proofs.Common.{◌≡◌, ℕ, ◌+◌, ◌-◌, ◌*◌, ◌<◌, ◌≤◌, ◌⊎◌, inl, inr, min, true, false, List, [], ◌∷◌, ◌++◌, length, drop, Option}
+use Rattle.std.proofs.Common.{Some, None}
 use Rattle.std.proofs.Common.{Result, Ok, Err, refl, sym, ap, ◌∙◌, subst, arith, add-mul, length-append, ◌^◌}
 use Rattle.std.proofs.Math.Nat.{mul-le-mul_right, mod-eq-sub-div-mul, div-add-mod, zero-div, zero-mod}
 use Rattle.std.proofs.lemmas.Bool.{cases_lt}
@@ -31,10 +32,12 @@ use Rattle.fax_walk.specs.Rows.{IsInner, IsInnerOn, inner_at, long_at, row_in_st
 use Rattle.fax_walk.specs.Pages.{IsPageAt}
 use Rattle.fax_walk.specs.InOrder.{LeadTo}
 use Rattle.fax_walk.specs.code.Opening.{IsFilePage, PageDue, page_with}
-use Rattle.fax_walk.specs.code.Stages.{GivesRow, HasSkipped, IsNoInner, IsNoPlace, IsNoStrip, IsRefusal, IsOpen, IsOpenedAt, IsSamePage, IsStripOf, KeepsPlace}
+use Rattle.fax_walk.specs.code.Stages.{GivesRow, HasSkipped, IsNoInner, IsNoPlace, IsNoStrip, IsRefusal, IsOpen, IsOpenedAt, IsSamePage}
+use Rattle.fax_walk.specs.code.Stages.{IsStripOf, KeepsPlace}
 use Rattle.fax_walk.specs.code.Stages.{PageState, ReadsPageRow, StopsAtRow, item_of, place_of, row_of, skipped}
 use Rattle.fax_walk.proofs.InOrderLemmas.{leads_on}
-use Rattle.fax_walk.proofs.RunLemmas.{in_strip, pels_behind}
+use Rattle.fax_walk.proofs.RunLemmas.{pels_behind}
+use Rattle.fax_walk.proofs.StripPlaceLemmas.{in_strip}
 use Rattle.fax_walk.proofs.RowLawLemmas.{exchanged_twice}
 
 -- each strip of a page holds some of its rows
@@ -66,7 +69,8 @@ more_strips form number strip limits form_is all_read due =
     (omega (arith, count, all_read, due, enough, add-mul number 1 form.rows_per_strip))
 
 -- the place of a row of a page: a strip's first, or one inside its strip
-pub at_first : (form : PageForm) (p r : ℕ) (inner : Inner) → r < form.rows → row_in_strip form r ≡ 0 → place_on form p r inner ≡ first_at p r
+pub at_first : (form : PageForm) (p r : ℕ) (inner : Inner) → r < form.rows → row_in_strip form r ≡ 0 → place_on form p r inner ≡ first_at
+    p r
 at_first form p r inner below none =
     let test : nat_lt r form.rows ≡ true = grind (arith, nat_tests, below) in
     let first : (row_in_strip form r == 0) ≡ true = grind (arith, nat_tests, none) in
@@ -125,7 +129,8 @@ module _ (page : PageState) (limits : IsPageForm page.form) (strip_is : IsStripO
 
     module _ (its : IsFilePage page.page page.chain page.directory page.form) where
       -- the row that is due is read
-      module _ (strip : StripState) (pels : List Colour) (reads : ReadsRow page.strip strip) (pels_are : pels ≡ exchanged page.form strip.reference)
+      module _ (strip : StripState) (pels : List Colour) (reads : ReadsRow page.strip strip)
+          (pels_are : pels ≡ exchanged page.form strip.reference)
           (within : strip.place ≤ 8 * length strip.bytes) where
         abbrev item : Item
         item = record { page = page.page; row = row_of page; pels = pels; bits = strip.place }
@@ -153,7 +158,8 @@ module _ (page : PageState) (limits : IsPageForm page.form) (strip_is : IsStripO
           ),
         )
 
-        pub place_next : place_on page.form page.page (page.number * n + strip.row) (record { bits = strip.place; reference = strip.reference })
+        pub place_next : place_on page.form page.page (page.number * n + strip.row)
+            (record { bits = strip.place; reference = strip.reference })
             ≡ place_after page.form item
         place_next =
             let next : page.number * n + strip.row ≡ row_of page + 1 = omega (arith, reads.next_row) in
@@ -201,7 +207,8 @@ module _ (page : PageState) (limits : IsPageForm page.form) (strip_is : IsStripO
         rw (next_row_is strip none) (at_first page.form page.page (row_of page) _ due next_numbers.1 ∙ sym first_there)
 
 -- so many rows of a page are read at most
-pub rows_within : (page : PageState) → IsPageForm page.form → page.number < page.form.strips → page.strip.form ≡ strip_form page.form page.number
+pub rows_within : (page : PageState) → IsPageForm page.form → page.number < page.form.strips → page.strip.form ≡ strip_form page.form
+    page.number
     → page.strip.row ≤ page.strip.form.rows → row_of page ≤ page.form.rows
 rows_within page limits within form_is within_strip =
     let count : page.strip.form.rows ≡ min page.form.rows_per_strip (page.form.rows - page.number * page.form.rows_per_strip) =
@@ -395,7 +402,8 @@ page_first due p is =
 
 pub opened_after : (file : List ℕ) (due : PageDue) (p read : ℕ) (result : Result PageState OpenFault) → due.page ≡ p
     → due.directory.file ≡ file
-    → IfOk result (IsOpenedAt due.directory.file (first_at due.page (strip_at due.form 0 * due.form.rows_per_strip)) (row_in_strip due.form 0)
+    → IfOk result (IsOpenedAt due.directory.file (first_at due.page (strip_at due.form 0 * due.form.rows_per_strip))
+    (row_in_strip due.form 0)
     read)
     → IfOk result (IsOpenedAt file (first_at p 0) 0 read)
 opened_after file due p read (Ok page) page_is file_is opened = record {
@@ -424,13 +432,15 @@ inner_is width bytes place reference within width_is runs =
     (record { within = within; width_is = rw pels width_is; runs = rw pels runs }, sym pels)
 
 -- a place inside a strip of a page that is due
-module _ (due : PageDue) (place : LongPlace) (its : IsFilePage due.page due.chain due.directory due.form) (same_page : due.page ≡ place.at.page)
+module _ (due : PageDue) (place : LongPlace) (its : IsFilePage due.page due.chain due.directory due.form)
+    (same_page : due.page ≡ place.at.page)
     (below : place.at.row < due.form.rows) (some : 0 < row_in_strip due.form place.at.row) where
   abbrev its_number : ℕ
   its_number = strip_at due.form place.at.row
 
   its_here : IsPageAt due.directory.file place.at (Ok (page_with due.directory due.form))
-  its_here = subst (λ (p : ℕ). IsPageAt due.directory.file (record { page = p; row = place.at.row }) (Ok (page_with due.directory due.form)))
+  its_here = subst (λ (p : ℕ). IsPageAt due.directory.file (record { page = p; row = place.at.row })
+      (Ok (page_with due.directory due.form)))
       same_page (its.here place.at.row)
 
   pub no_strip : bytes_of due.directory its_number ≡ None
@@ -447,7 +457,8 @@ module _ (due : PageDue) (place : LongPlace) (its : IsFilePage due.page due.chai
     pub not_inner : (IsInner due.form.width bytes place → ⊥) → IsNoInner due place Outside
     not_inner not = inr (λ inner. not (rw there at inner.fits), refl)
 
-    pub no_place : (fault : OpenFault) → IsNoPlace (strip_form due.form its_number) bytes place fault → IsRefusal (IsNoInner due place) fault
+    pub no_place : (fault : OpenFault) → IsNoPlace (strip_form due.form its_number) bytes place fault → IsRefusal (IsNoInner due place)
+        fault
     no_place Memory none = tt
     no_place (Ended end) (end_is, not) = rw end_is (not_inner not)
 
@@ -490,12 +501,22 @@ module _ (page : PageState) (limits : IsPageForm page.form) (within : page.numbe
 
   module _ (some : 0 < page.strip.row) (due : page.strip.row < page.strip.form.rows) where
     inside : place_of page
-        ≡ record { page = page.page; row = row_of page; inner = Some (record { bits = page.strip.place; reference = page.strip.reference }) }
+        ≡ record {
+          page = page.page;
+          row = row_of page;
+          inner = Some
+              (record { bits = page.strip.place; reference = page.strip.reference });
+        }
     inside =
-        at_inner page.form page.page (row_of page) _ (row_below page limits strip_is due) (omega (arith, some, (numbers page limits strip_is due).1))
+        at_inner page.form page.page (row_of page) _ (row_below page limits strip_is due)
+        (omega (arith, some, (numbers page limits strip_is due).1))
 
     pub long_some : page.strip.place ≤ 4294967295
-        → Some (record { at = record { page = page.page; row = row_of page }; bits = page.strip.place; runs = runs_of page.strip.reference })
+        → Some (record {
+          at = record { page = page.page; row = row_of page };
+          bits = page.strip.place;
+          runs = runs_of page.strip.reference;
+        })
         ≡ long_of
     long_some few =
         let test : nat_le page.strip.place 4294967295 ≡ true = grind (arith, nat_tests, few) in

@@ -94,7 +94,8 @@ none_checked file noted none = rw none (record { few = omega arith; is = nothing
 
 -- one more page was read wholly
 pub page_after : (file : List ℕ) (given rows : ℕ) (old new : List Note) (read : PageRead) → ArePagesChecked file given rows old
-    → IsRestChecked file (before_page given) given old new read → read.fault ≡ None → ArePagesChecked file (given + 1) (rows + read.rows) new
+    → IsRestChecked file (before_page given) given old new read → read.fault ≡ None → ArePagesChecked file (given + 1) (rows + read.rows)
+    new
 page_after file given rows old new read so_far page none =
     let is : HasChecked file (before_page given) (before_page (given + 1)) page.noted read.rows = rw none at page.is in
     rw page.notes_are (record {
@@ -119,7 +120,8 @@ pub last_report : (file : List ℕ) (given : ℕ) (end : End) (report : Report) 
     → IsPageAt file (record { page = given; row = 0 }) (Err end) → IsReportedEnd file end report.pages report.fault → IsReport file report
 last_report file given end report so_far at end_is =
     let all =
-    checked_to file (before_page 0) (before_page given) report.notes.items [] report.rows 0 end so_far.is (ends_at_page file given end at) in
+    checked_to file (before_page 0) (before_page given) report.notes.items [] report.rows 0 end so_far.is (ends_at_page file given end at)
+    in
     reported file report (report.notes.items ++ []) (report.rows + 0) end all (sym (append-nil report.notes.items)) (omega arith) end_is
 
 -- at a fault of a page
@@ -150,7 +152,8 @@ module _ (tiff : TiffFile) (offsets : List ℕ) (fault : Option FileFault) (good
 
   -- none, after all pages
   pub none_there : slice_get offsets given ≡ None
-      → IsPageAt tiff.file (record { page = given; row = 0 }) (Err (end_past_chain (length offsets) fault (record { page = given; row = 0 })))
+      → IsPageAt tiff.file (record { page = given; row = 0 })
+      (Err (end_past_chain (length offsets) fault (record { page = given; row = 0 })))
   none_there none = rw none at (page_here tiff.file tiff.head good offsets fault chained (record { page = given; row = 0 }))
 
   pub proper_there : slice_get offsets given ≡ None → length offsets ≡ given → fault ≡ None

@@ -106,7 +106,8 @@ ended_after file begun given p end come is = (
 
 pub ends_later : (file : List ℕ) (begun cursor : Cursor) (given : ℕ) (told : Option End) (chain : ChainState) (result : Result PageDue End)
     → told ≡ None
-    → HasGiven file begun given chain.given × IsChainBefore file chain.given chain → IfErr result (λ end. IsForm chain.tiff.file chain.given (Err end))
+    → HasGiven file begun given chain.given × IsChainBefore file chain.given chain → IfErr result
+    (λ end. IsForm chain.tiff.file chain.given (Err end))
     → IfErr result (EndsNow (record { file = file; begun = begun; given = given; cursor = cursor; told = told }))
 ends_later file begun cursor given told chain (Ok due) untold sound after = after
 ends_later file begun cursor given told chain (Err end) untold sound after =

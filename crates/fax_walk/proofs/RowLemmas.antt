@@ -1,5 +1,6 @@
 -- Rows that are read from a walk and put.
-use Rattle.std.proofs.Common.{◌≡◌, ◌≢◌, ℕ, zero, suc, ◌+◌, ◌<◌, ◌≤◌, ◌⊎◌, inl, inr, List, [], ◌∷◌, ◌++◌, length, take, Some, None, Ok, Err, Bor, refl, sym}
+use Rattle.std.proofs.Common.{◌≡◌, ◌≢◌, ℕ, zero, suc, ◌+◌, ◌<◌, ◌≤◌, ◌⊎◌, inl, inr, List, [], ◌∷◌, ◌++◌, length, take, Some, None, Ok, Err}
+use Rattle.std.proofs.Common.{Bor, refl, sym}
 use Rattle.std.proofs.Common.{ap, ◌∙◌, subst, arith, length-append, length-take}
 use Rattle.std.proofs.lemmas.Bool.{cases_lt}
 use Rattle.std.proofs.lemmas.List.{map-append}
@@ -51,7 +52,8 @@ take_pels zero items = refl
 take_pels (suc n) [] = refl
 take_pels (suc n) (x ∷ items) = ap (λ (l : List (List Colour)). x.pels ∷ l) (take_pels n items)
 
-wide_at : (width n : ℕ) (items : List Item) (item : Item) → AreOfWidth width (pels_of items) → take (n + 1) items ≡ take n items ++ item ∷ []
+wide_at : (width n : ℕ) (items : List Item) (item : Item) → AreOfWidth width (pels_of items) → take (n + 1) items ≡ take n items ++ item ∷
+    []
     → length item.pels ≡ width
 wide_at width n [] item wide one =
     let m = ap (λ (l : List Item). length l) one in
@@ -73,7 +75,8 @@ pub record GivesRow (old new : WalkView) (row : List Colour) : Type 0 where
   pub same_begun : new.begun ≡ old.begun
   pub given : new.given ≡ old.given + 1
 
-pub row_given : (old new : WalkView) (found : RowPlace × Bor (List Colour)) → IsNext old (Ok (Some found)) new → GivesRow old new found.1.now
+pub row_given : (old new : WalkView) (found : RowPlace × Bor (List Colour)) → IsNext old (Ok (Some found)) new → GivesRow old new
+    found.1.now
 row_given old new found next = record {
   item = next.0;
   number = next.1.number;
@@ -103,7 +106,8 @@ module _ (tail : TailOfStart) (answers : (file : List ℕ) (at : Place) → IsOn
   ]
 
   -- all rows that were read before lead to a place
-  led : (to : Place) (front : List Item) → LeadTo (IsRow walk.file) due.at front to → LeadTo (IsRow walk.file) (first_at 0 0) (due.before ++ front) to
+  led : (to : Place) (front : List Item) → LeadTo (IsRow walk.file) due.at front to → LeadTo (IsRow walk.file) (first_at 0 0)
+      (due.before ++ front) to
   led to front lead = leads_both (IsRow walk.file) (first_at 0 0) due.at due.before front to due.lead lead
 
   given_at : (front : List Item) → length front ≡ count → old.given ≡ length (due.before ++ front)

@@ -1,13 +1,8 @@
--- The runs of a row, and the strip of a row's number.
+-- The runs of a row.
 use Rattle.std.proofs.Common.{◌≡◌, ℕ, zero, suc, ◌+◌, ◌*◌, ◌/◌, ◌%◌, ◌<◌, List, [], ◌∷◌, ◌++◌, replicate, refl, ap, ◌∙◌, arith}
-use Rattle.std.proofs.lemmas.Nat.{div-mul-add, mod-mul-add}
 use Rattle.fax_bits.specs.declared.Colour.{Colour}
 use Rattle.fax_bits.specs.declared.Colour.TheVariants.{White, Black}
 use Rattle.fax_rows.specs.Elements.{pels_of, runs_behind}
-
--- a number by its quotient and rest
-pub in_strip : (m s k e : ℕ) → k < m → e ≡ s * m + k → (e / m ≡ s) × (e % m ≡ k)
-in_strip m s k e less is = (rw is (div-mul-add s m k less), rw is (mod-mul-add s m k less))
 
 replicate_more : (n : ℕ) (colour : Colour) (pels : List Colour) → replicate (n + 1) colour ++ pels ≡ replicate n colour ++ colour ∷ pels
 replicate_more zero colour pels = refl

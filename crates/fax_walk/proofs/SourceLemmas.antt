@@ -81,7 +81,8 @@ module _ (by_place : AreBitsByPlace) (lines_read : LinesAreRead) (file : List �
 
   module _ (rows r : ℕ) (count : r + (rows + 1) ≡ form.rows)
       (next : (inner : Option Inner) → IsWide inner → 0 < rows → Rows (place_at (r + 1) inner) rows) where
-    after : (item : Item) → item.page ≡ p → item.row ≡ r → length (exchanged form item.pels) ≡ form.width → Rows (place_after form item) rows
+    after : (item : Item) → item.page ≡ p → item.row ≡ r → length (exchanged form item.pels) ≡ form.width → Rows (place_after form item)
+        rows
     after item same_page same_row wide = elim (cases_after form item) [
       | inl (last, is) ↦
           let none : rows ≡ 0 = omega (arith, last, same_row, count) in

@@ -33,11 +33,14 @@ use Rattle.fax_walk.specs.Pages.{FilePage, IsPageUnder, IsPageAt, end_past_chain
 use Rattle.fax_walk.specs.Rows.{AreItems, IsInnerOn, Item, Inner, Place, first_at, strip_at, row_in_strip, exchanged, reference_of}
 use Rattle.fax_walk.specs.Rows.{place_after, IsItem, IsInStrip, cursor_at, IsRow, first_row, IsInner, FitsStrip, inner_at, Begins}
 use Rattle.fax_walk.specs.Rows.{IsTailFrom, cursor_after, long_after}
-use Rattle.fax_walk.specs.PageLaws.{FilesHaveOneItems, ItemsStandByPlace, TailsEndAfter, TailOfStart, IsReachedPlace, TailsGoOn, LongTailsGoOn, PlacesAreReached, IsReached}
-use Rattle.fax_walk.proofs.InOrderLemmas.{one_from, one_led, one_list, same_answer, same_step, leads_on, joined, kept, split_at_number as item_split}
+use Rattle.fax_walk.specs.PageLaws.{FilesHaveOneItems, ItemsStandByPlace, TailsEndAfter, TailOfStart, IsReachedPlace, TailsGoOn}
+use Rattle.fax_walk.specs.PageLaws.{LongTailsGoOn, PlacesAreReached, IsReached}
+use Rattle.fax_walk.proofs.InOrderLemmas.{one_from, one_led, one_list, same_answer, same_step, leads_on, joined, kept}
+use Rattle.fax_walk.proofs.InOrderLemmas.{split_at_number as item_split}
 use Rattle.fax_walk.proofs.PageLawLemmas.{one_page}
 use Rattle.fax_walk.proofs.RowLawLemmas.{LinesAreRead, inner_after, cases_after, one_row, one_tail_from, rows_listed}
-use Rattle.fax_walk.proofs.RunLemmas.{in_strip, pels_behind}
+use Rattle.fax_walk.proofs.RunLemmas.{pels_behind}
+use Rattle.fax_walk.proofs.StripPlaceLemmas.{in_strip}
 use Rattle.fax_walk.proofs.WidthLemmas.{row_in}
 
 module _ (file : List ℕ) where
@@ -562,7 +565,8 @@ module _ (by_place : AreBitsByPlace) (lines_read : LinesAreRead) (chains : Files
 pub items_stand_by_place : AreBitsByPlace → LinesAreRead → FilesHaveOneChain → FormsAreWhole → ItemsStandByPlace
 items_stand_by_place by_place lines_read chains forms file begun other all others end another n m item its reached reached' tail tail' there
     there' pages rows =
-    same_items by_place lines_read chains forms file begun other item its (drop (n + 1) all) (drop (m + 1) others) end another reached reached'
+    same_items by_place lines_read chains forms file begun other item its (drop (n + 1) all) (drop (m + 1) others) end another reached
+    reached'
     (split_at_number file begun all end n item tail there) (split_at_number file other others another m its tail' there') pages rows
 
 pub files_have_one_items : AreBitsByPlace → LinesAreRead → FilesHaveOneChain → FilesHaveOneItems
@@ -602,7 +606,8 @@ module _ (chains : FilesHaveOneChain) (file : List ℕ) where
       let same_offsets : offsets' ≡ offsets = (one.one offsets' fault' chain').0 ∙ sym (one.one offsets fault chain).0 in
       by_page (slice_get offsets p) refl is (slice_get offsets' (p + 1)) next (ap (λ (l : List ℕ). length l) same_offsets)
     where
-      fault_or_not : (fault : Option FileFault) (pages : ℕ) → p < pages → end ≡ end_past_chain pages fault (record { page = p + 1; row = 0 })
+      fault_or_not : (fault : Option FileFault) (pages : ℕ) → p < pages → end ≡ end_past_chain pages fault
+          (record { page = p + 1; row = 0 })
           → ⊥
       fault_or_not (Some met) pages within end_is = let ends = rw end_is at before in omega (arith, ends.0, same, within)
       fault_or_not None pages within end_is = by_test ((p + 1) == pages) (rw end_is at before)

@@ -18,14 +18,16 @@ use Rattle.fax_walk.specs.declared.opening.OpenFault.TheVariants.{Memory, Ended}
 use Rattle.fax_walk.specs.InOrder.{AreFrom, LeadTo, EndsAfter, HasToldNoOther, IsLeftOf}
 use Rattle.fax_walk.specs.Pages.{IsPageAt}
 use Rattle.fax_walk.specs.LongCursor.{LongPlace}
-use Rattle.fax_walk.specs.Left.{AreRead, EndsBefore, EntersPage, HasEndedAs, HandsOut, IsCursorOf, IsItemNumber, IsLeft, IsLongOf, IsNext, WalkView}
+use Rattle.fax_walk.specs.Left.{AreRead, EndsBefore, EntersPage, HasEndedAs, HandsOut, IsCursorOf, IsItemNumber, IsLeft, IsLongOf, IsNext}
+use Rattle.fax_walk.specs.Left.{WalkView}
 use Rattle.fax_walk.specs.Rows.{IsRow, IsTailFrom, Item, Place, begins_at, first_at, long_at, place_after}
 use Rattle.fax_walk.specs.PageLaws.{BeginningsHaveOneTail}
 use Rattle.fax_walk.specs.code.Opening.{page_with}
 use Rattle.fax_walk.specs.code.Stages.{GivesNone, GivesRow, IsOpen, IsOpenedAt, PageState, place_of, row_of, skipped}
 use Rattle.fax_walk.specs.declared.end.WalkFault.{WalkFault}
 use Rattle.fax_walk.specs.declared.end.WalkFault.TheVariants.{Memory as NoMemory, AtRow, CursorOutside}
-use Rattle.fax_walk.specs.code.Walk.{IsAdvance, answer_of, GoesOnFrom, HasCome, HasEndedOn, HasReadTo, IsAfterItem, IsEntered, IsOpenOrNone, IsOpenedFirst}
+use Rattle.fax_walk.specs.code.Walk.{IsAdvance, answer_of, GoesOnFrom, HasCome, HasEndedOn, HasReadTo, IsAfterItem, IsEntered, IsOpenOrNone}
+use Rattle.fax_walk.specs.code.Walk.{IsOpenedFirst}
 use Rattle.fax_walk.specs.code.Walk.{IsReadNext, IsSound, ShowsLast, StandsAt}
 use Rattle.fax_walk.proofs.InOrderLemmas.{IsListed, joined, leads_both, number_dropped}
 use Rattle.fax_walk.proofs.OpenPageLemmas.{at_end}
@@ -139,7 +141,8 @@ refused_next file begun old new Memory is =
 refused_next file begun old new (Ended end) is = λ given cursor from. refused file begun given cursor old new end is from
 
 -- the page that was entered has a row that is due
-pub entered_open : (file : List ℕ) (begun : Begun) (old : Option PageState) (page : PageState) → IsEntered file begun old (Ok tt) (Some page)
+pub entered_open : (file : List ℕ) (begun : Begun) (old : Option PageState) (page : PageState) → IsEntered file begun old (Ok tt)
+    (Some page)
     → IsOpenOrNone old → IsOpen page × (row_of page < page.form.rows)
 entered_open file begun None page first is_open = (first.from.opened.is_open, first.from.opened.row_due)
 entered_open file begun (Some old) page (inl (due, same)) is_open = rw same (is_open, due)
@@ -253,7 +256,8 @@ module _ (file : List ℕ) (begun : Begun) (given : ℕ) (cursor : Cursor) (old 
   ended_lead = leads_both (IsRow file) come_so_far.first (place_of old) come_so_far.items items (place_of new) come_so_far.lead
       (subst (λ (f : List ℕ). LeadTo (IsRow f) (place_of old) items (place_of new)) reads.file_is none.skips.lead)
 
-  no_items : (is : List Item) → length is ≡ 0 → LeadTo (IsRow old.directory.file) (place_of old) is (place_of new) → place_of new ≡ place_of old
+  no_items : (is : List Item) → length is ≡ 0 → LeadTo (IsRow old.directory.file) (place_of old) is (place_of new) → place_of new ≡
+      place_of old
   no_items [] count lead = lead
   no_items (x ∷ is) count lead = absurd (omega (arith, count))
 

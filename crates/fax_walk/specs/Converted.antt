@@ -116,7 +116,8 @@ written_page options coding source =
     record {
       form = form;
       strips =
-          coded_strips form options.k 0 (strips_of form.rows_per_strip form.strips source.image.rows);
+          coded_strips form options.k 0 (strips_of form.rows_per_strip form.strips
+          source.image.rows);
     }
 
 -- the bytes of the pages in the target's format (this project's profile)

@@ -11,7 +11,8 @@ use Rattle.fax_walk.specs.Pages.{FormItem, IsForm, IsFormTail, AreForms, FilePag
 use Rattle.fax_walk.specs.Pages.{cursor_after_page}
 use Rattle.fax_walk.specs.PagesLeft.{PagesView, AreFormsLeft, HandsOutPage, PagesHaveEnded}
 use Rattle.fax_walk.specs.InOrder.{AreFrom, LeadTo, EndsAfter, IsOne}
-use Rattle.fax_walk.specs.Left.{WalkView, EndsBefore, IsTailOf, IsLeft, IsItemNumber, IsCursorOf, IsLongOf}
+use Rattle.fax_walk.specs.Left.{WalkView, EndsBefore, IsTailOf, IsLeft, IsItemNumber, IsCursorOf}
+use Rattle.fax_walk.specs.Left.{IsLongOf}
 use Rattle.fax_walk.specs.Rows.{Item, first_at, strip_at, row_in_strip, inner_at, IsRow, AreItems}
 use Rattle.fax_walk.specs.Rows.{IsTailFrom, cursor_after, long_after}
 

@@ -1,5 +1,6 @@
 -- How far a walk has come.
-use Rattle.std.specs.Prelude.{◌≡◌, ℕ, ◌+◌, ◌^◌, ◌<◌, ◌⊎◌, Bool, true, false, List, [], length, Option}
+use Rattle.std.specs.Prelude.{◌≡◌, ℕ, ◌+◌, ◌^◌, ◌<◌, ◌⊎◌, Bool, true, false, List, [], length}
+use Rattle.std.specs.Prelude.{Option}
 use Rattle.std.specs.Prelude.{Some, None, Result, Ok, Err, ⊤}
 use Rattle.fax_walk.specs.declared.begun.Begun.{Begun}
 use Rattle.fax_walk.specs.declared.cursor.Cursor.{Cursor}
@@ -96,7 +97,8 @@ pub record HasReadTo (file : List ℕ) (begun : Begun) (given : ℕ) (cursor : C
 -- a walk that handed out so many rows goes on from here: it has opened no page, or this one
 abbrev pub GoesOnFrom : List ℕ → Begun → ℕ → Cursor → Option PageState → Type 0
 GoesOnFrom file begun given cursor None = (given ≡ 0) × (cursor ≡ begins_at begun)
-GoesOnFrom file begun given cursor (Some page) = IsOpen page × HasReadTo file begun given cursor page
+GoesOnFrom file begun given cursor (Some page) = IsOpen page × HasReadTo file begun given cursor
+    page
 
 -- the row that was handed out last is the one that this page shows
 pub record IsShown (file : List ℕ) (begun : Begun) (given : ℕ) (cursor : Cursor)

@@ -46,7 +46,8 @@ returns-in-Err c =
     let few = none_past one.offsets at.chain.given ended.0 in
     let count : length one.offsets ≡ at.chain.given = omega (arith, few, before.within one.offsets one.end one.is) in
     let stops =
-    fault_there at.chain.tiff one.offsets one.end (ap header before.file_is ∙ before.head) one.is at.chain.given c.in-Err.fault ended.0 count
+    fault_there at.chain.tiff one.offsets one.end (ap header before.file_is ∙ before.head) one.is at.chain.given c.in-Err.fault ended.0
+    count
     ended.1 in
     last_report c.args.tiff.file at.chain.given _ _ at.invariant.read (rw before.file_is at stops) (
       c.from-pages.ensures ∙ c.given-page.ensures,

@@ -42,7 +42,8 @@ returns-in-Ok-None-clause-ok c =
     let inv = c.loop-form.invariant in
     let ended = rw c.in-Ok-None.field-0-is at c.in-Ok-None.ensures in
     let at = now inv.laws _ _ inv.total inv.count inv.counted inv.total_is _ _ _ inv.so_far in
-    let all = all_written inv.laws _ _ inv.total inv.count inv.counted inv.total_is _ _ _ inv.so_far c.requires c.next_page.new.self ended in
+    let all = all_written inv.laws _ _ inv.total inv.count inv.counted inv.total_is _ _ _ inv.so_far c.requires c.next_page.new.self ended
+    in
     if_ok c.finish.result c.finish.ensures.ok (λ result finishes.
     file_converted inv.laws _ _ inv.total inv.count inv.counted inv.total_is _ _ _ inv.so_far c.requires c.next_page.new.self ended
     result.items (finishes at inv.so_far.written all))
@@ -52,7 +53,8 @@ returns-in-Ok-None-clause-err c =
     let inv = c.loop-form.invariant in
     let ended = rw c.in-Ok-None.field-0-is at c.in-Ok-None.ensures in
     let at = now inv.laws _ _ inv.total inv.count inv.counted inv.total_is _ _ _ inv.so_far in
-    let all = all_written inv.laws _ _ inv.total inv.count inv.counted inv.total_is _ _ _ inv.so_far c.requires c.next_page.new.self ended in
+    let all = all_written inv.laws _ _ inv.total inv.count inv.counted inv.total_is _ _ _ inv.so_far c.requires c.next_page.new.self ended
+    in
     if_err c.finish.result c.finish.ensures.err (λ fault refused not_memory.
     subst (IsRefused c.args.file.now c.args.options.now) (sym refused.0)
     (file_too_large inv.laws _ _ inv.total inv.count inv.counted inv.total_is _ _ _ inv.so_far c.requires c.next_page.new.self ended
@@ -96,7 +98,8 @@ end-requires c =
     let fewer = page_fewer inv.laws _ _ inv.total inv.count inv.counted inv.total_is _ _ _ inv.so_far item c.next_page.new.self hands in
     let begun = c.in_ok-begin.ensures first refl fewer inv.so_far.written in
     let due = before_page inv.laws _ _ inv.total inv.count inv.counted inv.total_is _ _ _ inv.so_far item c.next_page.new.self hands in
-    let here : IsBeforePage c.loop-form.walk c.of_form-sheet.result.width c.of_form-sheet.result.rows = rw c.of_form-sheet.ensures.exact due in
+    let here : IsBeforePage c.loop-form.walk c.of_form-sheet.result.width c.of_form-sheet.result.rows = rw c.of_form-sheet.ensures.exact
+    due in
     let rows = c.in_ok-convert_rows.ensures.ok here in
     record {
       part = part_of first c.of_form-sheet.result (pels_of here.page.own);

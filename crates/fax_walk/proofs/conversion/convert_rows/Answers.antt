@@ -12,7 +12,8 @@ put_row-requires c =
     let so_far = c.loop.invariant due in
     let gives = row_given c.loop.walk c.next_row.follows.lender-at-none (c.in-Ok-Some.field-0-0-0, c.in-Ok-Some.row) next in
     let wide =
-    next_wide c.tails_go_on.ensures.start answers c.args.walk.now c.args.output.now c.args.sheet.now c.loop.counter c.loop.walk c.loop.output
+    next_wide c.tails_go_on.ensures.start answers c.args.walk.now c.args.output.now c.args.sheet.now c.loop.counter c.loop.walk
+    c.loop.output
     due so_far c.loop-test.true gives.item gives.number in
     record {
       part = part_of c.requires.begun.at c.args.sheet.now

@@ -25,7 +25,8 @@ returns-clause-opened c =
     let d = c.due.inside in
     let due : PageDue = record { page = d.page; chain = d.chain; directory = d.directory; form = d.form } in
     rw (← c.due.view_is, ← c.place.view_is, c.strips-strips.ensures.directory)
-    (opened_inside due (record { at = c.place.inside.at; bits = c.place.inside.bits; runs = c.place.inside.runs.items }) c.due.invariant.its same_page (omega (arith, c.if-row-form.false)) (omega (arith, c.if-row-form-eq0.false))
+    (opened_inside due (record { at = c.place.inside.at; bits = c.place.inside.bits; runs = c.place.inside.runs.items })
+    c.due.invariant.its same_page (omega (arith, c.if-row-form.false)) (omega (arith, c.if-row-form-eq0.false))
     c.in-Ok.bytes.now there c.in_ok-strip.strip _ (ap (λ (s : StripState). s.row) at_place.1) (ap (λ (s : StripState). s.fault) at_place.1)
     (ap (λ (s : StripState). s.place) at_place.1) (ap (λ (s : StripState). s.reference) at_place.1))
 

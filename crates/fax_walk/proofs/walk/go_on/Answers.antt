@@ -27,5 +27,6 @@ pub returns : goal.returns
 returns c given cursor from =
     let new = rw c.in-Some.is at c.in_ok-enter.ensures in
     let goes = entered _ _ given cursor c.args.page.now c.in-Some.page new from in
-    gone_on c.bits_stand_by_place.ensures c.lines_are_read_in_one_way.ensures c.files_have_one_chain.ensures c.args.file.now c.args.begun.now
+    gone_on c.bits_stand_by_place.ensures c.lines_are_read_in_one_way.ensures c.files_have_one_chain.ensures c.args.file.now
+    c.args.begun.now
     given cursor c.in-Some.page c.next.new.self goes.1 c.in_ok-next.ensures.ok c.cursor.result c.cursor.ensures

@@ -17,7 +17,8 @@ pub returns-then-cursor-due-clause-opened : goal.returns-then-cursor-due-clause-
 returns-then-cursor-due-clause-opened c =
     let named = rw c.in-Some.is at c.in_ok-due.ensures.ok in
     let below : c.args.cursor.row < c.in-Some.due.form.rows = rw (← c.due.view_is) c.if-cursor-due.true in
-    opened_on c.args.file.now c.args.cursor c.in-Some.due named below c.open.result c.open.ensures.opened c.open.ensures.page c.open.ensures.first
+    opened_on c.args.file.now c.args.cursor c.in-Some.due named below c.open.result c.open.ensures.opened c.open.ensures.page
+    c.open.ensures.first
 
 pub returns-then-cursor-due-clause-refused : goal.returns-then-cursor-due-clause-refused
 returns-then-cursor-due-clause-refused c =
@@ -30,7 +31,8 @@ returns-else-cursor-due-clause-opened c =
     let named = rw (sym c.due.view_is) at (rw c.in-Some.is at c.in_ok-due.ensures.ok) in
     let d = c.due.inside in
     let due : PageDue = record { page = d.page; chain = d.chain; directory = d.directory; form = d.form } in
-    opened_next c.args.file.now c.args.cursor due named c.due.invariant.its c.if-cursor-due.false c.open_after.result c.open_after.ensures.opened
+    opened_next c.args.file.now c.args.cursor due named c.due.invariant.its c.if-cursor-due.false c.open_after.result
+    c.open_after.ensures.opened
 
 pub returns-else-cursor-due-clause-refused : goal.returns-else-cursor-due-clause-refused
 returns-else-cursor-due-clause-refused c =

@@ -24,5 +24,6 @@ returns-in-Err-clause-err c =
     let p = c.self.inside in
     let page = state p.page p.chain p.strips.directory p.form p.first p.number p.strip (row_shown p.strip p.exchanged) p.read in
     stops_kept _ page keeps _
-    (rw (← c.self.invariant.row_is) at (fault_stops page c.advance.new.self c.in-Err.fault is_open c.self.invariant.limits c.self.invariant.strip_is
+    (rw (← c.self.invariant.row_is) at
+    (fault_stops page c.advance.new.self c.in-Err.fault is_open c.self.invariant.limits c.self.invariant.strip_is
     c.self.invariant.its c.in-Err.ensures))

@@ -14,7 +14,8 @@ returns-then-self-clause-ok c =
     let p = c.self.inside in
     let page = state p.page p.chain p.strips.directory p.form p.first p.number p.strip (row_shown p.strip p.exchanged) p.read in
     rw (← c.self.view_is)
-    (row_given c.args.self.now c.rows.self page c.rows.invariant.items c.rows.invariant.skips reads c.self.invariant.its c.rows.invariant.due
+    (row_given c.args.self.now c.rows.self page c.rows.invariant.items c.rows.invariant.skips reads c.self.invariant.its
+    c.rows.invariant.due
     (rw row_is at c.if-self.true) few)
 
 pub rows-preserved : goal.rows-preserved
