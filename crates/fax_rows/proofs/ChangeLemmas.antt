@@ -140,14 +140,6 @@ next_is_ahead row (Some a) place next within =
       | inr over ↦ omega arith
     ]
 
--- and inside the row it is right of it
-pub next_is_right : (row : List Colour) (a place : ℕ) → IsNextChange row (Some a) place → a < length row → a < place
-next_is_right row a place next within =
-    elim (cases_lt place (length row)) [
-      | inl inside ↦ ltb-true a place (next.right inside)
-      | inr over ↦ omega arith
-    ]
-
 -- pels of one colour
 replicate_pels : (row : List Colour) (n : ℕ) (colour : Colour) → n ≤ length row
     → ((k : ℕ) → k < n → pel row k ≡ colour) → replicate n colour ≡ take n row
@@ -198,27 +190,6 @@ still_left false change h = refl
 
 pub both : (a b : Bool) → a ≡ true → b ≡ true → (a && b) ≡ true
 both a b h l = rw h l
-
--- as seen from a place further right, but left of the next changing element, it is the next one still
-pub later_change : (row : List Colour) (from : Option ℕ) (a : ℕ) → is_right_of from a ≡ true → a < next_change row from
-    → next_change row from ≡ next_change row (Some a)
-later_change row from a right before =
-    let next = next_change_is row from in
-    next_change_at row (Some a) (next_change row from) next.within
-    (λ k h. still_left (is_right_of (Some a) k) (is_changing row k) (λ l. next.before k h (later_right from a k right l)))
-    (λ h. both (is_right_of (Some a) (next_change row from)) _ (lt-ltb a _ before) (next.there h))
-
--- and so is the next one of another colour
-pub later_of : (row : List Colour) (from : Option ℕ) (colour : Colour) (a : ℕ) → is_right_of from a ≡ true → a < next_of row from colour
-    → next_of row from colour ≡ next_of row (Some a) colour
-unfolding next_of
-later_of row from colour a right before =
-    let test : ℕ → Bool = λ i. is_changing row i && not (same_colour (pel row i) colour) in
-    let first = first_place_is (λ i. is_right_of from i && (is_changing row i && not (same_colour (pel row i) colour))) 0 (length row) in
-    next_of_at row (Some a) colour (next_of row from colour) (next_of_within row from colour)
-    (λ k h. still_left (is_right_of (Some a) k) (test k)
-    (λ l. both_false (is_right_of from k) (test k) (first.before k (omega arith) h) (later_right from a k right l)))
-    (λ h. both (is_right_of (Some a) _) _ (lt-ltb a _ before) (both_true (is_right_of from _) _ (first.there (omega arith))).1)
 
 -- a changing element right of `from`, left of which none is of another colour
 pub record IsOfSearch (row : List Colour) (from : Option ℕ) (colour : Colour) (place : ℕ) : Type 0 where
