@@ -1,12 +1,11 @@
 -- A row packed by its places of change.
 use Rattle.std.proofs.Common.{◌≡◌, ◌≢◌, ℕ, zero, suc, ◌+◌, ◌-◌, ◌*◌, ◌^◌, ◌%◌, ◌<◌, ◌≤◌, List, map, length, take, drop, replicate, get_or}
 use Rattle.std.proofs.Common.{Bool, true, false, if◌then◌else◌, nat_eq, refl, ap, sym, ◌∙◌, subst, arith, inl, inr, length-append}
-use Rattle.std.proofs.Common.{length-drop, get_or-drop, get_or-set_other, get_or-set_same, below_more}
+use Rattle.std.proofs.Common.{length-drop, get_or-drop}
 use mir.Val.{bool_byte}
 use Rattle.std.proofs.lemmas.Bool.{cases_lt}
 use Rattle.std.proofs.lemmas.Nat.{pow_pos}
 use Rattle.std.proofs.Math.Nat.{pow-succ'}
-use Rattle.std.proofs.Math.ListN.{set}
 use Rattle.std.proofs.lemmas.List.{length-replicate, length-map, get_or-map, get_or-take, get_or_past, length-take-le, ext_get_or}
 use Rattle.std.proofs.lemmas.Simd.{get_or-replicate}
 use Rattle.fax_bits.specs.declared.Colour.{Colour}

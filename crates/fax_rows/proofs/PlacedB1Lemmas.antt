@@ -1,5 +1,5 @@
 -- b1 and b2 by an index into the reference row's places of change.
-use Rattle.std.proofs.Common.{◌≡◌, ℕ, zero, suc, ◌+◌, ◌-◌, ◌<◌, ◌≤◌, List, length, take, get_or, true, false, not, refl, ap, sym, ◌∙◌}
+use Rattle.std.proofs.Common.{◌≡◌, ◌≢◌, ℕ, zero, suc, ◌+◌, ◌-◌, ◌<◌, ◌≤◌, List, length, take, get_or, true, false, not, refl, ap, sym, ◌∙◌}
 use Rattle.std.proofs.Common.{subst, arith, inl, inr}
 use Rattle.std.specs.Prelude.{◌⊎◌, ◌&&◌, Option, Some, None, unwrap_or}
 use Rattle.std.proofs.lemmas.Bool.{cases_lt, ltb-true, lt-ltb, le-ltb, true≢false}
@@ -9,7 +9,7 @@ use Rattle.fax_bits.specs.declared.Colour.TheVariants.{White, Black}
 use Rattle.fax_rows.specs.Elements.{other, same_colour, pel, is_changing, is_right_of, next_change, b1, b2}
 use Rattle.fax_rows.specs.declared.rows.PlacedRow.{PlacedRow}
 use Rattle.fax_rows.specs.code.PlacedRow.{placed_pels, IsBeforeB1, IsB1At}
-use Rattle.fax_rows.specs.code.Turns.{alternate, IsBehind}
+use Rattle.fax_rows.specs.code.Turns.{alternate, IsBehind, IsFrom}
 use Rattle.fax_rows.proofs.ChangeLemmas.{still_left, both, next_change_is}
 use Rattle.fax_rows.proofs.PlaceLemmas.{next_of_at}
 use Rattle.fax_rows.proofs.TurnLemmas.{other-other, length-pels_by, alternate-suc, below_later, not_later, pel_behind, changing_at}
@@ -28,6 +28,13 @@ length-placed_pels row = length-pels_by row.width (take row.end row.places.now)
 -- and so has the row of these pels
 pub placed_width : (row : PlacedRow) (pels : List Colour) → placed_pels row ≡ pels → row.width ≡ length pels
 placed_width row pels is = sym (length-placed_pels row) ∙ ap length is
+
+-- a colour that is not this one is the other
+pub differs_is : (colour pel : Colour) → pel ≢ colour → pel ≡ other colour
+differs_is White Black h = refl
+differs_is Black White h = refl
+differs_is White White h = absurd (h refl)
+differs_is Black Black h = absurd (h refl)
 
 module _ (row : PlacedRow) where
   rank_from : (i n k : ℕ) → 0 < k → k + n ≡ row.end → get_or row.places.now (k - 1) 0 ≤ i → (j : ℕ) × IsBehind row.places.now row.end i j
@@ -389,3 +396,58 @@ module _ (row : PlacedRow) where
             | inl less ↦ absurd (true≢false (sym (lt-ltb x p less) ∙ not))
             | inr more ↦ omega arith
           ]
+
+  -- b1 stands at the next change, or at the one after it, by the colour of a0
+  pub b1_here : (a0 : Option ℕ) (k b : ℕ) (colour : Colour) → IsFrom row.places.now row.end a0 k → (b ≡ k) ⊎ (b ≡ k + 1)
+      → alternate Black b ≡ colour → IsB1At row a0 colour b
+  b1_here None k b colour at which is = record {
+    some = by which;
+    within = before which;
+    colour_is = is;
+    passed = λ h. absurd (few which h);
+    ahead = λ h. refl;
+  }
+    where
+      by : (b ≡ k) ⊎ (b ≡ k + 1) → 0 < b
+      by (inl same) = omega (arith, at)
+      by (inr next) = omega arith
+
+      before : (b ≡ k) ⊎ (b ≡ k + 1) → b ≤ row.end + 1
+      before (inl same) = omega (arith, at)
+      before (inr next) = omega (arith, at, row.placed.ascending.started)
+
+      few : (b ≡ k) ⊎ (b ≡ k + 1) → 2 < b → ⊥
+      few (inl same) h = omega (arith, at)
+      few (inr next) h = omega (arith, at)
+  b1_here (Some a) k b colour at (inl same) is = record {
+    some = omega (arith, at.some);
+    within = omega (arith, at.within);
+    colour_is = is;
+    passed = λ h.
+        let order = not_later row.places.now row.end row.placed.ascending (b - 2) (k - 1) (omega arith) (omega (arith, at.within, at.some)) in
+        le-ltb a (get_or row.places.now (b - 2) 0) (omega (arith, at.left));
+    ahead = λ h. lt-ltb a (get_or row.places.now b 0) (subst (λ m. a < get_or row.places.now m 0) (sym same) (at.right (omega arith)));
+  }
+  b1_here (Some a) k b colour at (inr next) is = record {
+    some = omega arith;
+    within = omega (arith, at.within);
+    colour_is = is;
+    passed = λ h.
+        let back : b - 2 ≡ k - 1 = omega arith in
+        le-ltb a (get_or row.places.now (b - 2) 0) (subst (λ m. get_or row.places.now m 0 ≤ a) (sym back) at.left);
+    ahead = λ h.
+        let first = at.right (omega arith) in
+        let second = below_later row.places.now row.end row.placed.ascending k b at.some (omega arith) h in
+        lt-ltb a (get_or row.places.now b 0) (omega arith);
+  }
+
+  -- b1 and b2 as `next_of` and `b1_b2` answer them
+  pub b1_right : (a0 : Option ℕ) (colour : Colour) (b : ℕ) → IsB1At row a0 colour b → get_or row.places.now b 0 < row.width
+      → is_right_of a0 (get_or row.places.now b 0) ≡ true
+  b1_right a0 colour b at inside = at.ahead (inside_end b at.some at.within inside)
+
+  pub b2_right : (a0 : Option ℕ) (colour : Colour) (b : ℕ) → IsB1At row a0 colour b → get_or row.places.now (b + 1) 0 < row.width
+      → is_right_of a0 (get_or row.places.now (b + 1) 0) ≡ true
+  b2_right a0 colour b at inside =
+      let order = b2_ahead b at.some at.within in
+      further_right a0 (get_or row.places.now b 0) (get_or row.places.now (b + 1) 0) order (b1_right a0 colour b at (omega arith))

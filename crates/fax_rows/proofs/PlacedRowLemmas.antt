@@ -1,5 +1,5 @@
 -- What a row of places of change shows: its pels, its changing elements, and the next of them.
-use Rattle.std.proofs.Common.{◌≡◌, ◌≢◌, ℕ, zero, suc, ◌+◌, ◌-◌, ◌%◌, ◌<◌, ◌≤◌, List, [], ◌∷◌, length, take, drop, get_or, replicate, true}
+use Rattle.std.proofs.Common.{◌≡◌, ℕ, zero, suc, ◌+◌, ◌-◌, ◌<◌, ◌≤◌, List, [], ◌∷◌, length, take, drop, get_or, replicate, true}
 use Rattle.std.proofs.Common.{false, refl, ap, sym, ◌∙◌, subst, arith, inl, inr, drop-cons}
 use Rattle.std.specs.Prelude.{◌⊎◌, Option, Some, None}
 use Rattle.std.specs.List.{filter, range_with_len}
@@ -14,7 +14,7 @@ use Rattle.fax_rows.specs.Elements.{pel, is_changing, is_right_of, next_change}
 use Rattle.fax_rows.specs.code.Turns.{turned, pels_by, alternate, ArePlaces, IsBehind, IsFrom}
 use Rattle.fax_rows.proofs.ChangeLemmas.{still_left, both}
 use Rattle.fax_rows.proofs.PlaceLemmas.{next_change_at}
-use Rattle.fax_rows.proofs.TurnLemmas.{length-pels_by, pel-pels_by, alternate-odd, alternate-even, at_least, below_later, pel_behind}
+use Rattle.fax_rows.proofs.TurnLemmas.{length-pels_by, pel-pels_by, at_least, below_later, pel_behind}
 use Rattle.fax_rows.proofs.TurnLemmas.{changing_at, unchanging}
 
 -- after the first place alone all is white

@@ -10,10 +10,9 @@ use Rattle.std.proofs.lemmas.List.{append-nil, get_or-replicate, take-append-le}
 use Rattle.fax_bits.specs.declared.Colour.{Colour}
 use Rattle.fax_bits.specs.declared.Colour.TheVariants.{White}
 use Rattle.fax_bits.specs.Runs.{IsRun}
-use Rattle.fax_rows.specs.declared.RowFault.{RowFault}
 use Rattle.fax_rows.specs.Elements.{other, pels_of}
 use Rattle.fax_rows.specs.OneDimensional.{AreRuns, IsOneDimensionalRow}
-use Rattle.fax_rows.specs.Faults.{IsRunFault, IsOneDimensionalFault, colour_behind}
+use Rattle.fax_rows.specs.Faults.{colour_behind}
 use Rattle.fax_rows.proofs.RowLaws.{length-pels_of}
 use Rattle.fax_rows.proofs.RunLemmas.{sum-push}
 

@@ -1,5 +1,5 @@
 -- Runs, code by code.
-use Rattle.std.proofs.Common.{◌≡◌, ℕ, ◌+◌, ◌≤◌, List, [], ◌∷◌, ◌++◌, map, Bool, refl, sym, subst, arith}
+use Rattle.std.proofs.Common.{◌≡◌, ℕ, ◌+◌, List, [], ◌∷◌, ◌++◌, map, Bool, refl, sym, subst, arith}
 use Rattle.std.specs.Prelude.{sum}
 use Rattle.std.proofs.lemmas.Grind.{common_steps}
 use Rattle.std.proofs.lemmas.List.{map-append}
@@ -9,8 +9,6 @@ use Rattle.fax_bits.specs.declared.runs.RunCode.TheVariants.{Terminating, MakeUp
 use Rattle.fax_bits.specs.Tables.{run_table}
 use Rattle.fax_bits.specs.Codes.{Takes, Spells}
 use Rattle.fax_bits.specs.Runs.{IsRun}
-use Rattle.fax_rows.specs.declared.RowFault.{RowFault}
-use Rattle.fax_rows.specs.Faults.{IsRunFault, IsAtRunCode}
 
 -- make-up codes of n pels so far
 pub record IsPartialRun (colour : Colour) (b : List Bool) (n : ℕ) (rest : List Bool) : Type 0 where

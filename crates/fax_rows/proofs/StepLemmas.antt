@@ -5,13 +5,11 @@ use Rattle.std.specs.Prelude.{unwrap_or, nat_abs}
 use Rattle.std.proofs.lemmas.Int.{ints}
 use Rattle.fax_bits.specs.declared.Colour.{Colour}
 use Rattle.fax_bits.specs.declared.Colour.TheVariants.{White}
-use Rattle.fax_rows.specs.declared.RowFault.{RowFault}
 use Rattle.fax_rows.specs.declared.two_dimensional.steps.Reached.{Reached}
 use Rattle.fax_rows.specs.Elements.{other}
-use Rattle.fax_rows.specs.TwoDimensional.{Position, beginning, a0_number, coloured_up_to, b1_from, IsInRow, IsVerticalStep, IsStep}
+use Rattle.fax_rows.specs.TwoDimensional.{Position, beginning, coloured_up_to, b1_from, IsInRow, IsVerticalStep, IsStep}
 use Rattle.fax_rows.specs.TwoDimensional.{IsUnfinished, AreSteps}
 use Rattle.fax_rows.specs.code.Reached.{position_of, reached_pel}
-use Rattle.fax_rows.specs.Faults.{IsHorizontalFault}
 
 -- a place that is not negative
 pub abs-same : (z sum : ℤ) → pos 0 ≤ℤ z → z ≡ sum → pos (nat_abs z) ≡ sum

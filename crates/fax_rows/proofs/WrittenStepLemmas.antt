@@ -1,5 +1,5 @@
 -- How far a row is written after a step: the indexes of a1 and b1 after each mode.
-use Rattle.std.proofs.Common.{◌≡◌, ℕ, suc, ◌+◌, ◌-◌, ◌<◌, ◌≤◌, List, ◌++◌, length, get_or, true, false, refl, ap, sym, ◌∙◌, subst, arith}
+use Rattle.std.proofs.Common.{◌≡◌, ℕ, suc, ◌+◌, ◌-◌, ◌<◌, ◌≤◌, ◌++◌, length, get_or, true, false, refl, ap, sym, ◌∙◌, subst, arith}
 use Rattle.std.specs.Prelude.{Option, Some, None, unwrap_or, pos, ◌-ℤ◌, nat_lt}
 use Rattle.std.proofs.lemmas.Bool.Decides.{nat_tests}
 use Rattle.std.proofs.lemmas.Int.{ints}

@@ -3,6 +3,9 @@
 ghost use Rattle.std.specs.Prelude.{◌≡◌};
 ghost use Rattle.fax_rows.specs.code.Turns.{ArePlaces};
 
+use crate::turns::{colour_after, places_up_to};
+use fax_bits::Colour;
+
 /// A row: a 0, the changing elements in ascending order, and at least three times the width.
 #[derive(Clone, Copy)]
 pub(crate) struct PlacedRow<'a> {
@@ -18,6 +21,30 @@ impl PlacedRow<'_> {
     ghost use Rattle.fax_bits.specs.declared.Colour.{Colour};
     ghost use Rattle.fax_rows.specs.Elements.{other, is_right_of};
     ghost use Rattle.fax_rows.specs.code.PlacedRow.{IsBeforeB1, IsB1At};
+    ghost use Rattle.fax_rows.specs.code.Turns.{IsFrom};
+
+    /// The index of the next changing element right of a place, where `None` is just before the
+    /// first pel.
+    pub fn change_after(self, from: Option<u32>) -> usize
+        ensures { IsFrom self.entry.places.now self.entry.end from result }
+    {
+        match from {
+            None => 1,
+            Some(place) => places_up_to(self.places, self.end, place),
+        }
+    }
+
+    /// The index of b1 as seen from a0 of this colour, where `None` is just before the first pel.
+    pub fn b1_from(self, a0: Option<u32>, colour: Colour) -> usize
+        ensures { IsB1At self.entry a0 colour result }
+    {
+        let next = self.change_after(a0);
+        if colour_after(next) == colour {
+            next
+        } else {
+            next + 1
+        }
+    }
 
     /// The index of b1 as seen from the pel `place`, from an index on that is not after it.
     pub fn find_b1(self, from: usize, place: u32) -> usize

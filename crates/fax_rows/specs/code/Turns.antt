@@ -1,5 +1,5 @@
 -- A row as its places of change: each of them turns the colour of the pels from there on.
-use Rattle.std.specs.Prelude.{◌≡◌, ℕ, zero, suc, true, false, Option, Some, None, ◌+◌, ◌-◌, ◌≤◌}
+use Rattle.std.specs.Prelude.{◌≡◌, ℕ, zero, suc, Option, Some, None, ◌+◌, ◌-◌, ◌≤◌}
 use Rattle.std.specs.Prelude.{◌<◌, ◌^◌, nat_le, if◌then◌else◌, List, [], ◌∷◌, map, length, take}
 use Rattle.std.specs.Prelude.{slice_index}
 use Rattle.std.specs.List.{range_with_len}

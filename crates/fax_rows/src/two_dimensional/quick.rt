@@ -9,7 +9,7 @@ ghost use Rattle.fax_rows.specs.code.Turns.{row_of, IsAscending};
 ghost use Rattle.fax_rows.specs.code.Reached.{reached_pel};
 ghost use Rattle.fax_rows.specs.code.PlacedReached.{placed_position, IsReadTo};
 
-use super::steps::{PlacedReached, after_runs, pass, vertical};
+use super::steps::{PlacedReached, after_runs, pass, under_b1, vertical};
 use crate::rows::PlacedRow;
 use crate::runs::other;
 use crate::turns::colour_after;
@@ -92,6 +92,7 @@ fn step<'a>(
 {
     let (after, mode) = ahead.mode()?;
     match mode {
+        ModeCode::Vertical(0) => Some((after, under_b1(reference, places, at))),
         ModeCode::Vertical(d) => {
             let next = vertical(reference, places, at, d)?;
             Some((after, next))

@@ -87,10 +87,10 @@ pub(crate) fn pass(reference: PlacedRow, places: &[u32], at: PlacedReached) -> P
     }
 }
 
-/// Vertical mode with a1 just under b1, which is always right of a0 and in the row (T.4, section
-/// 4.2.1.3.2). The next b1 is the reference row's next changing element.
+/// What `vertical` does with a1 just under b1, which is always right of a0 and in the row (T.4,
+/// section 4.2.1.3.2). The next b1 is the reference row's next changing element.
 #[inline(always)]
-fn under_b1(reference: PlacedRow, places: &mut [u32], at: PlacedReached) -> PlacedReached
+pub(crate) fn under_b1(reference: PlacedRow, places: &mut [u32], at: PlacedReached) -> PlacedReached
     requires so_far { IsReadTo reference places.old at }
     requires unfinished { reached_pel at.reached < reference.width }
     ensures step { Spec.IsVerticalStep (placed_pels reference.entry)
@@ -206,10 +206,7 @@ pub(crate) fn vertical(
     ensures first { slice_index places.new 0 ≡ 0 }
     ensures same_len { length places.new ≡ length places.old }
 {
-    if d == 0 {
-        return Some(under_b1(reference, places, at));
-    }
-    if d > 0 {
+    if d >= 0 {
         right_of_b1(reference, places, at, d)
     } else {
         left_of_b1(reference, places, at, d)

@@ -1,4 +1,4 @@
-use Rattle.std.proofs.Common.{◌∙◌, ap, subst, arith}
+use Rattle.std.proofs.Common.{◌∙◌, ap, subst}
 use Rattle.fax_bits.specs.Runs.{IsRun}
 use Rattle.fax_rows.specs.Elements.{other}
 use Rattle.fax_rows.proofs.two_dimensional.quick.two_runs.Goals as goal
