@@ -60,7 +60,7 @@ impl PlacedRow<'_> {
         b1
     }
 
-    /// What `find_b1` answers, where the pel is in the row.
+    /// What `find_b1` answers where the pel is in the row; there is no b1 at the row's end.
     #[inline(always)]
     pub fn b1_after(self, from: usize, place: u32) -> usize
         requires within { place < self.width → from ≤ self.end + 1 }
@@ -71,7 +71,7 @@ impl PlacedRow<'_> {
         if place < self.width {
             self.find_b1(from, place)
         } else {
-            from
+            0
         }
     }
 

@@ -111,7 +111,6 @@ fn read_exactly(
 }
 
 /// Reads the modes of a row over the reference row, and answers where its places end.
-#[inline(always)]
 fn read_places(
     source: &mut BitSource,
     reference: PlacedRow,
