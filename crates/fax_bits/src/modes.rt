@@ -122,9 +122,10 @@ impl CodeTable for Modes {
 /// The length and the meaning of the code at a place of the table, where it begins thirteen bits.
 #[inline(always)]
 fn begins(bits: u32, place: usize) -> Option<(u32, ModeCode)>
-    requires bits { bits < 2 ^ 13 }
+    requires bits { bits < 2 ^ LONGEST_CODE }
     requires place { place < 10 }
-    ensures { IfSome result (λ found. BeginsWith modes (code_bits 13 bits) found.0 found.1) }
+    ensures { IfSome result
+        (λ found. BeginsWith modes (code_bits LONGEST_CODE bits) found.0 found.1) }
 {
     let entry = Modes::entry(place);
     let len = u32::from(entry.len);
@@ -139,8 +140,9 @@ fn begins(bits: u32, place: usize) -> Option<(u32, ModeCode)>
 /// only where no bit was loaded before; of the extension it says nothing.
 #[inline(always)]
 pub(crate) fn find_mode(bits: u32) -> Option<(u32, ModeCode)>
-    requires { bits < 2 ^ 13 }
-    ensures { IfSome result (λ found. BeginsWith modes (code_bits 13 bits) found.0 found.1) }
+    requires { bits < 2 ^ LONGEST_CODE }
+    ensures { IfSome result
+        (λ found. BeginsWith modes (code_bits LONGEST_CODE bits) found.0 found.1) }
 {
     if let Some(found) = begins(bits, UNDER + 1) {
         return Some(found);
