@@ -66,9 +66,11 @@ takes_bits table short b meaning rest takes =
 -- a table is read in one way
 pub reads_one_way : {M : Type 0} (table : List (CodeEntry M)) → HasShortCodes table → IsPrefixFree table → ReadsOneWay table
 reads_one_way table short free = record {
-  takes_one = takes_one table free;
   takes_bits = takes_bits table short;
-  takes_or_fails = takes_or_fails table;
-  taken_has_no_fault = taken_has_no_fault table;
-  has_one_fault = has_one_fault table;
+  code = record {
+    one_answer = takes_one table free;
+    answer_or_fault = takes_or_fails table;
+    answer_has_no_fault = taken_has_no_fault table;
+    one_fault = has_one_fault table;
+  };
 }

@@ -17,9 +17,6 @@ appends-then old mid new first second one two =
     two ∙ ap (λ (s : Sink). record { order = s.order; bits = s.bits ++ second }) one
     ∙ ap (λ b. record { order = old.order; bits = b }) (append_assoc old.bits first second)
 
-pub appends-none : (old new : Sink) → new ≡ old → Appends old [] new
-appends-none old new same = same ∙ ap (λ b. record { order = old.order; bits = b }) (sym (append-nil old.bits))
-
 -- these codes were put
 abbrev pub Put : Colour → Sink → List RunCode → Sink → Type 0
 Put colour old codes new = Appends old (flat_map (run_code_bits colour) codes) new
@@ -31,13 +28,6 @@ put-more colour old mid new codes code one two =
     sym (flat_map-append (run_code_bits colour) codes (code ∷ [])
     ∙ ap (λ b. flat_map (run_code_bits colour) codes ++ b) (append-nil (run_code_bits colour code))) in
     subst (λ b. Appends old b new) all (appends-then old mid new _ _ one two)
-
--- the make-up codes of 2560 that were put before the i-th
-pub put-step : (colour : Colour) (old mid new : Sink) (i : ℕ) → Put colour old (replicate i (MakeUp 2560)) mid
-    → Appends mid (run_code_bits colour (MakeUp 2560)) new → Put colour old (replicate (i + 1) (MakeUp 2560)) new
-put-step colour old mid new i one two =
-    subst (λ codes. Put colour old codes new) (replicate-append-replicate i 1 (MakeUp 2560))
-    (put-more colour old mid new (replicate i (MakeUp 2560)) (MakeUp 2560) one two)
 
 -- codes that were put are the first of a run's codes
 pub put-prefix : (colour : Colour) (n : ℕ) (old new : Sink) (front back : List RunCode) → Put colour old front new

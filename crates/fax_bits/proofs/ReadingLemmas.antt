@@ -3,8 +3,8 @@ use Rattle.std.proofs.Common.{◌≡◌, ℕ, zero, suc, ◌<◌, List, [], ◌�
 use Rattle.std.specs.Prelude.{◌⊎◌, Contains}
 use Rattle.fax_bits.specs.declared.codes.CodeEntry.{CodeEntry}
 use Rattle.fax_bits.specs.declared.codes.CodeFault.TheVariants.{DataEnds, BadCode}
-use Rattle.fax_bits.specs.Codes.{bits_of, IsCodeAhead, IsCutBy}
-use Rattle.fax_bits.specs.Laws.{TakesOrFails, TakenHasNoFault, HasOneFault}
+use Rattle.fax_bits.specs.declared.codes.CodeFault.{CodeFault}
+use Rattle.fax_bits.specs.Codes.{bits_of, IsCodeAhead, IsCutBy, Takes, IsFaultOf}
 
 same_bit : (a b : Bool) → (a ≡ b) ⊎ (a ≡ b → ⊥)
 same_bit true true = inl refl
@@ -58,7 +58,8 @@ decide_listed P test (first ∷ table) =
       ]
     ]
 
-pub takes_or_fails : {M : Type 0} (table : List (CodeEntry M)) → TakesOrFails table
+pub takes_or_fails : {M : Type 0} (table : List (CodeEntry M)) (b : List Bool)
+    → ((meaning : M) × (rest : List Bool) × Takes table b meaning rest) ⊎ ((fault : CodeFault) × IsFaultOf table b fault)
 takes_or_fails table b =
     elim (decide_listed (λ entry. IsCodeAhead (bits_of entry) b) (λ entry. decide_ahead (bits_of entry) b) table) [
       | inl found ↦ inl (found.0.meaning, found.2.0, record { entry = found.0; listed = found.1; means = refl; spelled = found.2.1 })
@@ -68,11 +69,13 @@ takes_or_fails table b =
       ]
     ]
 
-pub taken_has_no_fault : {M : Type 0} (table : List (CodeEntry M)) → TakenHasNoFault table
+pub taken_has_no_fault : {M : Type 0} (table : List (CodeEntry M)) (b : List Bool) (meaning : M) (rest : List Bool) (fault : CodeFault)
+    → Takes table b meaning rest → IsFaultOf table b fault → ⊥
 taken_has_no_fault table b meaning rest DataEnds takes fault = fault.0 takes.entry takes.listed (rest, takes.spelled)
 taken_has_no_fault table b meaning rest BadCode takes fault = fault.0 takes.entry takes.listed (rest, takes.spelled)
 
-pub has_one_fault : {M : Type 0} (table : List (CodeEntry M)) → HasOneFault table
+pub has_one_fault : {M : Type 0} (table : List (CodeEntry M)) (b : List Bool) (fault other : CodeFault) → IsFaultOf table b fault
+    → IsFaultOf table b other → fault ≡ other
 has_one_fault table b DataEnds DataEnds first second = refl
 has_one_fault table b BadCode BadCode first second = refl
 has_one_fault table b DataEnds BadCode first second = absurd (second.1 first.1)

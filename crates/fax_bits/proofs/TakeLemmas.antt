@@ -80,9 +80,6 @@ module _ (len low number : ℕ) (within : low ≤ len) (short : len ≤ 48) (fit
   pub low_part : bit_and number (1 * 2 ^ low % 2 ^ 64 - 1) ≡ number % 2 ^ low
   low_part = ap (λ n. bit_and number (n - 1)) (one_shl low 64 (omega arith)) ∙ and_mask number low
 
-  pub low_part-lt : bit_and number (1 * 2 ^ low % 2 ^ 64 - 1) < 2 ^ low
-  low_part-lt = rw low_part (mod_below number (2 ^ low) (pow_pos low))
-
   pub two_parts : code_bits len number
       ≡ code_bits (len - low) (number / 2 ^ low) ++ code_bits low (bit_and number (1 * 2 ^ low % 2 ^ 64 - 1))
   two_parts =

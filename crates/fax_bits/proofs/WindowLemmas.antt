@@ -31,11 +31,6 @@ zeros_behind-of count number word is = ap (λ w. w % 2 ^ (64 - count)) is ∙ mu
 word_is : (count word : ℕ) → word % 2 ^ (64 - count) ≡ 0 → word ≡ word / 2 ^ (64 - count) * 2 ^ (64 - count)
 word_is count word zeros = omega (arith, shr_split word (64 - count), zeros)
 
-top-lt : (count word : ℕ) → count ≤ 64 → word < 2 ^ 64 → word / 2 ^ (64 - count) < 2 ^ count
-top-lt count word few fits =
-    let e : count + (64 - count) ≡ 64 = omega arith in
-    shr_below word count (64 - count) (subst (λ k. word < 2 ^ k) (sym e) fits)
-
 -- a power that is moved over
 moved : (number j k m : ℕ) → j + k ≡ m → number * 2 ^ j * 2 ^ k ≡ number * 2 ^ m
 moved number j k m places =
@@ -187,25 +182,3 @@ first_is_one (suc count) word few fits zeros =
     let small : word / 2 ^ 63 < 2 = omega (arith, fits) in
     let bit : bit_at (word / 2 ^ (64 - suc count)) count ≡ word / 2 ^ 63 = omega (arith, top, small) in
     ap (λ n. nat_eq n 1) (sym bit)
-
--- the loaded bits are ahead
-pub length-ahead : (order : FillOrder) (bytes : List ℕ) (window : Window) → window.count ≤ length (bits_ahead order bytes window)
-length-ahead order bytes window =
-    omega (
-      arith,
-      length-append (first_bits window.count window.bits) (bits order (drop window.at bytes)),
-      length-first_bits window.count window.bits,
-    )
-
-pub length-bits_ahead : (order : FillOrder) (bytes : List ℕ) (window : Window)
-    → length (bits_ahead order bytes window) ≡ window.count + 8 * (length bytes - window.at)
-length-bits_ahead order bytes window =
-    length-append (first_bits window.count window.bits) (bits order (drop window.at bytes))
-    ∙ ap (λ n. n + length (bits order (drop window.at bytes))) (length-first_bits window.count window.bits)
-    ∙ ap (λ n. window.count + n) (length-bits order (drop window.at bytes) ∙ ap (λ n. 8 * n) (length-drop window.at bytes))
-
--- what is left after some bits
-pub behind_front : (front rest : List Bool) → drop (length (front ++ rest) - length rest) (front ++ rest) ≡ rest
-behind_front front rest =
-    let e : length (front ++ rest) - length rest ≡ length front = omega (arith, length-append front rest) in
-    ap (λ k. drop k (front ++ rest)) e ∙ drop-append_seam front rest

@@ -9,16 +9,6 @@ use Rattle.fax_bits.specs.code.Source.{IsZeroByteAt}
 abbrev pub IsZeroBelow : List Bool → ℕ → Type 0
 IsZeroBelow b n = (k : ℕ) → k < n → get_or b k false ≡ false
 
--- and the eight after them
-pub zeros_more : (b : List Bool) (n : ℕ) → IsZeroBelow b n → IsZeroByteAt b n → IsZeroBelow b (n + 8)
-zeros_more b n below byte k h =
-    elim (cases_lt k n) [
-      | inl near ↦ below k near
-      | inr far ↦
-          let at : n + (k - n) ≡ k = omega arith in
-          ap (λ i. get_or b i false) (sym at) ∙ byte.zeros (k - n) (omega arith)
-    ]
-
 pub zeros_ahead : (b : List Bool) (n : ℕ) → n < length b → IsZeroBelow b n → get_or b n false ≡ true → HasZerosAhead b n
 zeros_ahead [] n within below one = absurd (omega arith)
 zeros_ahead (x ∷ b) zero within below one = (b, ap (λ y. y ∷ b) one)

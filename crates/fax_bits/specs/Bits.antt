@@ -20,6 +20,11 @@ abbrev pub bit_in_byte : FillOrder → ℕ → ℕ
 bit_in_byte MsbFirst place = 7 - place
 bit_in_byte LsbFirst place = place
 
+-- the other order of the bits of a byte (TIFF 6.0, FillOrder)
+abbrev pub other_order : FillOrder → FillOrder
+other_order MsbFirst = LsbFirst
+other_order LsbFirst = MsbFirst
+
 -- the bits of the bytes (TIFF 6.0, FillOrder)
 unfoldable pub bits : FillOrder → List ℕ → List Bool
 bits order bytes = flat_map (byte_bits order) bytes

@@ -2,6 +2,7 @@
 use Rattle.std.specs.Prelude.{◌≡◌, ℕ, zero, suc, ◌^◌, ◌<◌, ◌≤◌, Bool, List, [], ◌∷◌, ◌++◌, Contains}
 use Rattle.std.specs.Prelude.{Some, slice_get}
 use Rattle.fax_bits.specs.declared.codes.CodeEntry.{CodeEntry}
+use Rattle.fax_bits.specs.declared.codes.TheConstants.{LONGEST_CODE}
 use Rattle.fax_bits.specs.declared.codes.CodeFault.{CodeFault}
 use Rattle.fax_bits.specs.declared.codes.CodeFault.TheVariants.{DataEnds, BadCode}
 use Rattle.fax_bits.specs.Bits.{code_bits}
@@ -19,7 +20,7 @@ bits_at (entry ∷ table) (suc place) = bits_at table place
 -- each code has 1 to 13 bits, and its number no more than these (T.4, tables 2, 3a, 3b and 4)
 abbrev pub HasShortCodes : {M : Type 0} → List (CodeEntry M) → Type 0
 HasShortCodes {M} table =
-    (entry : CodeEntry M) → Contains table entry → (0 < entry.len) × (entry.len ≤ 13)
+    (entry : CodeEntry M) → Contains table entry → (0 < entry.len) × (entry.len ≤ LONGEST_CODE)
     × (entry.code < 2 ^ entry.len)
 
 -- no entry's code begins the code at another place of the table, where the same entry may stand too

@@ -3,7 +3,6 @@ use Rattle.std.specs.Prelude.{◌≡◌, ℕ, ◌*◌, ◌/◌, ◌%◌, ◌^◌
 use Rattle.std.specs.Prelude.{length, replicate, slice_index_or, All, ◌⊎◌}
 use Rattle.std.specs.Int.{bit_at}
 use Rattle.fax_bits.specs.declared.codes.CodeEntry.{CodeEntry}
-use Rattle.fax_bits.specs.declared.codes.CodeFault.{CodeFault}
 use Rattle.fax_bits.specs.declared.Colour.{Colour}
 use Rattle.fax_bits.specs.declared.FillOrder.{FillOrder}
 use Rattle.fax_bits.specs.declared.FillOrder.TheVariants.{MsbFirst}
@@ -64,33 +63,24 @@ TakesBits {M} table =
     (b : List Bool) (meaning : M) (rest : List Bool) → Takes table b meaning rest
     → length rest < length b
 
--- a code of the table is taken, or there is a fault (this project's profile)
-abbrev pub TakesOrFails : {M : Type 0} → List (CodeEntry M) → Type 0
-TakesOrFails {M} table =
-    (b : List Bool)
-    → ((meaning : M) × (rest : List Bool) × Takes table b meaning rest)
-    ⊎ ((fault : CodeFault) × IsFaultOf table b fault)
+-- bits are read in one way: they begin with one answer, which one rest follows, or they have one
+-- fault, never both (this project's profile)
+pub record IsReadInOneWay {A F : Type 0} (IsAnswer : List Bool → A → List Bool → Type 0)
+    (IsFault : List Bool → F → Type 0) : Type 0 where
+  pub one_answer : (b : List Bool) (answer another : A) (rest remaining : List Bool)
+      → IsAnswer b answer rest → IsAnswer b another remaining
+      → (answer ≡ another) × (rest ≡ remaining)
+  pub answer_or_fault : (b : List Bool)
+      → ((answer : A) × (rest : List Bool) × IsAnswer b answer rest) ⊎ ((fault : F) × IsFault b fault)
+  pub answer_has_no_fault : (b : List Bool) (answer : A) (rest : List Bool) (fault : F)
+      → IsAnswer b answer rest → IsFault b fault → ⊥
+  pub one_fault : (b : List Bool) (fault another : F)
+      → IsFault b fault → IsFault b another → fault ≡ another
 
--- bits of which a code is taken have no fault (this project's profile)
-abbrev pub TakenHasNoFault : {M : Type 0} → List (CodeEntry M) → Type 0
-TakenHasNoFault {M} table =
-    (b : List Bool) (meaning : M) (rest : List Bool) (fault : CodeFault)
-    → Takes table b meaning rest → IsFaultOf table b fault → ⊥
-
--- bits have at most one fault (this project's profile)
-abbrev pub HasOneFault : {M : Type 0} → List (CodeEntry M) → Type 0
-HasOneFault table =
-    (b : List Bool) (fault other : CodeFault) → IsFaultOf table b fault → IsFaultOf table b other
-    → fault ≡ other
-
--- bits are read by a table in one way: one code and one rest, or one fault
--- (T.4, tables 2, 3a, 3b and 4)
+-- bits are read by a table in one way, and each code takes bits (T.4, tables 2, 3a, 3b and 4)
 pub record ReadsOneWay {M : Type 0} (table : List (CodeEntry M)) : Type 0 where
-  pub takes_one : TakesOne table
   pub takes_bits : TakesBits table
-  pub takes_or_fails : TakesOrFails table
-  pub taken_has_no_fault : TakenHasNoFault table
-  pub has_one_fault : HasOneFault table
+  pub code : IsReadInOneWay (Takes table) (IsFaultOf table)
 
 -- a run that is written is read again, whatever follows it (T.4, section 4.1.1)
 abbrev pub RunBitsAreRead : Type 0

@@ -58,9 +58,9 @@ IsWritten (Vertical d) = (negsuc 2 ≤ℤ d) × (d ≤ℤ pos 3)
 IsWritten ModeExtension = ⊥
 IsWritten _ = Unit {0}
 
--- the make-up code for what is left below 2560 pels, if that is at least 64 (T.4, section 4.1.1)
+-- the make-up code of so many steps of 64 pels, if there are any (T.4, section 4.1.1)
 abbrev pub one_make_up : ℕ → List RunCode
-one_make_up pels = if pels == 0 then [] else (MakeUp (64 * pels) ∷ [])
+one_make_up steps = if steps == 0 then [] else (MakeUp (64 * steps) ∷ [])
 
 -- the codes of a run as it is written: 2560 as often as it fits, at most one other make-up code, a
 -- terminating code (T.4, section 4.1.1)

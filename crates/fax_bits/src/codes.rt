@@ -55,17 +55,17 @@ pub trait CodeTable {
         requires { i < COUNT }
         ensures found { slice_get table i ≡ Some result }
         ensures not_empty { 0 < result.len }
-        ensures short { result.len ≤ 13 };
+        ensures short { result.len ≤ LONGEST_CODE };
 
     /// The place of the entry whose code begins thirteen bits, or `COUNT` where none does.
     fn place(bits: u32) -> usize
-        requires { bits < 2 ^ 13 }
-        ensures { result ≡ place_of table 13 bits };
+        requires { bits < 2 ^ LONGEST_CODE }
+        ensures { result ≡ place_of table LONGEST_CODE bits };
 
     /// The length in bits and the meaning of the code that begins `n` bits, 0 to 13 of them: the
     /// lowest of `window`, the highest first. `None` where no code is the beginning of them.
     fn find(window: u32, n: u32) -> Option<(u32, Self::Meaning)>
-        requires few { n ≤ 13 }
+        requires few { n ≤ LONGEST_CODE }
         requires fits { window < 2 ^ n }
         ensures { MatchOption result (HasNoCode table (code_bits n window))
             (λ found. BeginsWith table (code_bits n window) found.0 found.1) }
@@ -104,7 +104,7 @@ enum Meeting {
 impl<'a> BitSource<'a> {
     /// How the bits that are left begin beside a code.
     fn meeting(&self, code: u16, len: u8) -> Meeting
-        requires { len ≤ 13 }
+        requires { len ≤ LONGEST_CODE }
         ensures { IsMeeting result (code_bits len code) self.now.left }
     {
         let left = self.remaining();
@@ -166,9 +166,9 @@ fn read_last_code<T: CodeTable>(source: &mut BitSource) -> Result<T::Meaning, Co
 /// none does, the source is as it was.
 #[inline(always)]
 fn take_code<T: CodeTable>(source: &mut BitSource, n: u32) -> Option<T::Meaning>
-    requires few { n ≤ 13 }
+    requires few { n ≤ LONGEST_CODE }
     requires within { n ≤ length source.old.left }
-    requires all { (k : ℕ) → k ≤ 13 → k ≤ length source.old.left → k ≤ n }
+    requires all { (k : ℕ) → k ≤ LONGEST_CODE → k ≤ length source.old.left → k ≤ n }
     ensures code { MatchOption result (HasNoCode T.table source.old.left)
         (λ meaning. Takes T.table source.old.left meaning source.new.left) }
     ensures unchanged { result ≡ None → source.new ≡ source.old }

@@ -1,6 +1,8 @@
 //! The bits of bytes, turned round in lanes.
 ghost use Rattle.std.specs.Prelude.{◌≡◌, ◌+◌, ◌≤◌, length, map, ℕ};
 ghost use Rattle.std.specs.Int.{reverse_bits as turned_round, w8};
+ghost use Rattle.fax_bits.specs.declared.FillOrder.{FillOrder};
+ghost use Rattle.fax_bits.specs.Bits.{bits, other_order};
 
 use std::simd::prelude::*;
 
@@ -21,7 +23,10 @@ fn turned(lanes: u8x16) -> u8x16
 
 /// Turns the bits of each byte round: its lowest becomes its highest (TIFF 6.0, FillOrder).
 pub fn reverse_bits(bytes: &mut [u8])
-    ensures { bytes.new ≡ map (turned_round w8) bytes.old }
+    ensures turned { bytes.new ≡ map (turned_round w8) bytes.old }
+
+    // The bits in one order are what they were in the other.
+    ensures order { (order : FillOrder) → bits order bytes.new ≡ bits (other_order order) bytes.old }
 {
     let len = bytes.len();
     let mut at = 0;

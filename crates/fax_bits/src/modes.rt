@@ -6,7 +6,7 @@ ghost use Rattle.fax_bits.specs.Tables.{modes};
 ghost use Rattle.fax_bits.specs.code.Source.{KeepsEnd};
 
 use crate::BitSource;
-use crate::codes::{CodeEntry, CodeFault, CodeTable, read_code};
+use crate::codes::{CodeEntry, CodeFault, CodeTable, LONGEST_CODE, read_code};
 use crate::indexes::MODE_PLACES;
 
 /// What a code of the mode table means (T.4, section 4.2.1.3.2).
@@ -103,6 +103,7 @@ impl CodeTable for Modes {
 
     ghost table = { modes };
 
+    #[inline(always)]
     fn entry(i: usize) -> CodeEntry<ModeCode> {
         MODES[i]
     }
@@ -118,52 +119,56 @@ impl CodeTable for Modes {
     ghost prefix_free = { Laws.modes_is_prefix_free };
 }
 
+/// The length and the meaning of the code at a place of the table, where it begins thirteen bits.
+#[inline(always)]
+fn begins(bits: u32, place: usize) -> Option<(u32, ModeCode)>
+    requires bits { bits < 2 ^ LONGEST_CODE }
+    requires place { place < 10 }
+    ensures { IfSome result
+        (λ found. BeginsWith modes (code_bits LONGEST_CODE bits) found.0 found.1) }
+{
+    let entry = Modes::entry(place);
+    let len = u32::from(entry.len);
+    if bits >> (LONGEST_CODE - len) == u32::from(entry.code) {
+        return Some((len, entry.meaning));
+    }
+    None
+}
+
 /// The length and the meaning of the code of a mode that begins thirteen bits, which are loaded.
-/// The short codes, which most modes have, are tried first; of the extension it says nothing.
+/// The short codes, which most modes have, are tried first, but for the lone 1, which comes here
+/// only where no bit was loaded before; of the extension it says nothing.
 #[inline(always)]
 pub(crate) fn find_mode(bits: u32) -> Option<(u32, ModeCode)>
-    requires { bits < 2 ^ 13 }
-    ensures { IfSome result (λ found. BeginsWith modes (code_bits 13 bits) found.0 found.1) }
+    requires { bits < 2 ^ LONGEST_CODE }
+    ensures { IfSome result
+        (λ found. BeginsWith modes (code_bits LONGEST_CODE bits) found.0 found.1) }
 {
-    match bits >> 10 {
-        0b011 => Some((3, ModeCode::Vertical(1))),
-        0b010 => Some((3, ModeCode::Vertical(-1))),
-        0b001 => Some((3, ModeCode::Horizontal)),
-        _ => find_long_mode(bits),
+    if let Some(found) = begins(bits, UNDER + 1) {
+        return Some(found);
     }
-}
-
-/// What `find_mode` says of codes of more than three bits.
-#[inline(always)]
-fn find_long_mode(bits: u32) -> Option<(u32, ModeCode)>
-    requires { bits < 2 ^ 13 }
-    ensures { IfSome result (λ found. BeginsWith modes (code_bits 13 bits) found.0 found.1) }
-{
-    if bits >> 9 == 0b0001 {
-        return Some((4, ModeCode::Pass));
+    if let Some(found) = begins(bits, LEFT + 1) {
+        return Some(found);
     }
-    match bits >> 7 {
-        0b000011 => Some((6, ModeCode::Vertical(2))),
-        0b000010 => Some((6, ModeCode::Vertical(-2))),
-        _ => find_longest_mode(bits),
+    if let Some(found) = begins(bits, HORIZONTAL) {
+        return Some(found);
     }
-}
-
-/// What `find_mode` says of codes of more than six bits, and of a lone 1, which comes here only
-/// where no bit was loaded before.
-#[inline(always)]
-fn find_longest_mode(bits: u32) -> Option<(u32, ModeCode)>
-    requires { bits < 2 ^ 13 }
-    ensures { IfSome result (λ found. BeginsWith modes (code_bits 13 bits) found.0 found.1) }
-{
-    if bits >> 12 == 0b1 {
-        return Some((1, ModeCode::Vertical(0)));
+    if let Some(found) = begins(bits, PASS) {
+        return Some(found);
     }
-    match bits >> 6 {
-        0b0000011 => Some((7, ModeCode::Vertical(3))),
-        0b0000010 => Some((7, ModeCode::Vertical(-3))),
-        _ => None,
+    if let Some(found) = begins(bits, UNDER + 2) {
+        return Some(found);
     }
+    if let Some(found) = begins(bits, LEFT + 2) {
+        return Some(found);
+    }
+    if let Some(found) = begins(bits, UNDER) {
+        return Some(found);
+    }
+    if let Some(found) = begins(bits, UNDER + 3) {
+        return Some(found);
+    }
+    begins(bits, LEFT + 3)
 }
 
 /// Reads a mode: what `read_code` does, without a look-up where a1 is under b1.

@@ -344,8 +344,9 @@ impl WhiteRuns {
     /// means, which is its place. `None` where no such code does.
     #[inline(always)]
     fn find_short(bits: u32) -> Option<(u32, u32)>
-        requires { bits < 2 ^ 13 }
-        ensures { IfSome result (λ found. BeginsWith white_runs (code_bits 13 bits) found.0
+        requires { bits < 2 ^ LONGEST_CODE }
+        ensures { IfSome result
+            (λ found. BeginsWith white_runs (code_bits LONGEST_CODE bits) found.0
             (RunCode.Terminating found.1)) }
     {
         let pels = WHITE_SHORT[(bits >> 4) as usize];
@@ -362,8 +363,9 @@ impl BlackRuns {
     /// means, which is its place. `None` where no such code does.
     #[inline(always)]
     fn find_short(bits: u32) -> Option<(u32, u32)>
-        requires { bits < 2 ^ 13 }
-        ensures { IfSome result (λ found. BeginsWith black_runs (code_bits 13 bits) found.0
+        requires { bits < 2 ^ LONGEST_CODE }
+        ensures { IfSome result
+            (λ found. BeginsWith black_runs (code_bits LONGEST_CODE bits) found.0
             (RunCode.Terminating found.1)) }
     {
         let pels = BLACK_SHORT[(bits >> 7) as usize];
@@ -379,8 +381,9 @@ impl BlackRuns {
 /// and how many pels it means. `None` where no such code does.
 #[inline(always)]
 pub(crate) fn find_short_run(colour: Colour, bits: u32) -> Option<(u32, u32)>
-    requires { bits < 2 ^ 13 }
-    ensures { IfSome result (λ found. BeginsWith (run_table colour) (code_bits 13 bits) found.0
+    requires { bits < 2 ^ LONGEST_CODE }
+    ensures { IfSome result
+        (λ found. BeginsWith (run_table colour) (code_bits LONGEST_CODE bits) found.0
         (RunCode.Terminating found.1)) }
 {
     match colour {
@@ -392,9 +395,9 @@ pub(crate) fn find_short_run(colour: Colour, bits: u32) -> Option<(u32, u32)>
 /// The length and the meaning of the code for a run of the colour that begins thirteen bits.
 #[inline(always)]
 pub(crate) fn find_run_code(colour: Colour, bits: u32) -> Option<(u32, RunCode)>
-    requires { bits < 2 ^ 13 }
+    requires { bits < 2 ^ LONGEST_CODE }
     ensures { IfSome result
-        (λ found. BeginsWith (run_table colour) (code_bits 13 bits) found.0 found.1) }
+        (λ found. BeginsWith (run_table colour) (code_bits LONGEST_CODE bits) found.0 found.1) }
 {
     match colour {
         Colour::White => WhiteRuns::find(bits, LONGEST_CODE),

@@ -4,7 +4,8 @@ ghost use Rattle.std.specs.Prelude.{slice_index_or, false, IfSome, MatchOption, 
 ghost use Rattle.std.specs.Prelude.{◌^◌};
 ghost use Rattle.fax_bits.specs.Bits.{bits, bits_number, bit_in_byte, IsAllZeros, HasZerosAhead};
 ghost use Rattle.fax_bits.specs.Bits.{code_bits};
-ghost use Rattle.fax_bits.specs.code.Source.{IsPlaced, IsZeroByteAt, IsTaken, BeginsWith};
+ghost use Rattle.fax_bits.specs.code.Source.{IsPlaced, IsZeroByteAt, IsTaken};
+ghost use Rattle.fax_bits.specs.code.Source.{BeginsWith, KeepsEnd};
 
 use crate::FillOrder;
 use crate::ahead::Ahead;
@@ -194,7 +195,10 @@ impl<'a> BitSource<'a> {
     pub fn take(&mut self, bits: u32, len: u32) -> bool
         requires short { len ≤ 24 }
         requires fits { bits < 2 ^ len }
-        ensures { IsTaken (code_bits len bits) self.old.left result self.new.left }
+        ensures taken { IsTaken (code_bits len bits) self.old.left result self.new.left }
+
+        // The source goes on in the same bits.
+        ensures same_end { KeepsEnd self.old self.new }
     {
         if self.remaining() < u64::from(len) || self.peek(len) != bits {
             return false;

@@ -15,6 +15,7 @@ pub mod WrittenFileLemmas
 pub mod WrittenRowLemmas
 pub mod WritingLemmas
 pub mod WriterLemmas
+pub mod PageByPageLemmas
 pub mod PbmGapLemmas
 pub mod PbmNumberLemmas
 pub mod PbmHeadLemmas

@@ -65,8 +65,8 @@ pel_format endian file fields = do
   _ ← check (samples_per_pixel == 1) (Unsupported Tags.SAMPLES_PER_PIXEL)
   Ok (record { compression = compression; exchanged = exchanged; order = order })
 
--- the rows of each strip but the last of a page of so many rows
--- (TIFF 6.0, RowsPerStrip; more than the page's rows means the page's rows)
+-- the rows of each strip but the last of a page of so many rows (TIFF 6.0, RowsPerStrip; that 0 is
+-- refused, and more than the page's rows means the page's rows, is this project's profile)
 unfoldable pub strip_rows : Endian → List ℕ → List Entry → ℕ → Result ℕ FileFault
 strip_rows endian file fields rows = do
   rows_per_strip ← scalar_or endian file fields Tags.ROWS_PER_STRIP (2 ^ 32 - 1)

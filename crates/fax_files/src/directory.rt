@@ -33,7 +33,7 @@ impl<'a> Model for Directory<'a> {
 }
 
 /// The number of entries in the directory at an offset.
-pub fn entry_count(file: &File, offset: usize) -> u16
+pub(crate) fn entry_count(file: &File, offset: usize) -> u16
     requires { offset + 2 ≤ length file.now.bytes.now }
     ensures { result ≡ Spec.entry_count file.now.endian file.now.bytes.now offset }
 {

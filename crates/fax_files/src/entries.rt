@@ -9,15 +9,15 @@ use crate::numbers::{File, is_inside};
 use std::marker::Model;
 
 /// The type of values of two bytes.
-pub const SHORT_TYPE: u16 = 3;
+pub(crate) const SHORT_TYPE: u16 = 3;
 /// The type of values of four bytes.
-pub const LONG_TYPE: u16 = 4;
+pub(crate) const LONG_TYPE: u16 = 4;
 /// The type of fractions: two numbers of four bytes.
-pub const RATIONAL_TYPE: u16 = 5;
+pub(crate) const RATIONAL_TYPE: u16 = 5;
 
 /// An entry of a directory.
 #[derive(Clone, Copy)]
-pub struct Entry {
+pub(crate) struct Entry {
     tag: u16,
     /// The type of the values.
     kind: u16,

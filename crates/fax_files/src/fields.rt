@@ -15,7 +15,7 @@ use std::marker::Model;
 const SOUGHT: usize = 14;
 
 /// The tags that are looked for, in order.
-pub const TAGS: [u16; SOUGHT] = [
+pub(crate) const TAGS: [u16; SOUGHT] = [
     tags::IMAGE_WIDTH,
     tags::IMAGE_LENGTH,
     tags::BITS_PER_SAMPLE,
@@ -34,7 +34,7 @@ pub const TAGS: [u16; SOUGHT] = [
 
 /// The first entry of each tag of `TAGS`.
 #[derive(Drop)]
-pub struct FirstEntries {
+pub(crate) struct FirstEntries {
     entries: [Option<Entry>; SOUGHT],
 }
 
@@ -75,7 +75,7 @@ impl FirstEntries {
 
 /// A directory with the first entry of each tag of `TAGS`.
 #[derive(Drop)]
-pub struct Fields<'d, 'a> {
+pub(crate) struct Fields<'d, 'a> {
     directory: &'d Directory<'a>,
     first: FirstEntries,
 }

@@ -1,6 +1,7 @@
 //! Laws of files. The functions compute nothing: each has a law as its contract.
 ghost use Rattle.fax_files.specs.Laws as Laws;
 ghost use Rattle.fax_files.specs.PbmLaws as PbmLaws;
+ghost use Rattle.fax_files.specs.code.Writing.{WritesPageByPage};
 
 /// Each file has one chain of directories, which has one end (TIFF 6.0, section 2). So that of a
 /// written file is that of its pages, and no other.
@@ -18,6 +19,12 @@ pub fn forms_are_whole()
 /// the page is read as it was written (TIFF 6.0).
 pub fn appended_pages_are_read()
     ensures { Laws.AppendedPagesAreRead }
+{}
+
+/// A file is written page by page: where `TiffWriter::add_page` adds pages one after another, the
+/// bytes that `finish` gives are the file of these pages.
+pub fn files_are_written_page_by_page()
+    ensures { WritesPageByPage }
 {}
 
 /// A written file is read as its pages, in their order, with a proper end (TIFF 6.0).

@@ -27,6 +27,7 @@ pub use strips::Strips;
 use thiserror::Error;
 pub use tiff::Tiff;
 pub use writer::{TiffWriter, WriteFault};
+pub use written::MAX_FILE;
 
 /// Which byte of a number stands first in a file (TIFF 6.0, section 2).
 #[derive(Clone, Copy, Debug, PartialEq, Eq)]

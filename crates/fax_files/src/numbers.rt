@@ -8,13 +8,13 @@ use byteorder::{BigEndian, ByteOrder, LittleEndian};
 
 /// A file's bytes, and which byte of a number stands first in them.
 #[derive(Clone, Copy)]
-pub struct File<'a> {
+pub(crate) struct File<'a> {
     pub bytes: &'a [u8],
     pub endian: Endian,
 }
 
 /// Whether the `len` bytes from a place on lie in the file.
-pub fn is_inside(file: &[u8], place: usize, len: usize) -> bool
+pub(crate) fn is_inside(file: &[u8], place: usize, len: usize) -> bool
     ensures { result ≡ lies_inside file.now place len }
 {
     place <= file.len() && len <= file.len() - place

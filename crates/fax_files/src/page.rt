@@ -84,7 +84,7 @@ impl Model for Resolution {
 
 /// The form of a page and the places of its strips, or its first fault.
 #[tactic(auto, unfolding(crate::specs::Page::page))]
-pub fn read_page<'a>(fields: &Fields<'_, 'a>) -> Result<(PageForm, Strips<'a>), FileFault>
+pub(crate) fn read_page<'a>(fields: &Fields<'_, 'a>) -> Result<(PageForm, Strips<'a>), FileFault>
     ensures form { IfOk result (λ page. form_of fields.now ≡ Ok page.0) }
     ensures fault { IfErr result (λ fault. form_of fields.now ≡ Err fault) }
     ensures limits { IfOk result (λ page. Spec.IsPageForm page.0) }

@@ -203,6 +203,8 @@ fn is_within_limits(width: u32, height: u32) -> bool
 fn read_image(bytes: &[u8]) -> Result<(PbmImage<'_>, &[u8]), PbmFault>
     ensures ok { IfOk result (λ found. Pbm.IsImage bytes.now
         (Spec.image_of found.0.width found.0.rows found.0.raster.now) found.1.now) }
+    ensures raster { IfOk result (λ found. Pbm.IsHead bytes.now found.0.width found.0.rows
+        (found.0.raster.now ++ found.1.now)) }
     ensures err { IfErr result (Pbm.IsImageFault bytes.now) }
 {
     let Some(head) = read_head(bytes) else {
@@ -261,6 +263,10 @@ impl<'a> PbmReader<'a> {
     pub fn next_image(&mut self) -> Result<Option<PbmImage<'a>>, PbmFault>
         ensures image { IfOk result (λ found. IfSome found (λ image. IsImageRead self.old
             (image_of image.width image.rows image.raster.now) self.new)) }
+
+        // The raster is that part of the input.
+        ensures raster { IfOk result (λ found. IfSome found (λ image. Pbm.IsHead self.old.left
+            image.width image.rows (image.raster.now ++ self.new.left))) }
         ensures end { IfOk result (λ found. IfNone found (IsAtEnd self.old self.new)) }
         ensures fault { IfErr result (IsFaultAnswered self.old self.new) }
     {

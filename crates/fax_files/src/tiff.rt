@@ -106,7 +106,8 @@ impl<'a> Tiff<'a> {
     }
 
     /// The bytes of strip `s`, from 0, of a page whose directory and form these are, or
-    /// `StripOutside` where they do not lie in the file.
+    /// `StripOutside` where they do not lie in the file. It is for callers that want one strip:
+    /// `Strips` gives one after another.
     pub fn strip(
         &self,
         form: &PageForm,

@@ -23,7 +23,7 @@ pub const MAX_FILE: u32 = 268_435_456;
 const FIELDS: usize = 16;
 /// How far after a directory's place its next offset stands: after the number of its fields, and
 /// twelve bytes of each.
-pub const TO_LINK: u32 = 2 + 12 * FIELDS as u32;
+pub(crate) const TO_LINK: u32 = 2 + 12 * FIELDS as u32;
 /// How far after it the fraction of XResolution stands.
 const TO_X: u32 = TO_LINK + 4;
 /// How far after it the fraction of YResolution stands.
@@ -32,7 +32,7 @@ const TO_Y: u32 = TO_X + 8;
 const TO_OFFSETS: u32 = TO_Y + 8;
 
 /// The four bytes of a number.
-pub fn four_bytes(n: u32) -> [u8; 4]
+pub(crate) fn four_bytes(n: u32) -> [u8; 4]
     ensures { result ≡ Spec.four n }
 {
     let mut bytes = [0; 4];
@@ -152,7 +152,7 @@ fn fill_order(order: FillOrder) -> u16
 
 /// Where a page is written: its number of how many, the place of its directory, and its strips.
 #[derive(Clone, Copy)]
-pub struct Layout {
+pub(crate) struct Layout {
     /// The number of pages.
     pub total: u16,
     /// The number of this page, from 0.
@@ -269,7 +269,7 @@ fn put_strips(out: &mut Vec<u8>, strips: &[Vec<u8>]) -> Result<(), AllocError>
 
 /// The bytes of a page that stand after its strips, which begin at `start` and end at `end`: a
 /// zero byte to an even place, the directory, and the values that do not fit it.
-pub fn page_tail(
+pub(crate) fn page_tail(
     alloc: Global,
     form: &PageForm,
     strips: &[Vec<u8>],
@@ -298,7 +298,7 @@ pub fn page_tail(
 }
 
 /// How many bytes a file has whose last page has its directory at this place, and so many strips.
-pub fn page_end(directory: u32, strips: u32) -> u64
+pub(crate) fn page_end(directory: u32, strips: u32) -> u64
     ensures { result ≡ end_of_page directory strips }
 {
     let arrays = if strips == 1 {
@@ -310,7 +310,7 @@ pub fn page_end(directory: u32, strips: u32) -> u64
 }
 
 /// How a page is laid out whose strips begin at `start` and end at `end`.
-pub fn laid_out(strips: u32, start: u32, end: u32, number: u16, total: u16) -> Layout
+pub(crate) fn laid_out(strips: u32, start: u32, end: u32, number: u16, total: u16) -> Layout
     requires order { start ≤ end }
     requires limit { end_of_page (end + end % 2) strips ≤ max_file }
     ensures { IsLayout result strips start end number total }
@@ -334,7 +334,7 @@ pub fn laid_out(strips: u32, start: u32, end: u32, number: u16, total: u16) -> L
 
 /// Appends strips and what stands after them, for which memory is reserved at once. Where it is
 /// refused, what stood there stays in front.
-pub fn append(bytes: &mut Vec<u8>, strips: &[Vec<u8>], tail: &[u8]) -> Result<(), AllocError>
+pub(crate) fn append(bytes: &mut Vec<u8>, strips: &[Vec<u8>], tail: &[u8]) -> Result<(), AllocError>
     ensures ok { OnOk result (bytes.new.items
         ≡ bytes.old.items ++ (Spec.joined_strips (contents strips.now) ++ tail.now)) }
     ensures err { OnErr result (take (length bytes.old.items) bytes.new.items ≡ bytes.old.items) }
@@ -352,7 +352,7 @@ fn set_four(bytes: &mut [u8], place: usize, n: u32)
 }
 
 /// The place after strips that begin at a place, if it is within the limit of a file.
-pub fn strips_end(start: u32, strips: &[Vec<u8>]) -> Option<u32>
+pub(crate) fn strips_end(start: u32, strips: &[Vec<u8>]) -> Option<u32>
     requires { start ≤ max_file }
     ensures found { IfSome result (λ end. end
         ≡ start + length (Spec.joined_strips (contents strips.now))) }
@@ -371,7 +371,7 @@ pub fn strips_end(start: u32, strips: &[Vec<u8>]) -> Option<u32>
 }
 
 /// Sets the four bytes at a place of a file.
-pub fn set_link(bytes: &mut Vec<u8>, place: usize, n: u32)
+pub(crate) fn set_link(bytes: &mut Vec<u8>, place: usize, n: u32)
     requires { place + 4 ≤ length bytes.old.items }
     ensures { bytes.new.items ≡ Spec.with_four_at bytes.old.items place n }
 {

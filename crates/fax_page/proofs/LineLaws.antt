@@ -28,20 +28,20 @@ module _ (rows : (width : ℕ) → ReadsRowsOneWay width) (rows_over : (referenc
       (rest remaining : List Bool)
       → IsRowIn dimension width reference b row rest → IsRowIn dimension width reference b another remaining
       → (row ≡ another) × (rest ≡ remaining)
-  one_row OneDimensional width reference = (rows width).one_row
-  one_row TwoDimensional width reference = (rows_over reference).one_row
+  one_row OneDimensional width reference = (rows width).one_answer
+  one_row TwoDimensional width reference = (rows_over reference).one_answer
 
   row_or_fault : (dimension : Dimension) (width : ℕ) (reference : List Colour) (b : List Bool)
       → ((row : List Colour) × (rest : List Bool) × IsRowIn dimension width reference b row rest)
       ⊎ ((fault : RowFault) × IsRowFaultIn dimension width reference b fault)
-  row_or_fault OneDimensional width reference = (rows width).row_or_fault
-  row_or_fault TwoDimensional width reference = (rows_over reference).row_or_fault
+  row_or_fault OneDimensional width reference = (rows width).answer_or_fault
+  row_or_fault TwoDimensional width reference = (rows_over reference).answer_or_fault
 
   row_has_no_fault : (dimension : Dimension) (width : ℕ) (reference : List Colour) (b : List Bool) (row : List Colour) (rest : List Bool)
       (fault : RowFault)
       → IsRowIn dimension width reference b row rest → IsRowFaultIn dimension width reference b fault → ⊥
-  row_has_no_fault OneDimensional width reference = (rows width).row_has_no_fault
-  row_has_no_fault TwoDimensional width reference = (rows_over reference).row_has_no_fault
+  row_has_no_fault OneDimensional width reference = (rows width).answer_has_no_fault
+  row_has_no_fault TwoDimensional width reference = (rows_over reference).answer_has_no_fault
 
   one_fault : (dimension : Dimension) (width : ℕ) (reference : List Colour) (b : List Bool) (fault another : RowFault)
       → IsRowFaultIn dimension width reference b fault → IsRowFaultIn dimension width reference b another → fault ≡ another

@@ -15,8 +15,8 @@ use Rattle.fax_page.specs.Lines.{tag_bit, IsEndOfLine, IsLine}
 use Rattle.fax_page.specs.Strip.{AreLines, IsStrip, white_row}
 use Rattle.fax_page.specs.CodedStrip.{end_of_block, row_bits}
 
--- one EOL of a return to control, with any fill: in MR the tag bit of a one-dimensional row follows
--- it (T.4, sections 4.1.3, 4.1.4 and 4.2.2)
+-- one EOL of a return to control: in MR the tag bit of a one-dimensional row follows it
+-- (T.4, sections 4.1.4 and 4.2.2; that any fill may stand before it is the note's own rule)
 abbrev pub IsReturnEol : Coding → List Bool → List Bool → Type 0
 IsReturnEol Mh b rest = IsEndOfLine b rest
 IsReturnEol Mr b rest = IsEndOfLine b (tag_bit OneDimensional ∷ rest)

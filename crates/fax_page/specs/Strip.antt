@@ -32,7 +32,8 @@ AreLines form i reference b (row ∷ rows) end left =
     (rest : List Bool) × (i < form.rows) × IsLine form i reference b row rest
     × AreLines form (i + 1) row rest rows end left
 
--- a strip's first reference is all white (T.4, section 4.2.1.1; T.6, section 2.2.1)
+-- a strip's first reference is all white (T.6, section 2.2.1; in MR this project's profile, since
+-- T.4 begins a page with a one-dimensional row)
 abbrev pub white_row : ℕ → List Colour
 white_row width = replicate width White
 

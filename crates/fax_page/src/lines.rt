@@ -11,7 +11,7 @@ use fax_rows::{BitSource, Row, read_1d, read_2d};
 const EOL_ZEROS: u64 = 11;
 
 /// Reads fill and an EOL (T.4, sections 4.1.2 and 4.1.3), which some rows may lack.
-pub fn read_eol(source: &mut BitSource, may_lack: bool) -> Result<(), StripFault>
+pub(crate) fn read_eol(source: &mut BitSource, may_lack: bool) -> Result<(), StripFault>
     ensures ok { OnOk result (HasEol may_lack source.old.left source.new.left) }
     ensures err { IfErr result (HasNoEol may_lack source.old.left) }
     ensures same_end { KeepsEnd source.old source.new }
@@ -84,7 +84,11 @@ fn check_first_code(source: &BitSource) -> Result<(), StripFault>
 }
 
 /// Reads what stands before the codes of row `i` of a strip, and answers how the row is coded.
-pub fn read_begin(source: &mut BitSource, form: StripForm, i: u32) -> Result<Dimension, StripFault>
+pub(crate) fn read_begin(
+    source: &mut BitSource,
+    form: StripForm,
+    i: u32,
+) -> Result<Dimension, StripFault>
     ensures ok { IfOk result (λ dimension.
         Lines.IsBegin form i source.old.left dimension source.new.left) }
     ensures err { IfErr result (IsNoBegin form i source.old.left) }
@@ -96,7 +100,7 @@ pub fn read_begin(source: &mut BitSource, form: StripForm, i: u32) -> Result<Dim
 }
 
 /// Reads the codes of a row that is coded so into `row`, of which nothing is said after a fault.
-pub fn read_codes(
+pub(crate) fn read_codes(
     source: &mut BitSource,
     dimension: Dimension,
     reference: &Row,
@@ -119,7 +123,7 @@ pub fn read_codes(
 
 /// Reads row `i` of a strip into `row`, of which nothing is said after a fault. Its reference is
 /// the row before it, or white before the first.
-pub fn read_line(
+pub(crate) fn read_line(
     source: &mut BitSource,
     form: StripForm,
     i: u32,

@@ -167,7 +167,8 @@ impl<'a> StripReader<'a> {
         &self.reference
     }
 
-    /// Lends the next row, or answers `None` once all rows are read. It takes no memory.
+    /// Lends the next row, or answers `None` once all rows are read. It takes no memory. It is for
+    /// other callers: a walk calls `advance`, and `reference` where it lends the row.
     ///
     /// # Errors
     ///

@@ -8,7 +8,6 @@ use Rattle.fax_bits.specs.declared.Colour.{Colour}
 use Rattle.fax_bits.specs.declared.Colour.TheVariants.{White, Black}
 use Rattle.fax_rows.specs.Elements.{other, same_colour, pel, pel_before, is_changing, is_right_of, first_place, next_change, next_of}
 use Rattle.fax_rows.specs.Coded.{colour_of}
-use Rattle.fax_rows.proofs.PlaceLemmas.{next_change_at, next_of_at}
 
 -- the first of n places from i on that passes the test
 pub record IsFirstPlace (test : ℕ → Bool) (i n place : ℕ) : Type 0 where
@@ -140,14 +139,6 @@ next_is_ahead row (Some a) place next within =
       | inr over ↦ omega arith
     ]
 
--- and inside the row it is right of it
-pub next_is_right : (row : List Colour) (a place : ℕ) → IsNextChange row (Some a) place → a < length row → a < place
-next_is_right row a place next within =
-    elim (cases_lt place (length row)) [
-      | inl inside ↦ ltb-true a place (next.right inside)
-      | inr over ↦ omega arith
-    ]
-
 -- pels of one colour
 replicate_pels : (row : List Colour) (n : ℕ) (colour : Colour) → n ≤ length row
     → ((k : ℕ) → k < n → pel row k ≡ colour) → replicate n colour ≡ take n row
@@ -188,10 +179,6 @@ next_of_right row from colour inside =
     let first = first_place_is (λ i. is_right_of from i && (is_changing row i && not (same_colour (pel row i) colour))) 0 (length row) in
     (both_true (is_right_of from _) _ (first.there (omega arith))).0
 
-later_right : (from : Option ℕ) (a k : ℕ) → is_right_of from a ≡ true → is_right_of (Some a) k ≡ true → is_right_of from k ≡ true
-later_right None a k right further = refl
-later_right (Some b) a k right further = lt-ltb b k (omega (arith, ltb-true b a right, ltb-true a k further))
-
 pub still_left : (right change : Bool) → (right ≡ true → change ≡ false) → (right && change) ≡ false
 still_left true change h = h refl
 still_left false change h = refl
@@ -199,92 +186,8 @@ still_left false change h = refl
 pub both : (a b : Bool) → a ≡ true → b ≡ true → (a && b) ≡ true
 both a b h l = rw h l
 
--- as seen from a place further right, but left of the next changing element, it is the next one still
-pub later_change : (row : List Colour) (from : Option ℕ) (a : ℕ) → is_right_of from a ≡ true → a < next_change row from
-    → next_change row from ≡ next_change row (Some a)
-later_change row from a right before =
-    let next = next_change_is row from in
-    next_change_at row (Some a) (next_change row from) next.within
-    (λ k h. still_left (is_right_of (Some a) k) (is_changing row k) (λ l. next.before k h (later_right from a k right l)))
-    (λ h. both (is_right_of (Some a) (next_change row from)) _ (lt-ltb a _ before) (next.there h))
-
--- and so is the next one of another colour
-pub later_of : (row : List Colour) (from : Option ℕ) (colour : Colour) (a : ℕ) → is_right_of from a ≡ true → a < next_of row from colour
-    → next_of row from colour ≡ next_of row (Some a) colour
-unfolding next_of
-later_of row from colour a right before =
-    let test : ℕ → Bool = λ i. is_changing row i && not (same_colour (pel row i) colour) in
-    let first = first_place_is (λ i. is_right_of from i && (is_changing row i && not (same_colour (pel row i) colour))) 0 (length row) in
-    next_of_at row (Some a) colour (next_of row from colour) (next_of_within row from colour)
-    (λ k h. still_left (is_right_of (Some a) k) (test k)
-    (λ l. both_false (is_right_of from k) (test k) (first.before k (omega arith) h) (later_right from a k right l)))
-    (λ h. both (is_right_of (Some a) _) _ (lt-ltb a _ before) (both_true (is_right_of from _) _ (first.there (omega arith))).1)
-
--- a changing element right of `from`, left of which none is of another colour
-pub record IsOfSearch (row : List Colour) (from : Option ℕ) (colour : Colour) (place : ℕ) : Type 0 where
-  pub within : place ≤ length row
-  pub before : (k : ℕ) → k < place → is_right_of from k ≡ true → (is_changing row k && not (same_colour (pel row k) colour)) ≡ false
-  pub right : place < length row → is_right_of from place ≡ true
-  pub there : place < length row → is_changing row place ≡ true
-
-false_and : (a b : Bool) → a ≡ false → (a && b) ≡ false
-false_and true b h = cc
-false_and false b h = refl
-
-and_false : (a b : Bool) → b ≡ false → (a && b) ≡ false
-and_false true b h = h
-and_false false b h = refl
-
 same_as : (a b : Colour) → a ≡ b → not (same_colour a b) ≡ false
 same_as White White h = refl
 same_as Black Black h = refl
 same_as White Black h = cc
 same_as Black White h = cc
-
-differs_from : (a b : Colour) → (a ≡ b → ⊥) → not (same_colour a b) ≡ true
-differs_from White White h = absurd (h refl)
-differs_from Black Black h = absurd (h refl)
-differs_from White Black h = refl
-differs_from Black White h = refl
-
--- the search begins at the next changing element
-pub of_search_begins : (row : List Colour) (from : Option ℕ) (colour : Colour) (place : ℕ) → place ≡ next_change row from
-    → IsOfSearch row from colour place
-of_search_begins row from colour place is =
-    let next : IsNextChange row from place = subst (λ p. IsNextChange row from p) (sym is) (next_change_is row from) in
-    record {
-      within = next.within;
-      before = λ k h l. false_and (is_changing row k) _ (next.before k h l);
-      right = next.right;
-      there = next.there;
-    }
-
--- it goes on after one of the colour
-pub of_search_goes_on : (row : List Colour) (from : Option ℕ) (colour : Colour) (place next : ℕ) → IsOfSearch row from colour place
-    → place < length row → pel row place ≡ colour → next ≡ next_change row (Some place) → IsOfSearch row from colour next
-of_search_goes_on row from colour place next so_far inside same is =
-    let more : IsNextChange row (Some place) next =
-    subst (λ p. IsNextChange row (Some place) p) (sym is) (next_change_is row (Some place)) in
-    record {
-      within = more.within;
-      before = λ k h l. elim (cases_lt k place) [
-        | inl left ↦ so_far.before k left l
-        | inr further ↦ elim (eq-or-lt_of_le further) [
-          | inl here ↦
-              and_false (is_changing row k) _
-              (subst (λ i. not (same_colour (pel row i) colour) ≡ false) here (same_as (pel row place) colour same))
-          | inr behind ↦ false_and (is_changing row k) _ (more.before k h (lt-ltb place k behind))
-        ]
-      ];
-      right = λ h. later_right from place next (so_far.right inside) (more.right h);
-      there = more.there;
-    }
-
--- and ends at one that is not
-pub of_search_ends : (row : List Colour) (from : Option ℕ) (colour : Colour) (place : ℕ) → IsOfSearch row from colour place
-    → (place < length row → pel row place ≡ colour → ⊥) → place ≡ next_of row from colour
-of_search_ends row from colour place so_far other_there =
-    next_of_at row from colour place so_far.within
-    (λ k h. still_left (is_right_of from k) _ (so_far.before k h))
-    (λ h. both (is_right_of from place) _ (so_far.right h)
-    (both (is_changing row place) _ (so_far.there h) (differs_from (pel row place) colour (other_there h))))

@@ -115,10 +115,6 @@ found_in_byte byte colour fits differs =
     one_of_two byte (plain_byte colour) (first_other_in_byte byte 0 colour)
     (at_below (is_plain_or_less colour) 256 byte (other_has_one colour) fits) differs
 
-pub in_byte-le : (byte from : ℕ) (colour : Colour) → from < 8 → first_other_in_byte byte from colour ≤ 8
-unfolding first_other_in_byte
-in_byte-le byte from colour within = omega (arith, (first_place_is (is_other_bit byte colour) from (8 - from)).within)
-
 pub in_byte-ge : (byte from : ℕ) (colour : Colour) → from ≤ first_other_in_byte byte from colour
 unfolding first_other_in_byte
 in_byte-ge byte from colour = (first_place_is (is_other_bit byte colour) from (8 - from)).from

@@ -22,7 +22,6 @@ pub mod StepFaultLaws
 pub mod TurnLemmas
 pub mod PlacedRowLemmas
 pub mod PlacedReadLemmas
-pub mod IndexLemmas
 pub mod PlacedB1Lemmas
 pub mod PlacedStepLemmas
 pub mod PlacedExchangeLemmas

@@ -131,15 +131,6 @@ module _ (places : List ℕ) (end width : ℕ) (all : ArePlaces places end width
     ];
   }
 
-  pub passed_done : (from word k : ℕ) → IsWordTo places end width from word k → (k < end → from + 64 ≤ get_or places k 0)
-      → HasPassed places end (from + 64) k
-  passed_done from word k so_far far = record {
-    some = so_far.some;
-    within = so_far.within;
-    left = omega (arith, so_far.left);
-    right = far;
-  }
-
   -- after the last place stands the width
   pub before_end : (from word k : ℕ) → IsWordTo places end width from word k → get_or places k 0 < from + 64 → from + 64 ≤ width → k < end
   before_end from word k so_far near wide =

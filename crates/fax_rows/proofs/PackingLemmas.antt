@@ -1,12 +1,11 @@
 -- A row packed by its places of change.
 use Rattle.std.proofs.Common.{◌≡◌, ◌≢◌, ℕ, zero, suc, ◌+◌, ◌-◌, ◌*◌, ◌^◌, ◌%◌, ◌<◌, ◌≤◌, List, map, length, take, drop, replicate, get_or}
 use Rattle.std.proofs.Common.{Bool, true, false, if◌then◌else◌, nat_eq, refl, ap, sym, ◌∙◌, subst, arith, inl, inr, length-append}
-use Rattle.std.proofs.Common.{length-drop, get_or-drop, get_or-set_other, get_or-set_same, below_more}
+use Rattle.std.proofs.Common.{length-drop, get_or-drop}
 use mir.Val.{bool_byte}
 use Rattle.std.proofs.lemmas.Bool.{cases_lt}
 use Rattle.std.proofs.lemmas.Nat.{pow_pos}
 use Rattle.std.proofs.Math.Nat.{pow-succ'}
-use Rattle.std.proofs.Math.ListN.{set}
 use Rattle.std.proofs.lemmas.List.{length-replicate, length-map, get_or-map, get_or-take, get_or_past, length-take-le, ext_get_or}
 use Rattle.std.proofs.lemmas.Simd.{get_or-replicate}
 use Rattle.fax_bits.specs.declared.Colour.{Colour}
@@ -17,14 +16,6 @@ use Rattle.fax_rows.specs.code.Turns.{row_of, alternate, ArePlaces, HasPassed, I
 use Rattle.fax_rows.proofs.PackedLemmas.{padded_bits, get_or-padded, byte_more, byte_fits}
 use Rattle.fax_rows.proofs.PlacedRowLemmas.{end_within}
 use Rattle.fax_rows.proofs.TurnLemmas.{length-pels_by, pel-pels_by, alternate-odd, alternate-even, colour_behind_places}
-
--- a byte more is put
-pub byte_put : (byte_at : ℕ → ℕ) (out : List ℕ) (k byte : ℕ) → k < length out → ((i : ℕ) → i < k → get_or out i 0 ≡ byte_at (8 * i))
-    → byte ≡ byte_at (8 * k) → (i : ℕ) → i < k + 1 → get_or (set out k byte) i 0 ≡ byte_at (8 * i)
-byte_put byte_at out k byte within done is =
-    below_more (λ i. get_or (set out k byte) i 0 ≡ byte_at (8 * i)) k
-    (λ i h. let other : i ≢ k = omega arith in get_or-set_other out k i byte 0 other ∙ done i h)
-    (get_or-set_same out k byte 0 within ∙ is)
 
 -- the byte of eight pels of one colour
 pub whole_byte : (row : List Colour) (from : ℕ) (b : Bool) → from < length row
@@ -112,25 +103,6 @@ module _ (places : List ℕ) (end width : ℕ) (all : ArePlaces places end width
     right = λ h. omega (arith, at, all.ascending.steps k passed.some h);
   }
 
-  pub passed_same : (i k : ℕ) → HasPassed places end i k → get_or places k 0 ≢ i → IsBehind places end i k
-  passed_same i k passed differs = record {
-    some = passed.some;
-    within = passed.within;
-    left = passed.left;
-    right = λ h. omega (arith, passed.right h, differs);
-  }
-
-  pub passed_pel : (i k : ℕ) → IsBehind places end i k → HasPassed places end (i + 1) k
-  passed_pel i k at = record { some = at.some; within = at.within; left = omega (arith, at.left); right = λ h. omega (arith, at.right h) }
-
-  pub passed_over : (i k : ℕ) → HasPassed places end i k → width ≤ i → HasPassed places end (i + 1) k
-  passed_over i k passed over = record {
-    some = passed.some;
-    within = passed.within;
-    left = omega (arith, passed.left);
-    right = λ h. absurd (omega (arith, passed.right h, all.below k passed.some h));
-  }
-
   -- a byte in which no colour changes
   whole_behind : (from k : ℕ) → HasPassed places end from k → from < width → from + 8 ≤ get_or places k 0
       → packed_byte (row_of places end width) from ≡ (if nat_eq (k % 2) 0 then 255 else 0)
@@ -159,14 +131,6 @@ module _ (places : List ℕ) (end width : ℕ) (all : ArePlaces places end width
   whole_black from k passed within whole even =
       let none : k % 2 ≡ 0 = omega arith in
       sym (whole_behind from k passed within whole ∙ ap {B = ℕ} (λ n. if nat_eq n 0 then 255 else 0) none)
-
-  pub passed_byte : (from k : ℕ) → HasPassed places end from k → from + 8 ≤ get_or places k 0 → HasPassed places end (from + 8) k
-  passed_byte from k passed whole = record {
-    some = passed.some;
-    within = passed.within;
-    left = omega (arith, passed.left);
-    right = λ h. whole;
-  }
 
 -- the number of n ones, or of n zeros
 abbrev pub ones : Bool → ℕ → ℕ

@@ -1,5 +1,5 @@
 -- b1 and b2 by an index into the reference row's places of change.
-use Rattle.std.proofs.Common.{◌≡◌, ℕ, zero, suc, ◌+◌, ◌-◌, ◌<◌, ◌≤◌, List, length, take, get_or, true, false, not, refl, ap, sym, ◌∙◌}
+use Rattle.std.proofs.Common.{◌≡◌, ◌≢◌, ℕ, zero, suc, ◌+◌, ◌-◌, ◌<◌, ◌≤◌, List, length, take, get_or, true, false, not, refl, ap, sym, ◌∙◌}
 use Rattle.std.proofs.Common.{subst, arith, inl, inr}
 use Rattle.std.specs.Prelude.{◌⊎◌, ◌&&◌, Option, Some, None, unwrap_or}
 use Rattle.std.proofs.lemmas.Bool.{cases_lt, ltb-true, lt-ltb, le-ltb, true≢false}
@@ -7,7 +7,9 @@ use Rattle.std.proofs.Math.Nat.{eq-or-lt_of_le}
 use Rattle.fax_bits.specs.declared.Colour.{Colour}
 use Rattle.fax_bits.specs.declared.Colour.TheVariants.{White, Black}
 use Rattle.fax_rows.specs.Elements.{other, same_colour, pel, is_changing, is_right_of, next_change, b1, b2}
-use Rattle.fax_rows.specs.code.Turns.{pels_by, alternate, IsAscending, ArePlaces, IsBehind, IsBeforeB1, IsB1At}
+use Rattle.fax_rows.specs.declared.rows.PlacedRow.{PlacedRow}
+use Rattle.fax_rows.specs.code.PlacedRow.{placed_pels, IsBeforeB1, IsB1At}
+use Rattle.fax_rows.specs.code.Turns.{alternate, IsBehind, IsFrom}
 use Rattle.fax_rows.proofs.ChangeLemmas.{still_left, both, next_change_is}
 use Rattle.fax_rows.proofs.PlaceLemmas.{next_of_at}
 use Rattle.fax_rows.proofs.TurnLemmas.{other-other, length-pels_by, alternate-suc, below_later, not_later, pel_behind, changing_at}
@@ -19,43 +21,61 @@ further_right : (from : Option ℕ) (i j : ℕ) → i ≤ j → is_right_of from
 further_right None i j order h = refl
 further_right (Some a) i j order h = lt-ltb a j (omega (arith, ltb-true a i h))
 
-module _ (places : List ℕ) (end : ℕ) (up : IsAscending places end) where
-  rank_from : (i n k : ℕ) → 0 < k → k + n ≡ end → get_or places (k - 1) 0 ≤ i → (j : ℕ) × IsBehind places end i j
+-- the row has as many pels as it says
+pub length-placed_pels : (row : PlacedRow) → length (placed_pels row) ≡ row.width
+length-placed_pels row = length-pels_by row.width (take row.end row.places.now)
+
+-- and so has the row of these pels
+pub placed_width : (row : PlacedRow) (pels : List Colour) → placed_pels row ≡ pels → row.width ≡ length pels
+placed_width row pels is = sym (length-placed_pels row) ∙ ap length is
+
+-- a colour that is not this one is the other
+pub differs_is : (colour pel : Colour) → pel ≢ colour → pel ≡ other colour
+differs_is White Black h = refl
+differs_is Black White h = refl
+differs_is White White h = absurd (h refl)
+differs_is Black Black h = absurd (h refl)
+
+module _ (row : PlacedRow) where
+  rank_from : (i n k : ℕ) → 0 < k → k + n ≡ row.end → get_or row.places.now (k - 1) 0 ≤ i → (j : ℕ) × IsBehind row.places.now row.end i j
   rank_from i zero k some sum left =
       (k, record { some = some; within = omega arith; left = left; right = λ h. absurd (omega arith) })
   rank_from i (suc n) k some sum left =
-      elim (cases_lt i (get_or places k 0)) [
+      elim (cases_lt i (get_or row.places.now k 0)) [
         | inl less ↦ (k, record { some = some; within = omega arith; left = left; right = λ h. less })
-        | inr more ↦ rank_from i n (suc k) (omega arith) (omega arith) (subst (λ m. get_or places m 0 ≤ i) same more)
+        | inr more ↦ rank_from i n (suc k) (omega arith) (omega arith) (subst (λ m. get_or row.places.now m 0 ≤ i) same more)
       ]
     where
       same : k ≡ suc k - 1
       same = omega arith
 
   -- how many places a place lies after
-  rank : (i : ℕ) → (j : ℕ) × IsBehind places end i j
-  rank i = rank_from i (end - 1) 1 (omega arith) (omega (arith, up.started)) (omega (arith, up.first))
+  rank : (i : ℕ) → (j : ℕ) × IsBehind row.places.now row.end i j
+  rank i = rank_from i (row.end - 1) 1 (omega arith) (omega (arith, row.placed.ascending.started))
+      (omega (arith, row.placed.ascending.first))
 
   -- a changing element is a place after the first
-  place_of_change : (width i j : ℕ) → IsBehind places end i j → i < width → is_changing (pels_by width (take end places)) i ≡ true
-      → (1 < j) × (get_or places (j - 1) 0 ≡ i)
-  place_of_change width i j at inside changes =
+  place_of_change : (i j : ℕ) → IsBehind row.places.now row.end i j → i < row.width → is_changing (placed_pels row) i ≡ true
+      → (1 < j) × (get_or row.places.now (j - 1) 0 ≡ i)
+  place_of_change i j at inside changes =
       elim (eq-or-lt_of_le at.some) [
-        | inl one ↦ absurd (true≢false (sym changes ∙ unchanging places end up width i j at (inl (sym one)) inside))
+        | inl one ↦ absurd (true≢false (sym changes ∙ unchanging row.places.now row.end row.placed.ascending row.width i j at
+            (inl (sym one)) inside))
         | inr more ↦
             elim (eq-or-lt_of_le at.left) [
               | inl same ↦ (more, same)
-              | inr less ↦ absurd (true≢false (sym changes ∙ unchanging places end up width i j at (inr less) inside))
+              | inr less ↦ absurd (true≢false (sym changes ∙ unchanging row.places.now row.end row.placed.ascending row.width i j at
+                  (inr less) inside))
             ]
       ]
 
   -- a changing element right of a0 and left of the place of b1 is the one before that
-  before_b1 : (a0 : Option ℕ) (colour : Colour) (b i j : ℕ) → IsB1At places end a0 colour b → i < get_or places b 0
+  before_b1 : (a0 : Option ℕ) (colour : Colour) (b i j : ℕ) → IsB1At row a0 colour b → i < get_or row.places.now b 0
       → is_right_of a0 i ≡ true
-      → 1 < j → j ≤ end → get_or places (j - 1) 0 ≡ i → j ≡ b
+      → 1 < j → j ≤ row.end → get_or row.places.now (j - 1) 0 ≡ i → j ≡ b
   before_b1 a0 colour b i j at before right some within is =
       elim (cases_lt (j - 1) b) [
-        | inr over ↦ let order = not_later places end up b (j - 1) over (omega arith) in absurd (omega arith)
+        | inr over ↦ let order = not_later row.places.now row.end row.placed.ascending b (j - 1) over (omega arith) in absurd (omega arith)
         | inl under ↦
             elim (cases_lt 2 b) [
               | inr few ↦ omega arith
@@ -67,10 +87,11 @@ module _ (places : List ℕ) (end : ℕ) (up : IsAscending places end) where
             ]
       ]
     where
-      passed : j - 1 ≤ b - 2 → is_right_of a0 (get_or places (b - 2) 0) ≡ true
+      passed : j - 1 ≤ b - 2 → is_right_of a0 (get_or row.places.now (b - 2) 0) ≡ true
       passed left =
-          further_right a0 i (get_or places (b - 2) 0)
-          (let order = not_later places end up (j - 1) (b - 2) left (omega (arith, at.within)) in omega arith) right
+          further_right a0 i (get_or row.places.now (b - 2) 0)
+          (let order = not_later row.places.now row.end row.placed.ascending (j - 1) (b - 2) left
+          (omega (arith, at.within)) in omega arith) right
 
   same_as : (pel colour : Colour) → pel ≡ colour → not (same_colour pel colour) ≡ false
   same_as White White h = refl
@@ -85,50 +106,50 @@ module _ (places : List ℕ) (end : ℕ) (up : IsAscending places end) where
   other_than Black White h = refl
 
   -- no change of the other colour stands between a0 and that place
-  none_left : (width : ℕ) (a0 : Option ℕ) (colour : Colour) (b i : ℕ) → IsB1At places end a0 colour b → i < get_or places b 0 → i < width
-      → is_right_of a0 i ≡ true → is_changing (pels_by width (take end places)) i ≡ true
-      → not (same_colour (pel (pels_by width (take end places)) i) colour) ≡ false
-  none_left width a0 colour b i at before inside right changes =
+  none_left : (a0 : Option ℕ) (colour : Colour) (b i : ℕ) → IsB1At row a0 colour b → i < get_or row.places.now b 0 → i < row.width
+      → is_right_of a0 i ≡ true → is_changing (placed_pels row) i ≡ true
+      → not (same_colour (pel (placed_pels row) i) colour) ≡ false
+  none_left a0 colour b i at before inside right changes =
       let found = rank i in
-      let place = place_of_change width i found.0 found.1 inside changes in
+      let place = place_of_change i found.0 found.1 inside changes in
       let same : found.0 ≡ b = before_b1 a0 colour b i found.0 at before right place.0 found.1.within place.1 in
-      same_as (pel (pels_by width (take end places)) i) colour
-      (pel_behind places end up width i found.0 inside found.1 ∙ ap (alternate Black) same ∙ at.colour_is)
+      same_as (pel (placed_pels row) i) colour
+      (pel_behind row.places.now row.end row.placed.ascending row.width i found.0 inside found.1 ∙ ap (alternate Black) same ∙ at.colour_is)
 
-module _ (places : List ℕ) (end width : ℕ) (all : ArePlaces places end width) where
-  second_end : get_or places (end + 1) 0 ≡ width
-  second_end = all.behind 1 (omega arith)
+  second_end : get_or row.places.now (row.end + 1) 0 ≡ row.width
+  second_end = row.placed.behind 1 (omega arith)
 
-  third_end : get_or places (end + 2) 0 ≡ width
-  third_end = all.behind 2 (omega arith)
+  third_end : get_or row.places.now (row.end + 2) 0 ≡ row.width
+  third_end = row.placed.behind 2 (omega arith)
 
   -- from the last place on all places are the width
-  pub over_end : (b : ℕ) → end ≤ b → b ≤ end + 2 → get_or places b 0 ≡ width
+  pub over_end : (b : ℕ) → row.end ≤ b → b ≤ row.end + 2 → get_or row.places.now b 0 ≡ row.width
   over_end b over within =
       elim (eq-or-lt_of_le over) [
-        | inl same ↦ ap (λ m. get_or places m 0) (sym same) ∙ at_end places end width all
+        | inl same ↦ ap (λ m. get_or row.places.now m 0) (sym same) ∙ at_end row.places.now row.end row.width row.placed
         | inr more ↦
-            elim (cases_lt b (end + 2)) [
-              | inl one ↦ let same : b ≡ end + 1 = omega arith in ap (λ m. get_or places m 0) same ∙ second_end
-              | inr two ↦ let same : b ≡ end + 2 = omega arith in ap (λ m. get_or places m 0) same ∙ third_end
+            elim (cases_lt b (row.end + 2)) [
+              | inl one ↦ let same : b ≡ row.end + 1 = omega arith in ap (λ m. get_or row.places.now m 0) same ∙ second_end
+              | inr two ↦ let same : b ≡ row.end + 2 = omega arith in ap (λ m. get_or row.places.now m 0) same ∙ third_end
             ]
       ]
 
-  pub b1_within : (b : ℕ) → 0 < b → b ≤ end + 1 → ((b < end) × (get_or places b 0 < width)) ⊎ ((end ≤ b) × (get_or places b 0 ≡ width))
+  pub b1_within : (b : ℕ) → 0 < b → b ≤ row.end + 1 → ((b < row.end) × (get_or row.places.now b 0 < row.width)) ⊎
+      ((row.end ≤ b) × (get_or row.places.now b 0 ≡ row.width))
   b1_within b some within =
-      elim (cases_lt b end) [
-        | inl less ↦ inl (less, all.below b some less)
+      elim (cases_lt b row.end) [
+        | inl less ↦ inl (less, row.placed.below b some less)
         | inr over ↦ inr (over, over_end b over (omega arith))
       ]
 
-  pub b1_at_most : (b : ℕ) → 0 < b → b ≤ end + 1 → get_or places b 0 ≤ width
+  pub b1_at_most : (b : ℕ) → 0 < b → b ≤ row.end + 1 → get_or row.places.now b 0 ≤ row.width
   b1_at_most b some within =
       elim (b1_within b some within) [
         | inl less ↦ omega (arith, less.1)
         | inr over ↦ omega (arith, over.1)
       ]
 
-  pub inside_end : (b : ℕ) → 0 < b → b ≤ end + 1 → get_or places b 0 < width → b < end
+  pub inside_end : (b : ℕ) → 0 < b → b ≤ row.end + 1 → get_or row.places.now b 0 < row.width → b < row.end
   inside_end b some within inside =
       elim (b1_within b some within) [
         | inl less ↦ less.0
@@ -136,97 +157,100 @@ module _ (places : List ℕ) (end width : ℕ) (all : ArePlaces places end width
       ]
 
   -- b1 is the place at that index
-  pub b1_is : (a0 : Option ℕ) (colour : Colour) (b : ℕ) → IsB1At places end a0 colour b
-      → get_or places b 0 ≡ b1 (pels_by width (take end places)) a0 colour
+  pub b1_is : (a0 : Option ℕ) (colour : Colour) (b : ℕ) → IsB1At row a0 colour b
+      → get_or row.places.now b 0 ≡ b1 (placed_pels row) a0 colour
   b1_is a0 colour b at =
-      next_of_at (pels_by width (take end places)) a0 colour (get_or places b 0) (omega (arith, len, within)) left there
+      next_of_at (placed_pels row) a0 colour (get_or row.places.now b 0) (omega (arith, len, within)) left there
     where
-      len : length (pels_by width (take end places)) ≡ width
-      len = length-pels_by width (take end places)
+      len : length (placed_pels row) ≡ row.width
+      len = length-placed_pels row
 
-      within : get_or places b 0 ≤ width
+      within : get_or row.places.now b 0 ≤ row.width
       within = b1_at_most b at.some at.within
 
-      left : (i : ℕ) → i < get_or places b 0
-          → (is_right_of a0 i && (is_changing (pels_by width (take end places)) i
-          && not (same_colour (pel (pels_by width (take end places)) i) colour))) ≡ false
+      left : (i : ℕ) → i < get_or row.places.now b 0
+          → (is_right_of a0 i && (is_changing (placed_pels row) i
+          && not (same_colour (pel (placed_pels row) i) colour))) ≡ false
       left i h =
-          still_left (is_right_of a0 i) (is_changing (pels_by width (take end places)) i
-          && not (same_colour (pel (pels_by width (take end places)) i) colour))
-          (λ right. still_left (is_changing (pels_by width (take end places)) i)
-          (not (same_colour (pel (pels_by width (take end places)) i) colour))
-          (λ changes. none_left places end all.ascending width a0 colour b i at h (omega (arith, within)) right changes))
+          still_left (is_right_of a0 i) (is_changing (placed_pels row) i
+          && not (same_colour (pel (placed_pels row) i) colour))
+          (λ right. still_left (is_changing (placed_pels row) i)
+          (not (same_colour (pel (placed_pels row) i) colour))
+          (λ changes. none_left a0 colour b i at h (omega (arith, within)) right changes))
 
-      there : get_or places b 0 < length (pels_by width (take end places))
-          → (is_right_of a0 (get_or places b 0) && (is_changing (pels_by width (take end places)) (get_or places b 0)
-          && not (same_colour (pel (pels_by width (take end places)) (get_or places b 0)) colour))) ≡ true
+      there : get_or row.places.now b 0 < length (placed_pels row)
+          → (is_right_of a0 (get_or row.places.now b 0) && (is_changing (placed_pels row) (get_or row.places.now b 0)
+          && not (same_colour (pel (placed_pels row) (get_or row.places.now b 0)) colour))) ≡ true
       there h =
           let inside = inside_end b at.some at.within (omega (arith, len)) in
-          both (is_right_of a0 (get_or places b 0)) _ (at.ahead inside)
-          (both (is_changing (pels_by width (take end places)) (get_or places b 0)) _
-          (changing_at places end all.ascending width (get_or places b 0) b at.some inside refl (omega (arith, len)))
-          (other_than places end all.ascending (pel (pels_by width (take end places)) (get_or places b 0)) colour
-          (pel_behind places end all.ascending width (get_or places b 0) (suc b) (omega (arith, len)) (behind inside)
+          both (is_right_of a0 (get_or row.places.now b 0)) _ (at.ahead inside)
+          (both (is_changing (placed_pels row) (get_or row.places.now b 0)) _
+          (changing_at row.places.now row.end row.placed.ascending row.width (get_or row.places.now b 0) b at.some inside refl
+          (omega (arith, len)))
+          (other_than (pel (placed_pels row) (get_or row.places.now b 0)) colour
+          (pel_behind row.places.now row.end row.placed.ascending row.width (get_or row.places.now b 0) (suc b) (omega (arith, len))
+          (behind inside)
           ∙ alternate-suc Black b ∙ ap other at.colour_is)))
         where
           same : suc b - 1 ≡ b
           same = omega arith
 
-          behind : b < end → IsBehind places end (get_or places b 0) (suc b)
+          behind : b < row.end → IsBehind row.places.now row.end (get_or row.places.now b 0) (suc b)
           behind inside = record {
             some = omega arith;
             within = omega arith;
-            left = subst (λ m. get_or places m 0 ≤ get_or places b 0) (sym same) (omega arith);
-            right = λ l. below_later places end all.ascending b (suc b) at.some (omega arith) l;
+            left = subst (λ m. get_or row.places.now m 0 ≤ get_or row.places.now b 0) (sym same) (omega arith);
+            right = λ l. below_later row.places.now row.end row.placed.ascending b (suc b) at.some (omega arith) l;
           }
 
   -- and b2 is the one after it
-  pub behind_b1 : (b : ℕ) → 0 < b → b ≤ end + 1
-      → get_or places (b + 1) 0 ≡ next_change (pels_by width (take end places)) (Some (get_or places b 0))
+  pub behind_b1 : (b : ℕ) → 0 < b → b ≤ row.end + 1
+      → get_or row.places.now (b + 1) 0 ≡ next_change (placed_pels row) (Some (get_or row.places.now b 0))
   behind_b1 b some within =
-      elim (cases_lt b end) [
+      elim (cases_lt b row.end) [
         | inl inside ↦
-            (next_here places end width all (Some (get_or places b 0)) (b + 1) (record {
+            (next_here row.places.now row.end row.width row.placed (Some (get_or row.places.now b 0)) (b + 1) (record {
               some = omega arith;
               within = omega arith;
-              left = subst (λ m. get_or places m 0 ≤ get_or places b 0) (sym same) (omega arith);
-              right = λ l. below_later places end all.ascending b (b + 1) some (omega arith) l;
+              left = subst (λ m. get_or row.places.now m 0 ≤ get_or row.places.now b 0) (sym same) (omega arith);
+              right = λ l. below_later row.places.now row.end row.placed.ascending b (b + 1) some (omega arith) l;
             })).place
-        | inr over ↦ over_end (b + 1) (omega arith) (omega arith) ∙ sym (none_behind (get_or places b 0) (over_end b over (omega arith)))
+        | inr over ↦ over_end (b + 1) (omega arith) (omega arith) ∙ sym
+            (none_behind (get_or row.places.now b 0) (over_end b over (omega arith)))
       ]
     where
       same : b + 1 - 1 ≡ b
       same = omega arith
 
-      none_behind : (a : ℕ) → a ≡ width → next_change (pels_by width (take end places)) (Some a) ≡ width
+      none_behind : (a : ℕ) → a ≡ row.width → next_change (placed_pels row) (Some a) ≡ row.width
       none_behind a is =
-          let next = next_change_is (pels_by width (take end places)) (Some a) in
-          let len = length-pels_by width (take end places) in
-          elim (cases_lt (next_change (pels_by width (take end places)) (Some a)) (length (pels_by width (take end places)))) [
+          let next = next_change_is (placed_pels row) (Some a) in
+          let len = length-placed_pels row in
+          elim (cases_lt (next_change (placed_pels row) (Some a)) (length (placed_pels row))) [
             | inl less ↦ let right = ltb-true a _ (next.right less) in absurd (omega arith)
             | inr over ↦ omega (arith, next.within)
           ]
 
-  pub b2_is : (a0 : Option ℕ) (colour : Colour) (b : ℕ) → IsB1At places end a0 colour b
-      → get_or places (b + 1) 0 ≡ b2 (pels_by width (take end places)) a0 colour
+  pub b2_is : (a0 : Option ℕ) (colour : Colour) (b : ℕ) → IsB1At row a0 colour b
+      → get_or row.places.now (b + 1) 0 ≡ b2 (placed_pels row) a0 colour
   b2_is a0 colour b at =
       behind_b1 b at.some at.within
-      ∙ ap (λ a. next_change (pels_by width (take end places)) (Some a)) (b1_is a0 colour b at)
+      ∙ ap (λ a. next_change (placed_pels row) (Some a)) (b1_is a0 colour b at)
 
   -- the search goes on by two places
-  before_end : (place b : ℕ) → place < width → get_or places b 0 ≤ place → b ≤ end + 1 → b < end
-  before_end place zero inside left within = all.ascending.started
+  before_end : (place b : ℕ) → place < row.width → get_or row.places.now b 0 ≤ place → b ≤ row.end + 1 → b < row.end
+  before_end place zero inside left within = row.placed.ascending.started
   before_end place (suc b) inside left within = inside_end (suc b) (omega arith) within (omega arith)
 
-  pub search_within : (place b : ℕ) → place < width → get_or places b 0 ≤ place → b ≤ end + 1 → b + 2 ≤ end + 1
+  pub search_within : (place b : ℕ) → place < row.width → get_or row.places.now b 0 ≤ place → b ≤ row.end + 1 → b + 2 ≤ row.end + 1
   search_within place b inside left within = let less = before_end place b inside left within in omega arith
 
-  pub search_goes_on : (place b : ℕ) → place < width → get_or places b 0 ≤ place → (colour : Colour)
-      → IsBeforeB1 places end place colour b → IsBeforeB1 places end place colour (b + 2)
+  pub search_goes_on : (place b : ℕ) → place < row.width → get_or row.places.now b 0 ≤ place → (colour : Colour)
+      → IsBeforeB1 row place colour b → IsBeforeB1 row place colour (b + 2)
   search_goes_on place b inside left colour before = record {
     within = search_within place b inside left before.within;
     colour_is = ap (alternate Black) two ∙ before.colour_is;
-    passed = λ h. subst (λ m. get_or places m 0 ≤ place) back left;
+    passed = λ h. subst (λ m. get_or row.places.now m 0 ≤ place) back left;
   }
     where
       two : b + 2 ≡ suc (suc b)
@@ -236,62 +260,62 @@ module _ (places : List ℕ) (end width : ℕ) (all : ArePlaces places end width
       back = omega arith
 
   -- and ends at b1
-  pub search_ends : (place b : ℕ) → place < get_or places b 0 → (colour : Colour)
-      → IsBeforeB1 places end place colour b → IsB1At places end (Some place) colour b
+  pub search_ends : (place b : ℕ) → place < get_or row.places.now b 0 → (colour : Colour)
+      → IsBeforeB1 row place colour b → IsB1At row (Some place) colour b
   search_ends place b right colour before = record {
     some = some b right;
     within = before.within;
     colour_is = before.colour_is;
-    passed = λ h. le-ltb place (get_or places (b - 2) 0) (before.passed h);
-    ahead = λ h. lt-ltb place (get_or places b 0) right;
+    passed = λ h. le-ltb place (get_or row.places.now (b - 2) 0) (before.passed h);
+    ahead = λ h. lt-ltb place (get_or row.places.now b 0) right;
   }
     where
-      some : (n : ℕ) → place < get_or places n 0 → 0 < n
-      some zero h = absurd (omega (arith, all.ascending.first))
+      some : (n : ℕ) → place < get_or row.places.now n 0 → 0 < n
+      some zero h = absurd (omega (arith, row.placed.ascending.first))
       some (suc n) h = omega arith
 
   -- b1 is not left of a0
-  pub b1_ahead : (a0 : Option ℕ) (colour : Colour) (b : ℕ) → IsB1At places end a0 colour b → unwrap_or a0 0 < width
-      → unwrap_or a0 0 ≤ get_or places b 0
+  pub b1_ahead : (a0 : Option ℕ) (colour : Colour) (b : ℕ) → IsB1At row a0 colour b → unwrap_or a0 0 < row.width
+      → unwrap_or a0 0 ≤ get_or row.places.now b 0
   b1_ahead None colour b at inside = omega arith
   b1_ahead (Some a) colour b at inside =
       elim (b1_within b at.some at.within) [
-        | inl less ↦ omega (arith, ltb-true a (get_or places b 0) (at.ahead less.0))
+        | inl less ↦ omega (arith, ltb-true a (get_or row.places.now b 0) (at.ahead less.0))
         | inr over ↦ omega (arith, over.1)
       ]
 
   -- and b2 not left of b1
-  pub b2_ahead : (b : ℕ) → 0 < b → b ≤ end + 1 → get_or places b 0 ≤ get_or places (b + 1) 0
+  pub b2_ahead : (b : ℕ) → 0 < b → b ≤ row.end + 1 → get_or row.places.now b 0 ≤ get_or row.places.now (b + 1) 0
   b2_ahead b some within =
-      elim (cases_lt (b + 1) end) [
-        | inl less ↦ let l = below_later places end all.ascending b (b + 1) some (omega arith) less in omega arith
+      elim (cases_lt (b + 1) row.end) [
+        | inl less ↦ let l = below_later row.places.now row.end row.placed.ascending b (b + 1) some (omega arith) less in omega arith
         | inr over ↦ omega (arith, over_end (b + 1) over (omega arith), b1_at_most b some within)
       ]
 
-  pub b2_at_most : (b : ℕ) → 0 < b → b ≤ end + 1 → get_or places (b + 1) 0 ≤ width
+  pub b2_at_most : (b : ℕ) → 0 < b → b ≤ row.end + 1 → get_or row.places.now (b + 1) 0 ≤ row.width
   b2_at_most b some within =
-      elim (cases_lt (b + 1) end) [
-        | inl less ↦ let l = all.below (b + 1) (omega arith) less in omega arith
+      elim (cases_lt (b + 1) row.end) [
+        | inl less ↦ let l = row.placed.below (b + 1) (omega arith) less in omega arith
         | inr over ↦ omega (arith, over_end (b + 1) over (omega arith))
       ]
 
   -- after a pass the next place but one is that of b1
-  pub b1_passed : (a0 : Option ℕ) (colour : Colour) (b : ℕ) → IsB1At places end a0 colour b → get_or places (b + 1) 0 < width
-      → IsB1At places end (Some (get_or places (b + 1) 0)) colour (b + 2)
+  pub b1_passed : (a0 : Option ℕ) (colour : Colour) (b : ℕ) → IsB1At row a0 colour b → get_or row.places.now (b + 1) 0 < row.width
+      → IsB1At row (Some (get_or row.places.now (b + 1) 0)) colour (b + 2)
   b1_passed a0 colour b at inside = record {
     some = omega arith;
     within = omega (arith, less);
     colour_is = ap (alternate Black) two ∙ at.colour_is;
     passed = λ h.
-        subst (λ m. is_right_of (Some (get_or places (b + 1) 0)) (get_or places m 0) ≡ false) back
-        (le-ltb (get_or places (b + 1) 0) (get_or places b 0) (b2_ahead b at.some at.within));
-    ahead = λ h. lt-ltb (get_or places (b + 1) 0) (get_or places (b + 2) 0)
-        (below_later places end all.ascending (b + 1) (b + 2) (omega arith) (omega arith) h);
+        subst (λ m. is_right_of (Some (get_or row.places.now (b + 1) 0)) (get_or row.places.now m 0) ≡ false) back
+        (le-ltb (get_or row.places.now (b + 1) 0) (get_or row.places.now b 0) (b2_ahead b at.some at.within));
+    ahead = λ h. lt-ltb (get_or row.places.now (b + 1) 0) (get_or row.places.now (b + 2) 0)
+        (below_later row.places.now row.end row.placed.ascending (b + 1) (b + 2) (omega arith) (omega arith) h);
   }
     where
-      less : b + 1 < end
+      less : b + 1 < row.end
       less =
-          elim (cases_lt (b + 1) end) [
+          elim (cases_lt (b + 1) row.end) [
             | inl inner ↦ inner
             | inr over ↦ absurd (omega (arith, over_end (b + 1) over (omega (arith, at.within))))
           ]
@@ -303,15 +327,15 @@ module _ (places : List ℕ) (end width : ℕ) (all : ArePlaces places end width
       back = omega arith
 
   -- where the search for b1 begins as the colour turns at a place that is not left of b1
-  pub right_start : (a0 : Option ℕ) (colour : Colour) (b a1 : ℕ) → IsB1At places end a0 colour b → get_or places b 0 ≤ a1 → a1 < width
-      → IsBeforeB1 places end a1 (other colour) (b + 1)
+  pub right_start : (a0 : Option ℕ) (colour : Colour) (b a1 : ℕ) → IsB1At row a0 colour b → get_or row.places.now b 0 ≤ a1 → a1 < row.width
+      → IsBeforeB1 row a1 (other colour) (b + 1)
   right_start a0 colour b a1 at left inside = record {
     within = let less = inside_end b at.some at.within (omega arith) in omega arith;
     colour_is = ap (alternate Black) one ∙ alternate-suc Black b ∙ ap other at.colour_is;
     passed = λ h.
         let less = inside_end b at.some at.within (omega arith) in
-        subst (λ m. get_or places m 0 ≤ a1) back
-        (let order = not_later places end all.ascending (b - 1) b (omega arith) less in omega arith);
+        subst (λ m. get_or row.places.now m 0 ≤ a1) back
+        (let order = not_later row.places.now row.end row.placed.ascending (b - 1) b (omega arith) less in omega arith);
   }
     where
       one : b + 1 ≡ suc b
@@ -321,28 +345,29 @@ module _ (places : List ℕ) (end width : ℕ) (all : ArePlaces places end width
       back = omega (arith, at.some)
 
   -- from just under b1 the next place is that of b1
-  pub b1_next : (a0 : Option ℕ) (colour : Colour) (b : ℕ) → IsB1At places end a0 colour b → get_or places b 0 < width
-      → IsB1At places end (Some (get_or places b 0)) (other colour) (b + 1)
+  pub b1_next : (a0 : Option ℕ) (colour : Colour) (b : ℕ) → IsB1At row a0 colour b → get_or row.places.now b 0 < row.width
+      → IsB1At row (Some (get_or row.places.now b 0)) (other colour) (b + 1)
   b1_next a0 colour b at inside =
-      search_ends (get_or places b 0) (b + 1) right (other colour) (right_start a0 colour b (get_or places b 0) at (omega arith) inside)
+      search_ends (get_or row.places.now b 0) (b + 1) right (other colour)
+      (right_start a0 colour b (get_or row.places.now b 0) at (omega arith) inside)
     where
-      right : get_or places b 0 < get_or places (b + 1) 0
+      right : get_or row.places.now b 0 < get_or row.places.now (b + 1) 0
       right =
-          elim (cases_lt (b + 1) end) [
-            | inl inner ↦ below_later places end all.ascending b (b + 1) at.some (omega arith) inner
+          elim (cases_lt (b + 1) row.end) [
+            | inl inner ↦ below_later row.places.now row.end row.placed.ascending b (b + 1) at.some (omega arith) inner
             | inr over ↦ omega (arith, over_end (b + 1) over (omega (arith, at.within)))
           ]
 
   -- and where it does at a place that is left of b1 and right of a0
-  pub left_start : (a0 : Option ℕ) (colour : Colour) (b a1 : ℕ) → IsB1At places end a0 colour b → is_right_of a0 a1 ≡ true
-      → IsBeforeB1 places end a1 (other colour) (b - 1)
+  pub left_start : (a0 : Option ℕ) (colour : Colour) (b a1 : ℕ) → IsB1At row a0 colour b → is_right_of a0 a1 ≡ true
+      → IsBeforeB1 row a1 (other colour) (b - 1)
   left_start a0 colour b a1 at right = record {
     within = omega (arith, at.within);
     colour_is = sym (other-other (alternate Black (b - 1)))
         ∙ ap other (sym (alternate-suc Black (b - 1)) ∙ ap (alternate Black) one ∙ at.colour_is);
     passed = λ h.
-        let order = not_later places end all.ascending (b - 1 - 2) (b - 2) (omega arith) (omega (arith, at.within)) in
-        omega (arith, not_right (get_or places (b - 2) 0) (at.passed (omega arith)));
+        let order = not_later row.places.now row.end row.placed.ascending (b - 1 - 2) (b - 2) (omega arith) (omega (arith, at.within)) in
+        omega (arith, not_right (get_or row.places.now (b - 2) 0) (at.passed (omega arith)));
   }
     where
       one : suc (b - 1) ≡ b
@@ -356,12 +381,12 @@ module _ (places : List ℕ) (end width : ℕ) (all : ArePlaces places end width
           ]
 
   -- and where it does as a0 goes on with its colour
-  pub same_start : (a0 : Option ℕ) (colour : Colour) (b a : ℕ) → IsB1At places end a0 colour b → unwrap_or a0 0 ≤ a
-      → IsBeforeB1 places end a colour b
+  pub same_start : (a0 : Option ℕ) (colour : Colour) (b a : ℕ) → IsB1At row a0 colour b → unwrap_or a0 0 ≤ a
+      → IsBeforeB1 row a colour b
   same_start a0 colour b a at order = record {
     within = at.within;
     colour_is = at.colour_is;
-    passed = λ h. omega (arith, not_right a0 (get_or places (b - 2) 0) (at.passed h) order);
+    passed = λ h. omega (arith, not_right a0 (get_or row.places.now (b - 2) 0) (at.passed h) order);
   }
     where
       not_right : (from : Option ℕ) (p : ℕ) → is_right_of from p ≡ false → unwrap_or from 0 ≤ a → p ≤ a
@@ -371,3 +396,58 @@ module _ (places : List ℕ) (end width : ℕ) (all : ArePlaces places end width
             | inl less ↦ absurd (true≢false (sym (lt-ltb x p less) ∙ not))
             | inr more ↦ omega arith
           ]
+
+  -- b1 stands at the next change, or at the one after it, by the colour of a0
+  pub b1_here : (a0 : Option ℕ) (k b : ℕ) (colour : Colour) → IsFrom row.places.now row.end a0 k → (b ≡ k) ⊎ (b ≡ k + 1)
+      → alternate Black b ≡ colour → IsB1At row a0 colour b
+  b1_here None k b colour at which is = record {
+    some = by which;
+    within = before which;
+    colour_is = is;
+    passed = λ h. absurd (few which h);
+    ahead = λ h. refl;
+  }
+    where
+      by : (b ≡ k) ⊎ (b ≡ k + 1) → 0 < b
+      by (inl same) = omega (arith, at)
+      by (inr next) = omega arith
+
+      before : (b ≡ k) ⊎ (b ≡ k + 1) → b ≤ row.end + 1
+      before (inl same) = omega (arith, at)
+      before (inr next) = omega (arith, at, row.placed.ascending.started)
+
+      few : (b ≡ k) ⊎ (b ≡ k + 1) → 2 < b → ⊥
+      few (inl same) h = omega (arith, at)
+      few (inr next) h = omega (arith, at)
+  b1_here (Some a) k b colour at (inl same) is = record {
+    some = omega (arith, at.some);
+    within = omega (arith, at.within);
+    colour_is = is;
+    passed = λ h.
+        let order = not_later row.places.now row.end row.placed.ascending (b - 2) (k - 1) (omega arith) (omega (arith, at.within, at.some)) in
+        le-ltb a (get_or row.places.now (b - 2) 0) (omega (arith, at.left));
+    ahead = λ h. lt-ltb a (get_or row.places.now b 0) (subst (λ m. a < get_or row.places.now m 0) (sym same) (at.right (omega arith)));
+  }
+  b1_here (Some a) k b colour at (inr next) is = record {
+    some = omega arith;
+    within = omega (arith, at.within);
+    colour_is = is;
+    passed = λ h.
+        let back : b - 2 ≡ k - 1 = omega arith in
+        le-ltb a (get_or row.places.now (b - 2) 0) (subst (λ m. get_or row.places.now m 0 ≤ a) (sym back) at.left);
+    ahead = λ h.
+        let first = at.right (omega arith) in
+        let second = below_later row.places.now row.end row.placed.ascending k b at.some (omega arith) h in
+        lt-ltb a (get_or row.places.now b 0) (omega arith);
+  }
+
+  -- b1 and b2 as `next_of` and `b1_b2` answer them
+  pub b1_right : (a0 : Option ℕ) (colour : Colour) (b : ℕ) → IsB1At row a0 colour b → get_or row.places.now b 0 < row.width
+      → is_right_of a0 (get_or row.places.now b 0) ≡ true
+  b1_right a0 colour b at inside = at.ahead (inside_end b at.some at.within inside)
+
+  pub b2_right : (a0 : Option ℕ) (colour : Colour) (b : ℕ) → IsB1At row a0 colour b → get_or row.places.now (b + 1) 0 < row.width
+      → is_right_of a0 (get_or row.places.now (b + 1) 0) ≡ true
+  b2_right a0 colour b at inside =
+      let order = b2_ahead b at.some at.within in
+      further_right a0 (get_or row.places.now b 0) (get_or row.places.now (b + 1) 0) order (b1_right a0 colour b at (omega arith))

@@ -1,5 +1,5 @@
 -- What a row of places of change shows: its pels, its changing elements, and the next of them.
-use Rattle.std.proofs.Common.{◌≡◌, ◌≢◌, ℕ, zero, suc, ◌+◌, ◌-◌, ◌%◌, ◌<◌, ◌≤◌, List, [], ◌∷◌, length, take, drop, get_or, replicate, true}
+use Rattle.std.proofs.Common.{◌≡◌, ℕ, zero, suc, ◌+◌, ◌-◌, ◌<◌, ◌≤◌, List, [], ◌∷◌, length, take, drop, get_or, replicate, true}
 use Rattle.std.proofs.Common.{false, refl, ap, sym, ◌∙◌, subst, arith, inl, inr, drop-cons}
 use Rattle.std.specs.Prelude.{◌⊎◌, Option, Some, None}
 use Rattle.std.specs.List.{filter, range_with_len}
@@ -14,7 +14,7 @@ use Rattle.fax_rows.specs.Elements.{pel, is_changing, is_right_of, next_change}
 use Rattle.fax_rows.specs.code.Turns.{turned, pels_by, alternate, ArePlaces, IsBehind, IsFrom}
 use Rattle.fax_rows.proofs.ChangeLemmas.{still_left, both}
 use Rattle.fax_rows.proofs.PlaceLemmas.{next_change_at}
-use Rattle.fax_rows.proofs.TurnLemmas.{length-pels_by, pel-pels_by, alternate-odd, alternate-even, at_least, below_later, pel_behind}
+use Rattle.fax_rows.proofs.TurnLemmas.{length-pels_by, pel-pels_by, at_least, below_later, pel_behind}
 use Rattle.fax_rows.proofs.TurnLemmas.{changing_at, unchanging}
 
 -- after the first place alone all is white
@@ -227,21 +227,11 @@ module _ (places : List ℕ) (end width : ℕ) (all : ArePlaces places end width
   pub width_is : (row : List Colour) → pels_by width (take end places) ≡ row → width ≡ length row
   width_is row is = subst (λ r. width ≡ length r) is (sym (length-pels_by width (take end places)))
 
-  -- the pel at a place is white after an odd number of the places, and black after an even one
-  pel_here : (row : List Colour) → pels_by width (take end places) ≡ row → (i k : ℕ) → i < length row → IsBehind places end i k
+  -- the colour of the pel at a place, by how many places it lies after
+  pub pel_here : (row : List Colour) → pels_by width (take end places) ≡ row → (i k : ℕ) → i < length row → IsBehind places end i k
       → pel row i ≡ alternate Black k
   pel_here row is i k inside at =
       subst (λ r. pel r i ≡ alternate Black k) is (pel_behind places end all.ascending width i k (omega (arith, width_is row is)) at)
-
-  pub pel_odd : (row : List Colour) → pels_by width (take end places) ≡ row → (i k : ℕ) → i < length row → IsBehind places end i k
-      → k % 2 ≡ 1 → White ≡ pel row i
-  pel_odd row is i k inside at odd = sym (pel_here row is i k inside at ∙ alternate-odd k odd)
-
-  pub pel_even : (row : List Colour) → pels_by width (take end places) ≡ row → (i k : ℕ) → i < length row → IsBehind places end i k
-      → k % 2 ≢ 1 → Black ≡ pel row i
-  pel_even row is i k inside at even =
-      let none : k % 2 ≡ 0 = omega arith in
-      sym (pel_here row is i k inside at ∙ alternate-even k none)
 
 -- rows of one width by the same places
 pub same_row : (width wide : ℕ) (places : List ℕ) (row : List Colour) → width ≡ wide → pels_by wide places ≡ row

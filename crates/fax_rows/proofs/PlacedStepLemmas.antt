@@ -6,14 +6,17 @@ use Rattle.std.proofs.lemmas.Bool.{lt-ltb, ltb-true}
 use Rattle.std.proofs.lemmas.Int.{ints}
 use Rattle.fax_bits.specs.declared.Colour.{Colour}
 use Rattle.fax_bits.specs.declared.Colour.TheVariants.{White, Black}
-use Rattle.fax_rows.specs.declared.two_dimensional.Reached.{Reached}
-use Rattle.fax_rows.specs.declared.two_dimensional.PlacedReached.{PlacedReached}
+use Rattle.fax_rows.specs.declared.two_dimensional.steps.Reached.{Reached}
+use Rattle.fax_rows.specs.declared.two_dimensional.steps.PlacedReached.{PlacedReached}
 use Rattle.fax_rows.specs.Elements.{other, is_right_of, b2}
 use Rattle.fax_rows.specs.declared.RowFault.{RowFault}
 use Rattle.fax_rows.specs.Faults.{IsStepFault, IsTwoDimensionalFault}
 use Rattle.fax_rows.specs.code.Reached.{reached_pel, position_of}
-use Rattle.fax_rows.specs.TwoDimensional.{Position, a0_number, coloured_up_to, IsVerticalStep, IsHorizontalStep, IsTwoDimensionalRow}
-use Rattle.fax_rows.specs.code.Turns.{turned, pels_by, IsAscending, ArePlaces, IsTurnedFrom, IsB1At}
+use Rattle.fax_rows.specs.TwoDimensional.{Position, a0_number, coloured_up_to, IsInRow, IsVerticalStep, IsHorizontalStep}
+use Rattle.fax_rows.specs.TwoDimensional.{IsTwoDimensionalRow}
+use Rattle.fax_rows.specs.declared.rows.PlacedRow.{PlacedRow}
+use Rattle.fax_rows.specs.code.PlacedRow.{placed_pels, IsB1At}
+use Rattle.fax_rows.specs.code.Turns.{turned, pels_by, IsAscending, IsTurnedFrom}
 use Rattle.fax_rows.specs.code.PlacedReached.{placed_position, IsReadTo}
 use Rattle.fax_bits.specs.Runs.{IsRun}
 use Rattle.fax_rows.proofs.StepLemmas.{AreStepsSoFar, unfinished_below, abs-same, vertical_step}
@@ -23,6 +26,7 @@ use Rattle.fax_rows.proofs.TurnLemmas.{other-other, length-pels_by, pel-pels_by}
 use Rattle.fax_rows.proofs.PlacedRowLemmas.{end_within, take-first, turned-first}
 use Rattle.fax_rows.proofs.PlacedReadLemmas.{places_within}
 use Rattle.fax_rows.proofs.PlacedB1Lemmas.{b1_is, b1_within, b1_at_most, b1_ahead, b2_ahead, b2_at_most, b2_is, b1_passed}
+use Rattle.fax_rows.proofs.PlacedB1Lemmas.{length-placed_pels}
 
 -- the pels up to `to` where those from `from` on have one colour
 pub front_to : (width from to : ℕ) (old new : List ℕ) (colour : Colour) → from ≤ to → to ≤ width
@@ -64,30 +68,38 @@ pub right_behind_first : (a0 : Option ℕ) (a1 : ℕ) → is_right_of a0 a1 ≡ 
 right_behind_first None a1 h = omega arith
 right_behind_first (Some a) a1 h = omega (arith, ltb-true a a1 h)
 
-module _ (reference : List ℕ) (end width : ℕ) (all : ArePlaces reference end width)
-    (places : List ℕ) (at : PlacedReached) (so_far : IsReadTo reference end width places at)
-    (unfinished : reached_pel at.reached < width) where
-  b2_order : reached_pel at.reached ≤ get_or reference (at.b1 + 1) 0
+module _ (reference : PlacedRow) (places : List ℕ) (at : PlacedReached) (so_far : IsReadTo reference places at)
+    (unfinished : reached_pel at.reached < reference.width) where
+  b2_order : reached_pel at.reached ≤ get_or reference.places.now (at.b1 + 1) 0
   b2_order =
       let b1 = so_far.b1 unfinished in
-      let first = b1_ahead reference end width all at.reached.a0 at.reached.colour at.b1 b1 unfinished in
-      let second = b2_ahead reference end width all at.b1 b1.some b1.within in
+      let first = b1_ahead reference at.reached.a0 at.reached.colour at.b1 b1 unfinished in
+      let second = b2_ahead reference at.b1 b1.some b1.within in
       omega arith
 
-  b2_within : get_or reference (at.b1 + 1) 0 ≤ width
-  b2_within = let b1 = so_far.b1 unfinished in b2_at_most reference end width all at.b1 b1.some b1.within
+  b2_within : get_or reference.places.now (at.b1 + 1) 0 ≤ reference.width
+  b2_within = let b1 = so_far.b1 unfinished in b2_at_most reference at.b1 b1.some b1.within
 
-  pub pass_step : position_of (record { a0 = Some (get_or reference (at.b1 + 1) 0); colour = at.reached.colour })
-      (pels_by width (take at.end places))
-      ≡ coloured_up_to (placed_position width places at) (b2 (pels_by width (take end reference)) at.reached.a0 at.reached.colour)
+  pub pass_step : position_of (record { a0 = Some (get_or reference.places.now (at.b1 + 1) 0); colour = at.reached.colour })
+      (pels_by reference.width (take at.end places))
+      ≡ coloured_up_to (placed_position reference.width places at) (b2 (placed_pels reference) at.reached.a0 at.reached.colour)
   pass_step =
-      coloured width (take at.end places) (take at.end places) at.reached (get_or reference (at.b1 + 1) 0) b2_order b2_within
+      coloured reference.width (take at.end places) (take at.end places) at.reached
+      (get_or reference.places.now (at.b1 + 1) 0) b2_order b2_within
       (λ i h. refl) so_far.behind
-      ∙ ap (coloured_up_to (placed_position width places at)) (b2_is reference end width all at.reached.a0 at.reached.colour at.b1
+      ∙ ap (coloured_up_to (placed_position reference.width places at)) (b2_is reference at.reached.a0 at.reached.colour at.b1
       (so_far.b1 unfinished))
 
-  pub pass_so_far : IsReadTo reference end width places
-      (record { reached = record { a0 = Some (get_or reference (at.b1 + 1) 0); colour = at.reached.colour }; end = at.end; b1 = at.b1 + 2 })
+  pub pass_so_far : IsReadTo reference places
+      (record {
+        reached = record {
+          a0 = Some (get_or reference.places.now
+              (at.b1 + 1) 0);
+          colour = at.reached.colour;
+        };
+        end = at.end;
+        b1 = at.b1 + 2;
+      })
   pass_so_far = record {
     room = so_far.room;
     within = b2_within;
@@ -95,18 +107,22 @@ module _ (reference : List ℕ) (end width : ℕ) (all : ArePlaces reference end
     ascending = so_far.ascending;
     last = let order = b2_order in omega (arith, so_far.last);
     behind = λ i h. so_far.behind i (let order = b2_order in omega arith);
-    b1 = λ h. b1_passed reference end width all at.reached.a0 at.reached.colour at.b1 (so_far.b1 unfinished) h;
+    b1 = λ h. b1_passed reference at.reached.a0 at.reached.colour at.b1 (so_far.b1 unfinished) h;
   }
 
-  pub b1_in_room : at.b1 + 1 < length reference
-  b1_in_room = let b1 = so_far.b1 unfinished in omega (arith, b1.within, all.room, end_within reference end width all)
+  pub b1_in_room : at.b1 + 1 < length reference.places.now
+  b1_in_room =
+      let b1 = so_far.b1 unfinished in
+      let within = end_within reference.places.now reference.end reference.width reference.placed in
+      omega (arith, b1.within, reference.placed.room, within)
 
   -- a place is put where the colour turns
-  pub turned_so_far : (new : List ℕ) (next_end a1 next_b1 : ℕ) → reached_pel at.reached ≤ a1 → a1 ≤ width → length new ≡ length places
+  pub turned_so_far : (new : List ℕ) (next_end a1 next_b1 : ℕ) → reached_pel at.reached ≤ a1 → a1 ≤ reference.width
+      → length new ≡ length places
       → IsAscending new next_end → get_or new (next_end - 1) 0 ≤ a1 → IsTurnedFrom (take at.end places) (take next_end new) a1
-      → (a1 < width → IsB1At reference end (Some a1) (other at.reached.colour) next_b1) → (colour : Colour)
+      → (a1 < reference.width → IsB1At reference (Some a1) (other at.reached.colour) next_b1) → (colour : Colour)
       → colour ≡ other at.reached.colour
-      → IsReadTo reference end width new (record { reached = record { a0 = Some a1; colour = colour }; end = next_end; b1 = next_b1 })
+      → IsReadTo reference new (record { reached = record { a0 = Some a1; colour = colour }; end = next_end; b1 = next_b1 })
   turned_so_far new next_end a1 next_b1 order within len up last turn b1 colour is = record {
     room = len ∙ so_far.room;
     within = within;
@@ -114,25 +130,16 @@ module _ (reference : List ℕ) (end width : ℕ) (all : ArePlaces reference end
     ascending = up;
     last = last;
     behind = λ i h. turn.right i h ∙ ap other (so_far.behind i (omega arith)) ∙ sym is;
-    b1 = λ h. subst (λ c. IsB1At reference end (Some a1) c next_b1) (sym is) (b1 h);
+    b1 = λ h. subst (λ c. IsB1At reference (Some a1) c next_b1) (sym is) (b1 h);
   }
 
   -- and up to it the pels have a0's colour
-  pub turned_position : (new : List ℕ) (next_end a1 : ℕ) → reached_pel at.reached ≤ a1 → a1 ≤ width
+  pub turned_position : (new : List ℕ) (next_end a1 : ℕ) → reached_pel at.reached ≤ a1 → a1 ≤ reference.width
       → IsTurnedFrom (take at.end places) (take next_end new) a1
-      → position_of (record { a0 = Some a1; colour = at.reached.colour }) (pels_by width (take next_end new))
-      ≡ coloured_up_to (placed_position width places at) a1
+      → position_of (record { a0 = Some a1; colour = at.reached.colour }) (pels_by reference.width (take next_end new))
+      ≡ coloured_up_to (placed_position reference.width places at) a1
   turned_position new next_end a1 order within turn =
-      coloured width (take at.end places) (take next_end new) at.reached a1 order within turn.left so_far.behind
-
-  -- a place right of a0 is right of the last place that is put
-  pub right_of_last : (place : ℕ) → is_right_of at.reached.a0 place ≡ true → 1 < at.end → get_or places (at.end - 1) 0 < place
-  right_of_last place right some = by at.reached.a0 so_far.started so_far.last right
-    where
-      by : (a0 : Option ℕ) → (a0 ≡ None → at.end ≡ 1) → get_or places (at.end - 1) 0 ≤ unwrap_or a0 0 → is_right_of a0 place ≡ true
-          → get_or places (at.end - 1) 0 < place
-      by None started last h = absurd (omega (arith, started refl))
-      by (Some a) started last h = omega (arith, last, ltb-true a place h)
+      coloured reference.width (take at.end places) (take next_end new) at.reached a1 order within turn.left so_far.behind
 
   -- there is room for a place
   pub room_left : at.end + 1 < length places
@@ -140,8 +147,8 @@ module _ (reference : List ℕ) (end width : ℕ) (all : ArePlaces reference end
       omega (arith, so_far.room, places_within places at.end (reached_pel at.reached) so_far.ascending so_far.last)
 
   -- a step in vertical mode to a1, which is z as a signed number
-  module _ (d z : ℤ) (z_is : z ≡ pos (get_or reference at.b1 0) +ℤ d) (least : negsuc 0 ≤ℤ a0_number (position_of at.reached []))
-      (right : a0_number (position_of at.reached []) <ℤ z) (inside : z ≤ℤ pos width) where
+  module _ (d z : ℤ) (z_is : z ≡ pos (get_or reference.places.now at.b1 0) +ℤ d) (least : negsuc 0 ≤ℤ a0_number (position_of at.reached []))
+      (right : a0_number (position_of at.reached []) <ℤ z) (inside : z ≤ℤ pos reference.width) where
     pub a1_is : pos (nat_abs z) ≡ z
     a1_is = abs-same z z (omega (arith, ints)) refl
 
@@ -151,55 +158,72 @@ module _ (reference : List ℕ) (end width : ℕ) (all : ArePlaces reference end
     pub a1_ahead : reached_pel at.reached ≤ nat_abs z
     a1_ahead = right_behind_first at.reached.a0 (nat_abs z) a1_right
 
-    pub a1_within : nat_abs z ≤ width
+    pub a1_within : nat_abs z ≤ reference.width
     a1_within = omega (arith, ints, a1_is)
 
     pub vertical_placed : (new : List ℕ) (next_end next_b1 : ℕ) (colour : Colour)
         → IsTurnedFrom (take at.end places) (take next_end new) (nat_abs z) → colour ≡ other at.reached.colour
-        → IsVerticalStep (pels_by width (take end reference)) (placed_position width places at) d
-        (placed_position width new (record { reached = record { a0 = Some (nat_abs z); colour = colour }; end = next_end; b1 = next_b1 }))
+        → IsVerticalStep (placed_pels reference) (placed_position reference.width places at) d
+        (placed_position reference.width new (record {
+          reached = record {
+            a0 = Some
+                (nat_abs z);
+            colour = colour;
+          };
+          end = next_end;
+          b1 = next_b1;
+        }))
     vertical_placed new next_end next_b1 colour turn is =
-        let same = b1_is reference end width all at.reached.a0 at.reached.colour at.b1 (so_far.b1 unfinished) in
-        let len = length-pels_by width (take end reference) in
-        vertical_step (pels_by width (take end reference)) (pels_by width (take at.end places)) (pels_by width (take next_end new))
+        let same = b1_is reference at.reached.a0 at.reached.colour at.b1 (so_far.b1 unfinished) in
+        let len = length-placed_pels reference in
+        vertical_step (placed_pels reference) (pels_by reference.width (take at.end places)) (pels_by reference.width (take next_end new))
         at.reached
         (record { a0 = Some (nat_abs z); colour = at.reached.colour }) d (nat_abs z) colour
         (record { right_of_a0 = omega (arith, ints, same); within = omega (arith, ints, same, len) })
         (a1_is ∙ z_is ∙ ap (λ n. pos n +ℤ d) same)
         (turned_position new next_end (nat_abs z) a1_ahead a1_within turn) is
 
+  -- where a1 is in the row, it is right of a0 and not after the width
+  pub row_begins : (d : ℤ) → IsInRow (placed_pels reference) (placed_position reference.width places at) d
+      → a0_number (position_of at.reached []) <ℤ (pos (get_or reference.places.now at.b1 0) +ℤ d)
+  row_begins d in_row =
+      let same = b1_is reference at.reached.a0 at.reached.colour at.b1 (so_far.b1 unfinished) in
+      omega (arith, ints, same, in_row.right_of_a0)
+
+  pub row_ends : (d : ℤ) → IsInRow (placed_pels reference) (placed_position reference.width places at) d
+      → (pos (get_or reference.places.now at.b1 0) +ℤ d) ≤ℤ pos reference.width
+  row_ends d in_row =
+      let same = b1_is reference at.reached.a0 at.reached.colour at.b1 (so_far.b1 unfinished) in
+      omega (arith, ints, same, length-placed_pels reference, in_row.within)
+
   -- b1 is right of a0, and in the row
-  pub under_right : a0_number (position_of at.reached []) <ℤ pos (get_or reference at.b1 0)
+  pub under_right : a0_number (position_of at.reached []) <ℤ pos (get_or reference.places.now at.b1 0)
   under_right = by at.reached.a0 (so_far.b1 unfinished) unfinished
     where
-      by : (a0 : Option ℕ) → IsB1At reference end a0 at.reached.colour at.b1 → unwrap_or a0 0 < width
-          → a0_number (record { a0 = a0; colour = at.reached.colour; pels = [] }) <ℤ pos (get_or reference at.b1 0)
+      by : (a0 : Option ℕ) → IsB1At reference a0 at.reached.colour at.b1 → unwrap_or a0 0 < reference.width
+          → a0_number (record { a0 = a0; colour = at.reached.colour; pels = [] }) <ℤ pos (get_or reference.places.now at.b1 0)
       by None b1 h = omega (arith, ints)
       by (Some a) b1 h =
-          elim (b1_within reference end width all at.b1 b1.some b1.within) [
-            | inl less ↦ omega (arith, ints, ltb-true a (get_or reference at.b1 0) (b1.ahead less.0))
+          elim (b1_within reference at.b1 b1.some b1.within) [
+            | inl less ↦ omega (arith, ints, ltb-true a (get_or reference.places.now at.b1 0) (b1.ahead less.0))
             | inr over ↦ omega (arith, ints, over.1)
           ]
 
-  -- and right of the last place that is put
-  pub under_right_of_last : 1 < at.end → get_or places (at.end - 1) 0 < get_or reference at.b1 0
-  under_right_of_last = right_of_last (get_or reference at.b1 0) (number_right at.reached (get_or reference at.b1 0) under_right)
+  pub under_ahead : reached_pel at.reached ≤ get_or reference.places.now at.b1 0
+  under_ahead = b1_ahead reference at.reached.a0 at.reached.colour at.b1 (so_far.b1 unfinished) unfinished
 
-  pub under_ahead : reached_pel at.reached ≤ get_or reference at.b1 0
-  under_ahead = b1_ahead reference end width all at.reached.a0 at.reached.colour at.b1 (so_far.b1 unfinished) unfinished
-
-  pub under_within : get_or reference at.b1 0 ≤ width
-  under_within = let b1 = so_far.b1 unfinished in b1_at_most reference end width all at.b1 b1.some b1.within
+  pub under_within : get_or reference.places.now at.b1 0 ≤ reference.width
+  under_within = let b1 = so_far.b1 unfinished in b1_at_most reference at.b1 b1.some b1.within
 
   -- two places are put where two runs end
   pub horizontal_placed : (b mid rest : List Bool) (first second : ℕ) (turned_colour : Colour) (between new : List ℕ)
       (middle_end next_end next_b1 : ℕ)
       → IsRun at.reached.colour b first mid → IsRun turned_colour mid second rest → turned_colour ≡ other at.reached.colour
-      → reached_pel at.reached + first + second ≤ width
+      → reached_pel at.reached + first + second ≤ reference.width
       → IsTurnedFrom (take at.end places) (take middle_end between) (reached_pel at.reached + first)
       → IsTurnedFrom (take middle_end between) (take next_end new) (reached_pel at.reached + first + second)
-      → IsHorizontalStep (pels_by width (take end reference)) (placed_position width places at) b
-      (placed_position width new (record {
+      → IsHorizontalStep (placed_pels reference) (placed_position reference.width places at) b
+      (placed_position reference.width new (record {
         reached =
             record { a0 = Some (reached_pel at.reached + first + second); colour = at.reached.colour };
         end = next_end;
@@ -212,7 +236,7 @@ module _ (reference : List ℕ) (end width : ℕ) (all : ArePlaces reference end
         middle = mid;
         first_run = run;
         second_run = subst (λ c. IsRun c mid second rest) is another;
-        within = omega (arith, length-pels_by width (take end reference));
+        within = omega (arith, length-placed_pels reference);
         new_is = ap position pels;
       }
     where
@@ -225,29 +249,30 @@ module _ (reference : List ℕ) (end width : ℕ) (all : ArePlaces reference end
       two : reached_pel at.reached + first + second - (reached_pel at.reached + first) ≡ second
       two = omega arith
 
-      pels : take (reached_pel at.reached + first + second) (pels_by width (take next_end new))
-          ≡ take (reached_pel at.reached) (pels_by width (take at.end places)) ++ replicate first at.reached.colour ++ replicate second
+      pels : take (reached_pel at.reached + first + second) (pels_by reference.width (take next_end new))
+          ≡ take (reached_pel at.reached) (pels_by reference.width
+          (take at.end places)) ++ replicate first at.reached.colour ++ replicate second
           (other at.reached.colour)
       pels =
-          front_to width (reached_pel at.reached + first) (reached_pel at.reached + first + second) (take middle_end between)
+          front_to reference.width (reached_pel at.reached + first) (reached_pel at.reached + first + second) (take middle_end between)
           (take next_end new)
           (other at.reached.colour) (omega arith) within again.left
           (λ i h. turn.right i h ∙ ap other (so_far.behind i (omega arith)))
-          ∙ ap (λ n. take (reached_pel at.reached + first) (pels_by width (take middle_end between)) ++ replicate n
+          ∙ ap (λ n. take (reached_pel at.reached + first) (pels_by reference.width (take middle_end between)) ++ replicate n
           (other at.reached.colour)) two
           ∙ ap (λ xs. xs ++ replicate second (other at.reached.colour))
-          (front_to width (reached_pel at.reached) (reached_pel at.reached + first) (take at.end places) (take middle_end between)
+          (front_to reference.width (reached_pel at.reached) (reached_pel at.reached + first) (take at.end places) (take middle_end between)
           at.reached.colour (omega arith) (omega arith) turn.left so_far.behind
-          ∙ ap (λ n. take (reached_pel at.reached) (pels_by width (take at.end places)) ++ replicate n at.reached.colour) one)
+          ∙ ap (λ n. take (reached_pel at.reached) (pels_by reference.width (take at.end places)) ++ replicate n at.reached.colour) one)
 
   pub horizontal_so_far : (first second : ℕ) (between new : List ℕ) (middle_end next_end next_b1 : ℕ)
-      → reached_pel at.reached + first + second ≤ width → length new ≡ length places → IsAscending new next_end
+      → reached_pel at.reached + first + second ≤ reference.width → length new ≡ length places → IsAscending new next_end
       → get_or new (next_end - 1) 0 ≤ reached_pel at.reached + first + second
       → IsTurnedFrom (take at.end places) (take middle_end between) (reached_pel at.reached + first)
       → IsTurnedFrom (take middle_end between) (take next_end new) (reached_pel at.reached + first + second)
-      → (reached_pel at.reached + first + second < width
-      → IsB1At reference end (Some (reached_pel at.reached + first + second)) at.reached.colour next_b1)
-      → IsReadTo reference end width new
+      → (reached_pel at.reached + first + second < reference.width
+      → IsB1At reference (Some (reached_pel at.reached + first + second)) at.reached.colour next_b1)
+      → IsReadTo reference new
       (record {
         reached = record { a0 = Some (reached_pel at.reached + first + second); colour = at.reached.colour };
         end = next_end;
@@ -266,10 +291,9 @@ module _ (reference : List ℕ) (end width : ℕ) (all : ArePlaces reference end
   }
 
 -- before the first pel
-pub nothing_read : (reference : List ℕ) (end width : ℕ) → ArePlaces reference end width → (places : List ℕ) → length places ≡ width + 4
-    → get_or places 0 0 ≡ 0
-    → IsReadTo reference end width places (record { reached = record { a0 = None; colour = White }; end = 1; b1 = 1 })
-nothing_read reference end width all places room first = record {
+pub nothing_read : (reference : PlacedRow) (places : List ℕ) → length places ≡ reference.width + 4 → get_or places 0 0 ≡ 0
+    → IsReadTo reference places (record { reached = record { a0 = None; colour = White }; end = 1; b1 = 1 })
+nothing_read reference places room first = record {
   room = room;
   within = omega arith;
   started = λ h. refl;
@@ -278,7 +302,7 @@ nothing_read reference end width all places room first = record {
   behind = λ i h. ap (λ ps. turned Black ps i) (take-first places (omega arith) first) ∙ turned-first i;
   b1 = λ h. record {
     some = omega arith;
-    within = omega (arith, all.ascending.started);
+    within = omega (arith, reference.placed.ascending.started);
     colour_is = refl;
     passed = λ l. absurd (omega arith);
     ahead = λ l. refl;

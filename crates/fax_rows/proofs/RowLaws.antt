@@ -194,11 +194,11 @@ module _ (reads : (colour : Colour) → ReadsOneWay (run_table colour)) where
 
   pub row_reads_one_way : (width : ℕ) → ReadsRowsOneWay width
   row_reads_one_way width = record {
-    one_row = λ b row another rest remaining first second.
+    one_answer = λ b row another rest remaining first second.
         let same = same_runs White width 0 b b first.runs second.runs rest remaining refl first.coded (ended_row width b row rest first)
         second.coded (ended_row width b another remaining second) in
         (first.pels ∙ ap (pels_of White) same.0 ∙ sym second.pels, same.1);
-    row_or_fault = λ b.
+    answer_or_fault = λ b.
         elim (find_runs (suc (length b)) White width 0 b (omega arith) (omega arith)) [
           | inl ended ↦ inl (
             pels_of White ended.0,
@@ -224,7 +224,7 @@ module _ (reads : (colour : Colour) → ReadsOneWay (run_table colour)) where
                 },
               )
         ];
-    row_has_no_fault = λ b row rest fault whole not_whole.
+    answer_has_no_fault = λ b row rest fault whole not_whole.
         ended_or_not White width 0 (sum not_whole.runs) b b whole.runs not_whole.runs rest not_whole.left fault refl
         whole.coded (ended_row width b row rest whole) not_whole.coded (omega arith) not_whole.unfinished not_whole.at_run;
     one_fault = λ b fault another first second.

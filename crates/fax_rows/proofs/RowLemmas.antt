@@ -10,10 +10,9 @@ use Rattle.std.proofs.lemmas.List.{append-nil, get_or-replicate, take-append-le}
 use Rattle.fax_bits.specs.declared.Colour.{Colour}
 use Rattle.fax_bits.specs.declared.Colour.TheVariants.{White}
 use Rattle.fax_bits.specs.Runs.{IsRun}
-use Rattle.fax_rows.specs.declared.RowFault.{RowFault}
 use Rattle.fax_rows.specs.Elements.{other, pels_of}
 use Rattle.fax_rows.specs.OneDimensional.{AreRuns, IsOneDimensionalRow}
-use Rattle.fax_rows.specs.Faults.{IsRunFault, IsOneDimensionalFault, colour_behind}
+use Rattle.fax_rows.specs.Faults.{colour_behind}
 use Rattle.fax_rows.proofs.RowLaws.{length-pels_of}
 use Rattle.fax_rows.proofs.RunLemmas.{sum-push}
 
@@ -116,16 +115,4 @@ row_done width b total colour row rest so_far done len = record {
       (λ k h. so_far.pels k (omega arith));
   whole = len;
   ends = λ k h e. absurd (omega (arith, so_far.below k h));
-}
-
-pub row_fault_at : (width : ℕ) (b : List Bool) (total : ℕ) (colour : Colour) (row : List Colour) (rest : List Bool) (fault : RowFault)
-    → IsRowSoFar width b total colour row rest → total < width → IsRunFault colour width total rest fault
-    → IsOneDimensionalFault width b fault
-row_fault_at width b total colour row rest fault so_far unfinished at = record {
-  runs = so_far.runs;
-  left = rest;
-  coded = so_far.coded;
-  unfinished = omega (arith, so_far.sum_is);
-  at_run = subst (λ c. IsRunFault c width (sum so_far.runs) rest fault) so_far.colour_is
-      (subst (λ n. IsRunFault colour width n rest fault) so_far.sum_is at);
 }

@@ -40,16 +40,6 @@ pub not_true : (b : Bool) → not b ≡ true → b ≡ false
 not_true true h = cc
 not_true false h = refl
 
-pub not_false : (b : Bool) → not b ≡ false → b ≡ true
-not_false true h = refl
-not_false false h = cc
-
-pub differs_is : (colour pel : Colour) → pel ≢ colour → pel ≡ other colour
-differs_is White Black h = refl
-differs_is Black White h = refl
-differs_is White White h = absurd (h refl)
-differs_is Black Black h = absurd (h refl)
-
 -- the pel at place i is of the run's colour
 pub goes_on : (colour first : Colour) (n i : ℕ) (pels : List Colour) → i < length pels → get_or pels i White ≡ first → first ≡ colour
     → runs_behind colour n (drop i pels) ≡ runs_behind colour (n + 1) (drop (i + 1) pels)

@@ -34,7 +34,7 @@ module _ (reads : (colour : Colour) → ReadsOneWay (run_table colour)) where
   took_same : (colour : Colour) (b c : List Bool) (code another : RunCode) (rest remaining : List Bool) → b ≡ c
       → Takes (run_table colour) b code rest → Takes (run_table colour) c another remaining → (code ≡ another) × (rest ≡ remaining)
   took_same colour b c code another rest remaining at first second =
-      (reads colour).takes_one b code another rest remaining first
+      (reads colour).code.one_answer b code another rest remaining first
       (subst (λ x. Takes (run_table colour) x another remaining) (sym at) second)
 
   same_codes : (colour : Colour) (b c rest remaining : List Bool) (ms ns : List ℕ) (t u : ℕ) → b ≡ c
@@ -67,7 +67,7 @@ module _ (reads : (colour : Colour) → ReadsOneWay (run_table colour)) where
   fault_of_taken : (colour : Colour) (width so_far : ℕ) (b c : List Bool) (code : RunCode) (rest : List Bool) (fault : RowFault) → b ≡ c
       → Takes (run_table colour) b code rest → IsAtRunCode colour width so_far c fault → IsRunCodeFault width so_far code fault
   fault_of_taken colour width so_far b c code rest fault at taken (inl none) =
-      absurd ((reads colour).taken_has_no_fault b code rest none.0 taken
+      absurd ((reads colour).code.answer_has_no_fault b code rest none.0 taken
       (subst (λ x. IsFaultOf (run_table colour) x none.0) (sym at) none.1))
   fault_of_taken colour width so_far b c code rest fault at taken (inr some) =
       let same = took_same colour b c code some.0 rest some.1 at taken some.2 in
@@ -101,11 +101,11 @@ module _ (reads : (colour : Colour) → ReadsOneWay (run_table colour)) where
   same_fault_at_code : (colour : Colour) (width so_far : ℕ) (b c : List Bool) (fault another : RowFault) → b ≡ c
       → IsAtRunCode colour width so_far b fault → IsAtRunCode colour width so_far c another → fault ≡ another
   same_fault_at_code colour width so_far b c fault another at (inl none) (inl neither) =
-      let same = (reads colour).has_one_fault b none.0 neither.0 none.1
+      let same = (reads colour).code.one_fault b none.0 neither.0 none.1
       (subst (λ x. IsFaultOf (run_table colour) x neither.0) (sym at) neither.1) in
       none.2 ∙ ap row_fault same ∙ sym neither.2
   same_fault_at_code colour width so_far b c fault another at (inl none) (inr some) =
-      absurd ((reads colour).taken_has_no_fault c some.0 some.1 none.0 some.2
+      absurd ((reads colour).code.answer_has_no_fault c some.0 some.1 none.0 some.2
       (subst (λ x. IsFaultOf (run_table colour) x none.0) at none.1))
   same_fault_at_code colour width so_far b c fault another at (inr some) second =
       same_code_fault width so_far some.0 fault another some.3
@@ -222,7 +222,7 @@ module _ (reads : (colour : Colour) → ReadsOneWay (run_table colour)) where
       → IsRunOrFault colour width from b
   find_run zero colour width from b short within = absurd (omega arith)
   find_run (suc fuel) colour width from b short within =
-      elim ((reads colour).takes_or_fails b) [
+      elim ((reads colour).code.answer_or_fault b) [
         | inl taken ↦ run_by_code colour width from b taken.0 taken.1 within taken.2
             (λ m fits. find_run fuel colour width (from + m) taken.1
             (omega (arith, (reads colour).takes_bits b taken.0 taken.1 taken.2)) fits)

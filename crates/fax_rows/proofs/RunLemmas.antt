@@ -1,5 +1,5 @@
 -- Runs, code by code.
-use Rattle.std.proofs.Common.{◌≡◌, ℕ, ◌+◌, ◌≤◌, List, [], ◌∷◌, ◌++◌, map, Bool, refl, sym, subst, arith}
+use Rattle.std.proofs.Common.{◌≡◌, ℕ, ◌+◌, List, [], ◌∷◌, ◌++◌, map, Bool, refl, sym, subst, arith}
 use Rattle.std.specs.Prelude.{sum}
 use Rattle.std.proofs.lemmas.Grind.{common_steps}
 use Rattle.std.proofs.lemmas.List.{map-append}
@@ -9,17 +9,12 @@ use Rattle.fax_bits.specs.declared.runs.RunCode.TheVariants.{Terminating, MakeUp
 use Rattle.fax_bits.specs.Tables.{run_table}
 use Rattle.fax_bits.specs.Codes.{Takes, Spells}
 use Rattle.fax_bits.specs.Runs.{IsRun}
-use Rattle.fax_rows.specs.declared.RowFault.{RowFault}
-use Rattle.fax_rows.specs.Faults.{IsRunFault, IsAtRunCode}
 
 -- make-up codes of n pels so far
 pub record IsPartialRun (colour : Colour) (b : List Bool) (n : ℕ) (rest : List Bool) : Type 0 where
   pub make_up : List ℕ
   pub spelled : Spells (run_table colour) b (map MakeUp make_up) rest
   pub sum_is : n ≡ sum make_up
-
-pub none_so_far : (colour : Colour) (b : List Bool) → IsPartialRun colour b 0 b
-none_so_far colour b = record { make_up = []; spelled = refl; sum_is = refl }
 
 Spells-push : {M : Type 0} (table : List (CodeEntry M)) (b : List Bool) (ms : List M) (m : M) (mid rest : List Bool)
     → Spells table b ms mid → Takes table mid m rest → Spells table b (ms ++ m ∷ []) rest
@@ -45,15 +40,4 @@ run_done colour b n m mid rest part taken = record {
   last = m;
   spelled = Spells-push (run_table colour) b (map MakeUp part.make_up) (Terminating m) mid rest part.spelled taken;
   length = omega (arith, part.sum_is);
-}
-
-pub run_fault : (colour : Colour) (width from : ℕ) (b : List Bool) (n : ℕ) (rest : List Bool) (fault : RowFault)
-    → IsPartialRun colour b n rest → from + n ≤ width → IsAtRunCode colour width (from + n) rest fault
-    → IsRunFault colour width from b fault
-run_fault colour width from b n rest fault part within at = record {
-  make_up = part.make_up;
-  left = rest;
-  spelled = part.spelled;
-  within = omega (arith, part.sum_is);
-  at_code = subst (λ k. IsAtRunCode colour width (from + k) rest fault) part.sum_is at;
 }

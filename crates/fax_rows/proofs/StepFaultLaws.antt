@@ -87,9 +87,9 @@ module _ (runs_read : (colour : Colour) → ReadsOneWay (run_table colour)) (mod
       → b ≡ c
       → Takes modes b mode behind → IsStepFault reference old c fault → IsModeFault mode reference old behind fault
   fault_of_mode reference old b c mode behind fault at taken (inl none) =
-      absurd (modes_read.taken_has_no_fault b mode behind none.0 taken (subst (λ x. IsFaultOf modes x none.0) (sym at) none.1))
+      absurd (modes_read.code.answer_has_no_fault b mode behind none.0 taken (subst (λ x. IsFaultOf modes x none.0) (sym at) none.1))
   fault_of_mode reference old b c mode behind fault at taken (inr some) =
-      let same = modes_read.takes_one b mode some.0 behind some.1 taken (subst (λ x. Takes modes x some.0 some.1) (sym at) some.2) in
+      let same = modes_read.code.one_answer b mode some.0 behind some.1 taken (subst (λ x. Takes modes x some.0 some.1) (sym at) some.2) in
       subst (λ m. IsModeFault m reference old behind fault) (sym same.0)
       (subst (λ x. IsModeFault some.0 reference old x fault) (sym same.1) some.3)
 
@@ -149,10 +149,10 @@ module _ (runs_read : (colour : Colour) → ReadsOneWay (run_table colour)) (mod
       same_mode_fault first.0 reference old first.1 fault another first.3
       (fault_of_mode reference old b c first.0 first.1 another at first.2 second)
   same_step_fault reference old b c fault another at (inl first) (inl second) =
-      let same = modes_read.has_one_fault b first.0 second.0 first.1 (subst (λ x. IsFaultOf modes x second.0) (sym at) second.1) in
+      let same = modes_read.code.one_fault b first.0 second.0 first.1 (subst (λ x. IsFaultOf modes x second.0) (sym at) second.1) in
       first.2 ∙ ap row_fault same ∙ sym second.2
   same_step_fault reference old b c fault another at (inl first) (inr second) =
-      absurd (modes_read.taken_has_no_fault b second.0 second.1 first.0
+      absurd (modes_read.code.answer_has_no_fault b second.0 second.1 first.0
       (subst (λ x. Takes modes x second.0 second.1) (sym at) second.2) first.1)
 
   vertical_or_fault : (reference : List Colour) (old : Position) (d : ℤ) (b : List Bool) → IsModeOrFault (Vertical d) reference old b
@@ -231,7 +231,7 @@ module _ (runs_read : (colour : Colour) → ReadsOneWay (run_table colour)) (mod
   step_or_fault : (reference : List Colour) (old : Position) (b : List Bool) → first_pel old ≤ length reference
       → IsStepOrFault reference old b
   step_or_fault reference old b within =
-      elim (modes_read.takes_or_fails b) [
+      elim (modes_read.code.answer_or_fault b) [
         | inr fault ↦ inr (row_fault fault.0, inl (fault.0, fault.1, refl))
         | inl code ↦ elim (mode_or_fault code.0 reference old code.1 within) [
           | inl step ↦ inl (
@@ -333,8 +333,8 @@ module _ (runs_read : (colour : Colour) → ReadsOneWay (run_table colour)) (mod
 
   pub row_over_reads_one_way : (reference : List Colour) → ReadsRowsOverOneWay reference
   row_over_reads_one_way reference = record {
-    one_row = one_two_dimensional_row runs_read modes_read reference;
-    row_or_fault = λ b.
+    one_answer = one_two_dimensional_row runs_read modes_read reference;
+    answer_or_fault = λ b.
         elim (find_steps (suc (length b)) reference beginning b (omega arith) (omega arith)) [
           | inl end ↦ inl (
             end.last.pels,
@@ -353,7 +353,7 @@ module _ (runs_read : (colour : Colour) → ReadsOneWay (run_table colour)) (mod
             },
           )
         ];
-    row_has_no_fault = λ b row rest fault whole not_whole.
+    answer_has_no_fault = λ b row rest fault whole not_whole.
         ended_or_not reference beginning beginning b b whole.positions not_whole.positions whole.last not_whole.last rest not_whole.left
         fault
         refl refl whole.steps whole.ends not_whole.steps not_whole.unfinished not_whole.at_step;

@@ -35,7 +35,7 @@ module _ (runs_read : (colour : Colour) → ReadsOneWay (run_table colour)) (mod
   pub same_step : (reference : List Colour) (old : Position) (b c : List Bool) (new another : Position) (rest remaining : List Bool)
       → b ≡ c → IsStep reference old b new rest → IsStep reference old c another remaining → (new ≡ another) × (rest ≡ remaining)
   same_step reference old b c new another rest remaining at first second =
-      let took = modes_read.takes_one b first.mode second.mode first.behind second.behind first.taken
+      let took = modes_read.code.one_answer b first.mode second.mode first.behind second.behind first.taken
       (subst (λ x. Takes modes x second.mode second.behind) (sym at) second.taken) in
       same_by first.mode reference old first.behind second.behind new another rest remaining took.1 first.step
       (subst (λ mode. IsStepBy mode reference old second.behind another remaining) (sym took.0) second.step)

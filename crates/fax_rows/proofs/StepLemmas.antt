@@ -5,21 +5,11 @@ use Rattle.std.specs.Prelude.{unwrap_or, nat_abs}
 use Rattle.std.proofs.lemmas.Int.{ints}
 use Rattle.fax_bits.specs.declared.Colour.{Colour}
 use Rattle.fax_bits.specs.declared.Colour.TheVariants.{White}
-use Rattle.fax_rows.specs.declared.RowFault.{RowFault}
-use Rattle.fax_rows.specs.declared.two_dimensional.Reached.{Reached}
+use Rattle.fax_rows.specs.declared.two_dimensional.steps.Reached.{Reached}
 use Rattle.fax_rows.specs.Elements.{other}
-use Rattle.fax_rows.specs.TwoDimensional.{Position, beginning, a0_number, coloured_up_to, b1_from, IsInRow, IsVerticalStep, IsStep}
+use Rattle.fax_rows.specs.TwoDimensional.{Position, beginning, coloured_up_to, b1_from, IsInRow, IsVerticalStep, IsStep}
 use Rattle.fax_rows.specs.TwoDimensional.{IsUnfinished, AreSteps}
 use Rattle.fax_rows.specs.code.Reached.{position_of, reached_pel}
-use Rattle.fax_rows.specs.Faults.{IsHorizontalFault}
-
--- a0 just before the first pel
-pub number-none : (at : Position) → at.a0 ≡ None → negsuc 0 ≡ a0_number at
-number-none at e = rw e refl
-
--- a0 at a pel
-pub number-some : (at : Position) (a : ℕ) → at.a0 ≡ Some a → pos a ≡ a0_number at
-number-some at a e = rw e refl
 
 -- a place that is not negative
 pub abs-same : (z sum : ℤ) → pos 0 ≤ℤ z → z ≡ sum → pos (nat_abs z) ≡ sum
@@ -47,11 +37,6 @@ vertical_step reference old new at next d a1 colour in_row a1_is coloured turn =
   a1_is = a1_is;
   new_is = turned at next old new a1 colour coloured turn;
 }
-
--- the fault of a horizontal mode is the same over each reference row of this width
-pub horizontal_fault : (reference row : List Colour) (at : Position) (b : List Bool) (fault : RowFault)
-    → length reference ≡ length row → IsHorizontalFault row at b fault → IsHorizontalFault reference at b fault
-horizontal_fault reference row at b fault same h = rw same h
 
 AreSteps-push : (reference : List Colour) (old : Position) (b : List Bool) (positions : List Position) (at new : Position)
     (mid rest : List Bool)

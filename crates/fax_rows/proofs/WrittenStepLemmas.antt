@@ -1,5 +1,5 @@
 -- How far a row is written after a step: the indexes of a1 and b1 after each mode.
-use Rattle.std.proofs.Common.{◌≡◌, ℕ, suc, ◌+◌, ◌-◌, ◌<◌, ◌≤◌, List, ◌++◌, length, get_or, true, false, refl, ap, sym, ◌∙◌, subst, arith}
+use Rattle.std.proofs.Common.{◌≡◌, ℕ, suc, ◌+◌, ◌-◌, ◌<◌, ◌≤◌, ◌++◌, length, get_or, true, false, refl, ap, sym, ◌∙◌, subst, arith}
 use Rattle.std.specs.Prelude.{Option, Some, None, unwrap_or, pos, ◌-ℤ◌, nat_lt}
 use Rattle.std.proofs.lemmas.Bool.Decides.{nat_tests}
 use Rattle.std.proofs.lemmas.Int.{ints}
@@ -10,70 +10,78 @@ use Rattle.fax_bits.specs.Runs.{run_bits, mode_bits}
 use Rattle.fax_rows.specs.Coded.{places, colour_of, chosen_mode, run_pair_bits, next_a0}
 use Rattle.fax_bits.specs.declared.Colour.{Colour}
 use Rattle.fax_bits.specs.declared.Colour.TheVariants.{Black}
-use Rattle.fax_rows.specs.declared.put.Ahead.{Ahead}
+use Rattle.fax_rows.specs.declared.put.ChangesAhead.{ChangesAhead}
+use Rattle.fax_rows.specs.declared.rows.PlacedRow.{PlacedRow}
 use Rattle.fax_rows.specs.declared.rows.Rows.{Rows}
 use Rattle.fax_rows.specs.Elements.{other, is_right_of, next_change, b1, b2}
-use Rattle.fax_rows.specs.code.Ahead.{IsAhead, IsWrittenTo, reference_of, written_of, mode_from, bits_from, place_from, run_pair}
-use Rattle.fax_rows.specs.code.Turns.{alternate, ArePlaces, IsFrom, IsBehind, IsBeforeB1, IsB1At}
+use Rattle.fax_rows.specs.code.Ahead.{IsAhead, IsWrittenTo, mode_from, bits_from, place_from, run_pair}
+use Rattle.fax_rows.specs.code.PlacedRow.{placed_pels, IsBeforeB1, IsB1At}
+use Rattle.fax_rows.specs.code.Turns.{alternate, IsFrom, IsBehind}
 use Rattle.fax_rows.proofs.ChangeLemmas.{first_of}
 use Rattle.fax_rows.proofs.ChoiceLemmas.{a1_right, passed_right}
 use Rattle.fax_rows.proofs.PlacedB1Lemmas.{inside_end, b1_ahead, b2_ahead, b1_next, b1_passed, same_start}
 use Rattle.fax_rows.proofs.PlacedRowLemmas.{at_from}
-use Rattle.fax_rows.proofs.TurnLemmas.{alternate-suc, below_later}
+use Rattle.fax_rows.proofs.TurnLemmas.{alternate-suc, below_later, pel_behind}
 use Rattle.fax_rows.proofs.WrittenPlaceLemmas.{known_bounds, same_widths, written_width}
 
-module _ (places : List ℕ) (end width : ℕ) (all : ArePlaces places end width) where
+module _ (row : PlacedRow) where
   -- a change is the last of the places that are not right of it
-  behind_place : (k : ℕ) → 0 < k → k < end → IsBehind places end (get_or places k 0) (k + 1)
+  behind_place : (k : ℕ) → 0 < k → k < row.end → IsBehind row.places.now row.end (get_or row.places.now k 0) (k + 1)
   behind_place k some inside = record {
     some = omega arith;
     within = omega arith;
-    left = subst (λ m. get_or places m 0 ≤ get_or places k 0) same (omega arith);
-    right = λ l. below_later places end all.ascending k (k + 1) some (omega arith) l;
+    left = subst (λ m. get_or row.places.now m 0 ≤ get_or row.places.now k 0) same (omega arith);
+    right = λ l. below_later row.places.now row.end row.placed.ascending k (k + 1) some (omega arith) l;
   }
     where
       same : k ≡ k + 1 - 1
       same = omega arith
 
   -- the places before that index are not right of a0
-  first_left : (a0 : Option ℕ) (k : ℕ) → IsFrom places end a0 k → get_or places (k - 1) 0 ≤ unwrap_or a0 0
-  first_left None k at = subst (λ m. get_or places (m - 1) 0 ≤ 0) (sym at) (omega (arith, all.ascending.first))
+  first_left : (a0 : Option ℕ) (k : ℕ) → IsFrom row.places.now row.end a0 k → get_or row.places.now (k - 1) 0 ≤ unwrap_or a0 0
+  first_left None k at = subst (λ m. get_or row.places.now (m - 1) 0 ≤ 0) (sym at) (omega (arith, row.placed.ascending.first))
   first_left (Some a) k at = at.left
 
-module _ (rows : Rows) (ahead : Ahead) (is : IsAhead rows ahead) (unfinished : unwrap_or ahead.a0 0 < rows.width) where
-  row_at : (0 < ahead.row) × (ahead.row ≤ rows.row_end)
-  row_at = at_from rows.row.now rows.row_end rows.width rows.row_placed ahead.a0 ahead.row is.row
+  -- the colour of a0, where it is inside the row
+  pub colour_here : (a0 : Option ℕ) (k : ℕ) → IsFrom row.places.now row.end a0 k → unwrap_or a0 0 < row.width
+      → alternate Black k ≡ colour_of (placed_pels row) a0
+  colour_here None k at inside = ap (alternate Black) at
+  colour_here (Some a) k at inside = sym (pel_behind row.places.now row.end row.placed.ascending row.width a k inside at)
 
-  pub from_a1 : ahead.a1 < rows.width → IsFrom rows.row.now rows.row_end (Some ahead.a1) (ahead.row + 1)
+module _ (rows : Rows) (ahead : ChangesAhead) (is : IsAhead rows ahead) (unfinished : unwrap_or ahead.a0 0 < rows.row.width) where
+  row_at : (0 < ahead.row) × (ahead.row ≤ rows.row.end)
+  row_at = at_from rows.row.places.now rows.row.end rows.row.width rows.row.placed ahead.a0 ahead.row is.row
+
+  pub from_a1 : ahead.a1 < rows.row.width → IsFrom rows.row.places.now rows.row.end (Some ahead.a1) (ahead.row + 1)
   from_a1 inside =
-      let less = inside_end rows.row.now rows.row_end rows.width rows.row_placed ahead.row row_at.0 (omega (arith, row_at.1))
+      let less = inside_end rows.row ahead.row row_at.0 (omega (arith, row_at.1))
       (omega (arith, is.a1_at)) in
-      subst (λ a. IsBehind rows.row.now rows.row_end a (ahead.row + 1)) (sym is.a1_at)
-      (behind_place rows.row.now rows.row_end rows.width rows.row_placed ahead.row row_at.0 less)
+      subst (λ a. IsBehind rows.row.places.now rows.row.end a (ahead.row + 1)) (sym is.a1_at)
+      (behind_place rows.row ahead.row row_at.0 less)
 
-  pub from_a2 : ahead.a2 < rows.width → IsFrom rows.row.now rows.row_end (Some ahead.a2) (ahead.row + 2)
+  pub from_a2 : ahead.a2 < rows.row.width → IsFrom rows.row.places.now rows.row.end (Some ahead.a2) (ahead.row + 2)
   from_a2 inside =
-      let less = inside_end rows.row.now rows.row_end rows.width rows.row_placed (ahead.row + 1) (omega arith) (omega (arith, row_at.1))
+      let less = inside_end rows.row (ahead.row + 1) (omega arith) (omega (arith, row_at.1))
       (omega (arith, is.a2_at)) in
       let next : ahead.row + 1 + 1 ≡ ahead.row + 2 = omega arith in
-      subst (λ a. IsBehind rows.row.now rows.row_end a (ahead.row + 2)) (sym is.a2_at)
-      (subst (λ k. IsBehind rows.row.now rows.row_end (get_or rows.row.now (ahead.row + 1) 0) k) next
-      (behind_place rows.row.now rows.row_end rows.width rows.row_placed (ahead.row + 1) (omega arith) less))
+      subst (λ a. IsBehind rows.row.places.now rows.row.end a (ahead.row + 2)) (sym is.a2_at)
+      (subst (λ k. IsBehind rows.row.places.now rows.row.end (get_or rows.row.places.now (ahead.row + 1) 0) k) next
+      (behind_place rows.row (ahead.row + 1) (omega arith) less))
 
   -- b2 is not left of a0
   b2_from_a0 : unwrap_or ahead.a0 0 ≤ ahead.b2
   b2_from_a0 =
-      let first = b1_ahead rows.reference.now rows.reference_end rows.width rows.reference_placed ahead.a0 ahead.colour ahead.reference
-      is.reference unfinished in
-      let second = b2_ahead rows.reference.now rows.reference_end rows.width rows.reference_placed ahead.reference is.reference.some
+      let first = b1_ahead rows.reference ahead.a0 ahead.colour ahead.reference
+      is.reference (omega arith) in
+      let second = b2_ahead rows.reference ahead.reference is.reference.some
       is.reference.within in
       omega (arith, first, second, is.b2_at)
 
-  pub from_b2 : ahead.b2 < ahead.a1 → IsFrom rows.row.now rows.row_end (Some ahead.b2) ahead.row
+  pub from_b2 : ahead.b2 < ahead.a1 → IsFrom rows.row.places.now rows.row.end (Some ahead.b2) ahead.row
   from_b2 left = record {
     some = row_at.0;
     within = row_at.1;
-    left = omega (arith, b2_from_a0, first_left rows.row.now rows.row_end rows.width rows.row_placed ahead.a0 ahead.row is.row);
+    left = omega (arith, b2_from_a0, first_left rows.row ahead.a0 ahead.row is.row);
     right = λ l. omega (arith, left, is.a1_at);
   }
 
@@ -88,49 +96,49 @@ module _ (rows : Rows) (ahead : Ahead) (is : IsAhead rows ahead) (unfinished : u
       let next : ahead.row + 2 ≡ suc (suc ahead.row) = omega arith in
       is.behind ∙ ap (alternate Black) (sym next)
 
-  pub b1_behind_pass : ahead.b2 < rows.width
-      → IsB1At rows.reference.now rows.reference_end (Some ahead.b2) (alternate Black ahead.row) (ahead.reference + 2)
+  pub b1_behind_pass : ahead.b2 < rows.row.width
+      → IsB1At rows.reference (Some ahead.b2) (alternate Black ahead.row) (ahead.reference + 2)
   b1_behind_pass inside =
-      subst (λ colour. IsB1At rows.reference.now rows.reference_end (Some ahead.b2) colour (ahead.reference + 2)) is.behind
-      (subst (λ a. IsB1At rows.reference.now rows.reference_end (Some a) ahead.colour (ahead.reference + 2)) (sym is.b2_at)
-      (b1_passed rows.reference.now rows.reference_end rows.width rows.reference_placed ahead.a0 ahead.colour ahead.reference is.reference
+      subst (λ colour. IsB1At rows.reference (Some ahead.b2) colour (ahead.reference + 2)) is.behind
+      (subst (λ a. IsB1At rows.reference (Some a) ahead.colour (ahead.reference + 2)) (sym is.b2_at)
+      (b1_passed rows.reference ahead.a0 ahead.colour ahead.reference is.reference
       (omega (arith, is.b2_at))))
 
-  pub b1_behind_b1 : ahead.a1 ≡ ahead.b1 → ahead.a1 < rows.width
-      → IsB1At rows.reference.now rows.reference_end (Some ahead.a1) (alternate Black (ahead.row + 1)) (ahead.reference + 1)
+  pub b1_behind_b1 : ahead.a1 ≡ ahead.b1 → ahead.a1 < rows.row.width
+      → IsB1At rows.reference (Some ahead.a1) (alternate Black (ahead.row + 1)) (ahead.reference + 1)
   b1_behind_b1 same inside =
-      subst (λ colour. IsB1At rows.reference.now rows.reference_end (Some ahead.a1) colour (ahead.reference + 1)) turned_colour
-      (subst (λ a. IsB1At rows.reference.now rows.reference_end (Some a) (other ahead.colour) (ahead.reference + 1)) (sym (same ∙ is.b1_at))
-      (b1_next rows.reference.now rows.reference_end rows.width rows.reference_placed ahead.a0 ahead.colour ahead.reference is.reference
+      subst (λ colour. IsB1At rows.reference (Some ahead.a1) colour (ahead.reference + 1)) turned_colour
+      (subst (λ a. IsB1At rows.reference (Some a) (other ahead.colour) (ahead.reference + 1)) (sym (same ∙ is.b1_at))
+      (b1_next rows.reference ahead.a0 ahead.colour ahead.reference is.reference
       (omega (arith, same, is.b1_at))))
 
-  pub b1_behind_a1 : (b : ℕ) → ((a0 : Option ℕ) (colour : Colour) → IsB1At rows.reference.now rows.reference_end a0 colour ahead.reference
-      → is_right_of a0 ahead.a1 ≡ true → IsB1At rows.reference.now rows.reference_end (Some ahead.a1) (other colour) b)
-      → IsB1At rows.reference.now rows.reference_end (Some ahead.a1) (alternate Black (ahead.row + 1)) b
+  pub b1_behind_a1 : (b : ℕ) → ((a0 : Option ℕ) (colour : Colour) → IsB1At rows.reference a0 colour ahead.reference
+      → is_right_of a0 ahead.a1 ≡ true → IsB1At rows.reference (Some ahead.a1) (other colour) b)
+      → IsB1At rows.reference (Some ahead.a1) (alternate Black (ahead.row + 1)) b
   b1_behind_a1 b found =
-      let inside : first_of ahead.a0 < length (written_of rows) = omega (arith, written_width rows) in
-      let passes = a1_right (reference_of rows) (written_of rows) (same_widths rows) ahead.a0 inside in
+      let inside : first_of ahead.a0 < length (placed_pels rows.row) = omega (arith, written_width rows) in
+      let passes = a1_right (placed_pels rows.reference) (placed_pels rows.row) (same_widths rows) ahead.a0 inside in
       let right = passed_right ahead.a0 ahead.a1 (omega (arith, passes, is.a1)) in
-      subst (λ colour. IsB1At rows.reference.now rows.reference_end (Some ahead.a1) colour b) turned_colour
+      subst (λ colour. IsB1At rows.reference (Some ahead.a1) colour b) turned_colour
       (found ahead.a0 ahead.colour is.reference right)
 
-  pub b1_behind_a2 : (b : ℕ) → ((colour : Colour) → IsBeforeB1 rows.reference.now rows.reference_end ahead.a2 colour ahead.reference
-      → IsB1At rows.reference.now rows.reference_end (Some ahead.a2) colour b)
-      → IsB1At rows.reference.now rows.reference_end (Some ahead.a2) (alternate Black (ahead.row + 2)) b
+  pub b1_behind_a2 : (b : ℕ) → ((colour : Colour) → IsBeforeB1 rows.reference ahead.a2 colour ahead.reference
+      → IsB1At rows.reference (Some ahead.a2) colour b)
+      → IsB1At rows.reference (Some ahead.a2) (alternate Black (ahead.row + 2)) b
   b1_behind_a2 b found =
       let known = known_bounds rows ahead is unfinished in
-      subst (λ colour. IsB1At rows.reference.now rows.reference_end (Some ahead.a2) colour b) same_colour
+      subst (λ colour. IsB1At rows.reference (Some ahead.a2) colour b) same_colour
       (found ahead.colour
-      (same_start rows.reference.now rows.reference_end rows.width rows.reference_placed ahead.a0 ahead.colour ahead.reference ahead.a2
+      (same_start rows.reference ahead.a0 ahead.colour ahead.reference ahead.a2
       is.reference
       (omega (arith, known.a0, known.a1_a2))))
 
   -- the mode that is chosen is that of the step from a0
-  pub mode_is : mode_from (reference_of rows) (written_of rows) ahead.a0
+  pub mode_is : mode_from (placed_pels rows.reference) (placed_pels rows.row) ahead.a0
       ≡ chosen_mode (record { a1 = ahead.a1; a2 = 0; b1 = ahead.b1; b2 = ahead.b2 })
   mode_is =
-      let reference = reference_of rows in
-      let row = written_of rows in
+      let reference = placed_pels rows.reference in
+      let row = placed_pels rows.row in
       sym (ap (λ p. chosen_mode (record { a1 = p; a2 = 0; b1 = ahead.b1; b2 = ahead.b2 })) is.a1
       ∙ ap (λ p. chosen_mode (record { a1 = next_change row ahead.a0; a2 = 0; b1 = p; b2 = ahead.b2 }))
       (is.b1 ∙ ap (b1 reference ahead.a0) is.colour)
@@ -144,9 +152,10 @@ module _ (rows : Rows) (ahead : Ahead) (is : IsAhead rows ahead) (unfinished : u
       (is.b2 ∙ ap (b2 reference ahead.a0) is.colour))
 
   -- the runs of horizontal mode
-  pub pair_is : run_pair_bits Horizontal (written_of rows) ahead.a0 (places (reference_of rows) (written_of rows) ahead.a0) ≡ run_pair ahead
+  pub pair_is : run_pair_bits Horizontal (placed_pels rows.row) ahead.a0
+      (places (placed_pels rows.reference) (placed_pels rows.row) ahead.a0) ≡ run_pair ahead
   pair_is =
-      let row = written_of rows in
+      let row = placed_pels rows.row in
       let from = unwrap_or ahead.a0 0 in
       sym (ap (λ c. run_bits c (ahead.a1 - from) ++ run_bits (other c) (ahead.a2 - ahead.a1)) is.colour
       ∙ ap (λ p. run_bits (colour_of row ahead.a0) (ahead.a1 - from) ++ run_bits (other (colour_of row ahead.a0)) (p - ahead.a1))
@@ -156,30 +165,32 @@ module _ (rows : Rows) (ahead : Ahead) (is : IsAhead rows ahead) (unfinished : u
 
   pub horizontal_bits : (mode : ModeCode) → mode ≡ chosen_mode (record { a1 = ahead.a1; a2 = 0; b1 = ahead.b1; b2 = ahead.b2 })
       → mode ≡ Horizontal
-      → bits_from (reference_of rows) (written_of rows) ahead.a0 ≡ mode_bits Horizontal ++ run_pair ahead
+      → bits_from (placed_pels rows.reference) (placed_pels rows.row) ahead.a0 ≡ mode_bits Horizontal ++ run_pair ahead
   horizontal_bits mode chosen is_horizontal =
-      let at = places (reference_of rows) (written_of rows) ahead.a0 in
-      ap (λ m. mode_bits m ++ run_pair_bits m (written_of rows) ahead.a0 at) (mode_is ∙ sym chosen ∙ is_horizontal)
+      let at = places (placed_pels rows.reference) (placed_pels rows.row) ahead.a0 in
+      ap (λ m. mode_bits m ++ run_pair_bits m (placed_pels rows.row) ahead.a0 at) (mode_is ∙ sym chosen ∙ is_horizontal)
       ∙ ap (λ b. mode_bits Horizontal ++ b) pair_is
 
   -- a1 under b1
-  under_mode : ahead.a1 ≡ ahead.b1 → mode_from (reference_of rows) (written_of rows) ahead.a0 ≡ Vertical (pos 0)
+  under_mode : ahead.a1 ≡ ahead.b1 → mode_from (placed_pels rows.reference) (placed_pels rows.row) ahead.a0 ≡ Vertical (pos 0)
   under_mode same =
-      let second = b2_ahead rows.reference.now rows.reference_end rows.width rows.reference_placed ahead.reference is.reference.some
+      let second = b2_ahead rows.reference ahead.reference is.reference.some
       is.reference.within in
       let order : ahead.a1 ≤ ahead.b2 = omega (arith, second, same, is.b1_at, is.b2_at) in
       let no_pass : nat_lt ahead.b2 ahead.a1 ≡ false = grind (arith, nat_tests) in
       let under : pos ahead.a1 -ℤ pos ahead.b1 ≡ pos 0 = omega (arith, ints) in
       mode_is ∙ rw (no_pass, under) refl
 
-  pub under_bits : ahead.a1 ≡ ahead.b1 → bits_from (reference_of rows) (written_of rows) ahead.a0 ≡ mode_bits (Vertical (pos 0))
+  pub under_bits : ahead.a1 ≡ ahead.b1 → bits_from (placed_pels rows.reference) (placed_pels rows.row) ahead.a0 ≡ mode_bits
+      (Vertical (pos 0))
   under_bits same =
-      let at = places (reference_of rows) (written_of rows) ahead.a0 in
-      ap (λ m. mode_bits m ++ run_pair_bits m (written_of rows) ahead.a0 at) (under_mode same) ∙ append-nil (mode_bits (Vertical (pos 0)))
+      let at = places (placed_pels rows.reference) (placed_pels rows.row) ahead.a0 in
+      ap (λ m. mode_bits m ++ run_pair_bits m (placed_pels rows.row) ahead.a0 at) (under_mode same) ∙ append-nil
+      (mode_bits (Vertical (pos 0)))
 
-  pub under_place : ahead.a1 ≡ ahead.b1 → ahead.a1 ≡ place_from (reference_of rows) (written_of rows) ahead.a0
+  pub under_place : ahead.a1 ≡ ahead.b1 → ahead.a1 ≡ place_from (placed_pels rows.reference) (placed_pels rows.row) ahead.a0
   under_place same =
-      let at = places (reference_of rows) (written_of rows) ahead.a0 in
+      let at = places (placed_pels rows.reference) (placed_pels rows.row) ahead.a0 in
       sym (ap (λ m. next_a0 m at) (under_mode same) ∙ sym is.a1)
 
 -- before the first step a1 and b1 are the first changes

@@ -4,6 +4,7 @@ pub mod FirstOther
 pub mod LongestRuns
 pub mod Reached
 pub mod Turns
+pub mod PlacedRow
 pub mod PlacedReached
 pub mod PackedWord
 pub mod Unpacked

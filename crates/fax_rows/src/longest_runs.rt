@@ -70,7 +70,7 @@ impl<'a> LongestRuns<'a> {
 }
 
 /// Whether these are the longest runs of a row of this width.
-pub fn are_longest(runs: &[u32], width: u32) -> bool
+pub(crate) fn are_longest(runs: &[u32], width: u32) -> bool
     ensures { IsTrue result ↔ AreLongest runs.now width }
 {
     let mut left = width;
@@ -84,7 +84,7 @@ pub fn are_longest(runs: &[u32], width: u32) -> bool
 }
 
 /// Puts the places where runs end, white first, and answers where these places end.
-pub fn put_runs(places: &mut [u32], runs: &[u32], width: u32) -> usize
+pub(crate) fn put_runs(places: &mut [u32], runs: &[u32], width: u32) -> usize
     requires short { width < 2 ^ 16 }
     requires room { length places.old ≡ width + 4 }
     requires first { slice_index places.old 0 ≡ 0 }

@@ -21,7 +21,8 @@ pub(crate) const WORD: u32 = 64;
 impl Row {
     /// The row of `width` pels, 1 to 65,535, that these bytes hold: pel `i` is black where bit `i`
     /// is 1, the highest bit of each byte first. The bits after the last pel are ignored. The row
-    /// has all the memory that one of this width can need.
+    /// has all the memory that one of this width can need. It is for other callers: a row that is
+    /// kept takes its pels by `set_packed`.
     ///
     /// # Errors
     ///

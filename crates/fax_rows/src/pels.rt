@@ -5,7 +5,8 @@ ghost use Rattle.std.specs.List.{filter, range_with_len};
 ghost use Rattle.fax_rows.specs.Elements.{other as other_than, runs_of, is_changing, pel as pel_of};
 
 use crate::longest_runs::{LongestRuns, are_longest, put_runs};
-use crate::turns::{close, copy_places, places_up_to, turn_first};
+use crate::rows::PlacedRow;
+use crate::turns::{close, colour_after, copy_places, places_up_to, turn_first};
 use fax_bits::{Colour, Memory};
 use std::alloc::Global;
 use std::marker::Model;
@@ -33,6 +34,20 @@ impl Model for Row {
 }
 
 impl Row {
+    ghost use Rattle.fax_rows.specs.code.PlacedRow.{placed_pels};
+
+    /// The row, lent as its places of change.
+    #[inline(always)]
+    pub(crate) fn placed(&self) -> PlacedRow<'_>
+        ensures { placed_pels result ≡ self.now }
+    {
+        PlacedRow {
+            places: &self.places,
+            end: self.end,
+            width: self.width,
+        }
+    }
+
     /// A row of white pels, with all the memory that a row of this width can need.
     ///
     /// # Errors
@@ -69,11 +84,7 @@ impl Row {
         requires { i < length self.now }
         ensures { result ≡ pel_of self.now i }
     {
-        if places_up_to(&self.places, self.end, i) % 2 == 1 {
-            Colour::White
-        } else {
-            Colour::Black
-        }
+        colour_after(places_up_to(&self.places, self.end, i))
     }
 
     /// The changing elements, from left to right (T.4, section 4.2.1.3.1).

@@ -3,50 +3,45 @@ ghost use Rattle.std.specs.Prelude.{◌≡◌, ℕ, ◌≤◌, ◌<◌, ◌&&◌
 ghost use Rattle.fax_rows.specs.Elements as Spec;
 
 use crate::pels::Row;
-use crate::turns::places_up_to;
 use fax_bits::Colour;
 
 impl Row {
     /// The place of the next changing element right of `from`, or the width where there is none
-    /// (T.4, section 4.2.1.3.1). `None` is the place just before the first pel.
+    /// (T.4, section 4.2.1.3.1). `None` is the place just before the first pel. It is for other
+    /// callers: the coders here go by the index of a change.
     pub fn next_change(&self, from: Option<u32>) -> u32
         ensures place { result ≡ Spec.next_change self.now from }
         ensures within { result ≤ length self.now }
         ensures right { result < length self.now → Spec.is_right_of from result ≡ true }
     {
-        match from {
-            None => self.places[1],
-            Some(place) => self.places[places_up_to(&self.places, self.end, place)],
-        }
+        let row = self.placed();
+        row.places[row.change_after(from)]
     }
 
     /// The place of the next changing element right of `from` that is not of this colour, or the
     /// width where there is none (T.4, section 4.2.1.3.1). `None` is the place just before the
-    /// first pel.
+    /// first pel. It is for other callers, as `next_change` is.
     pub fn next_of(&self, from: Option<u32>, colour: Colour) -> u32
         ensures place { result ≡ Spec.next_of self.now from colour }
         ensures within { result ≤ length self.now }
         ensures right { result < length self.now → Spec.is_right_of from result ≡ true }
     {
-        let width = self.width();
-        let mut place = self.next_change(from);
-        while place < width && self.pel(place) == colour {
-            place = self.next_change(Some(place));
-        }
-        place
+        let row = self.placed();
+        row.places[row.b1_from(from, colour)]
     }
 }
 
 /// The places b1 and b2 of the reference row as seen from a0, where `None` is just before the first
 /// pel, and a0's colour. b1 is the first changing element right of a0 and of the opposite colour,
 /// b2 the next changing element right of b1; each is the width where there is none (T.4, section
-/// 4.2.1.3.1).
+/// 4.2.1.3.1). It is for other callers, as `Row::next_change` is.
 pub fn b1_b2(reference: &Row, a0: Option<u32>, colour: Colour) -> (u32, u32)
     ensures first { result.0 ≡ Spec.b1 reference.now a0 colour }
     ensures second { result.1 ≡ Spec.b2 reference.now a0 colour }
     ensures within { result.1 ≤ length reference.now }
     ensures right { result.1 < length reference.now → Spec.is_right_of a0 result.1 ≡ true }
 {
-    let b1 = reference.next_of(a0, colour);
-    (b1, reference.next_change(Some(b1)))
+    let row = reference.placed();
+    let b1 = row.b1_from(a0, colour);
+    (row.places[b1], row.places[b1 + 1])
 }

@@ -5,13 +5,13 @@ ghost use Rattle.std.specs.Prelude.{None, OnOk, OnErr, IfOk};
 ghost use Rattle.fax_bits.specs.code.Sink.{Appends, AppendsPrefix};
 ghost use Rattle.fax_rows.specs.code.Ahead as Spec;
 ghost use Rattle.fax_rows.specs.Coded as Coded;
-ghost use Rattle.fax_rows.specs.code.Turns.{alternate};
+ghost use Rattle.fax_rows.specs.code.PlacedRow.{placed_pels};
 
 use crate::longest_runs::LongestRuns;
 use crate::pels::Row;
 use crate::rows::Rows;
 use crate::runs::other;
-use crate::two_dimensional::{find_b1, find_turned_b1};
+use crate::turns::colour_after;
 use fax_bits::{BitSink, Colour, Memory, ModeCode, put_mode, put_run};
 
 /// Puts a row in one-dimensional coding: the longest runs of white and black pels in turn, white
@@ -47,7 +47,7 @@ struct Written {
 
 /// What stands ahead of a0 on the row that is written and on its reference row.
 #[derive(Clone, Copy)]
-struct Ahead {
+struct ChangesAhead {
     /// Where the next step begins: `None` is just before the first pel.
     a0: Option<u32>,
     /// The colour of a0.
@@ -62,34 +62,22 @@ struct Ahead {
     reference: usize,
 }
 
-/// The colour after so many places, the first of which turns black to white.
-#[inline(always)]
-pub fn colour_behind(places: usize) -> Colour
-    ensures { result ≡ alternate Colour.Black places }
-{
-    if places % 2 == 1 {
-        Colour::White
-    } else {
-        Colour::Black
-    }
-}
-
-impl Ahead {
+impl ChangesAhead {
     /// What stands ahead inside a row.
     #[inline(always)]
-    fn of(rows: Rows, at: Written) -> Ahead
+    fn of(rows: Rows, at: Written) -> ChangesAhead
         requires places { Spec.IsWrittenTo rows at }
-        requires unfinished { unwrap_or at.a0 0 < rows.width }
+        requires unfinished { unwrap_or at.a0 0 < rows.row.width }
         ensures places { Spec.IsAhead rows.entry result }
         ensures start { result.a0 ≡ at.a0 }
     {
-        Ahead {
+        ChangesAhead {
             a0: at.a0,
-            colour: colour_behind(at.row),
-            a1: rows.row[at.row],
-            a2: rows.row[at.row + 1],
-            b1: rows.reference[at.reference],
-            b2: rows.reference[at.reference + 1],
+            colour: colour_after(at.row),
+            a1: rows.row.places[at.row],
+            a2: rows.row.places[at.row + 1],
+            b1: rows.reference.places[at.reference],
+            b2: rows.reference.places[at.reference + 1],
             row: at.row,
             reference: at.reference,
         }
@@ -97,9 +85,9 @@ impl Ahead {
 
     /// After pass mode: a0 is put under b2.
     #[inline(always)]
-    fn behind_pass(self, rows: Rows) -> Written
+    fn after_pass(self, rows: Rows) -> Written
         requires places { Spec.IsAhead rows self }
-        requires unfinished { unwrap_or self.a0 0 < rows.width }
+        requires unfinished { unwrap_or self.a0 0 < rows.row.width }
         requires left { self.b2 < self.a1 }
         ensures places { Spec.IsWrittenTo rows.entry result }
         ensures start { result.a0 ≡ Some self.b2 }
@@ -113,9 +101,9 @@ impl Ahead {
 
     /// After a1 that is under b1: the next b1 is the reference row's next changing element.
     #[inline(always)]
-    fn behind_b1(self, rows: Rows) -> Written
+    fn after_b1(self, rows: Rows) -> Written
         requires places { Spec.IsAhead rows self }
-        requires unfinished { unwrap_or self.a0 0 < rows.width }
+        requires unfinished { unwrap_or self.a0 0 < rows.row.width }
         requires same { self.a1 ≡ self.b1 }
         ensures places { Spec.IsWrittenTo rows.entry result }
         ensures start { result.a0 ≡ Some self.a1 }
@@ -129,53 +117,31 @@ impl Ahead {
 
     /// After any a1.
     #[inline(always)]
-    fn behind_a1(self, rows: Rows) -> Written
+    fn after_a1(self, rows: Rows) -> Written
         requires places { Spec.IsAhead rows self }
-        requires unfinished { unwrap_or self.a0 0 < rows.width }
+        requires unfinished { unwrap_or self.a0 0 < rows.row.width }
         ensures places { Spec.IsWrittenTo rows.entry result }
         ensures start { result.a0 ≡ Some self.a1 }
     {
-        let reference = if self.a1 < rows.width {
-            find_turned_b1(
-                rows.reference,
-                rows.reference_end,
-                rows.width,
-                self.reference,
-                self.a1,
-            )
-        } else {
-            self.reference
-        };
         Written {
             a0: Some(self.a1),
             row: self.row + 1,
-            reference,
+            reference: rows.reference.turned_b1_after(self.reference, self.a1),
         }
     }
 
     /// After horizontal mode: a0 is put on a2.
     #[inline(always)]
-    fn behind_a2(self, rows: Rows) -> Written
+    fn after_a2(self, rows: Rows) -> Written
         requires places { Spec.IsAhead rows self }
-        requires unfinished { unwrap_or self.a0 0 < rows.width }
+        requires unfinished { unwrap_or self.a0 0 < rows.row.width }
         ensures places { Spec.IsWrittenTo rows.entry result }
         ensures start { result.a0 ≡ Some self.a2 }
     {
-        let reference = if self.a2 < rows.width {
-            find_b1(
-                rows.reference,
-                rows.reference_end,
-                rows.width,
-                self.reference,
-                self.a2,
-            )
-        } else {
-            self.reference
-        };
         Written {
             a0: Some(self.a2),
             row: self.row + 2,
-            reference,
+            reference: rows.reference.b1_after(self.reference, self.a2),
         }
     }
 }
@@ -201,7 +167,7 @@ fn choose(a1: u32, b1: u32, b2: u32) -> ModeCode
 
 /// Puts the two runs of horizontal mode, a0a1 and a1a2 (T.4, section 4.2.1.3.2).
 #[inline(always)]
-fn put_run_pair(ahead: Ahead, sink: &mut BitSink) -> Result<(), Memory>
+fn put_run_pair(ahead: ChangesAhead, sink: &mut BitSink) -> Result<(), Memory>
     requires a0 { unwrap_or ahead.a0 0 ≤ ahead.a1 }
     requires a1 { ahead.a1 ≤ ahead.a2 }
     requires short { ahead.a2 < 2 ^ 16 }
@@ -215,35 +181,35 @@ fn put_run_pair(ahead: Ahead, sink: &mut BitSink) -> Result<(), Memory>
 
 /// Puts the step from a0 where a1 is not under b1, and answers how far the row is written then.
 #[inline(always)]
-fn put_far_step(rows: Rows, ahead: Ahead, sink: &mut BitSink) -> Result<Written, Memory>
+fn put_far_step(rows: Rows, ahead: ChangesAhead, sink: &mut BitSink) -> Result<Written, Memory>
     requires places { Spec.IsAhead rows ahead }
-    requires unfinished { unwrap_or ahead.a0 0 < rows.width }
+    requires unfinished { unwrap_or ahead.a0 0 < rows.row.width }
     ensures ok { OnOk result (Appends sink.old
-        (Spec.bits_from (Spec.reference_of rows.entry)
-        (Spec.written_of rows.entry) ahead.a0) sink.new) }
+        (Spec.bits_from (placed_pels rows.entry.reference)
+        (placed_pels rows.entry.row) ahead.a0) sink.new) }
     ensures next { IfOk result (λ next. next.a0
-        ≡ Some (Spec.place_from (Spec.reference_of rows.entry)
-        (Spec.written_of rows.entry) ahead.a0)) }
+        ≡ Some (Spec.place_from (placed_pels rows.entry.reference)
+        (placed_pels rows.entry.row) ahead.a0)) }
     ensures places { IfOk result (λ next. Spec.IsWrittenTo rows.entry next) }
     ensures err { OnErr result (AppendsPrefix sink.old
-        (Spec.bits_from (Spec.reference_of rows.entry)
-        (Spec.written_of rows.entry) ahead.a0) sink.new) }
+        (Spec.bits_from (placed_pels rows.entry.reference)
+        (placed_pels rows.entry.row) ahead.a0) sink.new) }
 {
     let mode = choose(ahead.a1, ahead.b1, ahead.b2);
     match mode {
         ModeCode::Pass => {
             put_mode(sink, ModeCode::Pass)?;
-            Ok(ahead.behind_pass(rows))
+            Ok(ahead.after_pass(rows))
         }
         ModeCode::Horizontal => {
             put_mode(sink, ModeCode::Horizontal)?;
             put_run_pair(ahead, sink)?;
-            Ok(ahead.behind_a2(rows))
+            Ok(ahead.after_a2(rows))
         }
         // An extension is never chosen.
         ModeCode::Vertical(_) | ModeCode::Extension => {
             put_mode(sink, mode)?;
-            Ok(ahead.behind_a1(rows))
+            Ok(ahead.after_a1(rows))
         }
     }
 }
@@ -252,22 +218,22 @@ fn put_far_step(rows: Rows, ahead: Ahead, sink: &mut BitSink) -> Result<Written,
 #[inline(always)]
 fn put_step(rows: Rows, at: Written, sink: &mut BitSink) -> Result<Written, Memory>
     requires places { Spec.IsWrittenTo rows at }
-    requires unfinished { unwrap_or at.a0 0 < rows.width }
+    requires unfinished { unwrap_or at.a0 0 < rows.row.width }
     ensures ok { OnOk result (Appends sink.old
-        (Spec.bits_from (Spec.reference_of rows.entry)
-        (Spec.written_of rows.entry) at.a0) sink.new) }
+        (Spec.bits_from (placed_pels rows.entry.reference)
+        (placed_pels rows.entry.row) at.a0) sink.new) }
     ensures next { IfOk result (λ next. next.a0
-        ≡ Some (Spec.place_from (Spec.reference_of rows.entry)
-        (Spec.written_of rows.entry) at.a0)) }
+        ≡ Some (Spec.place_from (placed_pels rows.entry.reference)
+        (placed_pels rows.entry.row) at.a0)) }
     ensures places { IfOk result (λ next. Spec.IsWrittenTo rows.entry next) }
     ensures err { OnErr result (AppendsPrefix sink.old
-        (Spec.bits_from (Spec.reference_of rows.entry)
-        (Spec.written_of rows.entry) at.a0) sink.new) }
+        (Spec.bits_from (placed_pels rows.entry.reference)
+        (placed_pels rows.entry.row) at.a0) sink.new) }
 {
-    let ahead = Ahead::of(rows, at);
+    let ahead = ChangesAhead::of(rows, at);
     if ahead.a1 == ahead.b1 {
         put_mode(sink, ModeCode::Vertical(0))?;
-        return Ok(ahead.behind_b1(rows));
+        return Ok(ahead.after_b1(rows));
     }
     put_far_step(rows, ahead, sink)
 }
@@ -275,16 +241,16 @@ fn put_step(rows: Rows, at: Written, sink: &mut BitSink) -> Result<Written, Memo
 /// Puts the steps of a row.
 fn put_steps(rows: Rows, sink: &mut BitSink) -> Result<(), Memory>
     ensures ok { OnOk result (Appends sink.old (Coded.two_dimensional_bits
-        (Spec.reference_of rows.entry) (Spec.written_of rows.entry)) sink.new) }
+        (placed_pels rows.entry.reference) (placed_pels rows.entry.row)) sink.new) }
     ensures err { OnErr result (AppendsPrefix sink.old (Coded.two_dimensional_bits
-        (Spec.reference_of rows.entry) (Spec.written_of rows.entry)) sink.new) }
+        (placed_pels rows.entry.reference) (placed_pels rows.entry.row)) sink.new) }
 {
     let mut at = Written {
         a0: None,
         row: 1,
         reference: 1,
     };
-    while at.a0.unwrap_or(0) < rows.width {
+    while at.a0.unwrap_or(0) < rows.row.width {
         at = put_step(rows, at, sink)?;
     }
     Ok(())
@@ -304,11 +270,8 @@ pub fn put_2d(reference: &Row, row: &Row, sink: &mut BitSink) -> Result<(), Memo
         (AppendsPrefix sink.old (Coded.two_dimensional_bits reference.now row.now) sink.new) }
 {
     let rows = Rows {
-        reference: &reference.places,
-        reference_end: reference.end,
-        row: &row.places,
-        row_end: row.end,
-        width: row.width,
+        reference: reference.placed(),
+        row: row.placed(),
     };
     put_steps(rows, sink)
 }

@@ -11,7 +11,7 @@ use crate::RowFault;
 use fax_bits::{BitSource, BlackRuns, CodeFault, Colour, RunCode, WhiteRuns, read_code};
 
 /// The opposite colour.
-pub fn other(colour: Colour) -> Colour
+pub(crate) fn other(colour: Colour) -> Colour
     ensures { result ≡ other_than colour }
 {
     match colour {
@@ -37,7 +37,7 @@ fn read_run_code(source: &mut BitSource, colour: Colour) -> Result<RunCode, Code
 
 /// Reads a run of the colour whose first pel is `from`, and answers how many pels it has.
 #[inline(always)]
-pub fn read_run(
+pub(crate) fn read_run(
     source: &mut BitSource,
     colour: Colour,
     width: u32,

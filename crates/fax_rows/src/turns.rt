@@ -3,8 +3,22 @@
 ghost use Rattle.std.specs.Prelude.{◌≡◌, ℕ, ◌+◌, ◌-◌, ◌≤◌, ◌<◌, ◌^◌, length, take, slice_index};
 ghost use Rattle.fax_rows.specs.code.Turns as Spec;
 
+use fax_bits::Colour;
+
+/// The colour after so many places, the first of which turns black to white.
+#[inline(always)]
+pub(crate) fn colour_after(places: usize) -> Colour
+    ensures { result ≡ Spec.alternate Colour.Black places }
+{
+    if places % 2 == 1 {
+        Colour::White
+    } else {
+        Colour::Black
+    }
+}
+
 /// How many of the places before `end` are not right of `i`.
-pub fn places_up_to(places: &[u32], end: usize, i: u32) -> usize
+pub(crate) fn places_up_to(places: &[u32], end: usize, i: u32) -> usize
     requires started { 0 < end }
     requires within { end ≤ length places.now }
     requires first { slice_index places.now 0 ≡ 0 }
@@ -25,7 +39,7 @@ pub fn places_up_to(places: &[u32], end: usize, i: u32) -> usize
 
 /// Turns the colour from a place on, and answers where the places end: it puts the place after the
 /// last one, or takes the last one away where it is the same.
-pub fn turn(places: &mut [u32], end: usize, place: u32) -> usize
+pub(crate) fn turn(places: &mut [u32], end: usize, place: u32) -> usize
     requires ascending { Spec.IsAscending places.old end }
     requires last { slice_index places.old (end - 1) ≤ place }
     requires room { end < length places.old }
@@ -44,7 +58,7 @@ pub fn turn(places: &mut [u32], end: usize, place: u32) -> usize
 /// What `turn` does, after a run of pels that ends at the place: where it has some, the last place
 /// is another one.
 #[inline(always)]
-pub fn turn_behind(places: &mut [u32], end: usize, place: u32, run: u32) -> usize
+pub(crate) fn turn_behind(places: &mut [u32], end: usize, place: u32, run: u32) -> usize
     requires ascending { Spec.IsAscending places.old end }
     requires last { slice_index places.old (end - 1) + run ≤ place }
     requires room { end < length places.old }
@@ -62,7 +76,7 @@ pub fn turn_behind(places: &mut [u32], end: usize, place: u32, run: u32) -> usiz
 /// Turns the colour from a place on that is right of the last one, and answers where the places
 /// end.
 #[inline(always)]
-pub fn turn_right(places: &mut [u32], end: usize, place: u32) -> usize
+pub(crate) fn turn_right(places: &mut [u32], end: usize, place: u32) -> usize
     requires ascending { Spec.IsAscending places.old end }
     requires right { 1 < end → slice_index places.old (end - 1) < place }
     requires room { end < length places.old }
@@ -92,7 +106,7 @@ fn end_below(places: &[u32], end: usize, width: u32) -> usize
 }
 
 /// Puts the width after the places of a row, and answers where its changes end.
-pub fn close(places: &mut [u32], end: usize, width: u32) -> usize
+pub(crate) fn close(places: &mut [u32], end: usize, width: u32) -> usize
     requires some { 0 < width }
     requires short { width < 2 ^ 16 }
     requires room { length places.old ≡ width + 4 }
@@ -110,7 +124,7 @@ pub fn close(places: &mut [u32], end: usize, width: u32) -> usize
 
 /// Turns the colours of all pels, and answers where the places end then: a change at the first pel
 /// is put, or taken away.
-pub fn turn_first(places: &mut [u32], end: usize, width: u32) -> usize
+pub(crate) fn turn_first(places: &mut [u32], end: usize, width: u32) -> usize
     requires { Spec.ArePlaces places.old end width }
     ensures placed { Spec.ArePlaces places.new result width }
     ensures turned { Spec.IsTurnedFrom (take end places.old) (take result places.new) 0 }
@@ -125,7 +139,7 @@ pub fn turn_first(places: &mut [u32], end: usize, width: u32) -> usize
 }
 
 /// Takes the places of another row of the same width.
-pub fn copy_places(places: &mut [u32], other: &[u32], end: usize, width: u32)
+pub(crate) fn copy_places(places: &mut [u32], other: &[u32], end: usize, width: u32)
     requires row { Spec.ArePlaces other.now end width }
     requires room { length places.old ≡ width + 4 }
     ensures placed { Spec.ArePlaces places.new end width }

@@ -7,6 +7,7 @@ use Rattle.std.proofs.lemmas.Bool.Decides.{nat_tests}
 use Rattle.std.proofs.lemmas.List.{get_or-map, length-map}
 use Rattle.std.proofs.lemmas.Option.{slice_get_within, get_or_from_slice_get}
 use Rattle.fax_bits.specs.declared.codes.CodeEntry.{CodeEntry}
+use Rattle.fax_bits.specs.declared.codes.TheConstants.{LONGEST_CODE}
 use Rattle.fax_bits.specs.Codes.{bits_of, HasShortCodes, IsPrefixFree}
 
 -- the first list begins the second
@@ -32,7 +33,7 @@ prefix_free_test (code ∷ codes) = none_starts code codes && prefix_free_test c
 abbrev pub short_codes_test : {M : Type 0} → List (CodeEntry M) → Bool
 short_codes_test [] = true
 short_codes_test (entry ∷ table) =
-    ((nat_lt 0 entry.len && nat_le entry.len 13) && nat_lt entry.code (2 ^ entry.len))
+    ((nat_lt 0 entry.len && nat_le entry.len LONGEST_CODE) && nat_lt entry.code (2 ^ entry.len))
     && short_codes_test table
 
 and_both : (a b : Bool) → (a && b) ≡ true → (a ≡ true) × (b ≡ true)
@@ -106,25 +107,25 @@ is_prefix_free table free i j entry other more here there is =
 
 entry_is_short : {M : Type 0} (table : List (CodeEntry M)) (i : ℕ) (entry : CodeEntry M)
     → short_codes_test table ≡ true → i < length table
-    → get_or table i entry ≡ entry → (0 < entry.len) × (entry.len ≤ 13)
+    → get_or table i entry ≡ entry → (0 < entry.len) × (entry.len ≤ LONGEST_CODE)
     × (entry.code < 2 ^ entry.len)
 entry_is_short [] i entry short within is = absurd (omega arith)
 entry_is_short (first ∷ table) zero entry short within is =
-    let here = and_both ((nat_lt 0 first.len && nat_le first.len 13)
+    let here = and_both ((nat_lt 0 first.len && nat_le first.len LONGEST_CODE)
     && nat_lt first.code (2 ^ first.len)) (short_codes_test table) short in
-    let lengths = and_both (nat_lt 0 first.len && nat_le first.len 13)
+    let lengths = and_both (nat_lt 0 first.len && nat_le first.len LONGEST_CODE)
     (nat_lt first.code (2 ^ first.len)) here.0 in
-    let ends = and_both (nat_lt 0 first.len) (nat_le first.len 13) lengths.0 in
-    let P : CodeEntry _ → Type 0 = λ e. (0 < e.len) × (e.len ≤ 13) × (e.code < 2 ^ e.len) in
+    let ends = and_both (nat_lt 0 first.len) (nat_le first.len LONGEST_CODE) lengths.0 in
+    let P : CodeEntry _ → Type 0 = λ e. (0 < e.len) × (e.len ≤ LONGEST_CODE) × (e.code < 2 ^ e.len) in
     subst P is (
       lt-from_test 0 first.len ends.0,
-      le-from_test first.len 13 ends.1,
+      le-from_test first.len LONGEST_CODE ends.1,
       lt-from_test
           first.code (2 ^ first.len) lengths.1,
     )
 entry_is_short (first ∷ table) (suc i) entry short within is =
     entry_is_short table i entry
-    (and_both ((nat_lt 0 first.len && nat_le first.len 13) && nat_lt first.code (2 ^ first.len))
+    (and_both ((nat_lt 0 first.len && nat_le first.len LONGEST_CODE) && nat_lt first.code (2 ^ first.len))
     (short_codes_test table) short).1
     (omega arith) is
 

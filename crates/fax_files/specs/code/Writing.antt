@@ -6,6 +6,7 @@ use Rattle.fax_files.specs.declared.PageForm.{PageForm}
 use Rattle.fax_files.specs.declared.written.Layout.{Layout}
 use Rattle.fax_files.specs.Tags
 use Rattle.fax_files.specs.Written.{Written, with_page, max_file, to_offsets, four, long_field}
+use Rattle.fax_files.specs.Written.{WrittenPage, with_pages, empty_file, file_of}
 use Rattle.fax_files.specs.Written.{WrittenField, fields_with, fields_bytes, values_bytes}
 use Rattle.fax_files.specs.Written.{offsets_from, lengths_of}
 
@@ -66,3 +67,24 @@ pub record IsLayout (at : Layout) (strips start end number total : ℕ) : Type 0
   pub offsets_are : at.offsets ≡ (if strips == 1 then start else (at.directory + to_offsets))
   pub byte_counts_are : at.byte_counts
       ≡ (if strips == 1 then (end - start) else (at.directory + to_offsets + 4 * strips))
+
+-- these pages of so many were added, and no more
+abbrev pub HasAdded : ℕ → List WrittenPage → Writing → Type 0
+HasAdded total pages writing =
+    writing ≡ record {
+      written = with_pages empty_file total 0 pages;
+      total = total;
+      added = length pages;
+    }
+
+-- a writer that adds pages one after another, from its beginning on, gives the bytes of their file
+pub record WritesPageByPage : Type 0 where
+  pub begins : (total : ℕ)
+      → HasAdded total [] (record { written = empty_file; total = total; added = 0 })
+  pub goes_on : (total : ℕ) (pages : List WrittenPage) (old : Writing) (form : PageForm)
+      (strips : List (Vec ℕ Global)) → HasAdded total pages old
+      → HasAdded total (pages ++ record { form = form; strips = contents strips } ∷ [])
+      (with_one_more old form strips)
+  pub finishes : (total : ℕ) (pages : List WrittenPage) (writing : Writing)
+      → HasAdded total pages writing → writing.added ≡ writing.total
+      → writing.written.bytes ≡ file_of pages

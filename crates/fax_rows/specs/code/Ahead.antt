@@ -5,43 +5,37 @@ use Rattle.fax_bits.specs.declared.Colour.{Colour}
 use Rattle.fax_bits.specs.declared.Colour.TheVariants.{Black}
 use Rattle.fax_bits.specs.declared.modes.ModeCode.{ModeCode}
 use Rattle.fax_bits.specs.Runs.{run_bits, mode_bits}
-use Rattle.fax_rows.specs.declared.put.Ahead.{Ahead}
+use Rattle.fax_rows.specs.declared.put.ChangesAhead.{ChangesAhead}
 use Rattle.fax_rows.specs.declared.put.Written.{Written}
 use Rattle.fax_rows.specs.declared.rows.Rows.{Rows}
 use Rattle.fax_rows.specs.Coded.{places, colour_of, chosen_mode, run_pair_bits, next_a0}
 use Rattle.fax_rows.specs.Elements.{other, next_change, b1, b2}
-use Rattle.fax_rows.specs.code.Turns.{row_of, alternate, IsFrom, IsB1At}
-
--- the row that is written
-abbrev pub written_of : Rows → List Colour
-written_of rows = row_of rows.row.now rows.row_end rows.width
-
--- its reference row
-abbrev pub reference_of : Rows → List Colour
-reference_of rows = row_of rows.reference.now rows.reference_end rows.width
+use Rattle.fax_rows.specs.code.PlacedRow.{placed_pels, IsB1At}
+use Rattle.fax_rows.specs.code.Turns.{alternate, IsFrom}
 
 -- the indexes are those of a1 and b1 as seen from a0, while the row is not at its end
 -- (T.4, section 4.2.1.3.1)
 pub record IsWrittenTo (rows : Rows) (at : Written) : Type 0 where
-  pub row : unwrap_or at.a0 0 < rows.width → IsFrom rows.row.now rows.row_end at.a0 at.row
-  pub reference : unwrap_or at.a0 0 < rows.width
-      → IsB1At rows.reference.now rows.reference_end at.a0 (alternate Black at.row) at.reference
+  pub row : unwrap_or at.a0 0 < rows.row.width
+      → IsFrom rows.row.places.now rows.row.end at.a0 at.row
+  pub reference : unwrap_or at.a0 0 < rows.row.width
+      → IsB1At rows.reference at.a0 (alternate Black at.row) at.reference
 
 -- the places are those of the two rows as seen from a0 inside the row, and stand at these indexes
 -- (T.4, section 4.2.1.3.1)
-pub record IsAhead (rows : Rows) (ahead : Ahead) : Type 0 where
-  pub a1 : ahead.a1 ≡ next_change (written_of rows) ahead.a0
-  pub a2 : ahead.a2 ≡ next_change (written_of rows) (Some ahead.a1)
-  pub b1 : ahead.b1 ≡ b1 (reference_of rows) ahead.a0 ahead.colour
-  pub b2 : ahead.b2 ≡ b2 (reference_of rows) ahead.a0 ahead.colour
-  pub colour : ahead.colour ≡ colour_of (written_of rows) ahead.a0
+pub record IsAhead (rows : Rows) (ahead : ChangesAhead) : Type 0 where
+  pub a1 : ahead.a1 ≡ next_change (placed_pels rows.row) ahead.a0
+  pub a2 : ahead.a2 ≡ next_change (placed_pels rows.row) (Some ahead.a1)
+  pub b1 : ahead.b1 ≡ b1 (placed_pels rows.reference) ahead.a0 ahead.colour
+  pub b2 : ahead.b2 ≡ b2 (placed_pels rows.reference) ahead.a0 ahead.colour
+  pub colour : ahead.colour ≡ colour_of (placed_pels rows.row) ahead.a0
   pub behind : ahead.colour ≡ alternate Black ahead.row
-  pub row : IsFrom rows.row.now rows.row_end ahead.a0 ahead.row
-  pub reference : IsB1At rows.reference.now rows.reference_end ahead.a0 ahead.colour ahead.reference
-  pub a1_at : ahead.a1 ≡ slice_index rows.row.now ahead.row
-  pub a2_at : ahead.a2 ≡ slice_index rows.row.now (ahead.row + 1)
-  pub b1_at : ahead.b1 ≡ slice_index rows.reference.now ahead.reference
-  pub b2_at : ahead.b2 ≡ slice_index rows.reference.now (ahead.reference + 1)
+  pub row : IsFrom rows.row.places.now rows.row.end ahead.a0 ahead.row
+  pub reference : IsB1At rows.reference ahead.a0 ahead.colour ahead.reference
+  pub a1_at : ahead.a1 ≡ slice_index rows.row.places.now ahead.row
+  pub a2_at : ahead.a2 ≡ slice_index rows.row.places.now (ahead.row + 1)
+  pub b1_at : ahead.b1 ≡ slice_index rows.reference.places.now ahead.reference
+  pub b2_at : ahead.b2 ≡ slice_index rows.reference.places.now (ahead.reference + 1)
 
 -- the mode of the step from a0 (T.4, section 4.2.1.3.3)
 abbrev pub mode_from : List Colour → List Colour → Option ℕ → ModeCode
@@ -58,6 +52,6 @@ abbrev pub place_from : List Colour → List Colour → Option ℕ → ℕ
 place_from reference row a0 = next_a0 (mode_from reference row a0) (places reference row a0)
 
 -- the runs a0a1 and a1a2, the first of a0's colour (T.4, section 4.2.1.3.2)
-abbrev pub run_pair : Ahead → List Bool
+abbrev pub run_pair : ChangesAhead → List Bool
 run_pair ahead = run_bits ahead.colour (ahead.a1 - unwrap_or ahead.a0 0) ++ run_bits
     (other ahead.colour) (ahead.a2 - ahead.a1)

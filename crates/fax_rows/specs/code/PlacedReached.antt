@@ -1,10 +1,12 @@
 -- How far a row is read in two-dimensional coding into its places of change.
 use Rattle.std.specs.Prelude.{◌≡◌, ℕ, ◌+◌, ◌-◌, ◌≤◌, ◌<◌, List, None, length, take, slice_index}
 use Rattle.fax_bits.specs.declared.Colour.TheVariants.{Black}
-use Rattle.fax_rows.specs.declared.two_dimensional.PlacedReached.{PlacedReached}
+use Rattle.fax_rows.specs.declared.two_dimensional.steps.PlacedReached.{PlacedReached}
 use Rattle.fax_rows.specs.TwoDimensional.{Position}
 use Rattle.fax_rows.specs.code.Reached.{reached_pel, position_of}
-use Rattle.fax_rows.specs.code.Turns.{turned, pels_by, IsAscending, IsB1At}
+use Rattle.fax_rows.specs.declared.rows.PlacedRow.{PlacedRow}
+use Rattle.fax_rows.specs.code.PlacedRow.{IsB1At}
+use Rattle.fax_rows.specs.code.Turns.{turned, pels_by, IsAscending}
 
 -- the position on the row of the places that are put (T.4, section 4.2.1.3.1)
 abbrev pub placed_position : ℕ → List ℕ → PlacedReached → Position
@@ -12,14 +14,13 @@ placed_position width places at = position_of at.reached (pels_by width (take at
 
 -- the places that are put are those of the pels before a0, after which the row has a0's colour,
 -- none just before the first pel, and the index is that of b1 while the row is not at its end
-pub record IsReadTo (reference : List ℕ) (reference_end width : ℕ) (places : List ℕ)
-    (at : PlacedReached) : Type 0 where
-  pub room : length places ≡ width + 4
-  pub within : reached_pel at.reached ≤ width
+pub record IsReadTo (reference : PlacedRow) (places : List ℕ) (at : PlacedReached) : Type 0 where
+  pub room : length places ≡ reference.width + 4
+  pub within : reached_pel at.reached ≤ reference.width
   pub started : at.reached.a0 ≡ None → at.end ≡ 1
   pub ascending : IsAscending places at.end
   pub last : slice_index places (at.end - 1) ≤ reached_pel at.reached
   pub behind : (i : ℕ) → reached_pel at.reached ≤ i
       → turned Black (take at.end places) i ≡ at.reached.colour
-  pub b1 : reached_pel at.reached < width
-      → IsB1At reference reference_end at.reached.a0 at.reached.colour at.b1
+  pub b1 : reached_pel at.reached < reference.width
+      → IsB1At reference at.reached.a0 at.reached.colour at.b1

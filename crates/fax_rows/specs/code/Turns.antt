@@ -1,11 +1,11 @@
 -- A row as its places of change: each of them turns the colour of the pels from there on.
-use Rattle.std.specs.Prelude.{◌≡◌, ℕ, zero, suc, true, false, Option, Some, None, ◌+◌, ◌-◌, ◌≤◌}
+use Rattle.std.specs.Prelude.{◌≡◌, ℕ, zero, suc, Option, Some, None, ◌+◌, ◌-◌, ◌≤◌}
 use Rattle.std.specs.Prelude.{◌<◌, ◌^◌, nat_le, if◌then◌else◌, List, [], ◌∷◌, map, length, take}
 use Rattle.std.specs.Prelude.{slice_index}
 use Rattle.std.specs.List.{range_with_len}
 use Rattle.fax_bits.specs.declared.Colour.{Colour}
 use Rattle.fax_bits.specs.declared.Colour.TheVariants.{Black}
-use Rattle.fax_rows.specs.Elements.{other, is_right_of}
+use Rattle.fax_rows.specs.Elements.{other}
 
 -- a colour, turned by each of the places that is not right of place i
 unfoldable pub turned : Colour → List ℕ → ℕ → Colour
@@ -61,23 +61,6 @@ pub record HasPassed (places : List ℕ) (end i k : ℕ) : Type 0 where
 pub record IsTurnedFrom (old new : List ℕ) (place : ℕ) : Type 0 where
   pub left : (i : ℕ) → i < place → turned Black new i ≡ turned Black old i
   pub right : (i : ℕ) → place ≤ i → turned Black new i ≡ other (turned Black old i)
-
--- where the search for b1 right of the pel a begins: no change of the other colour left of place b
--- is right of a (T.4, section 4.2.1.3.1)
-pub record IsBeforeB1 (places : List ℕ) (end a : ℕ) (colour : Colour) (b : ℕ) : Type 0 where
-  pub within : b ≤ end + 1
-  pub colour_is : alternate Black b ≡ colour
-  pub passed : 2 < b → slice_index places (b - 2) ≤ a
-
--- b1 stands at place b of the reference row, as seen from a0 of this colour
--- (T.4, section 4.2.1.3.1)
-pub record IsB1At (places : List ℕ) (end : ℕ) (a0 : Option ℕ) (colour : Colour)
-    (b : ℕ) : Type 0 where
-  pub some : 0 < b
-  pub within : b ≤ end + 1
-  pub colour_is : alternate Black b ≡ colour
-  pub passed : 2 < b → is_right_of a0 (slice_index places (b - 2)) ≡ false
-  pub ahead : b < end → is_right_of a0 (slice_index places b) ≡ true
 
 -- k is the index of the first of the places that are right of a0, where None is just before the
 -- first pel

@@ -87,7 +87,7 @@ fn read_ahead<'a>(
 
 /// Reads the runs of a row, and answers where its places end. After `None` the source is as it was.
 #[inline(never)]
-pub fn read_quickly(source: &mut BitSource, places: &mut [u32], width: u32) -> Option<usize>
+pub(crate) fn read_quickly(source: &mut BitSource, places: &mut [u32], width: u32) -> Option<usize>
     requires some { 0 < width }
     requires short { width < 2 ^ 16 }
     requires room { length places.old ≡ width + 4 }

@@ -1,6 +1,8 @@
-use Rattle.std.proofs.Common.{arith}
+use Rattle.std.proofs.Common.{◌∙◌, ap, arith}
 use Rattle.std.specs.Int.{reverse_bits, w8}
 use Rattle.fax_bits.proofs.LaneLemmas.{turned_none, turned_group, turned_one, turned_all}
+use Rattle.fax_bits.proofs.WordLemmas.{bits-reversed}
+use Rattle.fax_bits.specs.Bits.{bits}
 use Rattle.fax_bits.proofs.lanes.reverse_bits.Goals as goal
 
 pub loop-at-init : goal.loop-at-init
@@ -18,5 +20,10 @@ loop-i-preserved c =
     turned_one (reverse_bits w8) c.args.bytes.now c.loop-i.bytes c.loop-i.i c.reverse_bits.result c.loop-i.invariant c.reverse_bits.ensures
     (omega arith)
 
-pub returns : goal.returns
-returns c = turned_all (reverse_bits w8) c.args.bytes.now c.loop-i.bytes c.loop-i.i c.loop-i.invariant (omega arith)
+pub returns-clause-turned : goal.returns-clause-turned
+returns-clause-turned c = turned_all (reverse_bits w8) c.args.bytes.now c.loop-i.bytes c.loop-i.i c.loop-i.invariant (omega arith)
+
+pub returns-clause-order : goal.returns-clause-order
+returns-clause-order c = λ order.
+    ap (bits order) (turned_all (reverse_bits w8) c.args.bytes.now c.loop-i.bytes c.loop-i.i c.loop-i.invariant (omega arith))
+    ∙ bits-reversed order c.args.bytes.now

@@ -1,4 +1,5 @@
 use Rattle.std.proofs.Common.{ℕ, ◌-◌, ◌*◌, List, length, take, drop, sym, ap, subst, ◌∙◌}
+use Rattle.fax_files.specs.Pbm.{IsHead}
 use Rattle.fax_files.specs.code.Pbm.{IsHeadRead}
 use Rattle.fax_files.proofs.PbmHeadLemmas.{no_head, exact_head, head_outside, image_read, take_both, length-take_of}
 use Rattle.fax_files.proofs.pbm.read_image.Goals as goal
@@ -37,3 +38,10 @@ returns-clause-ok c =
     (subst (λ (l : List ℕ). IsHeadRead c.args.bytes.now head.width head.height l) (take_both behind len) c.in-Some.ensures.some)
     within
     (length-take_of behind len c.if-head-len.false ∙ ap (λ n. head.height * n) c.row_len.ensures)
+
+pub returns-clause-raster : goal.returns-clause-raster
+returns-clause-raster c =
+    let head = c.in-Some.head in
+    let within = sym c.is_within_limits.ensures ∙ c.if-not-is_within_limits.false in
+    subst (λ (l : List ℕ). IsHead c.args.bytes.now head.width head.height l) (take_both head.behind.now (head.height * c.row_len.result))
+    (exact_head c.args.bytes.now head.width head.height head.behind.now c.in-Some.ensures.some within)

@@ -8,9 +8,9 @@ returns-in-Mh c = eols_end _ _ _ c.in-Mh.is c.behind_return.ensures
 
 pub returns-then-take : goal.returns-then-take
 returns-then-take c =
-    block_end _ _ _ c.in-Mmr.is (ap (λ (s : Source). s.left) (sym c.again-ahead.ensures) ∙ c.if-take.ensures)
+    block_end _ _ _ c.in-Mmr.is (ap (λ (s : Source). s.left) (sym c.again-ahead.ensures) ∙ c.if-take.ensures.taken)
 
 pub returns-else-take : goal.returns-else-take
 returns-else-take c = λ rest mark.
     no_block_end _ _ rest c.in-Mmr.is
-    (λ begins. c.if-take.ensures.1 (begins.0, ap (λ (s : Source). s.left) c.again-ahead.ensures ∙ begins.1)) mark
+    (λ begins. c.if-take.ensures.taken.1 (begins.0, ap (λ (s : Source). s.left) c.again-ahead.ensures ∙ begins.1)) mark

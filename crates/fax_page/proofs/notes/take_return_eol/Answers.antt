@@ -5,4 +5,4 @@ pub returns-in-Err : goal.returns-in-Err
 returns-in-Err c = λ behind eol. no_return_eol _ _ _ _ c.in-Err.ensures.err eol
 
 pub returns-in-Mr : goal.returns-in-Mr
-returns-in-Mr c = tag_taken _ _ _ _ _ c.in-Mr.is c.in_default.ensures.ok c.take.ensures
+returns-in-Mr c = tag_taken _ _ _ _ _ c.in-Mr.is c.in_default.ensures.ok c.take.ensures.taken

@@ -3,5 +3,5 @@ use Rattle.fax_rows.proofs.laws.one_dimensional_rows_are_read_as_nothing_else.Go
 
 pub returns : goal.returns
 returns c = λ row another more rest limits is.
-    (c.rows_are_read_in_one_way.ensures (length row)).one_row _ row another more rest
+    (c.rows_are_read_in_one_way.ensures (length row)).one_answer _ row another more rest
     (c.one_dimensional_rows_are_read_back.ensures row more limits) is

@@ -7,12 +7,12 @@ use Rattle.fax_rows.proofs.put.put_far_step.Goals as goal
 pub choose-mode-requires-clause-a1 : goal.choose-mode-requires-clause-a1
 choose-mode-requires-clause-a1 c =
     let known = known_bounds c.args.rows c.args.ahead c.requires.places c.requires.unfinished in
-    omega (arith, known.a2, known.a1_a2, c.args.rows.row_placed.short)
+    omega (arith, known.a2, known.a1_a2, c.args.rows.row.placed.short)
 
 pub choose-mode-requires-clause-b1 : goal.choose-mode-requires-clause-b1
 choose-mode-requires-clause-b1 c =
     let known = known_bounds c.args.rows c.args.ahead c.requires.places c.requires.unfinished in
-    omega (arith, known.b1, c.args.rows.row_placed.short)
+    omega (arith, known.b1, c.args.rows.row.placed.short)
 
 pub put_run_pair-requires-clause-a0 : goal.put_run_pair-requires-clause-a0
 put_run_pair-requires-clause-a0 c = (known_bounds c.args.rows c.args.ahead c.requires.places c.requires.unfinished).a0
@@ -23,7 +23,7 @@ put_run_pair-requires-clause-a1 c = (known_bounds c.args.rows c.args.ahead c.req
 pub put_run_pair-requires-clause-short : goal.put_run_pair-requires-clause-short
 put_run_pair-requires-clause-short c =
     let known = known_bounds c.args.rows c.args.ahead c.requires.places c.requires.unfinished in
-    omega (arith, known.a2, c.args.rows.row_placed.short)
+    omega (arith, known.a2, c.args.rows.row.placed.short)
 
 pub returns-in_err-put_run_pair-in-Horizontal-clause-err :
     goal.returns-in_err-put_run_pair-in-Horizontal-clause-err

@@ -1,20 +1,21 @@
 use Rattle.std.proofs.Common.{◌<◌, ◌∙◌, ap}
 use Rattle.std.specs.Prelude.{Some, unwrap_or}
-use Rattle.fax_rows.specs.code.Ahead.{reference_of, written_of, place_from}
+use Rattle.fax_rows.specs.code.Ahead.{place_from}
+use Rattle.fax_rows.specs.code.PlacedRow.{placed_pels}
 use Rattle.fax_rows.proofs.WrittenStepLemmas.{under_bits, under_place}
 use Rattle.fax_rows.proofs.put.put_step.Goals as goal
 
 pub returns-then-ahead-clause-ok : goal.returns-then-ahead-clause-ok
 returns-then-ahead-clause-ok c =
     let ahead = c.of-ahead.result in
-    let inside : unwrap_or c.of-ahead.result.a0 0 < c.args.rows.width = rw c.of-ahead.ensures.start c.requires.unfinished in
+    let inside : unwrap_or c.of-ahead.result.a0 0 < c.args.rows.row.width = rw c.of-ahead.ensures.start c.requires.unfinished in
     rw (← c.of-ahead.ensures.start, under_bits c.args.rows ahead c.of-ahead.ensures.places inside c.if-ahead.true)
     c.in_ok-put_mode.ensures.ok
 
 pub returns-then-ahead-clause-next : goal.returns-then-ahead-clause-next
 returns-then-ahead-clause-next c =
     let ahead = c.of-ahead.result in
-    let inside : unwrap_or c.of-ahead.result.a0 0 < c.args.rows.width = rw c.of-ahead.ensures.start c.requires.unfinished in
-    c.behind_b1.ensures.start
+    let inside : unwrap_or c.of-ahead.result.a0 0 < c.args.rows.row.width = rw c.of-ahead.ensures.start c.requires.unfinished in
+    c.after_b1.ensures.start
     ∙ ap (λ p. Some p) (under_place c.args.rows ahead c.of-ahead.ensures.places inside c.if-ahead.true)
-    ∙ ap (λ a0. Some (place_from (reference_of c.args.rows) (written_of c.args.rows) a0)) c.of-ahead.ensures.start
+    ∙ ap (λ a0. Some (place_from (placed_pels c.args.rows.reference) (placed_pels c.args.rows.row) a0)) c.of-ahead.ensures.start

@@ -1,5 +1,5 @@
 use Rattle.std.proofs.Common.{refl, ◌<◌, ◌≤◌, length, arith}
-use Rattle.fax_rows.specs.code.Ahead.{reference_of, written_of}
+use Rattle.fax_rows.specs.code.PlacedRow.{placed_pels}
 use Rattle.fax_rows.proofs.ChangeLemmas.{first_of}
 use Rattle.fax_rows.proofs.WrittenPlaceLemmas.{same_widths, written_width}
 use Rattle.fax_rows.proofs.PlacedLemmas.{place_begins, place_goes_on, place_stops, place_ends, step_smaller}
@@ -9,33 +9,34 @@ use Rattle.fax_rows.proofs.put.put_steps.Goals as goal
 
 pub loop-at-init : goal.loop-at-init
 loop-at-init c = record {
-  placed = place_begins (reference_of c.args.rows) (written_of c.args.rows) c.args.sink.now;
+  placed = place_begins (placed_pels c.args.rows.reference) (placed_pels c.args.rows.row) c.args.sink.now;
   places = starts c.args.rows;
 }
 
 pub returns-in_err-at-clause-err : goal.returns-in_err-at-clause-err
 returns-in_err-at-clause-err c =
-    let inside : first_of c.loop-at.at.a0 < length (written_of c.args.rows) = omega (arith, written_width c.args.rows) in
+    let inside : first_of c.loop-at.at.a0 < length (placed_pels c.args.rows.row) = omega (arith, written_width c.args.rows) in
     on_err c.from_residual.result
-    (place_stops (reference_of c.args.rows) (written_of c.args.rows) (same_widths c.args.rows) c.args.sink.now c.loop-at.sink
+    (place_stops (placed_pels c.args.rows.reference) (placed_pels c.args.rows.row) (same_widths c.args.rows) c.args.sink.now c.loop-at.sink
     c.put_step.new.sink
     c.loop-at.at.a0 c.loop-at.invariant.placed inside c.in_err-at.ensures.err)
 
 pub loop-at-smaller : goal.loop-at-smaller
 loop-at-smaller c =
-    let inside : first_of c.loop-at.at.a0 < length (written_of c.args.rows) = omega (arith, written_width c.args.rows) in
+    let inside : first_of c.loop-at.at.a0 < length (placed_pels c.args.rows.row) = omega (arith, written_width c.args.rows) in
     let smaller =
-    step_smaller (reference_of c.args.rows) (written_of c.args.rows) (same_widths c.args.rows) c.loop-at.at.a0 inside _ refl
+    step_smaller (placed_pels c.args.rows.reference) (placed_pels c.args.rows.row) (same_widths c.args.rows) c.loop-at.at.a0 inside _ refl
     c.in_ok-at.at.a0
     c.in_ok-at.ensures.next in
     omega (arith, written_width c.args.rows, smaller)
 
 pub loop-at-preserved : goal.loop-at-preserved
 loop-at-preserved c =
-    let inside : first_of c.loop-at.at.a0 < length (written_of c.args.rows) = omega (arith, written_width c.args.rows) in
+    let inside : first_of c.loop-at.at.a0 < length (placed_pels c.args.rows.row) = omega (arith, written_width c.args.rows) in
     record {
       placed = rw c.in_ok-at.ensures.next
-          (place_goes_on (reference_of c.args.rows) (written_of c.args.rows) (same_widths c.args.rows) c.args.sink.now c.loop-at.sink
+          (place_goes_on (placed_pels c.args.rows.reference) (placed_pels c.args.rows.row)
+          (same_widths c.args.rows) c.args.sink.now c.loop-at.sink
           c.put_step.new.sink
           c.loop-at.at.a0 c.loop-at.invariant.placed inside _ refl c.in_ok-at.ensures.ok);
       places = c.in_ok-at.ensures.places;
@@ -43,6 +44,7 @@ loop-at-preserved c =
 
 pub returns-clause-ok : goal.returns-clause-ok
 returns-clause-ok c =
-    let over : length (written_of c.args.rows) ≤ first_of c.loop-at.at.a0 = omega (arith, written_width c.args.rows) in
-    place_ends (reference_of c.args.rows) (written_of c.args.rows) c.args.sink.now c.loop-at.at.a0 c.loop-at.sink c.loop-at.invariant.placed
+    let over : length (placed_pels c.args.rows.row) ≤ first_of c.loop-at.at.a0 = omega (arith, written_width c.args.rows) in
+    place_ends (placed_pels c.args.rows.reference) (placed_pels c.args.rows.row) c.args.sink.now c.loop-at.at.a0 c.loop-at.sink
+    c.loop-at.invariant.placed
     over

@@ -18,7 +18,7 @@ returns-then-not-take c =
       λ begins.
           absurd (other_byte bytes c.loop-byte.byte-index c.args.source.now.left c.loop-byte.ahead.left c.loop-byte.invariant c.from.result
           _ within byte_is
-          c.if-not-take.ensures.1 (begins.0, begins.1 ∙ ap (λ (s : Sink). s.bits ++ begins.0) (sym c.self.view_is))),
+          c.if-not-take.ensures.taken.1 (begins.0, begins.1 ∙ ap (λ (s : Sink). s.bits ++ begins.0) (sym c.self.view_is))),
     )
 
 pub loop-byte-preserved : goal.loop-byte-preserved
@@ -26,7 +26,7 @@ loop-byte-preserved c =
     let bytes = c.self.inside.bytes.items in
     let within : c.loop-byte.byte-index < length bytes = omega (arith, ap length c.deref-byte-items.ensures.value) in
     next_byte bytes c.loop-byte.byte-index _ _ c.loop-byte.invariant c.from.result _ within
-    (c.from.ensures ∙ ap (λ xs. get_or xs c.loop-byte.byte-index 0) c.deref-byte-items.ensures.value) c.if-not-take.ensures
+    (c.from.ensures ∙ ap (λ xs. get_or xs c.loop-byte.byte-index 0) c.deref-byte-items.ensures.value) c.if-not-take.ensures.taken
 
 pub returns : goal.returns
 returns c =

@@ -18,7 +18,7 @@ pub returns-in-LsbFirst : goal.returns-in-LsbFirst
 returns-in-LsbFirst c =
     let old = c.push_whole.new.bytes in
     let turned : c.reverse_bits.new.bytes ≡ map (reverse_bits w8) old.items =
-    c.reverse_bits.ensures ∙ ap (map (reverse_bits w8)) c.deref_mut.ensures.value in
+    c.reverse_bits.ensures.turned ∙ ap (map (reverse_bits w8)) c.deref_mut.ensures.value in
     let len : length c.reverse_bits.new.bytes ≡ old.len =
     ap length turned ∙ length-map old.items (reverse_bits w8) ∙ omega arith in
     let new = c.reverse_bits.new.bytes in

@@ -20,7 +20,7 @@ returns-then-not-take c = (
   λ is. absurd (cc is),
   λ begins.
       absurd (first_other c.args.self.now.left _ _
-      (λ front. c.if-not-take.ensures.1 (subst (λ (s : Source). BeginsWith s.left
+      (λ front. c.if-not-take.ensures.taken.1 (subst (λ (s : Source). BeginsWith s.left
       (code_bits (c.args.len - c.args.len / 2) (c.args.bits / 2 ^ (c.args.len / 2)))) (sym c.again-ahead.ensures) front))
       (subst (BeginsWith c.args.self.now.left) (two_parts c.args.len (c.args.len / 2) c.args.bits (omega arith) c.requires.short
       c.requires.fits) begins)),
@@ -30,5 +30,5 @@ pub returns : goal.returns
 returns c =
     let low = c.args.len / 2 in
     let here = both_taken c.args.self.now.left c.take.new.self.left _ _ c.take-2.result c.take-2.new.self.left
-    (ap (λ (s : Source). s.left) (sym c.again-ahead.ensures) ∙ c.if-not-take.ensures) c.take-2.ensures in
+    (ap (λ (s : Source). s.left) (sym c.again-ahead.ensures) ∙ c.if-not-take.ensures.taken) c.take-2.ensures.taken in
     rw (two_parts c.args.len low c.args.bits (omega arith) c.requires.short c.requires.fits) here

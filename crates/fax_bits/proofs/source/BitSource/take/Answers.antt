@@ -6,8 +6,8 @@ use Rattle.fax_bits.proofs.source.BitSource.take.Goals as goal
 use Rattle.fax_bits.proofs.source.BitSource.take.Goals.{then-remaining-from-via-then-remaining-from}
 use Rattle.fax_bits.proofs.source.BitSource.take.Goals.{then-remaining-from-via-else-remaining-from+then-peek-bits}
 
-pub returns-then-remaining-from : goal.returns-then-remaining-from
-returns-then-remaining-from c = (
+pub returns-then-remaining-from-clause-taken : goal.returns-then-remaining-from-clause-taken
+returns-then-remaining-from-clause-taken c = (
   refl,
   λ begins.
       elim c.then-remaining-from.branch [
@@ -17,8 +17,8 @@ returns-then-remaining-from c = (
       ],
 )
 
-pub returns : goal.returns
-returns c =
+pub returns-clause-taken : goal.returns-clause-taken
+returns-clause-taken c =
     let b = c.args.self.now.left in
     let enough : c.args.len ≤ length b = omega arith in
     spelled b c.args.len c.args.bits enough (sym c.peek.ensures ∙ c.if-peek-bits.false)

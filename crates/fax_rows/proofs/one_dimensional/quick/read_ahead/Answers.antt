@@ -49,7 +49,8 @@ loop-total-preserved-then-total-width c = record {
       c.loop-total.ahead.left)
       (c.loop-total.invariant.white c.loop-total-test.true) c.loop-total.invariant.read)
       c.loop-total-test.true c.in_ok-behind.ensures.run c.in_ok-behind.ensures.right c.in_ok-behind.ensures.within
-      c.in_ok-behind.ensures.turned c.in_ok-behind.ensures.ascending c.in_ok-behind.ensures.last) c.if-total-width.true c.in_ok-behind-2.ensures.run c.in_ok-behind-2.ensures.right c.in_ok-behind-2.ensures.within
+      c.in_ok-behind.ensures.turned c.in_ok-behind.ensures.ascending c.in_ok-behind.ensures.last) c.if-total-width.true
+      c.in_ok-behind-2.ensures.run c.in_ok-behind-2.ensures.right c.in_ok-behind-2.ensures.within
       c.in_ok-behind-2.ensures.turned c.in_ok-behind-2.ensures.ascending c.in_ok-behind-2.ensures.last;
   white = λ h. refl;
   same_end = omega (arith, c.in_ok-behind.ensures.same_end, c.in_ok-behind-2.ensures.same_end, c.loop-total.invariant.same_end);

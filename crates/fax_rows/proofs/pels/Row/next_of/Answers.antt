@@ -1,25 +1,21 @@
-use Rattle.std.proofs.Common.{◌≡◌, ◌≢◌, sym, ◌∙◌, arith, rules}
-use Rattle.fax_bits.specs.contracts.Colour.{the_type}
-use Rattle.fax_rows.proofs.ChangeLemmas.{of_search_begins, of_search_goes_on, of_search_ends}
+use Rattle.std.proofs.Common.{ap, ◌∙◌, arith}
+use Rattle.fax_rows.specs.Elements.{next_of}
+use Rattle.fax_rows.proofs.PlacedRowLemmas.{end_within}
+use Rattle.fax_rows.proofs.PlacedB1Lemmas.{placed_width, b1_is, b1_at_most, b1_right}
 use Rattle.fax_rows.proofs.pels.Row.next_of.Goals as goal
-use denote.Enum.Bare.{same_true, same_false}
 
-pub loop-place-init : goal.loop-place-init
-loop-place-init c = of_search_begins c.args.self.now c.args.from c.args.colour _ c.next_change-place.ensures.place
+pub bounds-row-b1_from : goal.bounds-row-b1_from
+bounds-row-b1_from c =
+    let row = c.placed-row.result in
+    omega (arith, c.b1_from.ensures.within, row.placed.room, end_within row.places.now row.end row.width row.placed)
 
-pub loop-place-preserved : goal.loop-place-preserved
-loop-place-preserved c =
-    let same : c.pel.result ≡ c.args.colour = same_true the_type (search rules) _ _ (sym c.if-eq.ensures) in
-    of_search_goes_on c.args.self.now c.args.from c.args.colour c.loop-place.place _ c.loop-place.invariant (omega arith)
-    (sym c.pel.ensures ∙ same) c.next_change-place-in-loop-place.ensures.place
-
-pub returns-else-eq-clause-place : goal.returns-else-eq-clause-place
-returns-else-eq-clause-place c =
-    let differs : c.pel.result ≢ c.args.colour = same_false the_type _ _ (sym c.if-eq.ensures) in
-    of_search_ends c.args.self.now c.args.from c.args.colour c.loop-place.place c.loop-place.invariant
-    (λ h same. differs (c.pel.ensures ∙ same))
-
-pub returns-after-loop-place-clause-place : goal.returns-after-loop-place-clause-place
-returns-after-loop-place-clause-place c =
-    of_search_ends c.args.self.now c.args.from c.args.colour c.loop-place.place c.loop-place.invariant
-    (λ h same. absurd (omega arith))
+pub returns : goal.returns
+returns c =
+    let row = c.placed-row.result in
+    let at = c.b1_from.ensures in
+    let width = placed_width row c.args.self.now c.placed-row.ensures in
+    record {
+      place = b1_is row c.args.from c.args.colour c.b1_from.result at ∙ ap (λ pels. next_of pels c.args.from c.args.colour) c.placed-row.ensures;
+      within = omega (arith, width, b1_at_most row c.b1_from.result at.some at.within);
+      right = λ h. b1_right row c.args.from c.args.colour c.b1_from.result at (omega (arith, width));
+    }

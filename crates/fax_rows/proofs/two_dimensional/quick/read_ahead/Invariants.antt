@@ -1,14 +1,14 @@
-use Rattle.std.proofs.Common.{◌≡◌, ◌+◌, length, take}
-use Rattle.fax_rows.specs.code.Turns.{pels_by}
+use Rattle.std.proofs.Common.{◌≡◌, ◌+◌, length}
+use Rattle.fax_rows.specs.code.PlacedRow.{placed_pels}
 use Rattle.fax_rows.specs.code.PlacedReached.{placed_position, IsReadTo}
 use Rattle.fax_rows.proofs.StepLemmas.{AreStepsSoFar}
 use Rattle.fax_rows.proofs.two_dimensional.quick.read_ahead.Given as goal
 
 abbrev pub invariant-loop-ahead : goal.invariant-loop-ahead
 invariant-loop-ahead l = record {
-  steps : AreStepsSoFar (pels_by l.width (take l.reference_end l.reference)) l.initial.ahead.left (placed_position l.width l.places l.at)
+  steps : AreStepsSoFar (placed_pels l.reference) l.initial.ahead.left (placed_position l.reference.width l.places l.at)
       l.ahead.left;
-  so_far : IsReadTo l.reference l.reference_end l.width l.places l.at;
+  so_far : IsReadTo l.reference l.places l.at;
   same_end : l.ahead.place + length l.ahead.left ≡ l.initial.ahead.place + length l.initial.ahead.left;
 }
 

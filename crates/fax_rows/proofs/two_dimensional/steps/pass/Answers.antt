@@ -1,0 +1,13 @@
+use Rattle.std.proofs.Common.{arith}
+use Rattle.fax_rows.proofs.PlacedStepLemmas.{pass_step, pass_so_far, b1_in_room}
+use Rattle.fax_rows.proofs.two_dimensional.steps.pass.Goals as goal
+
+pub bounds-reference-at : goal.bounds-reference-at
+bounds-reference-at c =
+    omega (arith, b1_in_room c.args.reference c.args.places.now c.args.at c.requires.so_far c.requires.unfinished)
+
+pub returns-clause-step : goal.returns-clause-step
+returns-clause-step c = pass_step c.args.reference c.args.places.now c.args.at c.requires.so_far c.requires.unfinished
+
+pub returns-clause-so_far : goal.returns-clause-so_far
+returns-clause-so_far c = pass_so_far c.args.reference c.args.places.now c.args.at c.requires.so_far c.requires.unfinished

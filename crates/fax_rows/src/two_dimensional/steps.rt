@@ -1,0 +1,250 @@
+//! Steps of two-dimensional coding over a reference row, which the exact and the quick reader share
+//! (ITU-T T.4, section 4.2.1.3.2).
+ghost use Rattle.std.specs.Prelude.{◌≡◌, ◌+◌, ◌-◌, ◌≤◌, ◌<◌, ◌^◌, ◌+ℤ◌, ◌≤ℤ◌, pos, negsuc};
+ghost use Rattle.std.specs.Prelude.{[], List, Bool, length, slice_index, IfSome, IfNone};
+ghost use Rattle.fax_bits.specs.Runs.{IsRun};
+ghost use Rattle.fax_rows.specs.Elements.{other as other_than};
+ghost use Rattle.fax_rows.specs.TwoDimensional as Spec;
+ghost use Rattle.fax_rows.specs.code.PlacedRow.{placed_pels};
+ghost use Rattle.fax_rows.specs.code.Reached.{reached_pel, position_of};
+ghost use Rattle.fax_rows.specs.code.PlacedReached.{placed_position, IsReadTo};
+
+use crate::rows::PlacedRow;
+use crate::runs::other;
+use crate::turns::{turn_behind, turn_right};
+use fax_bits::Colour;
+
+/// How far a row is read (T.4, section 4.2.1.3.1).
+#[derive(Clone, Copy)]
+pub(crate) struct Reached {
+    /// The place of a0, where `None` is just before the first pel.
+    pub a0: Option<u32>,
+    /// The colour of a0.
+    pub colour: Colour,
+}
+
+impl Reached {
+    /// The first pel that is not read.
+    pub fn first_pel(self) -> u32
+        ensures { result ≡ reached_pel self }
+    {
+        self.a0.unwrap_or(0)
+    }
+
+    /// The first pel right of a0.
+    #[inline(always)]
+    fn next_pel(self) -> u32
+        requires { reached_pel self < 2 ^ 16 }
+        ensures { pos result ≡ Spec.a0_number (position_of self []) +ℤ pos 1 }
+    {
+        match self.a0 {
+            None => 0,
+            Some(place) => place + 1,
+        }
+    }
+}
+
+/// How far a row is read into places of change.
+#[derive(Clone, Copy)]
+pub(crate) struct PlacedReached {
+    /// a0 and its colour.
+    pub reached: Reached,
+    /// The index after the last place that is put.
+    pub end: usize,
+    /// The index of b1 among the reference row's places.
+    pub b1: usize,
+}
+
+impl PlacedReached {
+    /// Just before the first pel.
+    pub const BEGINNING: PlacedReached = PlacedReached {
+        reached: Reached {
+            a0: None,
+            colour: Colour::White,
+        },
+        end: 1,
+        b1: 1,
+    };
+}
+
+/// Pass mode: goes on to the pel below b2 (T.4, section 4.2.1.3.2).
+#[inline(always)]
+pub(crate) fn pass(reference: PlacedRow, places: &[u32], at: PlacedReached) -> PlacedReached
+    requires so_far { IsReadTo reference places.now at }
+    requires unfinished { reached_pel at.reached < reference.width }
+    ensures step { let from = placed_position reference.entry.width places.now at in
+        placed_position reference.entry.width places.now result
+        ≡ Spec.coloured_up_to from (Spec.b2_from (placed_pels reference.entry) from) }
+    ensures so_far { IsReadTo reference.entry places.now result }
+{
+    PlacedReached {
+        reached: Reached {
+            a0: Some(reference.places[at.b1 + 1]),
+            ..at.reached
+        },
+        b1: at.b1 + 2,
+        ..at
+    }
+}
+
+/// What `vertical` does with a1 just under b1, which is always right of a0 and in the row (T.4,
+/// section 4.2.1.3.2). The next b1 is the reference row's next changing element.
+#[inline(always)]
+pub(crate) fn under_b1(reference: PlacedRow, places: &mut [u32], at: PlacedReached) -> PlacedReached
+    requires so_far { IsReadTo reference places.old at }
+    requires unfinished { reached_pel at.reached < reference.width }
+    ensures step { Spec.IsVerticalStep (placed_pels reference.entry)
+        (placed_position reference.entry.width places.old at) (pos 0)
+        (placed_position reference.entry.width places.new result) }
+    ensures so_far { IsReadTo reference.entry places.new result }
+    ensures first { slice_index places.new 0 ≡ 0 }
+    ensures same_len { length places.new ≡ length places.old }
+{
+    let place = reference.places[at.b1];
+    let end = turn_right(places, at.end, place);
+    PlacedReached {
+        reached: Reached {
+            a0: Some(place),
+            colour: other(at.reached.colour),
+        },
+        end,
+        b1: at.b1 + 1,
+    }
+}
+
+/// Vertical mode with a1 right of b1, by `d` pels (T.4, section 4.2.1.3.2). `None` where a1 is not
+/// in the row.
+#[inline(always)]
+fn right_of_b1(
+    reference: PlacedRow,
+    places: &mut [u32],
+    at: PlacedReached,
+    d: i8,
+) -> Option<PlacedReached>
+    requires so_far { IsReadTo reference places.old at }
+    requires unfinished { reached_pel at.reached < reference.width }
+    requires right { pos 0 ≤ℤ d }
+    ensures step { IfSome result (λ next. Spec.IsVerticalStep (placed_pels reference.entry)
+        (placed_position reference.entry.width places.old at) d
+        (placed_position reference.entry.width places.new next)) }
+    ensures so_far { IfSome result (λ next. IsReadTo reference.entry places.new next) }
+    ensures out { IfNone result (Spec.IsInRow (placed_pels reference.entry)
+        (placed_position reference.entry.width places.old at) d → ⊥) }
+    ensures first { slice_index places.new 0 ≡ 0 }
+    ensures same_len { length places.new ≡ length places.old }
+{
+    let place = reference.places[at.b1] + u32::from(d.unsigned_abs());
+    if place > reference.width {
+        return None;
+    }
+    let end = turn_right(places, at.end, place);
+    Some(PlacedReached {
+        reached: Reached {
+            a0: Some(place),
+            colour: other(at.reached.colour),
+        },
+        end,
+        b1: reference.b1_after(at.b1 + 1, place),
+    })
+}
+
+/// Vertical mode with a1 left of b1, by `-d` pels (T.4, section 4.2.1.3.2). `None` where a1 is not
+/// right of a0.
+#[inline(always)]
+fn left_of_b1(
+    reference: PlacedRow,
+    places: &mut [u32],
+    at: PlacedReached,
+    d: i8,
+) -> Option<PlacedReached>
+    requires so_far { IsReadTo reference places.old at }
+    requires unfinished { reached_pel at.reached < reference.width }
+    requires left { d ≤ℤ negsuc 0 }
+    ensures step { IfSome result (λ next. Spec.IsVerticalStep (placed_pels reference.entry)
+        (placed_position reference.entry.width places.old at) d
+        (placed_position reference.entry.width places.new next)) }
+    ensures so_far { IfSome result (λ next. IsReadTo reference.entry places.new next) }
+    ensures out { IfNone result (Spec.IsInRow (placed_pels reference.entry)
+        (placed_position reference.entry.width places.old at) d → ⊥) }
+    ensures first { slice_index places.new 0 ≡ 0 }
+    ensures same_len { length places.new ≡ length places.old }
+{
+    let back = u32::from(d.unsigned_abs());
+    let b1 = reference.places[at.b1];
+    if b1 < back + at.reached.next_pel() {
+        return None;
+    }
+    let place = b1 - back;
+    let end = turn_right(places, at.end, place);
+    Some(PlacedReached {
+        reached: Reached {
+            a0: Some(place),
+            colour: other(at.reached.colour),
+        },
+        end,
+        b1: reference.find_b1(at.b1 - 1, place),
+    })
+}
+
+/// Vertical mode: goes on to a1, which is `d` pels right of b1, where the colour changes (T.4,
+/// section 4.2.1.3.2). `None` where a1 is not right of a0 and in the row.
+#[inline(always)]
+pub(crate) fn vertical(
+    reference: PlacedRow,
+    places: &mut [u32],
+    at: PlacedReached,
+    d: i8,
+) -> Option<PlacedReached>
+    requires so_far { IsReadTo reference places.old at }
+    requires unfinished { reached_pel at.reached < reference.width }
+    ensures step { IfSome result (λ next. Spec.IsVerticalStep (placed_pels reference.entry)
+        (placed_position reference.entry.width places.old at) d
+        (placed_position reference.entry.width places.new next)) }
+    ensures so_far { IfSome result (λ next. IsReadTo reference.entry places.new next) }
+    ensures out { IfNone result (Spec.IsInRow (placed_pels reference.entry)
+        (placed_position reference.entry.width places.old at) d → ⊥) }
+    ensures first { slice_index places.new 0 ≡ 0 }
+    ensures same_len { length places.new ≡ length places.old }
+{
+    if d >= 0 {
+        right_of_b1(reference, places, at, d)
+    } else {
+        left_of_b1(reference, places, at, d)
+    }
+}
+
+/// Horizontal mode, after its two runs, the first of a0's colour, which stays (T.4, section
+/// 4.2.1.3.2).
+#[inline(always)]
+pub(crate) fn after_runs(
+    reference: PlacedRow,
+    places: &mut [u32],
+    at: PlacedReached,
+    first: u32,
+    second: u32,
+) -> PlacedReached
+    requires so_far { IsReadTo reference places.old at }
+    requires unfinished { reached_pel at.reached < reference.width }
+    requires within { reached_pel at.reached + first + second ≤ reference.width }
+    ensures step { (b middle rest : List Bool) → IsRun at.reached.colour b first middle
+        → IsRun (other_than at.reached.colour) middle second rest
+        → Spec.IsHorizontalStep (placed_pels reference.entry)
+        (placed_position reference.entry.width places.old at) b
+        (placed_position reference.entry.width places.new result) rest }
+    ensures so_far { IsReadTo reference.entry places.new result }
+    ensures first { slice_index places.new 0 ≡ 0 }
+    ensures same_len { length places.new ≡ length places.old }
+{
+    let middle = at.reached.first_pel() + first;
+    let to = middle + second;
+    let between = turn_behind(places, at.end, middle, first);
+    let end = turn_behind(places, between, to, second);
+    PlacedReached {
+        reached: Reached {
+            a0: Some(to),
+            ..at.reached
+        },
+        end,
+        b1: reference.b1_after(at.b1, to),
+    }
+}
