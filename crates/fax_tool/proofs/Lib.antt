@@ -1,15 +1,5 @@
 pub mod TransferLemmas
-pub mod PrintLemmas
-pub mod LineLemmas
-pub mod LongTextLemmas
-pub mod TextLemmas
-pub mod RunLemmas
-pub mod LongRunLemmas
-pub mod ReportLemmas
-pub mod StopLemmas
-pub mod CommandLemmas
 mod NumberLemmas
-pub mod WholeLemmas
 mod BuildLemmas
 mod EntryLemmas
 mod EntryReadLemmas
@@ -17,3 +7,12 @@ mod GetterLemmas
 mod LevelLemmas
 mod ExampleLemmas
 mod AnswerLemmas
+
+pub mod LineLemmas
+pub mod StopLemmas
+pub mod PrintLemmas
+pub mod TextLemmas
+pub mod CommandLemmas
+pub mod WholeLemmas
+pub mod ReportLemmas
+pub mod RunLemmas

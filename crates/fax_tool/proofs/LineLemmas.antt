@@ -1,97 +1,342 @@
--- Lines of rows and of pages, one after another.
-use Rattle.std.proofs.Common.{◌≡◌, ℕ, List, [], ◌∷◌, ◌++◌, refl, ap, ◌∙◌, arith, length-append, ◌^◌, ◌-◌}
-use Rattle.std.specs.Prelude.{Some, None, Err}
+-- The lines of rows and of pages.
+use Rattle.std.proofs.Common.{◌≡◌, ℕ, zero, suc, ◌+◌, ◌≤◌, ◌⊎◌, inl, inr, Bool, true, false, List, [], ◌∷◌, ◌++◌, length, take, drop, map}
+use Rattle.std.proofs.Common.{◌↔◌, Option, Some, None, Result, Ok, Err, refl, sym, ap, ◌∙◌, subst, arith}
+use Rattle.std.proofs.lemmas.Option.{slice_get_within, slice_get-map}
+use Rattle.std.proofs.lemmas.List.{length-map}
+use Rattle.std.proofs.lemmas.Slice.Zip.{AllZip-long}
+use Rattle.std.specs.Prelude.{slice_get, if◌then◌else◌}
+use Rattle.std.specs.Prelude.{option_map, IfOk}
+use Rattle.std.specs.List.{AllZip}
+use Rattle.fax_bits.specs.declared.Colour.{Colour}
+use Rattle.fax_bits.specs.declared.Memory.{Memory as NoMemory}
+use Rattle.fax_rows.specs.Elements.{runs_of}
+use Rattle.fax_files.specs.declared.PageForm.{PageForm}
+use Rattle.fax_files.specs.Laws.{FilesHaveOneChain}
+use Rattle.fax_files.specs.StripBytes.{strip_bytes}
+use Rattle.fax_walk.specs.declared.begun.Begun.{Begun}
+use Rattle.fax_walk.specs.declared.begun.Begun.TheVariants.{At}
+use Rattle.fax_walk.specs.declared.cursor.Cursor.{Cursor}
 use Rattle.fax_walk.specs.declared.end.End.{End}
+use Rattle.fax_walk.specs.declared.end.End.TheVariants.{Proper, Fault, Outside}
 use Rattle.fax_walk.specs.declared.end.WalkFault.{WalkFault}
 use Rattle.fax_walk.specs.declared.end.WalkFault.TheVariants.{Memory, AtRow, CursorOutside}
-use Rattle.fax_walk.specs.Items.{Item}
-use Rattle.fax_walk.specs.Pages.{FormItem}
-use Rattle.fax_walk.specs.code.Due.{WalkState, places_left}
-use Rattle.fax_walk.specs.code.Next.{HandsOut, HasEnded, IsNext}
-use Rattle.fax_walk.specs.PagesLeft.{PagesView, HandsOutPage, PagesHaveEnded, IsNextPage}
-use Rattle.fax_walk.specs.PageLaws.{FormsLeftGoOn, FormsLeftEnd}
-use Rattle.fax_walk.specs.declared.begun.Begun.{Begun}
-use Rattle.fax_tool.specs.Text.{Line, line_of_row, line_of_page}
-use Rattle.fax_tool.specs.code.Printing.{AreRowsDue, ArePagesDue, Said, HasSaid, PutsLine, end_of}
+use Rattle.fax_walk.specs.LongCursor.{LongPlace}
+use Rattle.fax_walk.specs.InOrder.{AreFrom, AreBegun, IsNumber, EndsAfter}
+use Rattle.fax_walk.specs.Laws.{IsOne}
+use Rattle.fax_walk.specs.Left.{WalkView, HasEndedAs, IsNext, IsCursorOf, IsItemNumber, IsLongOf, begins_inside}
+use Rattle.fax_walk.specs.PagesLeft.{PagesView, HandsOutPage, IsNextPage, PagesHaveEnded, pages_from}
+use Rattle.fax_walk.specs.PageLaws.{BeginningsHaveOneTail, CursorsHaveOneFormTail}
+use Rattle.fax_walk.specs.Pages.{FilePage, FormItem, IsFormTail, IsPageAt}
+use Rattle.fax_walk.specs.Rows.{Item, Place, IsInStrip, IsRow, IsTailFrom, begins_at, cursor_after, cursor_at, long_after, strip_at}
+use Rattle.fax_walk.proofs.InOrderLemmas.{same_answer}
+use Rattle.fax_walk.proofs.PageLawLemmas.{one_page}
+use Rattle.fax_walk.proofs.RowLawLemmas.{cases_after}
+use Rattle.fax_tool.specs.Run.{AreRowLines, ArePageLines, IsRowLine}
+use Rattle.fax_tool.specs.Text.{Line, begun_at, line_of_page, line_of_row, next_after, page_line_of, row_line, row_line_of}
+use Rattle.fax_tool.specs.code.Printing.{IsLinePut, IsNextAfter, end_of}
 
--- one row more was handed out
-row_said : (old new : WalkState) (item : Item) → HandsOut old item new
-    → (file : List ℕ) (begun : Begun) (lines : List Line) → HasSaid old file begun lines
-    → HasSaid new file begun (lines ++ line_of_row item ∷ [])
-row_said old new item hands file begun lines said = record {
-  same_file = hands.file ∙ said.same_file;
-  same_begun = hands.begun ∙ said.same_begun;
-  count = omega (arith, length-append lines (line_of_row item ∷ []), hands.one_more, said.count);
-}
+-- the first elements of a list, with one more
+pub take_at : {A : Type 0} (xs : List A) (n : ℕ) (x : A) → slice_get xs n ≡ Some x → take (n + 1) xs ≡ take n xs ++ x ∷ []
+take_at [] n x e = absurd cc
+take_at (y ∷ xs) zero x e = let same : y ≡ x = cc in ap (λ i. i ∷ []) same
+take_at (y ∷ xs) (suc n) x e = let m : suc n + 1 ≡ suc (n + 1) = omega arith in rw m (ap (λ l. y ∷ l) (take_at xs n x e))
 
--- nothing is told of pages
-abbrev pub said_no_more : Said
-said_no_more file begun lines = Unit {0}
+zip_get : {A B : Type 0} (R : A → B → Type 0) (xs : List A) (ys : List B) (n : ℕ) (x : A) → AllZip R xs ys → slice_get xs n ≡ Some x
+    → (y : B) × (slice_get ys n ≡ Some y) × R x y
+zip_get R [] [] n x zip e = absurd cc
+zip_get R [] (y ∷ ys) n x zip e = absurd zip
+zip_get R (z ∷ xs) [] n x zip e = absurd zip
+zip_get R (z ∷ xs) (y ∷ ys) zero x (first, zip) e = let same : z ≡ x = cc in (y, refl, subst (λ i. R i y) same first)
+zip_get R (z ∷ xs) (y ∷ ys) (suc n) x (first, zip) e = zip_get R xs ys n x zip e
 
-pub row_put : (old new : WalkState) (item : Item) → HandsOut old item new
-    → PutsLine (AreRowsDue old) (AreRowsDue new) (HasSaid old) (HasSaid new) (line_of_row item) new.cursor (places_left old)
-    (places_left new)
-row_put old new item hands = record {
-  said = λ file begun lines said. row_said old new item hands file begun lines said;
-  due = λ lines end due. record {
-    items = item ∷ due.items;
-    due = hands.due due.items end due.due;
-    lines_are = ap (λ xs. line_of_row item ∷ xs) due.lines_are;
-  };
-  place_is = hands.cursor;
-  fewer = hands.fewer;
-}
+zip_drop : {A B : Type 0} (R : A → B → Type 0) (xs : List A) (ys : List B) (n : ℕ) → AllZip R xs ys → AllZip R (drop n xs) (drop n ys)
+zip_drop R xs ys zero zip = zip
+zip_drop R [] [] (suc n) zip = zip
+zip_drop R [] (y ∷ ys) (suc n) zip = absurd zip
+zip_drop R (x ∷ xs) [] (suc n) zip = absurd zip
+zip_drop R (x ∷ xs) (y ∷ ys) (suc n) (first, zip) = zip_drop R xs ys n zip
 
-pub page_put : FormsLeftGoOn → (old new : PagesView) (item : FormItem) → HandsOutPage old item new
-    → PutsLine (ArePagesDue old) (ArePagesDue new) said_no_more said_no_more (line_of_page item) new.cursor (2 ^ 32 - old.given)
-    (2 ^ 32 - new.given)
-page_put go_on old new item hands = record {
-  said = λ file begun lines said. tt;
-  due = λ lines end due. record {
-    items = item ∷ due.items;
-    due = go_on old new item due.items end hands due.due;
-    lines_are = ap (λ xs. line_of_page item ∷ xs) due.lines_are;
-  };
-  place_is = ap (λ (p : PagesView). p.cursor) hands.new_is;
-  fewer = omega (arith, hands.few, ap (λ (p : PagesView). p.given) hands.new_is);
-}
+zip_same : {A B : Type 0} (R : A → B → Type 0) → ((x : A) (y z : B) → R x y → R x z → y ≡ z) → (xs : List A) (ys zs : List B)
+    → AllZip R xs ys → AllZip R xs zs → ys ≡ zs
+zip_same R one [] [] [] left right = refl
+zip_same R one [] [] (z ∷ zs) left right = absurd right
+zip_same R one [] (y ∷ ys) zs left right = absurd left
+zip_same R one (x ∷ xs) [] zs left right = absurd left
+zip_same R one (x ∷ xs) (y ∷ ys) [] left right = absurd right
+zip_same R one (x ∷ xs) (y ∷ ys) (z ∷ zs) (first, left) (other, right) =
+    let same : y ≡ z = one x y z first other in
+    let rest : ys ≡ zs = zip_same R one xs ys zs left right in cc
 
--- what a walk told before its end it tells still
-abbrev pub StillSaid : WalkState → WalkState → Type 0
-StillSaid old new = (file : List ℕ) (begun : Begun) (lines : List Line) → HasSaid old file begun lines → HasSaid new file begun lines
+next_after-push : (begun : Begun) (lines : List Line) (line : Line) → next_after begun (lines ++ line ∷ []) ≡ line.next
+next_after-push begun [] line = refl
+next_after-push begun (first ∷ lines) line = next_after-push first.next lines line
 
-pub rows_ended : (old new : WalkState) (end : End) → HasEnded old end new
-    → AreRowsDue old [] end × (new.cursor ≡ old.cursor) × StillSaid old new
-rows_ended old new end ended = (
-  record { items = []; due = ended.due; lines_are = refl },
-  ap (λ (walk : WalkState). walk.cursor) ended.same,
-  λ file begun lines said. rw ended.same (record {
-    same_file = said.same_file;
-    same_begun = said.same_begun;
-    count = said.count;
-  }),
-)
+-- what goes on after a line of some
+pub next_at : (begun : Begun) (lines : List Line) (n : ℕ) (line : Line) → slice_get lines n ≡ Some line
+    → next_after begun (take (n + 1) lines) ≡ line.next
+next_at begun lines n line there = ap (next_after begun) (take_at lines n line there) ∙ next_after-push begun (take n lines) line
 
-pub pages_ended : FormsLeftEnd → (old new : PagesView) (end : End) → PagesHaveEnded old end new
-    → ArePagesDue old [] end × (new.cursor ≡ old.cursor)
-pages_ended ends old new end ended =
-    (record { items = []; due = (ends old new end ended).0; lines_are = refl }, ap (λ (p : PagesView). p.cursor) ended.new_is)
+-- before the first line there is what the lines began with
+pub none_given : {tail : List Line → End → Type 0} (begun : Begun) → IsOne tail → (given : ℕ) → given ≡ 0 → IsNextAfter tail begun given begun
+none_given begun one given none = rw none (record { lines = one.items; end = one.end; is = one.is; within = omega arith; next_is = refl })
 
-some_is : {a b : End} → Some a ≡ Some b → a ≡ b
+-- what goes on after a number of lines is one
+pub next_is_one : {tail : List Line → End → Type 0} (begun : Begun) → IsOne tail → (given : ℕ) (next other : Begun)
+    → IsNextAfter tail begun given next → IsNextAfter tail begun given other → next ≡ other
+next_is_one begun one given next other is is_too =
+    let first = one.one is.lines is.end is.is in
+    let second = one.one is_too.lines is_too.end is_too.is in
+    is.next_is ∙ ap (λ (l : List Line). next_after begun (take given l)) (first.0 ∙ sym second.0) ∙ sym is_too.next_is
+
+begins_if : (test : Bool) (place : LongPlace) (at : Cursor) → place.at ≡ at → begins_at (begun_at (if test then Some place else None) at) ≡ at
+begins_if true place at same = same
+begins_if false place at same = refl
+
+-- the cursor of what goes on after a row is the one after it
+pub begins_after : (form : PageForm) (item : Item) → begins_at (begun_at (long_after form item) (cursor_after item)) ≡ cursor_after item
+begins_after form item = elim (cases_after form item) [
+  | inl (last, is) ↦ rw is refl
+  | inr (inl (within, first, is)) ↦ rw is refl
+  | inr (inr (within, inside, is)) ↦ rw is (begins_if _ _ (cursor_after item) refl)
+]
+
+module _ (file : List ℕ) where
+  row_has_line : (at : Place) (item : Item) (to : Place) → IsRow file at (Ok (item, to)) → (line : Line) × IsRowLine file item line
+  row_has_line at item to (Err end, page, e) = absurd cc
+  row_has_line at item to (Ok here, page, is) = in_bytes (strip_bytes here.endian file here.offset (strip_at here.form at.row)) is
+    where
+      in_bytes : (found : Option (List ℕ)) → IsInStrip here.form at found (Ok (item, to)) → (line : Line) × IsRowLine file item line
+      in_bytes None e = absurd cc
+      in_bytes (Some bytes) (read, to_is) = (line_of_row here.form item, (here, rw (read.same_page, read.same_row) page, refl))
+
+  lines_from : (at : Place) (items : List Item) (end : End) → AreFrom (IsRow file) at items end
+      → (lines : List Line) × AllZip (IsRowLine file) items lines
+  lines_from at [] end are = ([], tt)
+  lines_from at (item ∷ items) end (to, step, rest) =
+      let first = row_has_line at item to step in
+      let later = lines_from to items end rest in (first.0 ∷ later.0, (first.1, later.1))
+
+  have_lines : (begun : Begun) (items : List Item) (end : End) → IsTailFrom file begun items end
+      → (lines : List Line) × AllZip (IsRowLine file) items lines
+  have_lines begun items end (begin, begins, are) = by_begin begin are
+    where
+      by_begin : (begin : Result (Place × ℕ) End) → AreBegun (IsRow file) begin items end
+          → (lines : List Line) × AllZip (IsRowLine file) items lines
+      by_begin (Err none) (none_left, end_is) = rw none_left ([], tt)
+      by_begin (Ok (at, n)) (all, from, rest) =
+          let lines = lines_from at all end from in rw rest (drop n lines.0, zip_drop (IsRowLine file) all lines.0 n lines.1)
+
+  pub row_lines : (begun : Begun) (items : List Item) (end : End) → IsTailFrom file begun items end
+      → (lines : List Line) × AreRowLines file begun lines end
+  row_lines begun items end tail =
+      let lines = have_lines begun items end tail in (lines.0, record { items = items; tail = tail; lines_are = lines.1 })
+
+  pub one_line : FilesHaveOneChain → (item : Item) (line other : Line) → IsRowLine file item line → IsRowLine file item other → line ≡ other
+  one_line chains item line other (here, page, is) (there, page_too, is_too) =
+      let answers = same_answer (one_page chains file (record { page = item.page; row = item.row })) (Ok here) (Ok there) page page_too in
+      let same : here ≡ there = cc in
+      is ∙ ap (λ (h : FilePage). line_of_row h.form item) same ∙ sym is_too
+
+  pub one_rows : BeginningsHaveOneTail → FilesHaveOneChain → (begun : Begun) → IsOne (AreRowLines file begun)
+  one_rows tails chains begun =
+      let one = tails file begun in
+      let lines = have_lines begun one.items one.end one.is in
+      record {
+        items = lines.0;
+        end = one.end;
+        is = record { items = one.items; tail = one.is; lines_are = lines.1 };
+        one = λ others other are.
+            let same = one.one are.items other are.tail in (
+              zip_same (IsRowLine file) (one_line chains) one.items others lines.0
+                  (subst (λ (l : List Item). AllZip (IsRowLine file) l others) same.0 are.lines_are) lines.1,
+              same.1,
+            );
+      }
+
+  -- the line of an item, and what goes on after it
+  pub record IsLineOf (begun : Begun) (n : ℕ) (item : Item) : Type 0 where
+    pub line : Line
+    pub number : IsNumber (AreRowLines file begun) n line
+    pub next : IsNextAfter (AreRowLines file begun) begun (n + 1) line.next
+    pub here : FilePage
+    pub page : IsPageAt file (record { page = item.page; row = item.row }) (Ok here)
+    pub line_is : line ≡ line_of_row here.form item
+
+  pub line_of : (begun : Begun) (n : ℕ) (item : Item) → IsItemNumber file begun n item → IsLineOf begun n item
+  line_of begun n item (all, end, tail, there) =
+      let lines = have_lines begun all end tail in
+      let are : AreRowLines file begun lines.0 end = record { items = all; tail = tail; lines_are = lines.1 } in
+      let got = zip_get (IsRowLine file) all lines.0 n item lines.1 there in
+      let within = slice_get_within lines.0 n got.0 got.1 in
+      record {
+        line = got.0;
+        number = (lines.0, end, are, got.1);
+        next = record { lines = lines.0; end = end; is = are; within = omega (arith, within); next_is = sym (next_at begun lines.0 n got.0
+            got.1) };
+        here = got.2.0;
+        page = got.2.1;
+        line_is = got.2.2;
+      }
+
+  pub rows_end : (begun : Begun) (given : ℕ) (end : End) → EndsAfter (IsTailFrom file begun) given end
+      → EndsAfter (AreRowLines file begun) given end
+  rows_end begun given end (all, tail, count) =
+      let lines = have_lines begun all end tail in (
+        lines.0,
+        record { items = all; tail = tail; lines_are = lines.1 },
+        AllZip-long (IsRowLine file) all lines.0 lines.1 ∙ count,
+      )
+
+  -- what goes on after an item has the cursor after it
+  pub cursor_of : (begun : Begun) (n : ℕ) (item : Item) → (of : IsLineOf begun n item) → begins_at of.line.next ≡ cursor_after item
+  cursor_of begun n item of = ap (λ (l : Line). begins_at l.next) of.line_is ∙ begins_after of.here.form item
+
+  pub page_number : (at : Cursor) (n : ℕ) (item : FormItem) → IsNumber (IsFormTail file at) n item
+      → IsNumber (ArePageLines file at) n (line_of_page item)
+  page_number at n item (all, end, tail, there) = (
+    map line_of_page all,
+    end,
+    record { items = all; tail = tail; lines_are = refl },
+    slice_get-map line_of_page all n ∙ ap (option_map line_of_page) there,
+  )
+
+  pub pages_end : (at : Cursor) (given : ℕ) (end : End) → EndsAfter (IsFormTail file at) given end → EndsAfter (ArePageLines file at) given end
+  pages_end at given end (all, tail, count) =
+      (map line_of_page all, record { items = all; tail = tail; lines_are = refl }, length-map all line_of_page ∙ count)
+
+  pub one_pages : CursorsHaveOneFormTail → (at : Cursor) → IsOne (ArePageLines file at)
+  one_pages tails at =
+      let one = tails file at in
+      record {
+        items = map line_of_page one.items;
+        end = one.end;
+        is = record { items = one.items; tail = one.is; lines_are = refl };
+        one = λ others other are.
+            let same = one.one are.items other are.tail in (are.lines_are ∙ ap (map line_of_page) same.0, same.1);
+      }
+
+-- what goes on after a line that is number n
+pub after_number : {tail : List Line → End → Type 0} (begun : Begun) (n : ℕ) (line : Line) → IsNumber tail n line
+    → IsNextAfter tail begun (n + 1) line.next
+after_number begun n line (lines, end, is, there) =
+    let within = slice_get_within lines n line there in
+    record { lines = lines; end = end; is = is; within = omega (arith, within); next_is = sym (next_at begun lines n line there) }
+
+-- the line of an item is collected
+pub row_put : (file : List ℕ) (begun : Begun) (given new_given : ℕ) (item : Item) (page row : ℕ) (pels : List Colour) (text new_text : List ℕ)
+    → IsItemNumber file begun given item → item.page ≡ page → item.row ≡ row → item.pels ≡ pels → new_given ≡ given + 1
+    → new_text ≡ text ++ row_line_of page row (runs_of pels)
+    → IsLinePut (AreRowLines file begun) given text (Ok None) new_given new_text
+row_put file begun given new_given item page row pels text new_text number page_is row_is pels_are more grown =
+    let of = line_of file begun given item number in
+    let same : row_line_of page row (runs_of pels) ≡ row_line item = rw (page_is, row_is, pels_are) refl in (
+      of.line,
+      of.number,
+      more,
+      grown ∙ ap (λ (l : List ℕ). text ++ l) (same ∙ ap (λ (l : Line). l.text) (sym of.line_is)),
+    )
+
+-- the cursor after so many rows
+pub row_cursor : BeginningsHaveOneTail → (walk : WalkView) (at : Cursor) → IsCursorOf walk at
+    → (next : Begun) × IsNextAfter (AreRowLines walk.file walk.begun) walk.begun walk.given next × (at ≡ begins_at next)
+row_cursor tails walk at (inl (none, is)) =
+    let one = tails walk.file walk.begun in
+    let lines = row_lines walk.file walk.begun one.items one.end one.is in (
+      walk.begun,
+      rw none (record { lines = lines.0; end = one.end; is = lines.1; within = omega arith; next_is = refl }),
+      is,
+    )
+row_cursor tails walk at (inr (before, item, count, number, is)) =
+    let of = line_of walk.file walk.begun before item number in
+    (of.line.next, rw count of.next, is ∙ sym (cursor_of walk.file walk.begun before item of))
+
+inside_of : (place : Option LongPlace) (at : Cursor) → begins_inside (begun_at place at) ≡ place
+inside_of None at = refl
+inside_of (Some place) at = refl
+
+-- the place inside a strip after so many rows
+row_place : BeginningsHaveOneTail → FilesHaveOneChain → (walk : WalkView) (place : Option LongPlace) → IsLongOf walk place
+    → (next : Begun) × IsNextAfter (AreRowLines walk.file walk.begun) walk.begun walk.given next × (place ≡ begins_inside next)
+row_place tails chains walk place (inl (none, is)) =
+    (walk.begun, none_given walk.begun (one_rows walk.file tails chains walk.begun) walk.given none, is)
+row_place tails chains walk place (inr (before, item, here, count, number, page, is)) =
+    let of = line_of walk.file walk.begun before item number in
+    let same = one_line walk.file chains item of.line (line_of_row here.form item) (of.here, of.page, of.line_is) (here, page, refl) in
+    (
+      of.line.next,
+      rw count of.next,
+      is ∙ sym (ap (λ (l : Line). begins_inside l.next) same ∙ inside_of (long_after here.form item) (cursor_after item)),
+    )
+
+pub row_places : BeginningsHaveOneTail → FilesHaveOneChain → (walk : WalkView) (answer : Result (Option LongPlace) NoMemory)
+    → IfOk answer (IsLongOf walk)
+    → IfOk answer (λ place. (next : Begun) × IsNextAfter (AreRowLines walk.file walk.begun) walk.begun walk.given next
+    × (place ≡ begins_inside next))
+row_places tails chains walk (Ok place) is = row_place tails chains walk place is
+row_places tails chains walk (Err memory) is = tt
+
+-- a reader of pages stands after the page that it handed out last
+abbrev pub Stands : PagesView → Type 0
+Stands pages = IsNextAfter (ArePageLines pages.file pages.begun) (At pages.begun) pages.given (At pages.cursor)
+
+pub first_stands : CursorsHaveOneFormTail → (pages : PagesView) (file : List ℕ) (at : Cursor) → pages ≡ pages_from file at → Stands pages
+first_stands tails pages file at is = rw is (none_given (At at) (one_pages file tails at) 0 refl)
+
+still : (old new : PagesView) (end : End) → PagesHaveEnded old end new → Stands old → Stands new
+still old new end ended stands = rw ended.new_is stands
+
+pub pages_stand : (old new : PagesView) (answer : Result (Option (ℕ × PageForm)) WalkFault) → IsNextPage old answer new → Stands old
+    → Stands new
+pages_stand old new (Ok (Some found)) hands stands =
+    let item : FormItem = record { page = found.0; form = found.1 } in
+    rw hands.new_is (after_number (At old.begun) old.given (line_of_page item)
+    (page_number old.file old.begun old.given item hands.number))
+pages_stand old new (Ok None) ended stands = still old new Proper ended stands
+pages_stand old new (Err (AtRow page row cause)) ended stands = still old new (Fault page row cause) ended stands
+pages_stand old new (Err CursorOutside) ended stands = still old new Outside ended stands
+pages_stand old new (Err Memory) ended stands = absurd ended
+
+abbrev pub IsPagePut : PagesView → PagesView → List ℕ → Result (Option End) NoMemory → List ℕ → Type 0
+IsPagePut old new text answer new_text = IsLinePut (ArePageLines old.file old.begun) old.given text answer new.given new_text
+
+pub page_put : (old new : PagesView) (item : FormItem) (text new_text : List ℕ) → HandsOutPage old item new
+    → new_text ≡ text ++ page_line_of item.page item.form → IsPagePut old new text (Ok None) new_text
+page_put old new item text new_text hands grown =
+    (line_of_page item, page_number old.file old.begun old.given item hands.number, ap (λ (p : PagesView). p.given) hands.new_is, grown)
+
+pub pages_ended : (old new : PagesView) (end : End) (text : List ℕ) → PagesHaveEnded old end new → IsPagePut old new text (Ok (Some end)) text
+pages_ended old new end text ended =
+    (pages_end old.file old.begun old.given end ended.ends, ap (λ (p : PagesView). p.given) ended.new_is, refl)
+
+pub some_is : {a b : End} → Some a ≡ Some b → a ≡ b
 some_is e = cc e
 
-none_is : {a : End} → None ≡ Some a → ⊥
+pub none_is : {a : End} → None ≡ Some a → ⊥
 none_is e = cc e
 
-pub rows_refused : (old new : WalkState) (fault : WalkFault) (end : End) → IsNext old (Err fault) new → end_of fault ≡ Some end
-    → AreRowsDue old [] end × (new.cursor ≡ old.cursor) × StillSaid old new
-rows_refused old new (AtRow page row cause) end ended is = rows_ended old new end (rw (some_is is) at ended.0)
-rows_refused old new CursorOutside end ended is = rows_ended old new end (rw (some_is is) at ended.0)
-rows_refused old new Memory end ended is = absurd (none_is is)
-
-pub pages_refused : FormsLeftEnd → (old new : PagesView) (fault : WalkFault) (end : End) → IsNextPage old (Err fault) new
+pub pages_refused : (old new : PagesView) (fault : WalkFault) (end : End) (text : List ℕ) → IsNextPage old (Err fault) new
     → end_of fault ≡ Some end
-    → ArePagesDue old [] end × (new.cursor ≡ old.cursor)
-pages_refused ends old new (AtRow page row cause) end ended is = pages_ended ends old new end (rw (some_is is) at ended)
-pages_refused ends old new CursorOutside end ended is = pages_ended ends old new end (rw (some_is is) at ended)
-pages_refused ends old new Memory end ended is = absurd (none_is is)
+    → IsPagePut old new text (Ok (Some end)) text
+pages_refused old new (AtRow page row cause) end text ended is = pages_ended old new end text (rw (some_is is) at ended)
+pages_refused old new CursorOutside end text ended is = pages_ended old new end text (rw (some_is is) at ended)
+pages_refused old new Memory end text ended is = absurd (none_is is)
+
+still_same : (old new : PagesView) (end : End) → PagesHaveEnded old end new → (lines : List Line) (met : End)
+    → ArePageLines old.file old.begun lines met ↔ ArePageLines new.file new.begun lines met
+still_same old new end ended lines met = rw ended.new_is (λ are. are, λ are. are)
+
+-- all pages of a reader stay the same
+pub same_pages : (old new : PagesView) (answer : Result (Option (ℕ × PageForm)) WalkFault) → IsNextPage old answer new
+    → (lines : List Line) (end : End) → ArePageLines old.file old.begun lines end ↔ ArePageLines new.file new.begun lines end
+same_pages old new (Ok (Some found)) hands lines end = rw hands.new_is (λ are. are, λ are. are)
+same_pages old new (Ok None) ended lines end = still_same old new Proper ended lines end
+same_pages old new (Err (AtRow page row cause)) ended lines end = still_same old new (Fault page row cause) ended lines end
+same_pages old new (Err CursorOutside) ended lines end = still_same old new Outside ended lines end
+same_pages old new (Err Memory) ended lines end = absurd ended
+
+-- the rows ended so
+pub rows_refused : (old new : WalkView) (fault : WalkFault) (end : End) → IsNext old (Err fault) new → end_of fault ≡ Some end
+    → HasEndedAs old end new
+rows_refused old new (AtRow page row cause) end ended is = rw (some_is is) at ended
+rows_refused old new CursorOutside end ended is = rw (some_is is) at ended
+rows_refused old new Memory end ended is = absurd (none_is is)

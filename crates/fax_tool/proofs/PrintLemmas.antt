@@ -1,15 +1,26 @@
 -- Lines that are printed, one after another.
-use Rattle.std.proofs.Common.{◌≡◌, ℕ, ◌+◌, ◌-◌, ◌<◌, List, [], ◌∷◌, ◌++◌, length, refl, ap, sym, ◌∙◌, append_assoc, append-nil, arith}
-use Rattle.std.proofs.Common.{length-append}
-use Rattle.std.specs.Prelude.{Option, Some, None, IfSome, option_map}
+use Rattle.std.proofs.Common.{◌≡◌, ℕ, ◌+◌, ◌-◌, ◌<◌, ◌≤◌, List, [], ◌∷◌, ◌++◌, length, take, refl, ap, sym, ◌∙◌, append_assoc, append-nil}
+use Rattle.std.proofs.Common.{arith, ◌↔◌, ◌⊎◌, inl, inr, subst, Bool, Result, Ok, Err}
+use Rattle.std.proofs.lemmas.Option.{slice_get_within}
+use Rattle.std.specs.Prelude.{Option, Some, None, IfSome, option_map, false, slice_get, IfErr}
 use Rattle.std.specs.Io.KnownBytes.{Appends}
 use Rattle.std.proofs.KnownBytes.{Appends-nil, Appends-trans}
+use Rattle.fax_walk.specs.declared.begun.Begun.{Begun}
+use Rattle.fax_walk.specs.declared.begun.Begun.TheVariants.{At}
 use Rattle.fax_walk.specs.declared.cursor.Cursor.{Cursor}
 use Rattle.fax_walk.specs.declared.end.End.{End}
-use Rattle.fax_tool.specs.Text.{Line, texts_of, last_cursor}
-use Rattle.fax_walk.specs.declared.begun.Begun.{Begun}
-use Rattle.fax_tool.specs.code.Printing.{Said, PutsLine, PrintsLines, PrintsAll, last_line}
-use Rattle.fax_tool.specs.code.Transfers.{SendsPart}
+use Rattle.fax_walk.specs.InOrder.{IsNumber, EndsAfter}
+use Rattle.fax_walk.specs.Laws.{IsOne}
+use Rattle.fax_walk.specs.Rows.{begins_at}
+use Rattle.fax_tool.specs.declared.refusal.Refusal.{Refusal}
+use Rattle.fax_tool.specs.Streams.{Counts, output_after}
+use Rattle.fax_tool.specs.Text.{Line, named, next_after, next_line, texts_of}
+use Rattle.fax_tool.specs.Run.{IsTextOfFirst}
+use Rattle.fax_tool.specs.code.Outcome.{StopsPrinting, StopsWith}
+use Rattle.fax_tool.specs.code.Printing.{IsLastLine, IsNextAfter, IsNextLine, PrintsLines}
+use Rattle.fax_tool.specs.code.Transfers.{IsGivenInPart, SendsPart}
+use Rattle.fax_tool.proofs.LineLemmas.{take_at}
+use Rattle.fax_tool.proofs.StopLemmas.{NoText, stops_after, stops_at, stops_in_front, stops_in_part, stops_more}
 
 -- the limit is so much above what is left of it, where there is one
 abbrev pub IsLeftOf : Option ℕ → Option ℕ → ℕ → Type 0
@@ -18,95 +29,48 @@ IsLeftOf (Some limit) (Some left) count = left + count ≡ limit
 IsLeftOf None (Some left) count = ⊥
 IsLeftOf (Some limit) None count = ⊥
 
--- some of the lines are printed, the last part of their text is collected only, and so much of the limit is left
-pub record PrintsSome (old now : List Line → End → Type 0) (old_said now_said : Said) (at place : Cursor) (max left : Option ℕ)
-    (output written : Option (List ℕ)) (text : List ℕ) : Type 0 where
+-- so many of the lines are printed, the last part of their text is collected only, and so much of the limit is left
+pub record PrintsSome (tail now : List Line → End → Type 0) (given : ℕ) (max left : Option ℕ) (output written : Option (List ℕ))
+    (text : List ℕ) : Type 0 where
   pub lines : List Line
-  pub due : (rest : List Line) (end : End) → now rest end → old (lines ++ rest) end
-  pub place_is : place ≡ last_cursor at lines
-  pub told : (file : List ℕ) (begun : Begun) → old_said file begun [] → now_said file begun lines
-  pub limit : IsLeftOf max left (length lines)
+  pub end : End
+  pub is : tail lines end
+  pub same : (all : List Line) (end : End) → tail all end ↔ now all end
+  pub within : given ≤ length lines
+  pub limit : IsLeftOf max left given
   pub sent : List ℕ
   pub printed : Appends output written sent
-  pub collected : texts_of lines ≡ sent ++ text
+  pub collected : texts_of (take given lines) ≡ sent ++ text
 
 all_left : (max : Option ℕ) → IsLeftOf max max 0
 all_left None = tt
 all_left (Some limit) = omega arith
 
-pub none_printed : (due : List Line → End → Type 0) (said : Said) (at : Cursor) (max : Option ℕ) (output : Option (List ℕ))
-    → PrintsSome due due said said at at max max output output []
-none_printed due said at max output = record {
-  lines = [];
-  due = λ rest end due. due;
-  place_is = refl;
-  told = λ file begun said. said;
+pub none_printed : (tail : List Line → End → Type 0) (given : ℕ) (max : Option ℕ) (output : Option (List ℕ)) → IsOne tail → given ≡ 0
+    → PrintsSome tail tail given max max output output []
+none_printed tail given max output one none = rw none (record {
+  lines = one.items;
+  end = one.end;
+  is = one.is;
+  same = λ all end. (λ is. is, λ is. is);
+  within = omega arith;
   limit = all_left max;
   sent = [];
   printed = Appends-nil output;
   collected = refl;
-}
+})
 
 texts_of-push : (lines : List Line) (line : Line) → texts_of (lines ++ line ∷ []) ≡ texts_of lines ++ line.text
 texts_of-push [] line = append-nil line.text
 texts_of-push (first ∷ lines) line =
     ap (λ text. first.text ++ text) (texts_of-push lines line) ∙ sym (append_assoc first.text (texts_of lines) line.text)
 
-pub last_cursor-push : (at : Cursor) (lines : List Line) (line : Line) → last_cursor at (lines ++ line ∷ []) ≡ line.cursor
-last_cursor-push at [] line = refl
-last_cursor-push at (first ∷ lines) line = last_cursor-push first.cursor lines line
-
-one_less_left : (max left : Option ℕ) (count new_count : ℕ) → IsLeftOf max left count → IfSome left (λ n. 0 < n) → new_count ≡ count + 1
-    → IsLeftOf max (option_map (λ n. n - 1) left) new_count
-one_less_left None None count new_count is some grown = tt
-one_less_left None (Some left) count new_count is some grown = absurd is
-one_less_left (Some limit) None count new_count is some grown = absurd is
-one_less_left (Some limit) (Some left) count new_count is some grown = omega arith
-
-pub one_more : (old now new : List Line → End → Type 0) (old_said now_said new_said : Said) (at place new_place : Cursor)
-    (max left new_left : Option ℕ) (line : Line)
-    (output written : Option (List ℕ)) (text new_text : List ℕ) (bound new_bound : ℕ)
-    → PrintsSome old now old_said now_said at place max left output written text
-    → PutsLine now new now_said new_said line new_place bound new_bound → IfSome left (λ n. 0 < n) → new_left ≡ option_map (λ n. n - 1) left
-    → new_text ≡ text ++ line.text
-    → PrintsSome old new old_said new_said at new_place max new_left output written new_text
-one_more old now new old_said now_said new_said at place new_place max left new_left line output written text new_text bound new_bound some
-    puts above less grown = record {
-      lines = some.lines ++ line ∷ [];
-      due = λ rest end due. rw (append_assoc some.lines (line ∷ []) rest) (some.due (line ∷ rest) end (puts.due rest end due));
-      place_is = puts.place_is ∙ sym (last_cursor-push at some.lines line);
-      told = λ file begun said. puts.said file begun some.lines (some.told file begun said);
-      limit = rw less (one_less_left max left (length some.lines) (length (some.lines ++ line ∷ [])) some.limit above
-          (length-append some.lines (line ∷ [])));
-      sent = some.sent;
-      printed = some.printed;
-      collected = texts_of-push some.lines line ∙ ap (λ xs. xs ++ line.text) some.collected ∙ append_assoc some.sent text line.text
-          ∙ ap (λ xs. some.sent ++ xs) (sym grown);
-    }
-
-pub part_sent : (old now : List Line → End → Type 0) (old_said now_said : Said) (at place : Cursor) (max left : Option ℕ)
-    (output written new_written : Option (List ℕ))
-    (text new_text : List ℕ) → PrintsSome old now old_said now_said at place max left output written text
-    → SendsPart written new_written text new_text
-    → PrintsSome old now old_said now_said at place max left output new_written new_text
-part_sent old now old_said now_said at place max left output written new_written text new_text some sends = record {
-  lines = some.lines;
-  due = some.due;
-  place_is = some.place_is;
-  told = some.told;
-  limit = some.limit;
-  sent = some.sent ++ sends.part;
-  printed = Appends-trans output written new_written some.sent sends.part some.printed sends.written;
-  collected = some.collected ∙ ap (λ xs. some.sent ++ xs) sends.parts ∙ sym (append_assoc some.sent sends.part new_text);
-}
-
--- all of the lines' text is written
-all_written : (old now : List Line → End → Type 0) (old_said now_said : Said) (at place : Cursor) (max left : Option ℕ)
-    (output written new_written : Option (List ℕ))
-    (text : List ℕ) (some : PrintsSome old now old_said now_said at place max left output written text) → Appends written new_written text
-    → Appends output new_written (texts_of some.lines)
-all_written old now old_said now_said at place max left output written new_written text some moved =
-    rw some.collected (Appends-trans output written new_written some.sent text some.printed moved)
+one_less_left : (max left : Option ℕ) (count : ℕ) → IsLeftOf max left count → IfSome left (λ n. 0 < n)
+    → IsLeftOf max (option_map (λ n. n - 1) left) (count + 1)
+one_less_left None None count is some = tt
+one_less_left None (Some left) count is some = absurd is
+one_less_left (Some limit) None count is some = absurd is
+one_less_left (Some limit) (Some left) count is some = omega arith
 
 at_limit : (max : Option ℕ) (count : ℕ) → IsLeftOf max (Some 0) count → max ≡ Some count
 at_limit None count is = absurd is
@@ -117,59 +81,177 @@ below_limit None left count is above = tt
 below_limit (Some limit) None count is above = absurd is
 below_limit (Some limit) (Some left) count is above = omega arith
 
--- the lines have ended at the limit
-pub ended_at_limit : (old now : List Line → End → Type 0) (old_said now_said : Said) (at place : Cursor) (max left : Option ℕ)
-    (output written new_written : Option (List ℕ)) (text : List ℕ)
-    → PrintsSome old now old_said now_said at place max left output written text → left ≡ Some 0
-    → ((lines : List Line) × (end : End) × now lines end) → Appends written new_written text
-    → PrintsLines old old_said now_said at max None place output new_written
-ended_at_limit old now old_said now_said at place max left output written new_written text some none_left others moved = record {
-  lines = some.lines;
-  others = others.0;
-  end = others.1;
-  due = some.due others.0 others.1 others.2;
-  ends = at_limit max (length some.lines) (rw none_left at some.limit);
-  place_is = some.place_is;
-  told = some.told;
-  printed = all_written old now old_said now_said at place max left output written new_written text some moved;
-}
+within_limit : (max left : Option ℕ) (count : ℕ) → IsLeftOf max left count → IfSome max (λ limit. count ≤ limit)
+within_limit None left count is = tt
+within_limit (Some limit) None count is = absurd is
+within_limit (Some limit) (Some left) count is = omega arith
 
--- all lines are printed
-pub ended_at_end : (old now : List Line → End → Type 0) (old_said now_said new_said : Said) (at place new_place : Cursor)
-    (max left : Option ℕ) (end : End)
-    (output written new_written : Option (List ℕ)) (text new_text : List ℕ)
-    → PrintsSome old now old_said now_said at place max left output written text → IfSome left (λ n. 0 < n)
-    → now [] end → new_place ≡ place → new_text ≡ text
-    → ((file : List ℕ) (begun : Begun) (lines : List Line) → now_said file begun lines → new_said file begun lines)
-    → Appends written new_written new_text
-    → PrintsLines old old_said new_said at max (Some end) new_place output new_written
-ended_at_end old now old_said now_said new_said at place new_place max left end output written new_written text new_text some above due
-    same_place same still moved = record {
+module _ (tail now : List Line → End → Type 0) (one : IsOne tail) (given : ℕ) (max left : Option ℕ)
+    (output written : Option (List ℕ)) (text : List ℕ) (some : PrintsSome tail now given max left output written text) where
+  -- these are the lines
+  lines_are : (all : List Line) (end : End) → now all end → (all ≡ some.lines) × (end ≡ some.end)
+  lines_are all end is =
+      let first = one.one some.lines some.end some.is in
+      let second = one.one all end ((some.same all end).1 is) in (second.0 ∙ sym first.0, second.1 ∙ sym first.1)
+
+  pub part_sent : (new_written : Option (List ℕ)) (new_text : List ℕ) → SendsPart written new_written text new_text
+      → PrintsSome tail now given max left output new_written new_text
+  part_sent new_written new_text sends = record {
+    lines = some.lines;
+    end = some.end;
+    is = some.is;
+    same = some.same;
+    within = some.within;
+    limit = some.limit;
+    sent = some.sent ++ sends.part;
+    printed = Appends-trans output written new_written some.sent sends.part some.printed sends.written;
+    collected = some.collected ∙ ap (λ xs. some.sent ++ xs) sends.parts ∙ sym (append_assoc some.sent sends.part new_text);
+  }
+
+  pub one_more : (new : List Line → End → Type 0) (new_given : ℕ) (new_left : Option ℕ) (line : Line) (new_text : List ℕ)
+      → ((all : List Line) (end : End) → now all end ↔ new all end) → IsNumber now given line → new_given ≡ given + 1
+      → IfSome left (λ n. 0 < n) → new_left ≡ option_map (λ n. n - 1) left → new_text ≡ text ++ line.text
+      → PrintsSome tail new new_given max new_left output written new_text
+  one_more new new_given new_left line new_text same (all, end, is, there) more above less grown =
+      let here : slice_get some.lines given ≡ Some line =
+      subst (λ (l : List Line). slice_get l given ≡ Some line) (lines_are all end is).0 there in
+      let within = slice_get_within some.lines given line here in
+      rw (more, less) (record {
+        lines = some.lines;
+        end = some.end;
+        is = some.is;
+        same = λ xs e. (λ h. (same xs e).0 ((some.same xs e).0 h), λ h. (some.same xs e).1 ((same xs e).1 h));
+        within = omega (arith, within);
+        limit = one_less_left max left given some.limit above;
+        sent = some.sent;
+        printed = some.printed;
+        collected = ap texts_of (take_at some.lines given line here) ∙ texts_of-push (take given some.lines) line
+            ∙ ap (λ xs. xs ++ line.text) some.collected ∙ append_assoc some.sent text line.text
+            ∙ ap (λ xs. some.sent ++ xs) (sym grown);
+      })
+
+  -- all of the lines' text is written
+  all_written : (new_written : Option (List ℕ)) → Appends written new_written text → Appends output new_written (texts_of (take given some.lines))
+  all_written new_written moved =
+      rw some.collected (Appends-trans output written new_written some.sent text some.printed moved)
+
+  pub ended_at_limit : (new_written : Option (List ℕ)) → left ≡ Some 0 → Appends written new_written text
+      → PrintsLines tail max None given output new_written
+  ended_at_limit new_written none_left moved = record {
+    lines = some.lines;
+    end = some.end;
+    is = some.is;
+    ends = (at_limit max given (rw none_left at some.limit), some.within);
+    printed = all_written new_written moved;
+  }
+
+  pub ended_at_end : (end : End) (new_given : ℕ) (new_written : Option (List ℕ)) (new_text : List ℕ) → IfSome left (λ n. 0 < n)
+      → EndsAfter now given end → new_given ≡ given → new_text ≡ text → Appends written new_written new_text
+      → PrintsLines tail max (Some end) new_given output new_written
+  ended_at_end end new_given new_written new_text above (all, is, count) still same moved =
+      let are = lines_are all end is in
+      rw still (record {
+        lines = some.lines;
+        end = some.end;
+        is = some.is;
+        ends = (sym are.1, sym count ∙ ap (λ (l : List Line). length l) are.0, below_limit max left given some.limit above);
+        printed = all_written new_written (rw same at moved);
+      })
+
+  module _ (begun : Begun) where
+    -- where to go on after the lines so far
+    abbrev pub next : List ℕ
+    next = next_line (named false (next_after begun (take given some.lines)))
+
+    first_lines : IsTextOfFirst tail max begun (some.sent ++ (text ++ next))
+    first_lines = record {
       lines = some.lines;
-      others = [];
-      end = end;
-      due = some.due [] end due;
-      ends = (refl, refl, below_limit max left (length some.lines) some.limit above);
-      place_is = same_place ∙ some.place_is;
-      told = λ file begun said. still file begun some.lines (some.told file begun said);
-      printed = all_written old now old_said now_said at place max left output written new_written text some (rw same at moved);
+      end = some.end;
+      is = some.is;
+      count = given;
+      some = some.within;
+      within = within_limit max left given some.limit;
+      output_is = sym (append_assoc some.sent text next) ∙ ap (λ xs. xs ++ next) (sym some.collected);
     }
 
--- the last line is printed after the lines
-pub with_last_line : (due : List Line → End → Type 0) (said new_said : Said) (at place : Cursor) (max : Option ℕ) (ending : Option End)
-    (output written new_written : Option (List ℕ)) (cursor : Cursor)
-    → PrintsLines due said new_said at max ending place output written → cursor ≡ place
-    → Appends written new_written (last_line ending cursor)
-    → PrintsAll due at max ending output new_written
-with_last_line due said new_said at place max ending output written new_written cursor prints same moved =
-    let line : last_line ending cursor ≡ last_line ending (last_cursor at prints.lines) =
-    ap (λ (place : Cursor). last_line ending place) (same ∙ prints.place_is) in record {
-      lines = prints.lines;
-      others = prints.others;
-      end = prints.end;
-      due = prints.due;
-      ends = prints.ends;
-      printed =
-          Appends-trans output written new_written (texts_of prints.lines) (last_line ending (last_cursor at prints.lines)) prints.printed
-          (rw line at moved);
-    }
+    -- a write of collected text was refused
+    pub stopped_for_write : (new_written : Option (List ℕ)) (counts : Counts) (refusal : Refusal)
+        → IsGivenInPart written new_written text counts refusal
+        → StopsPrinting NoText (IsTextOfFirst tail max begun) refusal (output_after output new_written counts)
+    stopped_for_write new_written counts refusal given_in_part =
+        let first : List ℕ → Type 0 = λ (t : List ℕ). IsTextOfFirst tail max begun (some.sent ++ t) in
+        stops_after NoText NoText (λ (t : List ℕ). IsTextOfFirst tail max begun (some.sent ++ t)) (IsTextOfFirst tail max begun) refusal output
+        written new_written counts some.sent some.printed (λ printed none. absurd none) (λ t holds. holds)
+        (stops_in_front (λ (t : List ℕ). IsTextOfFirst tail max begun (some.sent ++ t)) written new_written text next counts refusal
+        first_lines given_in_part)
+
+    -- memory was refused, and the lines so far and where to go on were to be written
+    pub stopped_for_memory : (now_begun : Begun) (cursor : Cursor) (new_written : Option (List ℕ)) (shown line : List ℕ) (counts : Counts)
+        (refusal : Refusal) → now_begun ≡ begun
+        → ((from : Begun) × IsNextAfter now now_begun given from × (cursor ≡ begins_at from)) → shown ≡ text
+        → line ≡ next_line (At cursor)
+        → StopsWith (shown ++ line) refusal (output_after written new_written counts)
+        → StopsPrinting NoText (IsTextOfFirst tail max begun) refusal (output_after output new_written counts)
+    stopped_for_memory now_begun cursor new_written shown line counts refusal same_begun (from, after, at) same line_is stops =
+        let are = lines_are after.lines after.end after.is in
+        let from_is : from ≡ next_after begun (take given some.lines) =
+        after.next_is ∙ ap (λ (b : Begun). next_after b (take given after.lines)) same_begun
+        ∙ ap (λ (l : List Line). next_after begun (take given l)) are.0 in
+        let next_is : line ≡ next = line_is ∙ ap (λ (c : Cursor). next_line (At c)) at ∙ ap (λ (b : Begun). next_line (named false b)) from_is in
+        stops_after NoText NoText (λ (t : List ℕ). t ≡ shown ++ line) (IsTextOfFirst tail max begun) refusal output written new_written counts
+        some.sent some.printed (λ printed none. absurd none)
+        (λ t is. rw (is, same, next_is) first_lines) stops
+
+-- where to go on at the cursor after so many lines
+pub next_of_cursor : (tail : List Line → End → Type 0) (begun : Begun) (given : ℕ) (cursor : Cursor) (line : List ℕ)
+    → ((next : Begun) × IsNextAfter tail begun given next × (cursor ≡ begins_at next)) → line ≡ next_line (At cursor)
+    → IsNextLine tail begun given false line
+next_of_cursor tail begun given cursor line (next, after, at) line_is = (next, after, line_is ∙ ap (λ (c : Cursor). next_line (At c)) at)
+
+module _ (tail : List Line → End → Type 0) (begun : Begun) (given : ℕ) (long : Bool) (old new : Option (List ℕ)) (counts : Counts) where
+  abbrev StopsNext : Refusal → Type 0
+  StopsNext refusal =
+      StopsPrinting (λ printed. IsNextLine tail begun given long printed.output) (IsNextLine tail begun given false) refusal
+      (output_after old new counts)
+
+  -- where to go on was given in part
+  pub next_stopped : (answer : Result Unit Refusal) (bytes : List ℕ)
+      → IsNextLine tail begun given long bytes ⊎ IsNextLine tail begun given false bytes
+      → IfErr answer (IsGivenInPart old new bytes counts) → IfErr answer StopsNext
+  next_stopped (Ok done) bytes is part = tt
+  next_stopped (Err refusal) bytes (inl is) part =
+      stops_at (λ printed. IsNextLine tail begun given long printed.output) (IsNextLine tail begun given false) old new bytes counts refusal
+      is part
+  next_stopped (Err refusal) bytes (inr is) part =
+      stops_in_part (λ printed. IsNextLine tail begun given long printed.output) (IsNextLine tail begun given false) old new bytes counts
+      refusal (inr is) part
+
+  -- memory was refused for the line with a long cursor
+  pub next_unmade : (refusal : Refusal) (line : List ℕ) → IsNextLine tail begun given false line
+      → StopsWith line refusal (output_after old new counts) → StopsNext refusal
+  next_unmade refusal line is stops =
+      stops_more NoText (λ printed. IsNextLine tail begun given long printed.output) (λ t. t ≡ line) (IsNextLine tail begun given false)
+      refusal (output_after old new counts) (λ printed none. absurd none) (λ t same. rw same is) stops
+
+  abbrev StopsLast : Option End → Refusal → Type 0
+  StopsLast ending refusal =
+      StopsPrinting (λ printed. IsLastLine tail begun given long ending printed.output) (IsNextLine tail begun given false) refusal
+      (output_after old new counts)
+
+  -- the last line was given in part
+  pub last_stopped : (ending : Option End) (answer : Result Unit Refusal) (bytes : List ℕ) → IsLastLine tail begun given long ending bytes
+      → IfErr answer (IsGivenInPart old new bytes counts) → IfErr answer (StopsLast ending)
+  last_stopped ending (Ok done) bytes is part = tt
+  last_stopped ending (Err refusal) bytes is part =
+      stops_at (λ printed. IsLastLine tail begun given long ending printed.output) (IsNextLine tail begun given false) old new bytes counts
+      refusal is part
+
+  -- the last line says where to go on
+  pub next_is_last : (ending : Option End) (answer : Result Unit Refusal)
+      → ((line : List ℕ) → IsNextLine tail begun given long line → IsLastLine tail begun given long ending line) → IfErr answer StopsNext
+      → IfErr answer (StopsLast ending)
+  next_is_last ending (Ok done) turns stops = tt
+  next_is_last ending (Err refusal) turns stops =
+      stops_more (λ printed. IsNextLine tail begun given long printed.output) (λ printed. IsLastLine tail begun given long ending printed.output)
+      (IsNextLine tail begun given false) (IsNextLine tail begun given false) refusal (output_after old new counts)
+      (λ printed is. turns printed.output is) (λ text is. is) stops

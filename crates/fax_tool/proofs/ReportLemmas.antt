@@ -2,49 +2,51 @@
 use Rattle.std.proofs.Common.{◌≡◌, ℕ, ◌<◌, List, inl, inr, sym, ◌∙◌, arith}
 use Rattle.std.specs.Prelude.{Option, Some, None, IfSome, IfOk, IfErr, Result, Ok, Err}
 use Rattle.std.specs.Io.KnownBytes.{Appends}
-use Rattle.fax_tool.specs.declared.fault.InputFault.{InputFault}
 use Rattle.fax_tool.specs.declared.refusal.Refusal.{Refusal}
 use Rattle.fax_tool.specs.declared.words.Command.{Command}
-use Rattle.fax_tool.specs.Streams.{Counts}
-use Rattle.fax_tool.specs.Run.{IsRefused, WritesOutputAlone, WritesText}
-use Rattle.fax_tool.specs.code.Outcome.{IsReport, IsStopped, WritesOutput, error_of, status_of}
+use Rattle.fax_tool.specs.Streams.{Input, Output}
+use Rattle.fax_tool.specs.Text.{Printed}
+use Rattle.fax_tool.specs.Run.{AppendsText, IsRefused, IsTextOf, WritesText}
+use Rattle.fax_tool.specs.code.Outcome.{IsDone, IsReport, IsStopped, WritesOutput, error_of, status_of}
 
-low_status : (fault : Option InputFault) → status_of fault ≡ 3 → ⊥
+low_status : (line : Option (List ℕ)) → status_of line ≡ 3 → ⊥
 low_status None is = omega (arith, is)
-low_status (Some fault) is = omega (arith, is)
+low_status (Some line) is = omega (arith, is)
 
-module _ (command : Command) (input : Counts) (taken : ℕ) (counts error_counts : Counts)
-    (output new_output error new_error : Option (List ℕ)) where
-  output_alone : (left : Option (List ℕ)) (fault : Option InputFault)
-      → IfSome left (λ file. WritesOutput command file output new_output fault) → WritesOutputAlone command left output new_output
-  output_alone None fault writes = tt
-  output_alone (Some file) fault writes = (writes.printed, writes.is, writes.output_is)
+module _ (command : Command) (input : Input) (output error : Output) where
+  output_alone : (bytes : Option (List ℕ)) (line : Option (List ℕ))
+      → IfSome bytes (λ file. WritesOutput (IsTextOf command file) output line)
+      → IfSome bytes (λ file. (printed : Printed) × IsTextOf command file printed × Appends output.before output.after printed.output)
+  output_alone None line writes = tt
+  output_alone (Some file) line writes = (writes.printed, writes.is, writes.output_is)
 
-  text_written : (left : Option (List ℕ)) (fault : Option InputFault) (status : ℕ)
-      → IfSome left (λ file. WritesOutput command file output new_output fault)
-      → Appends error new_error (error_of fault) → status ≡ status_of fault
-      → WritesText command left output new_output error new_error status
-  text_written None fault status writes said is = tt
-  text_written (Some file) fault status writes said is = (
+  text_written : (bytes : Option (List ℕ)) (line : Option (List ℕ)) (status : ℕ)
+      → IfSome bytes (λ file. WritesOutput (IsTextOf command file) output line) → Appends error.before error.after (error_of line)
+      → status ≡ status_of line
+      → IfSome bytes (λ file. (printed : Printed) × IsTextOf command file printed × AppendsText printed output error status)
+  text_written None line status writes said is = tt
+  text_written (Some file) line status writes said is = (
     writes.printed,
     writes.is,
     record { output_is = writes.output_is; error_is = rw writes.error_is said; status_is = is ∙ sym writes.status_is },
   )
 
-  pub run_refused : (left : Option (List ℕ)) (outcome : Result (Option InputFault) Refusal) (status : ℕ)
-      → IfOk outcome (λ fault. IfSome left (λ file. WritesOutput command file output new_output fault))
-      → IfErr outcome (λ refusal. IsStopped command left refusal input taken counts output new_output)
-      → IsReport outcome error new_error error_counts status → status ≡ 3
-      → IsRefused command left input taken counts error_counts output new_output error new_error
-  run_refused left (Ok fault) status ok err (inl (said, is)) three = absurd (low_status fault (sym is ∙ three))
-  run_refused left (Ok fault) status ok err (inr (failed, is)) three = inl (failed, output_alone left fault ok)
-  run_refused left (Err refusal) status ok err (said, is) three =
+  pub run_refused : (outcome : Result (Option (List ℕ)) Refusal) (status : ℕ) → IfOk outcome (IsDone command input output)
+      → IfErr outcome (λ refusal. IsStopped command refusal input output) → IsReport outcome error status → status ≡ 3
+      → IsRefused command input output error
+  run_refused (Ok line) status ok err (inl (worked, said, is)) three = absurd (low_status line (sym is ∙ three))
+  run_refused (Ok line) status ok err (inr (failed, is)) three =
+      inl (record { read = ok.read; written = ok.written; unsaid = failed; text = output_alone input.bytes line ok.writes })
+  run_refused (Err refusal) status ok err (said, is) three =
       inr (refusal, record { reason = err.reason; leaves = err.leaves; said = said })
 
-  pub run_written : (left : Option (List ℕ)) (outcome : Result (Option InputFault) Refusal) (status : ℕ)
-      → IfOk outcome (λ fault. IfSome left (λ file. WritesOutput command file output new_output fault))
-      → IsReport outcome error new_error error_counts status → status < 3
-      → WritesText command left output new_output error new_error status
-  run_written left (Ok fault) status ok (inl (said, is)) low = text_written left fault status ok said is
-  run_written left (Ok fault) status ok (inr (failed, is)) low = absurd (omega (arith, is, low))
-  run_written left (Err refusal) status ok (said, is) low = absurd (omega (arith, is, low))
+  pub run_written : (outcome : Result (Option (List ℕ)) Refusal) (status : ℕ) → IfOk outcome (IsDone command input output)
+      → IsReport outcome error status → status < 3 → WritesText command input output error status
+  run_written (Ok line) status ok (inl (worked, said, is)) low = record {
+    read = ok.read;
+    written = ok.written;
+    said = worked;
+    text = text_written input.bytes line status ok.writes said is;
+  }
+  run_written (Ok line) status ok (inr (failed, is)) low = absurd (omega (arith, is, low))
+  run_written (Err refusal) status ok (said, is) low = absurd (omega (arith, is, low))

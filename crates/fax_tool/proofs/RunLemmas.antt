@@ -1,161 +1,196 @@
 -- Runs that go on where the one before them was cut.
-use Rattle.std.proofs.Common.{◌≡◌, ℕ, List, [], ◌∷◌, ◌++◌, length, take, drop, map, refl, ap, sym, ◌∙◌, subst, append_assoc, append-nil}
-use Rattle.std.proofs.Common.{false, Bool, take-append-drop}
-use Rattle.std.proofs.lemmas.List.{take-map, drop-map}
-use Rattle.std.specs.Prelude.{Option, Some, None, nat_le, codes}
+use Rattle.std.proofs.Common.{◌≡◌, ℕ, zero, suc, List, [], ◌∷◌, ◌++◌, length, take, drop, refl, ap, sym, ◌∙◌, subst, append_assoc, append-nil}
+use Rattle.std.proofs.Common.{true, false, Bool, take-append-drop, arith}
+use Rattle.std.proofs.Math.Seq.{take-length}
+use Rattle.std.proofs.lemmas.List.{drop_all}
+use Rattle.std.specs.Prelude.{Option, Some, None, nat_le, Ok}
+use Rattle.std.specs.List.{AllZip}
+use Rattle.fax_files.specs.Laws.{FilesHaveOneChain}
+use Rattle.fax_walk.specs.declared.begun.Begun.{Begun}
+use Rattle.fax_walk.specs.declared.begun.Begun.TheVariants.{At, Inside}
 use Rattle.fax_walk.specs.declared.cursor.Cursor.{Cursor}
 use Rattle.fax_walk.specs.declared.end.End.{End}
-use Rattle.fax_walk.specs.declared.end.End.TheVariants.{Proper, Fault, Outside}
-use Rattle.fax_walk.specs.declared.begun.Begun.TheVariants.{At}
 use Rattle.fax_walk.specs.LongCursor.{LongPlace}
-use Rattle.fax_walk.specs.Items.{Item}
-use Rattle.fax_walk.specs.Tail.{IsTail, behind_item}
-use Rattle.fax_walk.specs.Laws.{CursorsHaveOneTail, TailBehindItem}
-use Rattle.fax_tool.specs.Run.{AreRowLines}
-use Rattle.fax_tool.specs.Text.{Line, Printed, line_of_row, texts_of, last_cursor, long_next_line, long_output_of, long_text_of}
-use Rattle.fax_tool.specs.Text.{long_whole_text, text_of, whole_text}
-use Rattle.fax_tool.specs.Laws.{printed_lines, is_cut, IsRun, AreRuns, AreAsOneRun, RunsGoOn}
+use Rattle.fax_walk.specs.PageLaws.{BeginningsHaveOneTail, IsReached, LongTailsGoOn, PlacesAreReached, TailsGoOn}
+use Rattle.fax_walk.specs.Pages.{FilePage, IsPageAt}
+use Rattle.fax_walk.specs.Rows.{Item, IsTailFrom, cursor_after, long_after}
+use Rattle.fax_tool.specs.Run.{AreRowLines, IsRowLine}
+use Rattle.fax_tool.specs.Text.{Line, Printed, begun_at, last_line, named, next_after, text_of, texts_of, whole_text}
+use Rattle.fax_tool.specs.Laws.{AreAsOneRun, AreRuns, IsRun, MayBegin, RunsGoOn, is_cut, up_to}
+use Rattle.fax_tool.proofs.LineLemmas.{begins_after, one_rows}
 
 texts_of-append : (xs ys : List Line) → texts_of (xs ++ ys) ≡ texts_of xs ++ texts_of ys
 texts_of-append [] ys = refl
 texts_of-append (x ∷ xs) ys = ap (λ text. x.text ++ text) (texts_of-append xs ys) ∙ sym (append_assoc x.text (texts_of xs) (texts_of ys))
 
-last_cursor-append : (at : Cursor) (xs ys : List Line) → last_cursor at (xs ++ ys) ≡ last_cursor (last_cursor at xs) ys
-last_cursor-append at [] ys = refl
-last_cursor-append at (x ∷ xs) ys = last_cursor-append x.cursor xs ys
+next_after-append : (begun : Begun) (xs ys : List Line) → next_after begun (xs ++ ys) ≡ next_after (next_after begun xs) ys
+next_after-append begun [] ys = refl
+next_after-append begun (x ∷ xs) ys = next_after-append x.next xs ys
+
+-- what is named of what was named is named
+named_again : (long : Bool) (begun : Begun) → named long (named long begun) ≡ named long begun
+named_again true begun = refl
+named_again false begun = refl
+
+named_after : (long : Bool) (begun : Begun) (lines : List Line) → named long (next_after (named long begun) lines)
+    ≡ named long (next_after begun lines)
+named_after long begun [] = named_again long begun
+named_after long begun (line ∷ lines) = refl
 
 -- the lines that a limit leaves for a later run
-abbrev pub lines_left : List Line → Option ℕ → List Line
-lines_left lines None = []
-lines_left lines (Some limit) = drop limit lines
+abbrev lines_left : Option ℕ → List Line → List Line
+lines_left None lines = []
+lines_left (Some limit) lines = drop limit lines
 
-parts : (lines : List Line) (max : Option ℕ) → printed_lines lines max ++ lines_left lines max ≡ lines
-parts lines None = append-nil lines
-parts lines (Some limit) = take-append-drop limit lines
+parts : (max : Option ℕ) (lines : List Line) → up_to max lines ++ lines_left max lines ≡ lines
+parts None lines = append-nil lines
+parts (Some limit) lines = take-append-drop limit lines
 
--- an output after lines that were printed before
-output_behind : (xs ys : List Line) (end : End) (place : Option LongPlace) (at : Cursor)
-    → texts_of xs ++ long_output_of ys end place (last_cursor at xs) ≡ long_output_of (xs ++ ys) end place at
-output_behind xs ys Proper place at =
-    sym (append_assoc (texts_of xs) (texts_of ys) (codes "end\n")) ∙ ap (λ text. text ++ codes "end\n") (sym (texts_of-append xs ys))
-output_behind xs ys (Fault page row cause) place at =
-    sym (append_assoc (texts_of xs) (texts_of ys) (long_next_line place (last_cursor (last_cursor at xs) ys)))
-    ∙ ap (λ text. text ++ long_next_line place (last_cursor (last_cursor at xs) ys)) (sym (texts_of-append xs ys))
-    ∙ ap (λ cursor. texts_of (xs ++ ys) ++ long_next_line place cursor) (sym (last_cursor-append at xs ys))
-output_behind xs ys Outside place at = sym (texts_of-append xs ys)
-
-pub not_cut : (lines : List Line) (end : End) (place : Option LongPlace) (at : Cursor) (max : Option ℕ) → is_cut lines max ≡ false
-    → long_text_of lines end place at max ≡ long_whole_text lines end place at
-not_cut lines end place at None whole = refl
-not_cut lines end place at (Some limit) whole = let no : nat_le limit (length lines) ≡ false = whole in rw no refl
+not_cut : (long : Bool) (max : Option ℕ) (begun : Begun) (lines : List Line) (end : End) → is_cut max lines ≡ false
+    → text_of long max begun lines end ≡ whole_text long begun lines end
+not_cut long None begun lines end whole = refl
+not_cut long (Some limit) begun lines end whole = let no : nat_le limit (length lines) ≡ false = whole in rw no refl
 
 -- one run is a beginning of a run without a limit
-pub alone : (lines : List Line) (max : Option ℕ) (rows : List ℕ) (last whole : Printed) (cut : Bool)
-    → rows ≡ texts_of (printed_lines lines max) → (cut ≡ false → last ≡ whole) → AreAsOneRun [] rows last cut (texts_of lines) whole
+alone : (lines : List Line) (max : Option ℕ) (rows : List ℕ) (last whole : Printed) (cut : Bool)
+    → rows ≡ texts_of (up_to max lines) → (cut ≡ false → last ≡ whole) → AreAsOneRun [] rows last cut (texts_of lines) whole
 alone lines max rows last whole cut rows_are all = record {
-  more = texts_of (lines_left lines max);
-  beginning = ap texts_of (sym (parts lines max)) ∙ texts_of-append (printed_lines lines max) (lines_left lines max)
-      ∙ ap (λ text. text ++ texts_of (lines_left lines max)) (sym rows_are);
+  more = texts_of (lines_left max lines);
+  beginning = ap texts_of (sym (parts max lines)) ∙ texts_of-append (up_to max lines) (lines_left max lines)
+      ∙ ap (λ text. text ++ texts_of (lines_left max lines)) (sym rows_are);
   output = λ no. ap (λ (printed : Printed). printed.output) (all no);
   error = λ no. ap (λ (printed : Printed). printed.error) (all no);
   status = λ no. ap (λ (printed : Printed). printed.status) (all no);
 }
 
 -- runs after these lines are with them as one run
-pub as_one_behind : (xs ys : List Line) (end : End) (place : Option LongPlace) (at : Cursor) (first others rows : List ℕ) (last : Printed)
-    (cut : Bool)
-    → first ≡ texts_of xs → AreAsOneRun others rows last cut (texts_of ys) (long_whole_text ys end place (last_cursor at xs))
-    → AreAsOneRun (first ++ others) rows last cut (texts_of (xs ++ ys)) (long_whole_text (xs ++ ys) end place at)
-as_one_behind xs ys end place at first others rows last cut first_is all = record {
-  more = all.more;
-  beginning = texts_of-append xs ys ∙ ap (λ text. text ++ texts_of ys) (sym first_is) ∙ ap (λ text. first ++ text) all.beginning
-      ∙ sym (append_assoc first (others ++ rows) all.more) ∙ ap (λ text. text ++ all.more) (sym (append_assoc first others rows));
-  output = λ no.
-      append_assoc first others last.output ∙ ap (λ text. first ++ text) (all.output no)
-      ∙ ap (λ text. text ++ long_output_of ys end place (last_cursor at xs)) first_is ∙ output_behind xs ys end place at;
-  error = all.error;
-  status = all.status;
-}
+as_one_after : (long : Bool) (begun : Begun) (xs ys : List Line) (end : End) (first others rows : List ℕ) (last : Printed) (cut : Bool)
+    → first ≡ texts_of xs
+    → AreAsOneRun others rows last cut (texts_of ys) (whole_text long (named long (next_after begun xs)) ys end)
+    → AreAsOneRun (first ++ others) rows last cut (texts_of (xs ++ ys)) (whole_text long begun (xs ++ ys) end)
+as_one_after long begun xs ys end first others rows last cut first_is all =
+    let next : named long (next_after (named long (next_after begun xs)) ys) ≡ named long (next_after begun (xs ++ ys)) =
+    named_after long (next_after begun xs) ys ∙ ap (named long) (sym (next_after-append begun xs ys)) in
+    record {
+      more = all.more;
+      beginning = texts_of-append xs ys ∙ ap (λ text. text ++ texts_of ys) (sym first_is) ∙ ap (λ text. first ++ text) all.beginning
+          ∙ sym (append_assoc first (others ++ rows) all.more) ∙ ap (λ text. text ++ all.more) (sym (append_assoc first others rows));
+      output = λ no.
+          append_assoc first others last.output ∙ ap (λ text. first ++ text) (all.output no)
+          ∙ ap (λ (b : Begun). first ++ (texts_of ys ++ last_line end b)) next
+          ∙ sym (append_assoc first (texts_of ys) (last_line end (named long (next_after begun (xs ++ ys)))))
+          ∙ ap (λ (text : List ℕ). (text ++ texts_of ys) ++ last_line end (named long (next_after begun (xs ++ ys)))) first_is
+          ∙ ap (λ (text : List ℕ). text ++ last_line end (named long (next_after begun (xs ++ ys)))) (sym (texts_of-append xs ys));
+      error = all.error;
+      status = all.status;
+    }
 
-module _ (one_tail : CursorsHaveOneTail) (behind : TailBehindItem) (file : List ℕ) where
-  -- what follows lines is what follows the cursor after them
-  items_behind : (at : Cursor) (xs ys : List Item) (end : End) → IsTail file at (xs ++ ys) end
-      → IsTail file (last_cursor at (map line_of_row xs)) ys end
-  items_behind at [] ys end tail = tail
-  items_behind at (x ∷ xs) ys end tail = items_behind (behind_item x) xs ys end (behind file at [] (xs ++ ys) x end tail)
+module _ (tails : BeginningsHaveOneTail) (chains : FilesHaveOneChain) (go_on : TailsGoOn) (long_go_on : LongTailsGoOn)
+    (places : PlacesAreReached) (file : List ℕ) where
+  reached : (long : Bool) (begun : Begun) → MayBegin file long begun → IsReached file begun
+  reached long (At at) may = tt
+  reached true (Inside place) may = may
+  reached false (Inside place) may = absurd may
 
-  behind_limit : (at : Cursor) (limit : ℕ) (items : List Item) (end : End) → IsTail file at items end
-      → AreRowLines file (At (last_cursor at (take limit (map line_of_row items)))) (drop limit (map line_of_row items)) end
-  behind_limit at limit items end tail =
-      let split : IsTail file at (take limit items ++ drop limit items) end = rw (take-append-drop limit items) tail in
+  named_begun : (long : Bool) (begun : Begun) → MayBegin file long begun → named long begun ≡ begun
+  named_begun true begun may = refl
+  named_begun false (At at) may = refl
+  named_begun false (Inside place) may = absurd may
+
+  -- what a run begins with that goes on after some items
+  record GoesOn (long : Bool) (next : Begun) (items : List Item) (end : End) : Type 0 where
+    tail : IsTailFrom file next items end
+    may : MayBegin file long next
+
+  after_item : (long : Bool) (begun : Begun) (item : Item) (items : List Item) (end : End) (here : FilePage) → MayBegin file long begun
+      → IsTailFrom file begun (item ∷ items) end → IsPageAt file (record { page = item.page; row = item.row }) (Ok here)
+      → GoesOn long (named long (begun_at (long_after here.form item) (cursor_after item))) items end
+  after_item false begun item items end here may tail page =
+      let at_cursor : IsTailFrom file (At (cursor_after item)) items end =
+      go_on file begun (item ∷ items) end 0 item (reached false begun may) tail refl in
       record {
-        items = drop limit items;
-        tail = rw (take-map line_of_row limit items) (items_behind at (take limit items) (drop limit items) end split);
-        lines_are = drop-map line_of_row limit items;
+        tail = subst (λ (c : Cursor). IsTailFrom file (At c) items end) (sym (begins_after here.form item)) at_cursor;
+        may = tt;
+      }
+  after_item true begun item items end here may tail page = by_place (long_after here.form item) refl
+    where
+      by_place : (place : Option LongPlace) → long_after here.form item ≡ place
+          → GoesOn true (begun_at place (cursor_after item)) items end
+      by_place None is = record { tail = go_on file begun (item ∷ items) end 0 item (reached true begun may) tail refl; may = tt }
+      by_place (Some place) is = record {
+        tail = long_go_on file begun (item ∷ items) end 0 item here place tail refl page is;
+        may = places file begun (item ∷ items) end 0 item here place (reached true begun may) tail refl page is;
       }
 
-  behind_all : (at : Cursor) (items : List Item) (end : End) → IsTail file at items end
-      → AreRowLines file (At (last_cursor at (map line_of_row items))) [] end
-  behind_all at items end tail =
-      let split : IsTail file at (items ++ []) end = rw (append-nil items) tail in
-      record { items = []; tail = items_behind at items [] end split; lines_are = refl }
+  -- the lines after some of a run's lines
+  record LinesGoOn (long : Bool) (next : Begun) (lines : List Line) (end : End) : Type 0 where
+    are : AreRowLines file next lines end
+    may : MayBegin file long next
 
-  left_behind : (at : Cursor) (max : Option ℕ) (lines : List Line) (end : End) → AreRowLines file (At at) lines end
-      → AreRowLines file (At (last_cursor at (printed_lines lines max))) (lines_left lines max) end
-  left_behind at None lines end are = rw are.lines_are (behind_all at are.items end are.tail)
-  left_behind at (Some limit) lines end are = rw are.lines_are (behind_limit at limit are.items end are.tail)
+  after_line : (long : Bool) (begun : Begun) (line : Line) (lines : List Line) (end : End) → MayBegin file long begun
+      → AreRowLines file begun (line ∷ lines) end → LinesGoOn long (named long line.next) lines end
+  after_line long begun line lines end may are = by_items are.items are.lines_are are.tail
+    where
+      by_items : (items : List Item) → AllZip (IsRowLine file) items (line ∷ lines) → IsTailFrom file begun items end
+          → LinesGoOn long (named long line.next) lines end
+      by_items [] zip tail = absurd zip
+      by_items (item ∷ items) ((here, page, is), zip) tail =
+          let goes = after_item long begun item items end here may tail page in
+          subst (λ (l : Line). LinesGoOn long (named long l.next) lines end) (sym is) (record {
+            are = record { items = items; tail = goes.tail; lines_are = zip };
+            may = goes.may;
+          })
 
-  same_lines : (at : Cursor) (lines others : List Line) (end other : End) → AreRowLines file (At at) lines end
-      → AreRowLines file (At at) others other
-      → (others ≡ lines) × (other ≡ end)
-  same_lines at lines others end other are again =
-      let one = one_tail file at in
-      let first = one.one are.items end are.tail in
-      let second = one.one again.items other again.tail in
-      (again.lines_are ∙ ap (λ items. map line_of_row items) (second.0 ∙ sym first.0) ∙ sym are.lines_are, second.1 ∙ sym first.1)
+  after_lines : (long : Bool) (begun : Begun) (n : ℕ) (lines : List Line) (end : End) → MayBegin file long begun
+      → AreRowLines file begun lines end → LinesGoOn long (named long (next_after begun (take n lines))) (drop n lines) end
+  after_lines long begun zero lines end may are = rw (named_begun long begun may) (record { are = are; may = may })
+  after_lines long begun (suc n) [] end may are = rw (named_begun long begun may) (record { are = are; may = may })
+  after_lines long begun (suc n) (line ∷ lines) end may are =
+      let next = after_line long begun line lines end may are in
+      subst (λ (b : Begun). LinesGoOn long b (drop n lines) end) (named_after long line.next (take n lines))
+      (after_lines long (named long line.next) n lines end next.may next.are)
 
-  one_run : (at : Cursor) (max : Option ℕ) (rows : List ℕ) (last : Printed) (next : Cursor) (cut : Bool) (lines : List Line) (end : End)
-      → IsRun file at max last rows next cut → AreRowLines file (At at) lines end
-      → AreAsOneRun [] rows last cut (texts_of lines) (text_of lines end at None)
-  one_run at max rows last next cut lines end run are =
-      let same = same_lines at lines run.lines end run.end are run.read in
-      let text : last ≡ text_of lines end at max = rw (same.0, same.1) at run.text_is in
-      let rows_are : rows ≡ texts_of (printed_lines lines max) = rw same.0 at run.rows_are in
-      let cut_is : cut ≡ is_cut lines max = rw same.0 at run.cut_is in
-      alone lines max rows last (whole_text lines end at) cut rows_are (λ no. text ∙ not_cut lines end None at max (sym cut_is ∙ no))
+  after_limit : (long : Bool) (begun : Begun) (max : Option ℕ) (lines : List Line) (end : End) → MayBegin file long begun
+      → AreRowLines file begun lines end → LinesGoOn long (named long (next_after begun (up_to max lines))) (lines_left max lines) end
+  after_limit long begun (Some limit) lines end may are = after_lines long begun limit lines end may are
+  after_limit long begun None lines end may are =
+      subst (λ (l : List Line). LinesGoOn long (named long (next_after begun lines)) l end) (drop_all (length lines) lines (omega arith))
+      (subst (λ (l : List Line). LinesGoOn long (named long (next_after begun l)) (drop (length lines) lines) end) (take-length lines)
+      (after_lines long begun (length lines) lines end may are))
 
-  behind_lines : (at next : Cursor) (limit : Option ℕ) (first others rows : List ℕ) (cut : Bool) (last : Printed) (lines : List Line)
-      (end : End) → first ≡ texts_of (printed_lines lines limit) → next ≡ last_cursor at (printed_lines lines limit)
-      → AreAsOneRun others rows last cut (texts_of (lines_left lines limit)) (text_of (lines_left lines limit) end next None)
-      → AreAsOneRun (first ++ others) rows last cut (texts_of lines) (text_of lines end at None)
-  behind_lines at next limit first others rows cut last lines end first_is next_is all =
-      let left = lines_left lines limit in
-      subst (λ xs. AreAsOneRun (first ++ others) rows last cut (texts_of xs) (whole_text xs end at)) (parts lines limit)
-      (as_one_behind (printed_lines lines limit) left end None at first others rows last cut first_is
-      (subst (λ cursor. AreAsOneRun others rows last cut (texts_of left) (whole_text left end cursor)) next_is all))
+  same_lines : (begun : Begun) (lines others : List Line) (end other : End) → AreRowLines file begun lines end
+      → AreRowLines file begun others other → (others ≡ lines) × (other ≡ end)
+  same_lines begun lines others end other are again =
+      let one = one_rows file tails chains begun in
+      let first = one.one lines end are in
+      let second = one.one others other again in (second.0 ∙ sym first.0, second.1 ∙ sym first.1)
 
-  behind_run : (at : Cursor) (limit : Option ℕ) (text : Printed) (first others rows : List ℕ) (next : Cursor) (was_cut cut : Bool)
-      (last : Printed) (lines : List Line) (end : End)
-      → IsRun file at limit text first next was_cut → AreRowLines file (At at) lines end
-      → ((left : List Line) → AreRowLines file (At next) left end
-      → AreAsOneRun others rows last cut (texts_of left) (text_of left end next None))
-      → AreAsOneRun (first ++ others) rows last cut (texts_of lines) (text_of lines end at None)
-  behind_run at limit text first others rows next was_cut cut last lines end run are later =
-      let same = same_lines at lines run.lines end run.end are run.read in
-      let first_is : first ≡ texts_of (printed_lines lines limit) = rw same.0 at run.rows_are in
-      let next_is : next ≡ last_cursor at (printed_lines lines limit) = rw same.0 at run.next_is in
-      behind_lines at next limit first others rows cut last lines end first_is next_is
-      (later (lines_left lines limit) (rw next_is (left_behind at limit lines end are)))
+  all_runs : (limits : List (Option ℕ)) (long : Bool) (begun : Begun) (max : Option ℕ) (before rows : List ℕ) (last : Printed) (cut : Bool)
+      (lines : List Line) (end : End) → MayBegin file long begun → AreRowLines file begun lines end
+      → AreRuns file long begun limits max before rows last cut
+      → AreAsOneRun before rows last cut (texts_of lines) (whole_text long begun lines end)
+  all_runs [] long begun max before rows last cut lines end may are (next, run, before_is) =
+      let same = same_lines begun lines run.lines end run.end are run.are in
+      let text : last ≡ text_of long max begun lines end = rw (same.0, same.1) at run.text_is in
+      let rows_are : rows ≡ texts_of (up_to max lines) = rw same.0 at run.rows_are in
+      let cut_is : cut ≡ is_cut max lines = rw same.0 at run.cut_is in
+      rw before_is (alone lines max rows last (whole_text long begun lines end) cut rows_are
+      (λ no. text ∙ not_cut long max begun lines end (sym cut_is ∙ no)))
+  all_runs (limit ∷ limits) long begun max before rows last cut lines end may are
+      (text, first, next, was_cut, others, run, prints, runs, before_is) =
+      let same = same_lines begun lines run.lines end run.end are run.are in
+      let first_is : first ≡ texts_of (up_to limit lines) = rw same.0 at run.rows_are in
+      let next_is : next ≡ named long (next_after begun (up_to limit lines)) = rw same.0 at run.next_is in
+      let goes = after_limit long begun limit lines end may are in
+      let later = all_runs limits long (named long (next_after begun (up_to limit lines))) max others rows last cut (lines_left limit lines)
+      end goes.may goes.are (subst (λ (b : Begun). AreRuns file long b limits max others rows last cut) next_is runs) in
+      rw before_is
+      (subst (λ (l : List Line). AreAsOneRun (first ++ others) rows last cut (texts_of l) (whole_text long begun l end)) (parts limit lines)
+      (as_one_after long begun (up_to limit lines) (lines_left limit lines) end first others rows last cut first_is later))
 
-  all_runs : (limits : List (Option ℕ)) (at : Cursor) (max : Option ℕ) (before rows : List ℕ) (last : Printed) (cut : Bool)
-      (lines : List Line) (end : End) → AreRuns file at limits max before rows last cut → AreRowLines file (At at) lines end
-      → AreAsOneRun before rows last cut (texts_of lines) (text_of lines end at None)
-  all_runs [] at max before rows last cut lines end (next, run, before_is) are =
-      rw before_is (one_run at max rows last next cut lines end run are)
-  all_runs (limit ∷ limits) at max before rows last cut lines end (text, first, next, was_cut, others, run, prints, runs, before_is) are =
-      rw before_is (behind_run at limit text first others rows next was_cut cut last lines end run are
-      (λ left left_are. all_runs limits next max others rows last cut left end runs left_are))
-
-pub runs_go_on : CursorsHaveOneTail → TailBehindItem → RunsGoOn
-runs_go_on one_tail behind file at limits max before rows last cut lines end runs are =
-    all_runs one_tail behind file limits at max before rows last cut lines end runs are
+pub runs_go_on : BeginningsHaveOneTail → FilesHaveOneChain → TailsGoOn → LongTailsGoOn → PlacesAreReached → RunsGoOn
+runs_go_on tails chains go_on long_go_on places file long begun limits max before rows last cut whole lines next was_cut may runs run =
+    let all = all_runs tails chains go_on long_go_on places file limits long begun max before rows last cut run.lines run.end may run.are
+    runs in
+    subst (λ (text : Printed). AreAsOneRun before rows last cut lines text) (sym run.text_is)
+    (subst (λ (l : List ℕ). AreAsOneRun before rows last cut l (whole_text long begun run.lines run.end)) (sym run.rows_are) all)

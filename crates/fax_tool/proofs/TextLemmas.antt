@@ -1,152 +1,146 @@
 -- The text of lines that are printed up to a limit or to their end.
-use Rattle.std.proofs.Common.{◌≡◌, ℕ, ◌<◌, List, [], ◌++◌, length, refl, ap, sym, ◌∙◌, subst, append-nil, arith, length-append, true, false}
-use Rattle.std.proofs.Math.Seq.{take-append_seam}
+use Rattle.std.proofs.Common.{◌≡◌, ℕ, ◌<◌, ◌≤◌, List, [], ◌++◌, length, take, refl, ap, sym, ◌∙◌, subst, append-nil, arith, true, false}
+use Rattle.std.proofs.Common.{Bool, ◌↔◌}
+use Rattle.std.proofs.Math.Seq.{take-length}
 use Rattle.std.proofs.lemmas.Bool.{le-leb, lt-leb}
+use Rattle.std.proofs.KnownBytes.{Appends-trans}
 use Rattle.std.specs.Prelude.{Option, Some, None, IfSome, nat_le}
 use Rattle.std.specs.Io.KnownBytes.{Appends}
-use Rattle.fax_walk.specs.declared.cursor.Cursor.{Cursor}
+use Rattle.fax_walk.specs.declared.begun.Begun.{Begun}
 use Rattle.fax_walk.specs.declared.end.End.{End}
 use Rattle.fax_walk.specs.declared.end.End.TheVariants.{Proper, Fault, Outside}
-use Rattle.fax_walk.specs.LongCursor.{LongPlace}
-use Rattle.fax_walk.specs.LongTail.{begins_at}
-use Rattle.fax_walk.specs.code.Due.{walk_begun}
-use Rattle.fax_walk.specs.Pages.{FormItem, IsFormTail}
-use Rattle.fax_walk.specs.PagesLeft.{pages_from}
-use Rattle.fax_tool.specs.declared.words.Command.TheVariants.{List as Forms, Rows}
-use Rattle.fax_tool.specs.declared.words.Part.{Part}
-use Rattle.fax_tool.specs.Run.{AreRowLines, ArePageLines, IsTextOfLines, IsTextOfRows, begun_of}
-use Rattle.fax_tool.specs.Text.{Line, Printed, texts_of, last_cursor, error_text, text_of, whole_text, long_output_of, long_text_of}
-use Rattle.fax_tool.specs.Text.{long_cut_text, long_whole_text, status_of as end_status}
-use Rattle.fax_tool.specs.code.Outcome.{WritesOutput, error_of, fault_of, status_of}
-use Rattle.fax_tool.specs.code.Printing.{AreRowsDue, ArePagesDue, EndsWith, PrintsAll, long_last_line}
+use Rattle.fax_walk.specs.Laws.{IsOne}
+use Rattle.fax_tool.specs.declared.refusal.Refusal.{Refusal}
+use Rattle.fax_tool.specs.Streams.{Counts, output_after}
+use Rattle.fax_tool.specs.Text.{Line, Printed, end_status, error_text, last_line, named, next_after, next_line, text_of, texts_of}
+use Rattle.fax_tool.specs.Run.{IsTextOfFirst, IsTextOfLines}
+use Rattle.fax_tool.specs.code.Outcome.{StopsPrinting, WritesOutput, end_line, error_of, status_of}
+use Rattle.fax_tool.specs.code.Printing.{EndsWith, IsLastLine, IsNextAfter, IsNextLine, PrintsLines}
+use Rattle.fax_tool.proofs.StopLemmas.{NoText, stops_after, stops_more}
 
-not_above : (lines others : List Line) → nat_le (length lines) (length (lines ++ others)) ≡ true
-not_above lines others = le-leb (length lines) (length (lines ++ others)) (omega (arith, length-append lines others))
-
-cut : (lines others : List Line) (end : End) (place : Option LongPlace) (at : Cursor)
-    → long_text_of (lines ++ others) end place at (Some (length lines)) ≡ long_cut_text lines place at
-cut lines others end place at = rw (not_above lines others) (ap (λ xs. long_cut_text xs place at) (take-append_seam lines others))
-
-whole_long : (lines : List Line) (end : End) (place : Option LongPlace) (at : Cursor) (max : Option ℕ)
-    → IfSome max (λ limit. length lines < limit) → long_text_of lines end place at max ≡ long_whole_text lines end place at
-whole_long lines end place at None few = refl
-whole_long lines end place at (Some limit) few =
-    let no : nat_le limit (length lines) ≡ false = lt-leb limit (length lines) few in rw no refl
-
-pub whole : (lines : List Line) (end : End) (at : Cursor) (max : Option ℕ) → IfSome max (λ limit. length lines < limit)
-    → text_of lines end at max ≡ whole_text lines end at
-whole lines end at max few = whole_long lines end None at max few
-
-output_is : (lines : List Line) (end : End) (place : Option LongPlace) (at : Cursor)
-    → texts_of lines ++ long_last_line (Some end) place (last_cursor at lines) ≡ long_output_of lines end place at
-output_is lines Proper place at = refl
-output_is lines (Fault page row cause) place at = refl
-output_is lines Outside place at = append-nil (texts_of lines)
-
-error_is : (end : End) → error_text end ≡ error_of (fault_of (Some end))
+error_is : (end : End) → error_text end ≡ error_of (end_line (Some end))
 error_is Proper = refl
 error_is (Fault page row cause) = refl
 error_is Outside = refl
 
-status_is : (end : End) → end_status end ≡ status_of (fault_of (Some end))
+status_is : (end : End) → end_status end ≡ status_of (end_line (Some end))
 status_is Proper = refl
 status_is (Fault page row cause) = refl
 status_is Outside = refl
 
+-- what is printed after lines where printing ended so: at a limit where to go on
+abbrev ending_text : Option End → Begun → List ℕ
+ending_text None next = next_line next
+ending_text (Some end) next = last_line end next
+
 -- the text of the lines, with its output, and the error line and status of its end
-pub record IsEndedText (lines others : List Line) (end : End) (place : Option LongPlace) (at : Cursor) (max : Option ℕ)
-    (ending : Option End) : Type 0 where
-  pub output : texts_of lines ++ long_last_line ending place (last_cursor at lines)
-      ≡ (long_text_of (lines ++ others) end place at max).output
-  pub error : (long_text_of (lines ++ others) end place at max).error ≡ error_of (fault_of ending)
-  pub status : (long_text_of (lines ++ others) end place at max).status ≡ status_of (fault_of ending)
+record IsEndedText (lines : List Line) (end : End) (count : ℕ) (long : Bool) (max : Option ℕ) (begun : Begun) (ending : Option End) : Type 0
+    where
+  output : (text_of long max begun lines end).output
+      ≡ texts_of (take count lines) ++ ending_text ending (named long (next_after begun (take count lines)))
+  error : (text_of long max begun lines end).error ≡ error_of (end_line ending)
+  status : (text_of long max begun lines end).status ≡ status_of (end_line ending)
+  within : IfSome max (λ limit. count ≤ limit)
+  some : count ≤ length lines
 
-ended_at_limit : (lines others : List Line) (end : End) (place : Option LongPlace) (at : Cursor)
-    → IsEndedText lines others end place at (Some (length lines)) None
-ended_at_limit lines others end place at =
-    let text = cut lines others end place at in record {
-      output = ap (λ (p : Printed). p.output) (sym text);
-      error = ap (λ (p : Printed). p.error) text;
-      status = ap (λ (p : Printed). p.status) text;
-    }
-
-ended_at_end : (lines : List Line) (end : End) (place : Option LongPlace) (at : Cursor) (max : Option ℕ)
-    → IfSome max (λ limit. length lines < limit) → IsEndedText lines [] end place at max (Some end)
-ended_at_end lines end place at max few =
-    let text = ap (λ xs. long_text_of xs end place at max) (append-nil lines) ∙ whole_long lines end place at max few in record {
-      output = output_is lines end place at ∙ ap (λ (p : Printed). p.output) (sym text);
-      error = ap (λ (p : Printed). p.error) text ∙ error_is end;
-      status = ap (λ (p : Printed). p.status) text ∙ status_is end;
-    }
-
-pub by_ending : (lines others : List Line) (end : End) (place : Option LongPlace) (at : Cursor) (max : Option ℕ) (ending : Option End)
-    → EndsWith lines others end max ending → IsEndedText lines others end place at max ending
-by_ending lines others end place at max None ends = rw ends (ended_at_limit lines others end place at)
-by_ending lines others end place at max (Some met) ends = rw (ends.1, ← ends.0) (ended_at_end lines end place at max ends.2)
-
-text_printed : (are : List Line → End → Type 0) (at : Cursor) (max : Option ℕ) (ending : Option End) (output new_output : Option (List ℕ))
-    → PrintsAll are at max ending output new_output
-    → (printed : Printed) × IsTextOfLines are at max printed × Appends output new_output printed.output
-    × (printed.error ≡ error_of (fault_of ending)) × (printed.status ≡ status_of (fault_of ending))
-text_printed are at max ending output new_output prints =
-    let text = by_ending prints.lines prints.others prints.end None at max ending prints.ends in (
-      text_of (prints.lines ++ prints.others) prints.end at max,
-      (prints.lines ++ prints.others, prints.end, prints.due, refl),
-      (rw text.output at prints.printed),
-      text.error,
-      text.status,
-    )
-
-pub rows_of_file : (file : List ℕ) (part : Part) (ending : Option End) (output new_output : Option (List ℕ)) → part.long ≡ false
-    → PrintsAll (AreRowsDue (walk_begun file (begun_of part))) (begins_at (begun_of part)) part.max ending output new_output
-    → WritesOutput (Rows part) file output new_output (fault_of ending)
-rows_of_file file part ending output new_output short prints =
-    let text = text_printed (AreRowLines file (begun_of part)) (begins_at (begun_of part)) part.max ending output new_output
-    (record {
-      lines = prints.lines;
-      others = prints.others;
-      end = prints.end;
-      due = record { items = prints.due.items; tail = prints.due.due; lines_are = prints.due.lines_are };
-      ends = prints.ends;
-      printed = prints.printed;
-    }) in
-    record {
-      printed = text.0;
-      is = subst (λ long. IsTextOfRows long file (begun_of part) part.max text.0) (sym short) text.1;
-      output_is = text.2;
-      error_is = text.3;
-      status_is = text.4;
-    }
-
--- what is left of a reader of pages at its beginning is what its cursor has
-pub page_lines : (file : List ℕ) (at : Cursor) (lines : List Line) (end : End) → ArePagesDue (pages_from file at) lines end
-    → ArePageLines file at lines end
-page_lines file at lines end due = record {
-  items = due.items;
-  tail = subst (λ (l : List FormItem). IsFormTail file at l end) (sym due.due.rest) due.due.is;
-  lines_are = due.lines_are;
+whole_ended : (lines : List Line) (end : End) (long : Bool) (max : Option ℕ) (begun : Begun) → IfSome max (λ limit. length lines < limit)
+    → IsEndedText lines end (length lines) long max begun (Some end)
+whole_ended lines end long None begun few = record {
+  output = rw take-length refl;
+  error = error_is end;
+  status = status_is end;
+  within = tt;
+  some = omega arith;
 }
+whole_ended lines end long (Some limit) begun few =
+    let no : nat_le limit (length lines) ≡ false = lt-leb limit (length lines) few in
+    record {
+      output = rw (no, take-length) refl;
+      error = rw no (error_is end);
+      status = rw no (status_is end);
+      within = omega arith;
+      some = omega arith;
+    }
 
-pages_of_file : (file : List ℕ) (part : Part) (ending : Option End) (output new_output : Option (List ℕ))
-    → PrintsAll (ArePagesDue (pages_from file part.cursor)) part.cursor part.max ending output new_output
-    → WritesOutput (Forms part) file output new_output (fault_of ending)
-pages_of_file file part ending output new_output prints =
-    let text = text_printed (ArePageLines file part.cursor) part.cursor part.max ending output new_output
-    (record {
-      lines = prints.lines;
-      others = prints.others;
-      end = prints.end;
-      due = page_lines file part.cursor (prints.lines ++ prints.others) prints.end prints.due;
-      ends = prints.ends;
-      printed = prints.printed;
-    }) in
-    record { printed = text.0; is = text.1; output_is = text.2; error_is = text.3; status_is = text.4 }
+by_ending : (lines : List Line) (end : End) (count : ℕ) (long : Bool) (max : Option ℕ) (begun : Begun) (ending : Option End)
+    → EndsWith lines end count max ending → IsEndedText lines end count long max begun ending
+by_ending lines end count long max begun None (is, some) =
+    let yes : nat_le count (length lines) ≡ true = le-leb count (length lines) some in
+    rw is (record { output = rw yes refl; error = rw yes refl; status = rw yes refl; within = omega arith; some = some })
+by_ending lines end count long max begun (Some met) (end_is, all, few) =
+    rw (all, ← end_is) (whole_ended lines end long max begun (rw all at few))
 
--- the pages of an input
-pub pages_printed : (left : Option (List ℕ)) (file : List ℕ) (part : Part) (ending : Option End)
-    (output new_output : Option (List ℕ)) → IfSome left (λ bytes. file ≡ bytes)
-    → PrintsAll (ArePagesDue (pages_from file part.cursor)) part.cursor part.max ending output new_output
-    → IfSome left (λ bytes. WritesOutput (Forms part) bytes output new_output (fault_of ending))
-pages_printed None file part ending output new_output same prints = tt
-pages_printed (Some bytes) file part ending output new_output same prints =
-    rw (← same) (pages_of_file file part ending output new_output prints)
+module _ (tail now : List Line → End → Type 0) (one : IsOne tail) (same : (all : List Line) (end : End) → tail all end ↔ now all end)
+    (begun now_begun : Begun) (same_begun : now_begun ≡ begun) (long : Bool) (max : Option ℕ) (ending : Option End) (count : ℕ)
+    (output written : Option (List ℕ)) (prints : PrintsLines tail max ending count output written) where
+  ended : IsEndedText prints.lines prints.end count long max begun ending
+  ended = by_ending prints.lines prints.end count long max begun ending prints.ends
+
+  next_is : (next : Begun) → IsNextAfter now now_begun count next → next ≡ next_after begun (take count prints.lines)
+  next_is next after =
+      let first = one.one prints.lines prints.end prints.is in
+      let second = one.one after.lines after.end ((same after.lines after.end).1 after.is) in
+      after.next_is ∙ ap (λ (b : Begun). next_after b (take count after.lines)) same_begun
+      ∙ ap (λ (l : List Line). next_after begun (take count l)) (second.0 ∙ sym first.0)
+
+  abbrev texts : List ℕ
+  texts = texts_of (take count prints.lines)
+
+  next_line_is : (line : List ℕ) (far : Bool) → IsNextLine now now_begun count far line
+      → line ≡ next_line (named far (next_after begun (take count prints.lines)))
+  next_line_is line far (next, after, line_is) = line_is ∙ ap (λ (b : Begun). next_line (named far b)) (next_is next after)
+
+  last_is : (line : List ℕ) (met : Option End) → IsLastLine now now_begun count long met line
+      → line ≡ ending_text met (named long (next_after begun (take count prints.lines)))
+  last_is line None is = next_line_is line long is
+  last_is line (Some Proper) is = is
+  last_is line (Some (Fault page row cause)) is = next_line_is line long is
+  last_is line (Some Outside) is = is
+
+  whole : (line : List ℕ) → IsLastLine now now_begun count long ending line
+      → (text_of long max begun prints.lines prints.end).output ≡ texts ++ line
+  whole line is = ended.output ∙ ap (λ (l : List ℕ). texts ++ l) (sym (last_is line ending is))
+
+  first : (line : List ℕ) → IsNextLine now now_begun count false line → IsTextOfFirst tail max begun (texts ++ line)
+  first line is = record {
+    lines = prints.lines;
+    end = prints.end;
+    is = prints.is;
+    count = count;
+    some = ended.some;
+    within = ended.within;
+    output_is = ap (λ (l : List ℕ). texts ++ l) (next_line_is line false is);
+  }
+
+  -- the lines and the last line are printed
+  pub all_printed : (new_written : Option (List ℕ)) (counts : Counts) (line : List ℕ) → IsLastLine now now_begun count long ending line
+      → Appends written new_written line
+      → WritesOutput (IsTextOfLines tail long max begun) (output_after output new_written counts) (end_line ending)
+  all_printed new_written counts line is moved = record {
+    printed = text_of long max begun prints.lines prints.end;
+    is = (prints.lines, prints.end, prints.is, refl);
+    output_is = rw (whole line is) (Appends-trans output written new_written (texts_of (take count prints.lines)) line prints.printed moved);
+    error_is = ended.error;
+    status_is = ended.status;
+  }
+
+  -- the last line was refused
+  pub stopped_at_last : (new_written : Option (List ℕ)) (counts : Counts) (refusal : Refusal)
+      → StopsPrinting (λ printed. IsLastLine now now_begun count long ending printed.output) (IsNextLine now now_begun count false) refusal
+      (output_after written new_written counts)
+      → StopsPrinting (IsTextOfLines tail long max begun) (IsTextOfFirst tail max begun) refusal (output_after output new_written counts)
+  stopped_at_last new_written counts refusal stops =
+      stops_after (λ printed. IsLastLine now now_begun count long ending printed.output) (IsTextOfLines tail long max begun)
+      (IsNextLine now now_begun count false) (IsTextOfFirst tail max begun) refusal output written new_written counts
+      (texts_of (take count prints.lines)) prints.printed
+      (λ printed is. (text_of long max begun prints.lines prints.end, (prints.lines, prints.end, prints.is, refl), whole printed.output is))
+      first stops
+
+-- the lines were refused
+pub stopped_at_lines : (tail : List Line → End → Type 0) (begun : Begun) (long : Bool) (max : Option ℕ) (output new_output : Option (List ℕ))
+    (counts : Counts) (refusal : Refusal)
+    → StopsPrinting NoText (IsTextOfFirst tail max begun) refusal (output_after output new_output counts)
+    → StopsPrinting (IsTextOfLines tail long max begun) (IsTextOfFirst tail max begun) refusal (output_after output new_output counts)
+stopped_at_lines tail begun long max output new_output counts refusal stops =
+    stops_more NoText (IsTextOfLines tail long max begun) (IsTextOfFirst tail max begun) (IsTextOfFirst tail max begun) refusal
+    (output_after output new_output counts) (λ printed none. absurd none) (λ text holds. holds) stops

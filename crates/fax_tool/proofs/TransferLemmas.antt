@@ -1,13 +1,14 @@
 -- Bytes that move in several calls.
-use Rattle.std.proofs.Common.{◌≡◌, ℕ, ◌-◌, List, [], ◌++◌, append-nil, refl, length, take, drop, ap, sym, ◌∙◌, append_assoc, length-drop}
+use Rattle.std.proofs.Common.{◌≡◌, ℕ, ◌+◌, ◌-◌, ◌≤◌, arith, List, [], ◌++◌, append-nil, refl, length, take, drop, ap, sym, ◌∙◌, append_assoc, length-drop}
 use Rattle.std.proofs.Common.{take-append-drop}
 use Rattle.std.proofs.Math.Seq.{take-length}
 use Rattle.std.proofs.KnownBytes.{Appends-nil, Appends-trans, Appends-kept}
 use Rattle.std.specs.Prelude.{Option, Result, Ok, Err, IfErr, ⊤}
 use Rattle.std.specs.Io.KnownBytes.{Appends, Keeps}
 use Rattle.fax_tool.specs.declared.refusal.Refusal.{Refusal}
-use Rattle.fax_tool.specs.Streams.{Counts}
-use Rattle.fax_tool.specs.code.Transfers.{IsGivenInPart, SendsPart, WritesFront}
+use Rattle.fax_tool.specs.Streams.{Counts, capped_sum, input_after}
+use Rattle.fax_tool.specs.Run.{IsRead, most_input, most_interrupted}
+use Rattle.fax_tool.specs.code.Transfers.{counted, IsGivenInPart, SendsPart, WritesFront}
 
 -- some front of the bytes is written
 pub record IsPartWritten (old new : Option (List ℕ)) (bytes rest : List ℕ) : Type 0 where
@@ -81,3 +82,10 @@ none_sent known text = record { part = []; parts = refl; written = Appends-nil k
 
 pub all_sent : (old new : Option (List ℕ)) (text left : List ℕ) → Appends old new text → left ≡ [] → SendsPart old new text left
 all_sent old new text left given none = rw none (record { part = text; parts = sym (append-nil text); written = given })
+
+-- an input of which so much was taken has worked
+pub still_read : (bytes : Option (List ℕ)) (new old : Counts) (interruptions taken more new_taken : ℕ) → interruptions ≤ most_interrupted
+    → old ≡ counted interruptions → new ≡ old → new_taken ≡ capped_sum taken more → taken + more ≤ most_input
+    → IsRead (input_after bytes new_taken new)
+still_read bytes new old interruptions taken more new_taken few is same taken_is within =
+    (rw (same, is) (few, refl), omega (arith, taken_is, within))

@@ -1,5 +1,5 @@
 -- What the commands that write a whole text leave on the output.
-use Rattle.std.proofs.Common.{◌≡◌, ◌≢◌, ℕ, List, [], inl, inr, refl, sym, ◌∙◌}
+use Rattle.std.proofs.Common.{◌≡◌, ◌≢◌, ℕ, List, [], inl, inr, refl, sym, ◌∙◌, ap}
 use Rattle.std.specs.Prelude.{Option, Some, None, IfSome}
 use Rattle.std.specs.Io.KnownBytes.{Appends}
 use Rattle.std.proofs.KnownBytes.{Appends-nil}
@@ -11,98 +11,86 @@ use Rattle.fax_walk.specs.declared.checking.Report.{Report}
 use Rattle.fax_walk.specs.declared.options.Options.{Options}
 use Rattle.fax_walk.specs.declared.options.ConvertFault.{ConvertFault}
 use Rattle.fax_walk.specs.declared.options.ConvertFault.TheVariants.{Memory as NoMemory}
-use Rattle.fax_tool.specs.declared.fault.InputFault.{InputFault}
 use Rattle.fax_tool.specs.declared.refusal.Refusal.{Refusal}
-use Rattle.fax_tool.specs.declared.refusal.Refusal.TheVariants.{Memory}
-use Rattle.fax_tool.specs.declared.words.Command.{Command}
 use Rattle.fax_tool.specs.declared.words.Command.TheVariants.{Convert, Check}
-use Rattle.fax_tool.specs.Streams.{Counts}
+use Rattle.fax_tool.specs.Streams.{Counts, input_after, output_after}
 use Rattle.fax_tool.specs.Text.{Printed, convert_fault_line}
 use Rattle.fax_tool.specs.ReportText.{report_output, report_text, printed_report}
-use Rattle.fax_tool.specs.Run.{IsTextOf, LeavesText}
-use Rattle.fax_tool.specs.code.Outcome.{IsFaultOf, IsStopped, WritesOutput, error_of, status_of}
+use Rattle.fax_tool.specs.Run.{HasWorked, IsRead, IsTextOf}
+use Rattle.fax_tool.specs.code.Outcome.{IsDone, IsLineOf, IsStopped, WritesOutput, error_of, status_of}
 use Rattle.fax_tool.specs.code.Transfers.{IsGivenInPart}
-use Rattle.fax_tool.proofs.CommandLemmas.{if_same, if_some}
+use Rattle.fax_tool.proofs.CommandLemmas.{text_stopped}
+use Rattle.fax_tool.proofs.StopLemmas.{if_same}
 
-module _ (command : Command) (left : Option (List ℕ)) (file : List ℕ) (output new_output : Option (List ℕ)) (input : Counts) (taken : ℕ)
-    (counts : Counts) where
-  -- a text was given in part
-  stopped_text : (printed : Printed) (refusal : Refusal) → IfSome left (λ bytes. file ≡ bytes) → IsTextOf command file printed
-      → IsGivenInPart output new_output printed.output counts refusal
-      → IsStopped command left refusal input taken counts output new_output
-  stopped_text printed refusal same is given = rw given.write (record {
-    reason = given.failed;
-    leaves = if_same _ left file same
-        (given.front.front, (given.front.rest, inl (printed, is, sym given.front.parts)), given.front.written);
-  })
+module _ (bytes : Option (List ℕ)) (file : List ℕ) (same : IfSome bytes (λ b. file ≡ b)) (taken : ℕ) (counts : Counts)
+    (read : IsRead (input_after bytes taken counts)) (options : Options) (old new : Option (List ℕ)) (given : Counts) where
+  -- the text of a file that is converted
+  abbrev converted_text : List ℕ → Printed
+  converted_text output = record { output = output; error = []; status = 0 }
 
-module _ (left : Option (List ℕ)) (file : List ℕ) (options : Options) (output new_output : Option (List ℕ)) (input : Counts) (taken : ℕ)
-    (counts : Counts) where
-  pub conversion_stopped : (bytes : List ℕ) (refusal : Refusal) → IfSome left (λ bytes. file ≡ bytes) → IsConverted file options bytes
-      → IsGivenInPart output new_output bytes counts refusal
-      → IsStopped (Convert options) left refusal input taken counts output new_output
-  conversion_stopped bytes refusal same is given =
-      stopped_text (Convert options) left file output new_output input taken counts (record { output = bytes; error = []; status = 0 })
-      refusal same (inl (bytes, is, refl)) given
+  pub conversion_stopped : (output : List ℕ) (refusal : Refusal) → IsConverted file options output
+      → IsGivenInPart old new output given refusal
+      → IsStopped (Convert options) refusal (input_after bytes taken counts) (output_after old new given)
+  conversion_stopped output refusal is part =
+      text_stopped (Convert options) bytes taken counts file old new given (converted_text output) refusal same read
+      (inl (output, is, refl)) part
 
-  pub conversion_without_memory : IsStopped (Convert options) left Memory input taken counts output output
-  conversion_without_memory = record {
-    reason = tt;
-    leaves = if_some (λ file. LeavesText Memory (Convert options) file output output) left (λ file. ([], refl, Appends-nil output));
+  pub converted : (output : List ℕ) → IsConverted file options output → Appends old new output → HasWorked given
+      → IsDone (Convert options) (input_after bytes taken counts) (output_after old new given) None
+  converted output is moved worked = record {
+    read = read;
+    written = worked;
+    writes = if_same (λ f. WritesOutput (IsTextOf (Convert options) f) (output_after old new given) None) bytes file same (record {
+      printed = converted_text output;
+      is = inl (output, is, refl);
+      output_is = moved;
+      error_is = refl;
+      status_is = refl;
+    });
   }
 
-  pub converted : (bytes : List ℕ) → IfSome left (λ bytes. file ≡ bytes) → IsConverted file options bytes → Appends output new_output bytes
-      → IfSome left (λ file. WritesOutput (Convert options) file output new_output None)
-  converted bytes same is given = if_same (λ file. WritesOutput (Convert options) file output new_output None) left file same (record {
-    printed = record { output = bytes; error = []; status = 0 };
-    is = inl (bytes, is, refl);
-    output_is = given;
-    error_is = refl;
-    status_is = refl;
-  })
+  pub not_converted : (fault : ConvertFault) (line : List ℕ) → (fault ≢ NoMemory → IsNotConverted file options fault) → IsLineOf fault line
+      → HasWorked given
+      → IsDone (Convert options) (input_after bytes taken counts) (output_after old old given) (Some line)
+  not_converted fault line refused is worked = record {
+    read = read;
+    written = worked;
+    writes = if_same (λ f. WritesOutput (IsTextOf (Convert options) f) (output_after old old given) (Some line)) bytes file same (record {
+      printed = record { output = []; error = convert_fault_line fault; status = 1 };
+      is = inr (fault, refused is.0, refl);
+      output_is = Appends-nil old;
+      error_is = sym is.1;
+      status_is = refl;
+    });
+  }
 
-  pub not_converted : (fault : ConvertFault) (of : InputFault) → IfSome left (λ bytes. file ≡ bytes)
-      → (fault ≢ NoMemory → IsNotConverted file options fault) → IsFaultOf fault of
-      → IfSome left (λ file. WritesOutput (Convert options) file output output (Some of))
-  not_converted fault of same refused is =
-      if_same (λ file. WritesOutput (Convert options) file output output (Some of)) left file same (record {
-        printed = record { output = []; error = convert_fault_line fault; status = 1 };
-        is = inr (fault, refused is.0, refl);
-        output_is = Appends-nil output;
-        error_is = is.1;
-        status_is = refl;
-      })
-
-output_of : (text : List ℕ) (fault : Option (Place × Cause)) → (printed_report text fault).output ≡ text
-output_of text None = refl
-output_of text (Some fault) = refl
+report_output_of : (text : List ℕ) (fault : Option (Place × Cause)) → (printed_report text fault).output ≡ text
+report_output_of text None = refl
+report_output_of text (Some fault) = refl
 
 report_output_is : (report : Report) → (report_text report).output ≡ report_output report
-report_output_is report = output_of (report_output report) report.fault
+report_output_is report = report_output_of (report_output report) report.fault
 
-module _ (left : Option (List ℕ)) (file : List ℕ) (output new_output : Option (List ℕ)) (input : Counts) (taken : ℕ) (counts : Counts) where
-  pub check_stopped : (report : Report) (text : List ℕ) (refusal : Refusal) → IfSome left (λ bytes. file ≡ bytes) → IsReport file report
-      → text ≡ report_output report → IsGivenInPart output new_output text counts refusal
-      → IsStopped Check left refusal input taken counts output new_output
-  check_stopped report text refusal same is text_is given =
-      stopped_text Check left file output new_output input taken counts (report_text report) refusal same (report, is, refl)
-      (rw (text_is ∙ sym (report_output_is report)) at given)
+module _ (bytes : Option (List ℕ)) (file : List ℕ) (same : IfSome bytes (λ b. file ≡ b)) (taken : ℕ) (counts : Counts)
+    (read : IsRead (input_after bytes taken counts)) (old new : Option (List ℕ)) (given : Counts) (report : Report)
+    (is : IsReport file report) (text : List ℕ) (text_is : text ≡ report_output report) where
+  pub check_stopped : (refusal : Refusal) → IsGivenInPart old new text given refusal
+      → IsStopped Check refusal (input_after bytes taken counts) (output_after old new given)
+  check_stopped refusal part =
+      text_stopped Check bytes taken counts file old new given (report_text report) refusal same read (report, is, refl)
+      (rw (text_is ∙ sym (report_output_is report)) at part)
 
-  pub check_without_memory : IsStopped Check left Memory input taken counts output output
-  check_without_memory = record {
-    reason = tt;
-    leaves = if_some (λ file. LeavesText Memory Check file output output) left (λ file. ([], refl, Appends-nil output));
+  pub checked : (line : Option (List ℕ)) → Appends old new text → HasWorked given → (report_text report).error ≡ error_of line
+      → (report_text report).status ≡ status_of line
+      → IsDone Check (input_after bytes taken counts) (output_after old new given) line
+  checked line moved worked error status = record {
+    read = read;
+    written = worked;
+    writes = if_same (λ f. WritesOutput (IsTextOf Check f) (output_after old new given) line) bytes file same (record {
+      printed = report_text report;
+      is = (report, is, refl);
+      output_is = rw (text_is ∙ sym (report_output_is report)) at moved;
+      error_is = error;
+      status_is = status;
+    });
   }
-
-  pub checked : (report : Report) (text : List ℕ) (fault : Option InputFault) → IfSome left (λ bytes. file ≡ bytes) → IsReport file report
-      → text ≡ report_output report → Appends output new_output text
-      → (report_text report).error ≡ error_of fault → (report_text report).status ≡ status_of fault
-      → IfSome left (λ file. WritesOutput Check file output new_output fault)
-  checked report text fault same is text_is given error status =
-      if_same (λ file. WritesOutput Check file output new_output fault) left file same (record {
-        printed = report_text report;
-        is = (report, is, refl);
-        output_is = rw (text_is ∙ sym (report_output_is report)) at given;
-        error_is = error;
-        status_is = status;
-      })

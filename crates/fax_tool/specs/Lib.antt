@@ -6,7 +6,6 @@ pub mod Examples
 pub mod Text
 pub mod ReportText
 pub mod Laws
-pub mod LongLaws
 pub mod Run
 pub mod WordLaws
 pub mod code

@@ -1,7 +1,9 @@
 -- What a call on a stream does to the stream's bytes and to its counts (this project's profile).
-use Rattle.std.specs.Prelude.{◌≡◌, ℕ, ◌+◌, ◌-◌, ◌^◌, ◌<◌, min, List, length, take, Option, Some}
+use Rattle.std.specs.Prelude.{◌≡◌, ◌≢◌, ℕ, ◌+◌, ◌-◌, ◌^◌, ◌<◌, min, List, length, take, Option, Some}
 use Rattle.std.specs.Prelude.{None, ⊤, Result, Ok, Err}
 use Rattle.std.specs.Io.KnownBytes.{Appends, Consumes, IsAtEnd, Keeps}
+use Rattle.std.specs.declared.io.ErrorKind.{ErrorKind}
+use Rattle.std.specs.declared.io.ErrorKind.TheVariants.{Interrupted as WasInterrupted}
 use Rattle.fax_tool.specs.declared.streams.StreamFault.{StreamFault}
 use Rattle.fax_tool.specs.declared.streams.StreamFault.TheVariants.{Interrupted, Failed}
 
@@ -9,6 +11,26 @@ use Rattle.fax_tool.specs.declared.streams.StreamFault.TheVariants.{Interrupted,
 pub record Counts : Type 0 where
   pub interrupted : ℕ
   pub failed : ℕ
+
+-- an input after a run: its bytes before it, where they are known, how many were taken, and its
+-- counts (this project's profile)
+pub record Input : Type 0 where
+  pub bytes : Option (List ℕ)
+  pub taken : ℕ
+  pub counts : Counts
+
+abbrev pub input_after : Option (List ℕ) → ℕ → Counts → Input
+input_after bytes taken counts = record { bytes = bytes; taken = taken; counts = counts }
+
+-- an output after a run: what was written before it and after it, where that is known, and its
+-- counts (this project's profile)
+pub record Output : Type 0 where
+  pub before : Option (List ℕ)
+  pub after : Option (List ℕ)
+  pub counts : Counts
+
+abbrev pub output_after : Option (List ℕ) → Option (List ℕ) → Counts → Output
+output_after before after counts = record { before = before; after = after; counts = counts }
 
 -- the counts of so many interrupted and failed calls (this project's profile)
 abbrev pub counts_of : ℕ → ℕ → Counts
@@ -50,3 +72,9 @@ TakesBytes old new (Err Failed) buffer = KeepsOrForgets old new
 abbrev pub GivesBytes : Option (List ℕ) → Option (List ℕ) → Result ℕ StreamFault → List ℕ → Type 0
 GivesBytes old new (Ok n) bytes = Appends old new (take n bytes)
 GivesBytes old new (Err fault) bytes = Keeps old new
+
+-- the fault of a call that std answers with an error of this kind: interrupted calls alone may be
+-- made again (this project's profile)
+abbrev pub IsFaultOf : ErrorKind → StreamFault → Type 0
+IsFaultOf kind Interrupted = kind ≡ WasInterrupted
+IsFaultOf kind Failed = kind ≢ WasInterrupted

@@ -1,6 +1,6 @@
 -- The text of `rows` and `list` (this project's profile).
-use Rattle.std.specs.Prelude.{ℕ, Bool, true, false, ◌||◌, nat_le, if◌then◌else◌, List, [], ◌∷◌}
-use Rattle.std.specs.Prelude.{◌++◌, flat_map, length, take, Option, Some, None, codes, decimal}
+use Rattle.std.specs.Prelude.{ℕ, Bool, true, false, nat_le, if◌then◌else◌, List, [], ◌∷◌, ◌++◌}
+use Rattle.std.specs.Prelude.{flat_map, length, take, Option, Some, None, codes, decimal}
 use Rattle.fax_rows.specs.Elements.{runs_of}
 use Rattle.fax_page.specs.declared.Coding.{Coding}
 use Rattle.fax_page.specs.declared.Coding.TheVariants.{Mh, Mr, Mmr}
@@ -9,6 +9,8 @@ use Rattle.fax_files.specs.declared.PageForm.{PageForm}
 use Rattle.fax_files.specs.declared.pbm.PbmFault.{PbmFault}
 use Rattle.fax_files.specs.FaultNames.{fault_name, fault_tag, pbm_fault_name}
 use Rattle.fax_files.specs.Written.{fill_order_of}
+use Rattle.fax_walk.specs.declared.begun.Begun.{Begun}
+use Rattle.fax_walk.specs.declared.begun.Begun.TheVariants.{At, Inside}
 use Rattle.fax_walk.specs.declared.cursor.Cursor.{Cursor}
 use Rattle.fax_walk.specs.declared.end.End.{End}
 use Rattle.fax_walk.specs.declared.end.End.TheVariants.{Proper, Fault, Outside}
@@ -17,9 +19,8 @@ use Rattle.fax_walk.specs.declared.options.ConvertFault.TheVariants.{UnknownInpu
 use Rattle.fax_walk.specs.declared.options.ConvertFault.TheVariants.{OutputTooLarge, Memory}
 use Rattle.fax_walk.specs.Cursor.{cursor_text}
 use Rattle.fax_walk.specs.LongCursor.{LongPlace, long_cursor_text}
-use Rattle.fax_walk.specs.Items.{Item}
-use Rattle.fax_walk.specs.Tail.{behind_item}
 use Rattle.fax_walk.specs.Pages.{FormItem, cursor_after_page}
+use Rattle.fax_walk.specs.Rows.{Item, begins_at, cursor_after, long_after}
 
 -- a line end (this project's profile)
 abbrev pub line_end : List ℕ
@@ -62,29 +63,37 @@ page_line_of page form =
     (photometric_of form.exchanged) ++ and_number form.strips
     ++ and_fraction form.x ++ and_fraction form.y ++ and_number form.unit ++ line_end
 
--- a line of the output, and the cursor after what it tells (this project's profile)
+-- what a run begins with: the place inside a strip, where there is one, else the cursor
+-- (this project's profile)
+abbrev pub begun_at : Option LongPlace → Cursor → Begun
+begun_at None at = At at
+begun_at (Some place) at = Inside place
+
+-- a line of the output, and what a run begins with that goes on after what it tells
+-- (this project's profile)
 pub record Line : Type 0 where
   pub text : List ℕ
-  pub cursor : Cursor
+  pub next : Begun
 
--- the line of a row, and the cursor after the row (this project's profile)
-abbrev pub line_of_row : Item → Line
-line_of_row item = record { text = row_line item; cursor = behind_item item }
+-- the line of a row of a page of this form (this project's profile)
+abbrev pub line_of_row : PageForm → Item → Line
+line_of_row form item =
+    record { text = row_line item; next = begun_at (long_after form item) (cursor_after item) }
 
--- the line of a page, and the cursor after the page (this project's profile)
+-- the line of a page (this project's profile)
 abbrev pub line_of_page : FormItem → Line
 line_of_page item =
-    record { text = page_line_of item.page item.form; cursor = cursor_after_page item }
+    record { text = page_line_of item.page item.form; next = At (cursor_after_page item) }
 
 -- the texts of these lines (this project's profile)
 abbrev pub texts_of : List Line → List ℕ
 texts_of [] = []
 texts_of (line ∷ lines) = line.text ++ texts_of lines
 
--- the cursor after the last of the lines, or the one that they began with (this project's profile)
-abbrev pub last_cursor : Cursor → List Line → Cursor
-last_cursor at [] = at
-last_cursor at (line ∷ lines) = last_cursor line.cursor lines
+-- what a run begins with that goes on after these lines, which began so (this project's profile)
+abbrev pub next_after : Begun → List Line → Begun
+next_after begun [] = begun
+next_after begun (line ∷ lines) = next_after line.next lines
 
 -- a blank and the tag of the field at fault, where there is one (this project's profile)
 abbrev pub and_tag : Option ℕ → List ℕ
@@ -112,20 +121,21 @@ convert_fault_line (Source page row cause) = fault_line page row cause
 convert_fault_line OutputTooLarge = codes "fault: OutputTooLarge\n"
 convert_fault_line Memory = codes "fault: Memory\n"
 
--- where to go on: at a place inside a strip, where there is one, else at a cursor
+-- what `next` names of what a run begins with: with long cursors all of it, else its cursor
 -- (this project's profile)
-abbrev pub next_text : Option LongPlace → Cursor → List ℕ
-next_text None at = cursor_text at
-next_text (Some place) at = long_cursor_text place
+abbrev pub named : Bool → Begun → Begun
+named true begun = begun
+named false begun = At (begins_at begun)
 
--- `next 2:P:R:B:n,n,..`, where there is a place inside a strip, else `next 1:P:R`
+-- how what a run begins with is named: `2:P:R:B:n,n,..` inside a strip, else `1:P:R`
 -- (this project's profile)
-abbrev pub long_next_line : Option LongPlace → Cursor → List ℕ
-long_next_line place at = codes "next " ++ next_text place at ++ line_end
+abbrev pub begun_text : Begun → List ℕ
+begun_text (At at) = cursor_text at
+begun_text (Inside place) = long_cursor_text place
 
--- `next 1:P:R` (this project's profile)
-abbrev pub next_line : Cursor → List ℕ
-next_line at = long_next_line None at
+-- `next` and where to go on (this project's profile)
+abbrev pub next_line : Begun → List ℕ
+next_line begun = codes "next " ++ begun_text begun ++ line_end
 
 -- what a command writes: its output, its error line, and its status (this project's profile)
 pub record Printed : Type 0 where
@@ -133,23 +143,12 @@ pub record Printed : Type 0 where
   pub error : List ℕ
   pub status : ℕ
 
--- all lines, and `end` or where to go on, with this place inside a strip after them, if there is
--- one; nothing more for a cursor outside of the file, which has no lines (this project's profile)
-abbrev pub long_output_of : List Line → End → Option LongPlace → Cursor → List ℕ
-long_output_of lines Proper place at = texts_of lines ++ codes "end\n"
-long_output_of lines (Fault page row cause) place at =
-    texts_of lines ++ long_next_line place (last_cursor at lines)
-long_output_of lines Outside place at = texts_of lines
-
--- the same, with a cursor (this project's profile)
-abbrev pub output_of : List Line → End → Cursor → List ℕ
-output_of lines end at = long_output_of lines end None at
-
--- an end at a fault (this project's profile)
-abbrev pub is_fault : End → Bool
-is_fault Proper = false
-is_fault (Fault page row cause) = true
-is_fault Outside = false
+-- the last line of the output: `end`, or where to go on after a fault, or none for a cursor outside
+-- of the file, which has no lines (this project's profile)
+abbrev pub last_line : End → Begun → List ℕ
+last_line Proper next = codes "end\n"
+last_line (Fault page row cause) next = next_line next
+last_line Outside next = []
 
 -- the error line of an end (this project's profile)
 abbrev pub error_text : End → List ℕ
@@ -158,61 +157,34 @@ error_text (Fault page row cause) = fault_line page row cause
 error_text Outside = codes "fault cursor: CursorOutside\n"
 
 -- the status of an end (this project's profile)
-abbrev pub status_of : End → ℕ
-status_of Proper = 0
-status_of (Fault page row cause) = 1
-status_of Outside = 1
+abbrev pub end_status : End → ℕ
+end_status Proper = 0
+end_status (Fault page row cause) = 1
+end_status Outside = 1
 
--- what is written of all lines and their end, from a cursor on, with this place inside a strip
--- after them, if there is one (this project's profile)
-abbrev pub long_whole_text : List Line → End → Option LongPlace → Cursor → Printed
-long_whole_text lines end place at =
+-- what is written of all lines, which began so, and their end, with long cursors or without
+-- (this project's profile)
+abbrev pub whole_text : Bool → Begun → List Line → End → Printed
+whole_text long begun lines end =
     record {
-      output = long_output_of lines end place at;
+      output = texts_of lines ++ last_line end (named long (next_after begun lines));
       error = error_text end;
-      status =
-          status_of end;
+      status = end_status end;
     }
 
--- the same, with a cursor (this project's profile)
-abbrev pub whole_text : List Line → End → Cursor → Printed
-whole_text lines end at = long_whole_text lines end None at
-
--- what is written of these lines where no more are to be, with this place inside a strip after
--- them, if there is one (this project's profile)
-abbrev pub long_cut_text : List Line → Option LongPlace → Cursor → Printed
-long_cut_text lines place at =
+-- what is written of these lines where no more are to be (this project's profile)
+abbrev pub first_text : Bool → Begun → List Line → Printed
+first_text long begun lines =
     record {
-      output = texts_of lines ++ long_next_line place (last_cursor at lines);
-      error =
-          [];
+      output = texts_of lines ++ next_line (named long (next_after begun lines));
+      error = [];
       status = 0;
     }
 
--- the same, with a cursor (this project's profile)
-abbrev pub cut_text : List Line → Cursor → Printed
-cut_text lines at = long_cut_text lines None at
-
--- What is written of lines and their end, from a cursor on: with a limit, and at least so many
--- lines, the first ones up to it and where to go on; else all of them and their end. After the
--- lines that are written there is this place inside a strip, or none (this project's profile)
-abbrev pub long_text_of : List Line → End → Option LongPlace → Cursor → Option ℕ → Printed
-long_text_of lines end place at None = long_whole_text lines end place at
-long_text_of lines end place at (Some limit) =
-    if nat_le limit (length lines) then long_cut_text (take limit lines) place at
-    else long_whole_text lines end place at
-
--- the same, with a cursor where to go on (this project's profile)
-abbrev pub text_of : List Line → End → Cursor → Option ℕ → Printed
-text_of lines end at max = long_text_of lines end None at max
-
--- the first of some, up to a limit, if there is one (this project's profile)
-abbrev pub up_to : {A : Type 0} → Option ℕ → List A → List A
-up_to None items = items
-up_to (Some limit) items = take limit items
-
--- the text names where to go on: a limit cuts the lines, or they end at a fault
--- (this project's profile)
-abbrev pub names_next : List Line → End → Option ℕ → Bool
-names_next lines end (Some limit) = nat_le limit (length lines) || is_fault end
-names_next lines end None = is_fault end
+-- What is written of lines and their end: with a limit, and at least so many lines, the first ones
+-- up to it and where to go on; else all of them and their end (this project's profile)
+abbrev pub text_of : Bool → Option ℕ → Begun → List Line → End → Printed
+text_of long None begun lines end = whole_text long begun lines end
+text_of long (Some limit) begun lines end =
+    if nat_le limit (length lines) then first_text long begun (take limit lines)
+    else whole_text long begun lines end

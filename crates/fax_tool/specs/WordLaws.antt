@@ -4,7 +4,7 @@ use Rattle.std.specs.Io.KnownBytes.{Appends}
 use Rattle.clap.specs.Walk.{Text}
 use Rattle.fax_tool.specs.Job.{IsFault, IsJob}
 use Rattle.fax_tool.specs.Run.{HasFailed, IsRefused, WritesText}
-use Rattle.fax_tool.specs.Streams.{Counts}
+use Rattle.fax_tool.specs.Streams.{Counts, Input, Output}
 use Rattle.fax_tool.specs.Words.{words_status, words_text}
 use Rattle.fax_tool.specs.declared.words.Job.{Job}
 use Rattle.fax_tool.specs.declared.words.Command.{Command}
@@ -16,10 +16,9 @@ use Rattle.fax_walk.specs.LongCursor.{IsLongCursor}
 
 -- the words give a job, and what its command writes of the file was written
 -- (this project's profile)
-abbrev pub WritesOfWords : List Text → Option (List ℕ) → Option (List ℕ) → Option (List ℕ)
-    → Option (List ℕ) → Option (List ℕ) → ℕ → Type 0
-WritesOfWords words left output new_output error new_error status = (job : Job) × IsJob words job
-    × WritesText job.command left output new_output error new_error status
+abbrev pub WritesOfWords : List Text → Input → Output → Output → ℕ → Type 0
+WritesOfWords words input output error status = (job : Job) × IsJob words job
+    × WritesText job.command input output error status
 
 -- the words give no job: nothing was written but why, on the error stream, unless that failed
 -- (this project's profile)
@@ -32,12 +31,9 @@ pub record SaysFault (words : List Text) (counts : Counts)
   pub said : HasFailed counts ⊎ Appends error new_error (words_text fault)
 
 -- the words give a job, and its run was refused (this project's profile)
-abbrev pub IsRefusedOfWords : List Text → Option (List ℕ) → Counts → ℕ → Counts → Counts
-    → Option (List ℕ) → Option (List ℕ) → Option (List ℕ) → Option (List ℕ) → Type 0
-IsRefusedOfWords words left input taken output_counts error_counts output new_output error
-    new_error = (job : Job) × IsJob words job
-    × IsRefused job.command left input taken output_counts error_counts output new_output error
-    new_error
+abbrev pub IsRefusedOfWords : List Text → Input → Output → Output → Type 0
+IsRefusedOfWords words input output error = (job : Job) × IsJob words job
+    × IsRefused job.command input output error
 
 -- the numbers of a command's cursors have 32 bits, as those of each job have
 -- (this project's profile)

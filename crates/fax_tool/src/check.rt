@@ -1,14 +1,14 @@
 //! `check`: what is worth a note in a file.
-ghost use Rattle.std.specs.Prelude.{◌≡◌, ◌≤◌, ◌+◌, ◌++◌, IfErr, IfOk, IfSome};
+ghost use Rattle.std.specs.Prelude.{◌≡◌, ◌≤◌, ◌+◌, ◌++◌, IfErr, IfOk};
 ghost use Rattle.arrayvec.specs.ArrayString.{array_string_len};
 ghost use Rattle.fax_tool.specs.ReportText as Text;
 ghost use Rattle.fax_tool.specs.code.Outcome as Outcome;
-ghost use Rattle.fax_tool.specs.code.Outcome.{IsStopped, WritesOutput};
-ghost use Rattle.fax_tool.specs.Streams.{no_faults};
+ghost use Rattle.fax_tool.specs.code.Outcome.{IsDone, IsStopped};
+ghost use Rattle.fax_tool.specs.Streams.{input_after, no_faults, output_after};
 ghost use Rattle.fax_tool.specs.declared.words.Command.TheVariants.{Check};
 
 use crate::collected::Collected;
-use crate::fault::InputFault;
+use crate::fault::{ErrorLine, row_fault_line};
 use crate::refusal::Refusal;
 use crate::short::push_number;
 use crate::streams::{Sink, Source};
@@ -78,17 +78,13 @@ fn report_text(alloc: Global, report: &Report) -> Result<Collected, Memory>
     Ok(text)
 }
 
-/// The fault of a report, if any.
-fn fault_of(report: &Report) -> Option<InputFault>
+/// The line of a report's fault, if there is one.
+fn fault_line(report: &Report) -> Option<ErrorLine>
     ensures error { (Text.report_text report.now).error ≡ Outcome.error_of result }
     ensures status { (Text.report_text report.now).status ≡ Outcome.status_of result }
 {
     let (place, cause) = report.fault?;
-    Some(InputFault::AtRow {
-        page: place.page,
-        row: place.row,
-        cause,
-    })
+    Some(row_fault_line(place.page, place.row, cause))
 }
 
 /// Reads the input whole and writes what is worth a note in it, how many pages were read wholly,
@@ -97,20 +93,21 @@ pub fn check<R: Source, W: Sink>(
     alloc: Global,
     input: &mut R,
     out: &mut W,
-) -> Result<Option<InputFault>, Refusal>
+) -> Result<Option<ErrorLine>, Refusal>
     requires input_counts { R.counts input.old ≡ no_faults }
     requires taken { R.taken input.old ≡ 0 }
     requires counts { W.counts out.old ≡ no_faults }
-    ensures ok { IfOk result (λ fault. IfSome (R.left input.old) (λ file.
-        WritesOutput Check file (W.written out.old) (W.written out.new) fault)) }
-    ensures err { IfErr result (λ refusal. IsStopped Check (R.left input.old) refusal
-        (R.counts input.new) (R.taken input.new) (W.counts out.new) (W.written out.old)
-        (W.written out.new)) }
+    ensures ok { IfOk result (IsDone Check
+        (input_after (R.left input.old) (R.taken input.new) (R.counts input.new))
+        (output_after (W.written out.old) (W.written out.new) (W.counts out.new))) }
+    ensures err { IfErr result (λ refusal. IsStopped Check refusal
+        (input_after (R.left input.old) (R.taken input.new) (R.counts input.new))
+        (output_after (W.written out.old) (W.written out.new) (W.counts out.new))) }
 {
     let file = read_whole(alloc, input)?;
     let report = fax_walk::check(alloc, &file)?;
     let text = report_text(alloc, &report)?;
     let mut interruptions = Interruptions::NONE;
     give_all(out, &mut interruptions, text.as_bytes())?;
-    Ok(fault_of(&report))
+    Ok(fault_line(&report))
 }

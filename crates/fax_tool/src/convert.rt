@@ -1,10 +1,10 @@
 //! `convert`: the pages in another form.
-ghost use Rattle.std.specs.Prelude.{◌≡◌, IfErr, IfOk, IfSome};
-ghost use Rattle.fax_tool.specs.code.Outcome.{IsStopped, WritesOutput};
-ghost use Rattle.fax_tool.specs.Streams.{no_faults};
+ghost use Rattle.std.specs.Prelude.{◌≡◌, IfErr, IfOk};
+ghost use Rattle.fax_tool.specs.code.Outcome.{IsDone, IsStopped};
+ghost use Rattle.fax_tool.specs.Streams.{input_after, no_faults, output_after};
 ghost use Rattle.fax_tool.specs.declared.words.Command.TheVariants.{Convert};
 
-use crate::fault::{InputFault, fault_of_conversion};
+use crate::fault::{ErrorLine, conversion_line};
 use crate::refusal::Refusal;
 use crate::streams::{Sink, Source};
 use crate::transfer::{Interruptions, give_all, read_whole};
@@ -18,15 +18,16 @@ pub fn convert<R: Source, W: Sink>(
     options: Options,
     input: &mut R,
     out: &mut W,
-) -> Result<Option<InputFault>, Refusal>
+) -> Result<Option<ErrorLine>, Refusal>
     requires input_counts { R.counts input.old ≡ no_faults }
     requires taken { R.taken input.old ≡ 0 }
     requires counts { W.counts out.old ≡ no_faults }
-    ensures ok { IfOk result (λ fault. IfSome (R.left input.old) (λ file.
-        WritesOutput (Convert options) file (W.written out.old) (W.written out.new) fault)) }
-    ensures err { IfErr result (λ refusal. IsStopped (Convert options) (R.left input.old) refusal
-        (R.counts input.new) (R.taken input.new) (W.counts out.new) (W.written out.old)
-        (W.written out.new)) }
+    ensures ok { IfOk result (IsDone (Convert options)
+        (input_after (R.left input.old) (R.taken input.new) (R.counts input.new))
+        (output_after (W.written out.old) (W.written out.new) (W.counts out.new))) }
+    ensures err { IfErr result (λ refusal. IsStopped (Convert options) refusal
+        (input_after (R.left input.old) (R.taken input.new) (R.counts input.new))
+        (output_after (W.written out.old) (W.written out.new) (W.counts out.new))) }
 {
     let file = read_whole(alloc, input)?;
     match fax_walk::convert(alloc, &file, &options) {
@@ -35,6 +36,6 @@ pub fn convert<R: Source, W: Sink>(
             give_all(out, &mut interruptions, &bytes)?;
             Ok(None)
         }
-        Err(fault) => Ok(Some(fault_of_conversion(fault)?)),
+        Err(fault) => Ok(Some(conversion_line(fault)?)),
     }
 }

@@ -2,11 +2,10 @@
 //! what the program does: each has a law as its contract.
 ghost use Rattle.std.specs.Prelude.{◌≡◌, ◌⊎◌, ◌<◌};
 ghost use Rattle.clap.specs.Walk.{texts};
-ghost use Rattle.fax_tool.specs.Streams.{no_faults};
+ghost use Rattle.fax_tool.specs.Streams.{input_after, no_faults, output_after};
 ghost use Rattle.fax_tool.specs.WordLaws.{IsRefusedOfWords, SaysFault, WritesOfWords};
 ghost use Rattle.fax_tool.specs.WordLaws.{WordsHaveOneAnswer};
 ghost use Rattle.fax_tool.specs.Laws as Laws;
-ghost use Rattle.fax_tool.specs.LongLaws as LongLaws;
 ghost use Rattle.fax_tool.specs.Examples.{AreNotTaken, AreRead};
 
 use crate::run::run;
@@ -14,28 +13,16 @@ use crate::streams::{Sink, Source};
 use crate::words::parse_words;
 use std::alloc::Global;
 
-/// Runs of `rows`, the first from any cursor and each later one from the cursor that the run before
-/// it printed, write together a beginning of one run's lines of rows, and all that it writes where
-/// the last of them was not cut by its limit.
+/// Runs of `rows`, all with `--long` or all without, the first from any cursor, with `--long` also
+/// from a long cursor to which its strip's rows lead, and each later one from what the run before
+/// it printed after `next `, write together a beginning of one run's lines of rows, and all that it
+/// writes where the last of them was not cut by its limit.
 pub fn runs_go_on()
     ensures { Laws.RunsGoOn }
 {
-    fax_walk::laws::cursors_have_one_tail();
-    fax_walk::laws::tails_behind_items();
-}
-
-/// Runs of `rows --long`, the first from any cursor or from a long cursor that a run from a cursor
-/// prints, and each later one from what the run before it printed, write together a beginning of
-/// one run's lines of rows, and all that it writes where the last of them was not cut by its limit.
-pub fn long_runs_go_on()
-    ensures { LongLaws.LongRunsGoOn }
-{
-    fax_walk::laws::cursors_have_one_tail();
-    fax_walk::laws::places_have_one_tail();
-    fax_walk::laws::long_tails_behind_items();
-    fax_walk::laws::tails_behind_reached();
-    fax_walk::laws::places_of_reached();
-    fax_walk::laws::items_have_one_place();
+    fax_walk::laws::beginnings_have_one_tail();
+    fax_walk::laws::tails_go_on();
+    fax_files::laws::files_have_one_chain();
 }
 
 /// What the program does with words, over its streams, but for opening the file that they name:
@@ -51,15 +38,18 @@ pub fn words_are_run<R: Source, W: Sink, E: Sink>(
     requires taken { R.taken input.old ≡ 0 }
     requires output_counts { W.counts out.old ≡ no_faults }
     requires error_counts { E.counts err.old ≡ no_faults }
-    ensures written { result < 2 → WritesOfWords (texts words.now) (R.left input.old)
-        (W.written out.old) (W.written out.new) (E.written err.old) (E.written err.new) result }
+    ensures written { result < 2 → WritesOfWords (texts words.now)
+        (input_after (R.left input.old) (R.taken input.new) (R.counts input.new))
+        (output_after (W.written out.old) (W.written out.new) (W.counts out.new))
+        (output_after (E.written err.old) (E.written err.new) (E.counts err.new)) result }
     ensures said { result ≡ 2 → SaysFault (texts words.now) (E.counts err.new)
         (W.written out.old) (W.written out.new) (E.written err.old) (E.written err.new) result }
     ensures refused { result ≡ 3 → SaysFault (texts words.now) (E.counts err.new)
         (W.written out.old) (W.written out.new) (E.written err.old) (E.written err.new) result
-        ⊎ IsRefusedOfWords (texts words.now) (R.left input.old) (R.counts input.new)
-        (R.taken input.new) (W.counts out.new) (E.counts err.new) (W.written out.old)
-        (W.written out.new) (E.written err.old) (E.written err.new) }
+        ⊎ IsRefusedOfWords (texts words.now)
+        (input_after (R.left input.old) (R.taken input.new) (R.counts input.new))
+        (output_after (W.written out.old) (W.written out.new) (W.counts out.new))
+        (output_after (E.written err.old) (E.written err.new) (E.counts err.new)) }
     ensures status { result < 4 }
 {
     match parse_words(alloc, words) {

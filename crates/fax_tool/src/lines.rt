@@ -1,43 +1,60 @@
 //! What is printed line by line: the rows of a file, or its pages.
-ghost use Rattle.std.specs.Prelude.{◌≡◌, ℕ, List, IfOk, OnErr};
-ghost use Rattle.fax_walk.specs.declared.cursor.Cursor.{Cursor as At};
+ghost use Rattle.std.specs.Prelude.{◌≡◌, ◌<◌, ◌↔◌, ℕ, List, IfOk, None};
+ghost use Rattle.fax_walk.specs.Laws.{IsOne};
+ghost use Rattle.fax_walk.specs.Left.{begins_inside};
+ghost use Rattle.fax_walk.specs.PagesLeft.{pages_from};
+ghost use Rattle.fax_walk.specs.Rows.{begins_at};
+ghost use Rattle.fax_walk.specs.declared.begun.Begun.{Begun};
 ghost use Rattle.fax_walk.specs.declared.end.End.{End as TheEnd};
 ghost use Rattle.fax_tool.specs.Text.{Line};
 ghost use Rattle.fax_tool.specs.code.Printing as Spec;
-ghost use Rattle.fax_tool.specs.code.Printing.{IsLinePut, Said};
+ghost use Rattle.fax_tool.specs.code.Printing.{IsLinePut, IsNextAfter};
 
 use crate::collected::Collected;
 use crate::page_line::put_page_line;
 use crate::row_line::put_row_line;
 use fax_bits::Memory;
-use fax_walk::{Cursor, End, Pages, Walk, WalkFault};
+use fax_walk::{Cursor, End, LongCursor, Pages, Walk, WalkFault};
+use std::alloc::Global;
+use std::marker::Model;
 
-/// Lines that are printed one after another. Contracts see which lines are due, and the end after
-/// them, which were told, the cursor that stands before the first of them that is due, and a number
-/// that each line makes less.
+/// Lines that are printed one after another. Contracts see all of them and the end after them,
+/// which no call changes, what they began with, how many were collected, and a number that each
+/// line makes less.
 pub trait Lines {
-    ghost are_due: { Self → List Line → TheEnd → Type 0 };
+    ghost tail: { Self → List Line → TheEnd → Type 0 };
 
-    ghost said: { Self → Said };
+    ghost begun: { Self → Begun };
 
-    ghost place: { Self → At };
+    ghost given: { Self → ℕ };
 
     ghost left: { Self → ℕ };
 
-    /// The place after what the last line told, or the one that the lines began with.
+    /// The cursor after what the last line told, or the one that the lines began with.
     fn cursor(&self) -> Cursor
-        ensures { result ≡ place self.now };
+        ensures { (next : Begun) × IsNextAfter (tail self.now) (begun self.now) (given self.now) next
+            × (result ≡ begins_at next) };
+
+    /// The place inside a strip after what the last line told, or the one that the lines began
+    /// with, if there is one.
+    fn long_cursor(&self, alloc: Global) -> Result<Option<LongCursor>, Memory>
+        ensures { IfOk result (λ place. (next : Begun)
+            × IsNextAfter (tail self.now) (begun self.now) (given self.now) next
+            × (place ≡ begins_inside next)) };
 
     /// Collects the next line after the text, or answers how the lines ended. Where memory is
     /// refused the text is as it was.
     fn put_next(&mut self, text: &mut Collected) -> Result<Option<End>, Memory>
-        ensures put { IsLinePut (are_due self.old) (said self.old) (place self.old)
-            (left self.old) text.old result
-            (are_due self.new) (said self.new) (place self.new) (left self.new) text.new };
+        ensures tail { (lines : List Line) (end : TheEnd) → tail self.old lines end
+            ↔ tail self.new lines end }
+        ensures begun { begun self.new ≡ begun self.old }
+        ensures fewer { IfOk result (λ end. end ≡ None → left self.new < left self.old) }
+        ensures put { IsLinePut (tail self.old) (given self.old) text.old result (given self.new)
+            text.new };
 
-    /// There are lines that are due, and an end. It computes nothing.
-    fn have_an_end(&self)
-        ensures { (lines : List Line) × (end : TheEnd) × are_due self.now lines end };
+    /// The lines and the end after them are one. It computes nothing.
+    fn are_one(&self)
+        ensures { IsOne (tail self.now) };
 }
 
 /// How lines end where a walk or a reader of pages answers so; want of memory is no end.
@@ -53,19 +70,26 @@ fn end_of(fault: WalkFault) -> Result<End, Memory>
 
 /// A line for each row.
 impl Lines for Walk<'_> {
-    ghost use Rattle.fax_walk.specs.code.Due.{places_left};
-    ghost use Rattle.fax_tool.specs.code.Printing.{AreRowsDue, HasSaid};
+    ghost use Rattle.std.specs.Prelude.{◌-◌, ◌^◌};
+    ghost use Rattle.fax_tool.specs.Run.{AreRowLines};
 
-    ghost are_due = { λ walk lines end. AreRowsDue walk lines end };
+    ghost tail = { λ walk. AreRowLines walk.file walk.begun };
 
-    ghost said = { λ walk. HasSaid walk };
+    ghost begun = { λ walk. walk.begun };
 
-    ghost place = { λ walk. walk.cursor };
+    ghost given = { λ walk. walk.given };
 
-    ghost left = { λ walk. places_left walk };
+    ghost left = { λ walk. 2 ^ 64 - walk.given };
 
     fn cursor(&self) -> Cursor {
+        fax_walk::laws::beginnings_have_one_tail();
         Walk::cursor(self)
+    }
+
+    fn long_cursor(&self, alloc: Global) -> Result<Option<LongCursor>, Memory> {
+        fax_walk::laws::beginnings_have_one_tail();
+        fax_files::laws::files_have_one_chain();
+        Walk::long_cursor(self, alloc)
     }
 
     fn put_next(&mut self, text: &mut Collected) -> Result<Option<End>, Memory> {
@@ -79,31 +103,70 @@ impl Lines for Walk<'_> {
         }
     }
 
-    fn have_an_end(&self) {
-        fax_walk::laws::walks_have_items(self);
+    fn are_one(&self) {
+        fax_walk::laws::beginnings_have_one_tail();
+        fax_files::laws::files_have_one_chain();
+    }
+}
+
+/// A reader of pages, with its cursor after the page that it handed out last. Contracts see the
+/// reader.
+#[derive(Drop)]
+pub struct PageLines<'a> {
+    pages: Pages<'a>,
+}
+
+impl<'a> Model for PageLines<'a> {
+    ghost use Rattle.fax_walk.specs.PagesLeft.{PagesView};
+    ghost use Rattle.fax_walk.specs.declared.begun.Begun.TheVariants.{At};
+    ghost use Rattle.fax_tool.specs.Run.{ArePageLines};
+    ghost use Rattle.fax_tool.specs.code.Printing.{IsNextAfter};
+
+    ghost Value = { PagesView };
+
+    ghost view = { λ lines. lines.pages };
+
+    ghost invariant = { λ lines. IsNextAfter (ArePageLines lines.pages.file lines.pages.begun)
+        (At lines.pages.begun) lines.pages.given (At lines.pages.cursor) };
+}
+
+impl<'a> PageLines<'a> {
+    /// The pages of a file from a cursor on. Nothing is read yet.
+    pub fn resume(file: &'a [u8], cursor: Cursor) -> Self
+        ensures { result ≡ pages_from file.now cursor }
+    {
+        fax_walk::laws::form_tails_are_one();
+        PageLines {
+            pages: Pages::resume(file, cursor),
+        }
     }
 }
 
 /// A line for each page.
-impl Lines for Pages<'_> {
-    ghost use Rattle.std.specs.Prelude.{◌-◌, ◌^◌, ⊤};
-    ghost use Rattle.fax_tool.specs.code.Printing.{ArePagesDue};
+impl Lines for PageLines<'_> {
+    ghost use Rattle.std.specs.Prelude.{◌-◌, ◌^◌};
+    ghost use Rattle.fax_walk.specs.declared.begun.Begun.TheVariants.{At};
+    ghost use Rattle.fax_tool.specs.Run.{ArePageLines};
 
-    ghost are_due = { λ pages lines end. ArePagesDue pages lines end };
+    ghost tail = { λ pages. ArePageLines pages.file pages.begun };
 
-    ghost said = { λ pages file begun lines. ⊤ };
+    ghost begun = { λ pages. At pages.begun };
 
-    ghost place = { λ pages. pages.cursor };
+    ghost given = { λ pages. pages.given };
 
     ghost left = { λ pages. 2 ^ 32 - pages.given };
 
     fn cursor(&self) -> Cursor {
-        Pages::cursor(self)
+        self.pages.cursor()
+    }
+
+    fn long_cursor(&self, _alloc: Global) -> Result<Option<LongCursor>, Memory> {
+        let _ = &self.pages;
+        Ok(None)
     }
 
     fn put_next(&mut self, text: &mut Collected) -> Result<Option<End>, Memory> {
-        fax_walk::laws::pages_go_on();
-        match self.next_page() {
+        match self.pages.next_page() {
             Ok(Some((page, form))) => {
                 put_page_line(text, page, &form)?;
                 Ok(None)
@@ -113,7 +176,7 @@ impl Lines for Pages<'_> {
         }
     }
 
-    fn have_an_end(&self) {
-        fax_walk::laws::pages_have_forms(self);
+    fn are_one(&self) {
+        fax_walk::laws::form_tails_are_one();
     }
 }

@@ -1,12 +1,12 @@
 //! A run of the program over its streams.
-ghost use Rattle.std.specs.Prelude.{◌≡◌, ◌<◌, IfErr, IfOk, IfSome};
-ghost use Rattle.fax_tool.specs.code.Outcome.{IsReport, IsSaid, IsStopped, WritesOutput};
+ghost use Rattle.std.specs.Prelude.{◌≡◌, ◌<◌, IfErr, IfOk};
+ghost use Rattle.fax_tool.specs.code.Outcome.{IsDone, IsReport, IsSaid, IsStopped};
 ghost use Rattle.fax_tool.specs.Run.{IsRefused, IsStatus, WritesText};
-ghost use Rattle.fax_tool.specs.Streams.{no_faults};
+ghost use Rattle.fax_tool.specs.Streams.{input_after, no_faults, output_after};
 
 use crate::check::check;
 use crate::convert::convert;
-use crate::fault::InputFault;
+use crate::fault::ErrorLine;
 use crate::print::{list, rows};
 use crate::refusal::Refusal;
 use crate::streams::{Sink, Source};
@@ -24,13 +24,13 @@ const INPUT_FAULT: u8 = 1;
 const REFUSED: u8 = 3;
 
 /// Says a line on the error stream, and answers this status, or 3 where the stream fails.
-fn say<E: Sink>(err: &mut E, line: &str, status: u8) -> u8
+fn say<E: Sink>(err: &mut E, line: &[u8], status: u8) -> u8
     requires { E.counts err.old ≡ no_faults }
-    ensures { IsSaid (E.written err.old) (E.written err.new)
-        (E.counts err.new) line.now status result }
+    ensures { IsSaid (output_after (E.written err.old) (E.written err.new) (E.counts err.new))
+        line.now status result }
 {
     let mut interruptions = Interruptions::NONE;
-    match give_all(err, &mut interruptions, line.as_bytes()) {
+    match give_all(err, &mut interruptions, line) {
         Ok(()) => status,
         Err(_) => REFUSED,
     }
@@ -38,33 +38,35 @@ fn say<E: Sink>(err: &mut E, line: &str, status: u8) -> u8
 
 /// Says on the error stream what fault the input has, or why the run was refused, and answers the
 /// program's status.
-fn report<E: Sink>(outcome: Result<Option<InputFault>, Refusal>, err: &mut E) -> u8
+fn report<E: Sink>(outcome: Result<Option<ErrorLine>, Refusal>, err: &mut E) -> u8
     requires { E.counts err.old ≡ no_faults }
-    ensures { IsReport outcome (E.written err.old) (E.written err.new) (E.counts err.new) result }
+    ensures { IsReport outcome
+        (output_after (E.written err.old) (E.written err.new) (E.counts err.new)) result }
 {
     match outcome {
         Ok(None) => DONE,
-        Ok(Some(fault)) => say(err, fault.line().as_str(), INPUT_FAULT),
-        Err(refusal) => say(err, refusal.line(), REFUSED),
+        Ok(Some(line)) => say(err, line.as_bytes(), INPUT_FAULT),
+        Err(refusal) => say(err, refusal.line().as_bytes(), REFUSED),
     }
 }
 
-/// Carries out a command: reads the input whole and writes the output. It answers the fault of the
-/// input, if any.
+/// Carries out a command: reads the input whole and writes the output. It answers the line of the
+/// input's fault, if there is one.
 fn carry_out<R: Source, W: Sink>(
     alloc: Global,
     command: &Command,
     input: &mut R,
     out: &mut W,
-) -> Result<Option<InputFault>, Refusal>
+) -> Result<Option<ErrorLine>, Refusal>
     requires input_counts { R.counts input.old ≡ no_faults }
     requires taken { R.taken input.old ≡ 0 }
     requires output_counts { W.counts out.old ≡ no_faults }
-    ensures ok { IfOk result (λ fault. IfSome (R.left input.old) (λ file.
-        WritesOutput command.now file (W.written out.old) (W.written out.new) fault)) }
-    ensures err { IfErr result (λ refusal. IsStopped command.now (R.left input.old) refusal
-        (R.counts input.new) (R.taken input.new) (W.counts out.new) (W.written out.old)
-        (W.written out.new)) }
+    ensures ok { IfOk result (IsDone command.now
+        (input_after (R.left input.old) (R.taken input.new) (R.counts input.new))
+        (output_after (W.written out.old) (W.written out.new) (W.counts out.new))) }
+    ensures err { IfErr result (λ refusal. IsStopped command.now refusal
+        (input_after (R.left input.old) (R.taken input.new) (R.counts input.new))
+        (output_after (W.written out.old) (W.written out.new) (W.counts out.new))) }
 {
     match command {
         Command::List(part) => list(alloc, part, input, out),
@@ -90,17 +92,18 @@ pub fn run<R: Source, W: Sink, E: Sink>(
     requires error_counts { E.counts err.old ≡ no_faults }
     ensures status { IsStatus result }
 
-    // What was done is the text of what the job's command tells of the input.
-    ensures written { result < 3
-        → WritesText job.now.command (R.left input.old) (W.written out.old) (W.written out.new)
-        (E.written err.old) (E.written err.new) result }
+    // What was done is the text of what the job's command tells of the input, and no stream failed.
+    ensures written { result < 3 → WritesText job.now.command
+        (input_after (R.left input.old) (R.taken input.new) (R.counts input.new))
+        (output_after (W.written out.old) (W.written out.new) (W.counts out.new))
+        (output_after (E.written err.old) (E.written err.new) (E.counts err.new)) result }
 
     // What was refused was refused for a reason that the streams' counts show, and the output is
     // what it has to be then.
-    ensures refused { result ≡ 3
-        → IsRefused job.now.command (R.left input.old) (R.counts input.new) (R.taken input.new)
-        (W.counts out.new) (E.counts err.new) (W.written out.old) (W.written out.new)
-        (E.written err.old) (E.written err.new) }
+    ensures refused { result ≡ 3 → IsRefused job.now.command
+        (input_after (R.left input.old) (R.taken input.new) (R.counts input.new))
+        (output_after (W.written out.old) (W.written out.new) (W.counts out.new))
+        (output_after (E.written err.old) (E.written err.new) (E.counts err.new)) }
 {
     let outcome = carry_out(alloc, &job.command, input, out);
     report(outcome, err)

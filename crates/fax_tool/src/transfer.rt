@@ -3,13 +3,15 @@ ghost use Rattle.std.specs.Prelude.{◌≡◌, ◌≤◌, ◌<◌, ◌-◌, leng
 ghost use Rattle.std.specs.Prelude.{Err, false, vec_len};
 ghost use Rattle.std.specs.Io.KnownBytes.{Appends};
 ghost use Rattle.fax_tool.specs.declared.refusal.Refusal.TheVariants.{Memory};
-ghost use Rattle.fax_tool.specs.Run.{HasFailed, HasReason, most_input, most_interrupted};
-ghost use Rattle.fax_tool.specs.Streams.{counts_after, no_faults};
+ghost use Rattle.fax_tool.specs.Run.{HasFailed, HasWorked, IsRead, most_input, most_interrupted};
+ghost use Rattle.fax_tool.specs.Streams.{counts_after, input_after, no_faults};
+ghost use Rattle.fax_tool.specs.code.Outcome.{HasReadReason};
 ghost use Rattle.fax_tool.specs.code.Transfers.{IsGivenInPart, counted};
 
 use crate::refusal::Refusal;
 use crate::streams::{Sink, Source, StreamFault};
 use std::alloc::Global;
+use std::marker::Model;
 
 /// The most bytes of an input: 256 MiB.
 const MOST_INPUT: usize = 268_435_456;
@@ -20,23 +22,40 @@ const CHUNK: usize = 65_536;
 /// How many interrupted calls of a stream are made again.
 const MOST_INTERRUPTED: u32 = 1_023;
 
-/// How many calls on a stream were interrupted, and made again.
-#[derive(Clone, Copy)]
+/// How many calls on a stream were interrupted, and made again. Contracts see the number.
+#[derive(Drop)]
 pub struct Interruptions {
     count: u32,
+}
+
+impl Model for Interruptions {
+    ghost use Rattle.std.specs.Prelude.{ℕ, ◌≤◌};
+
+    ghost Value = { ℕ };
+
+    ghost view = { λ interruptions. interruptions.count };
+
+    ghost invariant = { λ interruptions. interruptions.count ≤ 1023 };
 }
 
 impl Interruptions {
     /// No call was interrupted.
     pub const NONE: Interruptions = Interruptions { count: 0 };
 
+    /// They are not too many. It computes nothing.
+    fn are_few(&self)
+        ensures { self.now ≤ most_interrupted }
+    {
+        let _ = &self.count;
+    }
+
     /// Whether a call with this fault is made again: an interrupted one, up to 1,023 times on a
     /// stream.
     fn allow(&mut self, fault: StreamFault) -> bool
         ensures again { IsTrue result → counted self.new
             ≡ counts_after (Err fault) (counted self.old) }
-        ensures fewer { IsTrue result → most_interrupted - self.new.count
-            < most_interrupted - self.old.count }
+        ensures fewer { IsTrue result → most_interrupted - self.new
+            < most_interrupted - self.old }
         ensures failed { result ≡ false → HasFailed (counts_after (Err fault) (counted self.old)) }
     {
         match fault {
@@ -68,13 +87,16 @@ pub fn read_whole<R: Source>(alloc: Global, input: &mut R) -> Result<Vec<u8>, Re
     requires taken { R.taken input.old ≡ 0 }
     ensures whole { IfOk result (λ file. IfSome (R.left input.old) (λ bytes. file.items ≡ bytes)) }
     ensures limit { IfOk result (λ file. vec_len file ≤ most_input) }
-    ensures reason { IfErr result (λ refusal. HasReason refusal (R.counts input.new)
-        (R.taken input.new) no_faults) }
+    ensures read { OnOk result (IsRead
+        (input_after (R.left input.old) (R.taken input.new) (R.counts input.new))) }
+    ensures reason { IfErr result (λ refusal. HasReadReason refusal
+        (input_after (R.left input.old) (R.taken input.new) (R.counts input.new))) }
 {
     let mut interruptions = Interruptions::NONE;
     let mut file = Vec::new(alloc);
     let mut chunk = room(alloc, CHUNK)?;
     loop {
+        interruptions.are_few();
         match input.take(&mut chunk) {
             Ok(0) => return Ok(file),
             Ok(count) => {
@@ -108,6 +130,7 @@ pub fn give_all<W: Sink>(
     requires counts { W.counts out.old ≡ counted interruptions.old }
     ensures ok { OnOk result (Appends (W.written out.old) (W.written out.new) bytes.now) }
     ensures counts { OnOk result (W.counts out.new ≡ counted interruptions.new) }
+    ensures worked { OnOk result (HasWorked (W.counts out.new)) }
     ensures err { IfErr result (IsGivenInPart (W.written out.old)
         (W.written out.new) bytes.now (W.counts out.new)) }
 {
@@ -122,5 +145,6 @@ pub fn give_all<W: Sink>(
             }
         }
     }
+    interruptions.are_few();
     Ok(())
 }

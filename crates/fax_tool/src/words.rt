@@ -63,7 +63,7 @@ pub struct Part {
 }
 
 impl Part {
-    ghost use Rattle.fax_walk.specs.LongTail.{begins_at};
+    ghost use Rattle.fax_walk.specs.Rows.{begins_at};
     ghost use Rattle.fax_tool.specs.Run.{begun_of};
 
     /// The cursor to begin at, of the long cursor where one is named.

@@ -1,76 +1,100 @@
--- How a command ended that was not refused.
+-- How a command ended.
 use Rattle.std.specs.Prelude.{◌≡◌, ◌≢◌, ℕ, ◌⊎◌, List, [], Option, Some, None, IfSome, Result, Ok}
-use Rattle.std.specs.Prelude.{Err, codes}
+use Rattle.std.specs.Prelude.{Err}
 use Rattle.std.specs.Io.KnownBytes.{Appends}
 use Rattle.fax_walk.specs.declared.end.End.{End}
 use Rattle.fax_walk.specs.declared.end.End.TheVariants.{Proper, Fault, Outside}
 use Rattle.fax_walk.specs.declared.options.ConvertFault.{ConvertFault}
-use Rattle.fax_walk.specs.declared.options.ConvertFault.TheVariants.{Memory}
-use Rattle.fax_tool.specs.declared.fault.InputFault.{InputFault}
-use Rattle.fax_tool.specs.declared.fault.InputFault.TheVariants.{CursorOutside, AtRow, AtImage}
-use Rattle.fax_tool.specs.declared.fault.InputFault.TheVariants.{UnknownInput as Unknown}
-use Rattle.fax_tool.specs.declared.fault.InputFault.TheVariants.{OutputTooLarge as TooLarge}
+use Rattle.fax_walk.specs.declared.options.ConvertFault.TheVariants.{Memory as NoRoom}
 use Rattle.fax_tool.specs.declared.refusal.Refusal.{Refusal}
+use Rattle.fax_tool.specs.declared.refusal.Refusal.TheVariants.{Memory, Read, Write}
 use Rattle.fax_tool.specs.declared.words.Command.{Command}
-use Rattle.fax_tool.specs.Text.{Printed, fault_line, image_fault_line, convert_fault_line}
-use Rattle.fax_tool.specs.Streams.{Counts}
-use Rattle.fax_tool.specs.Run.{HasFailed, HasReason, IsTextOf, LeavesText, refusal_line}
+use Rattle.fax_tool.specs.Text.{Printed, convert_fault_line, error_text}
+use Rattle.fax_tool.specs.Streams.{Counts, Input, Output}
+use Rattle.fax_tool.specs.Run.{HasFailed, HasReason, HasWorked, IsRead, IsTextAfterMemory}
+use Rattle.fax_tool.specs.Run.{IsTextOf, IsUnread, LeavesText, refusal_line}
 
--- the line of a fault of the input
-abbrev pub input_fault_line : InputFault → List ℕ
-input_fault_line CursorOutside = codes "fault cursor: CursorOutside\n"
-input_fault_line (AtRow page row cause) = fault_line page row cause
-input_fault_line (AtImage image fault) = image_fault_line image fault
-input_fault_line Unknown = codes "fault: UnknownInput\n"
-input_fault_line TooLarge = codes "fault: OutputTooLarge\n"
+-- this is the line of the fault for which a file is not converted
+abbrev pub IsLineOf : ConvertFault → List ℕ → Type 0
+IsLineOf fault line = (fault ≢ NoRoom) × (line ≡ convert_fault_line fault)
 
--- this is the fault for which a file is not converted
-abbrev pub IsFaultOf : ConvertFault → InputFault → Type 0
-IsFaultOf fault of = (fault ≢ Memory) × (convert_fault_line fault ≡ input_fault_line of)
+-- the error line of the end that lines had; at a limit there is none
+abbrev pub end_line : Option End → Option (List ℕ)
+end_line None = None
+end_line (Some Proper) = None
+end_line (Some (Fault page row cause)) = Some (error_text (Fault page row cause))
+end_line (Some Outside) = Some (error_text Outside)
 
--- the fault that lines ended with; at a limit there is none
-abbrev pub fault_of : Option End → Option InputFault
-fault_of None = None
-fault_of (Some Proper) = None
-fault_of (Some (Fault page row cause)) = Some (AtRow page row cause)
-fault_of (Some Outside) = Some CursorOutside
-
--- the error line of a fault, if any
-abbrev pub error_of : Option InputFault → List ℕ
+-- what is said of a line, if there is one
+abbrev pub error_of : Option (List ℕ) → List ℕ
 error_of None = []
-error_of (Some fault) = input_fault_line fault
+error_of (Some line) = line
 
--- the status of a run that ended so
-abbrev pub status_of : Option InputFault → ℕ
+-- the status of a run that says so
+abbrev pub status_of : Option (List ℕ) → ℕ
 status_of None = 0
-status_of (Some fault) = 1
+status_of (Some line) = 1
 
--- the text of a command is written, but for its error line, which is that of the fault
-pub record WritesOutput (command : Command) (file : List ℕ) (output new_output : Option (List ℕ))
-    (fault : Option InputFault) : Type 0 where
+-- such a text is written, but for its error line, which is this, if there is one
+pub record WritesOutput (is_text : Printed → Type 0) (output : Output)
+    (line : Option (List ℕ)) : Type 0 where
   pub printed : Printed
-  pub is : IsTextOf command file printed
-  pub output_is : Appends output new_output printed.output
-  pub error_is : printed.error ≡ error_of fault
-  pub status_is : printed.status ≡ status_of fault
+  pub is : is_text printed
+  pub output_is : Appends output.before output.after printed.output
+  pub error_is : printed.error ≡ error_of line
+  pub status_is : printed.status ≡ status_of line
+
+-- a command was not refused
+pub record IsDone (command : Command) (input : Input) (output : Output)
+    (line : Option (List ℕ)) : Type 0 where
+  pub read : IsRead input
+  pub written : HasWorked output.counts
+  pub writes : IfSome input.bytes (λ file. WritesOutput (IsTextOf command file) output line)
 
 -- a command was refused, for a reason, and has left what it has to
-pub record IsStopped (command : Command) (left : Option (List ℕ)) (refusal : Refusal)
-    (input : Counts) (taken : ℕ) (counts : Counts)
-    (output new_output : Option (List ℕ)) : Type 0 where
-  pub reason : HasReason refusal input taken counts
-  pub leaves : IfSome left (λ file. LeavesText refusal command file output new_output)
+pub record IsStopped (command : Command) (refusal : Refusal) (input : Input)
+    (output : Output) : Type 0 where
+  pub reason : HasReason refusal input output
+  pub leaves : IfSome input.bytes (λ file. LeavesText (IsTextOf command file)
+      (IsTextAfterMemory command file) refusal output)
+
+-- reading was refused for this reason
+abbrev pub HasReadReason : Refusal → Input → Type 0
+HasReadReason Memory input = IsRead input
+HasReadReason Read input = IsUnread input
+HasReadReason Write input = ⊥
+
+-- printing was refused for this reason
+abbrev pub HasPrintReason : Refusal → Counts → Type 0
+HasPrintReason Memory counts = HasWorked counts
+HasPrintReason Read counts = ⊥
+HasPrintReason Write counts = HasFailed counts
+
+-- such a text is left, or that which is written where memory is refused, for this reason
+pub record StopsPrinting (is : Printed → Type 0) (after_memory : List ℕ → Type 0)
+    (refusal : Refusal) (output : Output) : Type 0 where
+  pub reason : HasPrintReason refusal output.counts
+  pub leaves : LeavesText is after_memory refusal output
+
+-- nothing was to be written but this where memory is refused
+abbrev pub StopsWith : List ℕ → Refusal → Output → Type 0
+StopsWith text = StopsPrinting (λ printed. ⊥) (λ output. output ≡ text)
+
+-- the input was not read, and this was to be written where memory is refused
+pub record StopsAtBeginning (text : List ℕ) (refusal : Refusal) (input : Input)
+    (output : Output) : Type 0 where
+  pub reason : HasReason refusal input output
+  pub leaves : LeavesText (λ printed. ⊥) (λ output. output ≡ text) refusal output
 
 -- a line was said, and the status is the one that goes with it, or the error stream failed
-abbrev pub IsSaid : Option (List ℕ) → Option (List ℕ) → Counts → List ℕ → ℕ → ℕ → Type 0
-IsSaid error new_error counts line status result =
-    (Appends error new_error line × (result ≡ status)) ⊎ (HasFailed counts × (result ≡ 3))
+abbrev pub IsSaid : Output → List ℕ → ℕ → ℕ → Type 0
+IsSaid error line status result =
+    (HasWorked error.counts × Appends error.before error.after line × (result ≡ status))
+    ⊎ (HasFailed error.counts × (result ≡ 3))
 
 -- what is said on the error stream of the way a command ended, with the status
-abbrev pub IsReport : Result (Option InputFault) Refusal → Option (List ℕ) → Option (List ℕ)
-    → Counts → ℕ → Type 0
-IsReport (Ok fault) error new_error counts status =
-    (Appends error new_error (error_of fault) × (status ≡ status_of fault))
-    ⊎ (HasFailed counts × (status ≡ 3))
-IsReport (Err refusal) error new_error counts status =
-    (HasFailed counts ⊎ Appends error new_error (refusal_line refusal)) × (status ≡ 3)
+abbrev pub IsReport : Result (Option (List ℕ)) Refusal → Output → ℕ → Type 0
+IsReport (Ok line) error status = IsSaid error (error_of line) (status_of line) status
+IsReport (Err refusal) error status =
+    (HasFailed error.counts ⊎ Appends error.before error.after (refusal_line refusal))
+    × (status ≡ 3)

@@ -3,13 +3,12 @@ use Rattle.std.specs.Prelude.{◌≡◌, List, ℕ, ◌++◌, Option}
 use Rattle.std.specs.Io.KnownBytes.{Appends}
 use Rattle.fax_tool.specs.declared.refusal.Refusal.{Refusal}
 use Rattle.fax_tool.specs.declared.refusal.Refusal.TheVariants.{Write}
-use Rattle.fax_tool.specs.declared.transfer.Interruptions.{Interruptions}
 use Rattle.fax_tool.specs.Run.{HasFailed}
 use Rattle.fax_tool.specs.Streams.{Counts, counts_of}
 
 -- so many calls were interrupted, and none failed
-abbrev pub counted : Interruptions → Counts
-counted interruptions = counts_of interruptions.count 0
+abbrev pub counted : ℕ → Counts
+counted interruptions = counts_of interruptions 0
 
 -- a front of these bytes is written
 pub record WritesFront (old new : Option (List ℕ)) (bytes : List ℕ) : Type 0 where

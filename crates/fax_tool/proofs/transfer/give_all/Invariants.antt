@@ -11,4 +11,4 @@ invariant-loop-rest g l = record {
 }
 
 abbrev pub decreases-loop-rest : goal.decreases-loop-rest
-decreases-loop-rest g l = length l.rest + (most_interrupted - l.interruptions.count)
+decreases-loop-rest g l = length l.rest + (most_interrupted - l.interruptions)

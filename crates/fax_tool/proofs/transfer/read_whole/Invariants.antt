@@ -14,4 +14,4 @@ invariant-loop-file g l = record {
 }
 
 abbrev pub decreases-loop-file : goal.decreases-loop-file
-decreases-loop-file g l = (most_input - vec_len l.file) + (most_interrupted - l.interruptions.count)
+decreases-loop-file g l = (most_input - vec_len l.file) + (most_interrupted - l.interruptions)

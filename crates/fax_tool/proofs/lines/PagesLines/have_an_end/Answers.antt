@@ -1,8 +1,0 @@
-use Rattle.std.proofs.Common.{refl, map}
-use Rattle.fax_tool.specs.Text.{line_of_page}
-use Rattle.fax_tool.proofs.lines.PagesLines.have_an_end.Goals as goal
-
-pub returns : goal.returns
-returns c =
-    let some = c.pages_have_forms.ensures in
-    (map line_of_page some.0, some.1, record { items = some.0; due = some.2; lines_are = refl })
