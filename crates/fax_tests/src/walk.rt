@@ -1,6 +1,10 @@
 //! Walks over small files.
 
-use fax_walk::{Cause, Cursor, FileFault, LongCursor, Pages, Place, StripFault, Walk, WalkFault};
+use fax_bits::FillOrder;
+use fax_walk::{
+    Cause, Cursor, FileFault, LongCursor, Options, Pages, Place, StripFault, Target, Walk,
+    WalkFault, convert,
+};
 use std::alloc::Global;
 use std::process::Abort;
 use std::test::Fail;
@@ -340,5 +344,44 @@ fn keeps_its_place_before_the_first_row(rt: HostRuntime) -> Result<(), Fail> {
     let mut walk = Walk::resume_long(rt.alloc(), &TWO_ROWS, place);
     assert_stays(&rt, rt.alloc(), &mut walk)?;
     assert_eq!(rt; walk.rows_read(), 0);
+    Ok(())
+}
+
+/// A page of so many rows of one white pel, in MMR: a bit for each row.
+fn page_of_rows(rt: &impl Abort, alloc: Global, rows: u32) -> Result<Vec<u8>, Fail> {
+    let head = format!(in alloc; "P4\n1 {rows}\n")?;
+    let mut image = Vec::from_slice(alloc, head.as_bytes())?;
+    for _ in 0..rows {
+        image.push(0)?;
+    }
+    let options = Options {
+        target: Target::Mmr,
+        order: FillOrder::MsbFirst,
+        k: 4,
+        strip: None,
+        aligned: false,
+    };
+    Ok(convert(alloc, &image, &options).expect(rt, "a file"))
+}
+
+#[test]
+fn counts_a_million_rows(rt: HostRuntime) -> Result<(), Fail> {
+    let file = page_of_rows(&rt, rt.alloc(), 1_000_000)?;
+    let mut walk = Walk::start(rt.alloc(), &file);
+    for row in 0..1_000_000 {
+        match walk.next_row() {
+            Ok(Some((place, _))) => assert_eq!(rt; place, Place { page: 0, row }),
+            _ => assert!(rt; false, "a row is there"),
+        }
+    }
+    assert_end(
+        &rt,
+        &mut walk,
+        Cursor {
+            page: 0,
+            row: 1_000_000,
+        },
+    );
+    assert_eq!(rt; walk.rows_read(), 1_000_000);
     Ok(())
 }
