@@ -1,0 +1,163 @@
+"""Which definitions of the specs each contract of the sources reaches, by the names that they use."""
+
+import os
+import re
+import sys
+
+TOP = os.path.dirname(os.path.dirname(os.path.dirname(os.path.abspath(__file__))))
+sys.path.insert(0, os.path.join(TOP, "tests", "documents"))
+
+import contracts  # noqa: E402
+
+CRATES = ["fax_bits", "fax_rows", "fax_page", "fax_files", "fax_walk", "fax_tool"]
+
+# The program has no callers: what it promises stands on these.
+PROGRAM = "fax_tool"
+PROGRAM_FILES = ["run", "words", "streams"]
+PROGRAM_CALLS = {"run", "parse_words", "WordsFault", "Source", "Sink"}
+
+NAME = r"[A-Za-z_][\w-]*'?"
+USED = re.compile(rf"(?<![\w.])({NAME}(?:\.{NAME})*)")
+HEAD = re.compile(rf"^(?:unfoldable )?(?:abbrev )?(?:pub )?(?:record |data )?({NAME})(?= |$)")
+
+
+def used_names(line, found):
+    """What one `use` line brings in: by the name that stands for it, the module and the name there, or the
+    module alone."""
+    line = line.strip().rstrip(";")
+    listed = re.fullmatch(r"(?:ghost |unfoldable |pub )*use ([\w.]+)\.\{([^}]*)\}", line)
+    if listed:
+        for part in listed.group(2).split(","):
+            words = part.split(" as ")
+            found[words[-1].strip()] = (listed.group(1), words[0].strip())
+        return
+    whole = re.fullmatch(r"(?:ghost |pub )*use ([\w.]+?)(?: as (\w+))?", line)
+    if whole:
+        found[whole.group(2) or whole.group(1).split(".")[-1]] = (whole.group(1), None)
+
+
+def uses_of(text):
+    found = {}
+    for line in text.split("\n"):
+        if re.match(r"\s*(?:ghost |unfoldable |pub )*use ", line):
+            used_names(line, found)
+    return found
+
+
+def resolve(word, uses, module, own):
+    """The definition that a word names: its module and its name."""
+    parts = word.split(".")
+    if parts[0] in own:
+        return module, parts[0]
+    if parts[0] in uses:
+        place, name = uses[parts[0]]
+        if name is not None:
+            return place, name
+        if len(parts) > 1:
+            return place, parts[1]
+    return None
+
+
+class Module:
+    """A file of definitions."""
+
+    def __init__(self, name, path):
+        self.name, self.path = name, path
+        text = open(path, encoding="utf-8").read()
+        self.uses = uses_of(text)
+        self.blocks = {}
+        self.public = set()
+        current = None
+        for line in text.split("\n"):
+            if line.startswith(("use ", "pub use ", "unfoldable pub use ", "--", "pub mod ", "mod ")):
+                if not line.startswith("--"):
+                    current = None
+                continue
+            head = HEAD.match(line) if line[:1] not in (" ", "") else None
+            if head:
+                current = head.group(1)
+                if re.match(r"^(?:unfoldable )?(?:abbrev )?pub ", line):
+                    self.public.add(current)
+                self.blocks.setdefault(current, [])
+            if current:
+                self.blocks[current].append(line)
+
+    def names_in(self, definition):
+        for line in self.blocks.get(definition, []):
+            for word in USED.findall(line):
+                found = resolve(word, self.uses, self.name, self.blocks)
+                if found and found != (self.name, definition):
+                    yield found
+
+
+def modules():
+    found = {}
+    for crate in CRATES:
+        folder = os.path.join(TOP, "crates", crate, "specs")
+        for base, _, files in os.walk(folder):
+            for file in sorted(files):
+                if file.endswith(".antt"):
+                    path = os.path.join(base, file)
+                    inner = os.path.relpath(path, folder)[:-5].replace(os.sep, ".")
+                    name = f"Rattle.{crate}.specs.{inner}"
+                    found[name] = Module(name, path)
+    return found
+
+
+def clause_names(text, uses):
+    for word in USED.findall(text):
+        found = resolve(word, uses, None, {})
+        if found:
+            yield found
+
+
+def public_roots(crate):
+    """What the public contracts of a crate name, and how its public types are seen; and what its laws say."""
+    calls, laws = set(), set()
+    if crate == PROGRAM:
+        names = PROGRAM_CALLS
+        paths = [os.path.join("crates", crate, "src", f"{file}.rt") for file in PROGRAM_FILES]
+    else:
+        names = contracts.exported(crate)
+        paths = list(contracts.sources(crate))
+    for path in paths + [os.path.join("crates", crate, "src", "laws.rt")]:
+        if not os.path.exists(os.path.join(TOP, path)):
+            continue
+        text = contracts.read(path)
+        uses = uses_of(text)
+        law = path.endswith("laws.rt")
+        lines = text.split("\n")
+        owner, is_trait = None, False
+        for at, line in enumerate(lines):
+            opened = re.match(r"impl(?:<.*>)? (?:Model for )?(\w+)(?:<.*>)? \{|pub trait (\w+)", line)
+            if opened:
+                owner = opened.group(1) or opened.group(2)
+                is_trait = opened.group(2) is not None
+            elif line == "}":
+                owner = None
+            where = laws if law else calls
+            if law and re.match(r"pub fn ", line):
+                where.update(clause_names("\n".join(contracts.head(lines, at)), uses))
+            elif re.match(r"pub (?:const )?fn (\w+)", line) and re.match(r"pub (?:const )?fn (\w+)", line).group(1) in names:
+                where.update(clause_names("\n".join(contracts.head(lines, at)), uses))
+            elif owner in names and re.match(r"    (pub )?(?:const )?fn ", line) and ("pub" in line or is_trait):
+                where.update(clause_names("\n".join(contracts.head(lines, at)), uses))
+            elif owner in names and re.match(r"    ghost Value = ", line):
+                where.update(clause_names(line, uses))
+            elif is_trait and owner in names and re.match(r"    ghost ", line):
+                where.update(clause_names(line, uses))
+    return calls, laws
+
+
+def reached(roots, all_modules):
+    """All definitions that these names stand on."""
+    seen, due = set(), list(roots)
+    while due:
+        at = due.pop()
+        if at in seen or at[0] not in all_modules:
+            continue
+        if at[1] not in all_modules[at[0]].blocks:
+            continue
+        seen.add(at)
+        due.extend(all_modules[at[0]].names_in(at[1]))
+    return seen
