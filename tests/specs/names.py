@@ -73,7 +73,7 @@ class Module:
                 if not line.startswith("--"):
                     current = None
                 continue
-            head = HEAD.match(line) if line[:1] not in (" ", "") else None
+            head = HEAD.match(line) if not re.match(r" |infix|$", line) else None
             if head:
                 current = head.group(1)
                 if re.match(r"^(?:unfoldable )?(?:abbrev )?pub ", line):

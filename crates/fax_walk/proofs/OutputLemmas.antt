@@ -18,7 +18,7 @@ use Rattle.fax_page.specs.code.Writer.{WriterState}
 use Rattle.fax_files.specs.declared.PageForm.{PageForm}
 use Rattle.fax_files.specs.Pbm.{Image, head_bytes, image_bytes, pbm_of}
 use Rattle.fax_files.specs.PbmLaws.{AreOfWidth}
-use Rattle.fax_files.specs.Written.{Written, WrittenPage, empty_file, four, with_four_at, page_bytes, directory_place}
+use Rattle.fax_files.specs.Written.{Written, WrittenPage, empty_file, four, with_four_at, page_bytes, directory_place, max_file}
 use Rattle.fax_files.specs.Written.{with_page as with_tiff_page, with_pages, file_of}
 use Rattle.fax_files.specs.code.Writing.{Writing, with_one_more, length_with, contents}
 use Rattle.fax_walk.specs.declared.options.Options.{Options}
@@ -72,7 +72,7 @@ images_split pages more page =
 
 -- images are too large in any options
 images_too_large : (target : Target) (options : Options) (pages : List SourcePage) → target ≡ Pbm
-    → 268435456 < length (pbm_of (map (λ page. page.image) pages)) → IsTooLarge target pages (target_bytes target options pages)
+    → max_file < length (pbm_of (map (λ page. page.image) pages)) → IsTooLarge target pages (target_bytes target options pages)
 images_too_large target options pages is long = subst (λ t. IsTooLarge t pages (target_bytes t options pages)) (sym is) (inl long)
 
 module _ (at : Progress) (sheet : Sheet) (target : at.options.target ≡ Pbm) where
@@ -80,7 +80,7 @@ module _ (at : Progress) (sheet : Sheet) (target : at.options.target ≡ Pbm) wh
   done = pbm_of (map (λ page. page.image) at.pages)
 
   -- an image for which there is no room makes the output too large
-  pub image_too_large : 268435456 < length done + length (head_bytes sheet.width sheet.rows) + sheet.rows * packed_len sheet.width
+  pub image_too_large : max_file < length done + length (head_bytes sheet.width sheet.rows) + sheet.rows * packed_len sheet.width
       → BecomesTooLarge (no_rows at sheet)
   image_too_large large = λ rows count widths more all.
       let page = page_of sheet rows in
@@ -91,13 +91,13 @@ module _ (at : Progress) (sheet : Sheet) (target : at.options.target ≡ Pbm) wh
       let head = ap (λ (n : ℕ). length (head_bytes sheet.width n)) count in
       let raster : length (flat_map packed_row rows) ≡ sheet.rows * packed_len sheet.width =
       rows_length sheet.width rows widths ∙ ap (λ (n : ℕ). n * packed_len sheet.width) count in
-      let long : 268435456 < length (pbm_of (map (λ page. page.image) ((at.pages ++ page ∷ []) ++ more))) =
+      let long : max_file < length (pbm_of (map (λ page. page.image) ((at.pages ++ page ∷ []) ++ more))) =
       omega (arith, large, ap length whole, first, second, third, head, raster) in
       images_too_large at.options.target at.options ((at.pages ++ page ∷ []) ++ more) target long
 
 -- an image is begun
 pub image_begun : (at : Progress) (sheet : Sheet) (old new : List ℕ) → HasImages old at → new ≡ old ++ head_bytes sheet.width sheet.rows
-    → length new + sheet.rows * packed_len sheet.width ≤ 268435456 → HasImageRows new (no_rows at sheet)
+    → length new + sheet.rows * packed_len sheet.width ≤ max_file → HasImageRows new (no_rows at sheet)
 image_begun at sheet old new has new_is fits = record {
   target = has.target;
   bytes_are = new_is ∙ ap (λ (l : List ℕ). l ++ head_bytes sheet.width sheet.rows) has.bytes_are
@@ -284,7 +284,7 @@ module _ (part : Part) (coding : Coding) (writer : Writing) (page : OpenStrips) 
       ∙ ap (with_pages empty_file total 0) (sym (map-append written part.at.pages (source ∷ [])))
 
   pub page_ended : (new : Writing) → new ≡ with_one_more writer page.form page.done.items
-      → length_with writer page.form page.done.items ≤ 268435456 → HasPages coding new (behind part)
+      → length_with writer page.form page.done.items ≤ max_file → HasPages coding new (behind part)
   page_ended new new_is fits = record {
     coding_is = has.0.coding_is;
     few = has.0.few;
@@ -294,7 +294,7 @@ module _ (part : Part) (coding : Coding) (writer : Writing) (page : OpenStrips) 
     fits = omega (arith, ap (λ (w : Writing). length w.written.bytes) new_is, fits);
   }
 
-  pub page_too_large : 268435456 < length_with writer page.form page.done.items → StaysTooLarge (behind part)
+  pub page_too_large : max_file < length_with writer page.form page.done.items → StaysTooLarge (behind part)
   page_too_large large = λ more count.
       let file = map written (pages ++ more) in
       let count_is : length file ≡ total = length-map (pages ++ more) written ∙ count in

@@ -10,7 +10,7 @@ use Rattle.fax_files.specs.declared.pbm.PbmFault.{PbmFault}
 use Rattle.fax_files.specs.declared.PageForm.{PageForm}
 use Rattle.fax_files.specs.Page.{Resolution, usual_resolution, strip_count}
 use Rattle.fax_files.specs.PageRows.{strip_form}
-use Rattle.fax_files.specs.Written.{WrittenPage, file_of}
+use Rattle.fax_files.specs.Written.{WrittenPage, file_of, max_file}
 use Rattle.fax_files.specs.Pbm.{Image, AreImages, pbm_of}
 use Rattle.fax_walk.specs.declared.options.Options.{Options}
 use Rattle.fax_walk.specs.declared.options.Target.{Target}
@@ -131,7 +131,7 @@ target_bytes ToMmr options pages = file_of (map (written_page options Mmr) pages
 -- (this project's profile)
 abbrev pub IsTooLarge : Target → List SourcePage → List ℕ → Type 0
 IsTooLarge target pages bytes =
-    (268435456 < length bytes) ⊎ ((target ≢ Pbm) × (65535 < length pages))
+    (max_file < length bytes) ⊎ ((target ≢ Pbm) × (65535 < length pages))
 
 -- the bytes are converted to this (this project's profile)
 pub record IsConverted (bytes : List ℕ) (options : Options) (output : List ℕ) : Type 0 where

@@ -7,12 +7,9 @@ use crate::open_strips::OpenStrips;
 use crate::options::{ConvertFault, Options};
 use crate::sheet::Sheet;
 use fax_bits::Memory;
-use fax_files::{Coding, TiffWriter, WriteFault, put_pbm_head, put_pbm_row};
+use fax_files::{Coding, MAX_FILE, TiffWriter, WriteFault, put_pbm_head, put_pbm_row};
 use fax_rows::Row;
 use std::alloc::Global;
-
-/// The most bytes of what is written.
-const MAX_OUTPUT: usize = 268_435_456;
 
 /// The most pages of a TIFF file.
 const MAX_PAGES: u64 = 65_535;
@@ -59,7 +56,7 @@ impl Output {
             Output::Images(bytes) => {
                 put_pbm_head(bytes, sheet.width, sheet.rows)?;
                 let raster = sheet.rows as usize * (sheet.width as usize).div_ceil(8);
-                if bytes.len() + raster > MAX_OUTPUT {
+                if bytes.len() + raster > MAX_FILE as usize {
                     *self = Output::TooLarge;
                 }
             }

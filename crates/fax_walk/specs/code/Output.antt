@@ -10,7 +10,7 @@ use Rattle.fax_files.specs.declared.PageForm.{PageForm}
 use Rattle.fax_files.specs.Page.{IsGoodRational, strip_count}
 use Rattle.fax_files.specs.Pbm.{head_bytes, pbm_of}
 use Rattle.fax_files.specs.PbmLaws.{AreOfWidth}
-use Rattle.fax_files.specs.Written.{empty_file, with_pages}
+use Rattle.fax_files.specs.Written.{empty_file, with_pages, max_file}
 use Rattle.fax_files.specs.code.Writing.{Writing}
 use Rattle.fax_walk.specs.declared.options.Options.{Options}
 use Rattle.fax_walk.specs.declared.options.Target.{Target}
@@ -130,7 +130,7 @@ StaysTooLarge at =
 pub record HasImages (bytes : List ℕ) (at : Progress) : Type 0 where
   pub target : at.options.target ≡ Pbm
   pub bytes_are : bytes ≡ pbm_of (map (λ page. page.image) at.pages)
-  pub fits : length bytes ≤ 268435456
+  pub fits : length bytes ≤ max_file
 
 -- the pages are written into a TIFF file
 pub record HasPages (coding : Coding) (writer : Writing) (at : Progress) : Type 0 where
@@ -140,7 +140,7 @@ pub record HasPages (coding : Coding) (writer : Writing) (at : Progress) : Type 
   pub added : writer.added ≡ length at.pages
   pub written : writer.written
       ≡ with_pages empty_file at.total 0 (map (written_page at.options coding) at.pages)
-  pub fits : length writer.written.bytes ≤ 268435456
+  pub fits : length writer.written.bytes ≤ max_file
 
 -- an output has these pages, and no part of another
 abbrev pub IsWrittenTo : Output → Progress → Type 0
@@ -164,7 +164,7 @@ pub record HasImageRows (bytes : List ℕ) (part : Part) : Type 0 where
       ++ (head_bytes part.sheet.width part.sheet.rows ++ flat_map packed_row part.rows)
   pub left : ℕ
   pub left_is : length part.rows + left ≡ part.sheet.rows
-  pub fits : length bytes + left * packed_len part.sheet.width ≤ 268435456
+  pub fits : length bytes + left * packed_len part.sheet.width ≤ max_file
 
 -- the rows are put on a page of a TIFF file that has the pages before it
 abbrev pub HasRowsOnPage : Coding → Writing → Option OpenStrips → Part → Type 0

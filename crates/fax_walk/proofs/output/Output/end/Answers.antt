@@ -2,6 +2,7 @@ use Rattle.std.proofs.Common.{◌≡◌, ◌≤◌, inl, inr, length, Some, sym,
 use Rattle.std.proofs.lemmas.Bool.{cases_lt}
 use Rattle.fax_files.specs.declared.PageForm.{PageForm}
 use Rattle.fax_files.specs.code.Writing.{length_with}
+use Rattle.fax_files.specs.Written.{max_file}
 use Rattle.fax_walk.proofs.OutputLemmas.{page_ended, page_too_large, all_strips}
 use Rattle.fax_walk.proofs.output.Output.end.Goals as goal
 
@@ -18,8 +19,8 @@ returns-in-Ok c = λ part written all.
     let has = rw (c.in-File.is, there) at written.has in
     let added = rw c.deref.ensures.value at c.in-Ok.ensures.ok in
     let large = rw c.deref.ensures.value at c.in-Ok.ensures.too_large in
-    let fits : length_with c.in-File.writer c.in-Some.page.form c.in-Some.page.done.items ≤ 268435456 =
-    elim (cases_lt 268435456 (length_with c.in-File.writer c.in-Some.page.form c.in-Some.page.done.items)) [
+    let fits : length_with c.in-File.writer c.in-Some.page.form c.in-Some.page.done.items ≤ max_file =
+    elim (cases_lt max_file (length_with c.in-File.writer c.in-Some.page.form c.in-Some.page.done.items)) [
       | inl more ↦ absurd (cc (large.1 more))
       | inr less ↦ less
     ] in
