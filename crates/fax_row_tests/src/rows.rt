@@ -6,6 +6,7 @@ use std::test::Fail;
 
 mod caller;
 mod first_other;
+mod places;
 mod put;
 
 /// 25 times 2,560 white pels, then 1,472 and 63.

@@ -22,7 +22,7 @@ use Rattle.fax_walk.specs.declared.end.WalkFault.{WalkFault}
 use Rattle.fax_walk.specs.declared.end.WalkFault.TheVariants.{Memory, AtRow, CursorOutside}
 use Rattle.fax_walk.specs.LongCursor.{LongPlace}
 use Rattle.fax_walk.specs.InOrder.{AreFrom, AreBegun, IsNumber, EndsAfter}
-use Rattle.fax_walk.specs.Laws.{IsOne}
+use Rattle.fax_walk.specs.InOrder.{IsOne}
 use Rattle.fax_walk.specs.Left.{WalkView, HasEndedAs, IsNext, IsCursorOf, IsItemNumber, IsLongOf, begins_inside}
 use Rattle.fax_walk.specs.PagesLeft.{PagesView, HandsOutPage, IsNextPage, PagesHaveEnded, pages_from}
 use Rattle.fax_walk.specs.PageLaws.{BeginningsHaveOneTail, CursorsHaveOneFormTail}

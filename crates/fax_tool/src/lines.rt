@@ -1,6 +1,6 @@
 //! What is printed line by line: the rows of a file, or its pages.
 ghost use Rattle.std.specs.Prelude.{◌≡◌, ◌<◌, ◌↔◌, ℕ, List, IfOk, None};
-ghost use Rattle.fax_walk.specs.Laws.{IsOne};
+ghost use Rattle.fax_walk.specs.InOrder.{IsOne};
 ghost use Rattle.fax_walk.specs.Left.{begins_inside};
 ghost use Rattle.fax_walk.specs.PagesLeft.{pages_from};
 ghost use Rattle.fax_walk.specs.Rows.{begins_at};

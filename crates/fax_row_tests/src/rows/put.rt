@@ -155,6 +155,19 @@ fn reads_back_the_row_of_most_changes(rt: HostRuntime) -> Result<(), Fail> {
 }
 
 #[test]
+fn reads_back_the_widest_row_that_begins_black(rt: HostRuntime) -> Result<(), Fail> {
+    let reference = row_of_marks(&rt, rt.alloc(), 0, 0, 65_535)?;
+    let mut row = row_of_marks(&rt, rt.alloc(), 2, 0, 65_535)?;
+    row.exchange();
+    assert_eq!(rt; row.runs(rt.alloc())?.first(), Some(&0));
+    let mut sink = put_both(&rt, rt.alloc(), &reference, &row)?;
+    sink.pad();
+    let mut again = Row::white(rt.alloc(), row.width())?;
+    read_both(&rt, &mut again, &reference, &row, &sink.into_bytes());
+    Ok(())
+}
+
+#[test]
 fn writes_the_row_of_most_changes(rt: HostRuntime) -> Result<(), Fail> {
     let mut row = row_of_marks(&rt, rt.alloc(), 2, 0, 65_535)?;
     // It begins black then.
