@@ -16,7 +16,7 @@ use Rattle.fax_bits.specs.Tables.{modes, run_table}
 use Rattle.fax_bits.specs.code.Window.{first_bits}
 use Rattle.fax_bits.specs.code.BitsAhead.{bits_ahead}
 use Rattle.fax_bits.specs.code.Ahead.{IsAhead, place_before}
-use Rattle.fax_bits.specs.code.Source.{Source, source_of, KeepsEnd}
+use Rattle.fax_bits.specs.views.Source.{Source, source_of, KeepsEnd}
 use Rattle.fax_bits.proofs.SourceLemmas.{length-left}
 use Rattle.fax_bits.proofs.MeetingLemmas.{length-code_bits}
 use Rattle.fax_bits.proofs.TableLemmas.{listed}

@@ -6,7 +6,7 @@ use Rattle.fax_bits.specs.declared.runs.RunCode.{RunCode}
 use Rattle.fax_bits.specs.declared.runs.TheConstants.{WHITE_CODES, WHITE_LENS, BLACK_CODES, BLACK_LENS}
 use Rattle.fax_bits.specs.Tables.{white_runs, white_terminating, white_make_up, black_runs, black_terminating, black_make_up}
 use Rattle.fax_bits.specs.Tables.{common_make_up, run_extension}
-use Rattle.fax_bits.specs.Tables.{run_meaning}
+use Rattle.fax_bits.specs.code.Codes.{run_meaning}
 
 abbrev pub run_entries : ℕ → List ℕ → List ℕ → List (CodeEntry RunCode)
 run_entries i [] lens = []

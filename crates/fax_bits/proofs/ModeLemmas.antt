@@ -8,9 +8,10 @@ use Rattle.fax_bits.specs.declared.codes.CodeEntry.{CodeEntry}
 use Rattle.fax_bits.specs.declared.modes.ModeCode.{ModeCode}
 use Rattle.fax_bits.specs.declared.modes.ModeCode.TheVariants.{Pass, Horizontal, Vertical, Extension as ModeExtension}
 use Rattle.fax_bits.specs.Bits.{code_bits}
-use Rattle.fax_bits.specs.Codes.{BeginsWith, bits_at, Takes}
+use Rattle.fax_bits.specs.Codes.{BeginsWith, Takes}
+use Rattle.fax_bits.specs.code.Codes.{bits_at}
 use Rattle.fax_bits.specs.Runs.{mode_bits, IsWritten}
-use Rattle.fax_bits.specs.Laws.{ModeBitsAreRead}
+use Rattle.fax_bits.specs.laws.Codes.{ModeBitsAreRead}
 use Rattle.fax_bits.specs.Tables.{modes}
 use Rattle.fax_bits.proofs.FindLemmas.{code_ahead}
 use Rattle.fax_bits.proofs.RunCodeLemmas.{bits_at-found}

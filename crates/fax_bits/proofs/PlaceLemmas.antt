@@ -9,7 +9,7 @@ use Rattle.std.proofs.Math.Nat.{div-div-eq-div-mul, lt-div-mul-add}
 use Rattle.fax_bits.specs.declared.codes.CodeEntry.{CodeEntry}
 use Rattle.fax_bits.specs.Bits.{code_bits}
 use Rattle.fax_bits.specs.Codes.{bits_of, BeginsWith, HasNoCode, HasShortCodes, IsCodeAhead, IsPrefixFree}
-use Rattle.fax_bits.specs.code.Places.{begins, place_after, place_of}
+use Rattle.fax_bits.specs.views.Places.{begins, place_after, place_of}
 use Rattle.fax_bits.proofs.CodeBitsLemmas.{code_bits-add}
 use Rattle.fax_bits.proofs.FindLemmas.{code_ahead, ahead_is_short, ahead_is_first}
 use Rattle.fax_bits.proofs.MeetingLemmas.{length-code_bits}

@@ -12,10 +12,11 @@ use Rattle.fax_bits.specs.declared.Colour.{Colour}
 use Rattle.fax_bits.specs.declared.runs.RunCode.{RunCode}
 use Rattle.fax_bits.specs.declared.runs.RunCode.TheVariants.{Terminating, MakeUp}
 use Rattle.fax_bits.specs.Codes.{Takes, Spells}
-use Rattle.fax_bits.specs.Laws.{RunBitsAreRead, RunBitsAreOneRun}
+use Rattle.fax_bits.specs.laws.Codes.{RunBitsAreRead, RunBitsAreOneRun}
 use Rattle.fax_bits.specs.Runs.{IsRun, run_code_bits, run_codes, run_bits, one_make_up}
 use Rattle.fax_bits.specs.code.TableLaws.{run_table_is_prefix_free}
-use Rattle.fax_bits.specs.Tables.{run_table, run_meaning}
+use Rattle.fax_bits.specs.Tables.{run_table}
+use Rattle.fax_bits.specs.code.Codes.{run_meaning}
 use Rattle.fax_bits.proofs.PrefixLemmas.{takes_one}
 use Rattle.fax_bits.proofs.RunCodeLemmas.{takes_run_code, run_meaning-terminating, run_meaning-make_up}
 

@@ -13,7 +13,8 @@ use Rattle.std.specs.Int.{reverse_bits, w8}
 use Rattle.fax_bits.specs.declared.FillOrder.{FillOrder}
 use Rattle.fax_bits.specs.declared.FillOrder.TheVariants.{MsbFirst, LsbFirst}
 use Rattle.fax_bits.specs.Bits.{bits, byte_bits, code_bits}
-use Rattle.fax_bits.specs.code.Sink.{Sink, sink_of, IsPadded}
+use Rattle.fax_bits.specs.views.Sink.{Sink, IsPadded}
+use Rattle.fax_bits.specs.code.Sink.{sink_of}
 use Rattle.fax_bits.proofs.CodeBitsLemmas.{code_bits-add, code_bits-zeros, byte_bits-reversed}
 use Rattle.fax_bits.proofs.MeetingLemmas.{length-code_bits}
 use Rattle.fax_bits.proofs.SourceLemmas.{length-bits}

@@ -9,8 +9,10 @@ use Rattle.std.specs.Prelude.{bit_and}
 use Rattle.std.specs.Int.{bit_at}
 use Rattle.fax_bits.specs.declared.FillOrder.{FillOrder}
 use Rattle.fax_bits.specs.declared.FillOrder.TheVariants.{MsbFirst, LsbFirst}
-use Rattle.fax_bits.specs.Bits.{code_bits, byte_bits, bits, bit_in_byte}
-use Rattle.fax_bits.specs.code.Source.{Source, source_of, IsZeroByteAt}
+use Rattle.fax_bits.specs.Bits.{code_bits, byte_bits, bits}
+use Rattle.fax_bits.specs.laws.Codes.{bit_in_byte}
+use Rattle.fax_bits.specs.views.Source.{Source, source_of}
+use Rattle.fax_bits.specs.code.Source.{IsZeroByteAt}
 
 -- a byte has eight bits
 pub length-byte_bits : (order : FillOrder) (byte : ℕ) → length (byte_bits order byte) ≡ 8

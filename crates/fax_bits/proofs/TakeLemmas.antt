@@ -11,7 +11,7 @@ use Rattle.std.proofs.lemmas.List.Concat.{flat_map-append}
 use Rattle.fax_bits.specs.declared.FillOrder.TheVariants.{MsbFirst}
 use Rattle.fax_bits.specs.Bits.{bits, byte_bits, code_bits, bits_number}
 use Rattle.fax_bits.proofs.SinkLemmas.{bits-push, byte_bits-msb}
-use Rattle.fax_bits.specs.code.Source.{BeginsWith, IsTaken}
+use Rattle.fax_bits.specs.views.Source.{BeginsWith, IsTaken}
 use Rattle.fax_bits.proofs.MeetingLemmas.{length-code_bits}
 use Rattle.fax_bits.proofs.NumberLemmas.{code_bits-number, number-code_bits}
 use Rattle.fax_bits.proofs.PeekLemmas.{padded}

@@ -15,11 +15,6 @@ unfoldable pub byte_bits : FillOrder → ℕ → List Bool
 byte_bits MsbFirst byte = code_bits 8 byte
 byte_bits LsbFirst byte = reverse (code_bits 8 byte)
 
--- which bit of a byte, 0 the lowest, is coded at this place of its eight bits (TIFF 6.0, FillOrder)
-abbrev pub bit_in_byte : FillOrder → ℕ → ℕ
-bit_in_byte MsbFirst place = 7 - place
-bit_in_byte LsbFirst place = place
-
 -- the other order of the bits of a byte (TIFF 6.0, FillOrder)
 abbrev pub other_order : FillOrder → FillOrder
 other_order MsbFirst = LsbFirst

@@ -11,12 +11,6 @@ use Rattle.fax_bits.specs.Bits.{code_bits}
 abbrev pub bits_of : {M : Type 0} → CodeEntry M → List Bool
 bits_of entry = code_bits entry.len entry.code
 
--- the bits of the code at a place of the table (T.4, tables 2, 3a, 3b and 4)
-abbrev pub bits_at : {M : Type 0} → List (CodeEntry M) → ℕ → List Bool
-bits_at [] place = []
-bits_at (entry ∷ table) zero = bits_of entry
-bits_at (entry ∷ table) (suc place) = bits_at table place
-
 -- each code has 1 to 13 bits, and its number no more than these (T.4, tables 2, 3a, 3b and 4)
 abbrev pub HasShortCodes : {M : Type 0} → List (CodeEntry M) → Type 0
 HasShortCodes {M} table =

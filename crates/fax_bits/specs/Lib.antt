@@ -3,5 +3,6 @@ pub mod Bytes
 pub mod Codes
 pub mod Tables
 pub mod Runs
-pub mod Laws
 pub mod code
+pub mod laws
+pub mod views

@@ -112,12 +112,6 @@ black_runs =
     ++ numbered MakeUp 1792 64 common_make_up
     ++ run_extension
 
--- what the code at a place of a run table means (T.4, tables 2, 3a and 3b)
-abbrev pub run_meaning : ℕ → RunCode
-run_meaning i =
-    if nat_lt i 64 then Terminating i
-    else (if nat_lt i 104 then MakeUp (64 * (i - 63)) else Extension)
-
 -- the codes of runs of a colour (T.4, tables 2, 3a and 3b)
 abbrev pub run_table : Colour → List (CodeEntry RunCode)
 run_table White = white_runs

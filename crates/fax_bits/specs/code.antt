@@ -2,9 +2,9 @@
 pub mod Source
 pub mod Sink
 pub mod Meeting
-pub mod Places
 pub mod TableTests
 pub mod TableLaws
 pub mod Window
 pub mod BitsAhead
 pub mod Ahead
+pub mod Codes

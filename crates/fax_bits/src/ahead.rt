@@ -7,7 +7,8 @@ ghost use Rattle.fax_bits.specs.Codes.{Takes};
 ghost use Rattle.fax_bits.specs.Runs.{IsRun};
 ghost use Rattle.fax_bits.specs.Tables.{modes, run_table};
 ghost use Rattle.fax_bits.specs.code.BitsAhead.{bits_ahead};
-ghost use Rattle.fax_bits.specs.code.Source.{KeepsEnd, IsPlaced, source_of};
+ghost use Rattle.fax_bits.specs.views.Source.{KeepsEnd, source_of};
+ghost use Rattle.fax_bits.specs.code.Source.{IsPlaced};
 
 use crate::codes::LONGEST_CODE;
 use crate::modes::{ModeCode, find_mode};
@@ -26,7 +27,7 @@ pub struct Ahead<'a> {
 }
 
 impl<'a> Model for Ahead<'a> {
-    ghost use Rattle.fax_bits.specs.code.Source.{Source, source_of};
+    ghost use Rattle.fax_bits.specs.views.Source.{Source, source_of};
     ghost use Rattle.fax_bits.specs.code.Ahead.{IsAhead, place_before};
 
     ghost Value = { Source };

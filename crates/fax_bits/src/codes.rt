@@ -4,7 +4,7 @@ ghost use Rattle.std.specs.Prelude.{OnOk, OnErr, IfOk, IfErr, MatchOption, Some,
 ghost use Rattle.fax_bits.specs.Bits.{code_bits};
 ghost use Rattle.fax_bits.specs.Codes.{Takes, IsFaultOf, HasNoCode};
 ghost use Rattle.fax_bits.specs.code.Meeting.{IsMeeting};
-ghost use Rattle.fax_bits.specs.code.Source.{KeepsEnd};
+ghost use Rattle.fax_bits.specs.views.Source.{KeepsEnd};
 
 use crate::BitSource;
 use thiserror::Error;
@@ -36,7 +36,7 @@ pub enum CodeFault {
 pub trait CodeTable {
     ghost use Rattle.fax_bits.specs.declared.codes.CodeEntry.{CodeEntry};
     ghost use Rattle.fax_bits.specs.Codes.{BeginsWith, HasNoCode, HasShortCodes, IsPrefixFree};
-    ghost use Rattle.fax_bits.specs.code.Places.{place_of};
+    ghost use Rattle.fax_bits.specs.views.Places.{place_of};
     ghost use Rattle.fax_bits.specs.Bits.{code_bits};
 
     /// What its codes mean.

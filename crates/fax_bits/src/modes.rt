@@ -3,7 +3,7 @@ ghost use Rattle.std.specs.Prelude.{◌≡◌, ◌<◌, ◌^◌, length, IfOk, I
 ghost use Rattle.fax_bits.specs.Bits.{code_bits};
 ghost use Rattle.fax_bits.specs.Codes.{BeginsWith, Takes, IsFaultOf};
 ghost use Rattle.fax_bits.specs.Tables.{modes};
-ghost use Rattle.fax_bits.specs.code.Source.{KeepsEnd};
+ghost use Rattle.fax_bits.specs.views.Source.{KeepsEnd};
 
 use crate::BitSource;
 use crate::codes::{CodeEntry, CodeFault, CodeTable, LONGEST_CODE, read_code};

@@ -2,10 +2,10 @@
 ghost use Rattle.std.specs.Prelude.{◌≡◌, ◌*◌, ◌<◌, ◌≤◌, ◌^◌, OnOk, OnErr};
 ghost use Rattle.fax_bits.specs.declared.modes.ModeCode.TheVariants.{Vertical};
 ghost use Rattle.fax_bits.specs.declared.runs.RunCode.TheVariants.{Terminating, MakeUp};
-ghost use Rattle.fax_bits.specs.Codes.{bits_at};
+ghost use Rattle.fax_bits.specs.code.Codes.{bits_at};
 ghost use Rattle.fax_bits.specs.Runs.{run_codes, run_code_bits, run_bits, mode_bits, IsWritten};
-ghost use Rattle.fax_bits.specs.code.Sink.{Appends, AppendsCodes};
-ghost use Rattle.fax_bits.specs.Tables.{run_meaning};
+ghost use Rattle.fax_bits.specs.views.Sink.{Appends, AppendsCodes};
+ghost use Rattle.fax_bits.specs.code.Codes.{run_meaning};
 
 use crate::codes::CodeTable;
 use crate::modes::{HORIZONTAL, LEFT, MODES, PASS, UNDER};

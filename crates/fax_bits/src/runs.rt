@@ -2,7 +2,8 @@
 ghost use Rattle.std.specs.Prelude.{◌≡◌, ◌<◌, ◌^◌, IfSome};
 ghost use Rattle.fax_bits.specs.Bits.{code_bits};
 ghost use Rattle.fax_bits.specs.Codes.{BeginsWith};
-ghost use Rattle.fax_bits.specs.Tables.{black_runs, run_meaning, run_table, white_runs};
+ghost use Rattle.fax_bits.specs.Tables.{black_runs, run_table, white_runs};
+ghost use Rattle.fax_bits.specs.code.Codes.{run_meaning};
 
 use crate::Colour;
 use crate::codes::{CodeEntry, CodeTable, LONGEST_CODE};

@@ -2,8 +2,8 @@
 ghost use Rattle.std.specs.Prelude.{◌≡◌, ◌+◌, ◌*◌, ◌<◌, ◌≤◌, ◌%◌, ◌^◌, ◌++◌, ◌↔◌, [], length, take};
 ghost use Rattle.std.specs.Prelude.{OnOk, OnErr, IfSome, IsTrue, vec_len, vec_capacity};
 ghost use Rattle.fax_bits.specs.Bits.{bits, code_bits};
-ghost use Rattle.fax_bits.specs.code.Sink.{Appends, IsPadded};
-ghost use Rattle.fax_bits.specs.code.Source.{BeginsWith};
+ghost use Rattle.fax_bits.specs.views.Sink.{Appends, IsPadded};
+ghost use Rattle.fax_bits.specs.views.Source.{BeginsWith};
 ghost use Rattle.fax_bits.specs.declared.FillOrder.TheVariants.{MsbFirst};
 
 use crate::ahead::Ahead;
@@ -100,7 +100,8 @@ pub struct BitSink {
 
 impl Model for BitSink {
     ghost use Rattle.std.specs.Prelude.{vec_len, vec_capacity};
-    ghost use Rattle.fax_bits.specs.code.Sink.{Sink, sink_of, IsPending};
+    ghost use Rattle.fax_bits.specs.views.Sink.{Sink};
+    ghost use Rattle.fax_bits.specs.code.Sink.{sink_of, IsPending};
 
     ghost Value = { Sink };
 

@@ -2,10 +2,12 @@
 ghost use Rattle.std.specs.Prelude.{◌≡◌, ◌+◌, ◌≤◌, ◌<◌, ◌++◌, length, take, drop, replicate};
 ghost use Rattle.std.specs.Prelude.{slice_index_or, false, IfSome, MatchOption, IsTrue, ◌↔◌};
 ghost use Rattle.std.specs.Prelude.{◌^◌};
-ghost use Rattle.fax_bits.specs.Bits.{bits, bits_number, bit_in_byte, IsAllZeros, HasZerosAhead};
+ghost use Rattle.fax_bits.specs.Bits.{bits, bits_number, IsAllZeros, HasZerosAhead};
+ghost use Rattle.fax_bits.specs.laws.Codes.{bit_in_byte};
 ghost use Rattle.fax_bits.specs.Bits.{code_bits};
-ghost use Rattle.fax_bits.specs.code.Source.{IsPlaced, IsZeroByteAt, IsTaken};
-ghost use Rattle.fax_bits.specs.code.Source.{BeginsWith, KeepsEnd};
+ghost use Rattle.fax_bits.specs.code.Source.{IsPlaced, IsZeroByteAt};
+ghost use Rattle.fax_bits.specs.views.Source.{IsTaken};
+ghost use Rattle.fax_bits.specs.views.Source.{BeginsWith, KeepsEnd};
 
 use crate::FillOrder;
 use crate::ahead::Ahead;
@@ -22,7 +24,8 @@ pub struct BitSource<'a> {
 }
 
 impl<'a> Model for BitSource<'a> {
-    ghost use Rattle.fax_bits.specs.code.Source.{Source, source_of, IsPlaced};
+    ghost use Rattle.fax_bits.specs.views.Source.{Source, source_of};
+    ghost use Rattle.fax_bits.specs.code.Source.{IsPlaced};
 
     ghost Value = { Source };
 
@@ -32,7 +35,7 @@ impl<'a> Model for BitSource<'a> {
 }
 
 impl<'a> BitSource<'a> {
-    ghost use Rattle.fax_bits.specs.code.Source.{source_of};
+    ghost use Rattle.fax_bits.specs.views.Source.{source_of};
 
     /// The first bit of at most 4,294,967,295 bytes; `order` says which bit of a byte comes first
     /// (TIFF 6.0, FillOrder).

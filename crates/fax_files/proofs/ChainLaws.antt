@@ -12,7 +12,7 @@ use Rattle.fax_files.specs.declared.Endian.{Endian}
 use Rattle.fax_files.specs.Numbers.{Header, is_inside}
 use Rattle.fax_files.specs.Directory.{is_directory, next_offset, entry_count}
 use Rattle.fax_files.specs.Chain.{chain_stop, IsChainFrom}
-use Rattle.fax_files.specs.Laws.{HasOneChain}
+use Rattle.fax_files.specs.laws.Files.{HasOneChain}
 
 -- what the three tests of a stop say
 abbrev pub stop_of : Bool → Bool → Bool → Option (Option FileFault)

@@ -7,9 +7,10 @@ use Rattle.std.proofs.lemmas.Bool.Decides.{nat_tests}
 use Rattle.fax_files.specs.declared.FileFault.{FileFault}
 use Rattle.fax_files.specs.declared.FileFault.TheVariants.{DirectoryOutside, DirectoryLoop}
 use Rattle.fax_files.specs.Directory.{is_directory, next_offset}
-use Rattle.fax_files.specs.code.Tiff.{TiffFile, TiffDirectory, directory_of}
+use Rattle.fax_files.specs.views.Tiff.{TiffFile, TiffDirectory, directory_of}
 use Rattle.fax_files.specs.Chain.{IsChain}
-use Rattle.fax_files.specs.code.Chain.{place, turning_page, IsChainPlace, answer_at, ChainState, IsDueAnswer}
+use Rattle.fax_files.specs.code.Chain.{place, turning_page, IsChainPlace}
+use Rattle.fax_files.specs.views.Chain.{answer_at, ChainState, IsDueAnswer}
 use Rattle.fax_files.proofs.ChainLaws.{has_one_chain}
 use Rattle.fax_files.proofs.ChainPlaces.{IsByPlaces, by_places}
 use Rattle.fax_files.proofs.LoopLemmas.{place_next, led, before_end}

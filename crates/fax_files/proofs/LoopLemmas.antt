@@ -6,7 +6,7 @@ use Rattle.std.proofs.lemmas.Bool.{cases_lt}
 use Rattle.fax_files.specs.declared.FileFault.{FileFault}
 use Rattle.fax_files.specs.declared.FileFault.TheVariants.{DirectoryLoop}
 use Rattle.fax_files.specs.Directory.{is_directory, next_offset}
-use Rattle.fax_files.specs.code.Tiff.{TiffFile}
+use Rattle.fax_files.specs.views.Tiff.{TiffFile}
 use Rattle.fax_files.specs.Chain.{IsChain}
 use Rattle.fax_files.specs.code.Chain.{onward, place, LeadsOn, IsRound, IsTurn, HasNoLoop, HasFewPages, IsTurningPage, turning_page}
 use Rattle.fax_files.proofs.ChainLaws.{has_one_chain}

@@ -3,7 +3,8 @@ use Rattle.std.proofs.Common.{◌≡◌, ℕ, zero, suc, ◌+◌, List, [], ◌�
 use Rattle.std.specs.declared.alloc.Global.{Global}
 use Rattle.fax_files.specs.declared.PageForm.{PageForm}
 use Rattle.fax_files.specs.Written.{Written, WrittenPage, with_page, with_pages, empty_file, file_of}
-use Rattle.fax_files.specs.code.Writing.{Writing, contents, with_one_more, HasAdded}
+use Rattle.fax_files.specs.views.Writing.{Writing, contents, with_one_more}
+use Rattle.fax_files.specs.laws.Files.{HasAdded}
 
 -- one more page after others
 with_pages-push : (old : Written) (total k : ℕ) (pages : List WrittenPage) (page : WrittenPage)

@@ -9,7 +9,8 @@ use Rattle.fax_files.specs.Numbers.{◌>>=◌, is_inside}
 use Rattle.fax_files.specs.Directory.{Entry, value_at}
 use Rattle.fax_files.specs.Page.{PelFormat, RowCoding, pel_format, strip_rows, strip_count, page_coding, strip_field, resolution}
 use Rattle.fax_files.specs.StripBytes.{strip_bytes, bytes_at}
-use Rattle.fax_files.specs.code.Tiff.{TiffDirectory, AreStripPlaces, bytes_of}
+use Rattle.fax_files.specs.views.Tiff.{TiffDirectory, bytes_of}
+use Rattle.fax_files.specs.code.Tiff.{AreStripPlaces}
 use Rattle.fax_files.specs.Tags
 
 -- the value of a step that did not fail

@@ -12,10 +12,11 @@ use Rattle.std.proofs.lemmas.List.Sums.{fold-append}
 use Rattle.std.proofs.lemmas.List.FromFn.{length-map-range_with_len}
 use Rattle.std.proofs.Math.Seq.{take-append_seam, drop-append_seam}
 use Rattle.fax_bits.specs.declared.Colour.{Colour}
-use Rattle.fax_rows.specs.Packed.{packed_byte, packed_len, packed_row, unpacked_row, PackingUndoesUnpacking}
+use Rattle.fax_rows.specs.Packed.{packed_byte, packed_len, packed_row, unpacked_row}
+use Rattle.fax_rows.specs.laws.Packed.{PackingUndoesUnpacking}
 use Rattle.fax_files.specs.Pbm.{Image, IsHead, IsImage, IsNumber, AreImages, is_digit, is_within_limits, spelled_number, head_bytes}
 use Rattle.fax_files.specs.Pbm.{image_bytes, pbm_of, raster_rows, raster_len}
-use Rattle.fax_files.specs.PbmLaws.{AreOfWidth, IsWritableImage, AreWritableImages}
+use Rattle.fax_files.specs.laws.Pbm.{AreOfWidth, IsWritableImage, AreWritableImages}
 
 -- decimals as they are written are a number
 digit_is_number : (n : ℕ) → n < 10 → IsNumber ((48 + n) ∷ []) n

@@ -10,8 +10,9 @@ use Rattle.fax_files.specs.declared.written.Layout.{Layout}
 use Rattle.fax_files.specs.Page.{IsPageForm}
 use Rattle.fax_files.specs.Written.{max_file, to_link, to_offsets, four, offsets_from, lengths_of, one_or_place, joined_strips}
 use Rattle.fax_files.specs.Written.{directory_place, fields_of, fields_bytes, values_bytes, with_four_at, page_bytes, Written, with_page}
-use Rattle.fax_files.specs.Laws.{IsWritable}
-use Rattle.fax_files.specs.code.Writing.{contents, IsWriting, IsLayout, laid_out_fields, tail_bytes, page_end}
+use Rattle.fax_files.specs.laws.Files.{IsWritable}
+use Rattle.fax_files.specs.views.Writing.{contents}
+use Rattle.fax_files.specs.code.Writing.{IsWriting, IsLayout, laid_out_fields, tail_bytes, page_end}
 use Rattle.fax_files.proofs.WritingLemmas.{length-contents}
 use Rattle.fax_files.proofs.WrittenStripLemmas.{length-offsets_from, length-lengths_of}
 use Rattle.fax_files.proofs.WrittenPageLemmas.{some_strips}

@@ -4,7 +4,7 @@ use Rattle.std.proofs.Common.{append_assoc, append-nil}
 use Rattle.std.proofs.lemmas.List.{length-append}
 use Rattle.std.specs.declared.alloc.Global.{Global}
 use Rattle.fax_files.specs.Written.{four, array_bytes, longs, lengths_of, offsets_from, joined_strips}
-use Rattle.fax_files.specs.code.Writing.{contents}
+use Rattle.fax_files.specs.views.Writing.{contents}
 
 -- one more strip
 pub contents_more : (strips : List (Vec ℕ Global)) (i : ℕ) (strip : Vec ℕ Global) → i < length strips → strip ≡ get_or strips i strip

@@ -15,7 +15,7 @@ use Rattle.fax_files.specs.Chain.{IsChainFrom}
 use Rattle.fax_files.specs.Written.{to_link, to_x, to_offsets, two, four, offsets_from, lengths_of, fields_bytes, values_bytes}
 use Rattle.fax_files.specs.Written.{joined_strips, directory_place, page_bytes, with_four_at, Written, with_page, with_pages, WrittenPage}
 use Rattle.fax_files.specs.Written.{empty_file, file_of, longs, array_bytes, rational_bytes}
-use Rattle.fax_files.specs.Laws.{IsWritable, AreWritable, IsReadAt, AppendedPagesAreRead, WrittenFilesAreRead}
+use Rattle.fax_files.specs.laws.Files.{IsWritable, AreWritable, IsReadAt, AppendedPagesAreRead, WrittenFilesAreRead}
 use Rattle.fax_files.proofs.PlaceLemmas.{HasBytesAt, at_place, at_left, at_right, at_inside, at_drop, at_start, at_slice, length-slice}
 use Rattle.fax_files.proofs.PlaceLemmas.{slice_there, at_end, at_grown, at_patch, at_before_patch, at_behind_patch, length-patched}
 use Rattle.fax_files.proofs.PlaceLemmas.{number_there}

@@ -23,7 +23,7 @@ use Rattle.fax_files.specs.StripBytes.{strip_bytes}
 use Rattle.fax_files.specs.Written.{field_count, to_link, to_x, to_y, to_offsets, two, WrittenField, short_field, field_bytes}
 use Rattle.fax_files.specs.Written.{compression_of, fill_order_of, options_field, offsets_from, lengths_of, array_bytes, rational_bytes}
 use Rattle.fax_files.specs.Written.{fields_of, fields_bytes, values_bytes, joined_strips, WrittenPage}
-use Rattle.fax_files.specs.Laws.{IsWritable, IsReadAt}
+use Rattle.fax_files.specs.laws.Files.{IsWritable, IsReadAt}
 use Rattle.fax_files.proofs.PlaceLemmas.{HasBytesAt, at_place, at_left, at_right, at_inside, number_there}
 use Rattle.fax_files.proofs.WrittenFieldLemmas.{AllFit, fits, all_fit, length-fields, read_fields, HasValues, written_field, entries_there}
 use Rattle.fax_files.proofs.WrittenFieldLemmas.{needed_long, needed_short, long_or, short_or, rational_back}

@@ -40,10 +40,6 @@ abbrev pub is_directory : Endian → List ℕ → ℕ → Bool
 is_directory endian file q =
     is_inside file q 2 && is_inside file q (6 + 12 * entry_count endian file q)
 
--- the same as a fact (TIFF 6.0, section 2)
-abbrev pub IsWholeDirectory : Endian → List ℕ → ℕ → Type 0
-IsWholeDirectory endian file q = q + (6 + 12 * entry_count endian file q) ≤ length file
-
 -- the entries of the directory at offset q (TIFF 6.0, section 2)
 abbrev pub entries : Endian → List ℕ → ℕ → List Entry
 entries endian file q = entries_at endian file (q + 2) (entry_count endian file q)

@@ -8,6 +8,6 @@ pub mod PageRows
 pub mod FaultNames
 pub mod Written
 pub mod Pbm
-pub mod PbmLaws
-pub mod Laws
 pub mod code
+pub mod laws
+pub mod views

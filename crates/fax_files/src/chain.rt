@@ -154,7 +154,7 @@ pub struct Chain<'a> {
 }
 
 impl<'a> Model for Chain<'a> {
-    ghost use Rattle.fax_files.specs.code.Chain.{ChainState};
+    ghost use Rattle.fax_files.specs.views.Chain.{ChainState};
     ghost use Rattle.fax_files.specs.code.Chain.{IsSearchPlace};
 
     ghost Value = { ChainState };
@@ -166,7 +166,7 @@ impl<'a> Model for Chain<'a> {
 
 impl<'a> Chain<'a> {
     ghost use Rattle.std.specs.Prelude.{IfOk, IfSome};
-    ghost use Rattle.fax_files.specs.code.Chain.{IsDirectoryOf, IsDueAnswer, behind_answer};
+    ghost use Rattle.fax_files.specs.views.Chain.{IsDirectoryOf, IsDueAnswer, behind_answer};
 
     /// A reader of the directories of a file, before the first one. Nothing is read yet.
     pub fn new(tiff: Tiff<'a>) -> Self

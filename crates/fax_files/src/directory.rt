@@ -2,9 +2,11 @@
 
 ghost use Rattle.std.specs.Prelude.{◌≡◌, ◌+◌, ◌*◌, ◌<◌, ◌≤◌, length, Ok, IfOk};
 ghost use Rattle.fax_files.specs.Directory as Spec;
+ghost use Rattle.fax_files.specs.code.Fields as Fields;
 ghost use Rattle.fax_files.specs.Page.{IsPageForm};
-ghost use Rattle.fax_files.specs.code.Fields.{AreFieldsOf, entries_of};
-ghost use Rattle.fax_files.specs.code.Tiff.{form_of};
+ghost use Rattle.fax_files.specs.code.Fields.{AreFieldsOf};
+ghost use Rattle.fax_files.specs.views.Fields.{entries_of};
+ghost use Rattle.fax_files.specs.views.Tiff.{form_of};
 
 use crate::fields::{Fields, FirstEntries};
 use crate::numbers::File;
@@ -22,8 +24,8 @@ pub struct Directory<'a> {
 }
 
 impl<'a> Model for Directory<'a> {
-    ghost use Rattle.fax_files.specs.Directory.{IsWholeDirectory};
-    ghost use Rattle.fax_files.specs.code.Tiff.{TiffDirectory};
+    ghost use Rattle.fax_files.specs.code.Fields.{IsWholeDirectory};
+    ghost use Rattle.fax_files.specs.views.Tiff.{TiffDirectory};
 
     ghost Value = { TiffDirectory };
 
@@ -43,7 +45,7 @@ pub(crate) fn entry_count(file: &File, offset: usize) -> u16
 impl<'a> Directory<'a> {
     /// The directory at an offset.
     pub(crate) fn new(file: File<'a>, offset: usize) -> Self
-        requires { Spec.IsWholeDirectory file.endian file.bytes.now offset }
+        requires { Fields.IsWholeDirectory file.endian file.bytes.now offset }
         ensures endian { result.endian ≡ file.entry.endian }
         ensures file { result.file ≡ file.entry.bytes.now }
         ensures offset { result.offset ≡ offset }

@@ -3,7 +3,8 @@
 ghost use Rattle.std.specs.Prelude.{◌≡◌, ◌+◌, ◌≤◌, length, IsTrue, IfOk, IfSome, List, [], ◌∷◌};
 ghost use Rattle.fax_files.specs.Directory as Spec;
 ghost use Rattle.fax_files.specs.Page.{rational_of, IsGoodRational};
-ghost use Rattle.fax_files.specs.code.Fields.{is_sought, entries_of};
+ghost use Rattle.fax_files.specs.code.Fields.{is_sought};
+ghost use Rattle.fax_files.specs.views.Fields.{entries_of};
 
 use crate::directory::Directory;
 use crate::entries::Entry;
@@ -81,7 +82,7 @@ pub(crate) struct Fields<'d, 'a> {
 }
 
 impl<'d, 'a> Model for Fields<'d, 'a> {
-    ghost use Rattle.fax_files.specs.code.Tiff.{TiffDirectory};
+    ghost use Rattle.fax_files.specs.views.Tiff.{TiffDirectory};
     ghost use Rattle.fax_files.specs.code.Fields.{AreFieldsOf};
 
     ghost Value = { TiffDirectory };

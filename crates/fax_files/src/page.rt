@@ -5,8 +5,9 @@ ghost use Rattle.std.specs.Prelude.{IfErr};
 ghost use Rattle.fax_page.specs.declared.Coding.TheVariants.{Mmr};
 ghost use Rattle.fax_files.specs.Directory as Entries;
 ghost use Rattle.fax_files.specs.Page as Spec;
-ghost use Rattle.fax_files.specs.code.Fields.{entries_of, is_sought};
-ghost use Rattle.fax_files.specs.code.Tiff.{form_of};
+ghost use Rattle.fax_files.specs.views.Fields.{entries_of};
+ghost use Rattle.fax_files.specs.code.Fields.{is_sought};
+ghost use Rattle.fax_files.specs.views.Tiff.{form_of};
 
 use crate::entries::Entry;
 use crate::fields::Fields;

@@ -7,6 +7,7 @@ ghost use Rattle.std.specs.Prelude.{IfSome};
 ghost use Rattle.std.specs.Option.{IfNone};
 ghost use Rattle.fax_files.specs.Pbm as Pbm;
 ghost use Rattle.fax_files.specs.code.Pbm as Spec;
+ghost use Rattle.fax_files.specs.views.Pbm as View;
 ghost use Rattle.fax_rows.specs.Packed as Packed;
 
 use fax_bits::Memory;
@@ -202,7 +203,7 @@ fn is_within_limits(width: u32, height: u32) -> bool
 /// The image at the start of the bytes, and what stands after it.
 fn read_image(bytes: &[u8]) -> Result<(PbmImage<'_>, &[u8]), PbmFault>
     ensures ok { IfOk result (λ found. Pbm.IsImage bytes.now
-        (Spec.image_of found.0.width found.0.rows found.0.raster.now) found.1.now) }
+        (View.image_of found.0.width found.0.rows found.0.raster.now) found.1.now) }
     ensures raster { IfOk result (λ found. Pbm.IsHead bytes.now found.0.width found.0.rows
         (found.0.raster.now ++ found.1.now)) }
     ensures err { IfErr result (Pbm.IsImageFault bytes.now) }
@@ -233,7 +234,7 @@ pub struct PbmReader<'a> {
 }
 
 impl<'a> Model for PbmReader<'a> {
-    ghost use Rattle.fax_files.specs.code.Pbm.{PbmState};
+    ghost use Rattle.fax_files.specs.views.Pbm.{PbmState};
 
     ghost Value = { PbmState };
 
@@ -241,8 +242,8 @@ impl<'a> Model for PbmReader<'a> {
 }
 
 impl<'a> PbmReader<'a> {
-    ghost use Rattle.fax_files.specs.code.Pbm.{image_of, IsAtEnd, IsFaultAnswered};
-    ghost use Rattle.fax_files.specs.code.Pbm.{IsImageRead};
+    ghost use Rattle.fax_files.specs.views.Pbm.{image_of, IsAtEnd, IsFaultAnswered};
+    ghost use Rattle.fax_files.specs.views.Pbm.{IsImageRead};
 
     /// A reader of the images in these bytes.
     pub fn new(bytes: &'a [u8]) -> Self

@@ -1,7 +1,7 @@
 //! Where the strips of a page stand in its file.
 
 ghost use Rattle.std.specs.Prelude.{◌≡◌, ◌≤◌, ◌<◌, length, Some, None, IfOk, IfErr, OnErr};
-ghost use Rattle.fax_files.specs.code.Tiff.{bytes_of};
+ghost use Rattle.fax_files.specs.views.Tiff.{bytes_of};
 
 use crate::FileFault;
 use crate::directory::Directory;
@@ -19,7 +19,8 @@ pub struct Strips<'a> {
 }
 
 impl<'a> Model for Strips<'a> {
-    ghost use Rattle.fax_files.specs.code.Tiff.{PageStrips, AreStripPlaces};
+    ghost use Rattle.fax_files.specs.views.Tiff.{PageStrips};
+    ghost use Rattle.fax_files.specs.code.Tiff.{AreStripPlaces};
 
     ghost Value = { PageStrips };
 

@@ -4,7 +4,7 @@ ghost use Rattle.std.specs.Prelude.{◌≡◌, ◌≤◌, ◌<◌, length, Ok, E
 ghost use Rattle.std.specs.Prelude.{IsTrue, IsFalse, IfOk, IfErr, OnOk, OnErr};
 ghost use Rattle.fax_files.specs.declared.FileFault.TheVariants.{DirectoryOutside, StripOutside};
 ghost use Rattle.fax_files.specs.Numbers.{header};
-ghost use Rattle.fax_files.specs.code.Tiff.{bytes_of, directory_of, form_of, has_directory};
+ghost use Rattle.fax_files.specs.views.Tiff.{bytes_of, directory_of, form_of, has_directory};
 
 use crate::directory::{Directory, entry_count};
 use crate::numbers::{File, is_inside};
@@ -19,7 +19,7 @@ pub struct Tiff<'a> {
 }
 
 impl<'a> Model for Tiff<'a> {
-    ghost use Rattle.fax_files.specs.code.Tiff.{TiffFile};
+    ghost use Rattle.fax_files.specs.views.Tiff.{TiffFile};
 
     ghost Value = { TiffFile };
 

@@ -3,7 +3,7 @@
 ghost use Rattle.std.specs.Prelude.{◌≡◌, ◌+◌, ◌<◌, ◌≤◌, length, false, IfOk, OnOk, OnErr, Err, ◌↔◌};
 ghost use Rattle.fax_files.specs.Page.{IsPageForm};
 ghost use Rattle.fax_files.specs.Written.{max_file};
-ghost use Rattle.fax_files.specs.code.Writing as Spec;
+ghost use Rattle.fax_files.specs.views.Writing as Spec;
 
 use crate::PageForm;
 use crate::written::{
@@ -38,7 +38,8 @@ pub struct TiffWriter {
 }
 
 impl Model for TiffWriter {
-    ghost use Rattle.fax_files.specs.code.Writing.{Writing, IsWriting};
+    ghost use Rattle.fax_files.specs.views.Writing.{Writing};
+    ghost use Rattle.fax_files.specs.code.Writing.{IsWriting};
 
     ghost Value = { Writing };
 

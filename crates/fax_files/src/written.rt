@@ -5,7 +5,8 @@ ghost use Rattle.std.specs.Prelude.{IfSome};
 ghost use Rattle.std.specs.Option.{IfNone};
 ghost use Rattle.fax_files.specs.Written as Spec;
 ghost use Rattle.fax_files.specs.Written.{max_file};
-ghost use Rattle.fax_files.specs.code.Writing.{IsLayout, contents, laid_out_fields, tail_bytes};
+ghost use Rattle.fax_files.specs.code.Writing.{IsLayout, laid_out_fields, tail_bytes};
+ghost use Rattle.fax_files.specs.views.Writing.{contents};
 ghost use Rattle.fax_files.specs.code.Writing.{page_end as end_of_page};
 
 use crate::entries::{LONG_TYPE, RATIONAL_TYPE, SHORT_TYPE};

@@ -5,7 +5,7 @@ use Rattle.std.proofs.Math.Nat.{pow-le-pow_right}
 use Rattle.std.proofs.lemmas.Nat.Bits.{bit_at_above}
 use Rattle.std.proofs.lemmas.List.{replicate-append-replicate}
 use Rattle.fax_bits.specs.Bits.{code_bits}
-use Rattle.fax_bits.specs.code.Sink.{Sink, Appends}
+use Rattle.fax_bits.specs.views.Sink.{Sink, Appends}
 use Rattle.fax_page.specs.Lines.{IsEndOfLine}
 use Rattle.fax_page.specs.CodedStrip.{end_of_line, fill_zeros}
 

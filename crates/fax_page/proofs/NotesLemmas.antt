@@ -2,9 +2,9 @@
 use Rattle.std.proofs.Common.{◌≡◌, ℕ, ◌+◌, ◌<◌, ◌↔◌, List, [], ◌∷◌, ◌++◌, length, Bool, true, false, IsTrue, refl, ap, sym, ◌∙◌, subst}
 use Rattle.std.proofs.Common.{arith, append_assoc, append-nil, length-append, inl, inr, Option, Some, None}
 use Rattle.fax_bits.specs.declared.Colour.{Colour}
-use Rattle.fax_bits.specs.code.Source.{BeginsWith}
-use Rattle.fax_rows.specs.Elements.{HasWidth}
-use Rattle.fax_rows.specs.Laws.{OneDimensionalBitsAreOneRow, TwoDimensionalBitsAreOneRow}
+use Rattle.fax_bits.specs.views.Source.{BeginsWith}
+use Rattle.fax_rows.specs.laws.Rows.{HasWidth}
+use Rattle.fax_rows.specs.laws.Rows.{OneDimensionalBitsAreOneRow, TwoDimensionalBitsAreOneRow}
 use Rattle.fax_rows.specs.OneDimensional.{IsOneDimensionalRow}
 use Rattle.fax_rows.specs.TwoDimensional.{IsTwoDimensionalRow}
 use Rattle.fax_page.specs.declared.Dimension.{Dimension}
@@ -17,7 +17,7 @@ use Rattle.fax_page.specs.declared.notes.StripNotes.{StripNotes}
 use Rattle.fax_page.specs.Lines.{IsBegin, IsCause, IsLine, IsRowIn}
 use Rattle.fax_page.specs.Strip.{AreLines, EndsAt, IsStrip, white_row}
 use Rattle.fax_page.specs.CodedStrip.{row_bits}
-use Rattle.fax_page.specs.Laws.{ReadsLinesOneWay}
+use Rattle.fax_page.specs.laws.Strips.{ReadsLinesOneWay}
 use Rattle.fax_page.specs.Notes.{IsChosen, HasOtherChoice, IsNotedAs, IsNotesFault}
 use Rattle.fax_page.specs.code.Notes.{IsLineRead, IsLineFault, AreRowsRead, AreNotesBehind}
 use Rattle.fax_page.proofs.StartLaws.{one_start}

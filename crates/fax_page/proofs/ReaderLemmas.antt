@@ -7,7 +7,8 @@ use Rattle.fax_page.specs.declared.StripForm.{StripForm}
 use Rattle.fax_page.specs.declared.StripFault.{StripFault}
 use Rattle.fax_page.specs.Lines.{IsLine, IsCause}
 use Rattle.fax_page.specs.Strip.{EndsAt, AreLines, IsStrip}
-use Rattle.fax_page.specs.code.Reader.{StripState, bits_left, strip_behind, ReadsRow, IsAtEnd, MeetsFault, IsAdvance, HasRead, HasReadFrom}
+use Rattle.fax_page.specs.views.Reader.{StripState, bits_left, strip_behind, ReadsRow, IsAtEnd, MeetsFault, IsAdvance}
+use Rattle.fax_page.specs.laws.Reader.{HasRead, HasReadFrom}
 
 pub begins_on : (start : StripState) → HasReadFrom start [] start
 begins_on start = record { same_form = refl; same_bytes = refl; followed = λ more end left lines. lines }

@@ -6,13 +6,14 @@ use Rattle.fax_bits.specs.declared.Colour.{Colour}
 use Rattle.fax_bits.specs.declared.FillOrder.{FillOrder}
 use Rattle.fax_bits.specs.Bits.{bits}
 use Rattle.fax_bits.specs.Bytes.{packed}
-use Rattle.fax_bits.specs.Laws.{PacksOneWay}
-use Rattle.fax_bits.specs.code.Sink.{Sink, Appends, IsPadded}
+use Rattle.fax_bits.specs.laws.Codes.{PacksOneWay}
+use Rattle.fax_bits.specs.views.Sink.{Sink, Appends, IsPadded}
 use Rattle.fax_page.specs.declared.Dimension.{Dimension}
 use Rattle.fax_page.specs.declared.StripForm.{StripForm}
 use Rattle.fax_page.specs.Strip.{white_row}
 use Rattle.fax_page.specs.CodedStrip.{written_dimension, start_bits, row_bits, coded_line, coded_lines, coded_bits, coded_strip, end_bits}
-use Rattle.fax_page.specs.code.Writer.{WriterState, writer_beginning, PutsRow, FinishesAs, HasPut, last_of}
+use Rattle.fax_page.specs.views.Writer.{WriterState, writer_beginning, PutsRow, FinishesAs}
+use Rattle.fax_page.specs.laws.Writer.{HasPut, last_of}
 
 -- bits after bits
 pub appended : (old middle new : Sink) (first second : List Bool) → Appends old first middle → Appends middle second new

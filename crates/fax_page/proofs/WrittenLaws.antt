@@ -5,7 +5,7 @@ use Rattle.std.specs.Prelude.{All}
 use Rattle.std.proofs.lemmas.List.{length-replicate}
 use Rattle.fax_bits.specs.declared.Colour.{Colour}
 use Rattle.fax_bits.specs.declared.Colour.TheVariants.{White}
-use Rattle.fax_rows.specs.Laws.{OneDimensionalBitsAreRead, TwoDimensionalBitsAreRead}
+use Rattle.fax_rows.specs.laws.Rows.{OneDimensionalBitsAreRead, TwoDimensionalBitsAreRead}
 use Rattle.fax_rows.specs.Coded.{one_dimensional_bits}
 use Rattle.fax_rows.specs.OneDimensional.{IsOneDimensionalRow}
 use Rattle.fax_page.specs.declared.Dimension.{Dimension}
@@ -16,7 +16,7 @@ use Rattle.fax_page.specs.declared.StripForm.{StripForm}
 use Rattle.fax_page.specs.Lines.{tag_bit, IsStart, IsRowIn, IsLine}
 use Rattle.fax_page.specs.Strip.{IsStripForm, AreLines, white_row}
 use Rattle.fax_page.specs.CodedStrip.{written_dimension, row_bits, fill_zeros, start_bits, coded_line, coded_lines, coded_bits, end_bits}
-use Rattle.fax_page.specs.Laws.{CodedBitsAreRead}
+use Rattle.fax_page.specs.laws.Strips.{CodedBitsAreRead}
 use Rattle.fax_page.proofs.FillLemmas.{end_of_line_back}
 use Rattle.fax_page.proofs.FirstCodeLemmas.{row_begins}
 

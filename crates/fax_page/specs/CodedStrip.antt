@@ -75,8 +75,3 @@ coded_bits form k rows = coded_lines form k 0 0 (white_row form.width) rows ++ e
 -- a strip as it is written (TIFF 6.0, FillOrder)
 unfoldable pub coded_strip : StripForm → ℕ → List (List Colour) → List ℕ
 coded_strip form k rows = packed form.order (coded_bits form k rows)
-
--- the rows are as many and as wide as the form says (this project's profile)
-pub record AreRowsOf (form : StripForm) (rows : List (List Colour)) : Type 0 where
-  pub count : length rows ≡ form.rows
-  pub widths : All (λ row. length row ≡ form.width) rows

@@ -2,5 +2,6 @@ pub mod Lines
 pub mod Strip
 pub mod CodedStrip
 pub mod Notes
-pub mod Laws
 pub mod code
+pub mod laws
+pub mod views

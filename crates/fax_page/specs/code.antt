@@ -2,6 +2,5 @@
 -- rows that are lent.
 pub mod Starts
 pub mod Reader
-pub mod NextRow
 pub mod Writer
 pub mod Notes

@@ -2,9 +2,9 @@
 ghost use Rattle.std.specs.Prelude.{ℕ, List};
 ghost use Rattle.fax_bits.specs.declared.Colour.{Colour};
 ghost use Rattle.fax_page.specs.declared.StripForm.{StripForm};
-ghost use Rattle.fax_page.specs.Laws as Law;
-ghost use Rattle.fax_page.specs.code.Reader.{ReadsRowByRow, ReadsOn};
-ghost use Rattle.fax_page.specs.code.Writer.{WritesRowByRow};
+ghost use Rattle.fax_page.specs.laws.Strips as Law;
+ghost use Rattle.fax_page.specs.laws.Reader.{ReadsRowByRow, ReadsOn};
+ghost use Rattle.fax_page.specs.laws.Writer.{WritesRowByRow};
 
 /// Bits are read in one way as a row of a strip, in any coding: they begin with one row and one
 /// rest follows it, or one fault is in its way, never both.

@@ -1,6 +1,6 @@
 //! A row of a strip: what stands before its codes, and its codes.
 ghost use Rattle.std.specs.Prelude.{◌≡◌, ◌∷◌, [], length, OnOk, IfOk, IfErr};
-ghost use Rattle.fax_bits.specs.code.Source.{KeepsEnd};
+ghost use Rattle.fax_bits.specs.views.Source.{KeepsEnd};
 ghost use Rattle.fax_page.specs.Lines as Lines;
 ghost use Rattle.fax_page.specs.code.Starts.{HasEol, HasNoEol, IsNoBegin, IsStop};
 

@@ -1,7 +1,7 @@
 //! What is worth a note in a strip that has all its rows.
 ghost use Rattle.std.specs.Prelude.{◌≡◌, ◌≤◌, List, length, IfOk, IfErr, OnOk};
 ghost use Rattle.fax_bits.specs.Bits.{bits};
-ghost use Rattle.fax_bits.specs.code.Sink.{Appends};
+ghost use Rattle.fax_bits.specs.views.Sink.{Appends};
 ghost use Rattle.fax_bits.specs.declared.Colour.{Colour};
 ghost use Rattle.fax_page.specs.CodedStrip.{row_bits};
 ghost use Rattle.fax_page.specs.Notes as Spec;

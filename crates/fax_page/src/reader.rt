@@ -29,7 +29,8 @@ pub struct StripReader<'a> {
 }
 
 impl<'a> Model for StripReader<'a> {
-    ghost use Rattle.fax_page.specs.code.Reader.{StripState, IsReading};
+    ghost use Rattle.fax_page.specs.views.Reader.{StripState};
+    ghost use Rattle.fax_page.specs.code.Reader.{IsReading};
 
     ghost Value = { StripState };
 
@@ -49,9 +50,9 @@ impl<'a> Model for StripReader<'a> {
 
 impl<'a> StripReader<'a> {
     ghost use Rattle.fax_page.specs.Strip.{IsStripForm};
-    ghost use Rattle.fax_page.specs.code.Reader.{strip_beginning, restarted, restarted_at};
-    ghost use Rattle.fax_page.specs.code.Reader.{IsAdvance};
-    ghost use Rattle.fax_page.specs.code.NextRow.{EndsAs, IsNextRow};
+    ghost use Rattle.fax_page.specs.views.Reader.{strip_beginning, restarted, restarted_at};
+    ghost use Rattle.fax_page.specs.views.Reader.{IsAdvance};
+    ghost use Rattle.fax_page.specs.views.NextRow.{EndsAs, IsNextRow};
 
     /// Before the first row of a strip in at most 4,294,967,295 bytes. It takes all the memory that
     /// the reading of strips of this width needs.

@@ -1,6 +1,6 @@
 //! A writer of strips.
 ghost use Rattle.std.specs.Prelude.{◌≡◌, ◌++◌, ◌<◌, ◌≤◌, length, false, All, IfOk, OnOk};
-ghost use Rattle.fax_bits.specs.code.Sink.{Appends};
+ghost use Rattle.fax_bits.specs.views.Sink.{Appends};
 ghost use Rattle.fax_bits.specs.Bytes.{packed};
 ghost use Rattle.fax_page.specs.CodedStrip as Coded;
 
@@ -117,7 +117,8 @@ pub struct StripWriter {
 }
 
 impl Model for StripWriter {
-    ghost use Rattle.fax_page.specs.code.Writer.{WriterState, IsWriting};
+    ghost use Rattle.fax_page.specs.views.Writer.{WriterState};
+    ghost use Rattle.fax_page.specs.code.Writer.{IsWriting};
 
     ghost Value = { WriterState };
 
@@ -135,7 +136,7 @@ impl Model for StripWriter {
 
 impl StripWriter {
     ghost use Rattle.fax_page.specs.Strip.{IsStripForm};
-    ghost use Rattle.fax_page.specs.code.Writer.{writer_beginning, IsPutRow, FinishesAs};
+    ghost use Rattle.fax_page.specs.views.Writer.{writer_beginning, IsPutRow, FinishesAs};
 
     /// A strip of this form, before its first row. In MR every `k`-th row is one-dimensional, from
     /// the first on (T.4, section 4.2.1.1); in MH and MMR `k` is not looked at.

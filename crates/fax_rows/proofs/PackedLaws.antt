@@ -8,9 +8,10 @@ use Rattle.fax_bits.specs.declared.FillOrder.TheVariants.{MsbFirst}
 use Rattle.fax_bits.specs.declared.Colour.{Colour}
 use Rattle.fax_bits.specs.declared.Colour.TheVariants.{White, Black}
 use Rattle.fax_bits.specs.Bits.{bits, bits_number}
-use Rattle.fax_bits.specs.Laws.{AreBitsByPlace, AreBitsOfOneByte}
-use Rattle.fax_rows.specs.Packed.{packed_len, is_black, colour_of_bit, packed_byte, packed_row, unpacked_row, HasBitsOfPels, IsReadBack}
-use Rattle.fax_rows.specs.Packed.{IsPackedBack, PackingUndoesUnpacking}
+use Rattle.fax_bits.specs.laws.Codes.{AreBitsByPlace, AreBitsOfOneByte}
+use Rattle.fax_rows.specs.Packed.{packed_len, is_black, colour_of_bit, packed_byte, packed_row, unpacked_row}
+use Rattle.fax_rows.specs.laws.Packed.{HasBitsOfPels, IsReadBack}
+use Rattle.fax_rows.specs.laws.Packed.{IsPackedBack, PackingUndoesUnpacking}
 use Rattle.fax_rows.proofs.PackedLemmas.{get_or-padded, padded_bits, unpacked_at}
 
 length-packed_row : (row : List Colour) → length (packed_row row) ≡ packed_len (length row)

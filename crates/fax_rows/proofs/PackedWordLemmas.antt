@@ -10,7 +10,7 @@ use Rattle.std.proofs.lemmas.List.{length-replicate, length-map, length-take-le}
 use Rattle.std.proofs.lemmas.Nat.{xor_lt, shr_le, shr-shr, shr_split}
 use Rattle.std.proofs.lemmas.Nat.Bits.{bit_at-lt, bit_at-zero, bit_at_xor, bit_at_ones, bit_at_ones_above, bit_at_cat_low, ones_shr}
 use Rattle.std.proofs.lemmas.Nat.Bits.{same_from_bits_below}
-use Rattle.fax_bits.specs.Laws.{AreBitsByPlace, AreBitsOfOneByte}
+use Rattle.fax_bits.specs.laws.Codes.{AreBitsByPlace, AreBitsOfOneByte}
 use Rattle.fax_bits.specs.declared.Colour.{Colour}
 use Rattle.fax_rows.specs.Packed.{is_black, packed_byte}
 use Rattle.fax_rows.specs.code.PackedWord.{word_bit, IsPackedWord}

@@ -10,7 +10,7 @@ use Rattle.fax_bits.specs.declared.runs.RunCode.TheVariants.{Terminating, MakeUp
 use Rattle.fax_bits.specs.Tables.{run_table}
 use Rattle.fax_bits.specs.Codes.{Takes, Spells, IsFaultOf}
 use Rattle.fax_bits.specs.Runs.{IsRun}
-use Rattle.fax_bits.specs.Laws.{ReadsOneWay}
+use Rattle.fax_bits.specs.laws.Codes.{ReadsOneWay}
 use Rattle.fax_rows.specs.declared.RowFault.{RowFault}
 use Rattle.fax_rows.specs.declared.RowFault.TheVariants.{Extension, RunTooLong}
 use Rattle.fax_rows.specs.Faults.{row_fault, IsRunCodeFault, IsAtRunCode, IsRunFault}

@@ -8,14 +8,14 @@ use Rattle.fax_bits.specs.declared.Colour.{Colour}
 use Rattle.fax_bits.specs.declared.modes.ModeCode.{ModeCode}
 use Rattle.fax_bits.specs.declared.modes.ModeCode.TheVariants.{Pass, Horizontal, Vertical, Extension}
 use Rattle.fax_bits.specs.Codes.{Takes, IsFaultOf}
-use Rattle.fax_bits.specs.Laws.{ReadsOneWay}
+use Rattle.fax_bits.specs.laws.Codes.{ReadsOneWay}
 use Rattle.fax_bits.specs.Runs.{IsRun}
 use Rattle.fax_bits.specs.Tables.{run_table, modes}
 use Rattle.fax_rows.specs.declared.RowFault.{RowFault}
 use Rattle.fax_rows.specs.declared.RowFault.TheVariants.{OutOfRow, Extension as ExtensionFault}
 use Rattle.fax_rows.specs.Elements.{other}
 use Rattle.fax_rows.specs.Faults.{row_fault, IsRunFault, IsHorizontalFault, IsModeFault, IsStepFault}
-use Rattle.fax_rows.specs.Laws.{ReadsRowsOverOneWay}
+use Rattle.fax_rows.specs.laws.Rows.{ReadsRowsOverOneWay}
 use Rattle.fax_rows.specs.TwoDimensional.{Position, beginning, first_pel, a0_number, coloured_up_to, b1_from, b2_from, IsStepBy, IsStep}
 use Rattle.fax_rows.specs.TwoDimensional.{IsUnfinished, AreSteps}
 use Rattle.fax_rows.proofs.ChangeLemmas.{next_change_is}

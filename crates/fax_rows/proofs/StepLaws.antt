@@ -5,7 +5,7 @@ use Rattle.fax_bits.specs.declared.Colour.{Colour}
 use Rattle.fax_bits.specs.declared.modes.ModeCode.{ModeCode}
 use Rattle.fax_bits.specs.declared.modes.ModeCode.TheVariants.{Pass, Horizontal, Vertical, Extension}
 use Rattle.fax_bits.specs.Codes.{Takes}
-use Rattle.fax_bits.specs.Laws.{ReadsOneWay}
+use Rattle.fax_bits.specs.laws.Codes.{ReadsOneWay}
 use Rattle.fax_bits.specs.Tables.{run_table, modes}
 use Rattle.fax_rows.specs.Elements.{other}
 use Rattle.fax_rows.specs.TwoDimensional.{Position, beginning, IsStepBy, IsStep, AreSteps, IsTwoDimensionalRow}

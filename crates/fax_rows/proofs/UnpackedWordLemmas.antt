@@ -13,7 +13,7 @@ use lib.Count.{count_leading_zeros}
 use Rattle.fax_bits.specs.declared.FillOrder.TheVariants.{MsbFirst}
 use Rattle.fax_bits.specs.declared.Colour.TheVariants.{Black}
 use Rattle.fax_bits.specs.Bits.{bits}
-use Rattle.fax_bits.specs.Laws.{AreBitsByPlace}
+use Rattle.fax_bits.specs.laws.Codes.{AreBitsByPlace}
 use Rattle.fax_rows.specs.Elements.{other}
 use Rattle.fax_rows.specs.Packed.{colour_of_bit}
 use Rattle.fax_rows.specs.code.PackedWord.{word_bit}

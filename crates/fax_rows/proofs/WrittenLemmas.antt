@@ -10,10 +10,11 @@ use Rattle.fax_bits.specs.declared.Colour.{Colour}
 use Rattle.fax_bits.specs.declared.Colour.TheVariants.{White, Black}
 use Rattle.fax_bits.specs.declared.modes.ModeCode.{ModeCode}
 use Rattle.fax_bits.specs.Codes.{Takes}
-use Rattle.fax_bits.specs.Laws.{RunBitsAreRead, ModeBitsAreRead}
+use Rattle.fax_bits.specs.laws.Codes.{RunBitsAreRead, ModeBitsAreRead}
 use Rattle.fax_bits.specs.Runs.{mode_bits}
 use Rattle.fax_bits.specs.Tables.{modes}
-use Rattle.fax_rows.specs.Elements.{other, pels_of, runs_behind, runs_of, HasWidth}
+use Rattle.fax_rows.specs.Elements.{other, pels_of, runs_behind, runs_of}
+use Rattle.fax_rows.specs.laws.Rows.{HasWidth}
 use Rattle.fax_rows.specs.Coded.{places, colour_of, chosen_mode, run_pair_bits, next_a0, step_bits, two_dimensional_bits, alternating_bits}
 use Rattle.fax_rows.specs.Coded.{one_dimensional_bits}
 use Rattle.fax_rows.specs.OneDimensional.{AreRuns, IsOneDimensionalRow}

@@ -5,11 +5,6 @@ use Rattle.std.specs.Prelude.{Option, Some, None}
 use Rattle.fax_bits.specs.declared.Colour.{Colour}
 use Rattle.fax_bits.specs.declared.Colour.TheVariants.{White, Black}
 
--- a row has 1 to 65,535 pels (this project's profile)
-pub record HasWidth (row : List Colour) : Type 0 where
-  pub some : 0 < length row
-  pub short : length row < 2 ^ 16
-
 -- the opposite colour (T.4, section 4.1.1)
 abbrev pub other : Colour → Colour
 other White = Black

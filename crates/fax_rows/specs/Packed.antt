@@ -43,28 +43,3 @@ unfoldable pub first_other : List ℕ → ℕ → Colour → ℕ
 first_other bytes from colour =
     first_place (λ i. not (same_colour (colour_of_bit
     (slice_index_or (bits MsbFirst bytes) i false)) colour)) from (8 * length bytes - from)
-
--- the bits of a packed row are its pels, and zeros up to a whole byte (the netpbm format, P4)
-abbrev pub HasBitsOfPels : Type 0
-HasBitsOfPels =
-    (row : List Colour)
-    → bits MsbFirst (packed_row row)
-    ≡ map is_black row ++ replicate (8 * packed_len (length row) - length row) false
-
--- a packed row is read back (this project's profile)
-abbrev pub IsReadBack : Type 0
-IsReadBack = (row : List Colour) → unpacked_row (length row) (packed_row row) ≡ row
-
--- bytes whose row is packed again are as they were, but for the padding, which is zeros
--- (this project's profile)
-abbrev pub IsPackedBack : Type 0
-IsPackedBack =
-    (width : ℕ) (bytes : List ℕ) → length bytes ≡ packed_len width
-    → bits MsbFirst (packed_row (unpacked_row width bytes))
-    ≡ take width (bits MsbFirst bytes) ++ replicate (8 * packed_len width - width) false
-
--- packing and unpacking undo one another (this project's profile)
-pub record PackingUndoesUnpacking : Type 0 where
-  pub bits_of_pels : HasBitsOfPels
-  pub read_back : IsReadBack
-  pub packed_back : IsPackedBack

@@ -1,8 +1,8 @@
 //! Laws of rows. The functions compute nothing: each has a law as its contract.
 ghost use Rattle.std.specs.Prelude.{ℕ, List};
 ghost use Rattle.fax_bits.specs.declared.Colour.{Colour};
-ghost use Rattle.fax_rows.specs.Laws as Law;
-ghost use Rattle.fax_rows.specs.Packed.{PackingUndoesUnpacking};
+ghost use Rattle.fax_rows.specs.laws.Rows as Law;
+ghost use Rattle.fax_rows.specs.laws.Packed.{PackingUndoesUnpacking};
 
 /// Bits are read in one way as a row of a width in one-dimensional coding: they begin with one row
 /// and one rest follows it, or they have one fault, never both (T.4, section 4.1.1).

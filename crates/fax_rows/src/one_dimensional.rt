@@ -1,7 +1,7 @@
 //! Rows in one-dimensional coding (ITU-T T.4, section 4.1.1).
 ghost use Rattle.std.specs.Prelude.{◌≡◌, ◌+◌, ◌-◌, ◌≤◌, ◌<◌, ◌^◌, length, slice_index};
 ghost use Rattle.std.specs.Prelude.{OnOk, IfOk, IfErr};
-ghost use Rattle.fax_bits.specs.code.Source.{KeepsEnd};
+ghost use Rattle.fax_bits.specs.views.Source.{KeepsEnd};
 ghost use Rattle.fax_rows.specs.OneDimensional.{IsOneDimensionalRow};
 ghost use Rattle.fax_rows.specs.Faults.{IsOneDimensionalFault};
 ghost use Rattle.fax_rows.specs.code.Turns.{row_of, IsAscending};

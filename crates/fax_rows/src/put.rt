@@ -2,7 +2,7 @@
 //! 4.2.1.3.3; T.6, section 2.2.3).
 ghost use Rattle.std.specs.Prelude.{◌≡◌, ◌+◌, ◌-◌, ◌≤◌, ◌<◌, ◌^◌, length, true, unwrap_or, Some};
 ghost use Rattle.std.specs.Prelude.{None, OnOk, OnErr, IfOk};
-ghost use Rattle.fax_bits.specs.code.Sink.{Appends, AppendsPrefix};
+ghost use Rattle.fax_bits.specs.views.Sink.{Appends, AppendsPrefix};
 ghost use Rattle.fax_rows.specs.code.Ahead as Spec;
 ghost use Rattle.fax_rows.specs.Coded as Coded;
 ghost use Rattle.fax_rows.specs.code.PlacedRow.{placed_pels};

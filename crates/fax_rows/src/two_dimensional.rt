@@ -2,7 +2,7 @@
 //! places of change over a reference row's places.
 ghost use Rattle.std.specs.Prelude.{◌≡◌, ◌+◌, ◌-◌, ◌≤◌, ◌<◌};
 ghost use Rattle.std.specs.Prelude.{length, slice_index, OnOk, IfOk, IfErr};
-ghost use Rattle.fax_bits.specs.code.Source.{KeepsEnd};
+ghost use Rattle.fax_bits.specs.views.Source.{KeepsEnd};
 ghost use Rattle.fax_rows.specs.TwoDimensional as Spec;
 ghost use Rattle.fax_rows.specs.Faults as Fault;
 ghost use Rattle.fax_rows.specs.code.PlacedRow.{placed_pels};

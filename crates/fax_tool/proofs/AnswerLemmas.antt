@@ -10,7 +10,7 @@ use Rattle.fax_walk.specs.declared.options.Options.{Options}
 use Rattle.fax_walk.specs.declared.options.Target.TheVariants.{Mmr, Pbm}
 use Rattle.fax_tool.specs.Job.{AreOptions, BeginsAt, BeginsInside, HasNoCursor, HasNoTarget, IsCommand, IsFault, IsJob, IsNoCursor}
 use Rattle.fax_tool.specs.Job.{IsNoLongCursor, IsRefused, command_of, is_set, target_in}
-use Rattle.fax_tool.specs.WordLaws.{HasCursors, HaveOneAnswer, WordsHaveOneAnswer}
+use Rattle.fax_tool.specs.laws.Words.{HasCursors, HaveOneAnswer, WordsHaveOneAnswer}
 use Rattle.fax_tool.specs.declared.words.Command.{Command}
 use Rattle.fax_tool.specs.declared.words.Command.TheVariants.{Check, Convert, List as Forms, Rows}
 use Rattle.fax_tool.specs.declared.words.Job.{Job}

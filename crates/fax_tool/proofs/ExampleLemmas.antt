@@ -1,7 +1,7 @@
 -- The examples of words, computed.
 use Rattle.std.proofs.Common.{refl}
 use Rattle.clap.proofs.OnLiterals.{clap_on_literals}
-use Rattle.fax_tool.specs.Examples.{AreNotTaken, AreRead}
+use Rattle.fax_tool.specs.laws.Examples.{AreNotTaken, AreRead}
 
 pub are_read : AreRead
 unfolding clap_on_literals

@@ -1,22 +1,23 @@
 -- Runs that go on where the one before them was cut.
-use Rattle.std.proofs.Common.{◌≡◌, ℕ, zero, suc, List, [], ◌∷◌, ◌++◌, length, take, drop, refl, ap, sym, ◌∙◌, subst, append_assoc, append-nil}
+use Rattle.std.proofs.Common.{◌≡◌, ℕ, zero, suc, List, [], ◌∷◌, ◌++◌, length, take, drop, refl, ap, sym, ◌∙◌, subst, append_assoc}
+use Rattle.std.proofs.Common.{append-nil}
 use Rattle.std.proofs.Common.{true, false, Bool, take-append-drop, arith}
 use Rattle.std.proofs.Math.Seq.{take-length}
 use Rattle.std.proofs.lemmas.List.{drop_all}
 use Rattle.std.specs.Prelude.{Option, Some, None, nat_le, Ok}
 use Rattle.std.specs.List.{AllZip}
-use Rattle.fax_files.specs.Laws.{FilesHaveOneChain}
+use Rattle.fax_files.specs.laws.Files.{FilesHaveOneChain}
 use Rattle.fax_walk.specs.declared.begun.Begun.{Begun}
 use Rattle.fax_walk.specs.declared.begun.Begun.TheVariants.{At, Inside}
 use Rattle.fax_walk.specs.declared.cursor.Cursor.{Cursor}
 use Rattle.fax_walk.specs.declared.end.End.{End}
 use Rattle.fax_walk.specs.LongCursor.{LongPlace}
-use Rattle.fax_walk.specs.PageLaws.{BeginningsHaveOneTail, IsReached, LongTailsGoOn, PlacesAreReached, TailsGoOn}
+use Rattle.fax_walk.specs.laws.Tails.{BeginningsHaveOneTail, IsReached, LongTailsGoOn, PlacesAreReached, TailsGoOn}
 use Rattle.fax_walk.specs.Pages.{FilePage, IsPageAt}
 use Rattle.fax_walk.specs.Rows.{Item, IsTailFrom, cursor_after, long_after}
 use Rattle.fax_tool.specs.Run.{AreRowLines, IsRowLine}
 use Rattle.fax_tool.specs.Text.{Line, Printed, begun_at, last_line, named, next_after, text_of, texts_of, whole_text}
-use Rattle.fax_tool.specs.Laws.{AreAsOneRun, AreRuns, IsRun, MayBegin, RunsGoOn, is_cut, up_to}
+use Rattle.fax_tool.specs.laws.Runs.{AreAsOneRun, AreRuns, IsRun, MayBegin, RunsGoOn, is_cut, up_to}
 use Rattle.fax_tool.proofs.LineLemmas.{begins_after, one_rows}
 
 texts_of-append : (xs ys : List Line) → texts_of (xs ++ ys) ≡ texts_of xs ++ texts_of ys

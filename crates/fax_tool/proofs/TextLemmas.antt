@@ -9,7 +9,7 @@ use Rattle.std.specs.Io.KnownBytes.{Appends}
 use Rattle.fax_walk.specs.declared.begun.Begun.{Begun}
 use Rattle.fax_walk.specs.declared.end.End.{End}
 use Rattle.fax_walk.specs.declared.end.End.TheVariants.{Proper, Fault, Outside}
-use Rattle.fax_walk.specs.InOrder.{IsOne}
+use Rattle.fax_walk.specs.laws.InOrder.{IsOne}
 use Rattle.fax_tool.specs.declared.refusal.Refusal.{Refusal}
 use Rattle.fax_tool.specs.Streams.{Counts, output_after}
 use Rattle.fax_tool.specs.Text.{Line, Printed, end_status, error_text, last_line, named, next_after, next_line, text_of, texts_of}

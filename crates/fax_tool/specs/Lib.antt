@@ -2,10 +2,8 @@ pub mod Streams
 pub mod Words
 pub mod CommandLine
 pub mod Job
-pub mod Examples
 pub mod Text
 pub mod ReportText
-pub mod Laws
 pub mod Run
-pub mod WordLaws
 pub mod code
+pub mod laws

@@ -1,5 +1,6 @@
 -- What a call on a stream does to the stream's bytes and to its counts (this project's profile).
-use Rattle.std.specs.Prelude.{◌≡◌, ◌≢◌, ℕ, ◌+◌, ◌-◌, ◌^◌, ◌<◌, min, List, length, take, Option, Some}
+use Rattle.std.specs.Prelude.{◌≡◌, ◌≢◌, ℕ, ◌+◌, ◌-◌, ◌^◌, ◌<◌, min, List, length, take, Option}
+use Rattle.std.specs.Prelude.{Some}
 use Rattle.std.specs.Prelude.{None, ⊤, Result, Ok, Err}
 use Rattle.std.specs.Io.KnownBytes.{Appends, Consumes, IsAtEnd, Keeps}
 use Rattle.std.specs.declared.io.ErrorKind.{ErrorKind}
@@ -72,9 +73,3 @@ TakesBytes old new (Err Failed) buffer = KeepsOrForgets old new
 abbrev pub GivesBytes : Option (List ℕ) → Option (List ℕ) → Result ℕ StreamFault → List ℕ → Type 0
 GivesBytes old new (Ok n) bytes = Appends old new (take n bytes)
 GivesBytes old new (Err fault) bytes = Keeps old new
-
--- the fault of a call that std answers with an error of this kind: interrupted calls alone may be
--- made again (this project's profile)
-abbrev pub IsFaultOf : ErrorKind → StreamFault → Type 0
-IsFaultOf kind Interrupted = kind ≡ WasInterrupted
-IsFaultOf kind Failed = kind ≢ WasInterrupted

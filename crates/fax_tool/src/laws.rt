@@ -3,10 +3,10 @@
 ghost use Rattle.std.specs.Prelude.{◌≡◌, ◌⊎◌, ◌<◌};
 ghost use Rattle.clap.specs.Walk.{texts};
 ghost use Rattle.fax_tool.specs.Streams.{input_after, no_faults, output_after};
-ghost use Rattle.fax_tool.specs.WordLaws.{IsRefusedOfWords, SaysFault, WritesOfWords};
-ghost use Rattle.fax_tool.specs.WordLaws.{WordsHaveOneAnswer};
-ghost use Rattle.fax_tool.specs.Laws as Laws;
-ghost use Rattle.fax_tool.specs.Examples.{AreNotTaken, AreRead};
+ghost use Rattle.fax_tool.specs.laws.Words.{IsRefusedOfWords, SaysFault, WritesOfWords};
+ghost use Rattle.fax_tool.specs.laws.Words.{WordsHaveOneAnswer};
+ghost use Rattle.fax_tool.specs.laws.Runs as Laws;
+ghost use Rattle.fax_tool.specs.laws.Examples.{AreNotTaken, AreRead};
 
 use crate::run::run;
 use crate::streams::{Sink, Source};

@@ -1,8 +1,8 @@
 //! What is printed line by line: the rows of a file, or its pages.
 ghost use Rattle.std.specs.Prelude.{◌≡◌, ◌<◌, ◌↔◌, ℕ, List, IfOk, None};
-ghost use Rattle.fax_walk.specs.InOrder.{IsOne};
-ghost use Rattle.fax_walk.specs.Left.{begins_inside};
-ghost use Rattle.fax_walk.specs.PagesLeft.{pages_from};
+ghost use Rattle.fax_walk.specs.laws.InOrder.{IsOne};
+ghost use Rattle.fax_walk.specs.views.Walk.{begins_inside};
+ghost use Rattle.fax_walk.specs.views.Pages.{pages_from};
 ghost use Rattle.fax_walk.specs.Rows.{begins_at};
 ghost use Rattle.fax_walk.specs.declared.begun.Begun.{Begun};
 ghost use Rattle.fax_walk.specs.declared.end.End.{End as TheEnd};
@@ -117,7 +117,7 @@ pub struct PageLines<'a> {
 }
 
 impl<'a> Model for PageLines<'a> {
-    ghost use Rattle.fax_walk.specs.PagesLeft.{PagesView};
+    ghost use Rattle.fax_walk.specs.views.Pages.{PagesView};
     ghost use Rattle.fax_walk.specs.declared.begun.Begun.TheVariants.{At};
     ghost use Rattle.fax_tool.specs.Run.{ArePageLines};
     ghost use Rattle.fax_tool.specs.code.Printing.{IsNextAfter};

@@ -12,7 +12,7 @@ ghost use Rattle.fax_tool.specs.Text.{Line, next_line};
 ghost use Rattle.fax_tool.specs.Run.{HasWorked, IsRead, IsTextOfFirst, IsTextOfLines, begun_of};
 ghost use Rattle.fax_tool.specs.Run.{most_input};
 ghost use Rattle.fax_walk.specs.Rows.{begins_at};
-ghost use Rattle.fax_walk.specs.Left.{walk_from};
+ghost use Rattle.fax_walk.specs.views.Walk.{walk_from};
 ghost use Rattle.fax_walk.specs.declared.begun.Begun.TheVariants.{At};
 ghost use Rattle.fax_walk.specs.declared.end.End.{End as TheEnd};
 ghost use Rattle.fax_tool.specs.declared.words.Command.TheVariants.{List as Forms, Rows};

@@ -3,7 +3,8 @@ ghost use Rattle.std.specs.Prelude.{◌≡◌, ℕ, ◌<◌, ◌≤◌, length, 
 ghost use Rattle.std.specs.Prelude.{OnOk, Result};
 ghost use Rattle.std.specs.Io.KnownBytes.{Appends, Consumes, IsAtEnd, Keeps};
 ghost use Rattle.fax_tool.specs.Streams.{Counts, counts_after, taken_after, no_faults, TakesBytes};
-ghost use Rattle.fax_tool.specs.Streams.{GivesBytes, IsFaultOf};
+ghost use Rattle.fax_tool.specs.Streams.{GivesBytes};
+ghost use Rattle.fax_tool.specs.code.Adapters.{IsFaultOf};
 ghost use Rattle.std.specs.IoError.{error_kind};
 ghost use Rattle.fax_tool.specs.code.Adapters.{reader_of, writer_of};
 

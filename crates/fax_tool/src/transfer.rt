@@ -10,11 +10,12 @@ ghost use Rattle.fax_tool.specs.code.Transfers.{IsGivenInPart, counted};
 
 use crate::refusal::Refusal;
 use crate::streams::{Sink, Source, StreamFault};
+use fax_files::MAX_FILE;
 use std::alloc::Global;
 use std::marker::Model;
 
 /// The most bytes of an input: 256 MiB.
-const MOST_INPUT: usize = 268_435_456;
+const MOST_INPUT: usize = MAX_FILE as usize;
 
 /// How many bytes are read at a time.
 const CHUNK: usize = 65_536;

@@ -12,17 +12,18 @@ use Rattle.std.proofs.Math.Nat.{mul-le-mul_left}
 use Rattle.fax_bits.specs.declared.Colour.{Colour}
 use Rattle.fax_page.specs.declared.Coding.{Coding}
 use Rattle.fax_page.specs.declared.Coding.TheVariants.{Mmr}
-use Rattle.fax_page.specs.CodedStrip.{AreRowsOf as HasShape}
-use Rattle.fax_page.specs.Laws.{CodedStripsAreRead}
+use Rattle.fax_page.specs.laws.Strips.{AreRowsOf as HasShape}
+use Rattle.fax_page.specs.laws.Strips.{CodedStripsAreRead}
 use Rattle.fax_files.specs.declared.PageForm.{PageForm}
 use Rattle.fax_files.specs.Page.{IsPageForm}
-use Rattle.fax_files.specs.PageRows.{strip_form, joined}
+use Rattle.fax_files.specs.PageRows.{strip_form}
+use Rattle.fax_files.specs.laws.Files.{joined}
 use Rattle.fax_files.specs.Pbm.{is_within_limits}
-use Rattle.fax_files.specs.PbmLaws.{AreOfWidth}
-use Rattle.fax_files.specs.Laws.{IsWritable, AreWritable, AreRowsOf}
+use Rattle.fax_files.specs.laws.Pbm.{AreOfWidth}
+use Rattle.fax_files.specs.laws.Files.{IsWritable, AreWritable, AreRowsOf}
 use Rattle.fax_walk.specs.declared.options.Options.{Options}
 use Rattle.fax_walk.specs.Converted.{SourcePage, strips_of, written_form, coded_strips, written_page}
-use Rattle.fax_walk.specs.WrittenLaws.{HoldsRows, IsWritableSource, written_pages, WrittenFilesAreWalked, CodedFilesAreWalked}
+use Rattle.fax_walk.specs.laws.Written.{HoldsRows, IsWritableSource, written_pages, WrittenFilesAreWalked, CodedFilesAreWalked}
 use Rattle.fax_walk.proofs.OpenStripsLemmas.{enough}
 
 -- strips of enough rows are all rows

@@ -9,10 +9,10 @@ use Rattle.fax_files.specs.declared.Cause.TheVariants.{File}
 use Rattle.fax_files.specs.declared.PageForm.{PageForm}
 use Rattle.fax_files.specs.Numbers.{header}
 use Rattle.fax_files.specs.Chain.{IsChain}
-use Rattle.fax_files.specs.Laws.{HasOneChain, FilesHaveOneChain}
+use Rattle.fax_files.specs.laws.Files.{HasOneChain, FilesHaveOneChain}
 use Rattle.fax_files.specs.Page.{IsPageForm}
-use Rattle.fax_files.specs.code.Chain.{ChainState, IsDueAnswer, behind_answer}
-use Rattle.fax_files.specs.code.Tiff.{TiffDirectory, directory_of, form_of}
+use Rattle.fax_files.specs.views.Chain.{ChainState, IsDueAnswer, behind_answer}
+use Rattle.fax_files.specs.views.Tiff.{TiffDirectory, directory_of, form_of}
 use Rattle.fax_walk.specs.declared.cursor.Cursor.{Cursor}
 use Rattle.fax_walk.specs.declared.end.End.{End}
 use Rattle.fax_walk.specs.declared.end.End.TheVariants.{Proper, Fault, Outside}

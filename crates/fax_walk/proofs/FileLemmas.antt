@@ -7,7 +7,7 @@ use Rattle.std.specs.Prelude.{if◌then◌else◌, ◌==◌, not, IfOk, IfErr, s
 use Rattle.std.proofs.lemmas.Bool.Decides.{nat_tests}
 use Rattle.std.proofs.lemmas.List.{take_at, drop_at}
 use Rattle.std.proofs.lemmas.Option.{slice_get_within}
-use Rattle.fax_bits.specs.Laws.{AreBitsByPlace}
+use Rattle.fax_bits.specs.laws.Codes.{AreBitsByPlace}
 use Rattle.fax_files.specs.declared.FileFault.{FileFault}
 use Rattle.fax_files.specs.declared.FileFault.TheVariants.{ShortHeader, Magic, NoDirectory, DirectoryOutside}
 use Rattle.fax_files.specs.declared.PageForm.{PageForm}
@@ -16,7 +16,7 @@ use Rattle.fax_files.specs.Numbers.{Header, header, check, ◌>>=◌, number_at,
 use Rattle.fax_files.specs.Directory.{is_directory}
 use Rattle.fax_files.specs.Chain.{IsChain}
 use Rattle.fax_files.specs.Page.{page}
-use Rattle.fax_files.specs.Laws.{FilesHaveOneChain, FormsAreWhole}
+use Rattle.fax_files.specs.laws.Files.{FilesHaveOneChain, FormsAreWhole}
 use Rattle.fax_walk.specs.declared.cursor.Cursor.{Cursor}
 use Rattle.fax_walk.specs.declared.end.End.{End}
 use Rattle.fax_walk.specs.declared.end.End.TheVariants.{Proper, Fault, Outside}
@@ -27,14 +27,15 @@ use Rattle.fax_walk.specs.declared.options.ConvertFault.{ConvertFault}
 use Rattle.fax_walk.specs.declared.options.ConvertFault.TheVariants.{OutputTooLarge, Memory}
 use Rattle.fax_walk.specs.declared.output.Output.{Output}
 use Rattle.fax_walk.specs.Cursor.{start}
-use Rattle.fax_walk.specs.InOrder.{LeadTo, EndsAfter}
+use Rattle.fax_walk.specs.laws.InOrder.{LeadTo}
+use Rattle.fax_walk.specs.InOrder.{EndsAfter}
 use Rattle.fax_walk.specs.Pages.{FormItem, FilePage, IsPageAt, IsPageUnder, page_over, IsForm, IsFormTail, AreForms, page_or_end}
 use Rattle.fax_walk.specs.Pages.{end_past_chain}
 use Rattle.fax_walk.specs.Rows.{Item, Place, first_at, IsRow, AreItems}
-use Rattle.fax_walk.specs.PageLaws.{FilesHaveOneForms, FormTailOfStart}
+use Rattle.fax_walk.specs.laws.Tails.{FilesHaveOneForms, FormTailOfStart}
 use Rattle.fax_walk.specs.Converted.{IsTiff, IsTooLarge, target_bytes, IsConverted, IsRefused, IsSource, SourcePage, page_of_form, pages_of}
-use Rattle.fax_walk.specs.PagesLeft.{PagesView, HandsOutPage, PagesHaveEnded, IsNextPage, pages_start}
-use Rattle.fax_walk.specs.Left.{WalkView, walk_start}
+use Rattle.fax_walk.specs.views.Pages.{PagesView, HandsOutPage, PagesHaveEnded, IsNextPage, pages_start}
+use Rattle.fax_walk.specs.views.Walk.{WalkView, walk_start}
 use Rattle.fax_walk.specs.code.Output.{Progress, with_page, page_of, form_sheet, IsWrittenTo, IsBeginning, IsWhole}
 use Rattle.fax_walk.specs.code.Sources.{AreWholePages, IsBeforePage, ConvertsRows, EndsWith, IsPageCount, ArePagesWritten, source_fault}
 use Rattle.fax_walk.specs.code.Sources.{pels_of}

@@ -9,7 +9,7 @@ use Rattle.fax_bits.specs.declared.Colour.{Colour}
 use Rattle.fax_rows.specs.Packed.{packed_len, unpacked_row, colour_of_bit}
 use Rattle.fax_files.specs.declared.pbm.PbmFault.{PbmFault}
 use Rattle.fax_files.specs.Pbm.{Image, IsImage, IsImageFault, AreImages, raster_rows}
-use Rattle.fax_files.specs.PbmLaws.{AreOfWidth, ImagesAreReadInOneWay, ImagesBeginInOneWay}
+use Rattle.fax_files.specs.laws.Pbm.{AreOfWidth, ImagesAreReadInOneWay, ImagesBeginInOneWay}
 use Rattle.fax_walk.specs.declared.options.Options.{Options}
 use Rattle.fax_walk.specs.declared.options.ConvertFault.TheVariants.{OutputTooLarge}
 use Rattle.fax_walk.specs.declared.output.Output.{Output}

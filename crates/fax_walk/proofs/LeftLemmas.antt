@@ -7,13 +7,15 @@ use Rattle.fax_walk.specs.declared.begun.Begun.TheVariants.{At, Inside}
 use Rattle.fax_walk.specs.declared.cursor.Cursor.{Cursor}
 use Rattle.fax_walk.specs.declared.end.End.{End}
 use Rattle.fax_walk.specs.LongCursor.{LongPlace}
-use Rattle.fax_walk.specs.InOrder.{IsOne, IsNumber, EndsAfter, HasToldNoOther, IsTold, IsLeftOf}
-use Rattle.fax_walk.specs.PagesLeft.{PagesView, AreFormsLeft}
-use Rattle.fax_walk.specs.PagesLeft as OfPages
+use Rattle.fax_walk.specs.laws.InOrder.{IsOne, IsTold, IsLeftOf}
+use Rattle.fax_walk.specs.InOrder.{IsNumber, EndsAfter, HasToldNoOther}
+use Rattle.fax_walk.specs.views.Pages.{PagesView}
+use Rattle.fax_walk.specs.laws.Forms.{AreFormsLeft}
+use Rattle.fax_walk.specs.views.Pages as OfPages
 use Rattle.fax_walk.specs.Rows.{Item, IsTailFrom, cursor_after}
-use Rattle.fax_walk.specs.Left.{IsTailOf, begins_inside}
-use Rattle.fax_walk.specs.PageLaws.{BeginningsHaveOneTail, CursorsHaveOneFormTail, FormsLeftGoOn, FormsLeftEnd, TailsGoOn, LongTailsGoOn}
-use Rattle.fax_walk.specs.PageLaws.{LeftIsOne, LeftGoesOn, LeftEnds, LeftIsTail, LeftIsLongTail}
+use Rattle.fax_walk.specs.views.Walk.{IsTailOf, begins_inside}
+use Rattle.fax_walk.specs.laws.Tails.{BeginningsHaveOneTail, CursorsHaveOneFormTail, FormsLeftGoOn, FormsLeftEnd, TailsGoOn, LongTailsGoOn}
+use Rattle.fax_walk.specs.laws.Tails.{LeftIsOne, LeftGoesOn, LeftEnds, LeftIsTail, LeftIsLongTail}
 use Rattle.fax_walk.proofs.InOrderLemmas.{divided_at}
 
 -- the item at a number is the first of what is left there

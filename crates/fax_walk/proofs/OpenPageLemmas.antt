@@ -14,14 +14,14 @@ use Rattle.fax_rows.specs.Elements.{pels_of, runs_of}
 use Rattle.fax_page.specs.declared.StripForm.{StripForm}
 use Rattle.fax_page.specs.declared.StripFault.{StripFault}
 use Rattle.fax_page.specs.Lines.{IsLine}
-use Rattle.fax_page.specs.code.Reader.{StripState, ReadsRow, MeetsFault, IsAdvance}
+use Rattle.fax_page.specs.views.Reader.{StripState, ReadsRow, MeetsFault, IsAdvance}
 use Rattle.fax_files.specs.declared.FileFault.TheVariants.{StripOutside}
 use Rattle.fax_files.specs.declared.Cause.TheVariants.{File, Strip}
 use Rattle.fax_files.specs.declared.PageForm.{PageForm}
 use Rattle.fax_files.specs.Page.{IsPageForm}
 use Rattle.fax_files.specs.PageRows.{strip_form}
-use Rattle.fax_files.specs.code.Chain.{ChainState}
-use Rattle.fax_files.specs.code.Tiff.{TiffDirectory, bytes_of}
+use Rattle.fax_files.specs.views.Chain.{ChainState}
+use Rattle.fax_files.specs.views.Tiff.{TiffDirectory, bytes_of}
 use Rattle.fax_walk.specs.declared.end.End.{End}
 use Rattle.fax_walk.specs.declared.end.End.TheVariants.{Fault, Outside}
 use Rattle.fax_walk.specs.declared.opening.OpenFault.{OpenFault}
@@ -30,7 +30,7 @@ use Rattle.fax_walk.specs.LongCursor.{LongPlace}
 use Rattle.fax_walk.specs.Rows.{Inner, Item, Place, IsRow, bits_before, exchanged, first_at, place_after, place_on, reference_of}
 use Rattle.fax_walk.specs.Rows.{IsInner, IsInnerOn, inner_at, long_at, row_in_strip, strip_at}
 use Rattle.fax_walk.specs.Pages.{IsPageAt}
-use Rattle.fax_walk.specs.InOrder.{LeadTo}
+use Rattle.fax_walk.specs.laws.InOrder.{LeadTo}
 use Rattle.fax_walk.specs.code.Opening.{IsFilePage, PageDue, page_with}
 use Rattle.fax_walk.specs.code.Stages.{GivesRow, HasSkipped, IsNoInner, IsNoPlace, IsNoStrip, IsRefusal, IsOpen, IsOpenedAt, IsSamePage}
 use Rattle.fax_walk.specs.code.Stages.{IsStripOf, KeepsPlace}

@@ -3,8 +3,8 @@ use Rattle.std.proofs.Common.{◌≡◌, ℕ, List, Option, Some, None, Result, 
 use Rattle.std.specs.Prelude.{slice_get}
 use Rattle.fax_files.specs.declared.FileFault.{FileFault}
 use Rattle.fax_files.specs.Chain.{IsChain}
-use Rattle.fax_files.specs.code.Chain.{ChainState, IsDueAnswer, answer_at}
-use Rattle.fax_files.specs.code.Tiff.{TiffFile, TiffDirectory, directory_of}
+use Rattle.fax_files.specs.views.Chain.{ChainState, IsDueAnswer, answer_at}
+use Rattle.fax_files.specs.views.Tiff.{TiffFile, TiffDirectory, directory_of}
 
 -- a directory that is answered stands at the place that is asked for
 answered : (tiff : TiffFile) (place : Option ℕ) (end : Option FileFault) (directory : TiffDirectory)

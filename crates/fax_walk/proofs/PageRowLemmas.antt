@@ -5,16 +5,17 @@ use Rattle.std.proofs.lemmas.Bool.{cases_lt}
 use Rattle.std.proofs.lemmas.Bool.Decides.{nat_tests}
 use Rattle.std.specs.Prelude.{if◌then◌else◌, nat_lt}
 use Rattle.fax_bits.specs.declared.Colour.{Colour}
-use Rattle.fax_bits.specs.Laws.{AreBitsByPlace}
+use Rattle.fax_bits.specs.laws.Codes.{AreBitsByPlace}
 use Rattle.fax_rows.specs.Elements.{other}
 use Rattle.fax_files.specs.declared.PageForm.{PageForm}
 use Rattle.fax_files.specs.declared.Endian.{Endian}
-use Rattle.fax_files.specs.PageRows.{AreStrips, strip_form, joined, shown}
-use Rattle.fax_files.specs.Laws.{IsWholeForm}
-use Rattle.fax_walk.specs.InOrder.{LeadTo}
+use Rattle.fax_files.specs.laws.Files.{AreStrips, joined, shown}
+use Rattle.fax_files.specs.PageRows.{strip_form}
+use Rattle.fax_files.specs.laws.Files.{IsWholeForm}
+use Rattle.fax_walk.specs.laws.InOrder.{LeadTo}
 use Rattle.fax_walk.specs.Pages.{IsPageAt}
 use Rattle.fax_walk.specs.Rows.{Place, first_at, IsRow}
-use Rattle.fax_walk.specs.WrittenLaws.{WalkedRow, walked, numbered}
+use Rattle.fax_walk.specs.laws.Written.{WalkedRow, walked, numbered}
 use Rattle.fax_walk.proofs.InOrderLemmas.{leads_both}
 use Rattle.fax_walk.proofs.StripPlaceLemmas.{shown_length, strip_count}
 use Rattle.fax_walk.proofs.StripRowLemmas.{AreRead, place_of, strip_rows}

@@ -5,14 +5,16 @@ use Rattle.std.proofs.lemmas.Bool.Decides.{nat_tests}
 use Rattle.std.proofs.lemmas.List.{drop_at, drop_all, length_push}
 use Rattle.std.specs.Prelude.{IfOk, IfErr, slice_get, nat_le, ◌==◌}
 use Rattle.fax_files.specs.declared.PageForm.{PageForm}
-use Rattle.fax_files.specs.code.Chain.{ChainState}
-use Rattle.fax_files.specs.code.Tiff.{TiffDirectory}
+use Rattle.fax_files.specs.views.Chain.{ChainState}
+use Rattle.fax_files.specs.views.Tiff.{TiffDirectory}
 use Rattle.fax_walk.specs.declared.cursor.Cursor.{Cursor}
 use Rattle.fax_walk.specs.declared.end.End.{End}
-use Rattle.fax_walk.specs.InOrder.{AreFrom, LeadTo, EndsAfter, HasToldNoOther}
+use Rattle.fax_walk.specs.InOrder.{AreFrom, EndsAfter, HasToldNoOther}
+use Rattle.fax_walk.specs.laws.InOrder.{LeadTo}
 use Rattle.fax_walk.specs.Pages.{FormItem, IsForm, AreFormsBegun, IsFormTail}
-use Rattle.fax_walk.specs.PagesLeft.{PagesView, AreFormsLeft, HandsOutPage}
-use Rattle.fax_walk.specs.PageLaws.{CursorsHaveOneFormTail, FormTailOfPage}
+use Rattle.fax_walk.specs.views.Pages.{PagesView, HandsOutPage}
+use Rattle.fax_walk.specs.laws.Forms.{AreFormsLeft}
+use Rattle.fax_walk.specs.laws.Tails.{CursorsHaveOneFormTail, FormTailOfPage}
 use Rattle.fax_walk.specs.code.Opening.{PageDue, IsPageDue, IsFilePage, IsChainBefore, IsNamed, EndsAt, page_with}
 use Rattle.fax_walk.specs.code.Pages.{HasGiven, IsPageAfter, BeginsWith, IsDueIn, EndsNow}
 use Rattle.fax_walk.proofs.InOrderLemmas.{joined, leads_on}

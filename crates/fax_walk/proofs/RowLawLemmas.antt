@@ -7,13 +7,13 @@ use Rattle.std.specs.Prelude.{if◌then◌else◌, nat_lt, ◌==◌}
 use Rattle.fax_bits.specs.declared.Colour.{Colour}
 use Rattle.fax_bits.specs.declared.Colour.TheVariants.{White, Black}
 use Rattle.fax_bits.specs.Bits.{bits}
-use Rattle.fax_bits.specs.Laws.{AreBitsByPlace}
+use Rattle.fax_bits.specs.laws.Codes.{AreBitsByPlace}
 use Rattle.fax_bits.specs.declared.FillOrder.{FillOrder}
 use Rattle.fax_rows.specs.Elements.{other, pels_of, runs_of}
 use Rattle.fax_page.specs.declared.StripForm.{StripForm}
 use Rattle.fax_page.specs.declared.StripFault.{StripFault}
 use Rattle.fax_page.specs.Lines.{IsLine, IsCause}
-use Rattle.fax_page.specs.Laws.{ReadsLinesOneWay}
+use Rattle.fax_page.specs.laws.Strips.{ReadsLinesOneWay}
 use Rattle.fax_files.specs.declared.FileFault.{FileFault}
 use Rattle.fax_files.specs.declared.FileFault.TheVariants.{StripOutside}
 use Rattle.fax_files.specs.declared.Cause.TheVariants.{File, Strip}
@@ -23,7 +23,7 @@ use Rattle.fax_files.specs.Chain.{IsChain}
 use Rattle.fax_files.specs.Page.{page}
 use Rattle.fax_files.specs.PageRows.{strip_form}
 use Rattle.fax_files.specs.StripBytes.{strip_bytes}
-use Rattle.fax_files.specs.Laws.{FilesHaveOneChain}
+use Rattle.fax_files.specs.laws.Files.{FilesHaveOneChain}
 use Rattle.fax_walk.specs.declared.begun.Begun.{Begun}
 use Rattle.fax_walk.specs.declared.begun.Begun.TheVariants.{At, Inside}
 use Rattle.fax_walk.specs.declared.end.End.{End}
@@ -33,7 +33,7 @@ use Rattle.fax_walk.specs.InOrder.{AreBegun}
 use Rattle.fax_walk.specs.Pages.{FilePage, IsPageAt}
 use Rattle.fax_walk.specs.Rows.{Item, Inner, Place, first_at, strip_at, row_in_strip, exchanged, bits_before, reference_of, place_after}
 use Rattle.fax_walk.specs.Rows.{IsItem, IsInStrip, cursor_at, IsRow, first_row, FitsStrip, IsInnerOn, inner_at, BeginsOn, begins_at}
-use Rattle.fax_walk.specs.PageLaws.{BeginningsHaveOneTail}
+use Rattle.fax_walk.specs.laws.Tails.{BeginningsHaveOneTail}
 use Rattle.fax_walk.proofs.InOrderLemmas.{IsOneAnswer, IsListed, one_begun}
 use Rattle.fax_walk.proofs.PageLawLemmas.{one_on_page, no_page, some_page, next_dropped}
 use Rattle.fax_walk.proofs.RestLemmas.{rest_at}

@@ -6,7 +6,7 @@ use Rattle.std.proofs.lemmas.Bool.{cases_lt}
 use Rattle.std.proofs.lemmas.List.{map-append}
 use Rattle.fax_bits.specs.declared.Colour.{Colour}
 use Rattle.fax_files.specs.declared.Cause.{Cause}
-use Rattle.fax_files.specs.PbmLaws.{AreOfWidth}
+use Rattle.fax_files.specs.laws.Pbm.{AreOfWidth}
 use Rattle.fax_walk.specs.declared.begun.Begun.TheVariants.{At}
 use Rattle.fax_walk.specs.declared.end.End.{End}
 use Rattle.fax_walk.specs.declared.end.End.TheVariants.{Proper, Fault, Outside}
@@ -18,11 +18,12 @@ use Rattle.fax_walk.specs.declared.walk.Place.{Place as RowPlace}
 use Rattle.fax_walk.specs.declared.output.Output.{Output}
 use Rattle.fax_walk.specs.declared.sheet.Sheet.{Sheet}
 use Rattle.fax_walk.specs.Cursor.{start}
-use Rattle.fax_walk.specs.InOrder.{EndsAfter, LeadTo}
-use Rattle.fax_walk.specs.Left.{IsItemNumber}
-use Rattle.fax_walk.specs.PageLaws.{TailOfStart}
+use Rattle.fax_walk.specs.InOrder.{EndsAfter}
+use Rattle.fax_walk.specs.laws.InOrder.{LeadTo}
+use Rattle.fax_walk.specs.views.Walk.{IsItemNumber}
+use Rattle.fax_walk.specs.laws.Tails.{TailOfStart}
 use Rattle.fax_walk.specs.Rows.{Item, Place, first_at, IsRow, IsTailFrom}
-use Rattle.fax_walk.specs.Left.{WalkView, IsNext}
+use Rattle.fax_walk.specs.views.Walk.{WalkView, IsNext}
 use Rattle.fax_walk.specs.code.Output.{IsPartWritten, PutsRow}
 use Rattle.fax_walk.specs.code.Sources.{part_of, PutsRows, pels_of, IsFaultAt, IsBeforePage, EndsWith, source_fault}
 use Rattle.fax_walk.proofs.InOrderLemmas.{IsOneAnswer, same_answer, same_step, leads_both}

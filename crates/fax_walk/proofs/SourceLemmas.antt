@@ -5,7 +5,7 @@ use Rattle.std.proofs.lemmas.List.{length-map, length-replicate}
 use Rattle.std.specs.Prelude.{if◌then◌else◌}
 use Rattle.fax_bits.specs.declared.Colour.{Colour}
 use Rattle.fax_bits.specs.declared.Colour.TheVariants.{White}
-use Rattle.fax_bits.specs.Laws.{AreBitsByPlace}
+use Rattle.fax_bits.specs.laws.Codes.{AreBitsByPlace}
 use Rattle.fax_rows.specs.Elements.{other}
 use Rattle.fax_files.specs.declared.FileFault.TheVariants.{StripOutside}
 use Rattle.fax_files.specs.declared.Cause.{Cause}
@@ -13,7 +13,7 @@ use Rattle.fax_files.specs.declared.Cause.TheVariants.{File, Strip}
 use Rattle.fax_files.specs.declared.PageForm.{PageForm}
 use Rattle.fax_files.specs.declared.Endian.{Endian}
 use Rattle.fax_files.specs.StripBytes.{strip_bytes}
-use Rattle.fax_files.specs.Laws.{IsWholeForm}
+use Rattle.fax_files.specs.laws.Files.{IsWholeForm}
 use Rattle.fax_walk.specs.declared.end.End.{End}
 use Rattle.fax_walk.specs.declared.end.End.TheVariants.{Fault}
 use Rattle.fax_walk.specs.Pages.{IsPageAt}

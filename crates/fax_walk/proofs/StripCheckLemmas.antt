@@ -7,7 +7,7 @@ use Rattle.std.proofs.lemmas.Bool.Decides.{nat_tests}
 use Rattle.std.specs.Prelude.{nat_lt, ◌==◌}
 use Rattle.fax_bits.specs.declared.Colour.{Colour}
 use Rattle.fax_bits.specs.Bits.{bits}
-use Rattle.fax_bits.specs.Laws.{AreBitsByPlace}
+use Rattle.fax_bits.specs.laws.Codes.{AreBitsByPlace}
 use Rattle.fax_page.specs.declared.StripFault.{StripFault}
 use Rattle.fax_page.specs.declared.notes.NotesFault.{NotesFault}
 use Rattle.fax_page.specs.declared.notes.NotesFault.TheVariants.{Memory, Strip as RowOfStrip}
@@ -18,14 +18,15 @@ use Rattle.fax_files.specs.declared.Cause.{Cause}
 use Rattle.fax_files.specs.declared.Cause.TheVariants.{File, Strip}
 use Rattle.fax_files.specs.declared.FileFault.TheVariants.{StripOutside}
 use Rattle.fax_files.specs.declared.PageForm.{PageForm}
-use Rattle.fax_files.specs.Laws.{IsWholeForm}
-use Rattle.fax_files.specs.PageRows.{strip_form, shown}
-use Rattle.fax_files.specs.code.Tiff.{TiffDirectory, bytes_of, form_of}
+use Rattle.fax_files.specs.laws.Files.{IsWholeForm}
+use Rattle.fax_files.specs.PageRows.{strip_form}
+use Rattle.fax_files.specs.laws.Files.{shown}
+use Rattle.fax_files.specs.views.Tiff.{TiffDirectory, bytes_of, form_of}
 use Rattle.fax_walk.specs.declared.checking.Note.{Note}
 use Rattle.fax_walk.specs.declared.checking.PageRead.{PageRead}
 use Rattle.fax_walk.specs.declared.end.End.{End}
 use Rattle.fax_walk.specs.declared.end.End.TheVariants.{Fault}
-use Rattle.fax_walk.specs.InOrder.{LeadTo}
+use Rattle.fax_walk.specs.laws.InOrder.{LeadTo}
 use Rattle.fax_walk.specs.Pages.{IsPageAt}
 use Rattle.fax_walk.specs.Rows.{Place, first_at, IsRow}
 use Rattle.fax_walk.specs.Report.{Checked, strip_of, after_strip, notes_on_strip, IsStripNoted, IsNoted}

@@ -10,7 +10,7 @@ use Rattle.fax_page.specs.declared.StripForm.{StripForm}
 use Rattle.fax_page.specs.declared.StripFault.{StripFault}
 use Rattle.fax_page.specs.Strip.{AreLines, IsStrip}
 use Rattle.fax_files.specs.declared.PageForm.{PageForm}
-use Rattle.fax_files.specs.PageRows.{shown}
+use Rattle.fax_files.specs.laws.Files.{shown}
 use Rattle.fax_walk.specs.Rows.{exchanged}
 
 -- row e of a page, row k of strip s

@@ -9,7 +9,7 @@ use Rattle.std.proofs.lemmas.Option.{slice_get_within}
 use Rattle.std.specs.Prelude.{slice_get, if◌then◌else◌, nat_lt, nat_le, ◌==◌, ◌&&◌}
 use Rattle.fax_bits.specs.declared.Colour.{Colour}
 use Rattle.fax_bits.specs.declared.Colour.TheVariants.{White}
-use Rattle.fax_bits.specs.Laws.{AreBitsByPlace}
+use Rattle.fax_bits.specs.laws.Codes.{AreBitsByPlace}
 use Rattle.fax_rows.specs.Elements.{pels_of, runs_of}
 use Rattle.fax_files.specs.declared.FileFault.{FileFault}
 use Rattle.fax_files.specs.declared.FileFault.TheVariants.{StripOutside}
@@ -19,7 +19,7 @@ use Rattle.fax_files.specs.declared.Endian.{Endian}
 use Rattle.fax_files.specs.Numbers.{Header, header}
 use Rattle.fax_files.specs.Page.{page}
 use Rattle.fax_files.specs.StripBytes.{strip_bytes}
-use Rattle.fax_files.specs.Laws.{FilesHaveOneChain, IsWholeForm, FormsAreWhole}
+use Rattle.fax_files.specs.laws.Files.{FilesHaveOneChain, IsWholeForm, FormsAreWhole}
 use Rattle.fax_walk.specs.declared.begun.Begun.{Begun}
 use Rattle.fax_walk.specs.declared.begun.Begun.TheVariants.{At, Inside}
 use Rattle.fax_walk.specs.declared.cursor.Cursor.{Cursor}
@@ -27,14 +27,15 @@ use Rattle.fax_walk.specs.declared.end.End.{End}
 use Rattle.fax_walk.specs.declared.end.End.TheVariants.{Fault, Outside, Proper}
 use Rattle.fax_walk.specs.Cursor.{start}
 use Rattle.fax_walk.specs.LongCursor.{LongPlace}
-use Rattle.fax_walk.specs.InOrder.{AreFrom, AreBegun, LeadTo}
-use Rattle.fax_walk.specs.Left.{EndsBefore}
+use Rattle.fax_walk.specs.InOrder.{AreFrom, AreBegun}
+use Rattle.fax_walk.specs.laws.InOrder.{LeadTo}
+use Rattle.fax_walk.specs.views.Walk.{EndsBefore}
 use Rattle.fax_walk.specs.Pages.{FilePage, IsPageUnder, IsPageAt, end_past_chain, page_over, page_or_end}
 use Rattle.fax_walk.specs.Rows.{AreItems, IsInnerOn, Item, Inner, Place, first_at, strip_at, row_in_strip, exchanged, reference_of}
 use Rattle.fax_walk.specs.Rows.{place_after, IsItem, IsInStrip, cursor_at, IsRow, first_row, IsInner, FitsStrip, inner_at, Begins}
 use Rattle.fax_walk.specs.Rows.{IsTailFrom, cursor_after, long_after}
-use Rattle.fax_walk.specs.PageLaws.{FilesHaveOneItems, ItemsStandByPlace, TailsEndAfter, TailOfStart, IsReachedPlace, TailsGoOn}
-use Rattle.fax_walk.specs.PageLaws.{LongTailsGoOn, PlacesAreReached, IsReached}
+use Rattle.fax_walk.specs.laws.Tails.{FilesHaveOneItems, ItemsStandByPlace, TailsEndAfter, TailOfStart, IsReachedPlace, TailsGoOn}
+use Rattle.fax_walk.specs.laws.Tails.{LongTailsGoOn, PlacesAreReached, IsReached}
 use Rattle.fax_walk.proofs.InOrderLemmas.{one_from, one_led, one_list, same_answer, same_step, leads_on, joined, kept}
 use Rattle.fax_walk.proofs.InOrderLemmas.{split_at_number as item_split}
 use Rattle.fax_walk.proofs.PageLawLemmas.{one_page}

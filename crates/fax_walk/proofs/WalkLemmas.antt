@@ -5,23 +5,25 @@ use Rattle.std.proofs.lemmas.Bool.{cases_lt}
 use Rattle.std.proofs.lemmas.List.{drop_all}
 use Rattle.std.specs.Prelude.{slice_get}
 use Rattle.fax_bits.specs.declared.Colour.{Colour}
-use Rattle.fax_bits.specs.Laws.{AreBitsByPlace}
+use Rattle.fax_bits.specs.laws.Codes.{AreBitsByPlace}
 use Rattle.fax_files.specs.Numbers.{header}
-use Rattle.fax_files.specs.Laws.{FilesHaveOneChain}
-use Rattle.fax_files.specs.code.Tiff.{TiffDirectory}
+use Rattle.fax_files.specs.laws.Files.{FilesHaveOneChain}
+use Rattle.fax_files.specs.views.Tiff.{TiffDirectory}
 use Rattle.fax_walk.specs.declared.begun.Begun.{Begun}
 use Rattle.fax_walk.specs.declared.cursor.Cursor.{Cursor}
 use Rattle.fax_walk.specs.declared.end.End.{End}
 use Rattle.fax_walk.specs.declared.end.End.TheVariants.{Proper, Fault, Outside}
 use Rattle.fax_walk.specs.declared.opening.OpenFault.{OpenFault}
 use Rattle.fax_walk.specs.declared.opening.OpenFault.TheVariants.{Memory, Ended}
-use Rattle.fax_walk.specs.InOrder.{AreFrom, LeadTo, EndsAfter, HasToldNoOther, IsLeftOf}
+use Rattle.fax_walk.specs.InOrder.{AreFrom, EndsAfter, HasToldNoOther}
+use Rattle.fax_walk.specs.laws.InOrder.{LeadTo, IsLeftOf}
 use Rattle.fax_walk.specs.Pages.{IsPageAt}
 use Rattle.fax_walk.specs.LongCursor.{LongPlace}
-use Rattle.fax_walk.specs.Left.{AreRead, EndsBefore, EntersPage, HasEndedAs, HandsOut, IsCursorOf, IsItemNumber, IsLeft, IsLongOf, IsNext}
-use Rattle.fax_walk.specs.Left.{WalkView}
+use Rattle.fax_walk.specs.views.Walk.{AreRead, EndsBefore, EntersPage, HasEndedAs, HandsOut, IsCursorOf, IsItemNumber, IsLongOf, IsNext}
+use Rattle.fax_walk.specs.laws.Left.{IsLeft}
+use Rattle.fax_walk.specs.views.Walk.{WalkView}
 use Rattle.fax_walk.specs.Rows.{IsRow, IsTailFrom, Item, Place, begins_at, first_at, long_at, place_after}
-use Rattle.fax_walk.specs.PageLaws.{BeginningsHaveOneTail}
+use Rattle.fax_walk.specs.laws.Tails.{BeginningsHaveOneTail}
 use Rattle.fax_walk.specs.code.Opening.{page_with}
 use Rattle.fax_walk.specs.code.Stages.{GivesNone, GivesRow, IsOpen, IsOpenedAt, PageState, place_of, row_of, skipped}
 use Rattle.fax_walk.specs.declared.end.WalkFault.{WalkFault}

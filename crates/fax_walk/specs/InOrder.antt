@@ -10,13 +10,6 @@ AreFrom next at [] end = next at (Err end)
 AreFrom {S} next at (item ∷ items) end =
     (to : S) × next at (Ok (item, to)) × AreFrom next to items end
 
--- these items are read from a place on, and the last of them leads to this place
--- (this project's profile)
-abbrev pub LeadTo : {S A : Type 0} → (S → Result (A × S) End → Type 0) → S → List A → S → Type 0
-LeadTo next at [] to = to ≡ at
-LeadTo {S} next at (item ∷ items) to =
-    (place : S) × next at (Ok (item, place)) × LeadTo next place items to
-
 -- the same from a beginning: a place and how many items are read and dropped there, or the end
 -- (this project's profile)
 abbrev pub AreBegun : {S A : Type 0} → (S → Result (A × S) End → Type 0) → Result (S × ℕ) End
@@ -38,25 +31,3 @@ EndsAfter {A} tail n end = (all : List A) × tail all end × (length all ≡ n)
 abbrev pub HasToldNoOther : Option End → End → Type 0
 HasToldNoOther None end = Unit {0}
 HasToldNoOther (Some told) end = told ≡ end
-
--- no end was told yet, or it was, and nothing is left but that end (this project's profile)
-abbrev pub IsTold : {A : Type 0} → Option End → List A → End → Type 0
-IsTold None items end = Unit {0}
-IsTold (Some told) items end = (items ≡ []) × (end ≡ told)
-
--- what is left where so many items were handed out, and this end was told, if one was
--- (this project's profile)
-pub record IsLeftOf {A : Type 0} (tail : List A → End → Type 0) (given : ℕ) (told : Option End)
-    (items : List A) (end : End) : Type 0 where
-  pub all : List A
-  pub is : tail all end
-  pub within : given ≤ length all
-  pub rest : items ≡ drop given all
-  pub is_told : IsTold told items end
-
--- there is one list of which this holds, with one end (this project's profile)
-pub record IsOne {A : Type 0} (holds : List A → End → Type 0) : Type 0 where
-  pub items : List A
-  pub end : End
-  pub is : holds items end
-  pub one : (others : List A) (other : End) → holds others other → (others ≡ items) × (other ≡ end)

@@ -2,7 +2,6 @@
 pub mod Opening
 pub mod Stages
 pub mod Walk
-pub mod Lent
 pub mod LongText
 pub mod Pages
 pub mod Conversion

@@ -14,7 +14,7 @@ pub enum Begun {
 
 impl Begun {
     ghost use Rattle.std.specs.Prelude.{◌≡◌, IfOk};
-    ghost use Rattle.fax_walk.specs.Left.{begins_inside};
+    ghost use Rattle.fax_walk.specs.views.Walk.{begins_inside};
     ghost use Rattle.fax_walk.specs.Rows.{begins_at};
 
     /// The cursor of what it begins with.

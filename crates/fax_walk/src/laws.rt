@@ -2,11 +2,11 @@
 //! contract.
 ghost use Rattle.std.specs.Prelude.{List};
 ghost use Rattle.fax_walk.specs.Pages.{FormItem};
-ghost use Rattle.fax_walk.specs.PagesLeft.{AreFormsLeft};
-ghost use Rattle.fax_walk.specs.PageLaws as PageLaws;
-ghost use Rattle.fax_walk.specs.Left.{IsLeft};
+ghost use Rattle.fax_walk.specs.laws.Forms.{AreFormsLeft};
+ghost use Rattle.fax_walk.specs.laws.Tails as PageLaws;
+ghost use Rattle.fax_walk.specs.laws.Left.{IsLeft};
 ghost use Rattle.fax_walk.specs.Rows.{Item};
-ghost use Rattle.fax_walk.specs.WrittenLaws as WrittenLaws;
+ghost use Rattle.fax_walk.specs.laws.Written as WrittenLaws;
 ghost use Rattle.fax_walk.specs.declared.end.End.{End};
 
 use crate::{Pages, Walk};

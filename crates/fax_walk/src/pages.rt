@@ -34,7 +34,7 @@ pub struct Pages<'a> {
 }
 
 impl<'a> Model for Pages<'a> {
-    ghost use Rattle.fax_walk.specs.PagesLeft.{PagesView};
+    ghost use Rattle.fax_walk.specs.views.Pages.{PagesView};
     ghost use Rattle.fax_walk.specs.code.Pages.{IsSoundReader, told_of};
 
     ghost Value = { PagesView };
@@ -80,7 +80,8 @@ fn first_page<'a>(file: &'a [u8], cursor: Cursor) -> Result<DuePage<'a>, End>
 }
 
 impl<'a> Pages<'a> {
-    ghost use Rattle.fax_walk.specs.PagesLeft.{AreFormsLeft, IsNextPage, pages_from, pages_start};
+    ghost use Rattle.fax_walk.specs.laws.Forms.{AreFormsLeft};
+    ghost use Rattle.fax_walk.specs.views.Pages.{IsNextPage, pages_from, pages_start};
 
     /// A reader of all pages of a file, from any bytes. Nothing is read yet.
     pub fn start(file: &'a [u8]) -> Self

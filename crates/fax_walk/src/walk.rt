@@ -2,7 +2,8 @@
 ghost use Rattle.std.specs.Prelude.{◌≡◌, List, None, IfErr, IfOk};
 ghost use Rattle.std.specs.Borrow.{sem};
 ghost use Rattle.fax_walk.specs.declared.begun.Begun.TheVariants.{At, Inside};
-ghost use Rattle.fax_walk.specs.Left.{IsLeft, walk_from};
+ghost use Rattle.fax_walk.specs.laws.Left.{IsLeft};
+ghost use Rattle.fax_walk.specs.views.Walk.{walk_from};
 ghost use Rattle.fax_walk.specs.Rows.{Item};
 ghost use Rattle.fax_walk.specs.code.Stages.{IsRefusal};
 ghost use Rattle.fax_walk.specs.code.Walk as Spec;
@@ -39,7 +40,7 @@ pub struct Walk<'a> {
 }
 
 impl<'a> Model for Walk<'a> {
-    ghost use Rattle.fax_walk.specs.Left.{WalkView};
+    ghost use Rattle.fax_walk.specs.views.Walk.{WalkView};
     ghost use Rattle.fax_walk.specs.code.Walk.{IsSound};
 
     ghost Value = { WalkView };
@@ -136,8 +137,8 @@ fn answer_of(end: End) -> Result<bool, WalkFault>
 }
 
 impl<'a> Walk<'a> {
-    ghost use Rattle.fax_walk.specs.code.Lent.{EndsAs};
-    ghost use Rattle.fax_walk.specs.Left.{IsNext, IsCursorOf, IsLongOf, AreRead, walk_start};
+    ghost use Rattle.fax_walk.specs.views.Lent.{EndsAs};
+    ghost use Rattle.fax_walk.specs.views.Walk.{IsNext, IsCursorOf, IsLongOf, AreRead, walk_start};
 
     /// A walk over all rows of a file, from any bytes. Nothing is read yet.
     pub fn start(alloc: Global, file: &'a [u8]) -> Self

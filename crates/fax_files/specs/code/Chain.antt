@@ -9,7 +9,7 @@ use Rattle.fax_files.specs.declared.chain.Search.{Search}
 use Rattle.fax_files.specs.declared.chain.Search.TheVariants.{Running, Known}
 use Rattle.fax_files.specs.Directory.{is_directory, next_offset}
 use Rattle.fax_files.specs.Chain.{IsChain}
-use Rattle.fax_files.specs.code.Tiff.{TiffFile, TiffDirectory, directory_of}
+use Rattle.fax_files.specs.views.Tiff.{TiffFile, TiffDirectory, directory_of}
 
 -- the offset that stands i places after this one, directory by directory
 abbrev pub link : Endian → List ℕ → ℕ → ℕ → ℕ
@@ -68,11 +68,6 @@ IsTurningPage tiff page =
     (offsets : List ℕ) (end : Option FileFault) → IsChain tiff.head tiff.file offsets end
     → page ≡ turning_page end (length offsets)
 
--- a reader of a file's chain: the file, and how many directories were handed out
-pub record ChainState : Type 0 where
-  pub tiff : TiffFile
-  pub given : ℕ
-
 -- a reader's fields: the offset that is due stands after the directories handed out, which are the
 -- first of the chain, and it is known at which page the chain turns back
 pub record IsChainPlace (tiff : TiffFile) (due given : ℕ) (turn : Option ℕ) : Type 0 where
@@ -81,30 +76,6 @@ pub record IsChainPlace (tiff : TiffFile) (due given : ℕ) (turn : Option ℕ) 
       → given ≤ length offsets
   pub turn_is : IsTurningPage tiff turn
   pub few : HasFewPages tiff
-
--- a directory of this file
-abbrev pub IsDirectoryOf : TiffFile → TiffDirectory → Type 0
-IsDirectoryOf tiff directory = directory ≡ directory_of tiff directory.offset
-
--- what a chain has at a place: a directory, or its end
-abbrev pub answer_at : TiffFile → Option ℕ → Option FileFault
-    → Result (Option TiffDirectory) FileFault
-answer_at tiff (Some q) end = Ok (Some (directory_of tiff q))
-answer_at tiff None None = Ok None
-answer_at tiff None (Some fault) = Err fault
-
--- the answer of a reader is the directory of the chain that stands after those handed out, or else
--- the end of the chain
-abbrev pub IsDueAnswer : ChainState → Result (Option TiffDirectory) FileFault → Type 0
-IsDueAnswer chain answer =
-    (offsets : List ℕ) (end : Option FileFault)
-    → IsChain chain.tiff.head chain.tiff.file offsets end
-    → answer ≡ answer_at chain.tiff (slice_get offsets chain.given) end
-
--- a reader after its answer: one directory on, or as it was
-abbrev pub behind_answer : ChainState → Result (Option TiffDirectory) FileFault → ChainState
-behind_answer chain (Ok (Some directory)) = record chain { given = chain.given + 1 }
-behind_answer chain _ = chain
 
 -- A search runs at twice the reader's place, and did not meet it yet, or it is known at which page
 -- the chain turns back

@@ -9,18 +9,7 @@ use Rattle.fax_files.specs.Written.{Written, with_page, max_file, to_offsets, fo
 use Rattle.fax_files.specs.Written.{WrittenPage, with_pages, empty_file, file_of}
 use Rattle.fax_files.specs.Written.{WrittenField, fields_with, fields_bytes, values_bytes}
 use Rattle.fax_files.specs.Written.{offsets_from, lengths_of}
-
--- the bytes of vectors
-abbrev pub contents : List (Vec ℕ Global) → List (List ℕ)
-contents [] = []
-contents (bytes ∷ others) = bytes.items ∷ contents others
-
--- a file that is being written: its bytes and its last link, of how many pages, and how many were
--- added
-pub record Writing : Type 0 where
-  pub written : Written
-  pub total : ℕ
-  pub added : ℕ
+use Rattle.fax_files.specs.views.Writing.{Writing, contents, with_one_more}
 
 -- the fields of a page where it is laid out so
 abbrev pub laid_out_fields : Layout → PageForm → List WrittenField
@@ -41,19 +30,6 @@ pub record IsWriting (bytes : List ℕ) (link : ℕ) : Type 0 where
   pub link_inside : link + 4 ≤ length bytes
   pub limit : length bytes ≤ max_file
 
--- a file that is being written, with one more page
-abbrev pub with_one_more : Writing → PageForm → List (Vec ℕ Global) → Writing
-with_one_more old form strips = record {
-  written = with_page old.written old.total old.added form (contents strips);
-  total = old.total;
-  added = old.added + 1;
-}
-
--- how many bytes the file would have with one more page
-abbrev pub length_with : Writing → PageForm → List (Vec ℕ Global) → ℕ
-length_with old form strips =
-    length (with_page old.written old.total old.added form (contents strips)).bytes
-
 -- how many bytes a file has whose last page has its directory at this place, and so many strips
 abbrev pub page_end : ℕ → ℕ → ℕ
 page_end directory strips = directory + to_offsets + (if strips == 1 then 0 else (8 * strips))
@@ -67,24 +43,3 @@ pub record IsLayout (at : Layout) (strips start end number total : ℕ) : Type 0
   pub offsets_are : at.offsets ≡ (if strips == 1 then start else (at.directory + to_offsets))
   pub byte_counts_are : at.byte_counts
       ≡ (if strips == 1 then (end - start) else (at.directory + to_offsets + 4 * strips))
-
--- these pages of so many were added, and no more
-abbrev pub HasAdded : ℕ → List WrittenPage → Writing → Type 0
-HasAdded total pages writing =
-    writing ≡ record {
-      written = with_pages empty_file total 0 pages;
-      total = total;
-      added = length pages;
-    }
-
--- a writer that adds pages one after another, from its beginning on, gives the bytes of their file
-pub record WritesPageByPage : Type 0 where
-  pub begins : (total : ℕ)
-      → HasAdded total [] (record { written = empty_file; total = total; added = 0 })
-  pub goes_on : (total : ℕ) (pages : List WrittenPage) (old : Writing) (form : PageForm)
-      (strips : List (Vec ℕ Global)) → HasAdded total pages old
-      → HasAdded total (pages ++ record { form = form; strips = contents strips } ∷ [])
-      (with_one_more old form strips)
-  pub finishes : (total : ℕ) (pages : List WrittenPage) (writing : Writing)
-      → HasAdded total pages writing → writing.added ≡ writing.total
-      → writing.written.bytes ≡ file_of pages

@@ -3,7 +3,7 @@ use Rattle.std.specs.Prelude.{◌≡◌, ◌≢◌, ℕ, ◌+◌, ◌⊎◌, ◌
 use Rattle.std.specs.Prelude.{Option, Some, None, IsTrue, ⊤}
 use Rattle.std.specs.List.{Contains}
 use Rattle.fax_bits.specs.declared.Colour.{Colour}
-use Rattle.fax_bits.specs.code.Source.{Source}
+use Rattle.fax_bits.specs.views.Source.{Source}
 use Rattle.fax_page.specs.declared.Coding.{Coding}
 use Rattle.fax_page.specs.declared.Coding.TheVariants.{Mmr}
 use Rattle.fax_page.specs.declared.StripForm.{StripForm}

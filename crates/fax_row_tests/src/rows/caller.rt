@@ -1,6 +1,6 @@
 //! The caller that `CALLING.md` shows, and a run of it.
 ghost use Rattle.std.specs.Prelude.{◌≡◌, ℕ, ◌<◌, ◌^◌, List, replicate, OnOk};
-ghost use Rattle.fax_bits.specs.code.Sink.{Appends};
+ghost use Rattle.fax_bits.specs.views.Sink.{Appends};
 ghost use Rattle.fax_rows.specs.Coded.{two_dimensional_bits};
 ghost use Rattle.fax_rows.specs.OneDimensional.{IsOneDimensionalRow};
 

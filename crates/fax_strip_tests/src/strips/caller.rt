@@ -2,7 +2,8 @@
 ghost use Rattle.std.specs.Prelude.{◌≡◌, ◌<◌, ◌≤◌, length, List, IfOk};
 ghost use Rattle.fax_bits.specs.Bits.{bits};
 ghost use Rattle.fax_bits.specs.declared.Colour.{Colour};
-ghost use Rattle.fax_page.specs.CodedStrip.{coded_strip, AreRowsOf};
+ghost use Rattle.fax_page.specs.CodedStrip.{coded_strip};
+ghost use Rattle.fax_page.specs.laws.Strips.{AreRowsOf};
 ghost use Rattle.fax_page.specs.Strip.{IsStrip, IsStripForm};
 
 use fax_page::laws::{strips_are_read_row_by_row, strips_are_written_row_by_row};

@@ -1,6 +1,14 @@
 -- What the adapters over std's streams hold.
 use Rattle.fax_tool.specs.declared.streams.FromRead.{FromRead}
 use Rattle.fax_tool.specs.declared.streams.ToWrite.{ToWrite}
+use Rattle.std.specs.Prelude.{◌≡◌, ◌≢◌, ℕ, ◌+◌, ◌-◌, ◌^◌, ◌<◌, min, List, length, take, Option}
+use Rattle.std.specs.Prelude.{Some}
+use Rattle.std.specs.Prelude.{None, ⊤, Result, Ok, Err}
+use Rattle.std.specs.Io.KnownBytes.{Appends, Consumes, IsAtEnd, Keeps}
+use Rattle.std.specs.declared.io.ErrorKind.{ErrorKind}
+use Rattle.std.specs.declared.io.ErrorKind.TheVariants.{Interrupted as WasInterrupted}
+use Rattle.fax_tool.specs.declared.streams.StreamFault.{StreamFault}
+use Rattle.fax_tool.specs.declared.streams.StreamFault.TheVariants.{Interrupted, Failed}
 
 -- the reader after a source
 abbrev pub reader_of : {R : Type 0} → FromRead R → R
@@ -9,3 +17,9 @@ reader_of source = source.reader
 -- the writer after a sink
 abbrev pub writer_of : {W : Type 0} → ToWrite W → W
 writer_of sink = sink.writer
+
+-- the fault of a call that std answers with an error of this kind: interrupted calls alone may be
+-- made again (this project's profile)
+abbrev pub IsFaultOf : ErrorKind → StreamFault → Type 0
+IsFaultOf kind Interrupted = kind ≡ WasInterrupted
+IsFaultOf kind Failed = kind ≢ WasInterrupted

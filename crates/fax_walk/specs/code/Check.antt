@@ -6,12 +6,13 @@ use Rattle.fax_page.specs.declared.notes.NotesFault.TheVariants.{Memory, Strip}
 use Rattle.fax_files.specs.declared.Cause.{Cause}
 use Rattle.fax_files.specs.declared.Cause.TheVariants.{Strip as FaultOfStrip}
 use Rattle.fax_files.specs.declared.PageForm.{PageForm}
-use Rattle.fax_files.specs.code.Tiff.{TiffDirectory, form_of}
+use Rattle.fax_files.specs.views.Tiff.{TiffDirectory, form_of}
 use Rattle.fax_walk.specs.declared.checking.Note.{Note}
 use Rattle.fax_walk.specs.declared.checking.PageRead.{PageRead}
 use Rattle.fax_walk.specs.declared.end.End.{End}
 use Rattle.fax_walk.specs.declared.end.End.TheVariants.{Fault}
-use Rattle.fax_walk.specs.InOrder.{AreFrom, LeadTo}
+use Rattle.fax_walk.specs.InOrder.{AreFrom}
+use Rattle.fax_walk.specs.laws.InOrder.{LeadTo}
 use Rattle.fax_walk.specs.Pages.{IsPageAt, page_or_end}
 use Rattle.fax_walk.specs.Rows.{Item, Place, first_at, IsRow}
 use Rattle.fax_walk.specs.Report.{Checked, directory_at, strip_of, IsNoted}

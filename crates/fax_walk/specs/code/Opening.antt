@@ -6,8 +6,8 @@ use Rattle.fax_files.specs.declared.PageForm.{PageForm}
 use Rattle.fax_files.specs.Numbers.{header}
 use Rattle.fax_files.specs.Chain.{IsChain}
 use Rattle.fax_files.specs.Page.{IsPageForm}
-use Rattle.fax_files.specs.code.Chain.{ChainState}
-use Rattle.fax_files.specs.code.Tiff.{TiffDirectory, form_of}
+use Rattle.fax_files.specs.views.Chain.{ChainState}
+use Rattle.fax_files.specs.views.Tiff.{TiffDirectory, form_of}
 use Rattle.fax_walk.specs.declared.cursor.Cursor.{Cursor}
 use Rattle.fax_walk.specs.declared.end.End.{End}
 use Rattle.fax_walk.specs.declared.end.End.TheVariants.{Proper, Outside}

@@ -9,9 +9,9 @@ use Rattle.fax_page.specs.declared.Coding.TheVariants.{Mh, Mr, Mmr}
 use Rattle.fax_files.specs.declared.PageForm.{PageForm}
 use Rattle.fax_files.specs.Page.{IsGoodRational, strip_count}
 use Rattle.fax_files.specs.Pbm.{head_bytes, pbm_of}
-use Rattle.fax_files.specs.PbmLaws.{AreOfWidth}
+use Rattle.fax_files.specs.laws.Pbm.{AreOfWidth}
 use Rattle.fax_files.specs.Written.{empty_file, with_pages, max_file}
-use Rattle.fax_files.specs.code.Writing.{Writing}
+use Rattle.fax_files.specs.views.Writing.{Writing}
 use Rattle.fax_walk.specs.declared.options.Options.{Options}
 use Rattle.fax_walk.specs.declared.options.Target.{Target}
 use Rattle.fax_walk.specs.declared.options.Target.TheVariants.{Pbm, Mh as ToMh, Mr as ToMr}
@@ -44,16 +44,6 @@ image_sheet width rows = record { width = width; rows = rows; x = (204, 1); y = 
 abbrev pub form_sheet : PageForm → Sheet
 form_sheet form =
     record { width = form.width; rows = form.rows; x = form.x; y = form.y; unit = form.unit }
-
--- the sheet of a page that is converted
-abbrev pub sheet_of : SourcePage → Sheet
-sheet_of source = record {
-  width = source.image.width;
-  rows = length source.image.rows;
-  x = source.resolution.x;
-  y = source.resolution.y;
-  unit = source.resolution.unit;
-}
 
 -- the form of a sheet's page as it is written
 abbrev pub sheet_form : Options → Coding → Sheet → PageForm

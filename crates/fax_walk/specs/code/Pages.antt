@@ -1,13 +1,14 @@
 -- How far a reader of a file's pages has come.
 use Rattle.std.specs.Prelude.{◌≡◌, ℕ, ◌≤◌, List, length, Option, Some, None, Ok}
-use Rattle.fax_files.specs.code.Chain.{ChainState}
+use Rattle.fax_files.specs.views.Chain.{ChainState}
 use Rattle.fax_walk.specs.declared.cursor.Cursor.{Cursor}
 use Rattle.fax_walk.specs.declared.end.End.{End}
 use Rattle.fax_walk.specs.declared.pages.PagesStage.{PagesStage}
 use Rattle.fax_walk.specs.declared.pages.PagesStage.TheVariants.{Before, After, Ended}
-use Rattle.fax_walk.specs.InOrder.{LeadTo, EndsAfter, HasToldNoOther}
+use Rattle.fax_walk.specs.laws.InOrder.{LeadTo}
+use Rattle.fax_walk.specs.InOrder.{EndsAfter, HasToldNoOther}
 use Rattle.fax_walk.specs.Pages.{FormItem, IsForm, AreFormsBegun, IsFormTail}
-use Rattle.fax_walk.specs.PagesLeft.{PagesView, IsTailOf}
+use Rattle.fax_walk.specs.views.Pages.{PagesView, IsTailOf}
 use Rattle.fax_walk.specs.code.Opening.{PageDue, IsChainBefore}
 
 -- how the pages ended, once that was told

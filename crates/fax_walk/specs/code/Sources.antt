@@ -3,7 +3,7 @@ use Rattle.std.specs.Prelude.{◌≡◌, ℕ, ◌+◌, ◌<◌, ◌⊎◌, List,
 use Rattle.fax_bits.specs.declared.Colour.{Colour}
 use Rattle.fax_files.specs.declared.Cause.{Cause}
 use Rattle.fax_files.specs.Pbm.{Image, AreImages, raster_rows}
-use Rattle.fax_files.specs.PbmLaws.{AreOfWidth}
+use Rattle.fax_files.specs.laws.Pbm.{AreOfWidth}
 use Rattle.fax_walk.specs.declared.begun.Begun.TheVariants.{At}
 use Rattle.fax_walk.specs.declared.end.End.{End}
 use Rattle.fax_walk.specs.declared.end.End.TheVariants.{Fault}
@@ -16,12 +16,13 @@ use Rattle.fax_walk.specs.declared.options.ConvertFault.TheVariants.{Source, Mem
 use Rattle.fax_walk.specs.declared.output.Output.{Output}
 use Rattle.fax_walk.specs.declared.sheet.Sheet.{Sheet}
 use Rattle.fax_walk.specs.Cursor.{start}
-use Rattle.fax_walk.specs.InOrder.{LeadTo, EndsAfter}
+use Rattle.fax_walk.specs.laws.InOrder.{LeadTo}
+use Rattle.fax_walk.specs.InOrder.{EndsAfter}
 use Rattle.fax_walk.specs.Pages.{FormItem, IsForm, AreForms}
 use Rattle.fax_walk.specs.Rows.{Item, Place, first_at, IsRow, AreItems}
 use Rattle.fax_walk.specs.Converted.{SourcePage, page_of_image, page_of_form}
-use Rattle.fax_walk.specs.Left.{WalkView}
-use Rattle.fax_walk.specs.PagesLeft.{PagesView}
+use Rattle.fax_walk.specs.views.Walk.{WalkView}
+use Rattle.fax_walk.specs.views.Pages.{PagesView}
 use Rattle.fax_walk.specs.code.Output.{Progress, Part, no_rows, image_sheet, IsPartWritten}
 use Rattle.fax_walk.specs.code.Output.{IsWrittenTo}
 

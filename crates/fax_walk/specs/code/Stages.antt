@@ -7,20 +7,20 @@ use Rattle.fax_bits.specs.declared.Colour.TheVariants.{White}
 use Rattle.fax_rows.specs.Elements.{pels_of}
 use Rattle.fax_page.specs.declared.StripForm.{StripForm}
 use Rattle.fax_page.specs.Strip.{white_row}
-use Rattle.fax_page.specs.code.Reader.{StripState}
+use Rattle.fax_page.specs.views.Reader.{StripState}
 use Rattle.fax_files.specs.declared.PageForm.{PageForm}
 use Rattle.fax_files.specs.declared.Cause.{Cause}
 use Rattle.fax_files.specs.Page.{IsPageForm}
 use Rattle.fax_files.specs.PageRows.{strip_form}
-use Rattle.fax_files.specs.code.Chain.{ChainState}
-use Rattle.fax_files.specs.code.Tiff.{TiffDirectory, PageStrips, bytes_of}
+use Rattle.fax_files.specs.views.Chain.{ChainState}
+use Rattle.fax_files.specs.views.Tiff.{TiffDirectory, PageStrips, bytes_of}
 use Rattle.fax_walk.specs.declared.cursor.Cursor.{Cursor}
 use Rattle.fax_walk.specs.declared.end.End.{End}
 use Rattle.fax_walk.specs.declared.end.End.TheVariants.{Fault, Outside}
 use Rattle.fax_walk.specs.declared.opening.OpenFault.{OpenFault}
 use Rattle.fax_walk.specs.declared.opening.OpenFault.TheVariants.{Memory, Ended}
 use Rattle.fax_walk.specs.LongCursor.{LongPlace}
-use Rattle.fax_walk.specs.InOrder.{LeadTo}
+use Rattle.fax_walk.specs.laws.InOrder.{LeadTo}
 use Rattle.fax_walk.specs.Pages.{IsPageAt}
 use Rattle.fax_walk.specs.Rows.{Item, Place, IsInner, IsInnerOn, IsRow, place_on, place_after}
 use Rattle.fax_walk.specs.Rows.{first_at, inner_at, strip_at}

@@ -10,12 +10,13 @@ use Rattle.fax_walk.specs.declared.end.WalkFault.{WalkFault}
 use Rattle.fax_walk.specs.declared.end.WalkFault.TheVariants.{Memory, AtRow, CursorOutside}
 use Rattle.fax_walk.specs.declared.opening.OpenFault.{OpenFault}
 use Rattle.fax_walk.specs.declared.opening.OpenFault.TheVariants.{Memory as NoMemory, Ended}
-use Rattle.fax_walk.specs.InOrder.{LeadTo}
+use Rattle.fax_walk.specs.laws.InOrder.{LeadTo}
 use Rattle.fax_walk.specs.Pages.{FilePage, IsPageAt}
 use Rattle.fax_walk.specs.Rows.{Item, Place, Begins, IsRow, IsTailFrom, begins_at, cursor_after}
 use Rattle.fax_walk.specs.Rows.{place_after}
-use Rattle.fax_walk.specs.Left.{WalkView, IsItemNumber, EntersPage, HasEndedAs, AreRead, EndsBefore}
-use Rattle.fax_walk.specs.Left.{walk_from}
+use Rattle.fax_walk.specs.views.Walk.{WalkView, IsItemNumber, EntersPage, HasEndedAs, AreRead}
+use Rattle.fax_walk.specs.views.Walk.{EndsBefore}
+use Rattle.fax_walk.specs.views.Walk.{walk_from}
 use Rattle.fax_walk.specs.code.Stages.{PageState, row_of, skipped, place_of, IsOpen, IsOpenedAt}
 use Rattle.fax_walk.specs.code.Stages.{IsOpenedFrom, IsRefusal}
 

@@ -1,8 +1,8 @@
 use Rattle.std.proofs.Common.{◌≡◌, ap, sym, ◌∙◌, subst}
 use Rattle.std.proofs.lemmas.Result.{on_ok_weaker}
 use Rattle.fax_bits.specs.Bits.{code_bits}
-use Rattle.fax_bits.specs.Codes.{bits_at}
-use Rattle.fax_bits.specs.code.Sink.{Appends}
+use Rattle.fax_bits.specs.code.Codes.{bits_at}
+use Rattle.fax_bits.specs.views.Sink.{Appends}
 use Rattle.fax_bits.proofs.RunCodeLemmas.{bits_at-found}
 use Rattle.fax_bits.proofs.put.put_code.Goals as goal
 

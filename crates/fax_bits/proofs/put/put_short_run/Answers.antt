@@ -1,6 +1,6 @@
 use Rattle.std.proofs.Common.{subst}
 use Rattle.std.proofs.lemmas.Result.{on_ok_weaker, on_err_weaker}
-use Rattle.fax_bits.specs.code.Sink.{Appends}
+use Rattle.fax_bits.specs.views.Sink.{Appends}
 use Rattle.fax_bits.proofs.PutLemmas.{short_bits, none_put}
 use Rattle.fax_bits.proofs.put.put_short_run.Goals as goal
 

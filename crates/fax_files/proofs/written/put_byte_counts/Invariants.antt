@@ -1,6 +1,6 @@
 use Rattle.std.proofs.Common.{◌≡◌, ◌++◌, take}
 use Rattle.fax_files.specs.Written.{longs, lengths_of}
-use Rattle.fax_files.specs.code.Writing.{contents}
+use Rattle.fax_files.specs.views.Writing.{contents}
 use Rattle.fax_files.proofs.written.put_byte_counts.Given as goal
 
 abbrev pub invariant-loop-strip : goal.invariant-loop-strip

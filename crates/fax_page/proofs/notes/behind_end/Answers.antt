@@ -1,5 +1,5 @@
 use Rattle.std.proofs.Common.{sym, ◌∙◌, ap}
-use Rattle.fax_bits.specs.code.Source.{Source}
+use Rattle.fax_bits.specs.views.Source.{Source}
 use Rattle.fax_page.proofs.EndLemmas.{eols_end, block_end, no_block_end}
 use Rattle.fax_page.proofs.notes.behind_end.Goals as goal
 

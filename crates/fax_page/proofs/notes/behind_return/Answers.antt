@@ -1,5 +1,5 @@
 use Rattle.std.proofs.Common.{◌≡◌, arith, sym, subst}
-use Rattle.fax_bits.specs.code.Source.{Source}
+use Rattle.fax_bits.specs.views.Source.{Source}
 use Rattle.fax_page.specs.code.Notes.{AreEolsTaken}
 use Rattle.fax_page.proofs.EndLemmas.{none_taken, one_taken, one_missing, all_taken}
 use Rattle.fax_page.proofs.notes.behind_return.Goals as goal

@@ -1,7 +1,7 @@
 use Rattle.std.proofs.Common.{◌≡◌, ◌++◌, ◌↔◌, length, IsTrue, subst, ◌∙◌, ap, arith}
-use Rattle.fax_bits.specs.code.Sink.{Sink}
-use Rattle.fax_bits.specs.code.Source.{Source, BeginsWith}
-use Rattle.fax_rows.specs.Elements.{HasWidth}
+use Rattle.fax_bits.specs.views.Sink.{Sink}
+use Rattle.fax_bits.specs.views.Source.{Source, BeginsWith}
+use Rattle.fax_rows.specs.laws.Rows.{HasWidth}
 use Rattle.fax_page.specs.Lines.{IsRowIn}
 use Rattle.fax_page.specs.CodedStrip.{row_bits}
 use Rattle.fax_page.proofs.NotesLemmas.{line_read}

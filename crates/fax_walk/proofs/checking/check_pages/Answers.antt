@@ -1,8 +1,8 @@
 use Rattle.std.proofs.Common.{◌≡◌, Ok, Some, ◌+◌, length, refl, sym, ◌∙◌, ap, subst, arith}
 use Rattle.fax_files.specs.Numbers.{header}
 use Rattle.fax_files.specs.declared.Cause.TheVariants.{File}
-use Rattle.fax_files.specs.code.Chain.{ChainState}
-use Rattle.fax_files.specs.code.Tiff.{TiffFile, TiffDirectory}
+use Rattle.fax_files.specs.views.Chain.{ChainState}
+use Rattle.fax_files.specs.views.Tiff.{TiffFile, TiffDirectory}
 use Rattle.fax_walk.specs.code.Check.{IsRestChecked, ArePagesChecked, before_page}
 use Rattle.fax_walk.specs.code.Opening.{IsChainBefore}
 use Rattle.fax_walk.proofs.EndingLemmas.{goes_on, none_past}

@@ -1,6 +1,6 @@
 use Rattle.std.proofs.Common.{◌≡◌, refl, sym, ap, subst, arith}
 use Rattle.fax_files.specs.Pbm.{raster_rows}
-use Rattle.fax_files.specs.code.Pbm.{PbmState, image_of}
+use Rattle.fax_files.specs.views.Pbm.{PbmState, image_of}
 use Rattle.fax_walk.specs.code.Output.{image_sheet, no_rows, IsPartWritten}
 use Rattle.fax_walk.specs.code.Sources.{part_of, AreImagesWritten}
 use Rattle.fax_walk.proofs.ImageLemmas.{at, images_begun, some_left, no_end, no_fault, pages_fewer, one_read, image_written, all_written}

@@ -1,5 +1,5 @@
 use Rattle.std.proofs.Common.{◌<◌, length, arith}
-use Rattle.fax_files.specs.code.Pbm.{image_of}
+use Rattle.fax_files.specs.views.Pbm.{image_of}
 use Rattle.fax_walk.proofs.ConversionLemmas.{one_more, all_read, fault_met, image_is_long}
 use Rattle.fax_walk.proofs.conversion.count_images.Goals as goal
 

@@ -1,5 +1,5 @@
 use Rattle.std.proofs.Common.{refl, ◌+◌, ap, ◌∙◌, arith}
-use Rattle.fax_walk.specs.PagesLeft.{PagesView}
+use Rattle.fax_walk.specs.views.Pages.{PagesView}
 use Rattle.fax_walk.proofs.FileLemmas.{counted_at_end, counted_at_fault}
 use Rattle.fax_walk.proofs.conversion.count_pages.Goals as goal
 

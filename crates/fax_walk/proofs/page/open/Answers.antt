@@ -1,5 +1,5 @@
 use Rattle.std.proofs.Common.{ap, sym}
-use Rattle.fax_page.specs.code.Reader.{StripState}
+use Rattle.fax_page.specs.views.Reader.{StripState}
 use Rattle.fax_walk.proofs.OpenPageLemmas.{is_opened, refused_strip}
 use Rattle.fax_walk.proofs.page.open.Goals as goal
 

@@ -1,6 +1,6 @@
 use Rattle.std.proofs.Common.{ap, sym, arith}
 use Rattle.std.proofs.Math.Nat.{mod-eq-sub-div-mul}
-use Rattle.fax_page.specs.code.Reader.{StripState}
+use Rattle.fax_page.specs.views.Reader.{StripState}
 use Rattle.std.proofs.lemmas.Result.{err_from_is_err_and}
 use Rattle.fax_walk.specs.LongCursor.{LongPlace}
 use Rattle.fax_walk.specs.code.Opening.{PageDue}

@@ -1,7 +1,7 @@
 use Rattle.std.proofs.Common.{◌≡◌, ◌*◌, ◌-◌, ◌^◌, arith, ap, sym, ◌∙◌, subst}
 use Rattle.fax_bits.specs.Bits.{code_bits}
 use Rattle.fax_bits.specs.Codes.{BeginsWith}
-use Rattle.fax_bits.specs.code.Places.{place_of}
+use Rattle.fax_bits.specs.views.Places.{place_of}
 use Rattle.fax_bits.proofs.PlaceLemmas.{aligned-lt, aligned_is, place_past, place_found, place_long}
 use Rattle.fax_bits.proofs.codes.CodeTable.find.Goals as goal
 

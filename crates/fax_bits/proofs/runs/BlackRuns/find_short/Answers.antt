@@ -1,6 +1,7 @@
 use Rattle.std.proofs.Common.{◌≡◌, ◌∙◌, ◌<◌, ◌/◌, ◌^◌, get_or, ap, sym, arith, zero-add}
 use Rattle.std.specs.Prelude.{Some, slice_get}
-use Rattle.fax_bits.specs.Tables.{black_runs, run_meaning}
+use Rattle.fax_bits.specs.Tables.{black_runs}
+use Rattle.fax_bits.specs.code.Codes.{run_meaning}
 use Rattle.fax_bits.specs.declared.codes.CodeEntry.{CodeEntry}
 use Rattle.fax_bits.specs.declared.indexes.TheConstants.{BLACK_SHORT}
 use Rattle.fax_bits.specs.declared.runs.RunCode.{RunCode}

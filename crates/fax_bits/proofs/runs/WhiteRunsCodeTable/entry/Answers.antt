@@ -4,7 +4,7 @@ use Rattle.fax_bits.specs.declared.codes.CodeEntry.{CodeEntry}
 use Rattle.fax_bits.specs.declared.runs.RunCode.{RunCode}
 use Rattle.fax_bits.specs.declared.runs.TheConstants.{WHITE_CODES, WHITE_LENS}
 use Rattle.fax_bits.specs.declared.Colour.TheVariants.{White}
-use Rattle.fax_bits.specs.Tables.{run_meaning}
+use Rattle.fax_bits.specs.code.Codes.{run_meaning}
 use Rattle.fax_bits.specs.code.TableLaws.{run_table_has_short_codes}
 use Rattle.fax_bits.proofs.ArrayLemmas.{white_runs_are, slice_get-run_entries}
 use Rattle.fax_bits.proofs.TableLemmas.{listed}

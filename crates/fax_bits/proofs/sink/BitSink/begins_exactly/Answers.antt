@@ -1,7 +1,7 @@
 use Rattle.std.proofs.Common.{◌≡◌, ◌++◌, ◌<◌, length, sym, ◌∙◌, ap, arith, get_or}
 use Rattle.fax_bits.specs.Bits.{bits}
-use Rattle.fax_bits.specs.code.Source.{Source}
-use Rattle.fax_bits.specs.code.Sink.{Sink}
+use Rattle.fax_bits.specs.views.Source.{Source}
+use Rattle.fax_bits.specs.views.Sink.{Sink}
 use Rattle.fax_bits.proofs.TakeLemmas.{next_byte, other_byte, last_bits}
 use Rattle.fax_bits.proofs.sink.BitSink.begins_exactly.Goals as goal
 

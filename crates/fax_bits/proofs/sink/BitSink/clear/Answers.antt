@@ -1,7 +1,7 @@
 use Rattle.std.proofs.Common.{[], ap, ◌++◌, ◌∙◌}
 use Rattle.fax_bits.specs.declared.FillOrder.TheVariants.{MsbFirst}
 use Rattle.fax_bits.specs.Bits.{bits, code_bits}
-use Rattle.fax_bits.specs.code.Sink.{Sink}
+use Rattle.fax_bits.specs.views.Sink.{Sink}
 use Rattle.fax_bits.proofs.sink.BitSink.clear.Goals as goal
 
 pub returns : goal.returns

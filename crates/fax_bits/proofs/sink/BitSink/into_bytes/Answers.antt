@@ -3,7 +3,7 @@ use Rattle.std.specs.Int.{reverse_bits, w8}
 use Rattle.std.proofs.lemmas.List.{length-map}
 use Rattle.fax_bits.specs.declared.FillOrder.TheVariants.{LsbFirst}
 use Rattle.fax_bits.specs.Bits.{bits}
-use Rattle.fax_bits.specs.code.Sink.{Sink}
+use Rattle.fax_bits.specs.views.Sink.{Sink}
 use Rattle.fax_bits.proofs.SinkLemmas.{all_pushed, bits-reversed, written_over}
 use Rattle.fax_bits.proofs.sink.BitSink.into_bytes.Goals as goal
 

@@ -1,6 +1,6 @@
 use Rattle.std.proofs.Common.{◌≤◌, ◌++◌, length, drop, refl, sym, ◌∙◌, ap, arith}
 use Rattle.fax_bits.specs.Bits.{code_bits}
-use Rattle.fax_bits.specs.code.Source.{Source}
+use Rattle.fax_bits.specs.views.Source.{Source}
 use Rattle.fax_bits.proofs.TakeLemmas.{spelled, as_many, spells_it}
 use Rattle.fax_bits.proofs.source.BitSource.take.Goals as goal
 use Rattle.fax_bits.proofs.source.BitSource.take.Goals.{then-remaining-from-via-then-remaining-from}

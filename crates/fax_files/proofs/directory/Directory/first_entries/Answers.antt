@@ -1,5 +1,5 @@
 use Rattle.std.proofs.Common.{◌+◌, ap, arith}
-use Rattle.fax_files.specs.code.Tiff.{TiffDirectory}
+use Rattle.fax_files.specs.views.Tiff.{TiffDirectory}
 use Rattle.fax_files.proofs.FieldLemmas.{none_left, one_more}
 use Rattle.fax_files.proofs.directory.Directory.first_entries.Goals as goal
 

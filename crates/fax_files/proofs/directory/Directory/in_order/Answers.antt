@@ -1,5 +1,5 @@
 use Rattle.std.proofs.Common.{◌+◌, ap}
-use Rattle.fax_files.specs.code.Tiff.{TiffDirectory}
+use Rattle.fax_files.specs.views.Tiff.{TiffDirectory}
 use Rattle.fax_files.proofs.FieldLemmas.{out_of_order, still_in_order, in_order_to_the_end}
 use Rattle.fax_files.proofs.directory.Directory.in_order.Goals as goal
 

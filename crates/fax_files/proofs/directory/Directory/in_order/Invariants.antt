@@ -1,6 +1,6 @@
 use Rattle.std.proofs.Common.{◌≡◌, ◌+◌, ◌-◌, ◌*◌}
 use Rattle.fax_files.specs.Directory.{entries_at, ascend}
-use Rattle.fax_files.specs.code.Fields.{entries_of}
+use Rattle.fax_files.specs.views.Fields.{entries_of}
 use Rattle.fax_files.proofs.directory.Directory.in_order.Given as goal
 
 -- the entries ascend where those from the last one that was looked at on do

@@ -1,5 +1,5 @@
 use Rattle.std.proofs.Common.{◌+◌, ap, sym, ◌∙◌, arith}
-use Rattle.fax_files.specs.code.Tiff.{PageStrips}
+use Rattle.fax_files.specs.views.Tiff.{PageStrips}
 use Rattle.fax_files.proofs.EntryLemmas.{fewer_integers}
 use Rattle.fax_files.proofs.PageLemmas.{strip_place, bytes_inside, bytes_outside}
 use Rattle.fax_files.proofs.strips.Strips.bytes.Goals as goal

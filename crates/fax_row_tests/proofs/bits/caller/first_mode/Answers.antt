@@ -2,7 +2,7 @@ use Rattle.std.proofs.Common.{◌≡◌, ap, subst}
 use Rattle.std.specs.Prelude.{IfErr}
 use Rattle.fax_bits.specs.Bits.{bits}
 use Rattle.fax_bits.specs.Codes.{IsFaultOf}
-use Rattle.fax_bits.specs.code.Source.{Source}
+use Rattle.fax_bits.specs.views.Source.{Source}
 use Rattle.fax_bits.specs.Tables.{modes}
 use Rattle.fax_row_tests.proofs.bits.caller.first_mode.Goals as goal
 

@@ -1,6 +1,6 @@
 use Rattle.std.proofs.Common.{◌≡◌, ◌-◌, ◌≤◌, List, None, length}
 use Rattle.fax_bits.specs.declared.Colour.{Colour}
-use Rattle.fax_page.specs.code.Reader.{HasRead}
+use Rattle.fax_page.specs.laws.Reader.{HasRead}
 use Rattle.fax_strip_tests.proofs.strips.caller.count_rows.Given as goal
 
 -- as many rows were read as are counted, and no fault was met

@@ -1,5 +1,5 @@
 use Rattle.std.proofs.Common.{take}
-use Rattle.fax_page.specs.code.Writer.{HasPut}
+use Rattle.fax_page.specs.laws.Writer.{HasPut}
 use Rattle.fax_strip_tests.proofs.strips.caller.write_strip.Given as goal
 
 -- the rows so far were put

@@ -1,5 +1,5 @@
 use Rattle.std.proofs.Common.{refl, ap, arith}
-use Rattle.fax_walk.specs.Left.{WalkView}
+use Rattle.fax_walk.specs.views.Walk.{WalkView}
 use Rattle.fax_tool.proofs.LineLemmas.{row_put, rows_end, rows_refused}
 use Rattle.fax_tool.proofs.lines.WalkLines.put_next.Goals as goal
 

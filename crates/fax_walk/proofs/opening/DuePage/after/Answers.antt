@@ -1,5 +1,5 @@
 use Rattle.std.proofs.Common.{◌≡◌, Ok, Err, ap, sym, ◌∙◌, arith}
-use Rattle.fax_files.specs.code.Tiff.{form_of}
+use Rattle.fax_files.specs.views.Tiff.{form_of}
 use Rattle.fax_walk.proofs.EndingLemmas.{page_due, proper_end_at, row_past, fault_before_page, fields_refused, same_file}
 use Rattle.fax_walk.proofs.opening.DuePage.after.Goals as goal
 

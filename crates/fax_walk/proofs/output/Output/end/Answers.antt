@@ -1,7 +1,7 @@
 use Rattle.std.proofs.Common.{◌≡◌, ◌≤◌, inl, inr, length, Some, sym, ap, ◌∙◌}
 use Rattle.std.proofs.lemmas.Bool.{cases_lt}
 use Rattle.fax_files.specs.declared.PageForm.{PageForm}
-use Rattle.fax_files.specs.code.Writing.{length_with}
+use Rattle.fax_files.specs.views.Writing.{length_with}
 use Rattle.fax_files.specs.Written.{max_file}
 use Rattle.fax_walk.proofs.OutputLemmas.{page_ended, page_too_large, all_strips}
 use Rattle.fax_walk.proofs.output.Output.end.Goals as goal

@@ -1,5 +1,5 @@
 use Rattle.std.proofs.Common.{ap, sym}
-use Rattle.fax_page.specs.code.Reader.{StripState}
+use Rattle.fax_page.specs.views.Reader.{StripState}
 use Rattle.fax_walk.specs.code.Stages.{row_shown}
 use Rattle.fax_walk.proofs.OpenPageLemmas.{more_strips, next_keeps, next_stops, state}
 use Rattle.fax_walk.proofs.page.OpenPage.next_strip.Goals as goal

@@ -1,6 +1,6 @@
 use Rattle.std.proofs.Common.{Option, Some, refl, sym, subst, arith}
 use Rattle.fax_walk.specs.declared.end.End.{End}
-use Rattle.fax_walk.specs.Left.{WalkView}
+use Rattle.fax_walk.specs.views.Walk.{WalkView}
 use Rattle.fax_walk.specs.code.Walk.{IsAdvance, answer_of}
 use Rattle.fax_walk.proofs.WalkLemmas.{advance_ends, ends_again, ends_now, few_more, open_or_none}
 use Rattle.fax_walk.proofs.walk.Walk.advance.Goals as goal

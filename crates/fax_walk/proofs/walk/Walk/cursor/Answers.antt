@@ -1,4 +1,4 @@
-use Rattle.fax_walk.specs.Left.{WalkView}
+use Rattle.fax_walk.specs.views.Walk.{WalkView}
 use Rattle.fax_walk.proofs.WalkLemmas.{cursor_is}
 use Rattle.fax_walk.proofs.walk.Walk.cursor.Goals as goal
 

@@ -1,4 +1,4 @@
-use Rattle.fax_walk.specs.Left.{WalkView}
+use Rattle.fax_walk.specs.views.Walk.{WalkView}
 use Rattle.fax_walk.proofs.WalkLemmas.{is_left}
 use Rattle.fax_walk.proofs.walk.Walk.has_items.Goals as goal
 

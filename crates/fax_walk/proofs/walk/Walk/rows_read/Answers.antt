@@ -1,4 +1,4 @@
-use Rattle.fax_walk.specs.Left.{WalkView}
+use Rattle.fax_walk.specs.views.Walk.{WalkView}
 use Rattle.fax_walk.proofs.WalkLemmas.{are_read, none_are_read}
 use Rattle.fax_walk.proofs.walk.Walk.rows_read.Goals as goal
 

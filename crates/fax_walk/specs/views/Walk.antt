@@ -1,4 +1,4 @@
--- What a walk still hands out.
+-- A walk, as contracts see it.
 use Rattle.std.specs.Prelude.{◌≡◌, ℕ, ◌+◌, ◌^◌, ◌<◌, ◌≤◌, ◌⊎◌, List, Option, Some, None, Result, Ok}
 use Rattle.std.specs.Prelude.{Err}
 use Rattle.std.specs.Borrow.{Bor}
@@ -13,7 +13,8 @@ use Rattle.fax_walk.specs.declared.end.WalkFault.TheVariants.{Memory, AtRow, Cur
 use Rattle.fax_walk.specs.declared.walk.Place.{Place}
 use Rattle.fax_walk.specs.Cursor.{start}
 use Rattle.fax_walk.specs.LongCursor.{LongPlace}
-use Rattle.fax_walk.specs.InOrder.{IsNumber, EndsAfter, HasToldNoOther, IsLeftOf}
+use Rattle.fax_walk.specs.InOrder.{IsNumber, EndsAfter, HasToldNoOther}
+use Rattle.fax_walk.specs.laws.InOrder.{IsLeftOf}
 use Rattle.fax_walk.specs.Pages.{FilePage, IsPageAt}
 use Rattle.fax_walk.specs.Rows as Rows
 use Rattle.fax_walk.specs.Rows.{Begins, Item, IsTailFrom, begins_at, cursor_after, long_after}
@@ -37,10 +38,6 @@ walk_start file = walk_from file (At start)
 -- what a walk hands out in all
 abbrev pub IsTailOf : WalkView → List Item → End → Type 0
 IsTailOf walk = IsTailFrom walk.file walk.begun
-
--- what a walk still hands out: these items in order, and then this end
-abbrev pub IsLeft : WalkView → List Item → End → Type 0
-IsLeft walk = IsLeftOf (IsTailOf walk) walk.given walk.told
 
 -- item number n of what a walk hands out that began so
 abbrev pub IsItemNumber : List ℕ → Begun → ℕ → Item → Type 0

@@ -1,23 +1,74 @@
 -- The laws of TIFF files: their chain, their forms, and what is written and read back.
+use Rattle.std.specs.Prelude.{◌≡◌, ℕ, ◌+◌, ◌-◌, ◌*◌, ◌<◌, ◌⊎◌, min, if◌then◌else◌, List, [], ◌∷◌}
+use Rattle.std.specs.Prelude.{map, flat_map, Option, Some, None}
+use Rattle.fax_bits.specs.declared.Colour.{Colour}
+use Rattle.fax_bits.specs.Bits.{bits}
+use Rattle.fax_rows.specs.Elements.{other}
+use Rattle.fax_page.specs.declared.StripForm.{StripForm}
+use Rattle.fax_page.specs.declared.StripFault.{StripFault}
+use Rattle.fax_page.specs.Strip.{IsStrip}
+use Rattle.fax_files.specs.declared.FileFault.TheVariants.{StripOutside}
+use Rattle.fax_files.specs.declared.Cause.{Cause}
+use Rattle.fax_files.specs.declared.Cause.TheVariants.{File, Strip}
+use Rattle.fax_files.specs.declared.PageForm.{PageForm}
+use Rattle.fax_files.specs.declared.Endian.{Endian}
+use Rattle.fax_files.specs.StripBytes.{strip_bytes}
+use Rattle.fax_files.specs.PageRows.{strip_form}
 use Rattle.std.specs.Prelude.{◌≡◌, ℕ, ◌+◌, ◌*◌, ◌≤◌, ◌<◌, ◌⊎◌, false, List, [], ◌∷◌, length, take}
 use Rattle.std.specs.Prelude.{drop, slice_index_or, Option, Some, None, Ok, IsTrue}
 use Rattle.std.specs.List.{AllZip}
-use Rattle.fax_bits.specs.declared.Colour.{Colour}
-use Rattle.fax_bits.specs.Bits.{bits}
-use Rattle.fax_page.specs.Strip.{IsStrip}
 use Rattle.fax_files.specs.declared.FileFault.{FileFault}
-use Rattle.fax_files.specs.declared.Endian.{Endian}
 use Rattle.fax_files.specs.declared.Endian.TheVariants.{Little}
 use Rattle.fax_files.specs.Numbers.{Header, number_at}
 use Rattle.fax_files.specs.Directory.{is_directory, next_offset}
 use Rattle.fax_files.specs.Numbers.{header}
 use Rattle.fax_files.specs.Chain.{IsChain}
-use Rattle.fax_files.specs.declared.PageForm.{PageForm}
 use Rattle.fax_files.specs.Page.{IsPageForm, page}
-use Rattle.fax_files.specs.StripBytes.{strip_bytes}
-use Rattle.fax_files.specs.PageRows.{strip_form, joined, ArePageRows}
+use Rattle.fax_files.specs.PageRows.{strip_form}
 use Rattle.fax_files.specs.Written.{four, directory_place, Written, with_page, WrittenPage, file_of}
 use Rattle.fax_files.specs.Written.{max_file}
+use Rattle.std.specs.Prelude.{◌≡◌, ◌≤◌, ℕ, ◌+◌, ◌-◌, ◌*◌, ◌%◌, ◌==◌, if◌then◌else◌, List, [], ◌∷◌}
+use Rattle.std.specs.Prelude.{◌++◌, length, replicate, Vec}
+use Rattle.std.specs.declared.alloc.Global.{Global}
+use Rattle.fax_files.specs.declared.written.Layout.{Layout}
+use Rattle.fax_files.specs.Tags
+use Rattle.fax_files.specs.Written.{Written, with_page, max_file, to_offsets, four, long_field}
+use Rattle.fax_files.specs.Written.{WrittenPage, with_pages, empty_file, file_of}
+use Rattle.fax_files.specs.Written.{WrittenField, fields_with, fields_bytes, values_bytes}
+use Rattle.fax_files.specs.Written.{offsets_from, lengths_of}
+use Rattle.fax_files.specs.views.Writing.{Writing, contents, with_one_more}
+
+-- From strip s on the page has these strips, each a list of rows. The end is none after the last
+-- strip, else StripOutside at a strip's first row or the cause at the row of a strip that is not
+-- there. (TIFF 6.0, StripOffsets, StripByteCounts and RowsPerStrip)
+abbrev pub AreStrips : Endian → List ℕ → ℕ → PageForm → ℕ → List (List (List Colour)) → Option Cause
+    → Type 0
+AreStrips endian file q form s [] end =
+    ((s ≡ form.strips) × (end ≡ None))
+    ⊎ ((s < form.strips) × (strip_bytes endian file q s ≡ None) × (end ≡ Some (File StripOutside)))
+AreStrips endian file q form s (rows ∷ strips) end =
+    (s < form.strips) × (bytes : List ℕ) × (stop : Option StripFault)
+    × (strip_bytes endian file q s ≡ Some bytes)
+    × IsStrip (strip_form form s) (bits form.order bytes) rows stop
+    × (((stop ≡ None) × AreStrips endian file q form (s + 1) strips end)
+    ⊎ ((fault : StripFault) × (stop ≡ Some fault) × (strips ≡ []) × (end ≡ Some (Strip fault))))
+
+-- the strips' rows in order (TIFF 6.0, RowsPerStrip)
+abbrev pub joined : List (List (List Colour)) → List (List Colour)
+joined strips = flat_map (λ rows. rows) strips
+
+-- rows as they are handed out: with colours exchanged where black is coded as white
+-- (TIFF 6.0, PhotometricInterpretation)
+abbrev pub shown : PageForm → List (List Colour) → List (List Colour)
+shown form rows = if form.exchanged then map (map other) rows else rows
+
+-- the rows of the page at q, and the cause at the row after them where they are not all
+-- (TIFF 6.0, RowsPerStrip)
+pub record ArePageRows (endian : Endian) (file : List ℕ) (q : ℕ) (form : PageForm)
+    (rows : List (List Colour)) (end : Option Cause) : Type 0 where
+  pub strips : List (List (List Colour))
+  pub read : AreStrips endian file q form 0 strips end
+  pub rows_are : rows ≡ shown form (joined strips)
 
 -- a page that can be written: a form within the limits, of which white is 0, with the bytes of each
 -- strip (this project's profile)
@@ -117,3 +168,24 @@ pub record IsWholeForm (form : PageForm) : Type 0 where
 abbrev pub FormsAreWhole : Type 0
 FormsAreWhole = (endian : Endian) (file : List ℕ) (q : ℕ) (form : PageForm)
     → page endian file q ≡ Ok form → IsWholeForm form
+
+-- these pages of so many were added, and no more
+abbrev pub HasAdded : ℕ → List WrittenPage → Writing → Type 0
+HasAdded total pages writing =
+    writing ≡ record {
+      written = with_pages empty_file total 0 pages;
+      total = total;
+      added = length pages;
+    }
+
+-- a writer that adds pages one after another, from its beginning on, gives the bytes of their file
+pub record WritesPageByPage : Type 0 where
+  pub begins : (total : ℕ)
+      → HasAdded total [] (record { written = empty_file; total = total; added = 0 })
+  pub goes_on : (total : ℕ) (pages : List WrittenPage) (old : Writing) (form : PageForm)
+      (strips : List (Vec ℕ Global)) → HasAdded total pages old
+      → HasAdded total (pages ++ record { form = form; strips = contents strips } ∷ [])
+      (with_one_more old form strips)
+  pub finishes : (total : ℕ) (pages : List WrittenPage) (writing : Writing)
+      → HasAdded total pages writing → writing.added ≡ writing.total
+      → writing.written.bytes ≡ file_of pages

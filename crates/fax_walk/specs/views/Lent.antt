@@ -1,10 +1,10 @@
--- A walk that lends a row.
+-- A row that a walk lends.
 use Rattle.std.specs.Prelude.{⊤, []}
 use Rattle.std.specs.Borrow.{MutBor, Fml, follows_so}
 use mathlib.Core.Option.{none}
 use mir.Syntax.{named}
 use Rattle.fax_walk.specs.contracts.walk.Walk.{the_row}
-use Rattle.fax_walk.specs.Left.{WalkView}
+use Rattle.fax_walk.specs.views.Walk.{WalkView}
 
 -- the walk, once the row that it lends is given back, is so
 abbrev pub EndsAs : MutBor WalkView → (WalkView → Type 0) → Fml

@@ -1,4 +1,4 @@
--- What words and the bytes of the file that they name make of the streams (this project's profile).
+-- Laws of words, which the functions of the module `laws` prove.
 use Rattle.std.specs.Prelude.{◌≡◌, ◌⊎◌, ℕ, List, Option, IfSome}
 use Rattle.std.specs.Io.KnownBytes.{Appends}
 use Rattle.clap.specs.Walk.{Text}

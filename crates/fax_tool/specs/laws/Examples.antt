@@ -1,4 +1,4 @@
--- Examples of words, without the program's name before them, and what they give.
+-- What some words give, and some that are not taken.
 use Rattle.std.specs.Prelude.{◌≡◌, ◌==◌, ℕ, Bool, true, false, List, [], ◌∷◌, length, Option}
 use Rattle.std.specs.Prelude.{Some, None, codes, if◌then◌else◌, option_and_then, option_map}
 use Rattle.clap.specs.Walk.{Row, Text, first_of}

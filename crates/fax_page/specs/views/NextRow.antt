@@ -6,7 +6,7 @@ use mir.Syntax.{named}
 use Rattle.fax_bits.specs.declared.Colour.{Colour}
 use Rattle.fax_page.specs.declared.StripFault.{StripFault}
 use Rattle.fax_page.specs.contracts.reader.StripReader.{the_row}
-use Rattle.fax_page.specs.code.Reader.{StripState, ReadsRow, IsAtEnd, MeetsFault, TellsAgain}
+use Rattle.fax_page.specs.views.Reader.{StripState, ReadsRow, IsAtEnd, MeetsFault, TellsAgain}
 
 -- the reader, once the row that it lends is given back, is so
 abbrev pub EndsAs : MutBor StripState → (StripState → Type 0) → Fml

@@ -1,4 +1,4 @@
--- What a reader of pages still hands out.
+-- A reader of pages, as contracts see it.
 use Rattle.std.specs.Prelude.{◌≡◌, ℕ, ◌+◌, ◌^◌, ◌<◌, List, Option, Some, None, Result, Ok, Err}
 use Rattle.fax_files.specs.declared.PageForm.{PageForm}
 use Rattle.fax_files.specs.Page.{IsPageForm}
@@ -8,7 +8,8 @@ use Rattle.fax_walk.specs.declared.end.End.TheVariants.{Proper, Fault, Outside}
 use Rattle.fax_walk.specs.declared.end.WalkFault.{WalkFault}
 use Rattle.fax_walk.specs.declared.end.WalkFault.TheVariants.{Memory, AtRow, CursorOutside}
 use Rattle.fax_walk.specs.Cursor.{start}
-use Rattle.fax_walk.specs.InOrder.{IsNumber, EndsAfter, HasToldNoOther, IsLeftOf}
+use Rattle.fax_walk.specs.InOrder.{IsNumber, EndsAfter, HasToldNoOther}
+use Rattle.fax_walk.specs.laws.InOrder.{IsLeftOf}
 use Rattle.fax_walk.specs.Pages.{FormItem, IsFormTail, cursor_after_page}
 
 -- a reader of pages: its file, the cursor that it began with, how many pages it handed out, the
@@ -32,10 +33,6 @@ pages_start file = pages_from file start
 -- what a reader of pages hands out in all
 abbrev pub IsTailOf : PagesView → List FormItem → End → Type 0
 IsTailOf pages = IsFormTail pages.file pages.begun
-
--- what a reader of pages still hands out: these forms in order, and then this end
-abbrev pub AreFormsLeft : PagesView → List FormItem → End → Type 0
-AreFormsLeft pages = IsLeftOf (IsTailOf pages) pages.given pages.told
 
 -- this page is handed out: it is number `given` of what the reader hands out
 pub record HandsOutPage (old : PagesView) (item : FormItem) (new : PagesView) : Type 0 where

@@ -1,13 +1,28 @@
 -- Laws of strips, which the functions of the module `laws` prove.
+use Rattle.std.specs.Prelude.{◌≡◌, ℕ, ◌+◌, ◌-◌, ◌%◌, Bool, true, false, nat_eq, if◌then◌else◌, List}
+use Rattle.std.specs.Prelude.{[], ◌∷◌, ◌++◌, length, replicate, All}
+use Rattle.fax_bits.specs.declared.Colour.{Colour}
+use Rattle.fax_bits.specs.Bytes.{packed}
+use Rattle.fax_rows.specs.Coded.{one_dimensional_bits, two_dimensional_bits}
+use Rattle.fax_page.specs.declared.Dimension.{Dimension}
+use Rattle.fax_page.specs.declared.Dimension.TheVariants.{OneDimensional, TwoDimensional}
+use Rattle.fax_page.specs.declared.Coding.{Coding}
+use Rattle.fax_page.specs.declared.Coding.TheVariants.{Mh, Mr, Mmr}
+use Rattle.fax_page.specs.declared.StripForm.{StripForm}
+use Rattle.fax_page.specs.Lines.{tag_bit}
+use Rattle.fax_page.specs.Strip.{white_row}
 use Rattle.std.specs.Prelude.{◌≡◌, ℕ, ◌+◌, ◌<◌, ◌%◌, ◌⊎◌, Bool, true, List, ◌++◌, length, Option}
 use Rattle.std.specs.Prelude.{None}
-use Rattle.fax_bits.specs.declared.Colour.{Colour}
 use Rattle.fax_bits.specs.Bits.{bits}
-use Rattle.fax_page.specs.declared.StripForm.{StripForm}
 use Rattle.fax_page.specs.declared.StripFault.{StripFault}
 use Rattle.fax_page.specs.Lines.{IsLine, IsCause}
 use Rattle.fax_page.specs.Strip.{IsStripForm, IsStrip}
-use Rattle.fax_page.specs.CodedStrip.{end_of_line, fill_zeros, coded_bits, coded_strip, AreRowsOf}
+use Rattle.fax_page.specs.CodedStrip.{end_of_line, fill_zeros, coded_bits, coded_strip}
+
+-- the rows are as many and as wide as the form says (this project's profile)
+pub record AreRowsOf (form : StripForm) (rows : List (List Colour)) : Type 0 where
+  pub count : length rows ≡ form.rows
+  pub widths : All (λ row. length row ≡ form.width) rows
 
 -- bits begin with at most one row, and one rest follows it (this project's profile)
 abbrev pub IsOneLine : StripForm → ℕ → List Colour → Type 0

@@ -9,10 +9,13 @@ use Rattle.fax_walk.specs.Cursor.{start}
 use Rattle.fax_walk.specs.LongCursor.{LongPlace}
 use Rattle.fax_walk.specs.Pages.{FormItem, IsForm, IsFormTail, AreForms, FilePage, IsPageAt}
 use Rattle.fax_walk.specs.Pages.{cursor_after_page}
-use Rattle.fax_walk.specs.PagesLeft.{PagesView, AreFormsLeft, HandsOutPage, PagesHaveEnded}
-use Rattle.fax_walk.specs.InOrder.{AreFrom, LeadTo, EndsAfter, IsOne}
-use Rattle.fax_walk.specs.Left.{WalkView, EndsBefore, IsTailOf, IsLeft, IsItemNumber, IsCursorOf}
-use Rattle.fax_walk.specs.Left.{IsLongOf}
+use Rattle.fax_walk.specs.views.Pages.{PagesView, HandsOutPage, PagesHaveEnded}
+use Rattle.fax_walk.specs.laws.Forms.{AreFormsLeft}
+use Rattle.fax_walk.specs.InOrder.{AreFrom, EndsAfter}
+use Rattle.fax_walk.specs.laws.InOrder.{LeadTo, IsOne}
+use Rattle.fax_walk.specs.views.Walk.{WalkView, EndsBefore, IsTailOf, IsItemNumber, IsCursorOf}
+use Rattle.fax_walk.specs.laws.Left.{IsLeft}
+use Rattle.fax_walk.specs.views.Walk.{IsLongOf}
 use Rattle.fax_walk.specs.Rows.{Item, first_at, strip_at, row_in_strip, inner_at, IsRow, AreItems}
 use Rattle.fax_walk.specs.Rows.{IsTailFrom, cursor_after, long_after}
 

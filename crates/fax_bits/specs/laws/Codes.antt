@@ -1,17 +1,25 @@
 -- Laws of bits and of code tables, which the functions of the module `laws` prove.
+use Rattle.std.specs.Prelude.{◌≡◌, ℕ, zero, suc, ◌+◌, ◌-◌, ◌*◌, Bool, true, false, if◌then◌else◌}
+use Rattle.std.specs.Prelude.{List, [], ◌∷◌, ◌++◌, replicate, reverse, fold, flat_map, ◌==◌}
+use Rattle.std.specs.Int.{bit_at}
+use Rattle.fax_bits.specs.declared.FillOrder.{FillOrder}
+use Rattle.fax_bits.specs.declared.FillOrder.TheVariants.{MsbFirst, LsbFirst}
 use Rattle.std.specs.Prelude.{◌≡◌, ℕ, ◌*◌, ◌/◌, ◌%◌, ◌^◌, ◌<◌, ◌==◌, Bool, false, List, ◌++◌}
 use Rattle.std.specs.Prelude.{length, replicate, slice_index_or, All, ◌⊎◌}
-use Rattle.std.specs.Int.{bit_at}
 use Rattle.fax_bits.specs.declared.codes.CodeEntry.{CodeEntry}
 use Rattle.fax_bits.specs.declared.Colour.{Colour}
-use Rattle.fax_bits.specs.declared.FillOrder.{FillOrder}
 use Rattle.fax_bits.specs.declared.FillOrder.TheVariants.{MsbFirst}
 use Rattle.fax_bits.specs.declared.modes.ModeCode.{ModeCode}
-use Rattle.fax_bits.specs.Bits.{byte_bits, bits, bits_number, bit_in_byte}
+use Rattle.fax_bits.specs.Bits.{byte_bits, bits, bits_number}
 use Rattle.fax_bits.specs.Bytes.{packed}
 use Rattle.fax_bits.specs.Codes.{Takes, IsFaultOf}
 use Rattle.fax_bits.specs.Runs.{IsRun, IsWritten, run_bits, mode_bits}
 use Rattle.fax_bits.specs.Tables.{modes}
+
+-- which bit of a byte, 0 the lowest, is coded at this place of its eight bits (TIFF 6.0, FillOrder)
+abbrev pub bit_in_byte : FillOrder → ℕ → ℕ
+bit_in_byte MsbFirst place = 7 - place
+bit_in_byte LsbFirst place = place
 
 -- bytes have eight bits each, and each bit stands in its byte, at a place that the fill order says
 -- (TIFF 6.0, FillOrder)

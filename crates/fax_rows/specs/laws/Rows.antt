@@ -1,12 +1,20 @@
 -- Laws of rows, which the functions of the module `laws` prove.
-use Rattle.std.specs.Prelude.{◌≡◌, ℕ, Bool, List, ◌++◌, length}
+use Rattle.std.specs.Prelude.{ℕ, zero, suc, ◌+◌, ◌<◌, ◌^◌, Bool, true, false, not, ◌&&◌, nat_lt}
+use Rattle.std.specs.Prelude.{if◌then◌else◌, List, [], ◌∷◌, ◌++◌, length, replicate, slice_index_or}
+use Rattle.std.specs.Prelude.{Option, Some, None}
 use Rattle.fax_bits.specs.declared.Colour.{Colour}
-use Rattle.fax_bits.specs.Laws.{IsReadInOneWay}
+use Rattle.fax_bits.specs.declared.Colour.TheVariants.{White, Black}
+use Rattle.std.specs.Prelude.{◌≡◌, ℕ, Bool, List, ◌++◌, length}
+use Rattle.fax_bits.specs.laws.Codes.{IsReadInOneWay}
 use Rattle.fax_rows.specs.Coded.{one_dimensional_bits, two_dimensional_bits}
-use Rattle.fax_rows.specs.Elements.{HasWidth}
 use Rattle.fax_rows.specs.OneDimensional.{IsOneDimensionalRow}
 use Rattle.fax_rows.specs.TwoDimensional.{IsTwoDimensionalRow}
 use Rattle.fax_rows.specs.Faults.{IsOneDimensionalFault, IsTwoDimensionalFault}
+
+-- a row has 1 to 65,535 pels (this project's profile)
+pub record HasWidth (row : List Colour) : Type 0 where
+  pub some : 0 < length row
+  pub short : length row < 2 ^ 16
 
 -- bits are read in one way as a row of the width in one-dimensional coding (T.4, section 4.1.1; the
 -- faults are this project's profile)

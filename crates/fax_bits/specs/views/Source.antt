@@ -1,0 +1,27 @@
+-- Bits that are read from a place on.
+use Rattle.std.specs.Prelude.{◌≡◌, ℕ, ◌+◌, ◌*◌, ◌<◌, ◌≤◌, Bool, true, false, List, ◌++◌, length}
+use Rattle.std.specs.Prelude.{slice_index_or, drop}
+use Rattle.fax_bits.specs.declared.FillOrder.{FillOrder}
+use Rattle.fax_bits.specs.Bits.{bits}
+
+-- the bits that are left, and how many bits stand before them
+pub record Source : Type 0 where
+  pub left : List Bool
+  pub place : ℕ
+
+-- the bits of the bytes, from this place on (TIFF 6.0, FillOrder)
+abbrev pub source_of : FillOrder → List ℕ → ℕ → Source
+source_of order bytes place = record { left = drop place (bits order bytes); place = place }
+
+-- the bits begin with these
+abbrev pub BeginsWith : List Bool → List Bool → Type 0
+BeginsWith b front = (rest : List Bool) × (b ≡ front ++ rest)
+
+-- whether the bits begin with these, which are taken then
+abbrev pub IsTaken : List Bool → List Bool → Bool → List Bool → Type 0
+IsTaken front b true rest = b ≡ front ++ rest
+IsTaken front b false rest = (rest ≡ b) × (BeginsWith b front → ⊥)
+
+-- the source goes on in the same bits: they end at the same place
+abbrev pub KeepsEnd : Source → Source → Type 0
+KeepsEnd old new = new.place + length new.left ≡ old.place + length old.left

@@ -1,0 +1,5 @@
+pub mod Chain
+pub mod Fields
+pub mod Pbm
+pub mod Tiff
+pub mod Writing

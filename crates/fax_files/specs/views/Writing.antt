@@ -1,0 +1,36 @@
+-- A file that is being written.
+use Rattle.std.specs.Prelude.{◌≡◌, ◌≤◌, ℕ, ◌+◌, ◌-◌, ◌*◌, ◌%◌, ◌==◌, if◌then◌else◌, List, [], ◌∷◌}
+use Rattle.std.specs.Prelude.{◌++◌, length, replicate, Vec}
+use Rattle.std.specs.declared.alloc.Global.{Global}
+use Rattle.fax_files.specs.declared.PageForm.{PageForm}
+use Rattle.fax_files.specs.declared.written.Layout.{Layout}
+use Rattle.fax_files.specs.Tags
+use Rattle.fax_files.specs.Written.{Written, with_page, max_file, to_offsets, four, long_field}
+use Rattle.fax_files.specs.Written.{WrittenPage, with_pages, empty_file, file_of}
+use Rattle.fax_files.specs.Written.{WrittenField, fields_with, fields_bytes, values_bytes}
+use Rattle.fax_files.specs.Written.{offsets_from, lengths_of}
+
+-- the bytes of vectors
+abbrev pub contents : List (Vec ℕ Global) → List (List ℕ)
+contents [] = []
+contents (bytes ∷ others) = bytes.items ∷ contents others
+
+-- a file that is being written: its bytes and its last link, of how many pages, and how many were
+-- added
+pub record Writing : Type 0 where
+  pub written : Written
+  pub total : ℕ
+  pub added : ℕ
+
+-- a file that is being written, with one more page
+abbrev pub with_one_more : Writing → PageForm → List (Vec ℕ Global) → Writing
+with_one_more old form strips = record {
+  written = with_page old.written old.total old.added form (contents strips);
+  total = old.total;
+  added = old.added + 1;
+}
+
+-- how many bytes the file would have with one more page
+abbrev pub length_with : Writing → PageForm → List (Vec ℕ Global) → ℕ
+length_with old form strips =
+    length (with_page old.written old.total old.added form (contents strips)).bytes

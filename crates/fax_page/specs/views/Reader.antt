@@ -1,0 +1,98 @@
+-- A strip that is read row by row.
+use Rattle.std.specs.Prelude.{◌≡◌, ℕ, ◌+◌, ◌*◌, ◌<◌, ◌≤◌, ◌⊎◌, min, Bool, true, false, List, []}
+use Rattle.std.specs.Prelude.{◌∷◌, ◌++◌, length, drop, Option, Some, None, Result, Ok, Err}
+use Rattle.fax_bits.specs.declared.Colour.{Colour}
+use Rattle.fax_bits.specs.Bits.{bits}
+use Rattle.fax_bits.specs.views.Source.{Source, source_of}
+use Rattle.fax_page.specs.declared.StripForm.{StripForm}
+use Rattle.fax_page.specs.declared.StripFault.{StripFault}
+use Rattle.fax_page.specs.Lines.{IsLine, IsCause}
+use Rattle.fax_page.specs.Strip.{IsStripForm, AreLines, IsStrip, white_row}
+
+-- how far a strip is read: its form and its bytes, the place in bits and the number of the row that
+-- is due, how many rows the reader answered, over all its strips, the row before the one that is
+-- due, and the fault that was answered
+pub record StripState : Type 0 where
+  pub form : StripForm
+  pub bytes : List ℕ
+  pub place : ℕ
+  pub row : ℕ
+  pub read : ℕ
+  pub reference : List Colour
+  pub fault : Option StripFault
+
+-- the bits from the row that is due on
+abbrev pub bits_left : StripState → List Bool
+bits_left state = drop state.place (bits state.form.order state.bytes)
+
+-- before the first row of the bytes, where the reader answered so many rows before
+abbrev pub strip_behind : ℕ → StripForm → List ℕ → StripState
+strip_behind read form bytes = record {
+  form = form;
+  bytes = bytes;
+  place = 0;
+  row = 0;
+  read = read;
+  reference = white_row form.width;
+  fault = None;
+}
+
+-- before the first row of the bytes, which are a reader's first
+abbrev pub strip_beginning : StripForm → List ℕ → StripState
+strip_beginning form bytes = strip_behind 0 form bytes
+
+-- before the first row of other bytes, which have so many rows; the rest of the form stays
+abbrev pub restarted : StripState → List ℕ → ℕ → StripState
+restarted old bytes rows = strip_behind old.read (record old.form { rows = rows }) bytes
+
+-- before row i of other bytes, which have so many rows, after so many bits, over this reference;
+-- the rest of the form stays
+abbrev pub restarted_at : StripState → List ℕ → ℕ → ℕ → ℕ → List Colour → StripState
+restarted_at old bytes rows i place reference = record {
+  form = record old.form { rows = rows };
+  bytes = bytes;
+  place = place;
+  row = i;
+  read = old.read;
+  reference = reference;
+  fault = None;
+}
+
+-- a count of rows and one more, up to the greatest number of 64 bits
+abbrev pub counted : ℕ → ℕ
+counted read = min (read + 1) 18446744073709551615
+
+-- the row that was due is read, and the next one is due
+pub record ReadsRow (old new : StripState) : Type 0 where
+  pub no_fault : old.fault ≡ None
+  pub due : old.row < old.form.rows
+  pub line : IsLine old.form old.row old.reference (bits_left old) new.reference (bits_left new)
+  pub next_row : new.row ≡ old.row + 1
+  pub read : new.read ≡ counted old.read
+  pub same_form : new.form ≡ old.form
+  pub same_bytes : new.bytes ≡ old.bytes
+  pub still_no_fault : new.fault ≡ None
+
+-- all rows are read, and nothing changes
+pub record IsAtEnd (old new : StripState) : Type 0 where
+  pub no_fault : old.fault ≡ None
+  pub all_read : old.row ≡ old.form.rows
+  pub unchanged : new ≡ old
+
+-- the row that was due is not there, for this cause, and nothing else changes
+pub record MeetsFault (old : StripState) (fault : StripFault) (new : StripState) : Type 0 where
+  pub no_fault : old.fault ≡ None
+  pub due : old.row < old.form.rows
+  pub cause : IsCause old.form old.row old.reference (bits_left old) fault
+  pub told : new ≡ record old { fault = Some fault }
+
+-- the fault was answered before, and nothing changes
+pub record TellsAgain (old : StripState) (fault : StripFault) (new : StripState) : Type 0 where
+  pub told : old.fault ≡ Some fault
+  pub unchanged : new ≡ old
+
+-- what a call for the next row answers: whether there was one, or the fault in its place
+abbrev pub IsAdvance : StripState → Result Bool StripFault → StripState → Type 0
+IsAdvance old (Ok true) new = ReadsRow old new
+IsAdvance old (Ok false) new = IsAtEnd old new
+IsAdvance old (Err fault) new = TellsAgain old fault new ⊎ MeetsFault old fault new

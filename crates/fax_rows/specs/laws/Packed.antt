@@ -1,0 +1,35 @@
+-- What is read back of packed pels.
+use Rattle.std.specs.Prelude.{◌≡◌, ℕ, ◌+◌, ◌-◌, ◌*◌, ◌/◌, Bool, true, false, List, ◌++◌, map}
+use Rattle.std.specs.Prelude.{length, take, drop, replicate, not, slice_index_or}
+use Rattle.std.specs.List.{range_with_len}
+use Rattle.fax_bits.specs.declared.FillOrder.TheVariants.{MsbFirst}
+use Rattle.fax_bits.specs.declared.Colour.{Colour}
+use Rattle.fax_bits.specs.declared.Colour.TheVariants.{White, Black}
+use Rattle.fax_bits.specs.Bits.{bits, bits_number}
+use Rattle.fax_rows.specs.Elements.{same_colour, first_place}
+use Rattle.fax_rows.specs.Packed.{is_black, packed_len, packed_row, unpacked_row}
+
+-- the bits of a packed row are its pels, and zeros up to a whole byte (the netpbm format, P4)
+abbrev pub HasBitsOfPels : Type 0
+HasBitsOfPels =
+    (row : List Colour)
+    → bits MsbFirst (packed_row row)
+    ≡ map is_black row ++ replicate (8 * packed_len (length row) - length row) false
+
+-- a packed row is read back (this project's profile)
+abbrev pub IsReadBack : Type 0
+IsReadBack = (row : List Colour) → unpacked_row (length row) (packed_row row) ≡ row
+
+-- bytes whose row is packed again are as they were, but for the padding, which is zeros
+-- (this project's profile)
+abbrev pub IsPackedBack : Type 0
+IsPackedBack =
+    (width : ℕ) (bytes : List ℕ) → length bytes ≡ packed_len width
+    → bits MsbFirst (packed_row (unpacked_row width bytes))
+    ≡ take width (bits MsbFirst bytes) ++ replicate (8 * packed_len width - width) false
+
+-- packing and unpacking undo one another (this project's profile)
+pub record PackingUndoesUnpacking : Type 0 where
+  pub bits_of_pels : HasBitsOfPels
+  pub read_back : IsReadBack
+  pub packed_back : IsPackedBack

@@ -1,0 +1,5 @@
+pub mod InOrder
+pub mod Tails
+pub mod Left
+pub mod Forms
+pub mod Written
