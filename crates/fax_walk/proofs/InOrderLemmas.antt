@@ -131,7 +131,7 @@ get_after [] x more (suc n) e = absurd (omega (arith, e))
 get_after (y ∷ front) x more zero e = absurd (omega (arith, e))
 get_after (y ∷ front) x more (suc n) e = get_after front x more n (omega (arith, e))
 
-get_dropped : {A : Type 0} (k n : ℕ) (xs : List A) → slice_get (drop k xs) n ≡ slice_get xs (k + n)
+pub get_dropped : {A : Type 0} (k n : ℕ) (xs : List A) → slice_get (drop k xs) n ≡ slice_get xs (k + n)
 get_dropped zero n xs = let e : 0 + n ≡ n = omega arith in rw e refl
 get_dropped (suc k) n [] = refl
 get_dropped (suc k) n (x ∷ xs) = let e : suc k + n ≡ suc (k + n) = omega arith in rw e (get_dropped k n xs)

@@ -15,8 +15,8 @@ use Rattle.fax_walk.specs.views.Pages as OfPages
 use Rattle.fax_walk.specs.Rows.{Item, IsTailFrom, cursor_after}
 use Rattle.fax_walk.specs.views.Walk.{IsTailOf, begins_inside}
 use Rattle.fax_walk.specs.laws.Tails.{BeginningsHaveOneTail, CursorsHaveOneFormTail, FormsLeftGoOn, FormsLeftEnd, TailsGoOn, LongTailsGoOn}
-use Rattle.fax_walk.specs.laws.Tails.{LeftIsOne, LeftGoesOn, LeftEnds, LeftIsTail, LeftIsLongTail}
-use Rattle.fax_walk.proofs.InOrderLemmas.{divided_at}
+use Rattle.fax_walk.specs.laws.Tails.{LeftIsNumber, LeftIsOne, LeftGoesOn, LeftEnds, LeftIsTail, LeftIsLongTail}
+use Rattle.fax_walk.proofs.InOrderLemmas.{divided_at, get_dropped}
 
 -- the item at a number is the first of what is left there
 first_left : {A : Type 0} (all : List A) (n : ℕ) (item : A) → slice_get all n ≡ Some item → drop n all ≡ item ∷ drop (n + 1) all
@@ -89,6 +89,13 @@ forms_left_end tails old new end ended =
       subst (λ (v : PagesView). AreFormsLeft v [] end) (sym ended.new_is)
           (left_at_end tail one old.given (Some end) end (refl, refl) ended.ends),
     )
+
+pub left_is_number : LeftIsNumber
+left_is_number walk item items end left =
+    let none : walk.given + 0 ≡ walk.given = omega arith in
+    let there : slice_get left.all (walk.given + 0) ≡ Some item =
+    sym (get_dropped walk.given 0 left.all) ∙ ap (λ (l : List Item). slice_get l 0) (sym left.rest) in
+    (left.all, end, left.is, rw none at there)
 
 module _ (tails : BeginningsHaveOneTail) where
   pub left_is_one : LeftIsOne

@@ -97,10 +97,12 @@ pub fn tails_go_on()
     fax_files::laws::forms_are_whole();
 }
 
-/// What a walk still hands out is one list with one end. Each item that it hands out is the first
-/// of it, and what is left is the tail from the walk's cursor, and from its place inside a strip.
+/// What a walk still hands out is one list with one end. Its first is item number `given` of what
+/// the walk hands out in all. Each item that it hands out is the first of it, and what is left is
+/// the tail from the walk's cursor, and from its place inside a strip.
 pub fn walks_go_on()
     ensures one { PageLaws.LeftIsOne }
+    ensures number { PageLaws.LeftIsNumber }
     ensures items { PageLaws.LeftGoesOn }
     ensures ends { PageLaws.LeftEnds }
     ensures cursor { PageLaws.LeftIsTail }

@@ -136,6 +136,12 @@ LeftIsOne =
     → IsLeft walk others other
     → (items ≡ others) × (end ≡ other)
 
+-- the first of what a walk still hands out is item number `given` of what it hands out in all
+-- (this project's profile)
+abbrev pub LeftIsNumber : Type 0
+LeftIsNumber = (walk : WalkView) (item : Item) (items : List Item) (end : End)
+    → IsLeft walk (item ∷ items) end → IsItemNumber walk.file walk.begun walk.given item
+
 -- where a walk hands out item number `given`, what was left is that item, and then what is left
 -- (this project's profile)
 abbrev pub LeftGoesOn : Type 0
