@@ -7,7 +7,6 @@ mod GetterLemmas
 mod LevelLemmas
 mod ExampleLemmas
 mod AnswerLemmas
-
 pub mod LineLemmas
 pub mod StopLemmas
 pub mod PrintLemmas

@@ -171,8 +171,14 @@ module _ (file : List ℕ) where
       record {
         line = got.0;
         number = (lines.0, end, are, got.1);
-        next = record { lines = lines.0; end = end; is = are; within = omega (arith, within); next_is = sym (next_at begun lines.0 n got.0
-            got.1) };
+        next = record {
+          lines = lines.0;
+          end = end;
+          is = are;
+          within = omega (arith, within);
+          next_is = sym (next_at begun lines.0 n got.0
+              got.1);
+        };
         here = got.2.0;
         page = got.2.1;
         line_is = got.2.2;
@@ -261,8 +267,7 @@ row_place tails chains walk place (inl (none, is)) =
     (walk.begun, none_given walk.begun (one_rows walk.file tails chains walk.begun) walk.given none, is)
 row_place tails chains walk place (inr (before, item, here, count, number, page, is)) =
     let of = line_of walk.file walk.begun before item number in
-    let same = one_line walk.file chains item of.line (line_of_row here.form item) (of.here, of.page, of.line_is) (here, page, refl) in
-    (
+    let same = one_line walk.file chains item of.line (line_of_row here.form item) (of.here, of.page, of.line_is) (here, page, refl) in (
       of.line.next,
       rw count of.next,
       is ∙ sym (ap (λ (l : Line). begins_inside l.next) same ∙ inside_of (long_after here.form item) (cursor_after item)),

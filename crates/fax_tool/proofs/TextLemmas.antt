@@ -35,13 +35,13 @@ ending_text (Some end) next = last_line end next
 
 -- the text of the lines, with its output, and the error line and status of its end
 record IsEndedText (lines : List Line) (end : End) (count : ℕ) (long : Bool) (max : Option ℕ) (begun : Begun) (ending : Option End) : Type 0
-    where
-  output : (text_of long max begun lines end).output
-      ≡ texts_of (take count lines) ++ ending_text ending (named long (next_after begun (take count lines)))
-  error : (text_of long max begun lines end).error ≡ error_of (end_line ending)
-  status : (text_of long max begun lines end).status ≡ status_of (end_line ending)
-  within : IfSome max (λ limit. count ≤ limit)
-  some : count ≤ length lines
+  where
+    output : (text_of long max begun lines end).output
+        ≡ texts_of (take count lines) ++ ending_text ending (named long (next_after begun (take count lines)))
+    error : (text_of long max begun lines end).error ≡ error_of (end_line ending)
+    status : (text_of long max begun lines end).status ≡ status_of (end_line ending)
+    within : IfSome max (λ limit. count ≤ limit)
+    some : count ≤ length lines
 
 whole_ended : (lines : List Line) (end : End) (long : Bool) (max : Option ℕ) (begun : Begun) → IfSome max (λ limit. length lines < limit)
     → IsEndedText lines end (length lines) long max begun (Some end)
