@@ -1,16 +1,16 @@
 -- The answers of words exclude one another.
-use Rattle.std.proofs.Common.{◌≡◌, ◌∙◌, ◌⊎◌, ap, codes, inl, inr, refl, subst, true≢false, sym, true, List, Option, Some, None}
+use Rattle.std.proofs.Common.{◌≡◌, ◌∙◌, ap, codes, inl, inr, refl, subst, true≢false, sym, List, Option, Some, None}
 use Rattle.std.specs.Prelude.{IfSome, false}
 use Rattle.std.specs.Str.{bytes_eq}
 use Rattle.std.proofs.lemmas.Slice.Eq.{bytes_eq-Decides}
 use Rattle.clap.specs.Walk.{Row, Text, first_of}
-use Rattle.fax_walk.specs.Cursor.{IsCursor, cursor_text}
+use Rattle.fax_walk.specs.Cursor.{IsCursor}
 use Rattle.fax_walk.specs.LongCursor.{IsLongCursor, LongPlace}
 use Rattle.fax_walk.specs.declared.options.Options.{Options}
 use Rattle.fax_walk.specs.declared.options.Target.TheVariants.{Mmr, Pbm}
 use Rattle.fax_tool.specs.Job.{AreOptions, BeginsAt, BeginsInside, HasNoCursor, HasNoTarget, IsCommand, IsFault, IsJob, IsNoCursor}
-use Rattle.fax_tool.specs.Job.{IsNoLongCursor, IsRefused, command_of, is_set, target_in}
-use Rattle.fax_tool.specs.laws.Words.{HasCursors, HaveOneAnswer, WordsHaveOneAnswer}
+use Rattle.fax_tool.specs.Job.{IsNoLongCursor, command_of}
+use Rattle.fax_tool.specs.laws.Words.{HasCursors, WordsHaveOneAnswer}
 use Rattle.fax_tool.specs.declared.words.Command.{Command}
 use Rattle.fax_tool.specs.declared.words.Command.TheVariants.{Check, Convert, List as Forms, Rows}
 use Rattle.fax_tool.specs.declared.words.Job.{Job}

@@ -1,7 +1,6 @@
 -- How commands end, by what was read and what was written.
-use Rattle.std.proofs.Common.{◌≡◌, ◌≢◌, ℕ, ◌≤◌, List, [], ◌++◌, inl, inr, refl, sym, ◌∙◌, arith}
+use Rattle.std.proofs.Common.{◌≡◌, ◌≢◌, ℕ, ◌≤◌, List, [], inl, refl, arith}
 use Rattle.std.specs.Prelude.{Option, Some, None, IfSome, IfOk, IfErr, OnOk, Result, Ok, Err}
-use Rattle.std.specs.Io.KnownBytes.{Appends}
 use Rattle.std.proofs.KnownBytes.{Appends-nil}
 use Rattle.fax_walk.specs.declared.begun.Begun.{Begun}
 use Rattle.fax_walk.specs.declared.begun.Begun.TheVariants.{At}
@@ -79,7 +78,12 @@ module _ (command : Command) (bytes : Option (List ℕ)) (taken : ℕ) (counts :
         → OnOk answer (HasWorked output.counts) → IfOk answer (IsDone command input output)
     command_done (Err refusal) writes worked = tt
     command_done (Ok line) writes worked =
-        record { read = read; written = worked; writes = if_same (λ f. WritesOutput (IsTextOf command f) output line) bytes file same writes }
+        record {
+          read = read;
+          written = worked;
+          writes = if_same (λ f. WritesOutput
+              (IsTextOf command f) output line) bytes file same writes;
+        }
 
     pub command_stops : (refusal : Refusal)
         → StopsPrinting (IsTextOf command file) (IsTextAfterMemory command file) refusal output → IsStopped command refusal input output
@@ -146,4 +150,5 @@ pub text_stopped : (command : Command) (bytes : Option (List ℕ)) (taken : ℕ)
     → IsStopped command refusal (input_after bytes taken counts) (output_after old new given)
 text_stopped command bytes taken counts file old new given printed refusal same read is part =
     command_stops command bytes taken counts (output_after old new given) file same read refusal
-    (stops_in_part (IsTextOf command file) (IsTextAfterMemory command file) old new printed.output given refusal (inl (printed, is, refl)) part)
+    (stops_in_part (IsTextOf command file) (IsTextAfterMemory command file) old new printed.output given refusal (inl
+    (printed, is, refl)) part)

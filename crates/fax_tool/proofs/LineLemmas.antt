@@ -1,5 +1,5 @@
 -- The lines of rows and of pages.
-use Rattle.std.proofs.Common.{◌≡◌, ℕ, zero, suc, ◌+◌, ◌≤◌, ◌⊎◌, inl, inr, Bool, true, false, List, [], ◌∷◌, ◌++◌, length, take, drop, map}
+use Rattle.std.proofs.Common.{◌≡◌, ℕ, zero, suc, ◌+◌, inl, inr, Bool, true, false, List, [], ◌∷◌, ◌++◌, take, drop, map}
 use Rattle.std.proofs.Common.{◌↔◌, Option, Some, None, Result, Ok, Err, refl, sym, ap, ◌∙◌, subst, arith}
 use Rattle.std.proofs.lemmas.Option.{slice_get_within, slice_get-map}
 use Rattle.std.proofs.lemmas.List.{length-map}
@@ -27,7 +27,7 @@ use Rattle.fax_walk.specs.views.Walk.{WalkView, HasEndedAs, IsNext, IsCursorOf, 
 use Rattle.fax_walk.specs.views.Pages.{PagesView, HandsOutPage, IsNextPage, PagesHaveEnded, pages_from}
 use Rattle.fax_walk.specs.laws.Tails.{BeginningsHaveOneTail, CursorsHaveOneFormTail}
 use Rattle.fax_walk.specs.Pages.{FilePage, FormItem, IsFormTail, IsPageAt}
-use Rattle.fax_walk.specs.Rows.{Item, Place, IsInStrip, IsRow, IsTailFrom, begins_at, cursor_after, cursor_at, long_after, strip_at}
+use Rattle.fax_walk.specs.Rows.{Item, Place, IsInStrip, IsRow, IsTailFrom, begins_at, cursor_after, long_after, strip_at}
 use Rattle.fax_walk.proofs.InOrderLemmas.{same_answer}
 use Rattle.fax_walk.proofs.PageLawLemmas.{one_page}
 use Rattle.fax_walk.proofs.RowLawLemmas.{cases_after}
@@ -77,7 +77,8 @@ pub next_at : (begun : Begun) (lines : List Line) (n : ℕ) (line : Line) → sl
 next_at begun lines n line there = ap (next_after begun) (take_at lines n line there) ∙ next_after-push begun (take n lines) line
 
 -- before the first line there is what the lines began with
-pub none_given : {tail : List Line → End → Type 0} (begun : Begun) → IsOne tail → (given : ℕ) → given ≡ 0 → IsNextAfter tail begun given begun
+pub none_given : {tail : List Line → End → Type 0} (begun : Begun) → IsOne tail → (given : ℕ) → given ≡ 0
+    → IsNextAfter tail begun given begun
 none_given begun one given none = rw none (record { lines = one.items; end = one.end; is = one.is; within = omega arith; next_is = refl })
 
 -- what goes on after a number of lines is one
@@ -88,7 +89,8 @@ next_is_one begun one given next other is is_too =
     let second = one.one is_too.lines is_too.end is_too.is in
     is.next_is ∙ ap (λ (l : List Line). next_after begun (take given l)) (first.0 ∙ sym second.0) ∙ sym is_too.next_is
 
-begins_if : (test : Bool) (place : LongPlace) (at : Cursor) → place.at ≡ at → begins_at (begun_at (if test then Some place else None) at) ≡ at
+begins_if : (test : Bool) (place : LongPlace) (at : Cursor) → place.at ≡ at
+    → begins_at (begun_at (if test then Some place else None) at) ≡ at
 begins_if true place at same = same
 begins_if false place at same = refl
 
@@ -206,7 +208,8 @@ module _ (file : List ℕ) where
     slice_get-map line_of_page all n ∙ ap (option_map line_of_page) there,
   )
 
-  pub pages_end : (at : Cursor) (given : ℕ) (end : End) → EndsAfter (IsFormTail file at) given end → EndsAfter (ArePageLines file at) given end
+  pub pages_end : (at : Cursor) (given : ℕ) (end : End) → EndsAfter (IsFormTail file at) given end
+      → EndsAfter (ArePageLines file at) given end
   pages_end at given end (all, tail, count) =
       (map line_of_page all, record { items = all; tail = tail; lines_are = refl }, length-map all line_of_page ∙ count)
 
@@ -229,7 +232,8 @@ after_number begun n line (lines, end, is, there) =
     record { lines = lines; end = end; is = is; within = omega (arith, within); next_is = sym (next_at begun lines n line there) }
 
 -- the line of an item is collected
-pub row_put : (file : List ℕ) (begun : Begun) (given new_given : ℕ) (item : Item) (page row : ℕ) (pels : List Colour) (text new_text : List ℕ)
+pub row_put : (file : List ℕ) (begun : Begun) (given new_given : ℕ) (item : Item) (page row : ℕ) (pels : List Colour)
+    (text new_text : List ℕ)
     → IsItemNumber file begun given item → item.page ≡ page → item.row ≡ row → item.pels ≡ pels → new_given ≡ given + 1
     → new_text ≡ text ++ row_line_of page row (runs_of pels)
     → IsLinePut (AreRowLines file begun) given text (Ok None) new_given new_text
@@ -309,7 +313,8 @@ pub page_put : (old new : PagesView) (item : FormItem) (text new_text : List ℕ
 page_put old new item text new_text hands grown =
     (line_of_page item, page_number old.file old.begun old.given item hands.number, ap (λ (p : PagesView). p.given) hands.new_is, grown)
 
-pub pages_ended : (old new : PagesView) (end : End) (text : List ℕ) → PagesHaveEnded old end new → IsPagePut old new text (Ok (Some end)) text
+pub pages_ended : (old new : PagesView) (end : End) (text : List ℕ) → PagesHaveEnded old end new
+    → IsPagePut old new text (Ok (Some end)) text
 pages_ended old new end text ended =
     (pages_end old.file old.begun old.given end ended.ends, ap (λ (p : PagesView). p.given) ended.new_is, refl)
 

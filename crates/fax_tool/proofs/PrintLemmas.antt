@@ -131,7 +131,8 @@ module _ (tail now : List Line → End → Type 0) (one : IsOne tail) (given : �
       })
 
   -- all of the lines' text is written
-  all_written : (new_written : Option (List ℕ)) → Appends written new_written text → Appends output new_written (texts_of (take given some.lines))
+  all_written : (new_written : Option (List ℕ)) → Appends written new_written text
+      → Appends output new_written (texts_of (take given some.lines))
   all_written new_written moved =
       rw some.collected (Appends-trans output written new_written some.sent text some.printed moved)
 
@@ -180,7 +181,8 @@ module _ (tail now : List Line → End → Type 0) (one : IsOne tail) (given : �
         → StopsPrinting NoText (IsTextOfFirst tail max begun) refusal (output_after output new_written counts)
     stopped_for_write new_written counts refusal given_in_part =
         let first : List ℕ → Type 0 = λ (t : List ℕ). IsTextOfFirst tail max begun (some.sent ++ t) in
-        stops_after NoText NoText (λ (t : List ℕ). IsTextOfFirst tail max begun (some.sent ++ t)) (IsTextOfFirst tail max begun) refusal output
+        stops_after NoText NoText (λ (t : List ℕ). IsTextOfFirst tail max begun (some.sent ++ t))
+        (IsTextOfFirst tail max begun) refusal output
         written new_written counts some.sent some.printed (λ printed none. absurd none) (λ t holds. holds)
         (stops_in_front (λ (t : List ℕ). IsTextOfFirst tail max begun (some.sent ++ t)) written new_written text next counts refusal
         first_lines given_in_part)
@@ -197,8 +199,10 @@ module _ (tail now : List Line → End → Type 0) (one : IsOne tail) (given : �
         let from_is : from ≡ next_after begun (take given some.lines) =
         after.next_is ∙ ap (λ (b : Begun). next_after b (take given after.lines)) same_begun
         ∙ ap (λ (l : List Line). next_after begun (take given l)) are.0 in
-        let next_is : line ≡ next = line_is ∙ ap (λ (c : Cursor). next_line (At c)) at ∙ ap (λ (b : Begun). next_line (named false b)) from_is in
-        stops_after NoText NoText (λ (t : List ℕ). t ≡ shown ++ line) (IsTextOfFirst tail max begun) refusal output written new_written counts
+        let next_is : line ≡ next = line_is ∙ ap (λ (c : Cursor). next_line (At c)) at ∙ ap (λ (b : Begun). next_line
+        (named false b)) from_is in
+        stops_after NoText NoText (λ (t : List ℕ). t ≡ shown ++ line)
+        (IsTextOfFirst tail max begun) refusal output written new_written counts
         some.sent some.printed (λ printed none. absurd none)
         (λ t is. rw (is, same, next_is) first_lines) stops
 
@@ -252,6 +256,7 @@ module _ (tail : List Line → End → Type 0) (begun : Begun) (given : ℕ) (lo
       → IfErr answer (StopsLast ending)
   next_is_last ending (Ok done) turns stops = tt
   next_is_last ending (Err refusal) turns stops =
-      stops_more (λ printed. IsNextLine tail begun given long printed.output) (λ printed. IsLastLine tail begun given long ending printed.output)
+      stops_more (λ printed. IsNextLine tail begun given long printed.output)
+      (λ printed. IsLastLine tail begun given long ending printed.output)
       (IsNextLine tail begun given false) (IsNextLine tail begun given false) refusal (output_after old new counts)
       (λ printed is. turns printed.output is) (λ text is. is) stops

@@ -1,6 +1,6 @@
 -- Runs that go on where the one before them was cut.
-use Rattle.std.proofs.Common.{◌≡◌, ℕ, zero, suc, List, [], ◌∷◌, ◌++◌, length, take, drop, refl, ap, sym, ◌∙◌, subst, append_assoc}
-use Rattle.std.proofs.Common.{append-nil}
+use Rattle.std.proofs.Common.{◌≡◌, ℕ, zero, suc, List, [], ◌∷◌, ◌++◌, length}
+use Rattle.std.proofs.Common.{take, drop, refl, ap, sym, ◌∙◌, subst, append_assoc, append-nil}
 use Rattle.std.proofs.Common.{true, false, Bool, take-append-drop, arith}
 use Rattle.std.proofs.Math.Seq.{take-length}
 use Rattle.std.proofs.lemmas.List.{drop_all}
@@ -17,7 +17,7 @@ use Rattle.fax_walk.specs.Pages.{FilePage, IsPageAt}
 use Rattle.fax_walk.specs.Rows.{Item, IsTailFrom, cursor_after, long_after}
 use Rattle.fax_tool.specs.Run.{AreRowLines, IsRowLine}
 use Rattle.fax_tool.specs.Text.{Line, Printed, begun_at, last_line, named, next_after, text_of, texts_of, whole_text}
-use Rattle.fax_tool.specs.laws.Runs.{AreAsOneRun, AreRuns, IsRun, MayBegin, RunsGoOn, is_cut, up_to}
+use Rattle.fax_tool.specs.laws.Runs.{AreAsOneRun, AreRuns, MayBegin, RunsGoOn, is_cut, up_to}
 use Rattle.fax_tool.proofs.LineLemmas.{begins_after, one_rows}
 
 texts_of-append : (xs ys : List Line) → texts_of (xs ++ ys) ≡ texts_of xs ++ texts_of ys

@@ -1,5 +1,5 @@
 -- The text of lines that are printed up to a limit or to their end.
-use Rattle.std.proofs.Common.{◌≡◌, ℕ, ◌<◌, ◌≤◌, List, [], ◌++◌, length, take, refl, ap, sym, ◌∙◌, subst, append-nil, arith, true, false}
+use Rattle.std.proofs.Common.{◌≡◌, ℕ, ◌<◌, ◌≤◌, List, ◌++◌, length, take, refl, ap, sym, ◌∙◌, arith, true, false}
 use Rattle.std.proofs.Common.{Bool, ◌↔◌}
 use Rattle.std.proofs.Math.Seq.{take-length}
 use Rattle.std.proofs.lemmas.Bool.{le-leb, lt-leb}
@@ -12,7 +12,7 @@ use Rattle.fax_walk.specs.declared.end.End.TheVariants.{Proper, Fault, Outside}
 use Rattle.fax_walk.specs.laws.InOrder.{IsOne}
 use Rattle.fax_tool.specs.declared.refusal.Refusal.{Refusal}
 use Rattle.fax_tool.specs.Streams.{Counts, output_after}
-use Rattle.fax_tool.specs.Text.{Line, Printed, end_status, error_text, last_line, named, next_after, next_line, text_of, texts_of}
+use Rattle.fax_tool.specs.Text.{Line, end_status, error_text, last_line, named, next_after, next_line, text_of, texts_of}
 use Rattle.fax_tool.specs.Run.{IsTextOfFirst, IsTextOfLines}
 use Rattle.fax_tool.specs.code.Outcome.{StopsPrinting, WritesOutput, end_line, error_of, status_of}
 use Rattle.fax_tool.specs.code.Printing.{EndsWith, IsLastLine, IsNextAfter, IsNextLine, PrintsLines}
@@ -119,7 +119,8 @@ module _ (tail now : List Line → End → Type 0) (one : IsOne tail) (same : (a
   all_printed new_written counts line is moved = record {
     printed = text_of long max begun prints.lines prints.end;
     is = (prints.lines, prints.end, prints.is, refl);
-    output_is = rw (whole line is) (Appends-trans output written new_written (texts_of (take count prints.lines)) line prints.printed moved);
+    output_is = rw (whole line is) (Appends-trans output written new_written (texts_of
+        (take count prints.lines)) line prints.printed moved);
     error_is = ended.error;
     status_is = ended.status;
   }
@@ -137,7 +138,8 @@ module _ (tail now : List Line → End → Type 0) (one : IsOne tail) (same : (a
       first stops
 
 -- the lines were refused
-pub stopped_at_lines : (tail : List Line → End → Type 0) (begun : Begun) (long : Bool) (max : Option ℕ) (output new_output : Option (List ℕ))
+pub stopped_at_lines : (tail : List Line → End → Type 0) (begun : Begun) (long : Bool) (max : Option ℕ) (output new_output : Option
+    (List ℕ))
     (counts : Counts) (refusal : Refusal)
     → StopsPrinting NoText (IsTextOfFirst tail max begun) refusal (output_after output new_output counts)
     → StopsPrinting (IsTextOfLines tail long max begun) (IsTextOfFirst tail max begun) refusal (output_after output new_output counts)

@@ -32,7 +32,8 @@ pub trait Lines {
 
     /// The cursor after what the last line told, or the one that the lines began with.
     fn cursor(&self) -> Cursor
-        ensures { (next : Begun) × IsNextAfter (tail self.now) (begun self.now) (given self.now) next
+        ensures { (next : Begun)
+            × IsNextAfter (tail self.now) (begun self.now) (given self.now) next
             × (result ≡ begins_at next) };
 
     /// The place inside a strip after what the last line told, or the one that the lines began

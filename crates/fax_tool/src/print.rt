@@ -310,8 +310,9 @@ fn begin_or_stop<W: Sink>(part: &Part, out: &mut W) -> Result<Begun, Refusal>
     requires { W.counts out.old ≡ no_faults }
     ensures ok { IfOk result (λ begun. begun ≡ begun_of part.now) }
     ensures unwritten { OnOk result (out.new ≡ out.old) }
-    ensures err { IfErr result (λ refusal. StopsWith (next_line (At (begins_at (begun_of part.now))))
-        refusal (output_after (W.written out.old) (W.written out.new) (W.counts out.new))) }
+    ensures err { IfErr result (λ refusal. StopsWith
+        (next_line (At (begins_at (begun_of part.now)))) refusal
+        (output_after (W.written out.old) (W.written out.new) (W.counts out.new))) }
 {
     match part.begun() {
         Ok(begun) => Ok(begun),

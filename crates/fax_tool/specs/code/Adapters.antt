@@ -2,8 +2,7 @@
 use Rattle.fax_tool.specs.declared.streams.FromRead.{FromRead}
 use Rattle.fax_tool.specs.declared.streams.ToWrite.{ToWrite}
 use Rattle.std.specs.Prelude.{◌≡◌, ◌≢◌, ℕ, ◌+◌, ◌-◌, ◌^◌, ◌<◌, min, List, length, take, Option}
-use Rattle.std.specs.Prelude.{Some}
-use Rattle.std.specs.Prelude.{None, ⊤, Result, Ok, Err}
+use Rattle.std.specs.Prelude.{Some, None, ⊤, Result, Ok, Err}
 use Rattle.std.specs.Io.KnownBytes.{Appends, Consumes, IsAtEnd, Keeps}
 use Rattle.std.specs.declared.io.ErrorKind.{ErrorKind}
 use Rattle.std.specs.declared.io.ErrorKind.TheVariants.{Interrupted as WasInterrupted}

@@ -1,7 +1,6 @@
 -- Steps of printing lines.
 use Rattle.std.specs.Prelude.{◌≡◌, ℕ, ◌+◌, ◌<◌, ◌≤◌, Bool, List, [], ◌++◌, length, take, Option}
-use Rattle.std.specs.Prelude.{Some, None}
-use Rattle.std.specs.Prelude.{IfSome, Result, Ok, Err, codes}
+use Rattle.std.specs.Prelude.{Some, None, IfSome, Result, Ok, Err, codes}
 use Rattle.std.specs.Io.KnownBytes.{Appends}
 use Rattle.fax_bits.specs.declared.Memory.{Memory as NoMemory}
 use Rattle.fax_walk.specs.declared.begun.Begun.{Begun}

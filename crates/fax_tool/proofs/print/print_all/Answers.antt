@@ -13,7 +13,8 @@ pub returns-in_err-give_last_line-clause-err : goal.returns-in_err-give_last_lin
 returns-in_err-give_last_line-clause-err g c =
     let p = err_from_is_err_and c.from_residual-in_err-give_last_line.result c.from_residual-in_err-give_last_line.ensures.1 in
     rw (p.1, p.2)
-    (stopped_at_last (g.L.Lines.tail c.args.lines.now) (g.L.Lines.tail c.print_lines.new.lines) c.are_one.ensures c.in_ok-ending.ensures.tail
+    (stopped_at_last (g.L.Lines.tail c.args.lines.now) (g.L.Lines.tail c.print_lines.new.lines) c.are_one.ensures
+    c.in_ok-ending.ensures.tail
     (g.L.Lines.begun c.args.lines.now) (g.L.Lines.begun c.print_lines.new.lines) c.in_ok-ending.ensures.begun c.args.long c.args.max
     c.in_ok-ending.ending (g.L.Lines.given c.print_lines.new.lines) (g.W.Sink.written c.args.out.now)
     (g.W.Sink.written c.print_lines.new.out) c.in_ok-ending.ensures.ok _ _ _ c.in_err-give_last_line.ensures.err)

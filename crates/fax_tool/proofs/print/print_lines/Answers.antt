@@ -40,7 +40,8 @@ loop-left-preserved g c =
       some = one_more (g.L.Lines.tail c.args.lines.now) (g.L.Lines.tail c.loop-left.lines) c.loop-left.invariant.one
           (g.L.Lines.given c.loop-left.lines) c.args.max c.loop-left.left (g.W.Sink.written c.args.out.now)
           (g.W.Sink.written c.write_where_long.new.out) c.write_where_long.new.text sent (g.L.Lines.tail c.put_next.new.self)
-          (g.L.Lines.given c.put_next.new.self) _ put.0 _ c.in-Ok-None.ensures.tail put.1 put.2 (search rules) c.after_one-left.ensures put.3;
+          (g.L.Lines.given c.put_next.new.self) _ put.0 _ c.in-Ok-None.ensures.tail put.1 put.2
+          (search rules) c.after_one-left.ensures put.3;
       begun = c.in-Ok-None.ensures.begun ∙ c.loop-left.invariant.begun;
       counts = c.in_ok-write_where_long.ensures.counts;
     }

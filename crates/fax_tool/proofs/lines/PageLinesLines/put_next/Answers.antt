@@ -6,8 +6,8 @@ use Rattle.fax_tool.specs.Run.{ArePageLines}
 use Rattle.fax_tool.specs.code.Printing.{IsLinePut}
 use Rattle.fax_tool.proofs.LineLemmas.{page_put, pages_ended, pages_refused, pages_stand, same_pages}
 use Rattle.fax_tool.proofs.lines.PageLinesLines.put_next.Goals as goal
-use Rattle.fax_tool.proofs.lines.PageLinesLines.put_next.Goals.{in-Ok-Some+in_ok-put_page_line-in-Ok-Some, in-Ok-None}
-use Rattle.fax_tool.proofs.lines.PageLinesLines.put_next.Goals.{in-Err+in_ok-end_of-in-Err}
+use Rattle.fax_tool.proofs.lines.PageLinesLines.put_next.Goals.{in-Ok-Some+in_ok-put_page_line-in-Ok-Some}
+use Rattle.fax_tool.proofs.lines.PageLinesLines.put_next.Goals.{in-Ok-None, in-Err+in_ok-end_of-in-Err}
 
 pub invariant_of-self : goal.invariant_of-self
 invariant_of-self c = pages_stand c.self.inside.pages c.next_page.new.self c.next_page.result c.next_page.ensures c.self.invariant
