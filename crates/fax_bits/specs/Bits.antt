@@ -1,4 +1,5 @@
 -- The bits of a strip: a list of truth values, where true is the bit 1.
+-- A definition without a citation is this project's profile.
 use Rattle.std.specs.Prelude.{◌≡◌, ℕ, zero, suc, ◌+◌, ◌-◌, ◌*◌, Bool, true, false, if◌then◌else◌}
 use Rattle.std.specs.Prelude.{List, [], ◌∷◌, ◌++◌, replicate, reverse, fold, flat_map, ◌==◌}
 use Rattle.std.specs.Int.{bit_at}
@@ -24,7 +25,7 @@ other_order LsbFirst = MsbFirst
 unfoldable pub bits : FillOrder → List ℕ → List Bool
 bits order bytes = flat_map (byte_bits order) bytes
 
--- the number that bits spell, the highest first (this project's profile)
+-- the number that bits spell, the highest first
 abbrev pub bits_number : List Bool → ℕ
 bits_number b = fold (λ number bit. 2 * number + (if bit then 1 else 0)) 0 b
 

@@ -1,4 +1,5 @@
 -- What it is that bits begin with a code of a table, or with none.
+-- A definition without a citation is this project's profile.
 use Rattle.std.specs.Prelude.{◌≡◌, ℕ, zero, suc, ◌^◌, ◌<◌, ◌≤◌, Bool, List, [], ◌∷◌, ◌++◌, Contains}
 use Rattle.std.specs.Prelude.{Some, slice_get}
 use Rattle.fax_bits.specs.declared.codes.CodeEntry.{CodeEntry}
@@ -61,7 +62,7 @@ HasNoCode {M} table b =
 abbrev pub IsCutShort : {M : Type 0} → List (CodeEntry M) → List Bool → Type 0
 IsCutShort {M} table b = (entry : CodeEntry M) × Contains table entry × IsCutBy (bits_of entry) b
 
--- which fault it is that no code begins the bits (this project's profile)
+-- which fault it is that no code begins the bits
 abbrev pub IsFaultOf : {M : Type 0} → List (CodeEntry M) → List Bool → CodeFault → Type 0
 IsFaultOf table b DataEnds = HasNoCode table b × IsCutShort table b
 IsFaultOf table b BadCode = HasNoCode table b × (IsCutShort table b → ⊥)

@@ -1,4 +1,5 @@
 -- A TIFF directory and the values of its fields (TIFF 6.0, section 2).
+-- A definition without a citation is this project's profile.
 use Rattle.std.specs.Prelude.{ℕ, zero, suc, ◌+◌, ◌*◌, ◌≤◌, length, Bool, true, nat_le, nat_lt, ◌==◌}
 use Rattle.std.specs.Prelude.{◌&&◌, ◌||◌, if◌then◌else◌, List, [], ◌∷◌, find, Option, Some, None}
 use Rattle.std.specs.Prelude.{Result, Ok, Err}
@@ -48,7 +49,7 @@ entries endian file q = entries_at endian file (q + 2) (entry_count endian file 
 abbrev pub next_offset : Endian → List ℕ → ℕ → ℕ
 next_offset endian file q = number_at endian 4 file (q + 2 + 12 * entry_count endian file q)
 
--- the first entry of a tag (this project's profile)
+-- the first entry of a tag
 abbrev pub field : List Entry → ℕ → Option Entry
 field fields tag = find (λ entry. entry.tag == tag) fields
 
@@ -64,7 +65,7 @@ LONG = 4
 abbrev pub RATIONAL : ℕ
 RATIONAL = 5
 
--- an entry's values are SHORT or LONG (this project's profile)
+-- an entry's values are SHORT or LONG
 abbrev pub is_integer : Entry → Bool
 is_integer entry = (entry.kind == SHORT) || (entry.kind == LONG)
 
@@ -86,28 +87,27 @@ value_at endian file entry i =
     (values_place endian file entry + i * value_len entry)
 
 -- an entry has n values at least, SHORT or LONG, and the first n lie in the file
--- (this project's profile)
 unfoldable pub has_integers : Endian → List ℕ → Entry → ℕ → Bool
 has_integers endian file entry n =
     is_integer entry && (nat_le n entry.count
     && is_inside file (values_place endian file entry) (n * value_len entry))
 
--- a scalar's value: the first one of the entry (this project's profile)
+-- a scalar's value: the first one of the entry
 unfoldable pub scalar : Endian → List ℕ → Entry → Result ℕ FileFault
 scalar endian file entry =
     if has_integers endian file entry 1 then (Ok (value_at endian file entry 0))
     else (Err (BadField entry.tag))
 
--- the entry of a tag, which has to be there (this project's profile)
+-- the entry of a tag, which has to be there
 abbrev pub needed : List Entry → ℕ → Result Entry FileFault
 needed fields tag =
     elim (field fields tag) [ None ↦ Err (MissingField tag) | Some entry ↦ Ok entry ]
 
--- the scalar of a tag that has to be there (this project's profile)
+-- the scalar of a tag that has to be there
 unfoldable pub needed_scalar : Endian → List ℕ → List Entry → ℕ → Result ℕ FileFault
 needed_scalar endian file fields tag = needed fields tag >>= scalar endian file
 
--- the scalar of a tag, or what stands for it where it is absent (this project's profile)
+-- the scalar of a tag, or what stands for it where it is absent
 unfoldable pub scalar_or : Endian → List ℕ → List Entry → ℕ → ℕ → Result ℕ FileFault
 scalar_or endian file fields tag absent =
     elim (field fields tag) [ None ↦ Ok absent | Some entry ↦ scalar endian file entry ]

@@ -1,4 +1,5 @@
 -- The names of faults, as they are printed.
+-- A definition without a citation is this project's profile.
 use Rattle.std.specs.Prelude.{ℕ, List, codes, Option, Some, None}
 use Rattle.fax_page.specs.declared.StripFault.{StripFault}
 use Rattle.fax_page.specs.declared.StripFault.TheVariants.{DataEnds, BadCode, Extension, RunTooLong}
@@ -15,7 +16,7 @@ use Rattle.fax_files.specs.declared.pbm.PbmFault.TheVariants.{ShortRaster}
 use Rattle.fax_files.specs.declared.Cause.{Cause}
 use Rattle.fax_files.specs.declared.Cause.TheVariants.{File, Strip}
 
--- the name of a file's fault (this project's profile)
+-- the name of a file's fault
 abbrev pub file_fault_name : FileFault → List ℕ
 file_fault_name ShortHeader = codes "ShortHeader"
 file_fault_name ByteOrder = codes "ByteOrder"
@@ -29,7 +30,7 @@ file_fault_name (Unsupported tag) = codes "Unsupported"
 file_fault_name (OutOfLimits tag) = codes "OutOfLimits"
 file_fault_name StripOutside = codes "StripOutside"
 
--- the tag of the field at fault, where a file's fault has one (this project's profile)
+-- the tag of the field at fault, where a file's fault has one
 abbrev pub file_fault_tag : FileFault → Option ℕ
 file_fault_tag ShortHeader = None
 file_fault_tag ByteOrder = None
@@ -43,7 +44,7 @@ file_fault_tag (Unsupported tag) = Some tag
 file_fault_tag (OutOfLimits tag) = Some tag
 file_fault_tag StripOutside = None
 
--- the name of a strip's fault (this project's profile)
+-- the name of a strip's fault
 abbrev pub strip_fault_name : StripFault → List ℕ
 strip_fault_name DataEnds = codes "DataEnds"
 strip_fault_name BadCode = codes "BadCode"
@@ -53,17 +54,17 @@ strip_fault_name OutOfRow = codes "OutOfRow"
 strip_fault_name MissingEol = codes "MissingEol"
 strip_fault_name EndMarker = codes "EndMarker"
 
--- the name of a cause: that of its fault (this project's profile)
+-- the name of a cause: that of its fault
 abbrev pub fault_name : Cause → List ℕ
 fault_name (File fault) = file_fault_name fault
 fault_name (Strip fault) = strip_fault_name fault
 
--- the tag of a cause's fault, where it has one (this project's profile)
+-- the tag of a cause's fault, where it has one
 abbrev pub fault_tag : Cause → Option ℕ
 fault_tag (File fault) = file_fault_tag fault
 fault_tag (Strip fault) = None
 
--- the name of an image's fault (this project's profile)
+-- the name of an image's fault
 abbrev pub pbm_fault_name : PbmFault → List ℕ
 pbm_fault_name BadHeader = codes "BadHeader"
 pbm_fault_name ImageOutOfLimits = codes "OutOfLimits"

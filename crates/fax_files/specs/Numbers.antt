@@ -1,4 +1,5 @@
 -- Numbers in a TIFF file, and its header.
+-- A definition without a citation is this project's profile.
 use Rattle.std.specs.Prelude.{ℕ, ◌+◌, Bool, nat_le, ◌==◌, not, if◌then◌else◌, List, length, take}
 use Rattle.std.specs.Prelude.{drop, Result, Ok, Err, codes, bytes_eq}
 use Rattle.byteorder.specs.Endian.{little_number, big_number}
@@ -28,7 +29,7 @@ abbrev pub ◌>>=◌ : {A B : Type 0} → Result A FileFault → (A → Result B
 (Ok x) >>= next = next x
 (Err fault) >>= next = Err fault
 
--- goes on where the test holds, and else ends with the fault (this project's profile)
+-- goes on where the test holds, and else ends with the fault
 abbrev pub check : Bool → FileFault → Result (Unit {0}) FileFault
 check test fault = if test then (Ok tt) else (Err fault)
 

@@ -1,4 +1,5 @@
 -- The form of a page, from the fields of its directory.
+-- A definition without a citation is this project's profile.
 use Rattle.std.specs.Prelude.{◌≡◌, ◌≤◌, ◌<◌, ℕ, ◌+◌, ◌-◌, ◌/◌, ◌%◌, ◌^◌, ◌≢◌, min, Bool, true}
 use Rattle.std.specs.Prelude.{false, nat_le, nat_lt, ◌==◌, ◌&&◌, ◌||◌, not}
 use Rattle.std.specs.Prelude.{if◌then◌else◌, List, Option, Some, None, Result, Ok}
@@ -16,7 +17,7 @@ use Rattle.fax_files.specs.Directory.{Entry, RATIONAL, entries, field, values_pl
 use Rattle.fax_files.specs.Directory.{needed, needed_scalar, scalar_or}
 use Rattle.fax_files.specs.Tags
 
--- the number lies between these two (this project's profile)
+-- the number lies between these two
 abbrev pub is_between : ℕ → ℕ → ℕ → Bool
 is_between low high n = nat_le low n && nat_le n high
 
@@ -52,7 +53,6 @@ pub record PelFormat : Type 0 where
   pub order : FillOrder
 
 -- how pels are coded: by Compression, one bit for each, either colour as 0, in a fill order
--- (this project's profile)
 unfoldable pub pel_format : Endian → List ℕ → List Entry → Result PelFormat FileFault
 pel_format endian file fields = do
   bits_per_sample ← scalar_or endian file fields Tags.BITS_PER_SAMPLE 1
@@ -97,7 +97,7 @@ page_coding endian file fields compression =
     if compression == 4 then (Ok (record { coding = Mmr; aligned = false }))
     else (t4_coding endian file fields)
 
--- StripOffsets or StripByteCounts, with a value for each strip (this project's profile)
+-- StripOffsets or StripByteCounts, with a value for each strip
 unfoldable pub strip_field : Endian → List ℕ → List Entry → ℕ → ℕ → Result Entry FileFault
 strip_field endian file fields tag strips = do
   entry ← needed fields tag
@@ -111,23 +111,23 @@ rational_at endian file entry =
     let place = values_place endian file entry in
     (number_at endian 4 file place, number_at endian 4 file (place + 4))
 
--- an entry has a RATIONAL that lies in the file (this project's profile)
+-- an entry has a RATIONAL that lies in the file
 unfoldable pub has_rational : Endian → List ℕ → Entry → Bool
 has_rational endian file entry =
     (entry.kind == RATIONAL) && (nat_le 1 entry.count
     && is_inside file (values_place endian file entry) 8)
 
--- both numbers are above 0 (this project's profile)
+-- both numbers are above 0
 abbrev pub are_some : ℕ × ℕ → Bool
 are_some value = nat_lt 0 value.0 && nat_lt 0 value.1
 
--- an entry's RATIONAL, where it has a good one (this project's profile)
+-- an entry's RATIONAL, where it has a good one
 unfoldable pub good_rational : Endian → List ℕ → Entry → Option (ℕ × ℕ)
 good_rational endian file entry =
     if has_rational endian file entry && are_some (rational_at endian file entry)
     then (Some (rational_at endian file entry)) else None
 
--- the rational of a tag, where it is there and good (this project's profile)
+-- the rational of a tag, where it is there and good
 unfoldable pub rational_of : Endian → List ℕ → List Entry → ℕ → Option (ℕ × ℕ)
 rational_of endian file fields tag =
     elim (field fields tag) [ None ↦ None | Some entry ↦ good_rational endian file entry ]
@@ -139,11 +139,11 @@ pub record Resolution : Type 0 where
   pub y : ℕ × ℕ
   pub unit : ℕ
 
--- 204 by 196 dots an inch, where a page has no good resolution (this project's profile)
+-- 204 by 196 dots an inch, where a page has no good resolution
 abbrev pub usual_resolution : Resolution
 usual_resolution = record { x = (204, 1); y = (196, 1); unit = 2 }
 
--- the resolution of these parts, where all of them are good (this project's profile)
+-- the resolution of these parts, where all of them are good
 abbrev pub resolution_from : Option (ℕ × ℕ) → Option (ℕ × ℕ) → Result ℕ FileFault → Resolution
 resolution_from (Some x) (Some y) (Ok unit) =
     if is_between 1 3 unit then (record { x = x; y = y; unit = unit }) else usual_resolution
@@ -191,7 +191,7 @@ pub record IsGoodRational (value : ℕ × ℕ) : Type 0 where
   pub some_bottom : 1 ≤ value.1
   pub bottom : value.1 < 4294967296
 
--- the limits of a page's form; EOLs are aligned only where rows have them (this project's profile)
+-- the limits of a page's form; EOLs are aligned only where rows have them
 pub record IsPageForm (form : PageForm) : Type 0 where
   pub some_width : 1 ≤ form.width
   pub width : form.width ≤ 65535

@@ -1,4 +1,5 @@
 -- Raw PBM: images one after another (the netpbm format, P4, in this project's profile).
+-- A definition without a citation is this project's profile.
 use Rattle.std.specs.Prelude.{◌≡◌, ◌≢◌, ℕ, zero, suc, ◌+◌, ◌-◌, ◌*◌, ◌<◌, ◌⊎◌, Bool, ◌==◌, ◌||◌}
 use Rattle.std.specs.Prelude.{◌&&◌, not, List, [], ◌∷◌, ◌++◌, length, take, drop, fold, codes}
 use Rattle.std.specs.Prelude.{decimal, Option, Some, None, IsTrue, IsFalse}
@@ -69,7 +70,7 @@ pub record IsHead (bytes : List ℕ) (width height : ℕ) (rest : List ℕ) : Ty
   pub spelled : bytes ≡ codes "P4"
       ++ (first_gap ++ (width_digits ++ (second_gap ++ (height_digits ++ space ∷ rest))))
 
--- a width and a height that are read (this project's profile)
+-- a width and a height that are read
 abbrev pub is_within_limits : ℕ → ℕ → Bool
 is_within_limits width height = is_between 1 65535 width && is_between 1 1000000 height
 
@@ -94,7 +95,7 @@ pub record IsImage (bytes : List ℕ) (image : Image) (rest : List ℕ) : Type 0
   pub whole : length raster ≡ raster_len image.width height
   pub rows_are : image.rows ≡ raster_rows image.width height raster
 
--- the bytes begin with no image, for this fault (this project's profile)
+-- the bytes begin with no image, for this fault
 abbrev pub IsImageFault : List ℕ → PbmFault → Type 0
 IsImageFault bytes BadHeader =
     (width height : ℕ) (rest : List ℕ) → IsHead bytes width height rest → ⊥

@@ -1,4 +1,5 @@
 -- TIFF files as they are written (TIFF 6.0, RFC 2306's profile F, and this project's profile).
+-- A definition without a citation is this project's profile.
 use Rattle.std.specs.Prelude.{ℕ, ◌+◌, ◌*◌, ◌%◌, Bool, if◌then◌else◌, List, [], ◌∷◌, ◌++◌, length}
 use Rattle.std.specs.Prelude.{take, drop, replicate, flat_map, codes}
 use Rattle.byteorder.specs.Endian.{little_bytes}
@@ -10,7 +11,7 @@ use Rattle.fax_files.specs.Directory.{SHORT, LONG, RATIONAL}
 use Rattle.fax_files.specs.Tags
 use Rattle.fax_files.specs.declared.PageForm.{PageForm}
 
--- the most bytes of a file that is written (this project's profile)
+-- the most bytes of a file that is written
 abbrev pub max_file : ℕ
 max_file = 268435456
 

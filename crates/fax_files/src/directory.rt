@@ -2,7 +2,7 @@
 
 ghost use Rattle.std.specs.Prelude.{◌≡◌, ◌+◌, ◌*◌, ◌<◌, ◌≤◌, length, Ok, IfOk};
 ghost use Rattle.fax_files.specs.Directory as Spec;
-ghost use Rattle.fax_files.specs.code.Fields as Fields;
+ghost use Rattle.fax_files.specs.code.Fields as Code;
 ghost use Rattle.fax_files.specs.Page.{IsPageForm};
 ghost use Rattle.fax_files.specs.code.Fields.{AreFieldsOf};
 ghost use Rattle.fax_files.specs.views.Fields.{entries_of};
@@ -45,7 +45,7 @@ pub(crate) fn entry_count(file: &File, offset: usize) -> u16
 impl<'a> Directory<'a> {
     /// The directory at an offset.
     pub(crate) fn new(file: File<'a>, offset: usize) -> Self
-        requires { Fields.IsWholeDirectory file.endian file.bytes.now offset }
+        requires { Code.IsWholeDirectory file.endian file.bytes.now offset }
         ensures endian { result.endian ≡ file.entry.endian }
         ensures file { result.file ≡ file.entry.bytes.now }
         ensures offset { result.offset ≡ offset }

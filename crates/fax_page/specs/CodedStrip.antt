@@ -1,4 +1,5 @@
 -- Strips as they are written.
+-- A definition without a citation is this project's profile.
 use Rattle.std.specs.Prelude.{◌≡◌, ℕ, ◌+◌, ◌-◌, ◌%◌, Bool, true, false, nat_eq, if◌then◌else◌, List}
 use Rattle.std.specs.Prelude.{[], ◌∷◌, ◌++◌, length, replicate, All}
 use Rattle.fax_bits.specs.declared.Colour.{Colour}
@@ -62,8 +63,8 @@ coded_lines form k before i reference (row ∷ rows) =
     let line = coded_line form k before i reference row in
     line ++ coded_lines form k (before + length line) (i + 1) row rows
 
--- what is written after the last row: the end of the facsimile block in MMR
--- (T.6, End-of-facsimile block), and nothing in MH and MR (this project's profile)
+-- what is written after the last row: the end of the facsimile block in MMR (T.6, End-of-facsimile
+-- block), and nothing in MH and MR
 abbrev pub end_bits : Coding → List Bool
 end_bits Mmr = end_of_block
 end_bits _ = []

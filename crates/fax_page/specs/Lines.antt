@@ -1,4 +1,5 @@
 -- How a row begins in a strip, and what keeps it from being read.
+-- A definition without a citation is this project's profile.
 use Rattle.std.specs.Prelude.{◌≡◌, ◌≢◌, ℕ, ◌<◌, ◌≤◌, ◌⊎◌, Bool, true, false, List, [], ◌∷◌, ◌++◌}
 use Rattle.std.specs.Prelude.{replicate}
 use Rattle.fax_bits.specs.Bits.{IsAllZeros, HasZerosAhead}
@@ -33,8 +34,8 @@ abbrev pub BeginsBelowEleven : List Bool → Type 0
 BeginsBelowEleven b = (zeros : ℕ) × (zeros < 11) × HasZerosAhead b zeros
 
 -- what stands before the first code of row i of a strip: an EOL, which the first row may lack in
--- MH, in MR an EOL and a tag bit, nothing in MMR
--- (T.4, sections 4.1.2 and 4.2.2; T.6, section 2.2.1; this project's profile)
+-- MH, in MR an EOL and a tag bit, nothing in MMR (T.4, sections 4.1.2 and 4.2.2; T.6, section
+-- 2.2.1)
 abbrev pub IsStart : Coding → ℕ → List Bool → Dimension → List Bool → Type 0
 IsStart Mh i b dimension rest =
     (dimension ≡ OneDimensional)
@@ -43,7 +44,6 @@ IsStart Mr i b dimension rest = IsEndOfLine b (tag_bit dimension ∷ rest)
 IsStart Mmr i b dimension rest = (dimension ≡ TwoDimensional) × (b ≡ rest)
 
 -- a row of the strip begins in the bits, coded so, and its first code begins the rest
--- (this project's profile)
 pub record IsBegin (form : StripForm) (i : ℕ) (b : List Bool) (dimension : Dimension)
     (rest : List Bool) : Type 0 where
   pub start : IsStart form.coding i b dimension rest
@@ -54,7 +54,7 @@ abbrev pub IsRowIn : Dimension → ℕ → List Colour → List Bool → List Co
 IsRowIn OneDimensional width reference b row rest = IsOneDimensionalRow width b row rest
 IsRowIn TwoDimensional width reference b row rest = IsTwoDimensionalRow reference b row rest
 
--- row i of a strip is this row over its reference, and the rest follows it (this project's profile)
+-- row i of a strip is this row over its reference, and the rest follows it
 pub record IsLine (form : StripForm) (i : ℕ) (reference : List Colour) (b : List Bool)
     (row : List Colour) (rest : List Bool) : Type 0 where
   pub dimension : Dimension
@@ -62,7 +62,7 @@ pub record IsLine (form : StripForm) (i : ℕ) (reference : List Colour) (b : Li
   pub begin : IsBegin form i b dimension codes
   pub coded : IsRowIn dimension form.width reference codes row rest
 
--- a strip's name for the fault of a row (this project's profile)
+-- a strip's name for the fault of a row
 abbrev pub strip_fault : RowFault → StripFault
 strip_fault in_row.DataEnds = DataEnds
 strip_fault in_row.BadCode = BadCode
@@ -71,7 +71,7 @@ strip_fault in_row.RunTooLong = RunTooLong
 strip_fault in_row.OutOfRow = OutOfRow
 
 -- no 1 is left where an EOL is due, or another row than an MH strip's first begins with none, or in
--- MR the tag bit is missing (this project's profile)
+-- MR the tag bit is missing
 abbrev pub IsStartFault : Coding → ℕ → List Bool → StripFault → Type 0
 IsStartFault Mh i b fault =
     (IsAllZeros b × (fault ≡ DataEnds)) ⊎ ((i ≢ 0) × BeginsBelowEleven b × (fault ≡ MissingEol))
@@ -81,18 +81,17 @@ IsStartFault Mr i b fault =
 IsStartFault Mmr i b fault = ⊥
 
 -- eleven zeros stand where a row's first code is due, or fewer zeros and nothing after them
--- (this project's profile)
 abbrev pub IsFirstCodeFault : List Bool → StripFault → Type 0
 IsFirstCodeFault b fault =
     ((behind : List Bool) × (b ≡ replicate 11 false ++ behind) × (fault ≡ EndMarker))
     ⊎ ((zeros : ℕ) × (zeros < 11) × (b ≡ replicate zeros false) × (fault ≡ DataEnds))
 
--- the codes of a row, coded so, stop with this fault (this project's profile)
+-- the codes of a row, coded so, stop with this fault
 abbrev pub IsRowFaultIn : Dimension → ℕ → List Colour → List Bool → RowFault → Type 0
 IsRowFaultIn OneDimensional width reference b fault = IsOneDimensionalFault width b fault
 IsRowFaultIn TwoDimensional width reference b fault = IsTwoDimensionalFault reference b fault
 
--- the first code of row i of a strip is not there (this project's profile)
+-- the first code of row i of a strip is not there
 pub record IsNoFirstCode (form : StripForm) (i : ℕ) (b : List Bool)
     (fault : StripFault) : Type 0 where
   pub dimension : Dimension
@@ -100,7 +99,7 @@ pub record IsNoFirstCode (form : StripForm) (i : ℕ) (b : List Bool)
   pub start : IsStart form.coding i b dimension codes
   pub at_first_code : IsFirstCodeFault codes fault
 
--- row i of a strip begins, and its codes stop with a fault (this project's profile)
+-- row i of a strip begins, and its codes stop with a fault
 pub record IsStopInCodes (form : StripForm) (i : ℕ) (reference : List Colour) (b : List Bool)
     (fault : StripFault) : Type 0 where
   pub dimension : Dimension
@@ -111,7 +110,6 @@ pub record IsStopInCodes (form : StripForm) (i : ℕ) (reference : List Colour) 
   pub fault_is : fault ≡ strip_fault cause
 
 -- row i of a strip is not there, for this cause: at its start, at its first code, or in its codes
--- (this project's profile)
 abbrev pub IsCause : StripForm → ℕ → List Colour → List Bool → StripFault → Type 0
 IsCause form i reference b fault =
     IsStartFault form.coding i b fault ⊎ IsNoFirstCode form i b fault

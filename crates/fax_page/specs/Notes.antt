@@ -1,4 +1,5 @@
--- What is worth a note in a strip that has all its rows (this project's profile).
+-- What is worth a note in a strip that has all its rows.
+-- A definition without a citation is this project's profile.
 use Rattle.std.specs.Prelude.{◌≡◌, ◌≢◌, ℕ, zero, suc, ◌+◌, ◌⊎◌, ◌↔◌, true, List, [], ◌∷◌, ◌++◌}
 use Rattle.std.specs.Prelude.{length, Bool, None, Some, IsTrue, ⊤}
 use Rattle.std.specs.List.{Contains}
@@ -38,7 +39,6 @@ abbrev pub HasEndMark : Coding → List Bool → Type 0
 HasEndMark coding b = (rest : List Bool) × IsEndMark coding b rest
 
 -- what stands after the end mark, or all of the bits where they begin with none
--- (this project's profile)
 abbrev pub IsBehindEnd : Coding → List Bool → List Bool → Type 0
 IsBehindEnd coding b behind = IsEndMark coding b behind ⊎ ((HasEndMark coding b → ⊥) × (behind ≡ b))
 
@@ -47,7 +47,6 @@ abbrev pub IsChosen : Dimension → List Colour → List Bool → List Colour �
 IsChosen dimension reference codes row rest = codes ≡ row_bits dimension reference row ++ rest
 
 -- from row i on, over this reference, the codes of some row are others than T.4 chooses
--- (this project's profile)
 abbrev pub HasOtherChoice : StripForm → ℕ → List Colour → List Bool → List (List Colour) → Type 0
 HasOtherChoice form i reference b [] = ⊥
 HasOtherChoice form i reference b (row ∷ rows) =
@@ -56,7 +55,7 @@ HasOtherChoice form i reference b (row ∷ rows) =
     ⊎ HasOtherChoice form (i + 1) row rest rows)
 
 -- the notes on a strip of which all rows can be read, by what is left after them, and what of it
--- stands after the end mark (this project's profile)
+-- stands after the end mark
 pub record IsNotedAs (form : StripForm) (b : List Bool) (rows : List (List Colour))
     (notes : StripNotes) : Type 0 where
   pub left : List Bool
@@ -72,7 +71,6 @@ pub record IsNotedAs (form : StripForm) (b : List Bool) (rows : List (List Colou
       rows
 
 -- a strip has no notes: this row of it cannot be read. Of want of memory nothing is said
--- (this project's profile)
 abbrev pub IsNotesFault : StripForm → List Bool → NotesFault → Type 0
 IsNotesFault form b Memory = ⊤
 IsNotesFault form b (Strip row fault) =

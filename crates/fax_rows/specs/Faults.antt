@@ -1,4 +1,5 @@
--- Where the codes of a row stop, and why (this project's profile).
+-- Where the codes of a row stop, and why.
+-- A definition without a citation is this project's profile.
 use Rattle.std.specs.Prelude.{◌≡◌, ℕ, ◌+◌, ◌<◌, ◌≤◌, ◌⊎◌, Bool, List, [], ◌∷◌, map, sum, length}
 use Rattle.fax_bits.specs.declared.codes.CodeEntry.{CodeEntry}
 use Rattle.fax_bits.specs.declared.codes.CodeFault.{CodeFault}
@@ -23,23 +24,22 @@ use Rattle.fax_rows.specs.OneDimensional.{AreRuns}
 use Rattle.fax_rows.specs.TwoDimensional.{Position, beginning, first_pel, IsInRow, IsUnfinished}
 use Rattle.fax_rows.specs.TwoDimensional.{AreSteps}
 
--- a row's name for the fault of a code (this project's profile)
+-- a row's name for the fault of a code
 abbrev pub row_fault : CodeFault → RowFault
 row_fault CodeDataEnds = DataEnds
 row_fault CodeBadCode = BadCode
 
--- no code of the table begins the bits, and this is the row's fault for it (this project's profile)
+-- no code of the table begins the bits, and this is the row's fault for it
 abbrev pub IsCodeFault : {M : Type 0} → List (CodeEntry M) → List Bool → RowFault → Type 0
 IsCodeFault table b fault = (code : CodeFault) × IsFaultOf table b code × (fault ≡ row_fault code)
 
 -- the fault of a run code, where `so_far` pels of the row come before what it adds
--- (this project's profile)
 abbrev pub IsRunCodeFault : ℕ → ℕ → RunCode → RowFault → Type 0
 IsRunCodeFault width so_far (Terminating n) fault = (width < so_far + n) × (fault ≡ RunTooLong)
 IsRunCodeFault width so_far (MakeUp n) fault = (width < so_far + n) × (fault ≡ RunTooLong)
 IsRunCodeFault width so_far RunExtension fault = fault ≡ Extension
 
--- the fault stands at the first run code of the bits (this project's profile)
+-- the fault stands at the first run code of the bits
 abbrev pub IsAtRunCode : Colour → ℕ → ℕ → List Bool → RowFault → Type 0
 IsAtRunCode colour width so_far b fault =
     IsCodeFault (run_table colour) b fault
@@ -47,7 +47,7 @@ IsAtRunCode colour width so_far b fault =
     × Takes (run_table colour) b code behind × IsRunCodeFault width so_far code fault)
 
 -- the bits begin with a run from the pel `from` on that is not whole: make-up codes within the
--- width, and then the fault (this project's profile)
+-- width, and then the fault
 pub record IsRunFault (colour : Colour) (width from : ℕ) (b : List Bool)
     (fault : RowFault) : Type 0 where
   pub make_up : List ℕ
@@ -62,7 +62,6 @@ colour_behind colour [] = colour
 colour_behind colour (n ∷ runs) = colour_behind (other colour) runs
 
 -- the bits begin with whole runs that do not make up the width, and then a run with this fault
--- (this project's profile)
 pub record IsOneDimensionalFault (width : ℕ) (b : List Bool) (fault : RowFault) : Type 0 where
   pub runs : List ℕ
   pub left : List Bool
@@ -71,7 +70,7 @@ pub record IsOneDimensionalFault (width : ℕ) (b : List Bool) (fault : RowFault
   pub at_run : IsRunFault (colour_behind White runs) width (sum runs) left fault
 
 -- horizontal mode with a fault in its first run, or with a first run within the row and a fault in
--- its second (this project's profile)
+-- its second
 abbrev pub IsHorizontalFault : List Colour → Position → List Bool → RowFault → Type 0
 IsHorizontalFault reference at b fault =
     IsRunFault at.colour (length reference) (first_pel at) b fault
@@ -79,14 +78,14 @@ IsHorizontalFault reference at b fault =
     × IsRun at.colour b first middle × (first_pel at + first ≤ length reference)
     × IsRunFault (other at.colour) (length reference) (first_pel at + first) middle fault)
 
--- the fault of a mode, with the bits after its code (this project's profile)
+-- the fault of a mode, with the bits after its code
 abbrev pub IsModeFault : ModeCode → List Colour → Position → List Bool → RowFault → Type 0
 IsModeFault Pass reference at b fault = ⊥
 IsModeFault (Vertical d) reference at b fault = (IsInRow reference at d → ⊥) × (fault ≡ OutOfRow)
 IsModeFault Horizontal reference at b fault = IsHorizontalFault reference at b fault
 IsModeFault ModeExtension reference at b fault = fault ≡ Extension
 
--- the bits begin with a step that has this fault (this project's profile)
+-- the bits begin with a step that has this fault
 abbrev pub IsStepFault : List Colour → Position → List Bool → RowFault → Type 0
 IsStepFault reference at b fault =
     IsCodeFault modes b fault
@@ -94,7 +93,6 @@ IsStepFault reference at b fault =
     × Takes modes b mode behind × IsModeFault mode reference at behind fault)
 
 -- the bits begin with steps that do not end the row, and then a step with this fault
--- (this project's profile)
 pub record IsTwoDimensionalFault (reference : List Colour) (b : List Bool)
     (fault : RowFault) : Type 0 where
   pub positions : List Position

@@ -1,5 +1,6 @@
 -- Rows in two-dimensional coding (ITU-T T.4, sections 4.2.1.3.1 to 4.2.1.3.4, and T.6, sections
 -- 2.2.1 to 2.2.4).
+-- A definition without a citation is this project's profile.
 use Rattle.std.specs.Prelude.{◌≡◌, ◌≢◌, ℕ, ◌+◌, ◌-◌, ◌≤◌, ℤ, pos, negsuc, ◌+ℤ◌, ◌<ℤ◌, ◌≤ℤ◌, Bool}
 use Rattle.std.specs.Prelude.{List, [], ◌∷◌, ◌++◌, length, replicate, Option, Some, None, unwrap_or}
 use Rattle.fax_bits.specs.declared.Colour.{Colour}
@@ -49,7 +50,7 @@ b1_from reference at = b1 reference at.a0 at.colour
 abbrev pub b2_from : List Colour → Position → ℕ
 b2_from reference at = b2 reference at.a0 at.colour
 
--- a1 at b1 + d lies right of a0 and not after the row's end (this project's profile)
+-- a1 at b1 + d lies right of a0 and not after the row's end
 pub record IsInRow (reference : List Colour) (at : Position) (d : ℤ) : Type 0 where
   pub right_of_a0 : a0_number at <ℤ (pos (b1_from reference at) +ℤ d)
   pub within : (pos (b1_from reference at) +ℤ d) ≤ℤ pos (length reference)

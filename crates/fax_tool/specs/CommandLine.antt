@@ -1,4 +1,5 @@
--- The command line of the program, as a parse reads it (this project's profile).
+-- The command line of the program, as a parse reads it.
+-- A definition without a citation is this project's profile.
 use Rattle.std.specs.Prelude.{ℕ, pos, true, Some, codes}
 use Rattle.clap.specs.Walk.{Rule, Text}
 use Rattle.clap.specs.Simple.{App, new_app, new_rule, on_top, with_rule, with_subcommand}
@@ -6,35 +7,35 @@ use Rattle.clap.specs.declared.builder.action.ArgAction.TheVariants.{SetTrue}
 use Rattle.clap.specs.declared.builder.value_parser.ValueParser.{ValueParser}
 use Rattle.clap.specs.declared.builder.value_parser.ValueParser.TheVariants.{Signed}
 
--- a word that is no option: the file (this project's profile)
+-- a word that is no option: the file
 abbrev pub file_rule : Rule
 file_rule = new_rule (codes "FILE")
 
--- `--name VALUE` (this project's profile)
+-- `--name VALUE`
 abbrev pub text_rule : Text → Rule
 text_rule name = record (new_rule name) { long = Some name }
 
--- `--name VALUE`, of a value that the parser takes (this project's profile)
+-- `--name VALUE`, of a value that the parser takes
 abbrev pub value_rule : Text → ValueParser → Rule
 value_rule name parser = record (new_rule name) { long = Some name; parser = Some parser }
 
--- `--name N`, of 1 up to the most (this project's profile)
+-- `--name N`, of 1 up to the most
 abbrev pub number_rule : Text → ℕ → Rule
 number_rule name most = value_rule name (Signed (pos 1) (pos most))
 
--- `--name` (this project's profile)
+-- `--name`
 abbrev pub flag_rule : Text → Rule
 flag_rule name = record (new_rule name) { long = Some name; action = Some SetTrue }
 
--- `-o TARGET` (this project's profile)
+-- `-o TARGET`
 abbrev pub target_rule : Rule
 target_rule = record (new_rule (codes "o")) { short = Some 111; required = true }
 
--- a command that has no help (this project's profile)
+-- a command that has no help
 abbrev pub bare_app : Text → App
 bare_app name = on_top (λ s. record s { disable_help_flag = true }) (new_app name)
 
--- a command that prints a part of a file (this project's profile)
+-- a command that prints a part of a file
 abbrev pub printing_app : Text → App
 printing_app name = with_rule (with_rule (with_rule (bare_app name)
     (text_rule (codes "cursor"))) (number_rule (codes "max") 4294967295)) file_rule
@@ -51,7 +52,7 @@ convert_app = with_rule (with_rule (with_rule (with_rule (with_rule (with_rule
 abbrev pub check_app : App
 check_app = with_rule (bare_app (codes "check")) file_rule
 
--- the program: one of four commands (this project's profile)
+-- the program: one of four commands
 abbrev pub faxpages_app : App
 faxpages_app = with_subcommand (with_subcommand (with_subcommand (with_subcommand
     (on_top (λ s. record s {

@@ -1,4 +1,5 @@
--- Which job the words of a command line give (this project's profile).
+-- Which job the words of a command line give.
+-- A definition without a citation is this project's profile.
 use Rattle.std.specs.Prelude.{◌≡◌, ◌≢◌, ◌⊎◌, ◌==◌, ◌<◌, ◌≤◌, ℕ, Bool, true, false, List, []}
 use Rattle.std.specs.Prelude.{Option, Some, None, IfSome, codes, if◌then◌else◌, unwrap_or}
 use Rattle.std.specs.Prelude.{option_and_then, option_map}
@@ -25,26 +26,25 @@ use Rattle.fax_tool.specs.declared.words.Part.{Part}
 use Rattle.fax_tool.specs.declared.words.WordsFault.{WordsFault}
 use Rattle.fax_tool.specs.declared.words.WordsFault.TheVariants.{Memory, NotACursor, Usage}
 
--- the command line takes the words: it has no fault at them (this project's profile)
+-- the command line takes the words: it has no fault at them
 abbrev pub AreTaken : List Text → Type 0
 AreTaken words = fault_of faxpages_app words ≡ []
 
--- the command that the words name, and the entries after it, by name (this project's profile)
+-- the command that the words name, and the entries after it, by name
 abbrev pub command_of : List Text → Option (Text × List Row)
 command_of = subcommand_of faxpages_app
 
 -- the number of an entry, if there is one: digits, where a plus may stand first
--- (this project's profile)
 abbrev pub number_in : Text → List Row → Option ℕ
 number_in name entries =
     option_map (λ text. digits_value 10 (without_leading_plus text)) (first_of name entries)
 
--- a flag is among the words (this project's profile)
+-- a flag is among the words
 abbrev pub is_set : Text → List Row → Bool
 is_set name entries =
     option_map_or (λ text. bytes_eq text (codes "true")) (first_of name entries) false
 
--- what a text names as a target (this project's profile)
+-- what a text names as a target
 abbrev pub target_of : Text → Option Target
 target_of text =
     if bytes_eq text (codes "pbm") then Some Pbm
@@ -55,36 +55,36 @@ target_of text =
 abbrev pub target_in : List Row → Option Target
 target_in entries = option_and_then target_of (first_of (codes "o") entries)
 
--- 2 is the bit of value 1 first, 1 and no number the other (this project's profile)
+-- 2 is the bit of value 1 first, 1 and no number the other
 abbrev pub order_by : Option ℕ → FillOrder
 order_by number = if unwrap_or number 1 == 2 then LsbFirst else MsbFirst
 
 -- the part of a file's pages or rows begins at the cursor of this text, or at the first one where
--- there is no text (this project's profile)
+-- there is no text
 abbrev pub BeginsAt : Option Text → Part → Type 0
 BeginsAt None part = (part.cursor ≡ start) × (part.from ≡ None)
 BeginsAt (Some text) part = (text ≡ cursor_text part.cursor) × (part.from ≡ None)
 
--- it begins at the long cursor of this text (this project's profile)
+-- it begins at the long cursor of this text
 abbrev pub BeginsInside : Option Text → Part → Type 0
 BeginsInside None part = ⊥
 BeginsInside (Some text) part = (place : LongPlace) × (text ≡ long_cursor_text place)
     × (part.cursor ≡ place.at) × (part.from ≡ Some place)
 
--- the entries of `list` give this part (this project's profile)
+-- the entries of `list` give this part
 pub record IsPartOfPages (entries : List Row) (part : Part) : Type 0 where
   pub begins : BeginsAt (first_of (codes "cursor") entries) part
   pub max : part.max ≡ number_in (codes "max") entries
   pub long : part.long ≡ false
 
--- the entries of `rows` give this part (this project's profile)
+-- the entries of `rows` give this part
 pub record IsPartOfRows (entries : List Row) (part : Part) : Type 0 where
   pub begins : BeginsAt (first_of (codes "cursor") entries) part
       ⊎ BeginsInside (first_of (codes "cursor") entries) part
   pub max : part.max ≡ number_in (codes "max") entries
   pub long : part.long ≡ is_set (codes "long") entries
 
--- the entries of `convert` give these options (this project's profile)
+-- the entries of `convert` give these options
 pub record AreOptions (entries : List Row) (options : Options) : Type 0 where
   pub target : target_in entries ≡ Some options.target
   pub order : options.order ≡ order_by (number_in (codes "order") entries)
@@ -92,14 +92,14 @@ pub record AreOptions (entries : List Row) (options : Options) : Type 0 where
   pub strip : options.strip ≡ number_in (codes "strip") entries
   pub aligned : options.aligned ≡ is_set (codes "align") entries
 
--- a command's name and entries give this command (this project's profile)
+-- a command's name and entries give this command
 abbrev pub IsCommand : Text → List Row → Command → Type 0
 IsCommand name entries (Forms part) = (name ≡ codes "list") × IsPartOfPages entries part
 IsCommand name entries (Rows part) = (name ≡ codes "rows") × IsPartOfRows entries part
 IsCommand name entries (Convert options) = (name ≡ codes "convert") × AreOptions entries options
 IsCommand name entries Check = name ≡ codes "check"
 
--- the words give this job (this project's profile)
+-- the words give this job
 pub record IsJob (words : List Text) (job : Job) : Type 0 where
   pub taken : AreTaken words
   pub name : Text
@@ -109,7 +109,6 @@ pub record IsJob (words : List Text) (job : Job) : Type 0 where
   pub file : option_map string_bytes job.file ≡ first_of (codes "FILE") entries
 
 -- the entries of `convert` name no target, or one without EOLs where these are to be aligned
--- (this project's profile)
 abbrev pub HasNoTarget : List Row → Type 0
 HasNoTarget entries = (target_in entries ≡ None)
     ⊎ ((is_set (codes "align") entries ≡ true)
@@ -121,7 +120,7 @@ IsNoCursor text = (at : Cursor) → IsCursor at → text ≢ cursor_text at
 abbrev pub IsNoLongCursor : Text → Type 0
 IsNoLongCursor text = (place : LongPlace) → IsLongCursor place → text ≢ long_cursor_text place
 
--- the text of `--cursor` is that of no cursor that the command takes (this project's profile)
+-- the text of `--cursor` is that of no cursor that the command takes
 pub record HasNoCursor (name : Text) (entries : List Row) : Type 0 where
   pub text : Text
   pub given : first_of (codes "cursor") entries ≡ Some text
@@ -129,14 +128,13 @@ pub record HasNoCursor (name : Text) (entries : List Row) : Type 0 where
   pub command : (name ≡ codes "list") ⊎ ((name ≡ codes "rows") × IsNoLongCursor text)
 
 -- a command's name and entries give no command, but this fault; of Memory nothing can be said but
--- that a growth was refused (this project's profile)
+-- that a growth was refused
 abbrev pub IsCommandFault : Text → List Row → WordsFault → Type 0
 IsCommandFault name entries Usage = (name ≡ codes "convert") × HasNoTarget entries
 IsCommandFault name entries NotACursor = HasNoCursor name entries
 IsCommandFault name entries Memory = Unit {0}
 
 -- the words are taken, and the command that they name is refused with this fault
--- (this project's profile)
 pub record IsRefused (words : List Text) (fault : WordsFault) : Type 0 where
   pub taken : AreTaken words
   pub name : Text
@@ -145,13 +143,13 @@ pub record IsRefused (words : List Text) (fault : WordsFault) : Type 0 where
   pub command : IsCommandFault name entries fault
 
 -- the words give no job, but this fault: Usage also where they are not taken, and so before any
--- other (this project's profile)
+-- other
 abbrev pub IsFault : List Text → WordsFault → Type 0
 IsFault words Usage = ¬ AreTaken words ⊎ IsRefused words Usage
 IsFault words NotACursor = IsRefused words NotACursor
 IsFault words Memory = Unit {0}
 
--- the numbers of a command are in their ranges (this project's profile)
+-- the numbers of a command are in their ranges
 abbrev pub IsInRange : ℕ → ℕ → Type 0
 IsInRange most number = (0 < number) × (number ≤ most)
 

@@ -1,4 +1,5 @@
--- The text of `check` (this project's profile).
+-- The text of `check`.
+-- A definition without a citation is this project's profile.
 use Rattle.std.specs.Prelude.{ℕ, List, [], ◌++◌, flat_map, Option, Some, None, codes, decimal}
 use Rattle.fax_files.specs.declared.Cause.{Cause}
 use Rattle.fax_walk.specs.NoteNames.{note_name, note_number}
@@ -7,34 +8,34 @@ use Rattle.fax_walk.specs.declared.checking.Report.{Report}
 use Rattle.fax_walk.specs.declared.walk.Place.{Place}
 use Rattle.fax_tool.specs.Text.{Printed, and_number, fault_line, line_end}
 
--- ` strip S`, where a note is on a strip (this project's profile)
+-- ` strip S`, where a note is on a strip
 abbrev pub and_strip : Option ℕ → List ℕ
 and_strip None = []
 and_strip (Some strip) = codes " strip" ++ and_number strip
 
 -- `note page P strip S: N3 DataAfterEnd`, and for a note on a directory `note page P: N5
--- EntriesOutOfOrder` (this project's profile)
+-- EntriesOutOfOrder`
 unfoldable pub note_line : Note → List ℕ
 note_line note =
     codes "note page" ++ and_number note.page ++ and_strip note.strip ++ codes ": N" ++ decimal
     (note_number note.kind)
     ++ codes " " ++ note_name note.kind ++ line_end
 
--- `pages P rows R`: how many pages were read wholly, and how many rows (this project's profile)
+-- `pages P rows R`: how many pages were read wholly, and how many rows
 abbrev pub counts_line : ℕ → ℕ → List ℕ
 counts_line pages rows =
     codes "pages" ++ and_number pages ++ codes " rows" ++ and_number rows ++ line_end
 
--- the notes, line by line, and the counts (this project's profile)
+-- the notes, line by line, and the counts
 abbrev pub report_output : Report → List ℕ
 report_output report = flat_map note_line report.notes.items ++ counts_line report.pages report.rows
 
--- what is written of a report (this project's profile)
+-- what is written of a report
 abbrev pub printed_report : List ℕ → Option (Place × Cause) → Printed
 printed_report output None = record { output = output; error = []; status = 0 }
 printed_report output (Some fault) =
     record { output = output; error = fault_line fault.0.page fault.0.row fault.1; status = 1 }
 
--- the text of a report (this project's profile)
+-- the text of a report
 abbrev pub report_text : Report → Printed
 report_text report = printed_report (report_output report) report.fault

@@ -1,4 +1,5 @@
--- What a run leaves on its streams (this project's profile).
+-- What a run leaves on its streams.
+-- A definition without a citation is this project's profile.
 use Rattle.std.specs.Prelude.{◌≡◌, ℕ, ◌<◌, ◌≤◌, ◌⊎◌, Bool, false, List, [], ◌++◌, length, map, take}
 use Rattle.std.specs.Prelude.{Option, IfSome, Ok, codes}
 use Rattle.std.specs.Io.KnownBytes.{Appends}
@@ -25,56 +26,54 @@ use Rattle.fax_tool.specs.Text.{Line, Printed, begun_at, convert_fault_line, fir
 use Rattle.fax_tool.specs.Text.{line_of_page, line_of_row, text_of}
 use Rattle.fax_tool.specs.ReportText.{report_text}
 
--- so many interrupted calls of a stream are made again (this project's profile)
+-- so many interrupted calls of a stream are made again
 abbrev pub most_interrupted : ℕ
 most_interrupted = 1023
 
--- a call on the stream failed, or too many were interrupted (this project's profile)
+-- a call on the stream failed, or too many were interrupted
 abbrev pub HasFailed : Counts → Type 0
 HasFailed counts = (most_interrupted < counts.interrupted) ⊎ (0 < counts.failed)
 
--- no call on the stream failed, and not too many were interrupted (this project's profile)
+-- no call on the stream failed, and not too many were interrupted
 abbrev pub HasWorked : Counts → Type 0
 HasWorked counts = (counts.interrupted ≤ most_interrupted) × (counts.failed ≡ 0)
 
--- a status of a run: done, a fault of the input, or a refusal (this project's profile)
+-- a status of a run: done, a fault of the input, or a refusal
 abbrev pub IsStatus : ℕ → Type 0
 IsStatus status = (status ≡ 0) ⊎ (status ≡ 1) ⊎ (status ≡ 3)
 
--- the most bytes of an input (this project's profile)
+-- the most bytes of an input
 abbrev pub most_input : ℕ
 most_input = max_file
 
--- the input worked, and is not too long (this project's profile)
+-- the input worked, and is not too long
 abbrev pub IsRead : Input → Type 0
 IsRead input = HasWorked input.counts × (input.taken ≤ most_input)
 
--- the input failed, or is too long (this project's profile)
+-- the input failed, or is too long
 abbrev pub IsUnread : Input → Type 0
 IsUnread input = HasFailed input.counts ⊎ (most_input < input.taken)
 
--- the line of a refusal that is no fault of the input (this project's profile)
+-- the line of a refusal that is no fault of the input
 abbrev pub refusal_line : Refusal → List ℕ
 refusal_line Memory = codes "fault: Memory\n"
 refusal_line Read = codes "fault: Read\n"
 refusal_line Write = codes "fault: Write\n"
 
 -- a refusal is answered for its reason alone: Read where the input failed or is too long, Write
--- where the output failed, and Memory where neither was so (this project's profile)
+-- where the output failed, and Memory where neither was so
 abbrev pub HasReason : Refusal → Input → Output → Type 0
 HasReason Memory input output = IsRead input × HasWorked output.counts
 HasReason Read input output = IsUnread input × HasWorked output.counts
 HasReason Write input output = IsRead input × HasFailed output.counts
 
 -- the line of a row of a file: it names what follows the row by the form of the row's page
--- (this project's profile)
 abbrev pub IsRowLine : List ℕ → Item → Line → Type 0
 IsRowLine file item line =
     (here : FilePage) × IsPageAt file (record { page = item.page; row = item.row }) (Ok here)
     × (line ≡ line_of_row here.form item)
 
 -- these lines and this end are what a walk hands out that begins so: the lines of its rows
--- (this project's profile)
 pub record AreRowLines (file : List ℕ) (begun : Begun) (lines : List Line)
     (end : End) : Type 0 where
   pub items : List Item
@@ -82,21 +81,20 @@ pub record AreRowLines (file : List ℕ) (begun : Begun) (lines : List Line)
   pub lines_are : AllZip (IsRowLine file) items lines
 
 -- these lines and this end are what follows a cursor in a file: the lines of its pages
--- (this project's profile)
 pub record ArePageLines (file : List ℕ) (at : Cursor) (lines : List Line) (end : End) : Type 0 where
   pub items : List FormItem
   pub tail : IsFormTail file at items end
   pub lines_are : lines ≡ map line_of_page items
 
 -- the text of such lines, which began so, up to a limit, and of their end, with long cursors or
--- without (this project's profile)
+-- without
 abbrev pub IsTextOfLines : (List Line → End → Type 0) → Bool → Option ℕ → Begun → Printed → Type 0
 IsTextOfLines are long max begun printed =
     (lines : List Line) × (end : End) × are lines end
     × (printed ≡ text_of long max begun lines end)
 
 -- what is written of such lines where memory is refused: the first of them, at most up to a limit,
--- and the cursor where to go on (this project's profile)
+-- and the cursor where to go on
 pub record IsTextOfFirst (are : List Line → End → Type 0) (max : Option ℕ) (begun : Begun)
     (output : List ℕ) : Type 0 where
   pub lines : List Line
@@ -107,11 +105,11 @@ pub record IsTextOfFirst (are : List Line → End → Type 0) (max : Option ℕ)
   pub within : IfSome max (λ limit. count ≤ limit)
   pub output_is : output ≡ (first_text false begun (take count lines)).output
 
--- what the rows of a part begin with (this project's profile)
+-- what the rows of a part begin with
 abbrev pub begun_of : Part → Begun
 begun_of part = begun_at part.from part.cursor
 
--- what is written of a file that is converted, or is not (this project's profile)
+-- what is written of a file that is converted, or is not
 abbrev pub IsConversionText : Options → List ℕ → Printed → Type 0
 IsConversionText options file printed =
     ((output : List ℕ) × IsConverted file options output
@@ -119,7 +117,7 @@ IsConversionText options file printed =
     ⊎ ((fault : ConvertFault) × IsNotConverted file options fault
     × (printed ≡ record { output = []; error = convert_fault_line fault; status = 1 }))
 
--- what a command writes of a file (this project's profile)
+-- what a command writes of a file
 abbrev pub IsTextOf : Command → List ℕ → Printed → Type 0
 IsTextOf (Forms part) file =
     IsTextOfLines (ArePageLines file part.cursor) false part.max (At part.cursor)
@@ -129,7 +127,7 @@ IsTextOf (Convert options) file = IsConversionText options file
 IsTextOf Check file =
     λ printed. (report : Report) × IsReport file report × (printed ≡ report_text report)
 
--- what a command writes of a file where memory is refused (this project's profile)
+-- what a command writes of a file where memory is refused
 abbrev pub IsTextAfterMemory : Command → List ℕ → List ℕ → Type 0
 IsTextAfterMemory (Forms part) file =
     IsTextOfFirst (ArePageLines file part.cursor) part.max (At part.cursor)
@@ -139,7 +137,7 @@ IsTextAfterMemory (Convert options) file = λ output. output ≡ []
 IsTextAfterMemory Check file = λ output. output ≡ []
 
 -- what a refusal leaves of such a text, of which so much is written where memory is refused: after
--- Memory that, after Read nothing, and after Write a front of either (this project's profile)
+-- Memory that, after Read nothing, and after Write a front of either
 abbrev pub IsTextLeft : (Printed → Type 0) → (List ℕ → Type 0) → Refusal → List ℕ → Type 0
 IsTextLeft is after_memory Memory output = after_memory output
 IsTextLeft is after_memory Read output = output ≡ []
@@ -147,20 +145,19 @@ IsTextLeft is after_memory Write output =
     (rest : List ℕ) × (((printed : Printed) × is printed × (output ++ rest ≡ printed.output))
     ⊎ after_memory (output ++ rest))
 
--- this is appended to the output (this project's profile)
+-- this is appended to the output
 abbrev pub LeavesText : (Printed → Type 0) → (List ℕ → Type 0) → Refusal → Output → Type 0
 LeavesText is after_memory refusal output =
     (text : List ℕ) × IsTextLeft is after_memory refusal text
     × Appends output.before output.after text
 
--- the text is appended, and the status is its own (this project's profile)
+-- the text is appended, and the status is its own
 pub record AppendsText (text : Printed) (output error : Output) (status : ℕ) : Type 0 where
   pub output_is : Appends output.before output.after text.output
   pub error_is : Appends error.before error.after text.error
   pub status_is : status ≡ text.status
 
 -- a run that was not refused: its streams worked, and it wrote the text of its command
--- (this project's profile)
 pub record WritesText (command : Command) (input : Input) (output error : Output)
     (status : ℕ) : Type 0 where
   pub read : IsRead input
@@ -169,7 +166,7 @@ pub record WritesText (command : Command) (input : Input) (output error : Output
   pub text : IfSome input.bytes (λ file. (printed : Printed) × IsTextOf command file printed
       × AppendsText printed output error status)
 
--- a run whose error stream failed alone: it has written its output (this project's profile)
+-- a run whose error stream failed alone: it has written its output
 pub record WritesOutputAlone (command : Command) (input : Input)
     (output error : Output) : Type 0 where
   pub read : IsRead input
@@ -179,7 +176,7 @@ pub record WritesOutputAlone (command : Command) (input : Input)
       × Appends output.before output.after printed.output)
 
 -- a run that was refused left what it has to, and said why, for a reason, or the error stream
--- failed too (this project's profile)
+-- failed too
 pub record SaysRefusal (command : Command) (refusal : Refusal) (input : Input)
     (output error : Output) : Type 0 where
   pub reason : HasReason refusal input output
@@ -187,7 +184,7 @@ pub record SaysRefusal (command : Command) (refusal : Refusal) (input : Input)
       (IsTextAfterMemory command file) refusal output)
   pub said : HasFailed error.counts ⊎ Appends error.before error.after (refusal_line refusal)
 
--- a run with status 3: its error stream failed, or it was refused (this project's profile)
+-- a run with status 3: its error stream failed, or it was refused
 abbrev pub IsRefused : Command → Input → Output → Output → Type 0
 IsRefused command input output error =
     WritesOutputAlone command input output error

@@ -1,4 +1,5 @@
--- What a call on a stream does to the stream's bytes and to its counts (this project's profile).
+-- What a call on a stream does to the stream's bytes and to its counts.
+-- A definition without a citation is this project's profile.
 use Rattle.std.specs.Prelude.{◌≡◌, ◌≢◌, ℕ, ◌+◌, ◌-◌, ◌^◌, ◌<◌, min, List, length, take, Option}
 use Rattle.std.specs.Prelude.{Some, None, ⊤, Result, Ok, Err}
 use Rattle.std.specs.Io.KnownBytes.{Appends, Consumes, IsAtEnd, Keeps}
@@ -7,13 +8,13 @@ use Rattle.std.specs.declared.io.ErrorKind.TheVariants.{Interrupted as WasInterr
 use Rattle.fax_tool.specs.declared.streams.StreamFault.{StreamFault}
 use Rattle.fax_tool.specs.declared.streams.StreamFault.TheVariants.{Interrupted, Failed}
 
--- how many calls on a stream were interrupted, and how many failed (this project's profile)
+-- how many calls on a stream were interrupted, and how many failed
 pub record Counts : Type 0 where
   pub interrupted : ℕ
   pub failed : ℕ
 
 -- an input after a run: its bytes before it, where they are known, how many were taken, and its
--- counts (this project's profile)
+-- counts
 pub record Input : Type 0 where
   pub bytes : Option (List ℕ)
   pub taken : ℕ
@@ -23,7 +24,7 @@ abbrev pub input_after : Option (List ℕ) → ℕ → Counts → Input
 input_after bytes taken counts = record { bytes = bytes; taken = taken; counts = counts }
 
 -- an output after a run: what was written before it and after it, where that is known, and its
--- counts (this project's profile)
+-- counts
 pub record Output : Type 0 where
   pub before : Option (List ℕ)
   pub after : Option (List ℕ)
@@ -32,43 +33,43 @@ pub record Output : Type 0 where
 abbrev pub output_after : Option (List ℕ) → Option (List ℕ) → Counts → Output
 output_after before after counts = record { before = before; after = after; counts = counts }
 
--- the counts of so many interrupted and failed calls (this project's profile)
+-- the counts of so many interrupted and failed calls
 abbrev pub counts_of : ℕ → ℕ → Counts
 counts_of interrupted failed = record { interrupted = interrupted; failed = failed }
 
--- no call was interrupted, and none failed (this project's profile)
+-- no call was interrupted, and none failed
 abbrev pub no_faults : Counts
 no_faults = counts_of 0 0
 
--- a sum that stays at the greatest number of 64 bits (this project's profile)
+-- a sum that stays at the greatest number of 64 bits
 abbrev pub capped_sum : ℕ → ℕ → ℕ
 capped_sum n more = min (n + more) (2 ^ 64 - 1)
 
--- the counts after a call with this answer (this project's profile)
+-- the counts after a call with this answer
 abbrev pub counts_after : Result ℕ StreamFault → Counts → Counts
 counts_after (Ok n) counts = counts
 counts_after (Err Interrupted) counts = counts_of (capped_sum counts.interrupted 1) counts.failed
 counts_after (Err Failed) counts = counts_of counts.interrupted (capped_sum counts.failed 1)
 
--- the count of bytes taken after a call with this answer (this project's profile)
+-- the count of bytes taken after a call with this answer
 abbrev pub taken_after : Result ℕ StreamFault → ℕ → ℕ
 taken_after (Ok n) taken = capped_sum taken n
 taken_after (Err fault) taken = taken
 
--- known bytes stay as they were, or are no longer known (this project's profile)
+-- known bytes stay as they were, or are no longer known
 abbrev pub KeepsOrForgets : Option (List ℕ) → Option (List ℕ) → Type 0
 KeepsOrForgets known None = ⊤
 KeepsOrForgets known (Some bytes) = Keeps known (Some bytes)
 
--- what a source has left after a call: the bytes after those that now stand at the buffer's
--- front, and all of them where the call was interrupted (this project's profile)
+-- what a source has left after a call: the bytes after those that now stand at the buffer's front,
+-- and all of them where the call was interrupted
 abbrev pub TakesBytes : Option (List ℕ) → Option (List ℕ) → Result ℕ StreamFault → List ℕ → Type 0
 TakesBytes old new (Ok n) buffer =
     Consumes old new (take n buffer) × (n ≡ 0 → 0 < length buffer → IsAtEnd new)
 TakesBytes old new (Err Interrupted) buffer = Keeps old new
 TakesBytes old new (Err Failed) buffer = KeepsOrForgets old new
 
--- what a sink holds after a call: the bytes that it took at its end (this project's profile)
+-- what a sink holds after a call: the bytes that it took at its end
 abbrev pub GivesBytes : Option (List ℕ) → Option (List ℕ) → Result ℕ StreamFault → List ℕ → Type 0
 GivesBytes old new (Ok n) bytes = Appends old new (take n bytes)
 GivesBytes old new (Err fault) bytes = Keeps old new

@@ -1,4 +1,5 @@
 -- What a file is converted to.
+-- A definition without a citation is this project's profile.
 use Rattle.std.specs.Prelude.{◌≡◌, ◌≢◌, ℕ, zero, suc, ◌+◌, ◌<◌, ◌⊎◌, min, false, List, [], ◌∷◌}
 use Rattle.std.specs.Prelude.{◌++◌, length, map, take, drop, Some, None, unwrap_or, codes}
 use Rattle.fax_bits.specs.declared.Colour.{Colour}
@@ -23,7 +24,7 @@ use Rattle.fax_walk.specs.declared.end.End.TheVariants.{Proper, Fault}
 use Rattle.fax_walk.specs.Pages.{FormItem, AreForms}
 use Rattle.fax_walk.specs.Rows.{Item, AreItems}
 
--- a page to be converted: its image and its resolution (this project's profile)
+-- a page to be converted: its image and its resolution
 pub record SourcePage : Type 0 where
   pub image : Image
   pub resolution : Resolution
@@ -40,12 +41,11 @@ IsPbm bytes = BeginsWith bytes (codes "P4")
 abbrev pub IsTiff : List ℕ → Type 0
 IsTiff bytes = BeginsWith bytes (codes "II") ⊎ BeginsWith bytes (codes "MM")
 
--- a page of an image, which has no resolution of its own (this project's profile)
+-- a page of an image, which has no resolution of its own
 abbrev pub page_of_image : Image → SourcePage
 page_of_image image = record { image = image; resolution = usual_resolution }
 
 -- a page of a TIFF file, which keeps its resolution, with the rows that it shows
--- (this project's profile)
 abbrev pub page_of_form : PageForm → List (List Colour) → SourcePage
 page_of_form form rows = record {
   image = record { width = form.width; rows = rows };
@@ -59,7 +59,7 @@ pages_of (one ∷ forms) items =
     page_of_form one.form (map (λ item. item.pels) (take one.form.rows items))
     ∷ pages_of forms (drop one.form.rows items)
 
--- the pages of a source without a fault (this project's profile)
+-- the pages of a source without a fault
 abbrev pub IsSource : List ℕ → List SourcePage → Type 0
 IsSource bytes pages =
     (IsPbm bytes × (images : List Image) × AreImages bytes images None
@@ -67,7 +67,7 @@ IsSource bytes pages =
     ⊎ (IsTiff bytes × (forms : List FormItem) × (items : List Item) × AreForms bytes forms Proper
     × AreItems bytes items Proper × (pages ≡ pages_of forms items))
 
--- the first fault of a source (this project's profile)
+-- the first fault of a source
 abbrev pub IsSourceFault : List ℕ → ConvertFault → Type 0
 IsSourceFault bytes answer =
     ((IsPbm bytes → ⊥) × (IsTiff bytes → ⊥) × (answer ≡ UnknownInput))
@@ -84,7 +84,7 @@ strips_of rows_per_strip zero rows = []
 strips_of rows_per_strip (suc n) rows =
     take rows_per_strip rows ∷ strips_of rows_per_strip n (drop rows_per_strip rows)
 
--- the form of a page as it is written (TIFF 6.0; RFC 2306; this project's profile)
+-- the form of a page as it is written (TIFF 6.0; RFC 2306)
 abbrev pub written_form : Options → Coding → SourcePage → PageForm
 written_form options coding source =
     let rows = length source.image.rows in
@@ -120,7 +120,7 @@ written_page options coding source =
           source.image.rows);
     }
 
--- the bytes of the pages in the target's format (this project's profile)
+-- the bytes of the pages in the target's format
 abbrev pub target_bytes : Target → Options → List SourcePage → List ℕ
 target_bytes Pbm options pages = pbm_of (map (λ source. source.image) pages)
 target_bytes ToMh options pages = file_of (map (written_page options Mh) pages)
@@ -128,19 +128,18 @@ target_bytes ToMr options pages = file_of (map (written_page options Mr) pages)
 target_bytes ToMmr options pages = file_of (map (written_page options Mmr) pages)
 
 -- the output has more bytes than the limit, or a TIFF file more pages than their number can say
--- (this project's profile)
 abbrev pub IsTooLarge : Target → List SourcePage → List ℕ → Type 0
 IsTooLarge target pages bytes =
     (max_file < length bytes) ⊎ ((target ≢ Pbm) × (65535 < length pages))
 
--- the bytes are converted to this (this project's profile)
+-- the bytes are converted to this
 pub record IsConverted (bytes : List ℕ) (options : Options) (output : List ℕ) : Type 0 where
   pub pages : List SourcePage
   pub source : IsSource bytes pages
   pub output_is : output ≡ target_bytes options.target options pages
   pub fits : IsTooLarge options.target pages output → ⊥
 
--- the bytes are refused so, for another reason than want of memory (this project's profile)
+-- the bytes are refused so, for another reason than want of memory
 abbrev pub IsRefused : List ℕ → Options → ConvertFault → Type 0
 IsRefused bytes options OutputTooLarge =
     (pages : List SourcePage) × IsSource bytes pages

@@ -1,33 +1,34 @@
--- Places inside strips (this project's profile).
+-- Places inside strips.
+-- A definition without a citation is this project's profile.
 use Rattle.std.specs.Prelude.{ℕ, ◌^◌, ◌<◌, List, [], ◌∷◌, ◌++◌, length, flat_map, codes, decimal}
 use Rattle.std.specs.List.{All}
 use Rattle.fax_walk.specs.declared.cursor.Cursor.{Cursor}
 use Rattle.fax_walk.specs.Cursor.{IsCursor}
 
 -- a place inside a strip: a cursor, the bits of the strip before its row, and the runs of the row's
--- reference (this project's profile)
+-- reference
 pub record LongPlace : Type 0 where
   pub at : Cursor
   pub bits : ℕ
   pub runs : List ℕ
 
--- a comma and a run (this project's profile)
+-- a comma and a run
 abbrev pub and_run : ℕ → List ℕ
 and_run run = codes "," ++ decimal run
 
--- runs, with commas between them (this project's profile)
+-- runs, with commas between them
 abbrev pub runs_text : List ℕ → List ℕ
 runs_text [] = []
 runs_text (run ∷ runs) = decimal run ++ flat_map and_run runs
 
--- a long cursor's text: `2:P:R:B:n,n,..` (this project's profile)
+-- a long cursor's text: `2:P:R:B:n,n,..`
 abbrev pub long_cursor_text : LongPlace → List ℕ
 long_cursor_text place =
     codes "2:" ++ decimal place.at.page ++ codes ":" ++ decimal place.at.row ++ codes ":" ++ decimal
     place.bits ++ codes ":"
     ++ runs_text place.runs
 
--- the numbers of a long cursor have 32 bits, and it has a run (this project's profile)
+-- the numbers of a long cursor have 32 bits, and it has a run
 pub record IsLongCursor (place : LongPlace) : Type 0 where
   pub cursor : IsCursor place.at
   pub bits : place.bits < 2 ^ 32

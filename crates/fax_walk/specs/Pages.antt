@@ -1,4 +1,5 @@
 -- The pages of a file, and what each of them hands out.
+-- A definition without a citation is this project's profile.
 use Rattle.std.specs.Prelude.{◌≡◌, ℕ, ◌+◌, ◌==◌, ◌&&◌, if◌then◌else◌, nat_le, List, length, Option}
 use Rattle.std.specs.Prelude.{Some, None, Result, Ok, Err, slice_get}
 use Rattle.fax_files.specs.declared.FileFault.{FileFault}
@@ -20,7 +21,7 @@ pub record FilePage : Type 0 where
   pub form : PageForm
 
 -- how a chain ends for a cursor that names none of its pages: the chain's fault, or the end for the
--- page after the last, or outside (this project's profile)
+-- page after the last, or outside
 abbrev pub end_past_chain : ℕ → Option FileFault → Cursor → End
 end_past_chain pages (Some fault) at = Fault pages 0 (File fault)
 end_past_chain pages None at = if (at.page == pages) && (at.row == 0) then Proper else Outside
@@ -48,19 +49,19 @@ IsPageUnder file at (Ok head) found =
 abbrev pub IsPageAt : List ℕ → Cursor → Result FilePage End → Type 0
 IsPageAt file at found = IsPageUnder file at (header file) found
 
--- what is asked of a page, where there is one, and else the end (this project's profile)
+-- what is asked of a page, where there is one, and else the end
 abbrev pub IsAsked : {A : Type 0} → (FilePage → Result A End → Type 0) → Result FilePage End
     → Result A End → Type 0
 IsAsked asked (Err end) answer = answer ≡ Err end
 IsAsked asked (Ok here) answer = asked here answer
 
--- what is asked of the page that a cursor names (this project's profile)
+-- what is asked of the page that a cursor names
 abbrev pub IsOnPage : {A : Type 0} → List ℕ → Cursor → (FilePage → Result A End → Type 0)
     → Result A End → Type 0
 IsOnPage file at asked answer =
     (found : Result FilePage End) × IsPageAt file at found × IsAsked asked found answer
 
--- the form of a page with its number, from 0 (this project's profile)
+-- the form of a page with its number, from 0
 pub record FormItem : Type 0 where
   pub page : ℕ
   pub form : PageForm
@@ -72,7 +73,7 @@ IsForm file p =
     ≡ Ok (record { page = p; form = here.form }, p + 1))
 
 -- the page that a reader of pages begins with: the one that the cursor names at row 0, else the one
--- after it (this project's profile)
+-- after it
 abbrev pub first_form : Cursor → PageForm → Result (ℕ × ℕ) End
 first_form at form =
     if at.row == 0 then Ok (at.page, 0)
@@ -81,7 +82,7 @@ first_form at form =
 abbrev pub AreFormsBegun : List ℕ → Cursor → Result (ℕ × ℕ) End → Type 0
 AreFormsBegun file at = IsOnPage file at (λ here begin. begin ≡ first_form at here.form)
 
--- what a reader of pages from a cursor hands out (this project's profile)
+-- what a reader of pages from a cursor hands out
 abbrev pub IsFormTail : List ℕ → Cursor → List FormItem → End → Type 0
 IsFormTail file at forms end =
     (begin : Result (ℕ × ℕ) End) × AreFormsBegun file at begin
@@ -91,6 +92,6 @@ IsFormTail file at forms end =
 abbrev pub AreForms : List ℕ → List FormItem → End → Type 0
 AreForms file forms end = AreFrom (IsForm file) 0 forms end
 
--- the cursor after a page (this project's profile)
+-- the cursor after a page
 abbrev pub cursor_after_page : FormItem → Cursor
 cursor_after_page item = record { page = item.page + 1; row = 0 }

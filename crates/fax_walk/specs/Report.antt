@@ -1,4 +1,5 @@
 -- What is reported of a file that is checked.
+-- A definition without a citation is this project's profile.
 use Rattle.std.specs.Prelude.{◌≡◌, ℕ, ◌+◌, ◌*◌, ◌==◌, Bool, not, if◌then◌else◌, List, [], ◌∷◌, ◌++◌}
 use Rattle.std.specs.Prelude.{length, flat_map, Option, Some, None, Result, Ok, Err}
 use Rattle.fax_bits.specs.declared.Colour.{Colour}
@@ -28,11 +29,11 @@ use Rattle.fax_walk.specs.InOrder.{AreFrom}
 use Rattle.fax_walk.specs.Pages.{FilePage, IsPageAt, IsOnPage}
 use Rattle.fax_walk.specs.Rows.{Item, AreItems}
 
--- a note where its test holds (this project's profile)
+-- a note where its test holds
 abbrev pub note_if : Bool → ℕ → Option ℕ → NoteKind → List Note
 note_if test p s kind = if test then (record { page = p; strip = s; kind = kind } ∷ []) else []
 
--- the notes on strip s of page p, in the order of their numbers (this project's profile)
+-- the notes on strip s of page p, in the order of their numbers
 abbrev pub notes_on_strip : ℕ → ℕ → StripNotes → List Note
 notes_on_strip p s found =
     note_if found.no_end_of_block p (Some s) NoEndOfBlock ++ note_if found.return_to_control p
@@ -46,12 +47,11 @@ note_on_entries endian file q p =
     note_if (not (ascend (entries endian file q))) p None EntriesOutOfOrder
 
 -- what is checked: a page's directory, where no strip is named, or a strip of the page, both from 0
--- (this project's profile)
 pub record Checked : Type 0 where
   pub page : ℕ
   pub strip : Option ℕ
 
--- what is checked first of page p: its directory (this project's profile)
+-- what is checked first of page p: its directory
 abbrev pub directory_at : ℕ → Checked
 directory_at p = record { page = p; strip = None }
 
@@ -59,12 +59,11 @@ abbrev pub strip_of : ℕ → ℕ → Checked
 strip_of p s = record { page = p; strip = Some s }
 
 -- what is checked after strip s of page p: the page's next strip, or the page after it
--- (this project's profile)
 abbrev pub after_strip : PageForm → ℕ → ℕ → Checked
 after_strip form p s = if s + 1 == form.strips then directory_at (p + 1) else strip_of p (s + 1)
 
 -- the notes on strip s of page p, with what the file has of it, and what is checked after it; or
--- the end, where the strip is not whole (TIFF 6.0, StripOffsets; this project's profile)
+-- the end, where the strip is not whole (TIFF 6.0, StripOffsets)
 abbrev pub IsStripNoted : PageForm → ℕ → ℕ → Option (List ℕ) → Result (List Note × Checked) End
     → Type 0
 IsStripNoted form p s None answer =
@@ -78,7 +77,7 @@ IsStripNoted form p s (Some bytes) (Err end) =
     × IsStrip (strip_form form s) (bits form.order bytes) rows (Some fault)
     × (end ≡ Fault p (s * form.rows_per_strip + length rows) (Strip fault))
 
--- the notes on a page's directory, or on a strip of the page (this project's profile)
+-- the notes on a page's directory, or on a strip of the page
 abbrev pub IsNotedOn : List ℕ → ℕ → Option ℕ → FilePage → Result (List Note × Checked) End → Type 0
 IsNotedOn file p None here answer =
     answer ≡ Ok (note_on_entries here.endian file here.offset p, strip_of p 0)
@@ -86,19 +85,18 @@ IsNotedOn file p (Some s) here answer =
     IsStripNoted here.form p s (strip_bytes here.endian file here.offset s) answer
 
 -- the notes on what is checked in a file, and what is checked after it, or the end; a page that is
--- refused has none (this project's profile)
+-- refused has none
 abbrev pub IsNoted : List ℕ → Checked → Result (List Note × Checked) End → Type 0
 IsNoted file at =
     IsOnPage file (record { page = at.page; row = 0 }) (IsNotedOn file at.page at.strip)
 
--- the notes on a file, and its end (this project's profile)
+-- the notes on a file, and its end
 pub record AreNotes (file : List ℕ) (notes : List Note) (end : End) : Type 0 where
   pub found : List (List Note)
   pub are : AreFrom (IsNoted file) (directory_at 0) found end
   pub notes_are : notes ≡ flat_map (λ own. own) found
 
 -- a file of which the rows end so has so many pages that are read wholly, and this fault
--- (this project's profile)
 abbrev pub IsReportedEnd : List ℕ → End → ℕ → Option (Place × Cause) → Type 0
 IsReportedEnd file Proper pages fault =
     IsPageAt file (record { page = pages; row = 0 }) (Err Proper) × (fault ≡ None)
@@ -107,7 +105,7 @@ IsReportedEnd file (Fault p r cause) pages fault =
 IsReportedEnd file Outside pages fault = ⊥
 
 -- what is reported of a file: its notes, how many pages are read wholly, how many rows are read
--- before the fault, and the fault (this project's profile)
+-- before the fault, and the fault
 pub record IsReport (file : List ℕ) (report : Report) : Type 0 where
   pub items : List Item
   pub end : End

@@ -1,4 +1,5 @@
 -- The rows of a file's pages in order, and what a walk hands out that begins anywhere in them.
+-- A definition without a citation is this project's profile.
 use Rattle.std.specs.Prelude.{◌≡◌, ℕ, ◌+◌, ◌*◌, ◌/◌, ◌%◌, ◌<◌, ◌≤◌, ◌⊎◌, ◌==◌, nat_lt, nat_le}
 use Rattle.std.specs.Prelude.{if◌then◌else◌, List, map, length, drop, Option, Some, None, Result}
 use Rattle.std.specs.Prelude.{Ok, Err, ⊤}
@@ -24,7 +25,7 @@ use Rattle.fax_walk.specs.InOrder.{AreFrom, AreBegun}
 use Rattle.fax_walk.specs.Pages.{FilePage, IsOnPage}
 
 -- a row with its place, its page and its number there, both from 0, and how many bits of its strip
--- stand before what is after it (this project's profile)
+-- stand before what is after it
 pub record Item : Type 0 where
   pub page : ℕ
   pub row : ℕ
@@ -32,13 +33,12 @@ pub record Item : Type 0 where
   pub bits : ℕ
 
 -- where a row inside a strip is read: after so many bits of the strip, and over the row before it
--- (this project's profile)
 pub record Inner : Type 0 where
   pub bits : ℕ
   pub reference : List Colour
 
 -- where a row is read: its page and its number, and, but for a strip's first row, where in the
--- strip (this project's profile)
+-- strip
 pub record Place : Type 0 where
   pub page : ℕ
   pub row : ℕ
@@ -96,7 +96,7 @@ pub record IsItem (form : PageForm) (bytes : List ℕ) (at : Place) (item : Item
       (drop (bits_before at.inner) (bits form.order bytes)) (exchanged form item.pels)
       (drop item.bits (bits form.order bytes))
 
--- no row is at a place, in these bytes of its strip, for this cause (this project's profile)
+-- no row is at a place, in these bytes of its strip, for this cause
 abbrev pub IsStop : PageForm → List ℕ → Place → StripFault → Type 0
 IsStop form bytes at fault =
     IsCause (strip_form form (strip_at form at.row)) (row_in_strip form at.row)
@@ -124,7 +124,7 @@ IsRow file at =
     (strip_at here.form at.row)))
 
 -- where a walk from a cursor begins, and how many rows it reads before the cursor's: at the
--- beginning of the strip that holds the row (this project's profile)
+-- beginning of the strip that holds the row
 abbrev pub first_row : Cursor → PageForm → Result (Place × ℕ) End
 first_row at form =
     if nat_lt at.row form.rows
@@ -136,7 +136,7 @@ first_row at form =
     else (if at.row == form.rows then Ok (first_at (at.page + 1) 0, 0) else Err Outside)
 
 -- the runs of a place inside a strip are those of a row of the page's width, and its bits are there
--- in what the file has of the strip (this project's profile)
+-- in what the file has of the strip
 pub record IsInner (width : ℕ) (bytes : List ℕ) (place : LongPlace) : Type 0 where
   pub within : place.bits ≤ 8 * length bytes
   pub width_is : length (pels_of White place.runs) ≡ width
@@ -146,14 +146,14 @@ abbrev pub FitsStrip : ℕ → Option (List ℕ) → LongPlace → Type 0
 FitsStrip width None place = ⊤
 FitsStrip width (Some bytes) place = IsInner width bytes place
 
--- a place inside a strip is one of this page (this project's profile)
+-- a place inside a strip is one of this page
 pub record IsInnerOn (file : List ℕ) (here : FilePage) (place : LongPlace) : Type 0 where
   pub row : place.at.row < here.form.rows
   pub not_first : 0 < row_in_strip here.form place.at.row
   pub fits : FitsStrip here.form.width (strip_bytes here.endian file here.offset
       (strip_at here.form place.at.row)) place
 
--- where a walk from a place inside a strip begins (this project's profile)
+-- where a walk from a place inside a strip begins
 abbrev pub inner_at : LongPlace → Place
 inner_at place = record {
   page = place.at.page;
@@ -162,14 +162,13 @@ inner_at place = record {
 }
 
 -- where a walk begins on a page, and how many rows it reads before its first
--- (this project's profile)
 abbrev pub BeginsOn : List ℕ → Begun → FilePage → Result (Place × ℕ) End → Type 0
 BeginsOn file (At at) here begin = begin ≡ first_row at here.form
 BeginsOn file (Inside place) here begin =
     (IsInnerOn file here place × (begin ≡ Ok (inner_at place, 0)))
     ⊎ ((IsInnerOn file here place → ⊥) × (begin ≡ Err Outside))
 
--- the cursor of what a walk begins with (this project's profile)
+-- the cursor of what a walk begins with
 abbrev pub begins_at : Begun → Cursor
 begins_at (At at) = at
 begins_at (Inside place) = place.at
@@ -177,7 +176,7 @@ begins_at (Inside place) = place.at
 abbrev pub Begins : List ℕ → Begun → Result (Place × ℕ) End → Type 0
 Begins file begun = IsOnPage file (begins_at begun) (BeginsOn file begun)
 
--- what a walk hands out that begins so (this project's profile)
+-- what a walk hands out that begins so
 abbrev pub IsTailFrom : List ℕ → Begun → List Item → End → Type 0
 IsTailFrom file begun items end =
     (begin : Result (Place × ℕ) End) × Begins file begun begin
@@ -187,12 +186,12 @@ IsTailFrom file begun items end =
 abbrev pub AreItems : List ℕ → List Item → End → Type 0
 AreItems file items end = AreFrom (IsRow file) (first_at 0 0) items end
 
--- the cursor after an item (this project's profile)
+-- the cursor after an item
 abbrev pub cursor_after : Item → Cursor
 cursor_after item = record { page = item.page; row = item.row + 1 }
 
 -- the place inside a strip at a place, as a long cursor names it, if there is one whose bits are a
--- number of 32 bits (this project's profile)
+-- number of 32 bits
 abbrev pub long_at : ℕ → ℕ → Option Inner → Option LongPlace
 long_at p r None = None
 long_at p r (Some inner) =
@@ -203,6 +202,5 @@ long_at p r (Some inner) =
     })) else None
 
 -- the place inside a strip after an item of a page of this form, if there is one
--- (this project's profile)
 abbrev pub long_after : PageForm → Item → Option LongPlace
 long_after form item = let after = place_after form item in long_at after.page after.row after.inner

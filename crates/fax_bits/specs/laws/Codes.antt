@@ -1,4 +1,5 @@
 -- Laws of bits and of code tables, which the functions of the module `laws` prove.
+-- A definition without a citation is this project's profile.
 use Rattle.std.specs.Prelude.{◌≡◌, ℕ, zero, suc, ◌+◌, ◌-◌, ◌*◌, Bool, true, false, if◌then◌else◌}
 use Rattle.std.specs.Prelude.{List, [], ◌∷◌, ◌++◌, replicate, reverse, fold, flat_map, ◌==◌}
 use Rattle.std.specs.Int.{bit_at}
@@ -72,7 +73,7 @@ TakesBits {M} table =
     → length rest < length b
 
 -- bits are read in one way: they begin with one answer, which one rest follows, or they have one
--- fault, never both (this project's profile)
+-- fault, never both
 pub record IsReadInOneWay {A F : Type 0} (IsAnswer : List Bool → A → List Bool → Type 0)
     (IsFault : List Bool → F → Type 0) : Type 0 where
   pub one_answer : (b : List Bool) (answer another : A) (rest remaining : List Bool)

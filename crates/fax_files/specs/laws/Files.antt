@@ -1,4 +1,5 @@
 -- The laws of TIFF files: their chain, their forms, and what is written and read back.
+-- A definition without a citation is this project's profile.
 use Rattle.std.specs.Prelude.{◌≡◌, ℕ, ◌+◌, ◌-◌, ◌*◌, ◌<◌, ◌⊎◌, min, if◌then◌else◌, List, [], ◌∷◌}
 use Rattle.std.specs.Prelude.{map, flat_map, Option, Some, None}
 use Rattle.fax_bits.specs.declared.Colour.{Colour}
@@ -71,7 +72,7 @@ pub record ArePageRows (endian : Endian) (file : List ℕ) (q : ℕ) (form : Pag
   pub rows_are : rows ≡ shown form (joined strips)
 
 -- a page that can be written: a form within the limits, of which white is 0, with the bytes of each
--- strip (this project's profile)
+-- strip
 pub record IsWritable (written : WrittenPage) : Type 0 where
   pub limits : IsPageForm written.form
   pub exchanged : written.form.exchanged ≡ false

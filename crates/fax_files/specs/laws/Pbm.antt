@@ -1,4 +1,5 @@
 -- The laws of raw PBM: what is written is read back, and bytes are read in one way.
+-- A definition without a citation is this project's profile.
 use Rattle.std.specs.Prelude.{◌≡◌, ℕ, List, [], ◌∷◌, length, Option, None, IsTrue}
 use Rattle.fax_bits.specs.declared.Colour.{Colour}
 use Rattle.fax_files.specs.declared.pbm.PbmFault.{PbmFault}
@@ -10,7 +11,6 @@ AreOfWidth width [] = Unit {0}
 AreOfWidth width (row ∷ rows) = (length row ≡ width) × AreOfWidth width rows
 
 -- an image that can be written: one within the limits, of rows of its width
--- (this project's profile)
 pub record IsWritableImage (image : Image) : Type 0 where
   pub within : IsTrue (is_within_limits image.width (length image.rows))
   pub rows : AreOfWidth image.width image.rows

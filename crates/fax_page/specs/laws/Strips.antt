@@ -1,4 +1,5 @@
 -- Laws of strips, which the functions of the module `laws` prove.
+-- A definition without a citation is this project's profile.
 use Rattle.std.specs.Prelude.{◌≡◌, ℕ, ◌+◌, ◌-◌, ◌%◌, Bool, true, false, nat_eq, if◌then◌else◌, List}
 use Rattle.std.specs.Prelude.{[], ◌∷◌, ◌++◌, length, replicate, All}
 use Rattle.fax_bits.specs.declared.Colour.{Colour}
@@ -19,59 +20,58 @@ use Rattle.fax_page.specs.Lines.{IsLine, IsCause}
 use Rattle.fax_page.specs.Strip.{IsStripForm, IsStrip}
 use Rattle.fax_page.specs.CodedStrip.{end_of_line, fill_zeros, coded_bits, coded_strip}
 
--- the rows are as many and as wide as the form says (this project's profile)
+-- the rows are as many and as wide as the form says
 pub record AreRowsOf (form : StripForm) (rows : List (List Colour)) : Type 0 where
   pub count : length rows ≡ form.rows
   pub widths : All (λ row. length row ≡ form.width) rows
 
--- bits begin with at most one row, and one rest follows it (this project's profile)
+-- bits begin with at most one row, and one rest follows it
 abbrev pub IsOneLine : StripForm → ℕ → List Colour → Type 0
 IsOneLine form i reference =
     (b : List Bool) (row another : List Colour) (rest remaining : List Bool)
     → IsLine form i reference b row rest → IsLine form i reference b another remaining
     → (row ≡ another) × (rest ≡ remaining)
 
--- bits begin with a row, or there is a cause (this project's profile)
+-- bits begin with a row, or there is a cause
 abbrev pub IsLineOrCause : StripForm → ℕ → List Colour → Type 0
 IsLineOrCause form i reference =
     (b : List Bool)
     → ((row : List Colour) × (rest : List Bool) × IsLine form i reference b row rest)
     ⊎ ((fault : StripFault) × IsCause form i reference b fault)
 
--- bits that begin with a row have no cause (this project's profile)
+-- bits that begin with a row have no cause
 abbrev pub IsNoCauseOfLine : StripForm → ℕ → List Colour → Type 0
 IsNoCauseOfLine form i reference =
     (b : List Bool) (row : List Colour) (rest : List Bool) (fault : StripFault)
     → IsLine form i reference b row rest → IsCause form i reference b fault → ⊥
 
--- bits have at most one cause (this project's profile)
+-- bits have at most one cause
 abbrev pub IsOneCause : StripForm → ℕ → List Colour → Type 0
 IsOneCause form i reference =
     (b : List Bool) (fault another : StripFault)
     → IsCause form i reference b fault → IsCause form i reference b another → fault ≡ another
 
 -- bits are read in one way as row i of a strip over a reference row: one row and one rest, or one
--- cause (this project's profile)
+-- cause
 pub record ReadsLinesOneWay (form : StripForm) (i : ℕ) (reference : List Colour) : Type 0 where
   pub one_line : IsOneLine form i reference
   pub line_or_cause : IsLineOrCause form i reference
   pub line_has_no_cause : IsNoCauseOfLine form i reference
   pub one_cause : IsOneCause form i reference
 
--- bits are a strip with some rows and an end (this project's profile)
+-- bits are a strip with some rows and an end
 abbrev pub HasRowsAndEnd : StripForm → Type 0
 HasRowsAndEnd form =
     (b : List Bool) → (rows : List (List Colour)) × (end : Option StripFault)
     × IsStrip form b rows end
 
--- and with only one list of rows, and one end (this project's profile)
+-- and with only one list of rows, and one end
 abbrev pub HasOneReading : StripForm → Type 0
 HasOneReading form =
     (b : List Bool) (rows others : List (List Colour)) (end another : Option StripFault)
     → IsStrip form b rows end → IsStrip form b others another → (rows ≡ others) × (end ≡ another)
 
 -- bits are read in one way as a strip of the form: one list of rows and one end
--- (this project's profile)
 pub record ReadsStripsOneWay (form : StripForm) : Type 0 where
   pub rows_and_end : HasRowsAndEnd form
   pub one_reading : HasOneReading form
@@ -88,7 +88,6 @@ pub record IsLeastFill (before : ℕ) : Type 0 where
   pub least : (fewer : ℕ) → fewer < fill_zeros true before → IsAligned before fewer → ⊥
 
 -- the bits of a written strip, whatever follows them, are a strip with its rows and no fault
--- (this project's profile)
 abbrev pub CodedBitsAreRead : Type 0
 CodedBitsAreRead =
     (form : StripForm) (k : ℕ) (rows : List (List Colour)) (more : List Bool)
@@ -96,13 +95,12 @@ CodedBitsAreRead =
     → IsStrip form (coded_bits form k rows ++ more) rows None
 
 -- a written strip is read back: its bytes are a strip with its rows and no fault
--- (this project's profile)
 abbrev pub CodedStripsAreRead : Type 0
 CodedStripsAreRead =
     (form : StripForm) (k : ℕ) (rows : List (List Colour)) → IsStripForm form → AreRowsOf form rows
     → IsStrip form (bits form.order (coded_strip form k rows)) rows None
 
--- and as nothing else (this project's profile)
+-- and as nothing else
 abbrev pub CodedStripsAreOneStrip : Type 0
 CodedStripsAreOneStrip =
     (form : StripForm) (k : ℕ) (rows others : List (List Colour)) (end : Option StripFault)

@@ -1,4 +1,5 @@
 -- What is read back of packed pels.
+-- A definition without a citation is this project's profile.
 use Rattle.std.specs.Prelude.{◌≡◌, ℕ, ◌+◌, ◌-◌, ◌*◌, ◌/◌, Bool, true, false, List, ◌++◌, map}
 use Rattle.std.specs.Prelude.{length, take, drop, replicate, not, slice_index_or}
 use Rattle.std.specs.List.{range_with_len}
@@ -16,19 +17,18 @@ HasBitsOfPels =
     → bits MsbFirst (packed_row row)
     ≡ map is_black row ++ replicate (8 * packed_len (length row) - length row) false
 
--- a packed row is read back (this project's profile)
+-- a packed row is read back
 abbrev pub IsReadBack : Type 0
 IsReadBack = (row : List Colour) → unpacked_row (length row) (packed_row row) ≡ row
 
 -- bytes whose row is packed again are as they were, but for the padding, which is zeros
--- (this project's profile)
 abbrev pub IsPackedBack : Type 0
 IsPackedBack =
     (width : ℕ) (bytes : List ℕ) → length bytes ≡ packed_len width
     → bits MsbFirst (packed_row (unpacked_row width bytes))
     ≡ take width (bits MsbFirst bytes) ++ replicate (8 * packed_len width - width) false
 
--- packing and unpacking undo one another (this project's profile)
+-- packing and unpacking undo one another
 pub record PackingUndoesUnpacking : Type 0 where
   pub bits_of_pels : HasBitsOfPels
   pub read_back : IsReadBack

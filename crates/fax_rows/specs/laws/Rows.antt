@@ -1,4 +1,5 @@
 -- Laws of rows, which the functions of the module `laws` prove.
+-- A definition without a citation is this project's profile.
 use Rattle.std.specs.Prelude.{ℕ, zero, suc, ◌+◌, ◌<◌, ◌^◌, Bool, true, false, not, ◌&&◌, nat_lt}
 use Rattle.std.specs.Prelude.{if◌then◌else◌, List, [], ◌∷◌, ◌++◌, length, replicate, slice_index_or}
 use Rattle.std.specs.Prelude.{Option, Some, None}
@@ -11,7 +12,7 @@ use Rattle.fax_rows.specs.OneDimensional.{IsOneDimensionalRow}
 use Rattle.fax_rows.specs.TwoDimensional.{IsTwoDimensionalRow}
 use Rattle.fax_rows.specs.Faults.{IsOneDimensionalFault, IsTwoDimensionalFault}
 
--- a row has 1 to 65,535 pels (this project's profile)
+-- a row has 1 to 65,535 pels
 pub record HasWidth (row : List Colour) : Type 0 where
   pub some : 0 < length row
   pub short : length row < 2 ^ 16

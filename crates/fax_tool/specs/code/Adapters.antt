@@ -1,4 +1,5 @@
 -- What the adapters over std's streams hold.
+-- A definition without a citation is this project's profile.
 use Rattle.fax_tool.specs.declared.streams.FromRead.{FromRead}
 use Rattle.fax_tool.specs.declared.streams.ToWrite.{ToWrite}
 use Rattle.std.specs.Prelude.{◌≡◌, ◌≢◌, ℕ, ◌+◌, ◌-◌, ◌^◌, ◌<◌, min, List, length, take, Option}
@@ -18,7 +19,7 @@ abbrev pub writer_of : {W : Type 0} → ToWrite W → W
 writer_of sink = sink.writer
 
 -- the fault of a call that std answers with an error of this kind: interrupted calls alone may be
--- made again (this project's profile)
+-- made again
 abbrev pub IsFaultOf : ErrorKind → StreamFault → Type 0
 IsFaultOf kind Interrupted = kind ≡ WasInterrupted
 IsFaultOf kind Failed = kind ≢ WasInterrupted

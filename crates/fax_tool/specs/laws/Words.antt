@@ -1,4 +1,5 @@
 -- Laws of words, which the functions of the module `laws` prove.
+-- A definition without a citation is this project's profile.
 use Rattle.std.specs.Prelude.{◌≡◌, ◌⊎◌, ℕ, List, Option, IfSome}
 use Rattle.std.specs.Io.KnownBytes.{Appends}
 use Rattle.clap.specs.Walk.{Text}
@@ -15,13 +16,11 @@ use Rattle.fax_walk.specs.Cursor.{IsCursor}
 use Rattle.fax_walk.specs.LongCursor.{IsLongCursor}
 
 -- the words give a job, and what its command writes of the file was written
--- (this project's profile)
 abbrev pub WritesOfWords : List Text → Input → Output → Output → ℕ → Type 0
 WritesOfWords words input output error status = (job : Job) × IsJob words job
     × WritesText job.command input output error status
 
 -- the words give no job: nothing was written but why, on the error stream, unless that failed
--- (this project's profile)
 pub record SaysFault (words : List Text) (counts : Counts)
     (output new_output error new_error : Option (List ℕ)) (status : ℕ) : Type 0 where
   pub fault : WordsFault
@@ -30,13 +29,12 @@ pub record SaysFault (words : List Text) (counts : Counts)
   pub output_is : new_output ≡ output
   pub said : HasFailed counts ⊎ Appends error new_error (words_text fault)
 
--- the words give a job, and its run was refused (this project's profile)
+-- the words give a job, and its run was refused
 abbrev pub IsRefusedOfWords : List Text → Input → Output → Output → Type 0
 IsRefusedOfWords words input output error = (job : Job) × IsJob words job
     × IsRefused job.command input output error
 
 -- the numbers of a command's cursors have 32 bits, as those of each job have
--- (this project's profile)
 abbrev pub HasCursors : Command → Type 0
 HasCursors (Forms part) = IsCursor part.cursor
 HasCursors (Rows part) = IsCursor part.cursor × IfSome part.from IsLongCursor
@@ -44,7 +42,6 @@ HasCursors (Convert options) = Unit {0}
 HasCursors Check = Unit {0}
 
 -- the words give a job, or are those of no command, or name no cursor: no two of these
--- (this project's profile)
 pub record HaveOneAnswer (words : List Text) : Type 0 where
   pub job_or_usage : (job : Job) → IsJob words job → ¬ IsFault words Usage
   pub job_or_no_cursor : (job : Job) → HasCursors job.command → IsJob words job

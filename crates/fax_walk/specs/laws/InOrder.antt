@@ -1,22 +1,21 @@
 -- What leads to a place, and what is left, one item after another.
+-- A definition without a citation is this project's profile.
 use Rattle.std.specs.Prelude.{◌≡◌, ℕ, ◌≤◌, List, [], ◌∷◌, length, drop, Option, Some, None, Result}
 use Rattle.std.specs.Prelude.{Ok, Err, slice_get}
 use Rattle.fax_walk.specs.declared.end.End.{End}
 
 -- these items are read from a place on, and the last of them leads to this place
--- (this project's profile)
 abbrev pub LeadTo : {S A : Type 0} → (S → Result (A × S) End → Type 0) → S → List A → S → Type 0
 LeadTo next at [] to = to ≡ at
 LeadTo {S} next at (item ∷ items) to =
     (place : S) × next at (Ok (item, place)) × LeadTo next place items to
 
--- no end was told yet, or it was, and nothing is left but that end (this project's profile)
+-- no end was told yet, or it was, and nothing is left but that end
 abbrev pub IsTold : {A : Type 0} → Option End → List A → End → Type 0
 IsTold None items end = Unit {0}
 IsTold (Some told) items end = (items ≡ []) × (end ≡ told)
 
 -- what is left where so many items were handed out, and this end was told, if one was
--- (this project's profile)
 pub record IsLeftOf {A : Type 0} (tail : List A → End → Type 0) (given : ℕ) (told : Option End)
     (items : List A) (end : End) : Type 0 where
   pub all : List A
@@ -25,7 +24,7 @@ pub record IsLeftOf {A : Type 0} (tail : List A → End → Type 0) (given : ℕ
   pub rest : items ≡ drop given all
   pub is_told : IsTold told items end
 
--- there is one list of which this holds, with one end (this project's profile)
+-- there is one list of which this holds, with one end
 pub record IsOne {A : Type 0} (holds : List A → End → Type 0) : Type 0 where
   pub items : List A
   pub end : End

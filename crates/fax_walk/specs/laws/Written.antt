@@ -1,4 +1,5 @@
 -- Laws of written files, which the functions of the module `laws` prove.
+-- A definition without a citation is this project's profile.
 use Rattle.std.specs.Prelude.{◌≡◌, ◌≢◌, ℕ, ◌+◌, ◌<◌, ◌≤◌, true, List, [], ◌∷◌, ◌++◌, length, map}
 use Rattle.std.specs.Prelude.{All}
 use Rattle.std.specs.List.{AllZip}
@@ -17,17 +18,17 @@ use Rattle.fax_walk.specs.Converted.{SourcePage, written_page}
 use Rattle.fax_walk.specs.Pages.{FormItem, AreForms}
 use Rattle.fax_walk.specs.Rows.{Item, AreItems}
 
--- a row with its page and its number there, both from 0 (this project's profile)
+-- a row with its page and its number there, both from 0
 pub record WalkedRow : Type 0 where
   pub page : ℕ
   pub row : ℕ
   pub pels : List Colour
 
--- an item, without its place in the bits of its strip (this project's profile)
+-- an item, without its place in the bits of its strip
 abbrev pub walked : Item → WalkedRow
 walked item = record { page = item.page; row = item.row; pels = item.pels }
 
--- rows of page p, from row r on (this project's profile)
+-- rows of page p, from row r on
 abbrev pub numbered : ℕ → ℕ → List (List Colour) → List WalkedRow
 numbered p r [] = []
 numbered p r (row ∷ rows) = record { page = p; row = r; pels = row } ∷ numbered p (r + 1) rows
@@ -38,18 +39,18 @@ HoldsRows written rows =
     (lists : List (List (List Colour))) × AreRowsOf written.form 0 written.strips lists
     × (rows ≡ joined lists)
 
--- the rows of pages with their places, page by page from page p on (this project's profile)
+-- the rows of pages with their places, page by page from page p on
 abbrev pub rows_of : ℕ → List (List (List Colour)) → List WalkedRow
 rows_of p [] = []
 rows_of p (rows ∷ pages) = numbered p 0 rows ++ rows_of (p + 1) pages
 
--- the forms of pages, from page p on (this project's profile)
+-- the forms of pages, from page p on
 abbrev pub forms_of : ℕ → List WrittenPage → List FormItem
 forms_of p [] = []
 forms_of p (written ∷ pages) = record { page = p; form = written.form } ∷ forms_of (p + 1) pages
 
 -- the items of a file are these rows, page by page, its forms those of these pages, and both end
--- properly (this project's profile)
+-- properly
 pub record IsWalkedAs (file : List ℕ) (pages : List WrittenPage)
     (rows : List (List (List Colour))) : Type 0 where
   pub items : List Item
@@ -58,7 +59,7 @@ pub record IsWalkedAs (file : List ℕ) (pages : List WrittenPage)
   pub forms : AreForms file (forms_of 0 pages) Proper
 
 -- the file of some pages, at most 65,535, whose strips hold these rows, has these rows and forms
--- where it has at most 268,435,456 bytes (this project's profile)
+-- where it has at most 268,435,456 bytes
 abbrev pub WrittenFilesAreWalked : Type 0
 WrittenFilesAreWalked =
     (pages : List WrittenPage) (rows : List (List (List Colour))) → 1 ≤ length pages
@@ -67,7 +68,6 @@ WrittenFilesAreWalked =
     → IsWalkedAs (file_of pages) pages rows
 
 -- a page that can be written: its image and its resolution are within the limits
--- (this project's profile)
 pub record IsWritableSource (source : SourcePage) : Type 0 where
   pub image : IsWritableImage source.image
   pub x : IsGoodRational source.resolution.x
@@ -81,7 +81,7 @@ written_pages options coding pages = map (written_page options coding) pages
 
 -- the file of some pages, at most 65,535, written in any coding with any strip height and k, and in
 -- MH and MR with aligned EOLs or not, has their rows and forms where it has at most 268,435,456
--- bytes (this project's profile)
+-- bytes
 abbrev pub CodedFilesAreWalked : Type 0
 CodedFilesAreWalked =
     (options : Options) (coding : Coding) (pages : List SourcePage)
