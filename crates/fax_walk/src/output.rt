@@ -11,6 +11,9 @@ use fax_files::{Coding, MAX_FILE, TiffWriter, WriteFault, put_pbm_head, put_pbm_
 use fax_rows::Row;
 use std::alloc::Global;
 
+/// The most bytes of what is written.
+const MAX_OUTPUT: usize = MAX_FILE as usize;
+
 /// The most pages of a TIFF file.
 const MAX_PAGES: u64 = 65_535;
 
@@ -56,7 +59,7 @@ impl Output {
             Output::Images(bytes) => {
                 put_pbm_head(bytes, sheet.width, sheet.rows)?;
                 let raster = sheet.rows as usize * (sheet.width as usize).div_ceil(8);
-                if bytes.len() + raster > MAX_FILE as usize {
+                if bytes.len() + raster > MAX_OUTPUT {
                     *self = Output::TooLarge;
                 }
             }
