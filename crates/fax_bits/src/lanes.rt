@@ -26,7 +26,8 @@ pub fn reverse_bits(bytes: &mut [u8])
     ensures turned { bytes.new ≡ map (turned_round w8) bytes.old }
 
     // The bits in one order are what they were in the other.
-    ensures order { (order : FillOrder) → bits order bytes.new ≡ bits (other_order order) bytes.old }
+    ensures order { (order : FillOrder)
+        → bits order bytes.new ≡ bits (other_order order) bytes.old }
 {
     let len = bytes.len();
     let mut at = 0;

@@ -9,7 +9,8 @@ use Rattle.fax_files.specs.Directory.{is_directory, next_offset}
 
 -- How the chain ends at the offset that is due, after these directories: properly where it is 0,
 -- else with the fault of an offset that stands among them already, or at which no whole directory
--- stands. None where it goes on (TIFF 6.0, section 2; the fault of a loop is this project's profile)
+-- stands. None where it goes on (TIFF 6.0, section 2; the fault of a loop is this project's
+-- profile)
 abbrev pub chain_stop : Endian → List ℕ → List ℕ → ℕ → Option (Option FileFault)
 chain_stop endian file before due =
     if due == 0 then (Some None)

@@ -424,7 +424,8 @@ module _ (row : PlacedRow) where
     within = omega (arith, at.within);
     colour_is = is;
     passed = λ h.
-        let order = not_later row.places.now row.end row.placed.ascending (b - 2) (k - 1) (omega arith) (omega (arith, at.within, at.some)) in
+        let order = not_later row.places.now row.end row.placed.ascending (b - 2) (k - 1) (omega arith)
+        (omega (arith, at.within, at.some)) in
         le-ltb a (get_or row.places.now (b - 2) 0) (omega (arith, at.left));
     ahead = λ h. lt-ltb a (get_or row.places.now b 0) (subst (λ m. a < get_or row.places.now m 0) (sym same) (at.right (omega arith)));
   }

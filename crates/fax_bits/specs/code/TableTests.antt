@@ -116,7 +116,8 @@ entry_is_short (first ∷ table) zero entry short within is =
     let lengths = and_both (nat_lt 0 first.len && nat_le first.len LONGEST_CODE)
     (nat_lt first.code (2 ^ first.len)) here.0 in
     let ends = and_both (nat_lt 0 first.len) (nat_le first.len LONGEST_CODE) lengths.0 in
-    let P : CodeEntry _ → Type 0 = λ e. (0 < e.len) × (e.len ≤ LONGEST_CODE) × (e.code < 2 ^ e.len) in
+    let P : CodeEntry _ → Type 0 = λ e. (0 < e.len) × (e.len ≤ LONGEST_CODE) ×
+    (e.code < 2 ^ e.len) in
     subst P is (
       lt-from_test 0 first.len ends.0,
       le-from_test first.len LONGEST_CODE ends.1,
@@ -125,7 +126,8 @@ entry_is_short (first ∷ table) zero entry short within is =
     )
 entry_is_short (first ∷ table) (suc i) entry short within is =
     entry_is_short table i entry
-    (and_both ((nat_lt 0 first.len && nat_le first.len LONGEST_CODE) && nat_lt first.code (2 ^ first.len))
+    (and_both ((nat_lt 0 first.len && nat_le first.len LONGEST_CODE) && nat_lt first.code
+    (2 ^ first.len))
     (short_codes_test table) short).1
     (omega arith) is
 

@@ -80,7 +80,8 @@ pub record IsReadInOneWay {A F : Type 0} (IsAnswer : List Bool → A → List Bo
       → IsAnswer b answer rest → IsAnswer b another remaining
       → (answer ≡ another) × (rest ≡ remaining)
   pub answer_or_fault : (b : List Bool)
-      → ((answer : A) × (rest : List Bool) × IsAnswer b answer rest) ⊎ ((fault : F) × IsFault b fault)
+      → ((answer : A) × (rest : List Bool) × IsAnswer b answer rest)
+      ⊎ ((fault : F) × IsFault b fault)
   pub answer_has_no_fault : (b : List Bool) (answer : A) (rest : List Bool) (fault : F)
       → IsAnswer b answer rest → IsFault b fault → ⊥
   pub one_fault : (b : List Bool) (fault another : F)
