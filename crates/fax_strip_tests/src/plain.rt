@@ -180,7 +180,8 @@ fn compare_orders(rt: &impl Abort, alloc: Global, way: Way, drawn: &Rows) -> Res
     Ok(())
 }
 
-/// Compares rows in each coding, with and without aligned EOLs, and in MR for each k. Answers how many strips there are.
+/// Compares rows in each coding, with and without aligned EOLs, and in MR for each k. Answers how
+/// many strips there are.
 fn compare_codings(rt: &impl Abort, alloc: Global, drawn: &Rows) -> Result<u32, Fail> {
     let mut ways: u32 = 1;
     compare_orders(
