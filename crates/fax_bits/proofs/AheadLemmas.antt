@@ -8,10 +8,11 @@ use Rattle.fax_bits.specs.declared.FillOrder.{FillOrder}
 use Rattle.fax_bits.specs.declared.window.Window.{Window}
 use Rattle.fax_bits.specs.declared.runs.RunCode.TheVariants.{Terminating, MakeUp}
 use Rattle.fax_bits.specs.declared.modes.ModeCode.TheVariants.{Vertical}
-use Rattle.fax_bits.specs.Bits.{bits, bits_number, code_bits, HasZerosAhead}
+use Rattle.fax_bits.specs.Bits.{bits, code_bits, HasZerosAhead}
+use Rattle.fax_bits.specs.Written.{bits_number}
 use Rattle.fax_bits.specs.declared.codes.CodeEntry.{CodeEntry}
-use Rattle.fax_bits.specs.Codes.{BeginsWith, Takes}
-use Rattle.fax_bits.specs.Runs.{IsRun}
+use Rattle.fax_bits.specs.views.Codes.{HasCodeAhead}
+use Rattle.fax_bits.specs.Codes.{Takes, IsRun}
 use Rattle.fax_bits.specs.Tables.{modes, run_table}
 use Rattle.fax_bits.specs.code.Window.{first_bits}
 use Rattle.fax_bits.specs.code.BitsAhead.{bits_ahead}
@@ -109,7 +110,7 @@ module _ (order : FillOrder) (bytes : List ℕ) (old window : Window) (source : 
     pub number-below : number < 8192
     number-below = peeked-below source.left 13 (omega (arith, many, loaded-left)) number spelled_is
 
-    module _ {M : Type 0} (table : List (CodeEntry M)) (len : ℕ) (meaning : M) (found : BeginsWith table (code_bits 13 number) len meaning)
+    module _ {M : Type 0} (table : List (CodeEntry M)) (len : ℕ) (meaning : M) (found : HasCodeAhead table (code_bits 13 number) len meaning)
         (behind : Window) (count : behind.count + len ≡ window.count) (at : behind.at ≡ window.at) where
       short : len ≤ 13
       short = omega (arith, found_is_short table (code_bits 13 number) len meaning found, length-code_bits 13 number)

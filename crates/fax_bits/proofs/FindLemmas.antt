@@ -6,7 +6,7 @@ use Rattle.std.proofs.lemmas.Nat.{pow_pos, mod_below, shr_below, shr_split}
 use Rattle.std.proofs.lemmas.Nat.Bits.{bit_at-lt, same_from_bits_below}
 use Rattle.std.specs.Int.{bit_at}
 use Rattle.fax_bits.specs.Bits.{code_bits}
-use Rattle.fax_bits.specs.Codes.{IsCodeAhead}
+use Rattle.fax_bits.specs.Bits.{BeginsWith}
 use Rattle.fax_bits.proofs.CodeBitsLemmas.{code_bits-add}
 use Rattle.fax_bits.proofs.MeetingLemmas.{length-code_bits, get_or-code_bits}
 
@@ -39,20 +39,20 @@ split_at n len window within =
     sym (ap (λ k. code_bits k window) e) ∙ ap (code_bits (len + (n - len))) (sym (shr_split window (n - len)))
     ∙ code_bits-add len (n - len) (window / 2 ^ (n - len)) (window % 2 ^ (n - len)) (mod_below window (2 ^ (n - len)) (pow_pos (n - len)))
 
-pub code_ahead : (n window len code : ℕ) → len ≤ n → window / 2 ^ (n - len) ≡ code → IsCodeAhead (code_bits len code) (code_bits n window)
+pub code_ahead : (n window len code : ℕ) → len ≤ n → window / 2 ^ (n - len) ≡ code → BeginsWith (code_bits n window) (code_bits len code)
 code_ahead n window len code within is = (
   code_bits (n - len) (window % 2 ^ (n - len)),
   split_at n len window within ∙ ap (λ k. code_bits len k ++ code_bits (n - len) (window % 2 ^ (n - len))) is,
 )
 
 -- a code that begins the bits is no longer than they are
-pub ahead_is_short : (n window len code : ℕ) → IsCodeAhead (code_bits len code) (code_bits n window) → len ≤ n
+pub ahead_is_short : (n window len code : ℕ) → BeginsWith (code_bits n window) (code_bits len code) → len ≤ n
 ahead_is_short n window len code ahead =
     omega (arith, length-append (code_bits len code) ahead.0, ap length ahead.1, length-code_bits len code, length-code_bits n window)
 
 -- and is the number that the first bits spell
 pub ahead_is_first : (n window len code : ℕ) → len ≤ n → window < 2 ^ n → code < 2 ^ len
-    → IsCodeAhead (code_bits len code) (code_bits n window)
+    → BeginsWith (code_bits n window) (code_bits len code)
     → window / 2 ^ (n - len) ≡ code
 ahead_is_first n window len code within fits code_fits ahead =
     let e : len + (n - len) ≡ n = omega arith in

@@ -7,7 +7,8 @@ use Rattle.std.proofs.lemmas.Nat.{and_mask}
 use Rattle.std.specs.Prelude.{bit_and}
 use Rattle.std.specs.Int.{bit_at}
 use Rattle.fax_bits.specs.Bits.{code_bits}
-use Rattle.fax_bits.specs.Codes.{IsCodeAhead, IsCutBy}
+use Rattle.fax_bits.specs.Codes.{IsCutBy}
+use Rattle.fax_bits.specs.Bits.{BeginsWith}
 
 -- the first n bits of both are the same
 abbrev pub Agree : List Bool → List Bool → ℕ → Type 0
@@ -31,7 +32,7 @@ pub code_bit : (len code i : ℕ) → i < len → nat_eq (bit_and (code / 2 ^ (l
 code_bit len code i h =
     ap (λ n. nat_eq n 1) (and_mask (code / 2 ^ (len - 1 - i)) 1) ∙ sym (get_or-code_bits len code i h)
 
-pub ahead-from_agree : (code b : List Bool) → length code ≤ length b → Agree b code (length code) → IsCodeAhead code b
+pub ahead-from_agree : (code b : List Bool) → length code ≤ length b → Agree b code (length code) → BeginsWith b code
 ahead-from_agree [] b short agree = (b, refl)
 ahead-from_agree (c ∷ code) [] short agree = absurd (omega arith)
 ahead-from_agree (c ∷ code) (x ∷ b) short agree =
@@ -48,14 +49,14 @@ cut-from_agree (c ∷ code) (x ∷ b) short agree =
     (more.0, more.1, cc)
 
 -- a code that begins the bits is no longer than they are
-pub ahead_fits : (len code : ℕ) (b : List Bool) → IsCodeAhead (code_bits len code) b → len ≤ length b
+pub ahead_fits : (len code : ℕ) (b : List Bool) → BeginsWith b (code_bits len code) → len ≤ length b
 ahead_fits len code b ahead =
     omega (arith, length-append (code_bits len code) ahead.0, ap length ahead.1, length-code_bits len code)
 
-pub not_ahead-of_short : (code b : List Bool) → length b < length code → IsCodeAhead code b → ⊥
+pub not_ahead-of_short : (code b : List Bool) → length b < length code → BeginsWith b code → ⊥
 not_ahead-of_short code b short ahead = omega (arith, length-append code ahead.0, ap length ahead.1)
 
-pub not_ahead-of_other : (code b : List Bool) (i : ℕ) → i < length code → get_or b i false ≢ get_or code i false → IsCodeAhead code b → ⊥
+pub not_ahead-of_other : (code b : List Bool) (i : ℕ) → i < length code → get_or b i false ≢ get_or code i false → BeginsWith b code → ⊥
 not_ahead-of_other code b i short other ahead =
     other (ap (λ xs. get_or xs i false) ahead.1 ∙ get_or-append code ahead.0 false i short)
 

@@ -8,9 +8,10 @@ use Rattle.fax_bits.specs.declared.codes.CodeEntry.{CodeEntry}
 use Rattle.fax_bits.specs.declared.modes.ModeCode.{ModeCode}
 use Rattle.fax_bits.specs.declared.modes.ModeCode.TheVariants.{Pass, Horizontal, Vertical, Extension as ModeExtension}
 use Rattle.fax_bits.specs.Bits.{code_bits}
-use Rattle.fax_bits.specs.Codes.{BeginsWith, Takes}
+use Rattle.fax_bits.specs.views.Codes.{HasCodeAhead, IsWritten}
+use Rattle.fax_bits.specs.Codes.{Takes}
 use Rattle.fax_bits.specs.code.Codes.{bits_at}
-use Rattle.fax_bits.specs.Runs.{mode_bits, IsWritten}
+use Rattle.fax_bits.specs.Written.{mode_bits}
 use Rattle.fax_bits.specs.laws.Codes.{ModeBitsAreRead}
 use Rattle.fax_bits.specs.Tables.{modes}
 use Rattle.fax_bits.proofs.FindLemmas.{code_ahead}
@@ -97,7 +98,7 @@ mode_bits_are_read ModeExtension more written = absurd written
 
 -- a code of the table that is the first of thirteen bits
 pub mode_begins : (number place : ℕ) (entry : CodeEntry ModeCode) → slice_get modes place ≡ Some entry → entry.len ≤ 13
-    → number / 2 ^ (13 - entry.len) ≡ entry.code → BeginsWith modes (code_bits 13 number) entry.len entry.meaning
+    → number / 2 ^ (13 - entry.len) ≡ entry.code → HasCodeAhead modes (code_bits 13 number) entry.len entry.meaning
 mode_begins number place entry found short is = record {
   entry = entry;
   listed = listed modes place entry found;

@@ -8,7 +8,9 @@ use Rattle.std.proofs.lemmas.Nat.{pow-add, pow_pos, shl_below, shl-shr}
 use Rattle.std.proofs.Math.Nat.{div-div-eq-div-mul, lt-div-mul-add}
 use Rattle.fax_bits.specs.declared.codes.CodeEntry.{CodeEntry}
 use Rattle.fax_bits.specs.Bits.{code_bits}
-use Rattle.fax_bits.specs.Codes.{bits_of, BeginsWith, HasNoCode, HasShortCodes, IsCodeAhead, IsPrefixFree}
+use Rattle.fax_bits.specs.Codes.{bits_of, HasNoCode}
+use Rattle.fax_bits.specs.views.Codes.{HasCodeAhead, HasShortCodes, IsPrefixFree}
+use Rattle.fax_bits.specs.Bits.{BeginsWith}
 use Rattle.fax_bits.specs.views.Places.{begins, place_after, place_of}
 use Rattle.fax_bits.proofs.CodeBitsLemmas.{code_bits-add}
 use Rattle.fax_bits.proofs.FindLemmas.{code_ahead, ahead_is_short, ahead_is_first}
@@ -73,7 +75,7 @@ place_begins (first ∷ table) width number entry at =
 
 -- a code that begins thirteen bits, by its place
 pub found_at_place : {M : Type 0} (table : List (CodeEntry M)) (number place : ℕ) (entry : CodeEntry M) → place ≡ place_of table 13 number
-    → slice_get table place ≡ Some entry → BeginsWith table (code_bits 13 number) entry.len entry.meaning
+    → slice_get table place ≡ Some entry → HasCodeAhead table (code_bits 13 number) entry.len entry.meaning
 found_at_place table number place entry place_is found =
     let is = begins_true entry 13 number (place_begins table 13 number entry (ap (slice_get table) (sym place_is) ∙ found)) in
     record {
@@ -187,8 +189,8 @@ aligned_bits n window few =
     ∙ code_bits-add n (13 - n) window 0 (pow_pos (13 - n))
 
 -- what begins n bits begins them with zeros after
-aligned_ahead : (n window len code : ℕ) → n ≤ 13 → IsCodeAhead (code_bits len code) (code_bits n window)
-    → IsCodeAhead (code_bits len code) (code_bits 13 (window * 2 ^ (13 - n)))
+aligned_ahead : (n window len code : ℕ) → n ≤ 13 → BeginsWith (code_bits n window) (code_bits len code)
+    → BeginsWith (code_bits 13 (window * 2 ^ (13 - n))) (code_bits len code)
 aligned_ahead n window len code few ahead = (
   ahead.0 ++ code_bits (13 - n) 0,
   aligned_bits n window few ∙ ap (λ b. b ++ code_bits (13 - n) 0) ahead.1
@@ -199,7 +201,7 @@ module _ {M : Type 0} (table : List (CodeEntry M)) (short : HasShortCodes table)
     (few : n ≤ 13)
     (fits : window < 2 ^ n) (place_is : place ≡ place_of table 13 (window * 2 ^ (13 - n))) where
   -- an entry that begins n bits
-  ahead_begins : (entry : CodeEntry M) → Contains table entry → IsCodeAhead (bits_of entry) (code_bits n window)
+  ahead_begins : (entry : CodeEntry M) → Contains table entry → BeginsWith (code_bits n window) (bits_of entry)
       → begins entry 13 (window * 2 ^ (13 - n)) ≡ true
   ahead_begins entry here ahead =
       let within : entry.len ≤ n = ahead_is_short n window entry.len entry.code ahead in
@@ -220,7 +222,7 @@ module _ {M : Type 0} (table : List (CodeEntry M)) (short : HasShortCodes table)
       (ap (slice_get table) (sym place_is) ∙ found))
 
   pub place_found : (entry : CodeEntry M) → slice_get table place ≡ Some entry → entry.len ≤ n
-      → BeginsWith table (code_bits n window) entry.len entry.meaning
+      → HasCodeAhead table (code_bits n window) entry.len entry.meaning
   place_found entry found within = record {
     entry = entry;
     listed = listed table place entry found;

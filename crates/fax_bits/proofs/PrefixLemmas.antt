@@ -4,7 +4,8 @@ use Rattle.std.specs.Prelude.{◌⊎◌, Contains, Some, slice_get}
 use Rattle.std.proofs.lemmas.List.{append_cancel_left}
 use Rattle.std.proofs.lemmas.Option.{slice_get_read}
 use Rattle.fax_bits.specs.declared.codes.CodeEntry.{CodeEntry}
-use Rattle.fax_bits.specs.Codes.{bits_of, Takes, HasShortCodes, IsPrefixFree}
+use Rattle.fax_bits.specs.Codes.{bits_of, Takes}
+use Rattle.fax_bits.specs.views.Codes.{HasShortCodes, IsPrefixFree}
 use Rattle.fax_bits.specs.laws.Codes.{TakesOne, TakesBits, ReadsOneWay}
 use Rattle.fax_bits.proofs.MeetingLemmas.{length-code_bits}
 use Rattle.fax_bits.proofs.ReadingLemmas.{takes_or_fails, taken_has_no_fault, has_one_fault}

@@ -5,11 +5,13 @@ use Rattle.std.specs.Prelude.{◌⊎◌}
 use Rattle.std.proofs.Math.Seq.{take-append-add}
 use Rattle.std.proofs.lemmas.List.{take-append-drop, take-append-le}
 use Rattle.fax_bits.specs.declared.codes.CodeEntry.{CodeEntry}
-use Rattle.fax_bits.specs.Bits.{bits_number, code_bits}
+use Rattle.fax_bits.specs.Written.{bits_number}
+use Rattle.fax_bits.specs.Bits.{code_bits, BeginsWith}
 use Rattle.fax_bits.specs.declared.codes.Meeting.{Meeting}
 use Rattle.fax_bits.specs.declared.codes.Meeting.TheVariants.{Whole, Cut, Other}
 use Rattle.fax_bits.specs.code.Meeting.{IsMeeting}
-use Rattle.fax_bits.specs.Codes.{IsCodeAhead, IsCutBy, bits_of, BeginsWith, HasNoCode, HasShortCodes, IsCutShort, Takes}
+use Rattle.fax_bits.specs.Codes.{IsCutBy, bits_of, HasNoCode, IsCutShort, Takes}
+use Rattle.fax_bits.specs.views.Codes.{HasCodeAhead, HasShortCodes}
 use Rattle.fax_bits.proofs.MeetingLemmas.{length-code_bits, ahead_fits}
 use Rattle.fax_bits.proofs.NumberLemmas.{code_bits-number}
 use Rattle.fax_bits.proofs.PeekLemmas.{padded, bits_number-lt}
@@ -35,7 +37,7 @@ module _ (left : List Bool) (n : ℕ) (all : n ≤ length left) where
 
 -- a code that begins the next bits is taken
 pub takes_found : {M : Type 0} (table : List (CodeEntry M)) (left b : List Bool) (n len : ℕ) (meaning : M) → b ≡ take n left
-    → BeginsWith table b len meaning → Takes table left meaning (drop len left)
+    → HasCodeAhead table b len meaning → Takes table left meaning (drop len left)
 takes_found table left b n len meaning next found = record {
   entry = found.entry;
   listed = found.listed;
@@ -48,7 +50,7 @@ takes_found table left b n len meaning next found = record {
 }
 
 -- and is no longer than the next bits
-pub found_is_short : {M : Type 0} (table : List (CodeEntry M)) (b : List Bool) (len : ℕ) (meaning : M) → BeginsWith table b len meaning
+pub found_is_short : {M : Type 0} (table : List (CodeEntry M)) (b : List Bool) (len : ℕ) (meaning : M) → HasCodeAhead table b len meaning
     → len ≤ length b
 found_is_short table b len meaning found =
     omega (arith, found.length, ahead_fits found.entry.len found.entry.code b found.ahead)
@@ -80,7 +82,7 @@ not_cut table left short long cut =
 
 -- a code that does not begin the bits, and is not cut by their end
 pub meets_uncut : (meeting : Meeting) (code b : List Bool) → IsMeeting meeting code b → (meeting ≡ Whole) ⊎ (meeting ≡ Other)
-    → (IsCodeAhead code b → ⊥) → IsCutBy code b → ⊥
+    → (BeginsWith b code → ⊥) → IsCutBy code b → ⊥
 meets_uncut Whole code b met is none cut = none met
 meets_uncut Other code b met is none cut = met.1 cut
 meets_uncut Cut code b met (inl is) none cut = cc

@@ -4,7 +4,8 @@ use Rattle.std.specs.Prelude.{◌⊎◌, Contains}
 use Rattle.fax_bits.specs.declared.codes.CodeEntry.{CodeEntry}
 use Rattle.fax_bits.specs.declared.codes.CodeFault.TheVariants.{DataEnds, BadCode}
 use Rattle.fax_bits.specs.declared.codes.CodeFault.{CodeFault}
-use Rattle.fax_bits.specs.Codes.{bits_of, IsCodeAhead, IsCutBy, Takes, IsFaultOf}
+use Rattle.fax_bits.specs.Codes.{bits_of, IsCutBy, Takes, IsFaultOf}
+use Rattle.fax_bits.specs.Bits.{BeginsWith}
 
 same_bit : (a b : Bool) → (a ≡ b) ⊎ (a ≡ b → ⊥)
 same_bit true true = inl refl
@@ -12,7 +13,7 @@ same_bit false false = inl refl
 same_bit true false = inr (λ e. cc)
 same_bit false true = inr (λ e. cc)
 
-decide_ahead : (code b : List Bool) → IsCodeAhead code b ⊎ (IsCodeAhead code b → ⊥)
+decide_ahead : (code b : List Bool) → BeginsWith b code ⊎ (BeginsWith b code → ⊥)
 decide_ahead [] b = inl (b, refl)
 decide_ahead (c ∷ code) [] = inr (λ ahead. cc (ahead.1))
 decide_ahead (c ∷ code) (x ∷ b) =
@@ -61,7 +62,7 @@ decide_listed P test (first ∷ table) =
 pub takes_or_fails : {M : Type 0} (table : List (CodeEntry M)) (b : List Bool)
     → ((meaning : M) × (rest : List Bool) × Takes table b meaning rest) ⊎ ((fault : CodeFault) × IsFaultOf table b fault)
 takes_or_fails table b =
-    elim (decide_listed (λ entry. IsCodeAhead (bits_of entry) b) (λ entry. decide_ahead (bits_of entry) b) table) [
+    elim (decide_listed (λ entry. BeginsWith b (bits_of entry)) (λ entry. decide_ahead (bits_of entry) b) table) [
       | inl found ↦ inl (found.0.meaning, found.2.0, record { entry = found.0; listed = found.1; means = refl; spelled = found.2.1 })
       | inr none ↦ elim (decide_listed (λ entry. IsCutBy (bits_of entry) b) (λ entry. decide_cut (bits_of entry) b) table) [
         | inl short ↦ inr (DataEnds, (none, short))

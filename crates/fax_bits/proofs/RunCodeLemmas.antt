@@ -12,7 +12,7 @@ use Rattle.fax_bits.specs.declared.runs.RunCode.TheVariants.{Terminating, MakeUp
 use Rattle.fax_bits.specs.declared.runs.TheConstants.{WHITE_CODES, WHITE_LENS, BLACK_CODES, BLACK_LENS}
 use Rattle.fax_bits.specs.Codes.{bits_of, Takes}
 use Rattle.fax_bits.specs.code.Codes.{bits_at}
-use Rattle.fax_bits.specs.Runs.{same_run_code, code_for, run_code_bits}
+use Rattle.fax_bits.specs.Written.{same_run_code, code_for, run_code_bits}
 use Rattle.fax_bits.specs.Tables.{run_table, white_runs, black_runs}
 use Rattle.fax_bits.specs.code.Codes.{run_meaning}
 use Rattle.fax_bits.proofs.TableLemmas.{listed}

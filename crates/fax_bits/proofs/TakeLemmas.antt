@@ -9,9 +9,10 @@ use Rattle.std.proofs.lemmas.List.{append_cancel_left, take-append-le, take-appe
 use Rattle.std.proofs.Math.Seq.{take-append_seam, take-length, take-suc, take-add}
 use Rattle.std.proofs.lemmas.List.Concat.{flat_map-append}
 use Rattle.fax_bits.specs.declared.FillOrder.TheVariants.{MsbFirst}
-use Rattle.fax_bits.specs.Bits.{bits, byte_bits, code_bits, bits_number}
+use Rattle.fax_bits.specs.Bits.{bits, byte_bits, code_bits, BeginsWith}
+use Rattle.fax_bits.specs.Written.{bits_number}
 use Rattle.fax_bits.proofs.SinkLemmas.{bits-push, byte_bits-msb}
-use Rattle.fax_bits.specs.views.Source.{BeginsWith, IsTaken}
+use Rattle.fax_bits.specs.views.Source.{IsTaken}
 use Rattle.fax_bits.proofs.MeetingLemmas.{length-code_bits}
 use Rattle.fax_bits.proofs.NumberLemmas.{code_bits-number, number-code_bits}
 use Rattle.fax_bits.proofs.PeekLemmas.{padded}

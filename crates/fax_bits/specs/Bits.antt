@@ -1,12 +1,12 @@
 -- The bits of a strip: a list of truth values, where true is the bit 1.
 -- A definition without a citation is this project's profile.
-use Rattle.std.specs.Prelude.{◌≡◌, ℕ, zero, suc, ◌+◌, ◌-◌, ◌*◌, Bool, true, false, if◌then◌else◌}
-use Rattle.std.specs.Prelude.{List, [], ◌∷◌, ◌++◌, replicate, reverse, fold, flat_map, ◌==◌}
+use Rattle.std.specs.Prelude.{◌≡◌, ℕ, zero, suc, ◌==◌, Bool, true, false}
+use Rattle.std.specs.Prelude.{List, [], ◌∷◌, ◌++◌, replicate, reverse, flat_map}
 use Rattle.std.specs.Int.{bit_at}
 use Rattle.fax_bits.specs.declared.FillOrder.{FillOrder}
 use Rattle.fax_bits.specs.declared.FillOrder.TheVariants.{MsbFirst, LsbFirst}
 
--- the lowest `len` bits of a number, the highest of them first (T.4, tables 2, 3a, 3b and 4)
+-- the lowest `len` bits of a number, the highest of them first (T.4, tables 2 to 4)
 unfoldable pub code_bits : ℕ → ℕ → List Bool
 code_bits zero number = []
 code_bits (suc len) number = (bit_at number len == 1) ∷ code_bits len number
@@ -16,18 +16,13 @@ unfoldable pub byte_bits : FillOrder → ℕ → List Bool
 byte_bits MsbFirst byte = code_bits 8 byte
 byte_bits LsbFirst byte = reverse (code_bits 8 byte)
 
--- the other order of the bits of a byte (TIFF 6.0, FillOrder)
-abbrev pub other_order : FillOrder → FillOrder
-other_order MsbFirst = LsbFirst
-other_order LsbFirst = MsbFirst
-
 -- the bits of the bytes (TIFF 6.0, FillOrder)
 unfoldable pub bits : FillOrder → List ℕ → List Bool
 bits order bytes = flat_map (byte_bits order) bytes
 
--- the number that bits spell, the highest first
-abbrev pub bits_number : List Bool → ℕ
-bits_number b = fold (λ number bit. 2 * number + (if bit then 1 else 0)) 0 b
+-- the list begins with this front
+abbrev pub BeginsWith : {A : Type 0} → List A → List A → Type 0
+BeginsWith {A} list front = (rest : List A) × (list ≡ front ++ rest)
 
 -- no 1 is among the bits (T.4, section 4.1.3)
 abbrev pub IsAllZeros : List Bool → Type 0

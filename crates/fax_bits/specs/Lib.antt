@@ -1,8 +1,7 @@
 pub mod Bits
-pub mod Bytes
 pub mod Codes
 pub mod Tables
-pub mod Runs
+pub mod Written
 pub mod code
 pub mod laws
 pub mod views

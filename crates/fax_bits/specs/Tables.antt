@@ -1,35 +1,32 @@
 -- The code tables of ITU-T T.4, each code spelled as the standard prints it.
-use Rattle.std.specs.Prelude.{ℕ, ◌+◌, ◌*◌, ◌-◌, ◌==◌, List, [], ◌∷◌, ◌++◌, length, fold, codes, pos}
-use Rattle.std.specs.Prelude.{negsuc, nat_lt, if◌then◌else◌}
+use Rattle.std.specs.Prelude.{ℕ, ◌+◌, ◌*◌, ◌-◌, ◌==◌, List, [], ◌∷◌, ◌++◌, length, fold, codes}
+use Rattle.std.specs.Prelude.{pos, negsuc, if◌then◌else◌}
 use Rattle.std.specs.List.{slice_split}
 use Rattle.fax_bits.specs.declared.codes.CodeEntry.{CodeEntry}
 use Rattle.fax_bits.specs.declared.Colour.{Colour}
 use Rattle.fax_bits.specs.declared.Colour.TheVariants.{White, Black}
 use Rattle.fax_bits.specs.declared.modes.ModeCode.{ModeCode}
-use Rattle.fax_bits.specs.declared.modes.ModeCode.TheVariants.{Pass, Horizontal, Vertical}
-use Rattle.fax_bits.specs.declared.modes.ModeCode.TheVariants.{Extension as ModeExtension}
+use Rattle.fax_bits.specs.declared.modes.ModeCode.TheVariants as mode
 use Rattle.fax_bits.specs.declared.runs.RunCode.{RunCode}
 use Rattle.fax_bits.specs.declared.runs.RunCode.TheVariants.{Terminating, MakeUp, Extension}
 
 -- the number that binary digits spell, the highest first (48 is the digit 0)
--- (T.4, tables 2, 3a, 3b and 4)
 abbrev pub binary : List ℕ → ℕ
 binary digits = fold (λ number digit. 2 * number + (digit - 48)) 0 digits
 
--- the code that these binary digits spell, with its meaning (T.4, tables 2, 3a, 3b and 4)
+-- the code that these binary digits spell, with its meaning
 abbrev pub entry : {M : Type 0} → List ℕ → M → CodeEntry M
 entry digits meaning = record { code = binary digits; len = length digits; meaning = meaning }
 
--- the codes that a text spells, parted by single blanks (T.4, tables 2, 3a, 3b and 4)
+-- the codes that a text spells, parted by single blanks
 abbrev pub written : List ℕ → List (List ℕ)
 written text = slice_split (λ character. character == 32) text
 
 -- entries for these codes, whose meanings are at first, first + step, first + 2 * step and so on
--- (T.4, tables 2, 3a and 3b)
-abbrev pub numbered : {M : Type 0} → (ℕ → M) → ℕ → ℕ → List (List ℕ) → List (CodeEntry M)
-numbered meaning first step [] = []
-numbered meaning first step (digits ∷ more) =
-    entry digits (meaning first) ∷ numbered meaning (first + step) step more
+abbrev pub in_steps : {M : Type 0} → (ℕ → M) → ℕ → ℕ → List (List ℕ) → List (CodeEntry M)
+in_steps meaning first step [] = []
+in_steps meaning first step (digits ∷ more) =
+    entry digits (meaning first) ∷ in_steps meaning (first + step) step more
 
 -- white runs of 0 to 63 (T.4, table 2)
 unfoldable pub white_terminating : List (List ℕ)
@@ -99,17 +96,17 @@ run_extension = entry (codes "000000001") Extension ∷ []
 -- the codes of white runs (T.4, tables 2, 3a and 3b)
 unfoldable pub white_runs : List (CodeEntry RunCode)
 white_runs =
-    numbered Terminating 0 1 white_terminating
-    ++ numbered MakeUp 64 64 white_make_up
-    ++ numbered MakeUp 1792 64 common_make_up
+    in_steps Terminating 0 1 white_terminating
+    ++ in_steps MakeUp 64 64 white_make_up
+    ++ in_steps MakeUp 1792 64 common_make_up
     ++ run_extension
 
 -- the codes of black runs (T.4, tables 2, 3a and 3b)
 unfoldable pub black_runs : List (CodeEntry RunCode)
 black_runs =
-    numbered Terminating 0 1 black_terminating
-    ++ numbered MakeUp 64 64 black_make_up
-    ++ numbered MakeUp 1792 64 common_make_up
+    in_steps Terminating 0 1 black_terminating
+    ++ in_steps MakeUp 64 64 black_make_up
+    ++ in_steps MakeUp 1792 64 common_make_up
     ++ run_extension
 
 -- the codes of runs of a colour (T.4, tables 2, 3a and 3b)
@@ -120,14 +117,14 @@ run_table Black = black_runs
 -- the codes of modes (T.4, table 4), where Vertical d says that a1 is b1 + d
 unfoldable pub modes : List (CodeEntry ModeCode)
 modes =
-    entry (codes "0001") Pass
-    ∷ entry (codes "001") Horizontal
-    ∷ entry (codes "1") (Vertical (pos 0))
-    ∷ entry (codes "011") (Vertical (pos 1))
-    ∷ entry (codes "000011") (Vertical (pos 2))
-    ∷ entry (codes "0000011") (Vertical (pos 3))
-    ∷ entry (codes "010") (Vertical (negsuc 0))
-    ∷ entry (codes "000010") (Vertical (negsuc 1))
-    ∷ entry (codes "0000010") (Vertical (negsuc 2))
-    ∷ entry (codes "0000001") ModeExtension
+    entry (codes "0001") mode.Pass
+    ∷ entry (codes "001") mode.Horizontal
+    ∷ entry (codes "1") (mode.Vertical (pos 0))
+    ∷ entry (codes "011") (mode.Vertical (pos 1))
+    ∷ entry (codes "000011") (mode.Vertical (pos 2))
+    ∷ entry (codes "0000011") (mode.Vertical (pos 3))
+    ∷ entry (codes "010") (mode.Vertical (negsuc 0))
+    ∷ entry (codes "000010") (mode.Vertical (negsuc 1))
+    ∷ entry (codes "0000010") (mode.Vertical (negsuc 2))
+    ∷ entry (codes "0000001") mode.Extension
     ∷ []

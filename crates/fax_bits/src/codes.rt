@@ -35,7 +35,8 @@ pub enum CodeFault {
 /// A table of codes of 1 to 13 bits, none of which begins another.
 pub trait CodeTable {
     ghost use Rattle.fax_bits.specs.declared.codes.CodeEntry.{CodeEntry};
-    ghost use Rattle.fax_bits.specs.Codes.{BeginsWith, HasNoCode, HasShortCodes, IsPrefixFree};
+    ghost use Rattle.fax_bits.specs.views.Codes.{HasCodeAhead, HasShortCodes, IsPrefixFree};
+    ghost use Rattle.fax_bits.specs.Codes.{HasNoCode};
     ghost use Rattle.fax_bits.specs.views.Places.{place_of};
     ghost use Rattle.fax_bits.specs.Bits.{code_bits};
 
@@ -68,7 +69,7 @@ pub trait CodeTable {
         requires few { n ≤ LONGEST_CODE }
         requires fits { window < 2 ^ n }
         ensures { MatchOption result (HasNoCode table (code_bits n window))
-            (λ found. BeginsWith table (code_bits n window) found.0 found.1) }
+            (λ found. HasCodeAhead table (code_bits n window) found.0 found.1) }
     {
         let place = Self::place(window << (LONGEST_CODE - n));
         if place >= Self::COUNT {

@@ -2,7 +2,8 @@
 ghost use Rattle.std.specs.Prelude.{◌≡◌, ◌+◌, ◌≤◌, length, map, ℕ};
 ghost use Rattle.std.specs.Int.{reverse_bits as turned_round, w8};
 ghost use Rattle.fax_bits.specs.declared.FillOrder.{FillOrder};
-ghost use Rattle.fax_bits.specs.Bits.{bits, other_order};
+ghost use Rattle.fax_bits.specs.Bits.{bits};
+ghost use Rattle.fax_bits.specs.views.Codes.{other_order};
 
 use std::simd::prelude::*;
 

@@ -1,7 +1,8 @@
 //! The modes of two-dimensional coding (ITU-T T.4, table 4).
 ghost use Rattle.std.specs.Prelude.{◌≡◌, ◌<◌, ◌^◌, length, IfOk, IfErr, IfSome, OnOk, OnErr};
 ghost use Rattle.fax_bits.specs.Bits.{code_bits};
-ghost use Rattle.fax_bits.specs.Codes.{BeginsWith, Takes, IsFaultOf};
+ghost use Rattle.fax_bits.specs.views.Codes.{HasCodeAhead};
+ghost use Rattle.fax_bits.specs.Codes.{Takes, IsFaultOf};
 ghost use Rattle.fax_bits.specs.Tables.{modes};
 ghost use Rattle.fax_bits.specs.views.Source.{KeepsEnd};
 
@@ -125,7 +126,7 @@ fn begins(bits: u32, place: usize) -> Option<(u32, ModeCode)>
     requires bits { bits < 2 ^ LONGEST_CODE }
     requires place { place < 10 }
     ensures { IfSome result
-        (λ found. BeginsWith modes (code_bits LONGEST_CODE bits) found.0 found.1) }
+        (λ found. HasCodeAhead modes (code_bits LONGEST_CODE bits) found.0 found.1) }
 {
     let entry = Modes::entry(place);
     let len = u32::from(entry.len);
@@ -142,7 +143,7 @@ fn begins(bits: u32, place: usize) -> Option<(u32, ModeCode)>
 pub(crate) fn find_mode(bits: u32) -> Option<(u32, ModeCode)>
     requires { bits < 2 ^ LONGEST_CODE }
     ensures { IfSome result
-        (λ found. BeginsWith modes (code_bits LONGEST_CODE bits) found.0 found.1) }
+        (λ found. HasCodeAhead modes (code_bits LONGEST_CODE bits) found.0 found.1) }
 {
     if let Some(found) = begins(bits, UNDER + 1) {
         return Some(found);

@@ -3,7 +3,8 @@ ghost use Rattle.std.specs.Prelude.{◌≡◌, ◌*◌, ◌<◌, ◌≤◌, ◌^
 ghost use Rattle.fax_bits.specs.declared.modes.ModeCode.TheVariants.{Vertical};
 ghost use Rattle.fax_bits.specs.declared.runs.RunCode.TheVariants.{Terminating, MakeUp};
 ghost use Rattle.fax_bits.specs.code.Codes.{bits_at};
-ghost use Rattle.fax_bits.specs.Runs.{run_codes, run_code_bits, run_bits, mode_bits, IsWritten};
+ghost use Rattle.fax_bits.specs.Written.{run_codes, run_code_bits, run_bits, mode_bits};
+ghost use Rattle.fax_bits.specs.views.Codes.{IsWritten};
 ghost use Rattle.fax_bits.specs.views.Sink.{Appends, AppendsCodes};
 ghost use Rattle.fax_bits.specs.code.Codes.{run_meaning};
 

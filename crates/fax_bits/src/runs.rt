@@ -1,7 +1,7 @@
 //! The codes of runs (ITU-T T.4, tables 2, 3a and 3b).
 ghost use Rattle.std.specs.Prelude.{◌≡◌, ◌<◌, ◌^◌, IfSome};
 ghost use Rattle.fax_bits.specs.Bits.{code_bits};
-ghost use Rattle.fax_bits.specs.Codes.{BeginsWith};
+ghost use Rattle.fax_bits.specs.views.Codes.{HasCodeAhead};
 ghost use Rattle.fax_bits.specs.Tables.{black_runs, run_table, white_runs};
 ghost use Rattle.fax_bits.specs.code.Codes.{run_meaning};
 
@@ -347,7 +347,7 @@ impl WhiteRuns {
     fn find_short(bits: u32) -> Option<(u32, u32)>
         requires { bits < 2 ^ LONGEST_CODE }
         ensures { IfSome result
-            (λ found. BeginsWith white_runs (code_bits LONGEST_CODE bits) found.0
+            (λ found. HasCodeAhead white_runs (code_bits LONGEST_CODE bits) found.0
             (RunCode.Terminating found.1)) }
     {
         let pels = WHITE_SHORT[(bits >> 4) as usize];
@@ -366,7 +366,7 @@ impl BlackRuns {
     fn find_short(bits: u32) -> Option<(u32, u32)>
         requires { bits < 2 ^ LONGEST_CODE }
         ensures { IfSome result
-            (λ found. BeginsWith black_runs (code_bits LONGEST_CODE bits) found.0
+            (λ found. HasCodeAhead black_runs (code_bits LONGEST_CODE bits) found.0
             (RunCode.Terminating found.1)) }
     {
         let pels = BLACK_SHORT[(bits >> 7) as usize];
@@ -384,7 +384,7 @@ impl BlackRuns {
 pub(crate) fn find_short_run(colour: Colour, bits: u32) -> Option<(u32, u32)>
     requires { bits < 2 ^ LONGEST_CODE }
     ensures { IfSome result
-        (λ found. BeginsWith (run_table colour) (code_bits LONGEST_CODE bits) found.0
+        (λ found. HasCodeAhead (run_table colour) (code_bits LONGEST_CODE bits) found.0
         (RunCode.Terminating found.1)) }
 {
     match colour {
@@ -398,7 +398,7 @@ pub(crate) fn find_short_run(colour: Colour, bits: u32) -> Option<(u32, u32)>
 pub(crate) fn find_run_code(colour: Colour, bits: u32) -> Option<(u32, RunCode)>
     requires { bits < 2 ^ LONGEST_CODE }
     ensures { IfSome result
-        (λ found. BeginsWith (run_table colour) (code_bits LONGEST_CODE bits) found.0 found.1) }
+        (λ found. HasCodeAhead (run_table colour) (code_bits LONGEST_CODE bits) found.0 found.1) }
 {
     match colour {
         Colour::White => WhiteRuns::find(bits, LONGEST_CODE),

@@ -1,9 +1,8 @@
 //! Bits that are put one after another into bytes.
 ghost use Rattle.std.specs.Prelude.{◌≡◌, ◌+◌, ◌*◌, ◌<◌, ◌≤◌, ◌%◌, ◌^◌, ◌++◌, ◌↔◌, [], length, take};
 ghost use Rattle.std.specs.Prelude.{OnOk, OnErr, IfSome, IsTrue, vec_len, vec_capacity};
-ghost use Rattle.fax_bits.specs.Bits.{bits, code_bits};
+ghost use Rattle.fax_bits.specs.Bits.{bits, code_bits, BeginsWith};
 ghost use Rattle.fax_bits.specs.views.Sink.{Appends, IsPadded};
-ghost use Rattle.fax_bits.specs.views.Source.{BeginsWith};
 ghost use Rattle.fax_bits.specs.declared.FillOrder.TheVariants.{MsbFirst};
 
 use crate::ahead::Ahead;

@@ -2,7 +2,7 @@
 use Rattle.std.proofs.Common.{◌≡◌, ℕ, ◌+◌, ◌<◌, ◌↔◌, List, [], ◌∷◌, ◌++◌, length, Bool, true, false, IsTrue, refl, ap, sym, ◌∙◌, subst}
 use Rattle.std.proofs.Common.{arith, append_assoc, append-nil, length-append, inl, inr, Option, Some, None}
 use Rattle.fax_bits.specs.declared.Colour.{Colour}
-use Rattle.fax_bits.specs.views.Source.{BeginsWith}
+use Rattle.fax_bits.specs.Bits.{BeginsWith}
 use Rattle.fax_rows.specs.laws.Rows.{HasWidth}
 use Rattle.fax_rows.specs.laws.Rows.{OneDimensionalBitsAreOneRow, TwoDimensionalBitsAreOneRow}
 use Rattle.fax_rows.specs.OneDimensional.{IsOneDimensionalRow}

@@ -11,8 +11,7 @@ use Rattle.fax_bits.specs.declared.modes.ModeCode.{ModeCode}
 use Rattle.fax_bits.specs.declared.modes.ModeCode.TheVariants.{Pass, Horizontal, Vertical, Extension}
 use Rattle.fax_bits.specs.declared.runs.RunCode.TheVariants.{Terminating, MakeUp}
 use Rattle.fax_bits.specs.Bits.{bits}
-use Rattle.fax_bits.specs.Codes.{bits_of, Takes, Spells}
-use Rattle.fax_bits.specs.Runs.{IsRun}
+use Rattle.fax_bits.specs.Codes.{bits_of, Takes, Spells, IsRun}
 use Rattle.fax_bits.specs.Tables.{run_table, modes}
 use Rattle.fax_bits.specs.views.Source.{Source, source_of}
 use Rattle.fax_rows.specs.Elements.{other}

@@ -2,7 +2,8 @@
 use Rattle.std.specs.Prelude.{◌≡◌, ℕ, List, [], ◌∷◌, true, map, codes, refl}
 use Rattle.fax_bits.specs.declared.codes.CodeEntry.{CodeEntry}
 use Rattle.fax_bits.specs.Bits.{code_bits}
-use Rattle.fax_bits.specs.Codes.{bits_of, HasShortCodes, IsPrefixFree}
+use Rattle.fax_bits.specs.Codes.{bits_of}
+use Rattle.fax_bits.specs.views.Codes.{HasShortCodes, IsPrefixFree}
 use Rattle.fax_bits.specs.Tables.{entry}
 use Rattle.fax_bits.specs.code.TableTests.{prefix_free_test, is_prefix_free, has_short_codes}
 

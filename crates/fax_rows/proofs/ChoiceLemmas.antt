@@ -10,7 +10,8 @@ use Rattle.fax_bits.specs.declared.Colour.TheVariants.{White, Black}
 use Rattle.fax_bits.specs.declared.modes.ModeCode.{ModeCode}
 use Rattle.fax_bits.specs.declared.modes.ModeCode.TheVariants.{Pass, Horizontal, Vertical}
 use Rattle.fax_bits.specs.laws.Codes.{RunBitsAreRead}
-use Rattle.fax_bits.specs.Runs.{IsWritten, run_bits}
+use Rattle.fax_bits.specs.views.Codes.{IsWritten}
+use Rattle.fax_bits.specs.Written.{run_bits}
 use Rattle.fax_rows.specs.Elements.{other, pel, next_change, is_right_of, b1, b2}
 use Rattle.fax_rows.specs.laws.Rows.{HasWidth}
 use Rattle.fax_rows.specs.Coded.{places, colour_of, chosen_mode, run_pair_bits, next_a0}

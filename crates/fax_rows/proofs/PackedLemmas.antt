@@ -11,7 +11,8 @@ use Rattle.std.proofs.lemmas.List.Sums.{fold_more}
 use Rattle.fax_bits.specs.declared.FillOrder.TheVariants.{MsbFirst}
 use Rattle.fax_bits.specs.declared.Colour.{Colour}
 use Rattle.fax_bits.specs.declared.Colour.TheVariants.{White, Black}
-use Rattle.fax_bits.specs.Bits.{bits, bits_number}
+use Rattle.fax_bits.specs.Bits.{bits}
+use Rattle.fax_bits.specs.Written.{bits_number}
 use Rattle.fax_bits.specs.laws.Codes.{AreBitsByPlace}
 use Rattle.fax_rows.specs.Elements.{other}
 use Rattle.fax_rows.specs.code.Turns.{turned, IsTurnedFrom}

@@ -4,7 +4,7 @@ use Rattle.std.specs.Prelude.{Result, Ok, Err, OnErr, flat_map}
 use Rattle.std.proofs.lemmas.List.Concat.{flat_map-append}
 use Rattle.std.proofs.lemmas.List.{append-nil}
 use Rattle.fax_bits.specs.declared.Colour.{Colour}
-use Rattle.fax_bits.specs.Runs.{run_bits, run_codes, run_code_bits}
+use Rattle.fax_bits.specs.Written.{run_bits, run_codes, run_code_bits}
 use Rattle.fax_bits.specs.views.Sink.{Sink, Appends, AppendsPrefix, AppendsCodes}
 use Rattle.fax_rows.specs.Coded.{alternating_bits}
 use Rattle.fax_rows.specs.Elements.{other}

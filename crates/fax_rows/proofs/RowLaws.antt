@@ -7,7 +7,7 @@ use Rattle.std.proofs.Math.Nat.{eq-or-lt_of_le}
 use Rattle.fax_bits.specs.declared.Colour.{Colour}
 use Rattle.fax_bits.specs.declared.Colour.TheVariants.{White}
 use Rattle.fax_bits.specs.laws.Codes.{ReadsOneWay}
-use Rattle.fax_bits.specs.Runs.{IsRun}
+use Rattle.fax_bits.specs.Codes.{IsRun}
 use Rattle.fax_bits.specs.Tables.{run_table}
 use Rattle.fax_rows.specs.declared.RowFault.{RowFault}
 use Rattle.fax_rows.specs.Elements.{other, pels_of}

@@ -7,8 +7,7 @@ use Rattle.fax_bits.specs.declared.codes.CodeEntry.{CodeEntry}
 use Rattle.fax_bits.specs.declared.Colour.{Colour}
 use Rattle.fax_bits.specs.declared.runs.RunCode.TheVariants.{Terminating, MakeUp}
 use Rattle.fax_bits.specs.Tables.{run_table}
-use Rattle.fax_bits.specs.Codes.{Takes, Spells}
-use Rattle.fax_bits.specs.Runs.{IsRun}
+use Rattle.fax_bits.specs.Codes.{Takes, Spells, IsRun}
 
 -- make-up codes of n pels so far
 pub record IsPartialRun (colour : Colour) (b : List Bool) (n : ℕ) (rest : List Bool) : Type 0 where

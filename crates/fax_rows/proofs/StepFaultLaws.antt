@@ -7,9 +7,8 @@ use Rattle.std.proofs.lemmas.Int.{ints, by_lt_z}
 use Rattle.fax_bits.specs.declared.Colour.{Colour}
 use Rattle.fax_bits.specs.declared.modes.ModeCode.{ModeCode}
 use Rattle.fax_bits.specs.declared.modes.ModeCode.TheVariants.{Pass, Horizontal, Vertical, Extension}
-use Rattle.fax_bits.specs.Codes.{Takes, IsFaultOf}
+use Rattle.fax_bits.specs.Codes.{Takes, IsFaultOf, IsRun}
 use Rattle.fax_bits.specs.laws.Codes.{ReadsOneWay}
-use Rattle.fax_bits.specs.Runs.{IsRun}
 use Rattle.fax_bits.specs.Tables.{run_table, modes}
 use Rattle.fax_rows.specs.declared.RowFault.{RowFault}
 use Rattle.fax_rows.specs.declared.RowFault.TheVariants.{OutOfRow, Extension as ExtensionFault}

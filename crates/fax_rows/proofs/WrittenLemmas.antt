@@ -11,7 +11,7 @@ use Rattle.fax_bits.specs.declared.Colour.TheVariants.{White, Black}
 use Rattle.fax_bits.specs.declared.modes.ModeCode.{ModeCode}
 use Rattle.fax_bits.specs.Codes.{Takes}
 use Rattle.fax_bits.specs.laws.Codes.{RunBitsAreRead, ModeBitsAreRead}
-use Rattle.fax_bits.specs.Runs.{mode_bits}
+use Rattle.fax_bits.specs.Written.{mode_bits}
 use Rattle.fax_bits.specs.Tables.{modes}
 use Rattle.fax_rows.specs.Elements.{other, pels_of, runs_behind, runs_of}
 use Rattle.fax_rows.specs.laws.Rows.{HasWidth}

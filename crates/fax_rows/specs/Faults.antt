@@ -14,8 +14,7 @@ use Rattle.fax_bits.specs.declared.modes.ModeCode.{ModeCode}
 use Rattle.fax_bits.specs.declared.modes.ModeCode.TheVariants.{Pass, Horizontal, Vertical}
 use Rattle.fax_bits.specs.declared.modes.ModeCode.TheVariants.{Extension as ModeExtension}
 use Rattle.fax_bits.specs.Tables.{run_table, modes}
-use Rattle.fax_bits.specs.Codes.{Takes, IsFaultOf, Spells}
-use Rattle.fax_bits.specs.Runs.{IsRun}
+use Rattle.fax_bits.specs.Codes.{Takes, IsFaultOf, Spells, IsRun}
 use Rattle.fax_rows.specs.declared.RowFault.{RowFault}
 use Rattle.fax_rows.specs.declared.RowFault.TheVariants.{DataEnds, BadCode, Extension, RunTooLong}
 use Rattle.fax_rows.specs.declared.RowFault.TheVariants.{OutOfRow}

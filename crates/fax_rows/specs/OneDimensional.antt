@@ -2,7 +2,7 @@
 use Rattle.std.specs.Prelude.{◌≡◌, ◌≢◌, ℕ, ◌<◌, Bool, List, [], ◌∷◌, length, sum, take}
 use Rattle.fax_bits.specs.declared.Colour.{Colour}
 use Rattle.fax_bits.specs.declared.Colour.TheVariants.{White}
-use Rattle.fax_bits.specs.Runs.{IsRun}
+use Rattle.fax_bits.specs.Codes.{IsRun}
 use Rattle.fax_rows.specs.Elements.{other, pels_of}
 
 -- the bits are runs of these lengths in alternating colours, and the rest follows them

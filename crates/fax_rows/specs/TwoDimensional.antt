@@ -9,8 +9,7 @@ use Rattle.fax_bits.specs.declared.modes.ModeCode.{ModeCode}
 use Rattle.fax_bits.specs.declared.modes.ModeCode.TheVariants.{Pass, Horizontal, Vertical}
 use Rattle.fax_bits.specs.declared.modes.ModeCode.TheVariants.{Extension}
 use Rattle.fax_bits.specs.Tables.{modes}
-use Rattle.fax_bits.specs.Codes.{Takes}
-use Rattle.fax_bits.specs.Runs.{IsRun}
+use Rattle.fax_bits.specs.Codes.{Takes, IsRun}
 use Rattle.fax_rows.specs.Elements.{other, b1, b2}
 
 -- how far a row is read: the place a0, where None is just before the first pel, a0's colour, and

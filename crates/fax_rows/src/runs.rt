@@ -1,7 +1,6 @@
 //! Runs of pels of one colour, code by code (ITU-T T.4, section 4.1.1).
 ghost use Rattle.std.specs.Prelude.{◌≡◌, ◌+◌, ◌≤◌, ◌<◌, ◌^◌, length, OnOk, IfOk, IfErr};
-ghost use Rattle.fax_bits.specs.Codes.{Takes, IsFaultOf};
-ghost use Rattle.fax_bits.specs.Runs.{IsRun};
+ghost use Rattle.fax_bits.specs.Codes.{Takes, IsFaultOf, IsRun};
 ghost use Rattle.fax_bits.specs.Tables.{run_table};
 ghost use Rattle.fax_bits.specs.views.Source.{KeepsEnd};
 ghost use Rattle.fax_rows.specs.Elements.{other as other_than};

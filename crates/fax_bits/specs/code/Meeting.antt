@@ -2,10 +2,11 @@
 use Rattle.std.specs.Prelude.{Bool, List}
 use Rattle.fax_bits.specs.declared.codes.Meeting.{Meeting}
 use Rattle.fax_bits.specs.declared.codes.Meeting.TheVariants.{Whole, Cut, Other}
-use Rattle.fax_bits.specs.Codes.{IsCodeAhead, IsCutBy}
+use Rattle.fax_bits.specs.Codes.{IsCutBy}
+use Rattle.fax_bits.specs.Bits.{BeginsWith}
 
 -- the code begins the bits, or the bits end within the code, or neither
 abbrev pub IsMeeting : Meeting → List Bool → List Bool → Type 0
-IsMeeting Whole code b = IsCodeAhead code b
-IsMeeting Cut code b = (IsCodeAhead code b → ⊥) × IsCutBy code b
-IsMeeting Other code b = (IsCodeAhead code b → ⊥) × (IsCutBy code b → ⊥)
+IsMeeting Whole code b = BeginsWith b code
+IsMeeting Cut code b = (BeginsWith b code → ⊥) × IsCutBy code b
+IsMeeting Other code b = (BeginsWith b code → ⊥) × (IsCutBy code b → ⊥)

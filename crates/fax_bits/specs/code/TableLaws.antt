@@ -3,7 +3,8 @@ use Rattle.std.specs.Prelude.{◌≡◌, true, map, length, refl}
 use Rattle.fax_bits.specs.declared.Colour.{Colour}
 use Rattle.fax_bits.specs.declared.Colour.TheVariants.{White, Black}
 use Rattle.fax_bits.specs.Bits.{code_bits}
-use Rattle.fax_bits.specs.Codes.{bits_of, HasShortCodes, IsPrefixFree}
+use Rattle.fax_bits.specs.Codes.{bits_of}
+use Rattle.fax_bits.specs.views.Codes.{HasShortCodes, IsPrefixFree}
 use Rattle.fax_bits.specs.Tables.{run_table, modes, white_runs, white_terminating, white_make_up}
 use Rattle.fax_bits.specs.Tables.{black_runs, black_terminating, black_make_up, common_make_up}
 use Rattle.fax_bits.specs.Tables.{run_extension}

@@ -8,7 +8,8 @@ use Rattle.std.proofs.lemmas.List.{get_or-map, length-map}
 use Rattle.std.proofs.lemmas.Option.{slice_get_within, get_or_from_slice_get}
 use Rattle.fax_bits.specs.declared.codes.CodeEntry.{CodeEntry}
 use Rattle.fax_bits.specs.declared.codes.TheConstants.{LONGEST_CODE}
-use Rattle.fax_bits.specs.Codes.{bits_of, HasShortCodes, IsPrefixFree}
+use Rattle.fax_bits.specs.Codes.{bits_of}
+use Rattle.fax_bits.specs.views.Codes.{HasShortCodes, IsPrefixFree}
 
 -- the first list begins the second
 abbrev pub starts : List Bool → List Bool → Bool

@@ -11,10 +11,10 @@ use Rattle.fax_bits.specs.declared.codes.CodeEntry.{CodeEntry}
 use Rattle.fax_bits.specs.declared.Colour.{Colour}
 use Rattle.fax_bits.specs.declared.FillOrder.TheVariants.{MsbFirst}
 use Rattle.fax_bits.specs.declared.modes.ModeCode.{ModeCode}
-use Rattle.fax_bits.specs.Bits.{byte_bits, bits, bits_number}
-use Rattle.fax_bits.specs.Bytes.{packed}
-use Rattle.fax_bits.specs.Codes.{Takes, IsFaultOf}
-use Rattle.fax_bits.specs.Runs.{IsRun, IsWritten, run_bits, mode_bits}
+use Rattle.fax_bits.specs.Bits.{byte_bits, bits}
+use Rattle.fax_bits.specs.Written.{bits_number, packed, run_bits, mode_bits}
+use Rattle.fax_bits.specs.Codes.{Takes, IsFaultOf, IsRun}
+use Rattle.fax_bits.specs.views.Codes.{IsWritten}
 use Rattle.fax_bits.specs.Tables.{modes}
 
 -- which bit of a byte, 0 the lowest, is coded at this place of its eight bits (TIFF 6.0, FillOrder)

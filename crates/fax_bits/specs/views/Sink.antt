@@ -6,7 +6,7 @@ use Rattle.fax_bits.specs.declared.FillOrder.TheVariants.{MsbFirst}
 use Rattle.fax_bits.specs.declared.Colour.{Colour}
 use Rattle.fax_bits.specs.declared.runs.RunCode.{RunCode}
 use Rattle.fax_bits.specs.Bits.{bits, code_bits}
-use Rattle.fax_bits.specs.Runs.{run_code_bits}
+use Rattle.fax_bits.specs.Written.{run_code_bits}
 
 -- the bits that were put, and the order in which bytes hold them (TIFF 6.0, FillOrder)
 pub record Sink : Type 0 where

@@ -2,7 +2,7 @@
 use Rattle.std.specs.Prelude.{◌≡◌, ℕ, ◌+◌, ◌*◌, ◌<◌, ◌≤◌, Bool, true, false, List, ◌++◌, length}
 use Rattle.std.specs.Prelude.{slice_index_or, drop}
 use Rattle.fax_bits.specs.declared.FillOrder.{FillOrder}
-use Rattle.fax_bits.specs.Bits.{bits}
+use Rattle.fax_bits.specs.Bits.{BeginsWith, bits}
 
 -- the bits that are left, and how many bits stand before them
 pub record Source : Type 0 where
@@ -12,10 +12,6 @@ pub record Source : Type 0 where
 -- the bits of the bytes, from this place on (TIFF 6.0, FillOrder)
 abbrev pub source_of : FillOrder → List ℕ → ℕ → Source
 source_of order bytes place = record { left = drop place (bits order bytes); place = place }
-
--- the bits begin with these
-abbrev pub BeginsWith : List Bool → List Bool → Type 0
-BeginsWith b front = (rest : List Bool) × (b ≡ front ++ rest)
 
 -- whether the bits begin with these, which are taken then
 abbrev pub IsTaken : List Bool → List Bool → Bool → List Bool → Type 0

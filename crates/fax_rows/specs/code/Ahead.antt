@@ -4,7 +4,7 @@ use Rattle.std.specs.Prelude.{slice_index}
 use Rattle.fax_bits.specs.declared.Colour.{Colour}
 use Rattle.fax_bits.specs.declared.Colour.TheVariants.{Black}
 use Rattle.fax_bits.specs.declared.modes.ModeCode.{ModeCode}
-use Rattle.fax_bits.specs.Runs.{run_bits, mode_bits}
+use Rattle.fax_bits.specs.Written.{run_bits, mode_bits}
 use Rattle.fax_rows.specs.declared.put.ChangesAhead.{ChangesAhead}
 use Rattle.fax_rows.specs.declared.put.Written.{Written}
 use Rattle.fax_rows.specs.declared.rows.Rows.{Rows}

@@ -6,7 +6,8 @@ use Rattle.std.specs.List.{range_with_len}
 use Rattle.fax_bits.specs.declared.FillOrder.TheVariants.{MsbFirst}
 use Rattle.fax_bits.specs.declared.Colour.{Colour}
 use Rattle.fax_bits.specs.declared.Colour.TheVariants.{White, Black}
-use Rattle.fax_bits.specs.Bits.{bits, bits_number}
+use Rattle.fax_bits.specs.Bits.{bits}
+use Rattle.fax_bits.specs.Written.{bits_number}
 use Rattle.fax_rows.specs.Elements.{same_colour, first_place}
 use Rattle.fax_rows.specs.Packed.{is_black, packed_len, packed_row, unpacked_row}
 

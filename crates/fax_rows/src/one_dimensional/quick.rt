@@ -3,7 +3,7 @@
 //! source.
 ghost use Rattle.std.specs.Prelude.{◌≡◌, ◌+◌, ◌-◌, ◌≤◌, ◌<◌, ◌^◌, IfSome, length, None};
 ghost use Rattle.std.specs.Prelude.{slice_index, take};
-ghost use Rattle.fax_bits.specs.Runs.{IsRun};
+ghost use Rattle.fax_bits.specs.Codes.{IsRun};
 ghost use Rattle.fax_bits.specs.views.Source.{KeepsEnd};
 ghost use Rattle.fax_rows.specs.OneDimensional.{IsOneDimensionalRow};
 ghost use Rattle.fax_rows.specs.code.Turns.{row_of, IsAscending, IsTurnedFrom};

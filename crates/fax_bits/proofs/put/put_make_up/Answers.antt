@@ -1,6 +1,6 @@
 use Rattle.std.proofs.Common.{◌≡◌, ◌+◌, ◌-◌, ap, ◌∙◌, subst}
 use Rattle.std.proofs.lemmas.Result.{on_ok_weaker}
-use Rattle.fax_bits.specs.Runs.{run_code_bits}
+use Rattle.fax_bits.specs.Written.{run_code_bits}
 use Rattle.fax_bits.specs.code.Codes.{run_meaning}
 use Rattle.fax_bits.specs.views.Sink.{Appends}
 use Rattle.fax_bits.proofs.RunCodeLemmas.{run_meaning-make_up}

@@ -1,6 +1,6 @@
 use Rattle.std.proofs.Common.{ap, sym, ◌∙◌, subst}
 use Rattle.std.proofs.lemmas.Result.{on_ok_weaker}
-use Rattle.fax_bits.specs.Runs.{mode_bits}
+use Rattle.fax_bits.specs.Written.{mode_bits}
 use Rattle.fax_bits.specs.views.Sink.{Appends}
 use Rattle.fax_bits.proofs.ModeLemmas.{bits_at-pass, bits_at-horizontal}
 use Rattle.fax_bits.proofs.put.put_mode.Goals as goal

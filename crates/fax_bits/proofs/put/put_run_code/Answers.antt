@@ -2,7 +2,7 @@ use Rattle.std.proofs.Common.{◌≡◌, ap, sym, ◌∙◌, subst}
 use Rattle.std.proofs.lemmas.Result.{on_ok_weaker}
 use Rattle.fax_bits.specs.declared.Colour.TheVariants.{White, Black}
 use Rattle.fax_bits.specs.code.Codes.{bits_at}
-use Rattle.fax_bits.specs.Runs.{run_code_bits}
+use Rattle.fax_bits.specs.Written.{run_code_bits}
 use Rattle.fax_bits.specs.views.Sink.{Appends}
 use Rattle.fax_bits.specs.Tables.{run_table}
 use Rattle.fax_bits.specs.code.Codes.{run_meaning}

@@ -2,7 +2,7 @@ use Rattle.std.proofs.Common.{◌≡◌, ap, ◌∙◌, subst}
 use Rattle.std.proofs.lemmas.Result.{on_ok_weaker}
 use Rattle.fax_bits.specs.Bits.{code_bits}
 use Rattle.fax_bits.specs.declared.modes.ModeCode.TheVariants.{Vertical}
-use Rattle.fax_bits.specs.Runs.{mode_bits}
+use Rattle.fax_bits.specs.Written.{mode_bits}
 use Rattle.fax_bits.specs.views.Sink.{Appends}
 use Rattle.fax_bits.proofs.ModeLemmas.{vertical_bits}
 use Rattle.fax_bits.proofs.put.put_vertical.Goals as goal

@@ -1,6 +1,7 @@
 use Rattle.std.proofs.Common.{◌≡◌, ◌++◌, ◌↔◌, length, IsTrue, subst, ◌∙◌, ap, arith}
 use Rattle.fax_bits.specs.views.Sink.{Sink}
-use Rattle.fax_bits.specs.views.Source.{Source, BeginsWith}
+use Rattle.fax_bits.specs.views.Source.{Source}
+use Rattle.fax_bits.specs.Bits.{BeginsWith}
 use Rattle.fax_rows.specs.laws.Rows.{HasWidth}
 use Rattle.fax_page.specs.Lines.{IsRowIn}
 use Rattle.fax_page.specs.CodedStrip.{row_bits}

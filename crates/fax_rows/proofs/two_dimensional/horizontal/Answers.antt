@@ -1,5 +1,5 @@
 use Rattle.std.proofs.Common.{subst, rules}
-use Rattle.fax_bits.specs.Runs.{IsRun}
+use Rattle.fax_bits.specs.Codes.{IsRun}
 use Rattle.fax_rows.proofs.PlacedB1Lemmas.{length-placed_pels}
 use Rattle.fax_rows.proofs.two_dimensional.horizontal.Goals as goal
 

@@ -1,7 +1,7 @@
 use Rattle.std.proofs.Common.{◌-◌, ◌/◌, ◌^◌, ◌≤◌, sym, ◌∙◌, ap, subst, arith}
 use Rattle.std.proofs.Math.Pow.{pow_mono}
-use Rattle.fax_bits.specs.Bits.{code_bits}
-use Rattle.fax_bits.specs.views.Source.{Source, BeginsWith}
+use Rattle.fax_bits.specs.Bits.{code_bits, BeginsWith}
+use Rattle.fax_bits.specs.views.Source.{Source}
 use Rattle.fax_bits.proofs.TakeLemmas.{both_taken, first_other, high_part-lt, two_parts}
 use Rattle.fax_bits.proofs.source.BitSource.begins.Goals as goal
 

@@ -1,5 +1,5 @@
 use Rattle.std.proofs.Common.{◌∙◌, ap, subst}
-use Rattle.fax_bits.specs.Runs.{IsRun}
+use Rattle.fax_bits.specs.Codes.{IsRun}
 use Rattle.fax_rows.specs.Elements.{other}
 use Rattle.fax_rows.proofs.two_dimensional.quick.two_runs.Goals as goal
 
