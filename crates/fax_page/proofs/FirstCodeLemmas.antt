@@ -9,9 +9,7 @@ use Rattle.fax_bits.specs.declared.runs.RunCode.TheVariants.{Terminating, MakeUp
 use Rattle.fax_bits.specs.Bits.{code_bits, HasZerosAhead}
 use Rattle.fax_bits.specs.Codes.{bits_of, Takes, Spells}
 use Rattle.fax_bits.specs.Tables.{run_table, modes, white_runs, white_terminating, white_make_up, common_make_up, run_extension}
-use Rattle.fax_rows.specs.Elements.{pels_of}
-use Rattle.fax_rows.specs.OneDimensional.{AreRuns}
-use Rattle.fax_rows.specs.TwoDimensional.{Position, beginning, AreSteps}
+use Rattle.fax_rows.specs.Rows.{pels_of, AreRuns, Position, beginning, AreSteps}
 use Rattle.fax_page.specs.declared.Dimension.{Dimension}
 use Rattle.fax_page.specs.declared.Dimension.TheVariants.{OneDimensional, TwoDimensional}
 use Rattle.fax_page.specs.Lines.{BeginsBelowEleven, IsRowIn}

@@ -5,8 +5,7 @@ use Rattle.fax_bits.specs.declared.Colour.{Colour}
 use Rattle.fax_bits.specs.Bits.{BeginsWith}
 use Rattle.fax_rows.specs.laws.Rows.{HasWidth}
 use Rattle.fax_rows.specs.laws.Rows.{OneDimensionalBitsAreOneRow, TwoDimensionalBitsAreOneRow}
-use Rattle.fax_rows.specs.OneDimensional.{IsOneDimensionalRow}
-use Rattle.fax_rows.specs.TwoDimensional.{IsTwoDimensionalRow}
+use Rattle.fax_rows.specs.Rows.{IsOneDimensionalRow, IsTwoDimensionalRow}
 use Rattle.fax_page.specs.declared.Dimension.{Dimension}
 use Rattle.fax_page.specs.declared.Dimension.TheVariants.{OneDimensional, TwoDimensional}
 use Rattle.fax_page.specs.declared.StripForm.{StripForm}

@@ -14,9 +14,7 @@ use Rattle.fax_bits.specs.Bits.{bits}
 use Rattle.fax_bits.specs.Codes.{bits_of, Takes, Spells, IsRun}
 use Rattle.fax_bits.specs.Tables.{run_table, modes}
 use Rattle.fax_bits.specs.views.Source.{Source, source_of}
-use Rattle.fax_rows.specs.Elements.{other}
-use Rattle.fax_rows.specs.OneDimensional.{AreRuns}
-use Rattle.fax_rows.specs.TwoDimensional.{Position, beginning, IsStepBy, AreSteps}
+use Rattle.fax_rows.specs.Rows.{other, AreRuns, Position, beginning, IsStepBy, AreSteps}
 use Rattle.fax_page.specs.declared.Dimension.{Dimension}
 use Rattle.fax_page.specs.declared.Dimension.TheVariants.{OneDimensional, TwoDimensional}
 use Rattle.fax_page.specs.declared.Coding.{Coding}

@@ -7,7 +7,7 @@ use Rattle.fax_bits.specs.declared.Colour.{Colour}
 use Rattle.fax_bits.specs.declared.Colour.TheVariants.{White}
 use Rattle.fax_rows.specs.laws.Rows.{OneDimensionalBitsAreRead, TwoDimensionalBitsAreRead}
 use Rattle.fax_rows.specs.Coded.{one_dimensional_bits}
-use Rattle.fax_rows.specs.OneDimensional.{IsOneDimensionalRow}
+use Rattle.fax_rows.specs.Rows.{IsOneDimensionalRow}
 use Rattle.fax_page.specs.declared.Dimension.{Dimension}
 use Rattle.fax_page.specs.declared.Dimension.TheVariants.{OneDimensional, TwoDimensional}
 use Rattle.fax_page.specs.declared.Coding.{Coding}

@@ -6,7 +6,8 @@ use Rattle.std.proofs.lemmas.Bool.{cases_lt, ltb-true, lt-ltb}
 use Rattle.std.proofs.Math.Nat.{eq-or-lt_of_le}
 use Rattle.fax_bits.specs.declared.Colour.{Colour}
 use Rattle.fax_bits.specs.declared.Colour.TheVariants.{White, Black}
-use Rattle.fax_rows.specs.Elements.{other, same_colour, pel, pel_before, is_changing, is_right_of, first_place, next_change, next_of}
+use Rattle.fax_rows.specs.Rows.{other, same_colour, pel, pel_before, is_changing, is_right_of}
+use Rattle.fax_rows.specs.Rows.{first_place, next_change, next_of}
 use Rattle.fax_rows.specs.Coded.{colour_of}
 
 -- the first of n places from i on that passes the test

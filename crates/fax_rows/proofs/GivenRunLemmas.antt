@@ -9,7 +9,7 @@ use Rattle.std.proofs.lemmas.List.{get_or-replicate, take_more, ext_get_or}
 use Rattle.std.proofs.lemmas.List.Sums.{sum_by-take-le}
 use Rattle.fax_bits.specs.declared.Colour.{Colour}
 use Rattle.fax_bits.specs.declared.Colour.TheVariants.{White, Black}
-use Rattle.fax_rows.specs.Elements.{other, pels_of, runs_behind, runs_of}
+use Rattle.fax_rows.specs.Rows.{other, pels_of, runs_behind, runs_of}
 use Rattle.fax_rows.specs.Faults.{colour_behind}
 use Rattle.fax_rows.specs.code.LongestRuns.{AreLongest}
 use Rattle.fax_rows.specs.code.Turns.{turned, pels_by, IsTurnedFrom}

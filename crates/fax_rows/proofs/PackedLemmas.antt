@@ -14,7 +14,7 @@ use Rattle.fax_bits.specs.declared.Colour.TheVariants.{White, Black}
 use Rattle.fax_bits.specs.Bits.{bits}
 use Rattle.fax_bits.specs.Written.{bits_number}
 use Rattle.fax_bits.specs.laws.Codes.{AreBitsByPlace}
-use Rattle.fax_rows.specs.Elements.{other}
+use Rattle.fax_rows.specs.Rows.{other}
 use Rattle.fax_rows.specs.code.Turns.{turned, IsTurnedFrom}
 use Rattle.fax_rows.specs.code.Unpacked.{IsUnpackedTo}
 use Rattle.fax_rows.proofs.PlacedRowLemmas.{turned-first}

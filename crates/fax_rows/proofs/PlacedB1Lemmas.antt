@@ -6,7 +6,8 @@ use Rattle.std.proofs.lemmas.Bool.{cases_lt, ltb-true, lt-ltb, le-ltb, true≢fa
 use Rattle.std.proofs.Math.Nat.{eq-or-lt_of_le}
 use Rattle.fax_bits.specs.declared.Colour.{Colour}
 use Rattle.fax_bits.specs.declared.Colour.TheVariants.{White, Black}
-use Rattle.fax_rows.specs.Elements.{other, same_colour, pel, is_changing, is_right_of, next_change, b1, b2}
+use Rattle.fax_rows.specs.Rows.{other, same_colour, pel, is_changing, is_right_of, next_change, b1}
+use Rattle.fax_rows.specs.Rows.{b2}
 use Rattle.fax_rows.specs.declared.rows.PlacedRow.{PlacedRow}
 use Rattle.fax_rows.specs.code.PlacedRow.{placed_pels, IsBeforeB1, IsB1At}
 use Rattle.fax_rows.specs.code.Turns.{alternate, IsBehind, IsFrom}

@@ -7,7 +7,7 @@ use Rattle.std.proofs.lemmas.Bool.{le-leb}
 use Rattle.std.proofs.lemmas.List.{ext_get_or, get_or-map, get_or-take, length-map, length-take-le}
 use Rattle.fax_bits.specs.declared.Colour.{Colour}
 use Rattle.fax_bits.specs.declared.Colour.TheVariants.{White, Black}
-use Rattle.fax_rows.specs.Elements.{other}
+use Rattle.fax_rows.specs.Rows.{other}
 use Rattle.fax_rows.specs.code.Turns.{turned, pels_by, ArePlaces, IsTurnedFrom}
 use Rattle.fax_rows.proofs.TurnLemmas.{other-other, length-pels_by, pel-pels_by}
 use Rattle.fax_rows.proofs.PlacedRowLemmas.{end_within}

@@ -9,8 +9,7 @@ use Rattle.std.proofs.lemmas.List.{take-append-le, take_more, take_more_set, tak
 use Rattle.fax_bits.specs.declared.Colour.{Colour}
 use Rattle.fax_bits.specs.declared.Colour.TheVariants.{White, Black}
 use Rattle.fax_bits.specs.Codes.{IsRun}
-use Rattle.fax_rows.specs.Elements.{other}
-use Rattle.fax_rows.specs.OneDimensional.{IsOneDimensionalRow}
+use Rattle.fax_rows.specs.Rows.{other, IsOneDimensionalRow}
 use Rattle.fax_rows.specs.code.Turns.{turned, pels_by, IsAscending, ArePlaces, IsTurnedFrom}
 use Rattle.fax_rows.proofs.TurnLemmas.{other-other, length-pels_by, pel-pels_by, turned-push_left, turned-push_right, at_least, below_later}
 use Rattle.fax_rows.proofs.RowLemmas.{IsRowSoFar, row_goes_on}

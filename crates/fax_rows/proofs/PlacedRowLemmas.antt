@@ -10,7 +10,7 @@ use Rattle.std.proofs.Math.Seq.{take-nil}
 use Rattle.std.proofs.lemmas.List.{get_or-take, length-take-le, get_or_default, ext_get_or, get_or-replicate, length-replicate, drop_all}
 use Rattle.fax_bits.specs.declared.Colour.{Colour}
 use Rattle.fax_bits.specs.declared.Colour.TheVariants.{White, Black}
-use Rattle.fax_rows.specs.Elements.{pel, is_changing, is_right_of, next_change}
+use Rattle.fax_rows.specs.Rows.{pel, is_changing, is_right_of, next_change}
 use Rattle.fax_rows.specs.code.Turns.{turned, pels_by, alternate, ArePlaces, IsBehind, IsFrom}
 use Rattle.fax_rows.proofs.ChangeLemmas.{still_left, both}
 use Rattle.fax_rows.proofs.PlaceLemmas.{next_change_at}

@@ -8,12 +8,11 @@ use Rattle.fax_bits.specs.declared.Colour.{Colour}
 use Rattle.fax_bits.specs.declared.Colour.TheVariants.{White, Black}
 use Rattle.fax_rows.specs.declared.two_dimensional.steps.Reached.{Reached}
 use Rattle.fax_rows.specs.declared.two_dimensional.steps.PlacedReached.{PlacedReached}
-use Rattle.fax_rows.specs.Elements.{other, is_right_of, b2}
+use Rattle.fax_rows.specs.Rows.{other, is_right_of, b2, Position, a0_number, coloured_up_to}
+use Rattle.fax_rows.specs.Rows.{IsInRow, IsVerticalStep, IsHorizontalStep, IsTwoDimensionalRow}
 use Rattle.fax_rows.specs.declared.RowFault.{RowFault}
 use Rattle.fax_rows.specs.Faults.{IsStepFault, IsTwoDimensionalFault}
 use Rattle.fax_rows.specs.code.Reached.{reached_pel, position_of}
-use Rattle.fax_rows.specs.TwoDimensional.{Position, a0_number, coloured_up_to, IsInRow, IsVerticalStep, IsHorizontalStep}
-use Rattle.fax_rows.specs.TwoDimensional.{IsTwoDimensionalRow}
 use Rattle.fax_rows.specs.declared.rows.PlacedRow.{PlacedRow}
 use Rattle.fax_rows.specs.code.PlacedRow.{placed_pels, IsB1At}
 use Rattle.fax_rows.specs.code.Turns.{turned, pels_by, IsAscending, IsTurnedFrom}

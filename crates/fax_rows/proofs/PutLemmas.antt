@@ -7,7 +7,7 @@ use Rattle.fax_bits.specs.declared.Colour.{Colour}
 use Rattle.fax_bits.specs.Written.{run_bits, run_codes, run_code_bits}
 use Rattle.fax_bits.specs.views.Sink.{Sink, Appends, AppendsPrefix, AppendsCodes}
 use Rattle.fax_rows.specs.Coded.{alternating_bits}
-use Rattle.fax_rows.specs.Elements.{other}
+use Rattle.fax_rows.specs.Rows.{other}
 
 -- all but the missing bits are put
 pub record IsPutUpTo (old : Sink) (all missing : List Bool) (new : Sink) : Type 0 where

@@ -10,10 +10,9 @@ use Rattle.fax_bits.specs.laws.Codes.{ReadsOneWay}
 use Rattle.fax_bits.specs.Codes.{IsRun}
 use Rattle.fax_bits.specs.Tables.{run_table}
 use Rattle.fax_rows.specs.declared.RowFault.{RowFault}
-use Rattle.fax_rows.specs.Elements.{other, pels_of}
+use Rattle.fax_rows.specs.Rows.{other, pels_of, AreRuns, IsOneDimensionalRow}
 use Rattle.fax_rows.specs.Faults.{IsRunFault, colour_behind}
 use Rattle.fax_rows.specs.laws.Rows.{ReadsRowsOneWay}
-use Rattle.fax_rows.specs.OneDimensional.{AreRuns, IsOneDimensionalRow}
 use Rattle.fax_rows.proofs.RunLaws.{sum-cons, same_run, run_has_no_fault, same_run_fault, run_or_fault}
 
 pub length-pels_of : (colour : Colour) (runs : List ℕ) → length (pels_of colour runs) ≡ sum runs

@@ -10,8 +10,7 @@ use Rattle.std.proofs.lemmas.List.{append-nil, get_or-replicate, take-append-le}
 use Rattle.fax_bits.specs.declared.Colour.{Colour}
 use Rattle.fax_bits.specs.declared.Colour.TheVariants.{White}
 use Rattle.fax_bits.specs.Codes.{IsRun}
-use Rattle.fax_rows.specs.Elements.{other, pels_of}
-use Rattle.fax_rows.specs.OneDimensional.{AreRuns, IsOneDimensionalRow}
+use Rattle.fax_rows.specs.Rows.{other, pels_of, AreRuns, IsOneDimensionalRow}
 use Rattle.fax_rows.specs.Faults.{colour_behind}
 use Rattle.fax_rows.proofs.RowLaws.{length-pels_of}
 use Rattle.fax_rows.proofs.RunLemmas.{sum-push}

@@ -7,8 +7,8 @@ use Rattle.fax_bits.specs.declared.modes.ModeCode.TheVariants.{Pass, Horizontal,
 use Rattle.fax_bits.specs.Codes.{Takes}
 use Rattle.fax_bits.specs.laws.Codes.{ReadsOneWay}
 use Rattle.fax_bits.specs.Tables.{run_table, modes}
-use Rattle.fax_rows.specs.Elements.{other}
-use Rattle.fax_rows.specs.TwoDimensional.{Position, beginning, IsStepBy, IsStep, AreSteps, IsTwoDimensionalRow}
+use Rattle.fax_rows.specs.Rows.{other, Position, beginning, IsStepBy, IsStep, AreSteps}
+use Rattle.fax_rows.specs.Rows.{IsTwoDimensionalRow}
 use Rattle.fax_rows.proofs.RunLaws.{same_run}
 
 same_place : (m n : ℕ) → pos m ≡ pos n → m ≡ n

@@ -6,9 +6,8 @@ use Rattle.std.proofs.lemmas.Int.{ints}
 use Rattle.fax_bits.specs.declared.Colour.{Colour}
 use Rattle.fax_bits.specs.declared.Colour.TheVariants.{White}
 use Rattle.fax_rows.specs.declared.two_dimensional.steps.Reached.{Reached}
-use Rattle.fax_rows.specs.Elements.{other}
-use Rattle.fax_rows.specs.TwoDimensional.{Position, beginning, coloured_up_to, b1_from, IsInRow, IsVerticalStep, IsStep}
-use Rattle.fax_rows.specs.TwoDimensional.{IsUnfinished, AreSteps}
+use Rattle.fax_rows.specs.Rows.{other, Position, beginning, coloured_up_to, b1_from, IsInRow}
+use Rattle.fax_rows.specs.Rows.{IsVerticalStep, IsStep, IsUnfinished, AreSteps}
 use Rattle.fax_rows.specs.code.Reached.{position_of, reached_pel}
 
 -- a place that is not negative

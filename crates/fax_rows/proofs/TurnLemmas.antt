@@ -8,7 +8,7 @@ use Rattle.std.proofs.lemmas.List.{get_or-take, length-take-le}
 use Rattle.std.proofs.lemmas.List.FromFn.{get_or-map-range_with_len, length-map-range_with_len}
 use Rattle.fax_bits.specs.declared.Colour.{Colour}
 use Rattle.fax_bits.specs.declared.Colour.TheVariants.{White, Black}
-use Rattle.fax_rows.specs.Elements.{other, same_colour, pel, is_changing}
+use Rattle.fax_rows.specs.Rows.{other, same_colour, pel, is_changing}
 use Rattle.fax_rows.specs.code.Turns.{turned, pels_by, alternate, IsAscending, IsBehind}
 
 pub other-other : (c : Colour) → other (other c) ≡ c

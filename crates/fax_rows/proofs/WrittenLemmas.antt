@@ -13,12 +13,11 @@ use Rattle.fax_bits.specs.Codes.{Takes}
 use Rattle.fax_bits.specs.laws.Codes.{RunBitsAreRead, ModeBitsAreRead}
 use Rattle.fax_bits.specs.Written.{mode_bits}
 use Rattle.fax_bits.specs.Tables.{modes}
-use Rattle.fax_rows.specs.Elements.{other, pels_of, runs_behind, runs_of}
+use Rattle.fax_rows.specs.Rows.{other, pels_of, runs_behind, runs_of, AreRuns, IsOneDimensionalRow}
+use Rattle.fax_rows.specs.Rows.{Position, AreSteps, IsTwoDimensionalRow}
 use Rattle.fax_rows.specs.laws.Rows.{HasWidth}
 use Rattle.fax_rows.specs.Coded.{places, colour_of, chosen_mode, run_pair_bits, next_a0, step_bits, two_dimensional_bits, alternating_bits}
 use Rattle.fax_rows.specs.Coded.{one_dimensional_bits}
-use Rattle.fax_rows.specs.OneDimensional.{AreRuns, IsOneDimensionalRow}
-use Rattle.fax_rows.specs.TwoDimensional.{Position, AreSteps, IsTwoDimensionalRow}
 use Rattle.fax_rows.proofs.ChangeLemmas.{first_of}
 use Rattle.fax_rows.proofs.RowLaws.{length-pels_of}
 use Rattle.fax_rows.proofs.RunLaws.{sum-cons}

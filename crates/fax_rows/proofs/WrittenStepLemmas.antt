@@ -13,7 +13,7 @@ use Rattle.fax_bits.specs.declared.Colour.TheVariants.{Black}
 use Rattle.fax_rows.specs.declared.put.ChangesAhead.{ChangesAhead}
 use Rattle.fax_rows.specs.declared.rows.PlacedRow.{PlacedRow}
 use Rattle.fax_rows.specs.declared.rows.Rows.{Rows}
-use Rattle.fax_rows.specs.Elements.{other, is_right_of, next_change, b1, b2}
+use Rattle.fax_rows.specs.Rows.{other, is_right_of, next_change, b1, b2}
 use Rattle.fax_rows.specs.code.Ahead.{IsAhead, IsWrittenTo, mode_from, bits_from, place_from, run_pair}
 use Rattle.fax_rows.specs.code.PlacedRow.{placed_pels, IsBeforeB1, IsB1At}
 use Rattle.fax_rows.specs.code.Turns.{alternate, IsFrom, IsBehind}

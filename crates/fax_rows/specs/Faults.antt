@@ -1,32 +1,27 @@
 -- Where the codes of a row stop, and why.
 -- A definition without a citation is this project's profile.
 use Rattle.std.specs.Prelude.{◌≡◌, ℕ, ◌+◌, ◌<◌, ◌≤◌, ◌⊎◌, Bool, List, [], ◌∷◌, map, sum, length}
-use Rattle.fax_bits.specs.declared.codes.CodeEntry.{CodeEntry}
-use Rattle.fax_bits.specs.declared.codes.CodeFault.{CodeFault}
-use Rattle.fax_bits.specs.declared.codes.CodeFault.TheVariants.{DataEnds as CodeDataEnds}
-use Rattle.fax_bits.specs.declared.codes.CodeFault.TheVariants.{BadCode as CodeBadCode}
 use Rattle.fax_bits.specs.declared.Colour.{Colour}
 use Rattle.fax_bits.specs.declared.Colour.TheVariants.{White}
-use Rattle.fax_bits.specs.declared.runs.RunCode.{RunCode}
-use Rattle.fax_bits.specs.declared.runs.RunCode.TheVariants.{Terminating, MakeUp}
-use Rattle.fax_bits.specs.declared.runs.RunCode.TheVariants.{Extension as RunExtension}
+use Rattle.fax_bits.specs.declared.codes.CodeEntry.{CodeEntry}
+use Rattle.fax_bits.specs.declared.codes.CodeFault.{CodeFault}
+use Rattle.fax_bits.specs.declared.codes.CodeFault.TheVariants as code_fault
 use Rattle.fax_bits.specs.declared.modes.ModeCode.{ModeCode}
-use Rattle.fax_bits.specs.declared.modes.ModeCode.TheVariants.{Pass, Horizontal, Vertical}
-use Rattle.fax_bits.specs.declared.modes.ModeCode.TheVariants.{Extension as ModeExtension}
+use Rattle.fax_bits.specs.declared.modes.ModeCode.TheVariants as mode
+use Rattle.fax_bits.specs.declared.runs.RunCode.{RunCode}
+use Rattle.fax_bits.specs.declared.runs.RunCode.TheVariants as run
 use Rattle.fax_bits.specs.Tables.{run_table, modes}
-use Rattle.fax_bits.specs.Codes.{Takes, IsFaultOf, Spells, IsRun}
+use Rattle.fax_bits.specs.Codes.{IsFaultOf, IsRun, Spells, Takes}
 use Rattle.fax_rows.specs.declared.RowFault.{RowFault}
 use Rattle.fax_rows.specs.declared.RowFault.TheVariants.{DataEnds, BadCode, Extension, RunTooLong}
 use Rattle.fax_rows.specs.declared.RowFault.TheVariants.{OutOfRow}
-use Rattle.fax_rows.specs.Elements.{other}
-use Rattle.fax_rows.specs.OneDimensional.{AreRuns}
-use Rattle.fax_rows.specs.TwoDimensional.{Position, beginning, first_pel, IsInRow, IsUnfinished}
-use Rattle.fax_rows.specs.TwoDimensional.{AreSteps}
+use Rattle.fax_rows.specs.Rows.{AreRuns, AreSteps, IsInRow, IsUnfinished, Position, beginning}
+use Rattle.fax_rows.specs.Rows.{first_pel, other}
 
 -- a row's name for the fault of a code
 abbrev pub row_fault : CodeFault → RowFault
-row_fault CodeDataEnds = DataEnds
-row_fault CodeBadCode = BadCode
+row_fault code_fault.DataEnds = DataEnds
+row_fault code_fault.BadCode = BadCode
 
 -- no code of the table begins the bits, and this is the row's fault for it
 abbrev pub IsCodeFault : {M : Type 0} → List (CodeEntry M) → List Bool → RowFault → Type 0
@@ -34,16 +29,16 @@ IsCodeFault table b fault = (code : CodeFault) × IsFaultOf table b code × (fau
 
 -- the fault of a run code, where `so_far` pels of the row come before what it adds
 abbrev pub IsRunCodeFault : ℕ → ℕ → RunCode → RowFault → Type 0
-IsRunCodeFault width so_far (Terminating n) fault = (width < so_far + n) × (fault ≡ RunTooLong)
-IsRunCodeFault width so_far (MakeUp n) fault = (width < so_far + n) × (fault ≡ RunTooLong)
-IsRunCodeFault width so_far RunExtension fault = fault ≡ Extension
+IsRunCodeFault width so_far (run.Terminating n) fault = (width < so_far + n) × (fault ≡ RunTooLong)
+IsRunCodeFault width so_far (run.MakeUp n) fault = (width < so_far + n) × (fault ≡ RunTooLong)
+IsRunCodeFault width so_far run.Extension fault = fault ≡ Extension
 
 -- the fault stands at the first run code of the bits
 abbrev pub IsAtRunCode : Colour → ℕ → ℕ → List Bool → RowFault → Type 0
 IsAtRunCode colour width so_far b fault =
     IsCodeFault (run_table colour) b fault
-    ⊎ ((code : RunCode) × (behind : List Bool)
-    × Takes (run_table colour) b code behind × IsRunCodeFault width so_far code fault)
+    ⊎ ((code : RunCode) × (behind : List Bool) × Takes (run_table colour) b code behind
+    × IsRunCodeFault width so_far code fault)
 
 -- the bits begin with a run from the pel `from` on that is not whole: make-up codes within the
 -- width, and then the fault
@@ -51,7 +46,7 @@ pub record IsRunFault (colour : Colour) (width from : ℕ) (b : List Bool)
     (fault : RowFault) : Type 0 where
   pub make_up : List ℕ
   pub left : List Bool
-  pub spelled : Spells (run_table colour) b (map MakeUp make_up) left
+  pub spelled : Spells (run_table colour) b (map run.MakeUp make_up) left
   pub within : from + sum make_up ≤ width
   pub at_code : IsAtRunCode colour width (from + sum make_up) left fault
 
@@ -79,17 +74,17 @@ IsHorizontalFault reference at b fault =
 
 -- the fault of a mode, with the bits after its code
 abbrev pub IsModeFault : ModeCode → List Colour → Position → List Bool → RowFault → Type 0
-IsModeFault Pass reference at b fault = ⊥
-IsModeFault (Vertical d) reference at b fault = (IsInRow reference at d → ⊥) × (fault ≡ OutOfRow)
-IsModeFault Horizontal reference at b fault = IsHorizontalFault reference at b fault
-IsModeFault ModeExtension reference at b fault = fault ≡ Extension
+IsModeFault mode.Pass reference at b fault = ⊥
+IsModeFault (mode.Vertical d) reference at b fault = (IsInRow reference at d → ⊥) × (fault ≡ OutOfRow)
+IsModeFault mode.Horizontal reference at b fault = IsHorizontalFault reference at b fault
+IsModeFault mode.Extension reference at b fault = fault ≡ Extension
 
 -- the bits begin with a step that has this fault
 abbrev pub IsStepFault : List Colour → Position → List Bool → RowFault → Type 0
 IsStepFault reference at b fault =
     IsCodeFault modes b fault
-    ⊎ ((mode : ModeCode) × (behind : List Bool)
-    × Takes modes b mode behind × IsModeFault mode reference at behind fault)
+    ⊎ ((m : ModeCode) × (behind : List Bool) × Takes modes b m behind
+    × IsModeFault m reference at behind fault)
 
 -- the bits begin with steps that do not end the row, and then a step with this fault
 pub record IsTwoDimensionalFault (reference : List Colour) (b : List Bool)

@@ -8,7 +8,7 @@ use Rattle.fax_bits.specs.declared.Colour.{Colour}
 use Rattle.fax_bits.specs.declared.Colour.TheVariants.{White, Black}
 use Rattle.fax_bits.specs.Bits.{bits}
 use Rattle.fax_bits.specs.Written.{bits_number}
-use Rattle.fax_rows.specs.Elements.{same_colour, first_place}
+use Rattle.fax_rows.specs.Rows.{same_colour, first_place}
 
 -- how many bytes hold the pels of a row (the netpbm format, P4)
 abbrev pub packed_len : ℕ → ℕ
@@ -37,10 +37,3 @@ packed_row row = map (λ k. packed_byte row (8 * k)) (range_with_len 0 (packed_l
 -- (the netpbm format, P4)
 unfoldable pub unpacked_row : ℕ → List ℕ → List Colour
 unpacked_row width bytes = take width (map colour_of_bit (bits MsbFirst bytes))
-
--- the least place from this one on whose bit, the highest of each byte first, is not of the colour,
--- or the place after the last bit (the netpbm format, P4)
-unfoldable pub first_other : List ℕ → ℕ → Colour → ℕ
-first_other bytes from colour =
-    first_place (λ i. not (same_colour (colour_of_bit
-    (slice_index_or (bits MsbFirst bytes) i false)) colour)) from (8 * length bytes - from)

@@ -1,6 +1,6 @@
 //! The first pel of packed bytes that is not of a colour, found in lanes.
 ghost use Rattle.std.specs.Prelude.{◌≡◌, ◌*◌, ◌≤◌, ◌<◌, length};
-ghost use Rattle.fax_rows.specs.Packed as Spec;
+ghost use Rattle.fax_rows.specs.views.Packed as Spec;
 ghost use Rattle.fax_rows.specs.code.FirstOther.{others, first_other_in_byte, plain_byte};
 ghost use Rattle.fax_rows.specs.code.FirstOther.{IsFirstOtherByte};
 

@@ -1,7 +1,7 @@
 //! The longest runs of a row, one after another (ITU-T T.4, section 4.1.1).
 ghost use Rattle.std.specs.Prelude.{◌≡◌, ◌+◌, ◌-◌, ◌<◌, ◌≤◌, ◌^◌, ◌↔◌, [], ◌∷◌};
 ghost use Rattle.std.specs.Prelude.{MatchOption, IfNone, IfSome, IsTrue, length, slice_index, sum};
-ghost use Rattle.fax_rows.specs.Elements.{runs_of, pels_of};
+ghost use Rattle.fax_rows.specs.Rows.{runs_of, pels_of};
 ghost use Rattle.fax_rows.specs.code.LongestRuns.{AreLongest};
 ghost use Rattle.fax_rows.specs.code.Turns.{row_of, IsAscending};
 

@@ -2,7 +2,7 @@
 ghost use Rattle.std.specs.Prelude.{◌≡◌, ◌+◌, ◌-◌, ◌≤◌, ◌<◌, ◌^◌, length, slice_index};
 ghost use Rattle.std.specs.Prelude.{OnOk, IfOk, IfErr};
 ghost use Rattle.fax_bits.specs.views.Source.{KeepsEnd};
-ghost use Rattle.fax_rows.specs.OneDimensional.{IsOneDimensionalRow};
+ghost use Rattle.fax_rows.specs.Rows.{IsOneDimensionalRow};
 ghost use Rattle.fax_rows.specs.Faults.{IsOneDimensionalFault};
 ghost use Rattle.fax_rows.specs.code.Turns.{row_of, IsAscending};
 

@@ -2,7 +2,7 @@
 ghost use Rattle.std.specs.Prelude.{◌≡◌, ◌≢◌, ◌<◌, ◌^◌, false, List, length, replicate, map};
 ghost use Rattle.std.specs.Prelude.{IfOk, IsTrue};
 ghost use Rattle.std.specs.List.{filter, range_with_len};
-ghost use Rattle.fax_rows.specs.Elements.{other as other_than, runs_of, is_changing, pel as pel_of};
+ghost use Rattle.fax_rows.specs.Rows.{other as other_than, runs_of, is_changing, pel as pel_of};
 
 use crate::longest_runs::{LongestRuns, are_longest, put_runs};
 use crate::rows::PlacedRow;

@@ -1,6 +1,6 @@
 //! Changing elements, and the places b1 and b2 of a reference row (ITU-T T.4, section 4.2.1.3.1).
 ghost use Rattle.std.specs.Prelude.{◌≡◌, ℕ, ◌≤◌, ◌<◌, ◌&&◌, not, length, true, false};
-ghost use Rattle.fax_rows.specs.Elements as Spec;
+ghost use Rattle.fax_rows.specs.Rows as Spec;
 
 use crate::pels::Row;
 use fax_bits::Colour;

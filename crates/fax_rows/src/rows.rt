@@ -19,7 +19,7 @@ pub(crate) struct PlacedRow<'a> {
 impl PlacedRow<'_> {
     ghost use Rattle.std.specs.Prelude.{◌+◌, ◌≤◌, ◌<◌, ℕ, Option, Some, true};
     ghost use Rattle.fax_bits.specs.declared.Colour.{Colour};
-    ghost use Rattle.fax_rows.specs.Elements.{other, is_right_of};
+    ghost use Rattle.fax_rows.specs.Rows.{other, is_right_of};
     ghost use Rattle.fax_rows.specs.code.PlacedRow.{IsBeforeB1, IsB1At};
     ghost use Rattle.fax_rows.specs.code.Turns.{IsFrom};
 

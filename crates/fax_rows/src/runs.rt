@@ -3,7 +3,7 @@ ghost use Rattle.std.specs.Prelude.{◌≡◌, ◌+◌, ◌≤◌, ◌<◌, ◌^
 ghost use Rattle.fax_bits.specs.Codes.{Takes, IsFaultOf, IsRun};
 ghost use Rattle.fax_bits.specs.Tables.{run_table};
 ghost use Rattle.fax_bits.specs.views.Source.{KeepsEnd};
-ghost use Rattle.fax_rows.specs.Elements.{other as other_than};
+ghost use Rattle.fax_rows.specs.Rows.{other as other_than};
 ghost use Rattle.fax_rows.specs.Faults.{IsRunFault};
 
 use crate::RowFault;

@@ -3,7 +3,7 @@
 ghost use Rattle.std.specs.Prelude.{◌≡◌, ◌+◌, ◌-◌, ◌≤◌, ◌<◌};
 ghost use Rattle.std.specs.Prelude.{length, slice_index, OnOk, IfOk, IfErr};
 ghost use Rattle.fax_bits.specs.views.Source.{KeepsEnd};
-ghost use Rattle.fax_rows.specs.TwoDimensional as Spec;
+ghost use Rattle.fax_rows.specs.Rows as Spec;
 ghost use Rattle.fax_rows.specs.Faults as Fault;
 ghost use Rattle.fax_rows.specs.code.PlacedRow.{placed_pels};
 ghost use Rattle.fax_rows.specs.code.Turns.{row_of, IsAscending};

@@ -9,7 +9,7 @@ use Rattle.std.specs.Prelude.{option_map, IfOk}
 use Rattle.std.specs.List.{AllZip}
 use Rattle.fax_bits.specs.declared.Colour.{Colour}
 use Rattle.fax_bits.specs.declared.Memory.{Memory as NoMemory}
-use Rattle.fax_rows.specs.Elements.{runs_of}
+use Rattle.fax_rows.specs.Rows.{runs_of}
 use Rattle.fax_files.specs.declared.PageForm.{PageForm}
 use Rattle.fax_files.specs.laws.Files.{FilesHaveOneChain}
 use Rattle.fax_files.specs.StripBytes.{strip_bytes}

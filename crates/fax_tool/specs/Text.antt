@@ -2,7 +2,7 @@
 -- A definition without a citation is this project's profile.
 use Rattle.std.specs.Prelude.{ℕ, Bool, true, false, nat_le, if◌then◌else◌, List, [], ◌∷◌, ◌++◌}
 use Rattle.std.specs.Prelude.{flat_map, length, take, Option, Some, None, codes, decimal}
-use Rattle.fax_rows.specs.Elements.{runs_of}
+use Rattle.fax_rows.specs.Rows.{runs_of}
 use Rattle.fax_page.specs.declared.Coding.{Coding}
 use Rattle.fax_page.specs.declared.Coding.TheVariants.{Mh, Mr, Mmr}
 use Rattle.fax_files.specs.declared.Cause.{Cause}

@@ -1,7 +1,7 @@
 //! The line of a row.
 ghost use Rattle.std.specs.Prelude.{◌≡◌, ◌+◌, ◌*◌, ◌≤◌, ◌++◌, OnErr, OnOk, decimal, flat_map};
 ghost use Rattle.std.specs.Prelude.{length, take};
-ghost use Rattle.fax_rows.specs.Elements.{runs_of};
+ghost use Rattle.fax_rows.specs.Rows.{runs_of};
 ghost use Rattle.fax_tool.specs.Text.{and_number, row_line_of};
 
 use crate::collected::{Collected, make_room, write_bytes};

@@ -10,7 +10,7 @@ use Rattle.std.specs.Prelude.{IfOk, IfErr, nat_lt, nat_le, ◌==◌}
 use Rattle.fax_bits.specs.declared.Colour.{Colour}
 use Rattle.fax_bits.specs.declared.Colour.TheVariants.{White}
 use Rattle.fax_bits.specs.Bits.{bits}
-use Rattle.fax_rows.specs.Elements.{pels_of, runs_of}
+use Rattle.fax_rows.specs.Rows.{pels_of, runs_of}
 use Rattle.fax_page.specs.declared.StripForm.{StripForm}
 use Rattle.fax_page.specs.declared.StripFault.{StripFault}
 use Rattle.fax_page.specs.Lines.{IsLine}

@@ -7,9 +7,7 @@ use Rattle.fax_bits.specs.declared.codes.CodeEntry.{CodeEntry}
 use Rattle.fax_bits.specs.declared.modes.ModeCode.{ModeCode}
 use Rattle.fax_bits.specs.declared.modes.ModeCode.TheVariants.{Pass, Horizontal, Vertical, Extension}
 use Rattle.fax_bits.specs.Codes.{Spells, bits_of, IsRun}
-use Rattle.fax_rows.specs.Elements.{other}
-use Rattle.fax_rows.specs.OneDimensional.{AreRuns}
-use Rattle.fax_rows.specs.TwoDimensional.{Position, IsStepBy, AreSteps}
+use Rattle.fax_rows.specs.Rows.{other, AreRuns, Position, IsStepBy, AreSteps}
 use Rattle.fax_page.specs.declared.Coding.{Coding}
 use Rattle.fax_page.specs.declared.Coding.TheVariants.{Mh, Mr, Mmr}
 use Rattle.fax_page.specs.declared.Dimension.{Dimension}

@@ -9,7 +9,7 @@ use Rattle.fax_bits.specs.declared.Colour.TheVariants.{White, Black}
 use Rattle.fax_bits.specs.Bits.{bits}
 use Rattle.fax_bits.specs.laws.Codes.{AreBitsByPlace}
 use Rattle.fax_bits.specs.declared.FillOrder.{FillOrder}
-use Rattle.fax_rows.specs.Elements.{other, pels_of, runs_of}
+use Rattle.fax_rows.specs.Rows.{other, pels_of, runs_of}
 use Rattle.fax_page.specs.declared.StripForm.{StripForm}
 use Rattle.fax_page.specs.declared.StripFault.{StripFault}
 use Rattle.fax_page.specs.Lines.{IsLine, IsCause}

@@ -2,7 +2,7 @@
 use Rattle.std.proofs.Common.{◌≡◌, ℕ, zero, suc, ◌+◌, ◌*◌, ◌/◌, ◌%◌, ◌<◌, List, [], ◌∷◌, ◌++◌, replicate, refl, ap, ◌∙◌, arith}
 use Rattle.fax_bits.specs.declared.Colour.{Colour}
 use Rattle.fax_bits.specs.declared.Colour.TheVariants.{White, Black}
-use Rattle.fax_rows.specs.Elements.{pels_of, runs_behind}
+use Rattle.fax_rows.specs.Rows.{pels_of, runs_behind}
 
 replicate_more : (n : ℕ) (colour : Colour) (pels : List Colour) → replicate (n + 1) colour ++ pels ≡ replicate n colour ++ colour ∷ pels
 replicate_more zero colour pels = refl

@@ -6,7 +6,7 @@ use Rattle.std.specs.Prelude.{if◌then◌else◌}
 use Rattle.fax_bits.specs.declared.Colour.{Colour}
 use Rattle.fax_bits.specs.declared.Colour.TheVariants.{White}
 use Rattle.fax_bits.specs.laws.Codes.{AreBitsByPlace}
-use Rattle.fax_rows.specs.Elements.{other}
+use Rattle.fax_rows.specs.Rows.{other}
 use Rattle.fax_files.specs.declared.FileFault.TheVariants.{StripOutside}
 use Rattle.fax_files.specs.declared.Cause.{Cause}
 use Rattle.fax_files.specs.declared.Cause.TheVariants.{File, Strip}

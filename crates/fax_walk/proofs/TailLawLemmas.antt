@@ -10,7 +10,7 @@ use Rattle.std.specs.Prelude.{slice_get, if◌then◌else◌, nat_lt, nat_le, �
 use Rattle.fax_bits.specs.declared.Colour.{Colour}
 use Rattle.fax_bits.specs.declared.Colour.TheVariants.{White}
 use Rattle.fax_bits.specs.laws.Codes.{AreBitsByPlace}
-use Rattle.fax_rows.specs.Elements.{pels_of, runs_of}
+use Rattle.fax_rows.specs.Rows.{pels_of, runs_of}
 use Rattle.fax_files.specs.declared.FileFault.{FileFault}
 use Rattle.fax_files.specs.declared.FileFault.TheVariants.{StripOutside}
 use Rattle.fax_files.specs.declared.Cause.TheVariants.{File}

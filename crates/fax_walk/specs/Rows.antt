@@ -6,7 +6,7 @@ use Rattle.std.specs.Prelude.{Ok, Err, ⊤}
 use Rattle.fax_bits.specs.declared.Colour.{Colour}
 use Rattle.fax_bits.specs.declared.Colour.TheVariants.{White}
 use Rattle.fax_bits.specs.Bits.{bits}
-use Rattle.fax_rows.specs.Elements.{other, pels_of, runs_of}
+use Rattle.fax_rows.specs.Rows.{other, pels_of, runs_of}
 use Rattle.fax_page.specs.declared.StripFault.{StripFault}
 use Rattle.fax_page.specs.Lines.{IsLine, IsCause}
 use Rattle.fax_page.specs.Strip.{white_row}

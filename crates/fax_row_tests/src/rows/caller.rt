@@ -2,7 +2,7 @@
 ghost use Rattle.std.specs.Prelude.{◌≡◌, ℕ, ◌<◌, ◌^◌, List, replicate, OnOk};
 ghost use Rattle.fax_bits.specs.views.Sink.{Appends};
 ghost use Rattle.fax_rows.specs.Coded.{two_dimensional_bits};
-ghost use Rattle.fax_rows.specs.OneDimensional.{IsOneDimensionalRow};
+ghost use Rattle.fax_rows.specs.Rows.{IsOneDimensionalRow};
 
 use fax_rows::{BitSink, BitSource, Colour, FillOrder, Memory, Row, RowFault, put_2d, read_1d};
 use std::alloc::Global;

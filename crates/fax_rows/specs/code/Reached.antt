@@ -2,7 +2,7 @@
 use Rattle.std.specs.Prelude.{ℕ, List, take, unwrap_or}
 use Rattle.fax_bits.specs.declared.Colour.{Colour}
 use Rattle.fax_rows.specs.declared.two_dimensional.steps.Reached.{Reached}
-use Rattle.fax_rows.specs.TwoDimensional.{Position}
+use Rattle.fax_rows.specs.Rows.{Position}
 
 -- the first pel that is not read (T.4, section 4.2.1.3.4)
 abbrev pub reached_pel : Reached → ℕ

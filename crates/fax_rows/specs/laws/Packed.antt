@@ -8,7 +8,7 @@ use Rattle.fax_bits.specs.declared.Colour.{Colour}
 use Rattle.fax_bits.specs.declared.Colour.TheVariants.{White, Black}
 use Rattle.fax_bits.specs.Bits.{bits}
 use Rattle.fax_bits.specs.Written.{bits_number}
-use Rattle.fax_rows.specs.Elements.{same_colour, first_place}
+use Rattle.fax_rows.specs.Rows.{same_colour, first_place}
 use Rattle.fax_rows.specs.Packed.{is_black, packed_len, packed_row, unpacked_row}
 
 -- the bits of a packed row are its pels, and zeros up to a whole byte (the netpbm format, P4)

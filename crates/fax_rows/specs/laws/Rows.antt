@@ -8,8 +8,7 @@ use Rattle.fax_bits.specs.declared.Colour.TheVariants.{White, Black}
 use Rattle.std.specs.Prelude.{◌≡◌, ℕ, Bool, List, ◌++◌, length}
 use Rattle.fax_bits.specs.laws.Codes.{IsReadInOneWay}
 use Rattle.fax_rows.specs.Coded.{one_dimensional_bits, two_dimensional_bits}
-use Rattle.fax_rows.specs.OneDimensional.{IsOneDimensionalRow}
-use Rattle.fax_rows.specs.TwoDimensional.{IsTwoDimensionalRow}
+use Rattle.fax_rows.specs.Rows.{IsOneDimensionalRow, IsTwoDimensionalRow}
 use Rattle.fax_rows.specs.Faults.{IsOneDimensionalFault, IsTwoDimensionalFault}
 
 -- a row has 1 to 65,535 pels

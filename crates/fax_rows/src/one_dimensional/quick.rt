@@ -5,7 +5,7 @@ ghost use Rattle.std.specs.Prelude.{◌≡◌, ◌+◌, ◌-◌, ◌≤◌, ◌<
 ghost use Rattle.std.specs.Prelude.{slice_index, take};
 ghost use Rattle.fax_bits.specs.Codes.{IsRun};
 ghost use Rattle.fax_bits.specs.views.Source.{KeepsEnd};
-ghost use Rattle.fax_rows.specs.OneDimensional.{IsOneDimensionalRow};
+ghost use Rattle.fax_rows.specs.Rows.{IsOneDimensionalRow};
 ghost use Rattle.fax_rows.specs.code.Turns.{row_of, IsAscending, IsTurnedFrom};
 
 use crate::turns::turn_behind;

@@ -3,7 +3,7 @@
 //! source.
 ghost use Rattle.std.specs.Prelude.{◌≡◌, ◌+◌, ◌-◌, ◌≤◌, ◌<◌, IfSome, length, None, slice_index};
 ghost use Rattle.fax_bits.specs.views.Source.{KeepsEnd};
-ghost use Rattle.fax_rows.specs.TwoDimensional as Spec;
+ghost use Rattle.fax_rows.specs.Rows as Spec;
 ghost use Rattle.fax_rows.specs.code.PlacedRow.{placed_pels};
 ghost use Rattle.fax_rows.specs.code.Turns.{row_of, IsAscending};
 ghost use Rattle.fax_rows.specs.code.Reached.{reached_pel};

@@ -1,5 +1,5 @@
 use Rattle.std.proofs.Common.{ap, ◌∙◌, arith}
-use Rattle.fax_rows.specs.Elements.{b1, b2}
+use Rattle.fax_rows.specs.Rows.{b1, b2}
 use Rattle.fax_rows.proofs.PlacedRowLemmas.{end_within}
 use Rattle.fax_rows.proofs.PlacedB1Lemmas.{placed_width, b1_is, b2_is, b2_at_most, b2_right}
 use Rattle.fax_rows.proofs.places.b1_b2.Goals as goal

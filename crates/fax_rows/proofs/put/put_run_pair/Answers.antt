@@ -1,5 +1,5 @@
 use Rattle.std.proofs.Common.{refl}
-use Rattle.fax_rows.specs.Elements.{other}
+use Rattle.fax_rows.specs.Rows.{other}
 use Rattle.fax_rows.proofs.PutLemmas.{on_err, put_begins, put_goes_on, put_stops, put_stops_in_last, bits_of_codes}
 use Rattle.fax_rows.proofs.put.put_run_pair.Goals as goal
 

@@ -1,6 +1,6 @@
 use Rattle.std.proofs.Common.{ℕ, take, arith, length-set}
 use Rattle.std.specs.Prelude.{codes, flat_map}
-use Rattle.fax_rows.specs.Elements.{runs_of}
+use Rattle.fax_rows.specs.Rows.{runs_of}
 use Rattle.fax_tool.specs.Text.{and_number, row_line_of, line_end}
 use Rattle.fax_tool.proofs.NumberLemmas.{length_long, line_is, one, three}
 use Rattle.fax_tool.proofs.row_line.write_line.Goals as goal

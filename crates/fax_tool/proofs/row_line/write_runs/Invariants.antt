@@ -1,6 +1,6 @@
 use Rattle.std.proofs.Common.{◌≡◌, ◌+◌, ◌*◌, ◌≤◌, ◌++◌, take, length}
 use Rattle.std.specs.Prelude.{flat_map}
-use Rattle.fax_rows.specs.Elements.{runs_of}
+use Rattle.fax_rows.specs.Rows.{runs_of}
 use Rattle.fax_tool.specs.Text.{and_number}
 use Rattle.fax_tool.proofs.row_line.write_runs.Given as goal
 

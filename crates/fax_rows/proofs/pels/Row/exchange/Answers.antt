@@ -1,5 +1,5 @@
 use Rattle.std.proofs.Common.{take, map, ap, ◌∙◌, arith}
-use Rattle.fax_rows.specs.Elements.{other}
+use Rattle.fax_rows.specs.Rows.{other}
 use Rattle.fax_rows.specs.code.Turns.{pels_by}
 use Rattle.fax_rows.proofs.PlacedExchangeLemmas.{exchanged}
 use Rattle.fax_rows.proofs.PlacedReadLemmas.{refilled}

@@ -1,5 +1,5 @@
 use Rattle.std.proofs.Common.{ap, ◌∙◌, arith}
-use Rattle.fax_rows.specs.Elements.{next_of}
+use Rattle.fax_rows.specs.Rows.{next_of}
 use Rattle.fax_rows.proofs.PlacedRowLemmas.{end_within}
 use Rattle.fax_rows.proofs.PlacedB1Lemmas.{placed_width, b1_is, b1_at_most, b1_right}
 use Rattle.fax_rows.proofs.pels.Row.next_of.Goals as goal

@@ -1,5 +1,5 @@
 use Rattle.std.proofs.Common.{◌≡◌, ◌++◌, length}
-use Rattle.fax_rows.specs.Elements.{runs_of}
+use Rattle.fax_rows.specs.Rows.{runs_of}
 use Rattle.fax_rows.proofs.pels.Row.runs.Given as goal
 
 abbrev pub invariant-loop-n : goal.invariant-loop-n

@@ -1,7 +1,7 @@
 use Rattle.std.proofs.Common.{◌≡◌, ℕ, List, length, take, ap, sym, ◌∙◌, subst, arith}
 use Rattle.std.proofs.lemmas.Bool.{false≢true}
 use Rattle.fax_bits.specs.declared.Colour.{Colour}
-use Rattle.fax_rows.specs.Elements.{runs_of}
+use Rattle.fax_rows.specs.Rows.{runs_of}
 use Rattle.fax_rows.specs.code.LongestRuns.{AreLongest}
 use Rattle.fax_rows.specs.code.Turns.{pels_by}
 use Rattle.fax_rows.proofs.GivenRunLemmas.{longest_are_back, runs_are_longest}

@@ -1,7 +1,7 @@
 use Rattle.std.proofs.Common.{◌≡◌, ◌≢◌, ◌+◌, suc, refl, inl, inr, sym, ap, ◌∙◌, arith, rules}
 use Rattle.fax_bits.specs.contracts.Colour.{the_type}
 use Rattle.fax_bits.specs.declared.Colour.TheVariants.{Black}
-use Rattle.fax_rows.specs.Elements.{other}
+use Rattle.fax_rows.specs.Rows.{other}
 use Rattle.fax_rows.specs.code.Turns.{alternate}
 use Rattle.fax_rows.proofs.TurnLemmas.{other-other, alternate-suc}
 use Rattle.fax_rows.proofs.PlacedB1Lemmas.{differs_is, b1_here}

@@ -1,5 +1,5 @@
 use Rattle.std.proofs.Common.{arith}
-use Rattle.fax_rows.specs.Elements.{other}
+use Rattle.fax_rows.specs.Rows.{other}
 use Rattle.fax_rows.proofs.PlacedRowLemmas.{end_within}
 use Rattle.fax_rows.proofs.PlacedB1Lemmas.{right_start, left_start, inside_end}
 use Rattle.fax_rows.proofs.rows.PlacedRow.turned_b1_after.Goals as goal

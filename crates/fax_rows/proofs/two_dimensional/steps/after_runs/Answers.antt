@@ -1,5 +1,5 @@
 use Rattle.std.proofs.Common.{◌∙◌, refl, arith}
-use Rattle.fax_rows.specs.Elements.{other}
+use Rattle.fax_rows.specs.Rows.{other}
 use Rattle.fax_rows.proofs.PlacedReadLemmas.{places_within}
 use Rattle.fax_rows.proofs.PlacedB1Lemmas.{same_start}
 use Rattle.fax_rows.proofs.PlacedStepLemmas.{room_left, horizontal_placed, horizontal_so_far}

@@ -1,8 +1,7 @@
 use Rattle.std.proofs.Common.{◌≡◌, ◌+◌, [], get_or, pos, ◌+ℤ◌, ◌≤ℤ◌, arith}
 use Rattle.std.specs.Prelude.{◌<ℤ◌}
 use Rattle.std.proofs.lemmas.Int.{ints}
-use Rattle.fax_rows.specs.Elements.{other}
-use Rattle.fax_rows.specs.TwoDimensional.{a0_number}
+use Rattle.fax_rows.specs.Rows.{other, a0_number}
 use Rattle.fax_rows.specs.code.Reached.{position_of}
 use Rattle.fax_rows.proofs.PlacedB1Lemmas.{right_start}
 use Rattle.fax_rows.proofs.PlacedStepLemmas.{b1_in_room, room_left, a1_ahead, a1_within, under_right, from_start, vertical_placed}

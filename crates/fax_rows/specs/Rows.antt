@@ -1,0 +1,195 @@
+-- Rows of pels, from left to right, and how bits code them in one and in two dimensions
+-- (T.4, sections 4.1.1 and 4.2.1.3; T.6, section 2.2). The sections below are those of T.4.
+use Rattle.std.specs.Prelude.{◌≡◌, ◌≢◌, ℕ, zero, suc, ◌+◌, ◌-◌, ◌<◌, ◌≤◌, nat_lt, ℤ, pos, negsuc}
+use Rattle.std.specs.Prelude.{◌+ℤ◌, ◌<ℤ◌, ◌≤ℤ◌, Bool, true, false, not, ◌&&◌, if◌then◌else◌, List, []}
+use Rattle.std.specs.Prelude.{◌∷◌, ◌++◌, length, replicate, sum, take, slice_index_or, Option, Some}
+use Rattle.std.specs.Prelude.{None, unwrap_or}
+use Rattle.fax_bits.specs.declared.Colour.{Colour}
+use Rattle.fax_bits.specs.declared.Colour.TheVariants.{White, Black}
+use Rattle.fax_bits.specs.declared.modes.ModeCode.{ModeCode}
+use Rattle.fax_bits.specs.declared.modes.ModeCode.TheVariants.{Pass, Horizontal, Vertical, Extension}
+use Rattle.fax_bits.specs.Tables.{modes}
+use Rattle.fax_bits.specs.Codes.{IsRun, Takes}
+
+-- the opposite colour
+abbrev pub other : Colour → Colour
+other White = Black
+other Black = White
+
+-- the two colours are one
+abbrev pub same_colour : Colour → Colour → Bool
+same_colour White White = true
+same_colour Black Black = true
+same_colour _ _ = false
+
+-- the pel at place i, from the left
+abbrev pub pel : List Colour → ℕ → Colour
+pel row i = slice_index_or row i White
+
+-- the pel before place i; before the first stands an imaginary white pel (section 4.2.1.3.4)
+abbrev pub pel_before : List Colour → ℕ → Colour
+pel_before row zero = White
+pel_before row (suc i) = pel row i
+
+-- pel i is a changing element: of another colour than the pel before it (section 4.2.1.3.1)
+abbrev pub is_changing : List Colour → ℕ → Bool
+is_changing row i = not (same_colour (pel row i) (pel_before row i))
+
+-- place i is right of a place, where None is just before the first pel (section 4.2.1.3.4)
+abbrev pub is_right_of : Option ℕ → ℕ → Bool
+is_right_of None i = true
+is_right_of (Some a) i = nat_lt a i
+
+-- the least of the n places from i on that passes the test, or the place after them all
+unfoldable pub first_place : (ℕ → Bool) → ℕ → ℕ → ℕ
+first_place test i zero = i
+first_place test i (suc n) = if test i then i else first_place test (i + 1) n
+
+-- the next changing element of a row right of a place, or the width (section 4.2.1.3.1)
+unfoldable pub next_change : List Colour → Option ℕ → ℕ
+next_change row from = first_place (λ i. is_right_of from i && is_changing row i) 0 (length row)
+
+-- the next changing element right of a place that is not of the colour, or the width
+unfoldable pub next_of : List Colour → Option ℕ → Colour → ℕ
+next_of row from colour =
+    first_place (λ i. is_right_of from i
+    && (is_changing row i && not (same_colour (pel row i) colour))) 0 (length row)
+
+-- b1: the first changing element of the reference row right of a0 and of the colour opposite to
+-- a0's; and b2: the next one right of b1 (section 4.2.1.3.1)
+abbrev pub b1 : List Colour → Option ℕ → Colour → ℕ
+b1 reference a0 colour = next_of reference a0 colour
+
+abbrev pub b2 : List Colour → Option ℕ → Colour → ℕ
+b2 reference a0 colour = next_change reference (Some (b1 reference a0 colour))
+
+-- the pels of runs of alternating colours (section 4.1.1)
+abbrev pub pels_of : Colour → List ℕ → List Colour
+pels_of colour [] = []
+pels_of colour (n ∷ runs) = replicate n colour ++ pels_of (other colour) runs
+
+-- the longest runs of the pels, where n pels of this colour stand before them (section 4.1.1)
+unfoldable pub runs_behind : Colour → ℕ → List Colour → List ℕ
+runs_behind colour n [] = n ∷ []
+runs_behind colour n (first ∷ pels) =
+    if same_colour first colour then runs_behind colour (n + 1) pels
+    else (n ∷ runs_behind (other colour) 1 pels)
+
+-- the longest runs of a row, white first: 0 where it begins black (section 4.1.1)
+abbrev pub runs_of : List Colour → List ℕ
+runs_of row = runs_behind White 0 row
+
+-- the bits are runs of these lengths in alternating colours, and the rest follows them
+abbrev pub AreRuns : Colour → List Bool → List ℕ → List Bool → Type 0
+AreRuns colour b [] rest = b ≡ rest
+AreRuns colour b (n ∷ runs) rest =
+    (middle : List Bool) × IsRun colour b n middle × AreRuns (other colour) middle runs rest
+
+-- the bits begin with this row in one-dimensional coding: runs of alternating colours, white first,
+-- that make up the width, where no fewer of them do (section 4.1.1)
+pub record IsOneDimensionalRow (width : ℕ) (b : List Bool) (row : List Colour)
+    (rest : List Bool) : Type 0 where
+  pub runs : List ℕ
+  pub coded : AreRuns White b runs rest
+  pub pels : row ≡ pels_of White runs
+  pub whole : length row ≡ width
+  pub ends : (k : ℕ) → k < length runs → sum (take k runs) ≢ width
+
+-- how far a row is read: the place a0, where None is just before the first pel, a0's colour, and
+-- the pels before a0 (section 4.2.1.3.1)
+pub record Position : Type 0 where
+  pub a0 : Option ℕ
+  pub colour : Colour
+  pub pels : List Colour
+
+-- where a row begins: on an imaginary white pel just before the first one (section 4.2.1.3.4)
+abbrev pub beginning : Position
+beginning = record { a0 = None; colour = White; pels = [] }
+
+-- the first pel that a step from here may colour
+abbrev pub first_pel : Position → ℕ
+first_pel at = unwrap_or at.a0 0
+
+-- a0 as a number: -1 just before the first pel
+abbrev pub a0_number : Position → ℤ
+a0_number at = elim at.a0 [ None ↦ negsuc 0 | Some a ↦ pos a ]
+
+-- the position at the pel `to`, with pels of a0's colour up to it
+abbrev pub coloured_up_to : Position → ℕ → Position
+coloured_up_to at to =
+    let pels = at.pels ++ replicate (to - first_pel at) at.colour in
+    record { a0 = Some to; colour = at.colour; pels = pels }
+
+-- b1 and b2 as seen from a position
+abbrev pub b1_from : List Colour → Position → ℕ
+b1_from reference at = b1 reference at.a0 at.colour
+
+abbrev pub b2_from : List Colour → Position → ℕ
+b2_from reference at = b2 reference at.a0 at.colour
+
+-- a1 at b1 + d lies right of a0 and not after the row's end
+pub record IsInRow (reference : List Colour) (at : Position) (d : ℤ) : Type 0 where
+  pub right_of_a0 : a0_number at <ℤ (pos (b1_from reference at) +ℤ d)
+  pub within : (pos (b1_from reference at) +ℤ d) ≤ℤ pos (length reference)
+
+-- vertical mode: a1 is b1 + d, and the colour changes there (section 4.2.1.3.2)
+pub record IsVerticalStep (reference : List Colour) (old : Position) (d : ℤ)
+    (new : Position) : Type 0 where
+  pub in_row : IsInRow reference old d
+  pub a1 : ℕ
+  pub a1_is : pos a1 ≡ pos (b1_from reference old) +ℤ d
+  pub new_is : new ≡ record (coloured_up_to old a1) { colour = other old.colour }
+
+-- horizontal mode: a run a0a1 of a0's colour and a run a1a2 of the other, within the row; the
+-- colour stays (section 4.2.1.3.2)
+pub record IsHorizontalStep (reference : List Colour) (old : Position) (b : List Bool)
+    (new : Position) (rest : List Bool) : Type 0 where
+  pub first : ℕ
+  pub second : ℕ
+  pub middle : List Bool
+  pub first_run : IsRun old.colour b first middle
+  pub second_run : IsRun (other old.colour) middle second rest
+  pub within : first_pel old + first + second ≤ length reference
+  pub new_is : new ≡ record {
+    a0 = Some (first_pel old + first + second);
+    colour = old.colour;
+    pels = old.pels ++ replicate first old.colour ++ replicate second (other old.colour);
+  }
+
+-- what a mode does, with the bits after its code (section 4.2.1.3.2)
+abbrev pub IsStepBy : ModeCode → List Colour → Position → List Bool → Position → List Bool → Type 0
+IsStepBy Pass reference old b new rest =
+    (new ≡ coloured_up_to old (b2_from reference old)) × (b ≡ rest)
+IsStepBy (Vertical d) reference old b new rest = IsVerticalStep reference old d new × (b ≡ rest)
+IsStepBy Horizontal reference old b new rest = IsHorizontalStep reference old b new rest
+IsStepBy Extension reference old b new rest = ⊥
+
+-- the bits begin with one coding step from the old position to the new one (section 4.2.1.3.3)
+pub record IsStep (reference : List Colour) (old : Position) (b : List Bool) (new : Position)
+    (rest : List Bool) : Type 0 where
+  pub mode : ModeCode
+  pub behind : List Bool
+  pub taken : Takes modes b mode behind
+  pub step : IsStepBy mode reference old behind new rest
+
+-- the position is not at the row's end (section 4.2.1.3.4)
+abbrev pub IsUnfinished : List Colour → Position → Type 0
+IsUnfinished reference at = at.a0 ≢ Some (length reference)
+
+-- the bits begin with steps through these positions, each of them from within the row
+abbrev pub AreSteps : List Colour → Position → List Bool → List Position → Position → List Bool
+    → Type 0
+AreSteps reference old b [] new rest = (new ≡ old) × (b ≡ rest)
+AreSteps reference old b (next ∷ more) new rest =
+    IsUnfinished reference old × (middle : List Bool)
+    × IsStep reference old b next middle × AreSteps reference next middle more new rest
+
+-- the bits begin with this row in two-dimensional coding over the reference row: steps from the
+-- row's beginning to its end (section 4.2.1.3.3; T.6, section 2.2.3)
+pub record IsTwoDimensionalRow (reference : List Colour) (b : List Bool) (row : List Colour)
+    (rest : List Bool) : Type 0 where
+  pub positions : List Position
+  pub last : Position
+  pub steps : AreSteps reference beginning b positions last rest
+  pub ends : last.a0 ≡ Some (length reference)
+  pub pels : row ≡ last.pels
