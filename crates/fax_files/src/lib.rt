@@ -183,7 +183,7 @@ pub struct PageForm {
 
 impl PageForm {
     ghost use Rattle.std.specs.Prelude.{◌*◌, ◌<◌};
-    ghost use Rattle.fax_page.specs.Strip.{IsStripForm};
+    ghost use Rattle.fax_page.specs.views.Strip.{IsStripForm};
     ghost use Rattle.fax_files.specs.Page.{IsPageForm};
     ghost use Rattle.fax_files.specs.PageRows.{strip_form as form_of_strip};
 

@@ -13,8 +13,9 @@ use Rattle.fax_page.specs.declared.Dimension.TheVariants.{OneDimensional, TwoDim
 use Rattle.fax_page.specs.declared.Coding.{Coding}
 use Rattle.fax_page.specs.declared.Coding.TheVariants.{Mh, Mr, Mmr}
 use Rattle.fax_page.specs.declared.StripForm.{StripForm}
-use Rattle.fax_page.specs.Lines.{tag_bit, IsStart, IsRowIn, IsLine}
-use Rattle.fax_page.specs.Strip.{IsStripForm, AreLines, white_row}
+use Rattle.fax_page.specs.Lines.{tag_bit, IsStart, IsRowIn, IsLine, white_row}
+use Rattle.fax_page.specs.views.Strip.{IsStripForm}
+use Rattle.fax_page.specs.Strip.{AreLines}
 use Rattle.fax_page.specs.CodedStrip.{written_dimension, row_bits, fill_zeros, start_bits, coded_line, coded_lines, coded_bits, end_bits}
 use Rattle.fax_page.specs.laws.Strips.{CodedBitsAreRead}
 use Rattle.fax_page.proofs.FillLemmas.{end_of_line_back}

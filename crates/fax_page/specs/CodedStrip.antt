@@ -10,8 +10,7 @@ use Rattle.fax_page.specs.declared.Dimension.TheVariants.{OneDimensional, TwoDim
 use Rattle.fax_page.specs.declared.Coding.{Coding}
 use Rattle.fax_page.specs.declared.Coding.TheVariants.{Mh, Mr, Mmr}
 use Rattle.fax_page.specs.declared.StripForm.{StripForm}
-use Rattle.fax_page.specs.Lines.{tag_bit}
-use Rattle.fax_page.specs.Strip.{white_row}
+use Rattle.fax_page.specs.Lines.{tag_bit, white_row}
 
 -- EOL: eleven zeros and a 1 (T.4, section 4.1.2)
 abbrev pub end_of_line : List Bool

@@ -2,8 +2,9 @@
 -- A definition without a citation is this project's profile.
 use Rattle.std.specs.Prelude.{◌≡◌, ◌≢◌, ℕ, ◌<◌, ◌≤◌, ◌⊎◌, Bool, true, false, List, [], ◌∷◌, ◌++◌}
 use Rattle.std.specs.Prelude.{replicate}
-use Rattle.fax_bits.specs.Bits.{IsAllZeros, HasZerosAhead}
+use Rattle.fax_bits.specs.Bits.{HasZerosAhead, IsAllZeros}
 use Rattle.fax_bits.specs.declared.Colour.{Colour}
+use Rattle.fax_bits.specs.declared.Colour.TheVariants.{White}
 use Rattle.fax_rows.specs.declared.RowFault.{RowFault}
 use Rattle.fax_rows.specs.declared.RowFault.TheVariants as in_row
 use Rattle.fax_rows.specs.Rows.{IsOneDimensionalRow, IsTwoDimensionalRow}
@@ -17,24 +18,26 @@ use Rattle.fax_page.specs.declared.StripFault.{StripFault}
 use Rattle.fax_page.specs.declared.StripFault.TheVariants.{DataEnds, BadCode, Extension, RunTooLong}
 use Rattle.fax_page.specs.declared.StripFault.TheVariants.{OutOfRow, MissingEol, EndMarker}
 
+-- a strip's first reference is all white (T.6, section 2.2.1; in MR this project's profile, since
+-- T.4 begins a page with a one-dimensional row)
+abbrev pub white_row : ℕ → List Colour
+white_row width = replicate width White
+
 -- the bit after an EOL in MR that says how the next row is coded (T.4, section 4.2.2)
 abbrev pub tag_bit : Dimension → Bool
 tag_bit OneDimensional = true
 tag_bit TwoDimensional = false
 
--- the bits begin with fill and an EOL: at least eleven zeros and a 1
--- (T.4, sections 4.1.2 and 4.1.3)
+-- the bits begin with fill and an EOL: eleven zeros or more, and a 1 (T.4, sections 4.1.2, 4.1.3)
 abbrev pub IsEndOfLine : List Bool → List Bool → Type 0
 IsEndOfLine b rest = (zeros : ℕ) × (11 ≤ zeros) × (b ≡ replicate zeros false ++ true ∷ rest)
 
--- a 1 stands after fewer than eleven zeros, so that the bits begin with no EOL
--- (T.4, section 4.1.2)
+-- a 1 stands after fewer than eleven zeros: the bits begin with no EOL (T.4, section 4.1.2)
 abbrev pub BeginsBelowEleven : List Bool → Type 0
 BeginsBelowEleven b = (zeros : ℕ) × (zeros < 11) × HasZerosAhead b zeros
 
--- what stands before the first code of row i of a strip: an EOL, which the first row may lack in
--- MH, in MR an EOL and a tag bit, nothing in MMR (T.4, sections 4.1.2 and 4.2.2; T.6, section
--- 2.2.1)
+-- what stands before the first code of row i of a strip: in MH an EOL, which the first row may lack,
+-- in MR an EOL and a tag bit, nothing in MMR (T.4, sections 4.1.2, 4.2.2; T.6, section 2.2.1)
 abbrev pub IsStart : Coding → ℕ → List Bool → Dimension → List Bool → Type 0
 IsStart Mh i b dimension rest =
     (dimension ≡ OneDimensional)

@@ -12,8 +12,8 @@ use Rattle.fax_page.specs.declared.StripForm.{StripForm}
 use Rattle.fax_page.specs.declared.notes.StripNotes.{StripNotes}
 use Rattle.fax_page.specs.declared.notes.NotesFault.{NotesFault}
 use Rattle.fax_page.specs.declared.notes.NotesFault.TheVariants.{Memory, Strip}
-use Rattle.fax_page.specs.Lines.{tag_bit, IsEndOfLine, IsLine}
-use Rattle.fax_page.specs.Strip.{AreLines, IsStrip, white_row}
+use Rattle.fax_page.specs.Lines.{tag_bit, IsEndOfLine, IsLine, white_row}
+use Rattle.fax_page.specs.Strip.{AreLines, IsStrip}
 use Rattle.fax_page.specs.CodedStrip.{end_of_block, row_bits}
 
 -- one EOL of a return to control: in MR the tag bit of a one-dimensional row follows it
@@ -69,9 +69,3 @@ pub record IsNotedAs (form : StripForm) (b : List Bool) (rows : List (List Colou
   pub data_after_end : IsTrue notes.data_after_end ↔ Contains behind true
   pub not_t4_choice : IsTrue notes.not_t4_choice ↔ HasOtherChoice form 0 (white_row form.width) b
       rows
-
--- a strip has no notes: this row of it cannot be read. Of want of memory nothing is said
-abbrev pub IsNotesFault : StripForm → List Bool → NotesFault → Type 0
-IsNotesFault form b Memory = ⊤
-IsNotesFault form b (Strip row fault) =
-    (rows : List (List Colour)) × (length rows ≡ row) × IsStrip form b rows (Some fault)

@@ -1,3 +1,4 @@
 pub mod Reader
 pub mod Writer
 pub mod NextRow
+pub mod Strip

@@ -5,7 +5,7 @@ ghost use Rattle.fax_bits.specs.views.Sink.{Appends};
 ghost use Rattle.fax_bits.specs.declared.Colour.{Colour};
 ghost use Rattle.fax_page.specs.CodedStrip.{row_bits};
 ghost use Rattle.fax_page.specs.Notes as Spec;
-ghost use Rattle.fax_page.specs.Strip.{IsStripForm};
+ghost use Rattle.fax_page.specs.views.Strip.{IsNotesFault, IsStripForm};
 ghost use Rattle.fax_page.specs.code.Notes as Code;
 
 use crate::lines::{read_begin, read_codes, read_eol};
@@ -188,7 +188,7 @@ pub fn strip_notes(alloc: Global, bytes: &[u8], form: StripForm) -> Result<Strip
     requires limits { IsStripForm form }
     ensures ok { IfOk result (λ notes. (rows : List (List Colour))
         × Spec.IsNotedAs form (bits form.order bytes.now) rows notes) }
-    ensures err { IfErr result (Spec.IsNotesFault form (bits form.order bytes.now)) }
+    ensures err { IfErr result (IsNotesFault form (bits form.order bytes.now)) }
 {
     crate::laws::lines_are_read_in_one_way();
     let mut source = BitSource::new(bytes, form.order);

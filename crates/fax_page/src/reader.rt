@@ -49,7 +49,7 @@ impl<'a> Model for StripReader<'a> {
 }
 
 impl<'a> StripReader<'a> {
-    ghost use Rattle.fax_page.specs.Strip.{IsStripForm};
+    ghost use Rattle.fax_page.specs.views.Strip.{IsStripForm};
     ghost use Rattle.fax_page.specs.views.Reader.{strip_beginning, restarted, restarted_at};
     ghost use Rattle.fax_page.specs.views.Reader.{IsAdvance};
     ghost use Rattle.fax_page.specs.views.NextRow.{EndsAs, IsNextRow};

@@ -135,7 +135,7 @@ impl Model for StripWriter {
 }
 
 impl StripWriter {
-    ghost use Rattle.fax_page.specs.Strip.{IsStripForm};
+    ghost use Rattle.fax_page.specs.views.Strip.{IsStripForm};
     ghost use Rattle.fax_page.specs.views.Writer.{writer_beginning, IsPutRow, FinishesAs};
 
     /// A strip of this form, before its first row. In MR every `k`-th row is one-dimensional, from

@@ -11,8 +11,8 @@ use Rattle.fax_page.specs.declared.StripFault.{StripFault}
 use Rattle.fax_page.specs.declared.notes.NotesFault.{NotesFault}
 use Rattle.fax_page.specs.declared.notes.NotesFault.TheVariants.{Memory, Strip}
 use Rattle.fax_page.specs.declared.notes.StripNotes.{StripNotes}
-use Rattle.fax_page.specs.Lines.{IsLine, IsCause}
-use Rattle.fax_page.specs.Strip.{AreLines, white_row}
+use Rattle.fax_page.specs.Lines.{IsLine, IsCause, white_row}
+use Rattle.fax_page.specs.Strip.{AreLines}
 use Rattle.fax_page.specs.Notes.{IsReturnEol, AreReturnEols, HasEndMark, IsBehindEnd, IsChosen}
 use Rattle.fax_page.specs.Notes.{HasOtherChoice}
 

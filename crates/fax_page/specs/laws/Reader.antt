@@ -6,8 +6,9 @@ use Rattle.fax_bits.specs.Bits.{bits}
 use Rattle.fax_bits.specs.views.Source.{Source, source_of}
 use Rattle.fax_page.specs.declared.StripForm.{StripForm}
 use Rattle.fax_page.specs.declared.StripFault.{StripFault}
-use Rattle.fax_page.specs.Lines.{IsLine, IsCause}
-use Rattle.fax_page.specs.Strip.{IsStripForm, AreLines, IsStrip, white_row}
+use Rattle.fax_page.specs.Lines.{IsLine, IsCause, white_row}
+use Rattle.fax_page.specs.views.Strip.{IsStripForm}
+use Rattle.fax_page.specs.Strip.{AreLines, IsStrip}
 use Rattle.fax_page.specs.views.Reader.{IsAdvance, IsAtEnd, MeetsFault, ReadsRow, StripState}
 use Rattle.fax_page.specs.views.Reader.{bits_left, strip_behind}
 

@@ -10,14 +10,13 @@ use Rattle.fax_page.specs.declared.Dimension.TheVariants.{OneDimensional, TwoDim
 use Rattle.fax_page.specs.declared.Coding.{Coding}
 use Rattle.fax_page.specs.declared.Coding.TheVariants.{Mh, Mr, Mmr}
 use Rattle.fax_page.specs.declared.StripForm.{StripForm}
-use Rattle.fax_page.specs.Lines.{tag_bit}
-use Rattle.fax_page.specs.Strip.{white_row}
+use Rattle.fax_page.specs.Lines.{tag_bit, white_row, IsLine, IsCause}
 use Rattle.std.specs.Prelude.{◌≡◌, ℕ, ◌+◌, ◌<◌, ◌%◌, ◌⊎◌, Bool, true, List, ◌++◌, length, Option}
 use Rattle.std.specs.Prelude.{None}
 use Rattle.fax_bits.specs.Bits.{bits}
 use Rattle.fax_page.specs.declared.StripFault.{StripFault}
-use Rattle.fax_page.specs.Lines.{IsLine, IsCause}
-use Rattle.fax_page.specs.Strip.{IsStripForm, IsStrip}
+use Rattle.fax_page.specs.views.Strip.{IsStripForm}
+use Rattle.fax_page.specs.Strip.{IsStrip}
 use Rattle.fax_page.specs.CodedStrip.{end_of_line, fill_zeros, coded_bits, coded_strip}
 
 -- the rows are as many and as wide as the form says

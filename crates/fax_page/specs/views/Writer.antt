@@ -7,7 +7,8 @@ use Rattle.fax_bits.specs.declared.FillOrder.{FillOrder}
 use Rattle.fax_bits.specs.declared.Memory.{Memory}
 use Rattle.fax_page.specs.declared.StripForm.{StripForm}
 use Rattle.fax_page.specs.CodedStrip.{coded_line, coded_lines, coded_strip, end_bits}
-use Rattle.fax_page.specs.Strip.{IsStripForm, white_row}
+use Rattle.fax_page.specs.views.Strip.{IsStripForm}
+use Rattle.fax_page.specs.Lines.{white_row}
 
 -- how far a strip is written: its form and k, its bits, how many rows were put, the last of them,
 -- or a white row before the first, and whether memory was refused

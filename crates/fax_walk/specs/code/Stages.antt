@@ -6,7 +6,7 @@ use Rattle.fax_bits.specs.declared.Colour.{Colour}
 use Rattle.fax_bits.specs.declared.Colour.TheVariants.{White}
 use Rattle.fax_rows.specs.Rows.{pels_of}
 use Rattle.fax_page.specs.declared.StripForm.{StripForm}
-use Rattle.fax_page.specs.Strip.{white_row}
+use Rattle.fax_page.specs.Lines.{white_row}
 use Rattle.fax_page.specs.views.Reader.{StripState}
 use Rattle.fax_files.specs.declared.PageForm.{PageForm}
 use Rattle.fax_files.specs.declared.Cause.{Cause}

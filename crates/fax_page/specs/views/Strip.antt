@@ -1,0 +1,24 @@
+-- The limits of a strip, and how a strip without notes is told.
+-- A definition without a citation is this project's profile.
+use Rattle.std.specs.Prelude.{◌≡◌, ◌≢◌, ℕ, ◌<◌, ◌≤◌, ◌^◌, Bool, true, List, length, Some, ⊤}
+use Rattle.fax_bits.specs.declared.Colour.{Colour}
+use Rattle.fax_page.specs.declared.Coding.TheVariants.{Mmr}
+use Rattle.fax_page.specs.declared.StripForm.{StripForm}
+use Rattle.fax_page.specs.declared.notes.NotesFault.{NotesFault}
+use Rattle.fax_page.specs.declared.notes.NotesFault.TheVariants.{Memory, Strip}
+use Rattle.fax_page.specs.Strip.{IsStrip}
+
+-- a strip's limits: rows of 1 to 65,535 pels, and 1 to 1,000,000 of them; EOLs are aligned only
+-- where rows have them
+pub record IsStripForm (form : StripForm) : Type 0 where
+  pub some_pels : 0 < form.width
+  pub short_rows : form.width < 2 ^ 16
+  pub some_rows : 0 < form.rows
+  pub few_rows : form.rows ≤ 1000000
+  pub aligned : form.aligned ≡ true → form.coding ≢ Mmr
+
+-- a strip has no notes: this row of it cannot be read. Of want of memory nothing is said
+abbrev pub IsNotesFault : StripForm → List Bool → NotesFault → Type 0
+IsNotesFault form b Memory = ⊤
+IsNotesFault form b (Strip row fault) =
+    (rows : List (List Colour)) × (length rows ≡ row) × IsStrip form b rows (Some fault)
