@@ -9,9 +9,7 @@ use Rattle.fax_files.specs.declared.FileFault.{FileFault}
 use Rattle.fax_files.specs.declared.FileFault.TheVariants.{DirectoryOutside, DirectoryLoop}
 use Rattle.fax_files.specs.declared.Endian.{Endian}
 use Rattle.fax_files.specs.declared.Endian.TheVariants.{Little, Big}
-use Rattle.fax_files.specs.Numbers.{number_at}
-use Rattle.fax_files.specs.Directory.{is_directory, next_offset}
-use Rattle.fax_files.specs.Chain.{IsChainFrom}
+use Rattle.fax_files.specs.Directory.{number_at, is_directory, next_offset, IsChainFrom}
 use Rattle.fax_files.specs.code.Chain.{link, onward}
 use Rattle.fax_files.proofs.ChainLaws.{IsApart, AreBelow, GoesOn, going_on, still_below, few, either, stop_of}
 

@@ -6,9 +6,8 @@ use Rattle.std.proofs.lemmas.Bool.{cases_lt}
 use Rattle.std.proofs.lemmas.Bool.Decides.{nat_tests}
 use Rattle.fax_files.specs.declared.FileFault.{FileFault}
 use Rattle.fax_files.specs.declared.FileFault.TheVariants.{DirectoryOutside, DirectoryLoop}
-use Rattle.fax_files.specs.Directory.{is_directory, next_offset}
+use Rattle.fax_files.specs.Directory.{is_directory, next_offset, IsChain}
 use Rattle.fax_files.specs.views.Tiff.{TiffFile, TiffDirectory, directory_of}
-use Rattle.fax_files.specs.Chain.{IsChain}
 use Rattle.fax_files.specs.code.Chain.{place, turning_page, IsChainPlace}
 use Rattle.fax_files.specs.views.Chain.{answer_at, ChainState, IsDueAnswer}
 use Rattle.fax_files.proofs.ChainLaws.{has_one_chain}

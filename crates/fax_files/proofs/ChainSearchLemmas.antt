@@ -8,7 +8,7 @@ use Rattle.fax_files.specs.declared.FileFault.TheVariants.{DirectoryLoop}
 use Rattle.fax_files.specs.declared.chain.Search.{Search}
 use Rattle.fax_files.specs.declared.chain.Search.TheVariants.{Running, Known}
 use Rattle.fax_files.specs.views.Tiff.{TiffFile}
-use Rattle.fax_files.specs.Chain.{IsChain}
+use Rattle.fax_files.specs.Directory.{IsChain}
 use Rattle.fax_files.specs.code.Chain.{onward, place, LeadsOn, IsTurningPage, turning_page, IsChainPlace}
 use Rattle.fax_files.specs.code.Chain.{IsSearch, IsSearchPlace, turns_at}
 use Rattle.fax_files.proofs.ChainLaws.{has_one_chain}

@@ -5,9 +5,8 @@ use Rattle.std.specs.Prelude.{◌==◌, if◌then◌else◌}
 use Rattle.std.proofs.lemmas.Bool.{cases_lt}
 use Rattle.fax_files.specs.declared.FileFault.{FileFault}
 use Rattle.fax_files.specs.declared.FileFault.TheVariants.{DirectoryLoop}
-use Rattle.fax_files.specs.Directory.{is_directory, next_offset}
+use Rattle.fax_files.specs.Directory.{is_directory, next_offset, IsChain}
 use Rattle.fax_files.specs.views.Tiff.{TiffFile}
-use Rattle.fax_files.specs.Chain.{IsChain}
 use Rattle.fax_files.specs.code.Chain.{onward, place, LeadsOn, IsRound, IsTurn, HasNoLoop, HasFewPages, IsTurningPage, turning_page}
 use Rattle.fax_files.proofs.ChainLaws.{has_one_chain}
 use Rattle.fax_files.proofs.ChainPlaces.{IsByPlaces, by_places, along, link_next, onward_on}

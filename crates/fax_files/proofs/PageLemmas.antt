@@ -5,13 +5,12 @@ use Rattle.std.proofs.Math.Nat.{add-mul, mul-le-mul_right}
 use Rattle.fax_files.specs.declared.FileFault.{FileFault}
 use Rattle.fax_files.specs.declared.PageForm.{PageForm}
 use Rattle.fax_files.specs.declared.Endian.{Endian}
-use Rattle.fax_files.specs.Numbers.{◌>>=◌, is_inside}
-use Rattle.fax_files.specs.Directory.{Entry, value_at}
-use Rattle.fax_files.specs.Page.{PelFormat, RowCoding, pel_format, strip_rows, strip_count, page_coding, strip_field, resolution}
-use Rattle.fax_files.specs.StripBytes.{strip_bytes, bytes_at}
+use Rattle.fax_files.specs.Directory.{◌>>=◌, is_inside, Entry, value_at}
+use Rattle.fax_files.specs.Page.{PelFormat, RowCoding, pel_format, strip_rows, strip_count}
+use Rattle.fax_files.specs.Page.{page_coding, strip_field, resolution, strip_bytes, bytes_at}
 use Rattle.fax_files.specs.views.Tiff.{TiffDirectory, bytes_of}
 use Rattle.fax_files.specs.code.Tiff.{AreStripPlaces}
-use Rattle.fax_files.specs.Tags
+use Rattle.fax_files.specs.declared.tags.TheConstants as Tags
 
 -- the value of a step that did not fail
 pub bind_ok : {A B : Type 0} (r : Result A FileFault) (next : A → Result B FileFault) (y : B) → (r >>= next) ≡ Ok y

@@ -7,8 +7,8 @@ use Rattle.std.proofs.lemmas.Bool.{le-leb}
 use Rattle.byteorder.specs.Endian.{little_bytes}
 use Rattle.byteorder.specs.Numbers.{little_number-reads_back}
 use Rattle.fax_files.specs.declared.Endian.TheVariants.{Little}
-use Rattle.fax_files.specs.Numbers.{is_inside, number_at}
-use Rattle.fax_files.specs.StripBytes.{bytes_at}
+use Rattle.fax_files.specs.Directory.{is_inside, number_at}
+use Rattle.fax_files.specs.Page.{bytes_at}
 use Rattle.fax_files.specs.Written.{four, with_four_at}
 
 -- these bytes stand at a place of a file

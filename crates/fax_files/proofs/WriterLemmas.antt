@@ -7,9 +7,12 @@ use Rattle.std.proofs.lemmas.Bool.{cases_eq, eq-eqb, ne_eqb, le-leb, lt-leb}
 use Rattle.std.proofs.lemmas.List.{length-append, take-append-le, drop-append-le}
 use Rattle.fax_files.specs.declared.PageForm.{PageForm}
 use Rattle.fax_files.specs.declared.written.Layout.{Layout}
-use Rattle.fax_files.specs.Page.{IsPageForm}
-use Rattle.fax_files.specs.Written.{max_file, to_link, to_offsets, four, offsets_from, lengths_of, one_or_place, joined_strips}
-use Rattle.fax_files.specs.Written.{directory_place, fields_of, fields_bytes, values_bytes, with_four_at, page_bytes, Written, with_page}
+use Rattle.fax_files.specs.views.Page.{IsPageForm}
+use Rattle.fax_files.specs.Directory.{max_file}
+use Rattle.fax_files.specs.Written.{to_link, to_offsets, four, offsets_from, lengths_of}
+use Rattle.fax_files.specs.Written.{one_or_place, joined_strips, directory_place, fields_of}
+use Rattle.fax_files.specs.Written.{fields_bytes, values_bytes, with_four_at, page_bytes, Written}
+use Rattle.fax_files.specs.Written.{with_page}
 use Rattle.fax_files.specs.laws.Files.{IsWritable}
 use Rattle.fax_files.specs.views.Writing.{contents}
 use Rattle.fax_files.specs.code.Writing.{IsWriting, IsLayout, laid_out_fields, tail_bytes, page_end}

@@ -8,10 +8,8 @@ use Rattle.std.specs.List.{All, AllZip, list_any}
 use Rattle.std.proofs.lemmas.List.Folds.{list_any_none}
 use Rattle.std.specs.Prelude.{◌==◌, replicate, codes, nat_le, if◌then◌else◌}
 use Rattle.fax_files.specs.declared.Endian.TheVariants.{Little}
-use Rattle.fax_files.specs.Numbers.{is_inside, number_at}
-use Rattle.fax_files.specs.Directory.{is_directory, next_offset}
-use Rattle.fax_files.specs.Numbers.{endian_of, header}
-use Rattle.fax_files.specs.Chain.{IsChainFrom}
+use Rattle.fax_files.specs.Directory.{is_inside, number_at, is_directory, next_offset, endian_of}
+use Rattle.fax_files.specs.Directory.{header, IsChainFrom}
 use Rattle.fax_files.specs.Written.{to_link, to_x, to_offsets, two, four, offsets_from, lengths_of, fields_bytes, values_bytes}
 use Rattle.fax_files.specs.Written.{joined_strips, directory_place, page_bytes, with_four_at, Written, with_page, with_pages, WrittenPage}
 use Rattle.fax_files.specs.Written.{empty_file, file_of, longs, array_bytes, rational_bytes}

@@ -12,24 +12,25 @@ use Rattle.fax_bits.specs.declared.FillOrder.TheVariants.{MsbFirst, LsbFirst}
 use Rattle.fax_page.specs.declared.Coding.{Coding}
 use Rattle.fax_page.specs.declared.Coding.TheVariants.{Mh, Mr, Mmr}
 use Rattle.fax_files.specs.declared.FileFault.{FileFault}
-use Rattle.fax_files.specs.Directory.{Entry}
+use Rattle.fax_files.specs.Directory.{Entry, is_inside, number_at, ◌>>=◌, SHORT, entry_count}
+use Rattle.fax_files.specs.Directory.{entries, is_directory, next_offset}
 use Rattle.fax_files.specs.declared.Endian.TheVariants.{Little}
-use Rattle.fax_files.specs.Numbers.{is_inside, number_at, ◌>>=◌}
-use Rattle.fax_files.specs.Directory.{SHORT, entry_count, entries, is_directory, next_offset}
 use Rattle.fax_files.specs.declared.PageForm.{PageForm}
-use Rattle.fax_files.specs.Page.{page_size, pel_format, strip_rows, strip_count, are_exchanged, fill_order, t4_coding, page_coding}
-use Rattle.fax_files.specs.Page.{resolution, page}
-use Rattle.fax_files.specs.StripBytes.{strip_bytes}
-use Rattle.fax_files.specs.Written.{field_count, to_link, to_x, to_y, to_offsets, two, WrittenField, short_field, field_bytes}
-use Rattle.fax_files.specs.Written.{compression_of, fill_order_of, options_field, offsets_from, lengths_of, array_bytes, rational_bytes}
-use Rattle.fax_files.specs.Written.{fields_of, fields_bytes, values_bytes, joined_strips, WrittenPage}
+use Rattle.fax_files.specs.Page.{page_size, pel_format, strip_rows, strip_count, are_exchanged}
+use Rattle.fax_files.specs.Page.{fill_order, t4_coding, page_coding, resolution, page, strip_bytes}
+use Rattle.fax_files.specs.Page.{fill_order_of}
+use Rattle.fax_files.specs.Written.{field_count, to_link, to_x, to_y, to_offsets, two, WrittenField}
+use Rattle.fax_files.specs.Written.{short_field, field_bytes, compression_of, options_field}
+use Rattle.fax_files.specs.Written.{offsets_from, lengths_of, array_bytes, rational_bytes}
+use Rattle.fax_files.specs.Written.{fields_of, fields_bytes, values_bytes, joined_strips}
+use Rattle.fax_files.specs.Written.{WrittenPage}
 use Rattle.fax_files.specs.laws.Files.{IsWritable, IsReadAt}
 use Rattle.fax_files.proofs.PlaceLemmas.{HasBytesAt, at_place, at_left, at_right, at_inside, number_there}
 use Rattle.fax_files.proofs.WrittenFieldLemmas.{AllFit, fits, all_fit, length-fields, read_fields, HasValues, written_field, entries_there}
 use Rattle.fax_files.proofs.WrittenFieldLemmas.{needed_long, needed_short, long_or, short_or, rational_back}
 use Rattle.fax_files.proofs.WrittenStripLemmas.{ArrayThere, array_back, array_checked, array_is_longs, length-longs, length-offsets_from}
 use Rattle.fax_files.proofs.WrittenStripLemmas.{length-lengths_of, strip_there}
-use Rattle.fax_files.specs.Tags
+use Rattle.fax_files.specs.declared.tags.TheConstants as Tags
 
 -- the fields of page k of `total`, of which the strips begin at `start` and the directory stands at q
 abbrev pub page_fields : ℕ → ℕ → ℕ → ℕ → WrittenPage → List WrittenField

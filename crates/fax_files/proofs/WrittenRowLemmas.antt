@@ -3,7 +3,7 @@ use Rattle.std.proofs.Common.{◌≡◌, ℕ, suc, ◌+◌, ◌<◌, List, [], �
 use Rattle.fax_bits.specs.declared.Colour.{Colour}
 use Rattle.fax_files.specs.declared.Endian.TheVariants.{Little}
 use Rattle.fax_files.specs.declared.PageForm.{PageForm}
-use Rattle.fax_files.specs.StripBytes.{strip_bytes}
+use Rattle.fax_files.specs.Page.{strip_bytes}
 use Rattle.fax_files.specs.laws.Files.{AreStrips}
 use Rattle.fax_files.specs.laws.Files.{AreRowsOf, WrittenRowsAreRead}
 

@@ -1,10 +1,5 @@
-pub mod Numbers
-pub mod Tags
 pub mod Directory
-pub mod Chain
 pub mod Page
-pub mod StripBytes
-pub mod PageRows
 pub mod FaultNames
 pub mod Written
 pub mod Pbm

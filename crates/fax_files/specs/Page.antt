@@ -1,28 +1,28 @@
--- The form of a page, from the fields of its directory.
+-- The form of a page, from the fields of its directory, and the bytes of its strips.
 -- A definition without a citation is this project's profile.
-use Rattle.std.specs.Prelude.{◌≡◌, ◌≤◌, ◌<◌, ℕ, ◌+◌, ◌-◌, ◌/◌, ◌%◌, ◌^◌, ◌≢◌, min, Bool, true}
-use Rattle.std.specs.Prelude.{false, nat_le, nat_lt, ◌==◌, ◌&&◌, ◌||◌, not}
-use Rattle.std.specs.Prelude.{if◌then◌else◌, List, Option, Some, None, Result, Ok}
+use Rattle.std.specs.Prelude.{◌≡◌, ℕ, ◌+◌, ◌-◌, ◌*◌, ◌/◌, ◌%◌, ◌^◌, min, Bool, false, nat_le, nat_lt}
+use Rattle.std.specs.Prelude.{◌==◌, ◌&&◌, ◌||◌, not, if◌then◌else◌, List, take, drop, Option, Some}
+use Rattle.std.specs.Prelude.{None, Result, Ok}
 use Rattle.std.specs.Int.{div_ceil}
 use Rattle.fax_bits.specs.declared.FillOrder.{FillOrder}
 use Rattle.fax_bits.specs.declared.FillOrder.TheVariants.{MsbFirst, LsbFirst}
 use Rattle.fax_page.specs.declared.Coding.{Coding}
 use Rattle.fax_page.specs.declared.Coding.TheVariants.{Mh, Mr, Mmr}
+use Rattle.fax_page.specs.declared.StripForm.{StripForm}
 use Rattle.fax_files.specs.declared.Endian.{Endian}
 use Rattle.fax_files.specs.declared.FileFault.{FileFault}
 use Rattle.fax_files.specs.declared.FileFault.TheVariants.{BadField, Unsupported, OutOfLimits}
 use Rattle.fax_files.specs.declared.PageForm.{PageForm}
-use Rattle.fax_files.specs.Numbers.{check, is_inside, number_at, ◌>>=◌}
-use Rattle.fax_files.specs.Directory.{Entry, RATIONAL, entries, field, values_place, has_integers}
-use Rattle.fax_files.specs.Directory.{needed, needed_scalar, scalar_or}
-use Rattle.fax_files.specs.Tags
+use Rattle.fax_files.specs.declared.tags.TheConstants as Tags
+use Rattle.fax_files.specs.Directory.{Entry, RATIONAL, check, entries, field, has_integers, is_inside}
+use Rattle.fax_files.specs.Directory.{needed, needed_scalar, number_at, scalar_or, value_at}
+use Rattle.fax_files.specs.Directory.{values_place, ◌>>=◌}
 
 -- the number lies between these two
 abbrev pub is_between : ℕ → ℕ → ℕ → Bool
 is_between low high n = nat_le low n && nat_le n high
 
--- a page's width and its rows (TIFF 6.0, ImageWidth and ImageLength, in the limits of this
--- project's profile)
+-- a page's width and its rows (TIFF 6.0, ImageWidth and ImageLength; the limits are ours)
 unfoldable pub page_size : Endian → List ℕ → List Entry → Result (ℕ × ℕ) FileFault
 page_size endian file fields = do
   width ← needed_scalar endian file fields Tags.IMAGE_WIDTH
@@ -31,8 +31,7 @@ page_size endian file fields = do
   _ ← check (is_between 1 1000000 rows) (OutOfLimits Tags.IMAGE_LENGTH)
   Ok (width, rows)
 
--- whether black is coded as white, and white as black: 0 where white is 0, 1 where black is
--- (TIFF 6.0, PhotometricInterpretation)
+-- whether black is coded as white, and white as black (TIFF 6.0, PhotometricInterpretation)
 unfoldable pub are_exchanged : Endian → List ℕ → List Entry → Result Bool FileFault
 are_exchanged endian file fields = do
   number ← needed_scalar endian file fields Tags.PHOTOMETRIC_INTERPRETATION
@@ -46,13 +45,17 @@ fill_order endian file fields = do
   _ ← check ((number == 1) || (number == 2)) (Unsupported Tags.FILL_ORDER)
   Ok (if number == 2 then LsbFirst else MsbFirst)
 
--- how pels are coded (TIFF 6.0, Compression, PhotometricInterpretation and FillOrder)
+-- the number of a fill order (TIFF 6.0, FillOrder)
+abbrev pub fill_order_of : FillOrder → ℕ
+fill_order_of MsbFirst = 1
+fill_order_of LsbFirst = 2
+
+-- how pels are coded: by Compression, one bit for each, either colour as 0, in a fill order
 pub record PelFormat : Type 0 where
   pub compression : ℕ
   pub exchanged : Bool
   pub order : FillOrder
 
--- how pels are coded: by Compression, one bit for each, either colour as 0, in a fill order
 unfoldable pub pel_format : Endian → List ℕ → List Entry → Result PelFormat FileFault
 pel_format endian file fields = do
   bits_per_sample ← scalar_or endian file fields Tags.BITS_PER_SAMPLE 1
@@ -66,7 +69,7 @@ pel_format endian file fields = do
   Ok (record { compression = compression; exchanged = exchanged; order = order })
 
 -- the rows of each strip but the last of a page of so many rows (TIFF 6.0, RowsPerStrip; that 0 is
--- refused, and more than the page's rows means the page's rows, is this project's profile)
+-- refused, and more than the page's rows means all of these, is ours)
 unfoldable pub strip_rows : Endian → List ℕ → List Entry → ℕ → Result ℕ FileFault
 strip_rows endian file fields rows = do
   rows_per_strip ← scalar_or endian file fields Tags.ROWS_PER_STRIP (2 ^ 32 - 1)
@@ -90,8 +93,7 @@ t4_coding endian file fields = do
   options ← scalar_or endian file fields Tags.T4_OPTIONS 0
   Ok (record { coding = if options % 2 == 1 then Mr else Mh; aligned = options / 4 % 2 == 1 })
 
--- how the rows are coded: in MMR where Compression is 4, for which T4Options is not read
--- (TIFF 6.0, Compression)
+-- how the rows are coded: where Compression is 4, T4Options is not read (TIFF 6.0, Compression)
 unfoldable pub page_coding : Endian → List ℕ → List Entry → ℕ → Result RowCoding FileFault
 page_coding endian file fields compression =
     if compression == 4 then (Ok (record { coding = Mmr; aligned = false }))
@@ -104,8 +106,7 @@ strip_field endian file fields tag strips = do
   _ ← check (has_integers endian file entry strips) (BadField tag)
   Ok entry
 
--- the two numbers of an entry's first value, a RATIONAL: numerator and denominator
--- (TIFF 6.0, section 2)
+-- an entry's first value, a RATIONAL: numerator and denominator (TIFF 6.0, section 2)
 abbrev pub rational_at : Endian → List ℕ → Entry → ℕ × ℕ
 rational_at endian file entry =
     let place = values_place endian file entry in
@@ -121,13 +122,12 @@ has_rational endian file entry =
 abbrev pub are_some : ℕ × ℕ → Bool
 are_some value = nat_lt 0 value.0 && nat_lt 0 value.1
 
--- an entry's RATIONAL, where it has a good one
+-- an entry's RATIONAL, and that of a tag, where there is a good one
 unfoldable pub good_rational : Endian → List ℕ → Entry → Option (ℕ × ℕ)
 good_rational endian file entry =
     if has_rational endian file entry && are_some (rational_at endian file entry)
     then (Some (rational_at endian file entry)) else None
 
--- the rational of a tag, where it is there and good
 unfoldable pub rational_of : Endian → List ℕ → List Entry → ℕ → Option (ℕ × ℕ)
 rational_of endian file fields tag =
     elim (field fields tag) [ None ↦ None | Some entry ↦ good_rational endian file entry ]
@@ -149,16 +149,15 @@ resolution_from (Some x) (Some y) (Ok unit) =
     if is_between 1 3 unit then (record { x = x; y = y; unit = unit }) else usual_resolution
 resolution_from _ _ _ = usual_resolution
 
--- a page's resolution (TIFF 6.0, XResolution, YResolution and ResolutionUnit)
+-- a page's resolution: the usual one where a part of its own is not good
 unfoldable pub resolution : Endian → List ℕ → List Entry → Resolution
 resolution endian file fields =
     resolution_from (rational_of endian file fields Tags.X_RESOLUTION)
     (rational_of endian file fields Tags.Y_RESOLUTION)
     (scalar_or endian file fields Tags.RESOLUTION_UNIT 2)
 
--- the form of the page whose directory stands whole at offset q, or its first fault: the fields in
--- the order of this project's profile, each with what stands for it where it is absent, and what is
--- refused
+-- the form of the page whose directory stands whole at offset q, or the first fault of its fields in
+-- this order
 unfoldable pub page : Endian → List ℕ → ℕ → Result PageForm FileFault
 page endian file q = do
   let fields = entries endian file q
@@ -184,24 +183,30 @@ page endian file q = do
     unit = found.unit;
   })
 
--- a rational with numerator and denominator above 0, of 32 bits each (TIFF 6.0, section 2)
-pub record IsGoodRational (value : ℕ × ℕ) : Type 0 where
-  pub some_top : 1 ≤ value.0
-  pub top : value.0 < 4294967296
-  pub some_bottom : 1 ≤ value.1
-  pub bottom : value.1 < 4294967296
+-- the bytes of a length at an offset, where they lie in the file
+abbrev pub bytes_at : List ℕ → ℕ → ℕ → Option (List ℕ)
+bytes_at file offset len =
+    if is_inside file offset len then (Some (take len (drop offset file))) else None
 
--- the limits of a page's form; EOLs are aligned only where rows have them
-pub record IsPageForm (form : PageForm) : Type 0 where
-  pub some_width : 1 ≤ form.width
-  pub width : form.width ≤ 65535
-  pub some_rows : 1 ≤ form.rows
-  pub rows : form.rows ≤ 1000000
-  pub some_rows_per_strip : 1 ≤ form.rows_per_strip
-  pub rows_per_strip : form.rows_per_strip ≤ form.rows
-  pub strips : form.strips ≡ strip_count form.rows form.rows_per_strip
-  pub x : IsGoodRational form.x
-  pub y : IsGoodRational form.y
-  pub some_unit : 1 ≤ form.unit
-  pub unit : form.unit ≤ 3
-  pub aligned : form.aligned ≡ true → form.coding ≢ Mmr
+-- the bytes of strip s, where there are entries for the strips' offsets and byte counts
+abbrev pub placed_bytes : Endian → List ℕ → Option Entry → Option Entry → ℕ → Option (List ℕ)
+placed_bytes endian file (Some offsets) (Some counts) s =
+    bytes_at file (value_at endian file offsets s) (value_at endian file counts s)
+placed_bytes endian file _ _ s = None
+
+-- the bytes of strip s of the page whose directory stands at q, where they lie in the file
+-- (TIFF 6.0, StripOffsets and StripByteCounts)
+unfoldable pub strip_bytes : Endian → List ℕ → ℕ → ℕ → Option (List ℕ)
+strip_bytes endian file q s =
+    placed_bytes endian file (field (entries endian file q) Tags.STRIP_OFFSETS)
+    (field (entries endian file q) Tags.STRIP_BYTE_COUNTS) s
+
+-- the form of strip s: it holds the page's rows from s * rows_per_strip on (TIFF 6.0, RowsPerStrip)
+abbrev pub strip_form : PageForm → ℕ → StripForm
+strip_form form s = record {
+  coding = form.coding;
+  order = form.order;
+  width = form.width;
+  rows = min form.rows_per_strip (form.rows - s * form.rows_per_strip);
+  aligned = form.aligned;
+}

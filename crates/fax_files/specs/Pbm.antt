@@ -107,6 +107,12 @@ IsImageFault bytes ShortRaster =
     × IsTrue (is_within_limits width height)
     × (length rest < raster_len width height)
 
+-- the name of an image's fault
+abbrev pub pbm_fault_name : PbmFault → List ℕ
+pbm_fault_name BadHeader = codes "BadHeader"
+pbm_fault_name OutOfLimits = codes "OutOfLimits"
+pbm_fault_name ShortRaster = codes "ShortRaster"
+
 -- the bytes are these images, and the end is none, or the fault of the image that would be next
 -- (the netpbm format, P4, in this project's profile)
 abbrev pub AreImages : List ℕ → List Image → Option PbmFault → Type 0

@@ -3,17 +3,12 @@
 use Rattle.std.specs.Prelude.{ℕ, ◌+◌, ◌*◌, ◌%◌, Bool, if◌then◌else◌, List, [], ◌∷◌, ◌++◌, length}
 use Rattle.std.specs.Prelude.{take, drop, replicate, flat_map, codes}
 use Rattle.byteorder.specs.Endian.{little_bytes}
-use Rattle.fax_bits.specs.declared.FillOrder.{FillOrder}
-use Rattle.fax_bits.specs.declared.FillOrder.TheVariants.{MsbFirst, LsbFirst}
 use Rattle.fax_page.specs.declared.Coding.{Coding}
 use Rattle.fax_page.specs.declared.Coding.TheVariants.{Mh, Mr, Mmr}
 use Rattle.fax_files.specs.Directory.{SHORT, LONG, RATIONAL}
-use Rattle.fax_files.specs.Tags
+use Rattle.fax_files.specs.Page.{fill_order_of}
+use Rattle.fax_files.specs.declared.tags.TheConstants as Tags
 use Rattle.fax_files.specs.declared.PageForm.{PageForm}
-
--- the most bytes of a file that is written
-abbrev pub max_file : ℕ
-max_file = 268435456
 
 -- numbers of two and of four bytes, all little-endian
 abbrev pub two : ℕ → List ℕ
@@ -50,10 +45,6 @@ abbrev pub compression_of : Coding → ℕ
 compression_of Mh = 3
 compression_of Mr = 3
 compression_of Mmr = 4
-
-abbrev pub fill_order_of : FillOrder → ℕ
-fill_order_of MsbFirst = 1
-fill_order_of LsbFirst = 2
 
 -- T4Options for MH and MR, with bit 2 where EOLs are aligned, T6Options for MMR
 abbrev pub options_field : Coding → Bool → WrittenField

@@ -3,3 +3,4 @@ pub mod Fields
 pub mod Pbm
 pub mod Tiff
 pub mod Writing
+pub mod Page

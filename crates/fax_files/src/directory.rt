@@ -3,7 +3,7 @@
 ghost use Rattle.std.specs.Prelude.{◌≡◌, ◌+◌, ◌*◌, ◌<◌, ◌≤◌, length, Ok, IfOk};
 ghost use Rattle.fax_files.specs.Directory as Spec;
 ghost use Rattle.fax_files.specs.code.Fields as Code;
-ghost use Rattle.fax_files.specs.Page.{IsPageForm};
+ghost use Rattle.fax_files.specs.views.Page.{IsPageForm};
 ghost use Rattle.fax_files.specs.code.Fields.{AreFieldsOf};
 ghost use Rattle.fax_files.specs.views.Fields.{entries_of};
 ghost use Rattle.fax_files.specs.views.Tiff.{form_of};

@@ -2,7 +2,8 @@
 
 ghost use Rattle.std.specs.Prelude.{◌≡◌, ◌+◌, ◌≤◌, length, IsTrue, IfSome};
 ghost use Rattle.fax_files.specs.Directory as Spec;
-ghost use Rattle.fax_files.specs.Page.{good_rational, IsGoodRational};
+ghost use Rattle.fax_files.specs.Page.{good_rational};
+ghost use Rattle.fax_files.specs.views.Page.{IsGoodRational};
 
 use crate::FileFault;
 use crate::numbers::{File, is_inside};

@@ -2,7 +2,8 @@
 
 ghost use Rattle.std.specs.Prelude.{◌≡◌, ◌+◌, ◌≤◌, length, IsTrue, IfOk, IfSome, List, [], ◌∷◌};
 ghost use Rattle.fax_files.specs.Directory as Spec;
-ghost use Rattle.fax_files.specs.Page.{rational_of, IsGoodRational};
+ghost use Rattle.fax_files.specs.Page.{rational_of};
+ghost use Rattle.fax_files.specs.views.Page.{IsGoodRational};
 ghost use Rattle.fax_files.specs.code.Fields.{is_sought};
 ghost use Rattle.fax_files.specs.views.Fields.{entries_of};
 

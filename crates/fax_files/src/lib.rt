@@ -184,8 +184,8 @@ pub struct PageForm {
 impl PageForm {
     ghost use Rattle.std.specs.Prelude.{◌*◌, ◌<◌};
     ghost use Rattle.fax_page.specs.views.Strip.{IsStripForm};
-    ghost use Rattle.fax_files.specs.Page.{IsPageForm};
-    ghost use Rattle.fax_files.specs.PageRows.{strip_form as form_of_strip};
+    ghost use Rattle.fax_files.specs.views.Page.{IsPageForm};
+    ghost use Rattle.fax_files.specs.Page.{strip_form as form_of_strip};
 
     /// The form of strip `s`, from 0, which holds the page's rows from `s * rows_per_strip` on
     /// (TIFF 6.0, RowsPerStrip).

@@ -1,7 +1,7 @@
 //! Numbers in a file (TIFF 6.0, section 2).
 
 ghost use Rattle.std.specs.Prelude.{◌≡◌, ◌+◌, ◌≤◌, length};
-ghost use Rattle.fax_files.specs.Numbers.{is_inside as lies_inside, number_at};
+ghost use Rattle.fax_files.specs.Directory.{is_inside as lies_inside, number_at};
 
 use crate::Endian;
 use byteorder::{BigEndian, ByteOrder, LittleEndian};
@@ -22,7 +22,7 @@ pub(crate) fn is_inside(file: &[u8], place: usize, len: usize) -> bool
 
 impl<'a> File<'a> {
     /// The number of two bytes at a place.
-    #[tactic(auto, unfolding(crate::specs::Numbers::number_at))]
+    #[tactic(auto, unfolding(crate::specs::Directory::number_at))]
     pub fn u16_at(&self, place: usize) -> u16
         requires { place + 2 ≤ length self.now.bytes.now }
         ensures { result ≡ number_at self.now.endian 2 self.now.bytes.now place }
@@ -35,7 +35,7 @@ impl<'a> File<'a> {
     }
 
     /// The number of four bytes at a place.
-    #[tactic(auto, unfolding(crate::specs::Numbers::number_at))]
+    #[tactic(auto, unfolding(crate::specs::Directory::number_at))]
     pub fn u32_at(&self, place: usize) -> u32
         requires { place + 4 ≤ length self.now.bytes.now }
         ensures { result ≡ number_at self.now.endian 4 self.now.bytes.now place }

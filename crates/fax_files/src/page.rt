@@ -5,6 +5,7 @@ ghost use Rattle.std.specs.Prelude.{IfErr};
 ghost use Rattle.fax_page.specs.declared.Coding.TheVariants.{Mmr};
 ghost use Rattle.fax_files.specs.Directory as Entries;
 ghost use Rattle.fax_files.specs.Page as Spec;
+ghost use Rattle.fax_files.specs.views.Page.{IsGoodRational, IsPageForm};
 ghost use Rattle.fax_files.specs.views.Fields.{entries_of};
 ghost use Rattle.fax_files.specs.code.Fields.{is_sought};
 ghost use Rattle.fax_files.specs.views.Tiff.{form_of};
@@ -88,7 +89,7 @@ impl Model for Resolution {
 pub(crate) fn read_page<'a>(fields: &Fields<'_, 'a>) -> Result<(PageForm, Strips<'a>), FileFault>
     ensures form { IfOk result (λ page. form_of fields.now ≡ Ok page.0) }
     ensures fault { IfErr result (λ fault. form_of fields.now ≡ Err fault) }
-    ensures limits { IfOk result (λ page. Spec.IsPageForm page.0) }
+    ensures limits { IfOk result (λ page. IsPageForm page.0) }
     ensures directory { IfOk result (λ page. page.1.directory ≡ fields.now) }
     ensures count { IfOk result (λ page. page.1.count ≡ page.0.strips) }
 {
@@ -237,8 +238,8 @@ fn page_coding(fields: &Fields, compression: u32) -> Result<RowCoding, FileFault
 fn page_resolution(fields: &Fields) -> Resolution
     ensures exact { result
         ≡ Spec.resolution fields.now.endian fields.now.file (entries_of fields.now) }
-    ensures x { Spec.IsGoodRational result.x }
-    ensures y { Spec.IsGoodRational result.y }
+    ensures x { IsGoodRational result.x }
+    ensures y { IsGoodRational result.y }
     ensures some_unit { 1 ≤ result.unit }
     ensures unit { result.unit ≤ 3 }
 {

@@ -34,7 +34,7 @@ pub enum PbmFault {
 }
 
 impl PbmFault {
-    ghost use Rattle.fax_files.specs.FaultNames.{pbm_fault_name};
+    ghost use Rattle.fax_files.specs.Pbm.{pbm_fault_name};
 
     /// The fault's name.
     pub fn name(self) -> &'static str

@@ -3,7 +3,7 @@
 ghost use Rattle.std.specs.Prelude.{◌≡◌, ◌≤◌, ◌<◌, length, Ok, Err, Some, None};
 ghost use Rattle.std.specs.Prelude.{IsTrue, IsFalse, IfOk, IfErr, OnOk, OnErr};
 ghost use Rattle.fax_files.specs.declared.FileFault.TheVariants.{DirectoryOutside, StripOutside};
-ghost use Rattle.fax_files.specs.Numbers.{header};
+ghost use Rattle.fax_files.specs.Directory.{header};
 ghost use Rattle.fax_files.specs.views.Tiff.{bytes_of, directory_of, form_of, has_directory};
 
 use crate::directory::{Directory, entry_count};
@@ -31,7 +31,7 @@ impl<'a> Model for Tiff<'a> {
 
 impl<'a> Tiff<'a> {
     /// Reads a file's header, or gives its first fault (TIFF 6.0, section 2).
-    #[tactic(auto, unfolding(crate::specs::Numbers::header))]
+    #[tactic(auto, unfolding(crate::specs::Directory::header))]
     pub fn read_header(file: &'a [u8]) -> Result<Self, FileFault>
         ensures head { IfOk result (λ tiff. header file.now ≡ Ok tiff.head) }
         ensures file { IfOk result (λ tiff. tiff.file ≡ file.now) }

@@ -1,8 +1,8 @@
 //! TIFF files, written page by page.
 
 ghost use Rattle.std.specs.Prelude.{◌≡◌, ◌+◌, ◌<◌, ◌≤◌, length, false, IfOk, OnOk, OnErr, Err, ◌↔◌};
-ghost use Rattle.fax_files.specs.Page.{IsPageForm};
-ghost use Rattle.fax_files.specs.Written.{max_file};
+ghost use Rattle.fax_files.specs.views.Page.{IsPageForm};
+ghost use Rattle.fax_files.specs.Directory.{max_file};
 ghost use Rattle.fax_files.specs.views.Writing as Spec;
 
 use crate::PageForm;

@@ -3,8 +3,9 @@
 ghost use Rattle.std.specs.Prelude.{◌≡◌, ◌+◌, ◌%◌, ◌<◌, ◌≤◌, ◌++◌, length, take, IfOk, OnOk, OnErr};
 ghost use Rattle.std.specs.Prelude.{IfSome};
 ghost use Rattle.std.specs.Option.{IfNone};
+ghost use Rattle.fax_files.specs.Page.{fill_order_of};
 ghost use Rattle.fax_files.specs.Written as Spec;
-ghost use Rattle.fax_files.specs.Written.{max_file};
+ghost use Rattle.fax_files.specs.Directory.{max_file};
 ghost use Rattle.fax_files.specs.code.Writing.{IsLayout, laid_out_fields, tail_bytes};
 ghost use Rattle.fax_files.specs.views.Writing.{contents};
 ghost use Rattle.fax_files.specs.code.Writing.{page_end as end_of_page};
@@ -143,7 +144,7 @@ fn compression(coding: Coding) -> u16
 
 /// The number of a fill order in FillOrder.
 fn fill_order(order: FillOrder) -> u16
-    ensures { result ≡ Spec.fill_order_of order }
+    ensures { result ≡ fill_order_of order }
 {
     match order {
         FillOrder::MsbFirst => 1,

@@ -12,7 +12,7 @@ use Rattle.fax_bits.specs.declared.Memory.{Memory as NoMemory}
 use Rattle.fax_rows.specs.Rows.{runs_of}
 use Rattle.fax_files.specs.declared.PageForm.{PageForm}
 use Rattle.fax_files.specs.laws.Files.{FilesHaveOneChain}
-use Rattle.fax_files.specs.StripBytes.{strip_bytes}
+use Rattle.fax_files.specs.Page.{strip_bytes}
 use Rattle.fax_walk.specs.declared.begun.Begun.{Begun}
 use Rattle.fax_walk.specs.declared.begun.Begun.TheVariants.{At}
 use Rattle.fax_walk.specs.declared.cursor.Cursor.{Cursor}

@@ -8,8 +8,9 @@ use Rattle.fax_page.specs.declared.Coding.TheVariants.{Mh, Mr, Mmr}
 use Rattle.fax_files.specs.declared.Cause.{Cause}
 use Rattle.fax_files.specs.declared.PageForm.{PageForm}
 use Rattle.fax_files.specs.declared.pbm.PbmFault.{PbmFault}
-use Rattle.fax_files.specs.FaultNames.{fault_name, fault_tag, pbm_fault_name}
-use Rattle.fax_files.specs.Written.{fill_order_of}
+use Rattle.fax_files.specs.FaultNames.{fault_name, fault_tag}
+use Rattle.fax_files.specs.Pbm.{pbm_fault_name}
+use Rattle.fax_files.specs.Page.{fill_order_of}
 use Rattle.fax_walk.specs.declared.begun.Begun.{Begun}
 use Rattle.fax_walk.specs.declared.begun.Begun.TheVariants.{At, Inside}
 use Rattle.fax_walk.specs.declared.cursor.Cursor.{Cursor}

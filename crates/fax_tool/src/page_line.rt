@@ -1,7 +1,7 @@
 //! The line of a page.
 ghost use Rattle.std.specs.Prelude.{◌≡◌, ◌++◌, ◌+◌, ◌≤◌, OnErr, OnOk};
 ghost use Rattle.arrayvec.specs.ArrayString.{array_string_len};
-ghost use Rattle.fax_files.specs.Written.{fill_order_of};
+ghost use Rattle.fax_files.specs.Page.{fill_order_of};
 ghost use Rattle.fax_tool.specs.Text.{and_coding, and_fraction, page_line_of};
 
 use crate::collected::Collected;

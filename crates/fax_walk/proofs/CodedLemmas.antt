@@ -15,8 +15,8 @@ use Rattle.fax_page.specs.declared.Coding.TheVariants.{Mmr}
 use Rattle.fax_page.specs.laws.Strips.{AreRowsOf as HasShape}
 use Rattle.fax_page.specs.laws.Strips.{CodedStripsAreRead}
 use Rattle.fax_files.specs.declared.PageForm.{PageForm}
-use Rattle.fax_files.specs.Page.{IsPageForm}
-use Rattle.fax_files.specs.PageRows.{strip_form}
+use Rattle.fax_files.specs.views.Page.{IsPageForm}
+use Rattle.fax_files.specs.Page.{strip_form}
 use Rattle.fax_files.specs.laws.Files.{joined}
 use Rattle.fax_files.specs.Pbm.{is_within_limits}
 use Rattle.fax_files.specs.laws.Pbm.{AreOfWidth}

@@ -7,10 +7,9 @@ use Rattle.std.proofs.lemmas.Option.{slice_get_past, slice_get_cases, slice_get_
 use Rattle.fax_files.specs.declared.FileFault.{FileFault}
 use Rattle.fax_files.specs.declared.Cause.TheVariants.{File}
 use Rattle.fax_files.specs.declared.PageForm.{PageForm}
-use Rattle.fax_files.specs.Numbers.{header}
-use Rattle.fax_files.specs.Chain.{IsChain}
+use Rattle.fax_files.specs.Directory.{header, IsChain}
 use Rattle.fax_files.specs.laws.Files.{HasOneChain, FilesHaveOneChain}
-use Rattle.fax_files.specs.Page.{IsPageForm}
+use Rattle.fax_files.specs.views.Page.{IsPageForm}
 use Rattle.fax_files.specs.views.Chain.{ChainState, IsDueAnswer, behind_answer}
 use Rattle.fax_files.specs.views.Tiff.{TiffDirectory, directory_of, form_of}
 use Rattle.fax_walk.specs.declared.cursor.Cursor.{Cursor}

@@ -12,9 +12,8 @@ use Rattle.fax_files.specs.declared.FileFault.{FileFault}
 use Rattle.fax_files.specs.declared.FileFault.TheVariants.{ShortHeader, Magic, NoDirectory, DirectoryOutside}
 use Rattle.fax_files.specs.declared.PageForm.{PageForm}
 use Rattle.fax_files.specs.declared.Endian.{Endian}
-use Rattle.fax_files.specs.Numbers.{Header, header, check, ◌>>=◌, number_at, is_inside}
-use Rattle.fax_files.specs.Directory.{is_directory}
-use Rattle.fax_files.specs.Chain.{IsChain}
+use Rattle.fax_files.specs.Directory.{Header, header, check, ◌>>=◌, number_at, is_inside}
+use Rattle.fax_files.specs.Directory.{is_directory, IsChain}
 use Rattle.fax_files.specs.Page.{page}
 use Rattle.fax_files.specs.laws.Files.{FilesHaveOneChain, FormsAreWhole}
 use Rattle.fax_walk.specs.declared.cursor.Cursor.{Cursor}

@@ -11,8 +11,8 @@ use Rattle.fax_page.specs.CodedStrip.{coded_strip}
 use Rattle.fax_page.specs.views.Writer.{WriterState, PutsRow, FinishesAs, writer_beginning}
 use Rattle.fax_page.specs.laws.Writer.{HasPut, WritesRowByRow}
 use Rattle.fax_files.specs.declared.PageForm.{PageForm}
-use Rattle.fax_files.specs.Page.{IsPageForm}
-use Rattle.fax_files.specs.PageRows.{strip_form}
+use Rattle.fax_files.specs.views.Page.{IsPageForm}
+use Rattle.fax_files.specs.Page.{strip_form}
 use Rattle.fax_files.specs.views.Writing.{contents}
 use Rattle.fax_walk.specs.declared.open_strips.OpenStrips.{OpenStrips}
 use Rattle.fax_walk.specs.Converted.{strips_of, coded_strips}

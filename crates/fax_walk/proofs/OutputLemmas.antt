@@ -18,8 +18,10 @@ use Rattle.fax_page.specs.views.Writer.{WriterState}
 use Rattle.fax_files.specs.declared.PageForm.{PageForm}
 use Rattle.fax_files.specs.Pbm.{Image, head_bytes, image_bytes, pbm_of}
 use Rattle.fax_files.specs.laws.Pbm.{AreOfWidth}
-use Rattle.fax_files.specs.Written.{Written, WrittenPage, empty_file, four, with_four_at, page_bytes, directory_place, max_file}
-use Rattle.fax_files.specs.Written.{with_page as with_tiff_page, with_pages, file_of}
+use Rattle.fax_files.specs.Written.{Written, WrittenPage, empty_file, four, with_four_at}
+use Rattle.fax_files.specs.Written.{page_bytes, directory_place, with_page as with_tiff_page}
+use Rattle.fax_files.specs.Written.{with_pages, file_of}
+use Rattle.fax_files.specs.Directory.{max_file}
 use Rattle.fax_files.specs.views.Writing.{Writing, with_one_more, length_with, contents}
 use Rattle.fax_walk.specs.declared.options.Options.{Options}
 use Rattle.fax_walk.specs.declared.options.Target.{Target}

@@ -8,9 +8,8 @@ use Rattle.fax_files.specs.declared.FileFault.{FileFault}
 use Rattle.fax_files.specs.declared.Cause.{Cause}
 use Rattle.fax_files.specs.declared.Cause.TheVariants.{File}
 use Rattle.fax_files.specs.declared.PageForm.{PageForm}
-use Rattle.fax_files.specs.Chain.{IsChain}
+use Rattle.fax_files.specs.Directory.{IsChain, header}
 use Rattle.fax_files.specs.laws.Files.{IsWholeForm}
-use Rattle.fax_files.specs.Numbers.{header}
 use Rattle.fax_files.specs.views.Tiff.{TiffFile, TiffDirectory, directory_of, form_of}
 use Rattle.fax_walk.specs.declared.checking.Note.{Note}
 use Rattle.fax_walk.specs.declared.checking.PageRead.{PageRead}

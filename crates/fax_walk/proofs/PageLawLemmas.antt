@@ -6,8 +6,7 @@ use Rattle.std.proofs.lemmas.Bool.Decides.{nat_tests}
 use Rattle.fax_files.specs.declared.FileFault.{FileFault}
 use Rattle.fax_files.specs.declared.Cause.TheVariants.{File}
 use Rattle.fax_files.specs.declared.PageForm.{PageForm}
-use Rattle.fax_files.specs.Numbers.{Header, header}
-use Rattle.fax_files.specs.Chain.{IsChain}
+use Rattle.fax_files.specs.Directory.{Header, header, IsChain}
 use Rattle.fax_files.specs.Page.{page}
 use Rattle.fax_files.specs.laws.Files.{FilesHaveOneChain}
 use Rattle.fax_walk.specs.declared.cursor.Cursor.{Cursor}

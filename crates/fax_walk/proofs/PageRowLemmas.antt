@@ -10,7 +10,7 @@ use Rattle.fax_rows.specs.Rows.{other}
 use Rattle.fax_files.specs.declared.PageForm.{PageForm}
 use Rattle.fax_files.specs.declared.Endian.{Endian}
 use Rattle.fax_files.specs.laws.Files.{AreStrips, joined, shown}
-use Rattle.fax_files.specs.PageRows.{strip_form}
+use Rattle.fax_files.specs.Page.{strip_form}
 use Rattle.fax_files.specs.laws.Files.{IsWholeForm}
 use Rattle.fax_walk.specs.laws.InOrder.{LeadTo}
 use Rattle.fax_walk.specs.Pages.{IsPageAt}

@@ -18,11 +18,8 @@ use Rattle.fax_files.specs.declared.FileFault.{FileFault}
 use Rattle.fax_files.specs.declared.FileFault.TheVariants.{StripOutside}
 use Rattle.fax_files.specs.declared.Cause.TheVariants.{File, Strip}
 use Rattle.fax_files.specs.declared.PageForm.{PageForm}
-use Rattle.fax_files.specs.Numbers.{Header, header}
-use Rattle.fax_files.specs.Chain.{IsChain}
-use Rattle.fax_files.specs.Page.{page}
-use Rattle.fax_files.specs.PageRows.{strip_form}
-use Rattle.fax_files.specs.StripBytes.{strip_bytes}
+use Rattle.fax_files.specs.Directory.{Header, header, IsChain}
+use Rattle.fax_files.specs.Page.{page, strip_form, strip_bytes}
 use Rattle.fax_files.specs.laws.Files.{FilesHaveOneChain}
 use Rattle.fax_walk.specs.declared.begun.Begun.{Begun}
 use Rattle.fax_walk.specs.declared.begun.Begun.TheVariants.{At, Inside}

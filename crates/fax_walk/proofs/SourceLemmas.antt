@@ -12,7 +12,7 @@ use Rattle.fax_files.specs.declared.Cause.{Cause}
 use Rattle.fax_files.specs.declared.Cause.TheVariants.{File, Strip}
 use Rattle.fax_files.specs.declared.PageForm.{PageForm}
 use Rattle.fax_files.specs.declared.Endian.{Endian}
-use Rattle.fax_files.specs.StripBytes.{strip_bytes}
+use Rattle.fax_files.specs.Page.{strip_bytes}
 use Rattle.fax_files.specs.laws.Files.{IsWholeForm}
 use Rattle.fax_walk.specs.declared.end.End.{End}
 use Rattle.fax_walk.specs.declared.end.End.TheVariants.{Fault}

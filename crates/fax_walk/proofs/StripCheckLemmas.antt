@@ -20,7 +20,7 @@ use Rattle.fax_files.specs.declared.Cause.TheVariants.{File, Strip}
 use Rattle.fax_files.specs.declared.FileFault.TheVariants.{StripOutside}
 use Rattle.fax_files.specs.declared.PageForm.{PageForm}
 use Rattle.fax_files.specs.laws.Files.{IsWholeForm}
-use Rattle.fax_files.specs.PageRows.{strip_form}
+use Rattle.fax_files.specs.Page.{strip_form}
 use Rattle.fax_files.specs.laws.Files.{shown}
 use Rattle.fax_files.specs.views.Tiff.{TiffDirectory, bytes_of, form_of}
 use Rattle.fax_walk.specs.declared.checking.Note.{Note}

@@ -15,9 +15,8 @@ use Rattle.fax_page.specs.Strip.{AreLines, IsStrip}
 use Rattle.fax_files.specs.declared.Cause.TheVariants.{Strip}
 use Rattle.fax_files.specs.declared.PageForm.{PageForm}
 use Rattle.fax_files.specs.declared.Endian.{Endian}
-use Rattle.fax_files.specs.PageRows.{strip_form}
+use Rattle.fax_files.specs.Page.{strip_form, strip_bytes}
 use Rattle.fax_files.specs.laws.Files.{shown}
-use Rattle.fax_files.specs.StripBytes.{strip_bytes}
 use Rattle.fax_files.specs.laws.Files.{IsWholeForm}
 use Rattle.fax_walk.specs.declared.end.End.{End}
 use Rattle.fax_walk.specs.declared.end.End.TheVariants.{Fault}

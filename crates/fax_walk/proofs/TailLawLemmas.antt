@@ -16,9 +16,8 @@ use Rattle.fax_files.specs.declared.FileFault.TheVariants.{StripOutside}
 use Rattle.fax_files.specs.declared.Cause.TheVariants.{File}
 use Rattle.fax_files.specs.declared.PageForm.{PageForm}
 use Rattle.fax_files.specs.declared.Endian.{Endian}
-use Rattle.fax_files.specs.Numbers.{Header, header}
-use Rattle.fax_files.specs.Page.{page}
-use Rattle.fax_files.specs.StripBytes.{strip_bytes}
+use Rattle.fax_files.specs.Directory.{Header, header}
+use Rattle.fax_files.specs.Page.{page, strip_bytes}
 use Rattle.fax_files.specs.laws.Files.{FilesHaveOneChain, IsWholeForm, FormsAreWhole}
 use Rattle.fax_walk.specs.declared.begun.Begun.{Begun}
 use Rattle.fax_walk.specs.declared.begun.Begun.TheVariants.{At, Inside}

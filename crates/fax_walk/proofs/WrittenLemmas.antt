@@ -5,8 +5,7 @@ use Rattle.std.specs.List.{AllZip}
 use Rattle.fax_bits.specs.declared.Colour.{Colour}
 use Rattle.fax_bits.specs.laws.Codes.{AreBitsByPlace}
 use Rattle.fax_files.specs.declared.Endian.TheVariants.{Little}
-use Rattle.fax_files.specs.Numbers.{Header, header}
-use Rattle.fax_files.specs.Chain.{IsChain}
+use Rattle.fax_files.specs.Directory.{Header, header, IsChain}
 use Rattle.fax_files.specs.laws.Files.{ArePageRows}
 use Rattle.fax_files.specs.Written.{WrittenPage, file_of}
 use Rattle.fax_files.specs.laws.Files.{IsWritable, AreWritable, IsReadAt, WrittenFilesAreRead, WrittenRowsAreRead, FormsAreWhole}

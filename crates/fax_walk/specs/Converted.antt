@@ -9,9 +9,9 @@ use Rattle.fax_page.specs.CodedStrip.{coded_strip}
 use Rattle.fax_files.specs.declared.Cause.{Cause}
 use Rattle.fax_files.specs.declared.pbm.PbmFault.{PbmFault}
 use Rattle.fax_files.specs.declared.PageForm.{PageForm}
-use Rattle.fax_files.specs.Page.{Resolution, usual_resolution, strip_count}
-use Rattle.fax_files.specs.PageRows.{strip_form}
-use Rattle.fax_files.specs.Written.{WrittenPage, file_of, max_file}
+use Rattle.fax_files.specs.Page.{Resolution, usual_resolution, strip_count, strip_form}
+use Rattle.fax_files.specs.Written.{WrittenPage, file_of}
+use Rattle.fax_files.specs.Directory.{max_file}
 use Rattle.fax_files.specs.Pbm.{Image, AreImages, pbm_of}
 use Rattle.fax_walk.specs.declared.options.Options.{Options}
 use Rattle.fax_walk.specs.declared.options.Target.{Target}

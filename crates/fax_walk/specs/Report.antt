@@ -14,8 +14,7 @@ use Rattle.fax_files.specs.declared.Cause.TheVariants.{File, Strip}
 use Rattle.fax_files.specs.declared.PageForm.{PageForm}
 use Rattle.fax_files.specs.declared.Endian.{Endian}
 use Rattle.fax_files.specs.Directory.{entries, ascend}
-use Rattle.fax_files.specs.PageRows.{strip_form}
-use Rattle.fax_files.specs.StripBytes.{strip_bytes}
+use Rattle.fax_files.specs.Page.{strip_form, strip_bytes}
 use Rattle.fax_walk.specs.declared.checking.Note.{Note}
 use Rattle.fax_walk.specs.declared.checking.NoteKind.{NoteKind}
 use Rattle.fax_walk.specs.declared.checking.NoteKind.TheVariants.{NoEndOfBlock, ReturnToControl}

@@ -1,7 +1,7 @@
 //! A file that is read wholly for what is worth a note in it.
 ghost use Rattle.std.specs.Prelude.{◌≡◌, ◌++◌, IfOk, OnOk, Ok};
-ghost use Rattle.fax_files.specs.Numbers.{header};
-ghost use Rattle.fax_files.specs.Page.{IsPageForm};
+ghost use Rattle.fax_files.specs.Directory.{header};
+ghost use Rattle.fax_files.specs.views.Page.{IsPageForm};
 ghost use Rattle.fax_files.specs.views.Tiff.{form_of};
 ghost use Rattle.fax_walk.specs.Report as Spec;
 ghost use Rattle.fax_walk.specs.code.Check as Code;

@@ -1,7 +1,7 @@
 //! The strips of a page that is being written.
 ghost use Rattle.std.specs.Prelude.{◌≡◌, ◌<◌, ◌++◌, [], ◌∷◌, List, length, OnOk};
 ghost use Rattle.fax_bits.specs.declared.Colour.{Colour};
-ghost use Rattle.fax_files.specs.Page.{IsPageForm};
+ghost use Rattle.fax_files.specs.views.Page.{IsPageForm};
 ghost use Rattle.fax_walk.specs.code.OpenStrips as Spec;
 
 use fax_bits::Memory;

@@ -1,6 +1,6 @@
 //! The pages of a file, from its header and its chain of directories on.
 ghost use Rattle.std.specs.Prelude.{◌≡◌, ◌+◌, ◌<◌, ◌≤◌, List, [], IfErr, IfOk, OnErr, OnOk};
-ghost use Rattle.fax_files.specs.Numbers.{header};
+ghost use Rattle.fax_files.specs.Directory.{header};
 ghost use Rattle.fax_walk.specs.code.Opening as Spec;
 
 use crate::{Cursor, End};

@@ -2,7 +2,7 @@
 ghost use Rattle.std.specs.Prelude.{◌≡◌, ◌*◌, ◌<◌, ◌≤◌, false, length, true, IfErr, IfOk};
 ghost use Rattle.std.specs.Prelude.{OnErr, OnOk, Err};
 ghost use Rattle.fax_page.specs.views.Strip.{IsStripForm};
-ghost use Rattle.fax_files.specs.Page.{IsPageForm};
+ghost use Rattle.fax_files.specs.views.Page.{IsPageForm};
 ghost use Rattle.fax_walk.specs.Rows.{IsRow, exchanged, first_at, inner_at, long_at, row_in_strip};
 ghost use Rattle.fax_walk.specs.Rows.{strip_at, IsInnerOn};
 ghost use Rattle.fax_walk.specs.code.Opening.{IsFileChain, page_with};

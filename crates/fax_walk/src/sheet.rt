@@ -1,6 +1,6 @@
 //! The size and the resolution of a page that is converted.
 ghost use Rattle.std.specs.Prelude.{◌≡◌, ◌≢◌, true};
-ghost use Rattle.fax_files.specs.Page.{IsPageForm};
+ghost use Rattle.fax_files.specs.views.Page.{IsPageForm};
 ghost use Rattle.fax_walk.specs.code.Output as Spec;
 
 use crate::options::Options;

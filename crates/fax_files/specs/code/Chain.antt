@@ -7,8 +7,7 @@ use Rattle.fax_files.specs.declared.FileFault.{FileFault}
 use Rattle.fax_files.specs.declared.FileFault.TheVariants.{DirectoryLoop}
 use Rattle.fax_files.specs.declared.chain.Search.{Search}
 use Rattle.fax_files.specs.declared.chain.Search.TheVariants.{Running, Known}
-use Rattle.fax_files.specs.Directory.{is_directory, next_offset}
-use Rattle.fax_files.specs.Chain.{IsChain}
+use Rattle.fax_files.specs.Directory.{is_directory, next_offset, IsChain}
 use Rattle.fax_files.specs.views.Tiff.{TiffFile, TiffDirectory, directory_of}
 
 -- the offset that stands i places after this one, directory by directory

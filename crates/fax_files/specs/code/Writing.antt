@@ -4,11 +4,11 @@ use Rattle.std.specs.Prelude.{◌++◌, length, replicate, Vec}
 use Rattle.std.specs.declared.alloc.Global.{Global}
 use Rattle.fax_files.specs.declared.PageForm.{PageForm}
 use Rattle.fax_files.specs.declared.written.Layout.{Layout}
-use Rattle.fax_files.specs.Tags
-use Rattle.fax_files.specs.Written.{Written, with_page, max_file, to_offsets, four, long_field}
-use Rattle.fax_files.specs.Written.{WrittenPage, with_pages, empty_file, file_of}
-use Rattle.fax_files.specs.Written.{WrittenField, fields_with, fields_bytes, values_bytes}
-use Rattle.fax_files.specs.Written.{offsets_from, lengths_of}
+use Rattle.fax_files.specs.declared.tags.TheConstants as Tags
+use Rattle.fax_files.specs.Written.{Written, with_page, to_offsets, four, long_field, WrittenPage}
+use Rattle.fax_files.specs.Written.{with_pages, empty_file, file_of, WrittenField, fields_with}
+use Rattle.fax_files.specs.Written.{fields_bytes, values_bytes, offsets_from, lengths_of}
+use Rattle.fax_files.specs.Directory.{max_file}
 use Rattle.fax_files.specs.views.Writing.{Writing, contents, with_one_more}
 
 -- the fields of a page where it is laid out so

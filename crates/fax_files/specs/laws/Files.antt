@@ -13,30 +13,24 @@ use Rattle.fax_files.specs.declared.Cause.{Cause}
 use Rattle.fax_files.specs.declared.Cause.TheVariants.{File, Strip}
 use Rattle.fax_files.specs.declared.PageForm.{PageForm}
 use Rattle.fax_files.specs.declared.Endian.{Endian}
-use Rattle.fax_files.specs.StripBytes.{strip_bytes}
-use Rattle.fax_files.specs.PageRows.{strip_form}
+use Rattle.fax_files.specs.Page.{strip_bytes, strip_form, page}
 use Rattle.std.specs.Prelude.{◌≡◌, ℕ, ◌+◌, ◌*◌, ◌≤◌, ◌<◌, ◌⊎◌, false, List, [], ◌∷◌, length, take}
 use Rattle.std.specs.Prelude.{drop, slice_index_or, Option, Some, None, Ok, IsTrue}
 use Rattle.std.specs.List.{AllZip}
 use Rattle.fax_files.specs.declared.FileFault.{FileFault}
 use Rattle.fax_files.specs.declared.Endian.TheVariants.{Little}
-use Rattle.fax_files.specs.Numbers.{Header, number_at}
-use Rattle.fax_files.specs.Directory.{is_directory, next_offset}
-use Rattle.fax_files.specs.Numbers.{header}
-use Rattle.fax_files.specs.Chain.{IsChain}
-use Rattle.fax_files.specs.Page.{IsPageForm, page}
-use Rattle.fax_files.specs.PageRows.{strip_form}
+use Rattle.fax_files.specs.Directory.{Header, number_at, is_directory, next_offset, header, IsChain}
+use Rattle.fax_files.specs.Directory.{max_file}
+use Rattle.fax_files.specs.views.Page.{IsPageForm}
 use Rattle.fax_files.specs.Written.{four, directory_place, Written, with_page, WrittenPage, file_of}
-use Rattle.fax_files.specs.Written.{max_file}
+use Rattle.fax_files.specs.Written.{to_offsets, long_field, with_pages, empty_file, WrittenField}
+use Rattle.fax_files.specs.Written.{fields_with, fields_bytes, values_bytes, offsets_from}
+use Rattle.fax_files.specs.Written.{lengths_of}
 use Rattle.std.specs.Prelude.{◌≡◌, ◌≤◌, ℕ, ◌+◌, ◌-◌, ◌*◌, ◌%◌, ◌==◌, if◌then◌else◌, List, [], ◌∷◌}
 use Rattle.std.specs.Prelude.{◌++◌, length, replicate, Vec}
 use Rattle.std.specs.declared.alloc.Global.{Global}
 use Rattle.fax_files.specs.declared.written.Layout.{Layout}
-use Rattle.fax_files.specs.Tags
-use Rattle.fax_files.specs.Written.{Written, with_page, max_file, to_offsets, four, long_field}
-use Rattle.fax_files.specs.Written.{WrittenPage, with_pages, empty_file, file_of}
-use Rattle.fax_files.specs.Written.{WrittenField, fields_with, fields_bytes, values_bytes}
-use Rattle.fax_files.specs.Written.{offsets_from, lengths_of}
+use Rattle.fax_files.specs.declared.tags.TheConstants as Tags
 use Rattle.fax_files.specs.views.Writing.{Writing, contents, with_one_more}
 
 -- From strip s on the page has these strips, each a list of rows. The end is none after the last

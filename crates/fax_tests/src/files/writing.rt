@@ -1,6 +1,6 @@
 //! Files that are written.
 ghost use Rattle.std.specs.Prelude.{◌≡◌, ◌≤◌, false};
-ghost use Rattle.fax_files.specs.Page.{IsPageForm};
+ghost use Rattle.fax_files.specs.views.Page.{IsPageForm};
 
 use super::ONE_PAGE;
 use fax_files::{Coding, FillOrder, PageForm, Tiff, TiffWriter, WriteFault};

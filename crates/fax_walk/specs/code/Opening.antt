@@ -3,9 +3,8 @@ use Rattle.std.specs.Prelude.{◌≡◌, ℕ, ◌+◌, ◌<◌, ◌≤◌, ◌�
 use Rattle.std.specs.Prelude.{Ok, Err}
 use Rattle.fax_files.specs.declared.FileFault.{FileFault}
 use Rattle.fax_files.specs.declared.PageForm.{PageForm}
-use Rattle.fax_files.specs.Numbers.{header}
-use Rattle.fax_files.specs.Chain.{IsChain}
-use Rattle.fax_files.specs.Page.{IsPageForm}
+use Rattle.fax_files.specs.Directory.{header, IsChain}
+use Rattle.fax_files.specs.views.Page.{IsPageForm}
 use Rattle.fax_files.specs.views.Chain.{ChainState}
 use Rattle.fax_files.specs.views.Tiff.{TiffDirectory, form_of}
 use Rattle.fax_walk.specs.declared.cursor.Cursor.{Cursor}

@@ -10,8 +10,8 @@ use Rattle.fax_page.specs.Lines.{white_row}
 use Rattle.fax_page.specs.views.Reader.{StripState}
 use Rattle.fax_files.specs.declared.PageForm.{PageForm}
 use Rattle.fax_files.specs.declared.Cause.{Cause}
-use Rattle.fax_files.specs.Page.{IsPageForm}
-use Rattle.fax_files.specs.PageRows.{strip_form}
+use Rattle.fax_files.specs.views.Page.{IsPageForm}
+use Rattle.fax_files.specs.Page.{strip_form}
 use Rattle.fax_files.specs.views.Chain.{ChainState}
 use Rattle.fax_files.specs.views.Tiff.{TiffDirectory, PageStrips, bytes_of}
 use Rattle.fax_walk.specs.declared.cursor.Cursor.{Cursor}

@@ -7,10 +7,11 @@ use Rattle.std.specs.Option.{ForSome}
 use Rattle.fax_bits.specs.declared.Colour.{Colour}
 use Rattle.fax_page.specs.declared.Coding.{Coding}
 use Rattle.fax_page.specs.declared.Coding.TheVariants.{Mmr}
-use Rattle.fax_files.specs.Page.{IsGoodRational}
+use Rattle.fax_files.specs.views.Page.{IsGoodRational}
 use Rattle.fax_files.specs.laws.Files.{joined}
 use Rattle.fax_files.specs.laws.Pbm.{IsWritableImage}
-use Rattle.fax_files.specs.Written.{WrittenPage, file_of, max_file}
+use Rattle.fax_files.specs.Written.{WrittenPage, file_of}
+use Rattle.fax_files.specs.Directory.{max_file}
 use Rattle.fax_files.specs.laws.Files.{AreRowsOf, AreWritable}
 use Rattle.fax_walk.specs.declared.end.End.TheVariants.{Proper}
 use Rattle.fax_walk.specs.declared.options.Options.{Options}

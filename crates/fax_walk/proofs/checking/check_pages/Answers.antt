@@ -1,5 +1,5 @@
 use Rattle.std.proofs.Common.{◌≡◌, Ok, Some, ◌+◌, length, refl, sym, ◌∙◌, ap, subst, arith}
-use Rattle.fax_files.specs.Numbers.{header}
+use Rattle.fax_files.specs.Directory.{header}
 use Rattle.fax_files.specs.declared.Cause.TheVariants.{File}
 use Rattle.fax_files.specs.views.Chain.{ChainState}
 use Rattle.fax_files.specs.views.Tiff.{TiffFile, TiffDirectory}

@@ -1,7 +1,7 @@
 use Rattle.std.proofs.Common.{◌≡◌, ℕ, ◌+◌, ◌*◌, min, Some, None, [], ◌∷◌, ◌++◌, length, sym, ap, ◌∙◌, rules, arith}
 use Rattle.fax_page.specs.views.Writer.{writer_beginning}
 use Rattle.fax_files.specs.declared.PageForm.{PageForm}
-use Rattle.fax_files.specs.PageRows.{strip_form}
+use Rattle.fax_files.specs.Page.{strip_form}
 use Rattle.fax_walk.proofs.OpenStripsLemmas.{IsReady, ready_started, ready_new, kept, whole}
 use Rattle.fax_walk.proofs.open_strips.OpenStrips.put_row.Goals as goal
 use Rattle.fax_walk.proofs.open_strips.OpenStrips.put_row.Goals.{in-Some, in-None+in_ok-writer-in-None}

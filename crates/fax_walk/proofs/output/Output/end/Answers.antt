@@ -2,7 +2,7 @@ use Rattle.std.proofs.Common.{◌≡◌, ◌≤◌, inl, inr, length, Some, sym,
 use Rattle.std.proofs.lemmas.Bool.{cases_lt}
 use Rattle.fax_files.specs.declared.PageForm.{PageForm}
 use Rattle.fax_files.specs.views.Writing.{length_with}
-use Rattle.fax_files.specs.Written.{max_file}
+use Rattle.fax_files.specs.Directory.{max_file}
 use Rattle.fax_walk.proofs.OutputLemmas.{page_ended, page_too_large, all_strips}
 use Rattle.fax_walk.proofs.output.Output.end.Goals as goal
 

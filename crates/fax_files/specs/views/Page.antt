@@ -1,0 +1,28 @@
+-- The limits of a page's form.
+-- A definition without a citation is this project's profile.
+use Rattle.std.specs.Prelude.{◌≡◌, ◌≢◌, ℕ, ◌<◌, ◌≤◌, true}
+use Rattle.fax_page.specs.declared.Coding.TheVariants.{Mmr}
+use Rattle.fax_files.specs.declared.PageForm.{PageForm}
+use Rattle.fax_files.specs.Page.{strip_count}
+
+-- a rational with numerator and denominator above 0, of 32 bits each (TIFF 6.0, section 2)
+pub record IsGoodRational (value : ℕ × ℕ) : Type 0 where
+  pub some_top : 1 ≤ value.0
+  pub top : value.0 < 4294967296
+  pub some_bottom : 1 ≤ value.1
+  pub bottom : value.1 < 4294967296
+
+-- the limits of a page's form; EOLs are aligned only where rows have them
+pub record IsPageForm (form : PageForm) : Type 0 where
+  pub some_width : 1 ≤ form.width
+  pub width : form.width ≤ 65535
+  pub some_rows : 1 ≤ form.rows
+  pub rows : form.rows ≤ 1000000
+  pub some_rows_per_strip : 1 ≤ form.rows_per_strip
+  pub rows_per_strip : form.rows_per_strip ≤ form.rows
+  pub strips : form.strips ≡ strip_count form.rows form.rows_per_strip
+  pub x : IsGoodRational form.x
+  pub y : IsGoodRational form.y
+  pub some_unit : 1 ≤ form.unit
+  pub unit : form.unit ≤ 3
+  pub aligned : form.aligned ≡ true → form.coding ≢ Mmr
