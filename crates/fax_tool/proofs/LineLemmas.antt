@@ -20,13 +20,13 @@ use Rattle.fax_walk.specs.declared.end.End.{End}
 use Rattle.fax_walk.specs.declared.end.End.TheVariants.{Proper, Fault, Outside}
 use Rattle.fax_walk.specs.declared.end.WalkFault.{WalkFault}
 use Rattle.fax_walk.specs.declared.end.WalkFault.TheVariants.{Memory, AtRow, CursorOutside}
-use Rattle.fax_walk.specs.LongCursor.{LongPlace}
-use Rattle.fax_walk.specs.InOrder.{AreFrom, AreBegun, IsNumber, EndsAfter}
+use Rattle.fax_walk.specs.Cursors.{LongPlace}
+use Rattle.fax_walk.specs.Pages.{AreFrom, AreBegun, FilePage, FormItem, IsFormTail, IsPageAt}
+use Rattle.fax_walk.specs.views.InOrder.{IsNumber, EndsAfter}
 use Rattle.fax_walk.specs.laws.InOrder.{IsOne}
 use Rattle.fax_walk.specs.views.Walk.{WalkView, HasEndedAs, IsNext, IsCursorOf, IsItemNumber, IsLongOf, begins_inside}
 use Rattle.fax_walk.specs.views.Pages.{PagesView, HandsOutPage, IsNextPage, PagesHaveEnded, pages_from}
 use Rattle.fax_walk.specs.laws.Tails.{BeginningsHaveOneTail, CursorsHaveOneFormTail}
-use Rattle.fax_walk.specs.Pages.{FilePage, FormItem, IsFormTail, IsPageAt}
 use Rattle.fax_walk.specs.Rows.{Item, Place, IsInStrip, IsRow, IsTailFrom, begins_at, cursor_after, long_after, strip_at}
 use Rattle.fax_walk.proofs.InOrderLemmas.{same_answer}
 use Rattle.fax_walk.proofs.PageLawLemmas.{one_page}

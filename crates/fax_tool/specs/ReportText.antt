@@ -2,7 +2,7 @@
 -- A definition without a citation is this project's profile.
 use Rattle.std.specs.Prelude.{ℕ, List, [], ◌++◌, flat_map, Option, Some, None, codes, decimal}
 use Rattle.fax_files.specs.declared.Cause.{Cause}
-use Rattle.fax_walk.specs.NoteNames.{note_name, note_number}
+use Rattle.fax_walk.specs.Report.{note_name, note_number}
 use Rattle.fax_walk.specs.declared.checking.Note.{Note}
 use Rattle.fax_walk.specs.declared.checking.Report.{Report}
 use Rattle.fax_walk.specs.declared.walk.Place.{Place}

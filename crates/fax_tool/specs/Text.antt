@@ -19,8 +19,7 @@ use Rattle.fax_walk.specs.declared.end.End.TheVariants.{Proper, Fault, Outside}
 use Rattle.fax_walk.specs.declared.options.ConvertFault.{ConvertFault}
 use Rattle.fax_walk.specs.declared.options.ConvertFault.TheVariants.{UnknownInput, Pbm, Source}
 use Rattle.fax_walk.specs.declared.options.ConvertFault.TheVariants.{OutputTooLarge, Memory}
-use Rattle.fax_walk.specs.Cursor.{cursor_text}
-use Rattle.fax_walk.specs.LongCursor.{LongPlace, long_cursor_text}
+use Rattle.fax_walk.specs.Cursors.{cursor_text, LongPlace, long_cursor_text}
 use Rattle.fax_walk.specs.Pages.{FormItem, cursor_after_page}
 use Rattle.fax_walk.specs.Rows.{Item, begins_at, cursor_after, long_after}
 

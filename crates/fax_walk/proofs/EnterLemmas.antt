@@ -11,7 +11,7 @@ use Rattle.fax_walk.specs.declared.cursor.Cursor.{Cursor}
 use Rattle.fax_walk.specs.declared.end.End.{End}
 use Rattle.fax_walk.specs.declared.opening.OpenFault.{OpenFault}
 use Rattle.fax_walk.specs.declared.opening.OpenFault.TheVariants.{Memory, Ended}
-use Rattle.fax_walk.specs.LongCursor.{LongPlace}
+use Rattle.fax_walk.specs.Cursors.{LongPlace}
 use Rattle.fax_walk.specs.views.Walk.{EndsBefore}
 use Rattle.fax_walk.specs.Rows.{Begins, IsInnerOn, IsRow, Item, Place, begins_at, first_at, inner_at, row_in_strip, strip_at}
 use Rattle.fax_walk.specs.code.Opening.{EndsAt, IsFilePage, IsNamed, PageDue, page_with}

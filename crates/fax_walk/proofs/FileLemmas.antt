@@ -25,14 +25,16 @@ use Rattle.fax_walk.specs.declared.options.Options.{Options}
 use Rattle.fax_walk.specs.declared.options.ConvertFault.{ConvertFault}
 use Rattle.fax_walk.specs.declared.options.ConvertFault.TheVariants.{OutputTooLarge, Memory}
 use Rattle.fax_walk.specs.declared.output.Output.{Output}
-use Rattle.fax_walk.specs.Cursor.{start}
+use Rattle.fax_walk.specs.Cursors.{start}
 use Rattle.fax_walk.specs.laws.InOrder.{LeadTo}
-use Rattle.fax_walk.specs.InOrder.{EndsAfter}
-use Rattle.fax_walk.specs.Pages.{FormItem, FilePage, IsPageAt, IsPageUnder, page_over, IsForm, IsFormTail, AreForms, page_or_end}
-use Rattle.fax_walk.specs.Pages.{end_past_chain}
-use Rattle.fax_walk.specs.Rows.{Item, Place, first_at, IsRow, AreItems}
+use Rattle.fax_walk.specs.views.InOrder.{EndsAfter}
+use Rattle.fax_walk.specs.Pages.{FormItem, FilePage, IsPageAt, IsPageUnder, page_over, IsForm}
+use Rattle.fax_walk.specs.Pages.{IsFormTail, page_or_end, end_past_chain}
+use Rattle.fax_walk.specs.Converted.{AreForms, AreItems, IsTiff, IsTooLarge, target_bytes}
+use Rattle.fax_walk.specs.Converted.{IsConverted, IsRefused, IsSource, SourcePage, page_of_form}
+use Rattle.fax_walk.specs.Converted.{pages_of}
+use Rattle.fax_walk.specs.Rows.{Item, Place, first_at, IsRow}
 use Rattle.fax_walk.specs.laws.Tails.{FilesHaveOneForms, FormTailOfStart}
-use Rattle.fax_walk.specs.Converted.{IsTiff, IsTooLarge, target_bytes, IsConverted, IsRefused, IsSource, SourcePage, page_of_form, pages_of}
 use Rattle.fax_walk.specs.views.Pages.{PagesView, HandsOutPage, PagesHaveEnded, IsNextPage, pages_start}
 use Rattle.fax_walk.specs.views.Walk.{WalkView, walk_start}
 use Rattle.fax_walk.specs.code.Output.{Progress, with_page, page_of, form_sheet, IsWrittenTo, IsBeginning, IsWhole}

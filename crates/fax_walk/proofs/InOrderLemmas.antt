@@ -4,7 +4,7 @@ use Rattle.std.proofs.Common.{subst, arith, append_assoc}
 use Rattle.std.proofs.lemmas.List.{take-append-drop}
 use Rattle.std.specs.Prelude.{slice_get}
 use Rattle.fax_walk.specs.declared.end.End.{End}
-use Rattle.fax_walk.specs.InOrder.{AreFrom, AreBegun}
+use Rattle.fax_walk.specs.Pages.{AreFrom, AreBegun}
 use Rattle.fax_walk.specs.laws.InOrder.{LeadTo, IsOne}
 
 -- there is one answer, and no other

@@ -26,7 +26,7 @@ use Rattle.fax_walk.specs.declared.end.End.{End}
 use Rattle.fax_walk.specs.declared.end.End.TheVariants.{Fault, Outside}
 use Rattle.fax_walk.specs.declared.opening.OpenFault.{OpenFault}
 use Rattle.fax_walk.specs.declared.opening.OpenFault.TheVariants.{Memory, Ended}
-use Rattle.fax_walk.specs.LongCursor.{LongPlace}
+use Rattle.fax_walk.specs.Cursors.{LongPlace}
 use Rattle.fax_walk.specs.Rows.{Inner, Item, Place, IsRow, bits_before, exchanged, first_at, place_after, place_on, reference_of}
 use Rattle.fax_walk.specs.Rows.{IsInner, IsInnerOn, inner_at, long_at, row_in_strip, strip_at}
 use Rattle.fax_walk.specs.Pages.{IsPageAt}

@@ -12,8 +12,8 @@ use Rattle.fax_files.specs.laws.Files.{FilesHaveOneChain}
 use Rattle.fax_walk.specs.declared.cursor.Cursor.{Cursor}
 use Rattle.fax_walk.specs.declared.end.End.{End}
 use Rattle.fax_walk.specs.declared.end.End.TheVariants.{Fault, Proper}
-use Rattle.fax_walk.specs.InOrder.{AreFrom, AreBegun}
-use Rattle.fax_walk.specs.Pages.{FormItem, FilePage, page_over, IsPageUnder, IsPageAt, IsAsked, IsOnPage, IsForm, first_form, IsFormTail}
+use Rattle.fax_walk.specs.Pages.{AreFrom, AreBegun, FormItem, FilePage, page_over, IsPageUnder}
+use Rattle.fax_walk.specs.Pages.{IsPageAt, IsAsked, IsOnPage, IsForm, first_form, IsFormTail}
 use Rattle.fax_walk.specs.Pages.{end_past_chain, page_or_end}
 use Rattle.fax_walk.specs.laws.Tails.{FilesHaveOneForms, CursorsHaveOneFormTail, FormTailOfPage, FormTailOfStart, FormsStandByNumber}
 use Rattle.fax_walk.specs.laws.Tails.{FormTailsGoOn}

@@ -9,14 +9,14 @@ use Rattle.fax_files.specs.views.Chain.{ChainState}
 use Rattle.fax_files.specs.views.Tiff.{TiffDirectory}
 use Rattle.fax_walk.specs.declared.cursor.Cursor.{Cursor}
 use Rattle.fax_walk.specs.declared.end.End.{End}
-use Rattle.fax_walk.specs.InOrder.{AreFrom, EndsAfter, HasToldNoOther}
+use Rattle.fax_walk.specs.Pages.{AreFrom, FormItem, IsForm, AreFormsBegun, IsFormTail}
+use Rattle.fax_walk.specs.views.InOrder.{EndsAfter, HasToldNoOther}
 use Rattle.fax_walk.specs.laws.InOrder.{LeadTo}
-use Rattle.fax_walk.specs.Pages.{FormItem, IsForm, AreFormsBegun, IsFormTail}
 use Rattle.fax_walk.specs.views.Pages.{PagesView, HandsOutPage}
 use Rattle.fax_walk.specs.laws.Forms.{AreFormsLeft}
 use Rattle.fax_walk.specs.laws.Tails.{CursorsHaveOneFormTail, FormTailOfPage}
 use Rattle.fax_walk.specs.code.Opening.{PageDue, IsPageDue, IsFilePage, IsChainBefore, IsNamed, EndsAt, page_with}
-use Rattle.fax_walk.specs.code.Pages.{HasGiven, IsPageAfter, BeginsWith, IsDueIn, EndsNow}
+use Rattle.fax_walk.specs.code.Pages.{HasGiven, IsPageAfter, IsFirstDue, IsDueIn, EndsNow}
 use Rattle.fax_walk.proofs.InOrderLemmas.{joined, leads_on}
 
 -- a page of a file is the form of its number
@@ -26,7 +26,7 @@ form_here p chain directory form its = (Ok (page_with directory form), its.here 
 
 module _ (file : List ℕ) (at : Cursor) (due : PageDue) (named : IsNamed file at (Some due)) where
   -- a reader from a page's first row begins with that page
-  pub begins_here : at.row ≡ 0 → BeginsWith file at due
+  pub begins_here : at.row ≡ 0 → IsFirstDue file at due
   begins_here first =
       let test : (at.row == 0) ≡ true = grind (arith, nat_tests, first) in
       record { begins = (Ok (page_with due.directory due.form), named.3, rw (test, named.1) refl); file_is = named.0 }
@@ -47,7 +47,7 @@ module _ (file : List ℕ) (at : Cursor) (due : PageDue) (named : IsNamed file a
   chain_file = its.after.file_is ∙ named.0
 
   -- from a later row with the page after it
-  pub begins_after : 0 < at.row → (result : Result PageDue End) → IfOk result (IsPageAfter due.chain) → IfOk result (BeginsWith file at)
+  pub begins_after : 0 < at.row → (result : Result PageDue End) → IfOk result (IsPageAfter due.chain) → IfOk result (IsFirstDue file at)
   begins_after some (Ok next) after = record {
     begins = subst (λ (n : ℕ). AreFormsBegun file at (Ok (n, 0))) (sym (after.0 ∙ number)) (begins_next file at due named some);
     file_is = after.1 ∙ chain_file;
@@ -69,7 +69,7 @@ no_forms file at end (inr (here, page, above, end_is)) =
 
 -- a reader that begins with a page hands it out first
 pub due_first : (pages : PagesView) (result : Result PageDue End) → pages.told ≡ None → pages.given ≡ 0
-    → IfOk result (BeginsWith pages.file pages.begun) → IfOk result (IsDueIn pages)
+    → IfOk result (IsFirstDue pages.file pages.begun) → IfOk result (IsDueIn pages)
 due_first pages (Ok due) untold none begins = record {
   untold = untold;
   come = record { first = due.page; begins = begins.begins; forms = []; lead = refl; count = sym none; few = omega (arith, none) };

@@ -25,9 +25,8 @@ use Rattle.fax_walk.specs.declared.begun.Begun.{Begun}
 use Rattle.fax_walk.specs.declared.begun.Begun.TheVariants.{At, Inside}
 use Rattle.fax_walk.specs.declared.end.End.{End}
 use Rattle.fax_walk.specs.declared.end.End.TheVariants.{Fault, Outside}
-use Rattle.fax_walk.specs.LongCursor.{LongPlace}
-use Rattle.fax_walk.specs.InOrder.{AreBegun}
-use Rattle.fax_walk.specs.Pages.{FilePage, IsPageAt}
+use Rattle.fax_walk.specs.Cursors.{LongPlace}
+use Rattle.fax_walk.specs.Pages.{AreBegun, FilePage, IsPageAt}
 use Rattle.fax_walk.specs.Rows.{Item, Inner, Place, first_at, strip_at, row_in_strip, exchanged, bits_before, reference_of, place_after}
 use Rattle.fax_walk.specs.Rows.{IsItem, IsInStrip, cursor_at, IsRow, first_row, FitsStrip, IsInnerOn, inner_at, BeginsOn, begins_at}
 use Rattle.fax_walk.specs.laws.Tails.{BeginningsHaveOneTail}

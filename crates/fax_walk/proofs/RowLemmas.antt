@@ -17,8 +17,8 @@ use Rattle.fax_walk.specs.declared.end.WalkFault.TheVariants.{Memory as NoMemory
 use Rattle.fax_walk.specs.declared.walk.Place.{Place as RowPlace}
 use Rattle.fax_walk.specs.declared.output.Output.{Output}
 use Rattle.fax_walk.specs.declared.sheet.Sheet.{Sheet}
-use Rattle.fax_walk.specs.Cursor.{start}
-use Rattle.fax_walk.specs.InOrder.{EndsAfter}
+use Rattle.fax_walk.specs.Cursors.{start}
+use Rattle.fax_walk.specs.views.InOrder.{EndsAfter}
 use Rattle.fax_walk.specs.laws.InOrder.{LeadTo}
 use Rattle.fax_walk.specs.views.Walk.{IsItemNumber}
 use Rattle.fax_walk.specs.laws.Tails.{TailOfStart}

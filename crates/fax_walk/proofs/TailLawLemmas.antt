@@ -24,15 +24,16 @@ use Rattle.fax_walk.specs.declared.begun.Begun.TheVariants.{At, Inside}
 use Rattle.fax_walk.specs.declared.cursor.Cursor.{Cursor}
 use Rattle.fax_walk.specs.declared.end.End.{End}
 use Rattle.fax_walk.specs.declared.end.End.TheVariants.{Fault, Outside, Proper}
-use Rattle.fax_walk.specs.Cursor.{start}
-use Rattle.fax_walk.specs.LongCursor.{LongPlace}
-use Rattle.fax_walk.specs.InOrder.{AreFrom, AreBegun}
+use Rattle.fax_walk.specs.Cursors.{start, LongPlace}
+use Rattle.fax_walk.specs.Pages.{AreFrom, AreBegun, FilePage, IsPageUnder, IsPageAt, end_past_chain}
+use Rattle.fax_walk.specs.Pages.{page_over, page_or_end}
 use Rattle.fax_walk.specs.laws.InOrder.{LeadTo}
 use Rattle.fax_walk.specs.views.Walk.{EndsBefore}
-use Rattle.fax_walk.specs.Pages.{FilePage, IsPageUnder, IsPageAt, end_past_chain, page_over, page_or_end}
-use Rattle.fax_walk.specs.Rows.{AreItems, IsInnerOn, Item, Inner, Place, first_at, strip_at, row_in_strip, exchanged, reference_of}
-use Rattle.fax_walk.specs.Rows.{place_after, IsItem, IsInStrip, cursor_at, IsRow, first_row, IsInner, FitsStrip, inner_at, Begins}
-use Rattle.fax_walk.specs.Rows.{IsTailFrom, cursor_after, long_after}
+use Rattle.fax_walk.specs.Converted.{AreItems}
+use Rattle.fax_walk.specs.Rows.{IsInnerOn, Item, Inner, Place, first_at, strip_at, row_in_strip}
+use Rattle.fax_walk.specs.Rows.{exchanged, reference_of, place_after, IsItem, IsInStrip, cursor_at}
+use Rattle.fax_walk.specs.Rows.{IsRow, first_row, IsInner, FitsStrip, inner_at, Begins, IsTailFrom}
+use Rattle.fax_walk.specs.Rows.{cursor_after, long_after}
 use Rattle.fax_walk.specs.laws.Tails.{FilesHaveOneItems, ItemsStandByPlace, TailsEndAfter, TailOfStart, IsReachedPlace, TailsGoOn}
 use Rattle.fax_walk.specs.laws.Tails.{LongTailsGoOn, PlacesAreReached, IsReached}
 use Rattle.fax_walk.proofs.InOrderLemmas.{one_from, one_led, one_list, same_answer, same_step, leads_on, joined, kept}

@@ -11,8 +11,7 @@ use Rattle.fax_files.specs.Written.{WrittenPage, file_of}
 use Rattle.fax_files.specs.laws.Files.{IsWritable, AreWritable, IsReadAt, WrittenFilesAreRead, WrittenRowsAreRead, FormsAreWhole}
 use Rattle.fax_walk.specs.declared.cursor.Cursor.{Cursor}
 use Rattle.fax_walk.specs.declared.end.End.TheVariants.{Proper}
-use Rattle.fax_walk.specs.InOrder.{AreFrom}
-use Rattle.fax_walk.specs.Pages.{IsPageAt, IsForm, end_past_chain}
+use Rattle.fax_walk.specs.Pages.{AreFrom, IsPageAt, IsForm, end_past_chain}
 use Rattle.fax_walk.specs.Rows.{Item, first_at, IsRow}
 use Rattle.fax_walk.specs.laws.Written.{WalkedRow, walked, numbered, HoldsRows, rows_of, forms_of, WrittenFilesAreWalked}
 use Rattle.fax_walk.proofs.InOrderLemmas.{joined}

@@ -2,6 +2,7 @@
 -- A definition without a citation is this project's profile.
 use Rattle.std.specs.Prelude.{◌≡◌, ◌≢◌, ℕ, zero, suc, ◌+◌, ◌<◌, ◌⊎◌, min, false, List, [], ◌∷◌}
 use Rattle.std.specs.Prelude.{◌++◌, length, map, take, drop, Some, None, unwrap_or, codes}
+use Rattle.fax_bits.specs.Bits.{BeginsWith}
 use Rattle.fax_bits.specs.declared.Colour.{Colour}
 use Rattle.fax_page.specs.declared.Coding.{Coding}
 use Rattle.fax_page.specs.declared.Coding.TheVariants.{Mh, Mr, Mmr}
@@ -21,17 +22,21 @@ use Rattle.fax_walk.specs.declared.options.ConvertFault.{ConvertFault}
 use Rattle.fax_walk.specs.declared.options.ConvertFault.TheVariants.{UnknownInput, Pbm as PbmSource}
 use Rattle.fax_walk.specs.declared.options.ConvertFault.TheVariants.{Source, OutputTooLarge}
 use Rattle.fax_walk.specs.declared.end.End.TheVariants.{Proper, Fault}
-use Rattle.fax_walk.specs.Pages.{FormItem, AreForms}
-use Rattle.fax_walk.specs.Rows.{Item, AreItems}
+use Rattle.fax_walk.specs.declared.end.End.{End}
+use Rattle.fax_walk.specs.Pages.{AreFrom, FormItem, IsForm}
+use Rattle.fax_walk.specs.Rows.{IsRow, Item, first_at}
+
+-- the forms of a file's pages, and its rows, each with their end
+abbrev pub AreForms : List ℕ → List FormItem → End → Type 0
+AreForms file forms end = AreFrom (IsForm file) 0 forms end
+
+abbrev pub AreItems : List ℕ → List Item → End → Type 0
+AreItems file items end = AreFrom (IsRow file) (first_at 0 0) items end
 
 -- a page to be converted: its image and its resolution
 pub record SourcePage : Type 0 where
   pub image : Image
   pub resolution : Resolution
-
--- the bytes begin with this text
-abbrev pub BeginsWith : List ℕ → List ℕ → Type 0
-BeginsWith bytes text = (rest : List ℕ) × (bytes ≡ text ++ rest)
 
 -- the bytes are read as raw PBM (the netpbm format, P4)
 abbrev pub IsPbm : List ℕ → Type 0
@@ -113,12 +118,8 @@ coded_strips form k s (rows ∷ strips) =
 abbrev pub written_page : Options → Coding → SourcePage → WrittenPage
 written_page options coding source =
     let form = written_form options coding source in
-    record {
-      form = form;
-      strips =
-          coded_strips form options.k 0 (strips_of form.rows_per_strip form.strips
-          source.image.rows);
-    }
+    let strips = strips_of form.rows_per_strip form.strips source.image.rows in
+    record { form = form; strips = coded_strips form options.k 0 strips }
 
 -- the bytes of the pages in the target's format
 abbrev pub target_bytes : Target → Options → List SourcePage → List ℕ

@@ -1,50 +1,62 @@
--- The pages of a file, and what each of them hands out.
+-- What is handed out in order; and the pages of a file, and their forms (TIFF 6.0, section 2).
 -- A definition without a citation is this project's profile.
-use Rattle.std.specs.Prelude.{◌≡◌, ℕ, ◌+◌, ◌==◌, ◌&&◌, if◌then◌else◌, nat_le, List, length, Option}
-use Rattle.std.specs.Prelude.{Some, None, Result, Ok, Err, slice_get}
+use Rattle.std.specs.Prelude.{◌≡◌, ℕ, ◌+◌, ◌==◌, ◌&&◌, if◌then◌else◌, nat_le, List, [], ◌∷◌, length}
+use Rattle.std.specs.Prelude.{drop, Option, Some, None, Result, Ok, Err, slice_get}
 use Rattle.fax_files.specs.declared.FileFault.{FileFault}
 use Rattle.fax_files.specs.declared.Cause.TheVariants.{File}
 use Rattle.fax_files.specs.declared.PageForm.{PageForm}
 use Rattle.fax_files.specs.declared.Endian.{Endian}
-use Rattle.fax_files.specs.Directory.{Header, header, IsChain}
+use Rattle.fax_files.specs.Directory.{Header, IsChain, header}
 use Rattle.fax_files.specs.Page.{page}
 use Rattle.fax_walk.specs.declared.cursor.Cursor.{Cursor}
 use Rattle.fax_walk.specs.declared.end.End.{End}
 use Rattle.fax_walk.specs.declared.end.End.TheVariants.{Proper, Fault, Outside}
-use Rattle.fax_walk.specs.InOrder.{AreFrom, AreBegun}
 
--- a page of a file: the byte order, its directory's offset and its form (TIFF 6.0, section 2)
+-- from a place on these items are handed out, and then this end, where each place has an item and
+-- the place after it, or the end
+abbrev pub AreFrom : {S A : Type 0} → (S → Result (A × S) End → Type 0) → S → List A → End → Type 0
+AreFrom next at [] end = next at (Err end)
+AreFrom {S} next at (item ∷ items) end =
+    (to : S) × next at (Ok (item, to)) × AreFrom next to items end
+
+-- the same from a beginning: a place and how many items are read and dropped there, or the end
+abbrev pub AreBegun : {S A : Type 0} → (S → Result (A × S) End → Type 0) → Result (S × ℕ) End
+    → List A → End → Type 0
+AreBegun next (Err none) items end = (items ≡ []) × (end ≡ none)
+AreBegun {S} {A} next (Ok (at, n)) items end =
+    (all : List A) × AreFrom next at all end × (items ≡ drop n all)
+
+-- a page of a file: the byte order, its directory's offset and its form
 pub record FilePage : Type 0 where
   pub endian : Endian
   pub offset : ℕ
   pub form : PageForm
 
--- how a chain ends for a cursor that names none of its pages: the chain's fault, or the end for the
+-- how a chain ends for a cursor that names none of its pages: with its fault, or properly for the
 -- page after the last, or outside
 abbrev pub end_past_chain : ℕ → Option FileFault → Cursor → End
 end_past_chain pages (Some fault) at = Fault pages 0 (File fault)
 end_past_chain pages None at = if (at.page == pages) && (at.row == 0) then Proper else Outside
 
--- the page with the answer that its fields give, or the end there (TIFF 6.0, section 2)
+-- the page with the answer that its fields give, or the end there
 abbrev pub page_or_end : Endian → ℕ → ℕ → Result PageForm FileFault → Result FilePage End
 page_or_end endian q p (Err refused) = Err (Fault p 0 (File refused))
 page_or_end endian q p (Ok form) = Ok (record { endian = endian; offset = q; form = form })
 
--- the page that a cursor names in a file with these directories, of which it names this one, if it
--- names one (TIFF 6.0, section 2)
+-- the page that a cursor names in a file with these directories, of which it names this, if any
 abbrev pub page_over : Endian → List ℕ → List ℕ → Option FileFault → Cursor → Option ℕ
     → Result FilePage End
 page_over endian file offsets fault at None = Err (end_past_chain (length offsets) fault at)
 page_over endian file offsets fault at (Some q) = page_or_end endian q at.page (page endian file q)
 
--- the same with the answer that the file's header gives (TIFF 6.0, section 2)
+-- the same with the answer that the file's header gives
 abbrev pub IsPageUnder : List ℕ → Cursor → Result Header FileFault → Result FilePage End → Type 0
 IsPageUnder file at (Err fault) found = found ≡ Err (Fault 0 0 (File fault))
 IsPageUnder file at (Ok head) found =
     (offsets : List ℕ) × (fault : Option FileFault) × IsChain head file offsets fault
     × (found ≡ page_over head.endian file offsets fault at (slice_get offsets at.page))
 
--- a file's page that a cursor names, or the end there (TIFF 6.0, section 2)
+-- a file's page that a cursor names, or the end there
 abbrev pub IsPageAt : List ℕ → Cursor → Result FilePage End → Type 0
 IsPageAt file at found = IsPageUnder file at (header file) found
 
@@ -65,7 +77,7 @@ pub record FormItem : Type 0 where
   pub page : ℕ
   pub form : PageForm
 
--- the form of page p, and the page after it; its strips are not looked at (TIFF 6.0, section 2)
+-- the form of page p, and the page after it; strips are not looked at
 abbrev pub IsForm : List ℕ → ℕ → Result (FormItem × ℕ) End → Type 0
 IsForm file p =
     IsOnPage file (record { page = p; row = 0 }) (λ here answer. answer
@@ -86,10 +98,6 @@ abbrev pub IsFormTail : List ℕ → Cursor → List FormItem → End → Type 0
 IsFormTail file at forms end =
     (begin : Result (ℕ × ℕ) End) × AreFormsBegun file at begin
     × AreBegun (IsForm file) begin forms end
-
--- the forms of a file's pages and their end (TIFF 6.0, section 2)
-abbrev pub AreForms : List ℕ → List FormItem → End → Type 0
-AreForms file forms end = AreFrom (IsForm file) 0 forms end
 
 -- the cursor after a page
 abbrev pub cursor_after_page : FormItem → Cursor

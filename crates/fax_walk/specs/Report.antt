@@ -1,7 +1,7 @@
 -- What is reported of a file that is checked.
 -- A definition without a citation is this project's profile.
 use Rattle.std.specs.Prelude.{◌≡◌, ℕ, ◌+◌, ◌*◌, ◌==◌, Bool, not, if◌then◌else◌, List, [], ◌∷◌, ◌++◌}
-use Rattle.std.specs.Prelude.{length, flat_map, Option, Some, None, Result, Ok, Err}
+use Rattle.std.specs.Prelude.{length, flat_map, codes, Option, Some, None, Result, Ok, Err}
 use Rattle.fax_bits.specs.declared.Colour.{Colour}
 use Rattle.fax_bits.specs.Bits.{bits}
 use Rattle.fax_page.specs.declared.StripFault.{StripFault}
@@ -24,9 +24,24 @@ use Rattle.fax_walk.specs.declared.checking.Report.{Report}
 use Rattle.fax_walk.specs.declared.end.End.{End}
 use Rattle.fax_walk.specs.declared.end.End.TheVariants.{Proper, Fault, Outside}
 use Rattle.fax_walk.specs.declared.walk.Place.{Place}
-use Rattle.fax_walk.specs.InOrder.{AreFrom}
-use Rattle.fax_walk.specs.Pages.{FilePage, IsPageAt, IsOnPage}
-use Rattle.fax_walk.specs.Rows.{Item, AreItems}
+use Rattle.fax_walk.specs.Converted.{AreItems}
+use Rattle.fax_walk.specs.Pages.{AreFrom, FilePage, IsOnPage, IsPageAt}
+use Rattle.fax_walk.specs.Rows.{Item}
+
+-- the name of a note, and its number
+abbrev pub note_name : NoteKind → List ℕ
+note_name NoEndOfBlock = codes "NoEndOfBlock"
+note_name ReturnToControl = codes "ReturnToControl"
+note_name DataAfterEnd = codes "DataAfterEnd"
+note_name NotT4Choice = codes "NotT4Choice"
+note_name EntriesOutOfOrder = codes "EntriesOutOfOrder"
+
+abbrev pub note_number : NoteKind → ℕ
+note_number NoEndOfBlock = 1
+note_number ReturnToControl = 2
+note_number DataAfterEnd = 3
+note_number NotT4Choice = 4
+note_number EntriesOutOfOrder = 5
 
 -- a note where its test holds
 abbrev pub note_if : Bool → ℕ → Option ℕ → NoteKind → List Note

@@ -8,22 +8,20 @@ use Rattle.fax_bits.specs.declared.Colour.TheVariants.{White}
 use Rattle.fax_bits.specs.Bits.{bits}
 use Rattle.fax_rows.specs.Rows.{other, pels_of, runs_of}
 use Rattle.fax_page.specs.declared.StripFault.{StripFault}
-use Rattle.fax_page.specs.Lines.{IsLine, IsCause, white_row}
+use Rattle.fax_page.specs.Lines.{IsCause, IsLine, white_row}
 use Rattle.fax_files.specs.declared.FileFault.TheVariants.{StripOutside}
 use Rattle.fax_files.specs.declared.Cause.TheVariants.{File, Strip}
 use Rattle.fax_files.specs.declared.PageForm.{PageForm}
-use Rattle.fax_files.specs.Page.{strip_form, strip_bytes}
+use Rattle.fax_files.specs.Page.{strip_bytes, strip_form}
 use Rattle.fax_walk.specs.declared.begun.Begun.{Begun}
 use Rattle.fax_walk.specs.declared.begun.Begun.TheVariants.{At, Inside}
 use Rattle.fax_walk.specs.declared.cursor.Cursor.{Cursor}
 use Rattle.fax_walk.specs.declared.end.End.{End}
 use Rattle.fax_walk.specs.declared.end.End.TheVariants.{Fault, Outside}
-use Rattle.fax_walk.specs.LongCursor.{LongPlace}
-use Rattle.fax_walk.specs.InOrder.{AreFrom, AreBegun}
-use Rattle.fax_walk.specs.Pages.{FilePage, IsOnPage}
+use Rattle.fax_walk.specs.Cursors.{LongPlace}
+use Rattle.fax_walk.specs.Pages.{AreBegun, FilePage, IsOnPage}
 
--- a row with its place, its page and its number there, both from 0, and how many bits of its strip
--- stand before what is after it
+-- a row, its page and its number there, both from 0, and the bits of its strip up to its end
 pub record Item : Type 0 where
   pub page : ℕ
   pub row : ℕ
@@ -35,8 +33,7 @@ pub record Inner : Type 0 where
   pub bits : ℕ
   pub reference : List Colour
 
--- where a row is read: its page and its number, and, but for a strip's first row, where in the
--- strip
+-- where a row is read: its page, its number, and, but for a strip's first row, where in the strip
 pub record Place : Type 0 where
   pub page : ℕ
   pub row : ℕ
@@ -46,21 +43,18 @@ pub record Place : Type 0 where
 abbrev pub first_at : ℕ → ℕ → Place
 first_at p r = record { page = p; row = r; inner = None }
 
--- the number of the strip that holds row r, and the row's number in that strip
--- (TIFF 6.0, RowsPerStrip)
+-- the number of the strip that holds row r, and the row's number in it (TIFF 6.0, RowsPerStrip)
 abbrev pub strip_at : PageForm → ℕ → ℕ
 strip_at form r = r / form.rows_per_strip
 
 abbrev pub row_in_strip : PageForm → ℕ → ℕ
 row_in_strip form r = r % form.rows_per_strip
 
--- a row as it is handed out, or as it was coded: with colours exchanged where black is coded as
--- white (TIFF 6.0, PhotometricInterpretation)
+-- a row as it is handed out, or as it was coded (TIFF 6.0, PhotometricInterpretation)
 abbrev pub exchanged : PageForm → List Colour → List Colour
 exchanged form row = if form.exchanged then map other row else row
 
--- the bits before a row in its strip, and its reference: none, and a white row, for a strip's first
--- row (T.4, section 4.2.1.1; T.6, section 2.2.1)
+-- the bits before a row in its strip, and its reference (T.4, section 4.2.1.1; T.6, section 2.2.1)
 abbrev pub bits_before : Option Inner → ℕ
 bits_before None = 0
 bits_before (Some inner) = inner.bits
@@ -70,7 +64,6 @@ reference_of width None = white_row width
 reference_of width (Some inner) = inner.reference
 
 -- the place of row r of a page: inside its strip, at a strip's first row, or on the page after
--- (TIFF 6.0, RowsPerStrip)
 abbrev pub place_on : PageForm → ℕ → ℕ → Inner → Place
 place_on form p r inner =
     if nat_lt r form.rows
@@ -78,13 +71,13 @@ place_on form p r inner =
     else record { page = p; row = r; inner = Some inner })
     else first_at (p + 1) 0
 
--- the place after an item of a page (TIFF 6.0, RowsPerStrip)
+-- the place after an item of a page
 abbrev pub place_after : PageForm → Item → Place
 place_after form item =
     place_on form item.page (item.row + 1)
     (record { bits = item.bits; reference = exchanged form item.pels })
 
--- the row at a place, in these bytes of its strip (TIFF 6.0, RowsPerStrip)
+-- the row at a place, in these bytes of its strip
 pub record IsItem (form : PageForm) (bytes : List ℕ) (at : Place) (item : Item) : Type 0 where
   pub same_page : item.page ≡ at.page
   pub same_row : item.row ≡ at.row
@@ -102,7 +95,6 @@ IsStop form bytes at fault =
     (drop (bits_before at.inner) (bits form.order bytes)) fault
 
 -- the row at a place and the place after it, or the end, with what the file has of its strip
--- (TIFF 6.0, StripOffsets)
 abbrev pub IsInStrip : PageForm → Place → Option (List ℕ) → Result (Item × Place) End → Type 0
 IsInStrip form at None answer =
     answer ≡ Err (Fault at.page (strip_at form at.row * form.rows_per_strip) (File StripOutside))
@@ -114,27 +106,21 @@ IsInStrip form at (Some bytes) (Err end) =
 abbrev pub cursor_at : Place → Cursor
 cursor_at at = record { page = at.page; row = at.row }
 
--- the row at a place of a file and the place after it, or the end (TIFF 6.0, section 2)
+-- the row at a place of a file and the place after it, or the end
 abbrev pub IsRow : List ℕ → Place → Result (Item × Place) End → Type 0
 IsRow file at =
-    IsOnPage file (cursor_at at)
-    (λ here. IsInStrip here.form at (strip_bytes here.endian file here.offset
-    (strip_at here.form at.row)))
+    IsOnPage file (cursor_at at) (λ here. IsInStrip here.form at
+    (strip_bytes here.endian file here.offset (strip_at here.form at.row)))
 
 -- where a walk from a cursor begins, and how many rows it reads before the cursor's: at the
 -- beginning of the strip that holds the row
 abbrev pub first_row : Cursor → PageForm → Result (Place × ℕ) End
 first_row at form =
-    if nat_lt at.row form.rows
-    then Ok (
-      first_at at.page (strip_at form at.row * form.rows_per_strip),
-      row_in_strip form
-          at.row,
-    )
+    let strip = first_at at.page (strip_at form at.row * form.rows_per_strip) in
+    if nat_lt at.row form.rows then Ok (strip, row_in_strip form at.row)
     else (if at.row == form.rows then Ok (first_at (at.page + 1) 0, 0) else Err Outside)
 
--- the runs of a place inside a strip are those of a row of the page's width, and its bits are there
--- in what the file has of the strip
+-- a place inside a strip has the runs of a row of the width, and its bits are there in the strip
 pub record IsInner (width : ℕ) (bytes : List ℕ) (place : LongPlace) : Type 0 where
   pub within : place.bits ≤ 8 * length bytes
   pub width_is : length (pels_of White place.runs) ≡ width
@@ -180,16 +166,11 @@ IsTailFrom file begun items end =
     (begin : Result (Place × ℕ) End) × Begins file begun begin
     × AreBegun (IsRow file) begin items end
 
--- the items of a file and their end (TIFF 6.0, section 2)
-abbrev pub AreItems : List ℕ → List Item → End → Type 0
-AreItems file items end = AreFrom (IsRow file) (first_at 0 0) items end
-
 -- the cursor after an item
 abbrev pub cursor_after : Item → Cursor
 cursor_after item = record { page = item.page; row = item.row + 1 }
 
--- the place inside a strip at a place, as a long cursor names it, if there is one whose bits are a
--- number of 32 bits
+-- the place inside a strip at a place, as a long cursor names it, if its bits have 32 bits
 abbrev pub long_at : ℕ → ℕ → Option Inner → Option LongPlace
 long_at p r None = None
 long_at p r (Some inner) =

@@ -1,3 +1,4 @@
+pub mod InOrder
 pub mod Walk
 pub mod Pages
 pub mod Lent

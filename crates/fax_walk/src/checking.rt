@@ -31,7 +31,7 @@ pub enum NoteKind {
 }
 
 impl NoteKind {
-    ghost use Rattle.fax_walk.specs.NoteNames.{note_name, note_number};
+    ghost use Rattle.fax_walk.specs.Report.{note_name, note_number};
 
     /// The note's name.
     pub fn name(self) -> &'static str

@@ -66,7 +66,7 @@ fn page_after<'a>(chain: Chain<'a>) -> Result<DuePage<'a>, End>
 /// The first page from a cursor on: the one that it names at row 0, else the one after it; or how
 /// the pages end there.
 fn first_page<'a>(file: &'a [u8], cursor: Cursor) -> Result<DuePage<'a>, End>
-    ensures ok { IfOk result (Spec.BeginsWith file.now cursor) }
+    ensures ok { IfOk result (Spec.IsFirstDue file.now cursor) }
     ensures err { IfErr result (IsFormTail file.now cursor []) }
 {
     let Some(page) = DuePage::at(file, cursor)? else {

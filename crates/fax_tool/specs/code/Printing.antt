@@ -9,7 +9,7 @@ use Rattle.fax_walk.specs.declared.end.End.TheVariants.{Proper, Fault, Outside}
 use Rattle.fax_walk.specs.declared.end.WalkFault.{WalkFault}
 use Rattle.fax_walk.specs.declared.end.WalkFault.TheVariants.{AtRow, CursorOutside}
 use Rattle.fax_walk.specs.declared.end.WalkFault.TheVariants.{Memory as NoRoom}
-use Rattle.fax_walk.specs.InOrder.{IsNumber, EndsAfter}
+use Rattle.fax_walk.specs.views.InOrder.{IsNumber, EndsAfter}
 use Rattle.fax_tool.specs.Text.{Line, named, next_after, next_line, texts_of}
 
 -- how lines end where a walk or a reader of pages answers so; want of memory is no end

@@ -11,9 +11,8 @@ use Rattle.fax_walk.specs.declared.checking.Note.{Note}
 use Rattle.fax_walk.specs.declared.checking.PageRead.{PageRead}
 use Rattle.fax_walk.specs.declared.end.End.{End}
 use Rattle.fax_walk.specs.declared.end.End.TheVariants.{Fault}
-use Rattle.fax_walk.specs.InOrder.{AreFrom}
+use Rattle.fax_walk.specs.Pages.{AreFrom, IsPageAt, page_or_end}
 use Rattle.fax_walk.specs.laws.InOrder.{LeadTo}
-use Rattle.fax_walk.specs.Pages.{IsPageAt, page_or_end}
 use Rattle.fax_walk.specs.Rows.{Item, Place, first_at, IsRow}
 use Rattle.fax_walk.specs.Report.{Checked, directory_at, strip_of, IsNoted}
 use Rattle.fax_walk.specs.code.Stages.{most_rows}

@@ -6,7 +6,7 @@ use Rattle.fax_walk.specs.declared.end.End.{End}
 use Rattle.fax_walk.specs.declared.pages.PagesStage.{PagesStage}
 use Rattle.fax_walk.specs.declared.pages.PagesStage.TheVariants.{Before, After, Ended}
 use Rattle.fax_walk.specs.laws.InOrder.{LeadTo}
-use Rattle.fax_walk.specs.InOrder.{EndsAfter, HasToldNoOther}
+use Rattle.fax_walk.specs.views.InOrder.{EndsAfter, HasToldNoOther}
 use Rattle.fax_walk.specs.Pages.{FormItem, IsForm, AreFormsBegun, IsFormTail}
 use Rattle.fax_walk.specs.views.Pages.{PagesView, IsTailOf}
 use Rattle.fax_walk.specs.code.Opening.{PageDue, IsChainBefore}
@@ -38,7 +38,7 @@ abbrev pub IsPageAfter : ChainState → PageDue → Type 0
 IsPageAfter chain due = (due.page ≡ chain.given) × (due.directory.file ≡ chain.tiff.file)
 
 -- a reader from a cursor begins with this page
-pub record BeginsWith (file : List ℕ) (at : Cursor) (due : PageDue) : Type 0 where
+pub record IsFirstDue (file : List ℕ) (at : Cursor) (due : PageDue) : Type 0 where
   pub begins : AreFormsBegun file at (Ok (due.page, 0))
   pub file_is : due.directory.file ≡ file
 

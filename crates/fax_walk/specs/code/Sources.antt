@@ -15,12 +15,12 @@ use Rattle.fax_walk.specs.declared.options.ConvertFault.{ConvertFault}
 use Rattle.fax_walk.specs.declared.options.ConvertFault.TheVariants.{Source, Memory}
 use Rattle.fax_walk.specs.declared.output.Output.{Output}
 use Rattle.fax_walk.specs.declared.sheet.Sheet.{Sheet}
-use Rattle.fax_walk.specs.Cursor.{start}
+use Rattle.fax_walk.specs.Cursors.{start}
 use Rattle.fax_walk.specs.laws.InOrder.{LeadTo}
-use Rattle.fax_walk.specs.InOrder.{EndsAfter}
-use Rattle.fax_walk.specs.Pages.{FormItem, IsForm, AreForms}
-use Rattle.fax_walk.specs.Rows.{Item, Place, first_at, IsRow, AreItems}
-use Rattle.fax_walk.specs.Converted.{SourcePage, page_of_image, page_of_form}
+use Rattle.fax_walk.specs.views.InOrder.{EndsAfter}
+use Rattle.fax_walk.specs.Pages.{FormItem, IsForm}
+use Rattle.fax_walk.specs.Converted.{AreForms, AreItems, SourcePage, page_of_image, page_of_form}
+use Rattle.fax_walk.specs.Rows.{Item, Place, first_at, IsRow}
 use Rattle.fax_walk.specs.views.Walk.{WalkView}
 use Rattle.fax_walk.specs.views.Pages.{PagesView}
 use Rattle.fax_walk.specs.code.Output.{Progress, Part, no_rows, image_sheet, IsPartWritten}

@@ -6,19 +6,19 @@ use Rattle.fax_walk.specs.declared.begun.Begun.{Begun}
 use Rattle.fax_walk.specs.declared.begun.Begun.TheVariants.{At, Inside}
 use Rattle.fax_walk.specs.declared.cursor.Cursor.{Cursor}
 use Rattle.fax_walk.specs.declared.end.End.{End}
-use Rattle.fax_walk.specs.Cursor.{start}
-use Rattle.fax_walk.specs.LongCursor.{LongPlace}
-use Rattle.fax_walk.specs.Pages.{FormItem, IsForm, IsFormTail, AreForms, FilePage, IsPageAt}
-use Rattle.fax_walk.specs.Pages.{cursor_after_page}
+use Rattle.fax_walk.specs.Cursors.{start, LongPlace}
+use Rattle.fax_walk.specs.Pages.{FormItem, IsForm, IsFormTail, FilePage, IsPageAt}
+use Rattle.fax_walk.specs.Pages.{cursor_after_page, AreFrom}
+use Rattle.fax_walk.specs.Converted.{AreForms, AreItems}
 use Rattle.fax_walk.specs.views.Pages.{PagesView, HandsOutPage, PagesHaveEnded}
 use Rattle.fax_walk.specs.laws.Forms.{AreFormsLeft}
-use Rattle.fax_walk.specs.InOrder.{AreFrom, EndsAfter}
+use Rattle.fax_walk.specs.views.InOrder.{EndsAfter}
 use Rattle.fax_walk.specs.laws.InOrder.{LeadTo, IsOne}
 use Rattle.fax_walk.specs.views.Walk.{WalkView, EndsBefore, IsTailOf, IsItemNumber, IsCursorOf}
 use Rattle.fax_walk.specs.laws.Left.{IsLeft}
 use Rattle.fax_walk.specs.views.Walk.{IsLongOf}
-use Rattle.fax_walk.specs.Rows.{Item, first_at, strip_at, row_in_strip, inner_at, IsRow, AreItems}
-use Rattle.fax_walk.specs.Rows.{IsTailFrom, cursor_after, long_after}
+use Rattle.fax_walk.specs.Rows.{Item, first_at, strip_at, row_in_strip, inner_at, IsRow, IsTailFrom}
+use Rattle.fax_walk.specs.Rows.{cursor_after, long_after}
 
 -- whatever a walk begins with has a tail and an end, and one only
 abbrev pub BeginningsHaveOneTail : Type 0

@@ -15,9 +15,9 @@ use Rattle.fax_files.specs.Directory.{max_file}
 use Rattle.fax_files.specs.laws.Files.{AreRowsOf, AreWritable}
 use Rattle.fax_walk.specs.declared.end.End.TheVariants.{Proper}
 use Rattle.fax_walk.specs.declared.options.Options.{Options}
-use Rattle.fax_walk.specs.Converted.{SourcePage, written_page}
-use Rattle.fax_walk.specs.Pages.{FormItem, AreForms}
-use Rattle.fax_walk.specs.Rows.{Item, AreItems}
+use Rattle.fax_walk.specs.Converted.{SourcePage, written_page, AreForms, AreItems}
+use Rattle.fax_walk.specs.Pages.{FormItem}
+use Rattle.fax_walk.specs.Rows.{Item}
 
 -- a row with its page and its number there, both from 0
 pub record WalkedRow : Type 0 where

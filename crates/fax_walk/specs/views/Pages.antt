@@ -7,8 +7,8 @@ use Rattle.fax_walk.specs.declared.end.End.{End}
 use Rattle.fax_walk.specs.declared.end.End.TheVariants.{Proper, Fault, Outside}
 use Rattle.fax_walk.specs.declared.end.WalkFault.{WalkFault}
 use Rattle.fax_walk.specs.declared.end.WalkFault.TheVariants.{Memory, AtRow, CursorOutside}
-use Rattle.fax_walk.specs.Cursor.{start}
-use Rattle.fax_walk.specs.InOrder.{IsNumber, EndsAfter, HasToldNoOther}
+use Rattle.fax_walk.specs.Cursors.{start}
+use Rattle.fax_walk.specs.views.InOrder.{IsNumber, EndsAfter, HasToldNoOther}
 use Rattle.fax_walk.specs.laws.InOrder.{IsLeftOf}
 use Rattle.fax_walk.specs.Pages.{FormItem, IsFormTail, cursor_after_page}
 
