@@ -12,9 +12,10 @@ use Rattle.fax_tool.specs.declared.refusal.Refusal.TheVariants.{Memory, Read, Wr
 use Rattle.fax_tool.specs.declared.words.Command.{Command}
 use Rattle.fax_tool.specs.declared.words.Command.TheVariants.{List as Forms, Rows}
 use Rattle.fax_tool.specs.declared.words.Part.{Part}
-use Rattle.fax_tool.specs.Streams.{Counts, Input, Output, input_after, output_after}
+use Rattle.fax_tool.specs.Run.{Counts, Input, Output, AreRowLines, HasReason, HasWorked, IsRead}
+use Rattle.fax_tool.specs.Run.{IsTextAfterMemory, IsTextOf, IsTextOfFirst, begun_of}
+use Rattle.fax_tool.specs.views.Streams.{input_after, output_after}
 use Rattle.fax_tool.specs.Text.{Line, Printed, next_line}
-use Rattle.fax_tool.specs.Run.{AreRowLines, HasReason, HasWorked, IsRead, IsTextAfterMemory, IsTextOf, IsTextOfFirst, begun_of}
 use Rattle.fax_tool.specs.code.Outcome.{HasPrintReason, HasReadReason, IsDone, IsStopped, StopsAtBeginning, StopsPrinting, StopsWith}
 use Rattle.fax_tool.specs.code.Outcome.{WritesOutput}
 use Rattle.fax_tool.specs.code.Transfers.{IsGivenInPart}

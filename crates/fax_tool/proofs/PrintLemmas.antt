@@ -13,9 +13,9 @@ use Rattle.fax_walk.specs.views.InOrder.{IsNumber, EndsAfter}
 use Rattle.fax_walk.specs.laws.InOrder.{IsOne}
 use Rattle.fax_walk.specs.Rows.{begins_at}
 use Rattle.fax_tool.specs.declared.refusal.Refusal.{Refusal}
-use Rattle.fax_tool.specs.Streams.{Counts, output_after}
+use Rattle.fax_tool.specs.Run.{Counts, IsTextOfFirst}
+use Rattle.fax_tool.specs.views.Streams.{output_after}
 use Rattle.fax_tool.specs.Text.{Line, named, next_after, next_line, texts_of}
-use Rattle.fax_tool.specs.Run.{IsTextOfFirst}
 use Rattle.fax_tool.specs.code.Outcome.{StopsPrinting, StopsWith}
 use Rattle.fax_tool.specs.code.Printing.{IsLastLine, IsNextAfter, IsNextLine, PrintsLines}
 use Rattle.fax_tool.specs.code.Transfers.{IsGivenInPart, SendsPart}

@@ -4,9 +4,8 @@ use Rattle.std.specs.Prelude.{Option, Some, None, IfSome, IfOk, IfErr, Result, O
 use Rattle.std.specs.Io.KnownBytes.{Appends}
 use Rattle.fax_tool.specs.declared.refusal.Refusal.{Refusal}
 use Rattle.fax_tool.specs.declared.words.Command.{Command}
-use Rattle.fax_tool.specs.Streams.{Input, Output}
+use Rattle.fax_tool.specs.Run.{Input, Output, AppendsText, IsRefused, IsTextOf, WritesText}
 use Rattle.fax_tool.specs.Text.{Printed}
-use Rattle.fax_tool.specs.Run.{AppendsText, IsRefused, IsTextOf, WritesText}
 use Rattle.fax_tool.specs.code.Outcome.{IsDone, IsReport, IsStopped, WritesOutput, error_of, status_of}
 
 low_status : (line : Option (List ℕ)) → status_of line ≡ 3 → ⊥

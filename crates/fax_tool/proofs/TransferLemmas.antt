@@ -7,8 +7,9 @@ use Rattle.std.proofs.KnownBytes.{Appends-nil, Appends-trans, Appends-kept}
 use Rattle.std.specs.Prelude.{Option, Result, Ok, Err, IfErr, ⊤}
 use Rattle.std.specs.Io.KnownBytes.{Appends, Keeps}
 use Rattle.fax_tool.specs.declared.refusal.Refusal.{Refusal}
-use Rattle.fax_tool.specs.Streams.{Counts, capped_sum, input_after}
-use Rattle.fax_tool.specs.Run.{IsRead, most_input, most_interrupted}
+use Rattle.fax_tool.specs.Run.{Counts, IsRead, most_interrupted}
+use Rattle.fax_files.specs.Directory.{max_file}
+use Rattle.fax_tool.specs.views.Streams.{capped_sum, input_after}
 use Rattle.fax_tool.specs.code.Transfers.{counted, IsGivenInPart, SendsPart, WritesFront}
 
 -- some front of the bytes is written
@@ -86,7 +87,7 @@ all_sent old new text left given none = rw none (record { part = text; parts = s
 
 -- an input of which so much was taken has worked
 pub still_read : (bytes : Option (List ℕ)) (new old : Counts) (interruptions taken more new_taken : ℕ) → interruptions ≤ most_interrupted
-    → old ≡ counted interruptions → new ≡ old → new_taken ≡ capped_sum taken more → taken + more ≤ most_input
+    → old ≡ counted interruptions → new ≡ old → new_taken ≡ capped_sum taken more → taken + more ≤ max_file
     → IsRead (input_after bytes new_taken new)
 still_read bytes new old interruptions taken more new_taken few is same taken_is within =
     (rw (same, is) (few, refl), omega (arith, taken_is, within))

@@ -13,10 +13,11 @@ use Rattle.fax_walk.specs.declared.options.ConvertFault.{ConvertFault}
 use Rattle.fax_walk.specs.declared.options.ConvertFault.TheVariants.{Memory as NoMemory}
 use Rattle.fax_tool.specs.declared.refusal.Refusal.{Refusal}
 use Rattle.fax_tool.specs.declared.words.Command.TheVariants.{Convert, Check}
-use Rattle.fax_tool.specs.Streams.{Counts, input_after, output_after}
-use Rattle.fax_tool.specs.Text.{Printed, convert_fault_line}
-use Rattle.fax_tool.specs.ReportText.{report_output, report_text, printed_report}
-use Rattle.fax_tool.specs.Run.{HasWorked, IsRead, IsTextOf}
+use Rattle.fax_tool.specs.Run.{Counts, HasWorked, IsRead, IsTextOf}
+use Rattle.fax_tool.specs.views.Streams.{input_after, output_after}
+use Rattle.fax_tool.specs.Text.{Printed}
+use Rattle.fax_tool.specs.ReportText.{convert_fault_line, report_output, report_text}
+use Rattle.fax_tool.specs.ReportText.{printed_report}
 use Rattle.fax_tool.specs.code.Outcome.{IsDone, IsLineOf, IsStopped, WritesOutput, error_of, status_of}
 use Rattle.fax_tool.specs.code.Transfers.{IsGivenInPart}
 use Rattle.fax_tool.proofs.CommandLemmas.{text_stopped}

@@ -1,4 +1,3 @@
-pub mod Streams
 pub mod Words
 pub mod CommandLine
 pub mod Job
@@ -7,3 +6,4 @@ pub mod ReportText
 pub mod Run
 pub mod code
 pub mod laws
+pub mod views

@@ -1,11 +1,19 @@
--- The text of `check`.
+-- What is written of a file that is checked, and of one that is converted.
 -- A definition without a citation is this project's profile.
-use Rattle.std.specs.Prelude.{ℕ, List, [], ◌++◌, flat_map, Option, Some, None, codes, decimal}
+use Rattle.std.specs.Prelude.{◌≡◌, ◌⊎◌, ℕ, List, [], ◌++◌, flat_map, Option, Some, None, codes}
+use Rattle.std.specs.Prelude.{decimal}
 use Rattle.fax_files.specs.declared.Cause.{Cause}
-use Rattle.fax_walk.specs.Report.{note_name, note_number}
+use Rattle.fax_files.specs.declared.pbm.PbmFault.{PbmFault}
+use Rattle.fax_files.specs.Pbm.{pbm_fault_name}
 use Rattle.fax_walk.specs.declared.checking.Note.{Note}
 use Rattle.fax_walk.specs.declared.checking.Report.{Report}
+use Rattle.fax_walk.specs.declared.options.ConvertFault.{ConvertFault}
+use Rattle.fax_walk.specs.declared.options.ConvertFault.TheVariants.{UnknownInput, Pbm, Source}
+use Rattle.fax_walk.specs.declared.options.ConvertFault.TheVariants.{OutputTooLarge, Memory}
+use Rattle.fax_walk.specs.declared.options.Options.{Options}
 use Rattle.fax_walk.specs.declared.walk.Place.{Place}
+use Rattle.fax_walk.specs.Converted.{IsConverted, IsRefused as IsNotConverted}
+use Rattle.fax_walk.specs.Report.{IsReport, note_name, note_number}
 use Rattle.fax_tool.specs.Text.{Printed, and_number, fault_line, line_end}
 
 -- ` strip S`, where a note is on a strip
@@ -17,9 +25,8 @@ and_strip (Some strip) = codes " strip" ++ and_number strip
 -- EntriesOutOfOrder`
 unfoldable pub note_line : Note → List ℕ
 note_line note =
-    codes "note page" ++ and_number note.page ++ and_strip note.strip ++ codes ": N" ++ decimal
-    (note_number note.kind)
-    ++ codes " " ++ note_name note.kind ++ line_end
+    codes "note page" ++ and_number note.page ++ and_strip note.strip ++ codes ": N"
+    ++ decimal (note_number note.kind) ++ codes " " ++ note_name note.kind ++ line_end
 
 -- `pages P rows R`: how many pages were read wholly, and how many rows
 abbrev pub counts_line : ℕ → ℕ → List ℕ
@@ -39,3 +46,28 @@ printed_report output (Some fault) =
 -- the text of a report
 abbrev pub report_text : Report → Printed
 report_text report = printed_report (report_output report) report.fault
+
+-- what is written of a file that is checked
+abbrev pub IsCheckText : List ℕ → Printed → Type 0
+IsCheckText file printed = (report : Report) × IsReport file report × (printed ≡ report_text report)
+
+-- `fault image I: Name`
+abbrev pub image_fault_line : ℕ → PbmFault → List ℕ
+image_fault_line image fault =
+    codes "fault image" ++ and_number image ++ codes ": " ++ pbm_fault_name fault ++ line_end
+
+-- the error line of a file that is not converted
+abbrev pub convert_fault_line : ConvertFault → List ℕ
+convert_fault_line UnknownInput = codes "fault: UnknownInput\n"
+convert_fault_line (Pbm image fault) = image_fault_line image fault
+convert_fault_line (Source page row cause) = fault_line page row cause
+convert_fault_line OutputTooLarge = codes "fault: OutputTooLarge\n"
+convert_fault_line Memory = codes "fault: Memory\n"
+
+-- what is written of a file that is converted, or is not
+abbrev pub IsConversionText : Options → List ℕ → Printed → Type 0
+IsConversionText options file printed =
+    ((output : List ℕ) × IsConverted file options output
+    × (printed ≡ record { output = output; error = []; status = 0 }))
+    ⊎ ((fault : ConvertFault) × IsNotConverted file options fault
+    × (printed ≡ record { output = []; error = convert_fault_line fault; status = 1 }))

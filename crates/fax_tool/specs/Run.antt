@@ -9,32 +9,44 @@ use Rattle.fax_walk.specs.declared.begun.Begun.{Begun}
 use Rattle.fax_walk.specs.declared.begun.Begun.TheVariants.{At}
 use Rattle.fax_walk.specs.declared.cursor.Cursor.{Cursor}
 use Rattle.fax_walk.specs.declared.end.End.{End}
-use Rattle.fax_walk.specs.declared.options.Options.{Options}
-use Rattle.fax_walk.specs.declared.options.ConvertFault.{ConvertFault}
-use Rattle.fax_walk.specs.declared.checking.Report.{Report}
-use Rattle.fax_walk.specs.Converted.{IsConverted, IsRefused as IsNotConverted}
 use Rattle.fax_walk.specs.Pages.{FilePage, FormItem, IsFormTail, IsPageAt}
-use Rattle.fax_walk.specs.Report.{IsReport}
 use Rattle.fax_walk.specs.Rows.{Item, IsTailFrom}
 use Rattle.fax_tool.specs.declared.refusal.Refusal.{Refusal}
 use Rattle.fax_tool.specs.declared.refusal.Refusal.TheVariants.{Memory, Read, Write}
 use Rattle.fax_tool.specs.declared.words.Command.{Command}
-use Rattle.fax_tool.specs.declared.words.Part.{Part}
 use Rattle.fax_tool.specs.declared.words.Command.TheVariants.{List as Forms, Rows, Convert, Check}
-use Rattle.fax_tool.specs.Streams.{Counts, Input, Output}
-use Rattle.fax_tool.specs.Text.{Line, Printed, begun_at, convert_fault_line, first_text}
-use Rattle.fax_tool.specs.Text.{line_of_page, line_of_row, text_of}
-use Rattle.fax_tool.specs.ReportText.{report_text}
+use Rattle.fax_tool.specs.declared.words.Part.{Part}
+use Rattle.fax_tool.specs.ReportText.{IsCheckText, IsConversionText}
+use Rattle.fax_tool.specs.Text.{Line, Printed, begun_at, first_text, line_of_page, line_of_row}
+use Rattle.fax_tool.specs.Text.{text_of}
+
+-- how many calls on a stream were interrupted, and how many failed
+pub record Counts : Type 0 where
+  pub interrupted : ℕ
+  pub failed : ℕ
+
+-- an input after a run: its bytes before it, where they are known, how many were taken, and its
+-- counts
+pub record Input : Type 0 where
+  pub bytes : Option (List ℕ)
+  pub taken : ℕ
+  pub counts : Counts
+
+-- an output after a run: what was written before it and after it, where that is known, and its
+-- counts
+pub record Output : Type 0 where
+  pub before : Option (List ℕ)
+  pub after : Option (List ℕ)
+  pub counts : Counts
 
 -- so many interrupted calls of a stream are made again
 abbrev pub most_interrupted : ℕ
 most_interrupted = 1023
 
--- a call on the stream failed, or too many were interrupted
+-- a call on the stream failed, or too many were interrupted; or neither was so
 abbrev pub HasFailed : Counts → Type 0
 HasFailed counts = (most_interrupted < counts.interrupted) ⊎ (0 < counts.failed)
 
--- no call on the stream failed, and not too many were interrupted
 abbrev pub HasWorked : Counts → Type 0
 HasWorked counts = (counts.interrupted ≤ most_interrupted) × (counts.failed ≡ 0)
 
@@ -42,17 +54,12 @@ HasWorked counts = (counts.interrupted ≤ most_interrupted) × (counts.failed �
 abbrev pub IsStatus : ℕ → Type 0
 IsStatus status = (status ≡ 0) ⊎ (status ≡ 1) ⊎ (status ≡ 3)
 
--- the most bytes of an input
-abbrev pub most_input : ℕ
-most_input = max_file
-
--- the input worked, and is not too long
+-- the input worked, and is not too long; or it failed, or is too long
 abbrev pub IsRead : Input → Type 0
-IsRead input = HasWorked input.counts × (input.taken ≤ most_input)
+IsRead input = HasWorked input.counts × (input.taken ≤ max_file)
 
--- the input failed, or is too long
 abbrev pub IsUnread : Input → Type 0
-IsUnread input = HasFailed input.counts ⊎ (most_input < input.taken)
+IsUnread input = HasFailed input.counts ⊎ (max_file < input.taken)
 
 -- the line of a refusal that is no fault of the input
 abbrev pub refusal_line : Refusal → List ℕ
@@ -60,8 +67,7 @@ refusal_line Memory = codes "fault: Memory\n"
 refusal_line Read = codes "fault: Read\n"
 refusal_line Write = codes "fault: Write\n"
 
--- a refusal is answered for its reason alone: Read where the input failed or is too long, Write
--- where the output failed, and Memory where neither was so
+-- a refusal is answered for its reason alone
 abbrev pub HasReason : Refusal → Input → Output → Type 0
 HasReason Memory input output = IsRead input × HasWorked output.counts
 HasReason Read input output = IsUnread input × HasWorked output.counts
@@ -93,8 +99,8 @@ IsTextOfLines are long max begun printed =
     (lines : List Line) × (end : End) × are lines end
     × (printed ≡ text_of long max begun lines end)
 
--- what is written of such lines where memory is refused: the first of them, at most up to a limit,
--- and the cursor where to go on
+-- what is written of such lines where memory is refused: the first of them, up to a limit at most,
+-- and where to go on
 pub record IsTextOfFirst (are : List Line → End → Type 0) (max : Option ℕ) (begun : Begun)
     (output : List ℕ) : Type 0 where
   pub lines : List Line
@@ -109,14 +115,6 @@ pub record IsTextOfFirst (are : List Line → End → Type 0) (max : Option ℕ)
 abbrev pub begun_of : Part → Begun
 begun_of part = begun_at part.from part.cursor
 
--- what is written of a file that is converted, or is not
-abbrev pub IsConversionText : Options → List ℕ → Printed → Type 0
-IsConversionText options file printed =
-    ((output : List ℕ) × IsConverted file options output
-    × (printed ≡ record { output = output; error = []; status = 0 }))
-    ⊎ ((fault : ConvertFault) × IsNotConverted file options fault
-    × (printed ≡ record { output = []; error = convert_fault_line fault; status = 1 }))
-
 -- what a command writes of a file
 abbrev pub IsTextOf : Command → List ℕ → Printed → Type 0
 IsTextOf (Forms part) file =
@@ -124,8 +122,7 @@ IsTextOf (Forms part) file =
 IsTextOf (Rows part) file =
     IsTextOfLines (AreRowLines file (begun_of part)) part.long part.max (begun_of part)
 IsTextOf (Convert options) file = IsConversionText options file
-IsTextOf Check file =
-    λ printed. (report : Report) × IsReport file report × (printed ≡ report_text report)
+IsTextOf Check file = IsCheckText file
 
 -- what a command writes of a file where memory is refused
 abbrev pub IsTextAfterMemory : Command → List ℕ → List ℕ → Type 0
@@ -175,8 +172,7 @@ pub record WritesOutputAlone (command : Command) (input : Input)
   pub text : IfSome input.bytes (λ file. (printed : Printed) × IsTextOf command file printed
       × Appends output.before output.after printed.output)
 
--- a run that was refused left what it has to, and said why, for a reason, or the error stream
--- failed too
+-- a run that was refused, for a reason: it left what it has to, and said why, or could not say it
 pub record SaysRefusal (command : Command) (refusal : Refusal) (input : Input)
     (output error : Output) : Type 0 where
   pub reason : HasReason refusal input output

@@ -7,27 +7,21 @@ use Rattle.fax_page.specs.declared.Coding.{Coding}
 use Rattle.fax_page.specs.declared.Coding.TheVariants.{Mh, Mr, Mmr}
 use Rattle.fax_files.specs.declared.Cause.{Cause}
 use Rattle.fax_files.specs.declared.PageForm.{PageForm}
-use Rattle.fax_files.specs.declared.pbm.PbmFault.{PbmFault}
 use Rattle.fax_files.specs.FaultNames.{fault_name, fault_tag}
-use Rattle.fax_files.specs.Pbm.{pbm_fault_name}
 use Rattle.fax_files.specs.Page.{fill_order_of}
 use Rattle.fax_walk.specs.declared.begun.Begun.{Begun}
 use Rattle.fax_walk.specs.declared.begun.Begun.TheVariants.{At, Inside}
 use Rattle.fax_walk.specs.declared.cursor.Cursor.{Cursor}
 use Rattle.fax_walk.specs.declared.end.End.{End}
 use Rattle.fax_walk.specs.declared.end.End.TheVariants.{Proper, Fault, Outside}
-use Rattle.fax_walk.specs.declared.options.ConvertFault.{ConvertFault}
-use Rattle.fax_walk.specs.declared.options.ConvertFault.TheVariants.{UnknownInput, Pbm, Source}
-use Rattle.fax_walk.specs.declared.options.ConvertFault.TheVariants.{OutputTooLarge, Memory}
-use Rattle.fax_walk.specs.Cursors.{cursor_text, LongPlace, long_cursor_text}
+use Rattle.fax_walk.specs.Cursors.{LongPlace, cursor_text, long_cursor_text}
 use Rattle.fax_walk.specs.Pages.{FormItem, cursor_after_page}
 use Rattle.fax_walk.specs.Rows.{Item, begins_at, cursor_after, long_after}
 
--- a line end
+-- a line end, and a blank and the number
 abbrev pub line_end : List ℕ
 line_end = codes "\n"
 
--- a blank and the number
 abbrev pub and_number : ℕ → List ℕ
 and_number n = codes " " ++ decimal n
 
@@ -58,10 +52,9 @@ and_fraction value = and_number value.0 ++ codes "/" ++ decimal value.1
 -- interpretation, strips, resolution and its unit
 unfoldable pub page_line_of : ℕ → PageForm → List ℕ
 page_line_of page form =
-    codes "page" ++ and_number page ++ and_number form.width ++ and_number form.rows ++ and_coding
-    form.coding
-    ++ and_number (fill_order_of form.order) ++ and_number
-    (photometric_of form.exchanged) ++ and_number form.strips
+    codes "page" ++ and_number page ++ and_number form.width ++ and_number form.rows
+    ++ and_coding form.coding ++ and_number (fill_order_of form.order)
+    ++ and_number (photometric_of form.exchanged) ++ and_number form.strips
     ++ and_fraction form.x ++ and_fraction form.y ++ and_number form.unit ++ line_end
 
 -- what a run begins with: the place inside a strip, where there is one, else the cursor
@@ -69,7 +62,7 @@ abbrev pub begun_at : Option LongPlace → Cursor → Begun
 begun_at None at = At at
 begun_at (Some place) at = Inside place
 
--- a line of the output, and what a run begins with that goes on after what it tells
+-- a line of the output, and what a run begins with that goes on after it
 pub record Line : Type 0 where
   pub text : List ℕ
   pub next : Begun
@@ -102,22 +95,8 @@ and_tag (Some tag) = and_number tag
 -- `fault page P row R: Name`, with the tag of the field at fault after the name
 unfoldable pub fault_line : ℕ → ℕ → Cause → List ℕ
 fault_line page row cause =
-    codes "fault page" ++ and_number page ++ codes " row" ++ and_number row ++ codes
-    ": " ++ fault_name cause
-    ++ and_tag (fault_tag cause) ++ line_end
-
--- `fault image I: Name`
-abbrev pub image_fault_line : ℕ → PbmFault → List ℕ
-image_fault_line image fault =
-    codes "fault image" ++ and_number image ++ codes ": " ++ pbm_fault_name fault ++ line_end
-
--- the error line of a file that is not converted
-abbrev pub convert_fault_line : ConvertFault → List ℕ
-convert_fault_line UnknownInput = codes "fault: UnknownInput\n"
-convert_fault_line (Pbm image fault) = image_fault_line image fault
-convert_fault_line (Source page row cause) = fault_line page row cause
-convert_fault_line OutputTooLarge = codes "fault: OutputTooLarge\n"
-convert_fault_line Memory = codes "fault: Memory\n"
+    codes "fault page" ++ and_number page ++ codes " row" ++ and_number row ++ codes ": "
+    ++ fault_name cause ++ and_tag (fault_tag cause) ++ line_end
 
 -- what `next` names of what a run begins with: with long cursors all of it, else its cursor
 abbrev pub named : Bool → Begun → Begun
@@ -140,19 +119,17 @@ pub record Printed : Type 0 where
   pub status : ℕ
 
 -- the last line of the output: `end`, or where to go on after a fault, or none for a cursor outside
--- of the file, which has no lines
 abbrev pub last_line : End → Begun → List ℕ
 last_line Proper next = codes "end\n"
 last_line (Fault page row cause) next = next_line next
 last_line Outside next = []
 
--- the error line of an end
+-- the error line of an end, and its status
 abbrev pub error_text : End → List ℕ
 error_text Proper = []
 error_text (Fault page row cause) = fault_line page row cause
 error_text Outside = codes "fault cursor: CursorOutside\n"
 
--- the status of an end
 abbrev pub end_status : End → ℕ
 end_status Proper = 0
 end_status (Fault page row cause) = 1
@@ -160,23 +137,21 @@ end_status Outside = 1
 
 -- what is written of all lines, which began so, and their end, with long cursors or without
 abbrev pub whole_text : Bool → Begun → List Line → End → Printed
-whole_text long begun lines end =
-    record {
-      output = texts_of lines ++ last_line end (named long (next_after begun lines));
-      error = error_text end;
-      status = end_status end;
-    }
+whole_text long begun lines end = record {
+  output = texts_of lines ++ last_line end (named long (next_after begun lines));
+  error = error_text end;
+  status = end_status end;
+}
 
 -- what is written of these lines where no more are to be
 abbrev pub first_text : Bool → Begun → List Line → Printed
-first_text long begun lines =
-    record {
-      output = texts_of lines ++ next_line (named long (next_after begun lines));
-      error = [];
-      status = 0;
-    }
+first_text long begun lines = record {
+  output = texts_of lines ++ next_line (named long (next_after begun lines));
+  error = [];
+  status = 0;
+}
 
--- What is written of lines and their end: with a limit, and at least so many lines, the first ones
+-- what is written of lines and their end: with a limit, and at least so many lines, the first ones
 -- up to it and where to go on; else all of them and their end
 abbrev pub text_of : Bool → Option ℕ → Begun → List Line → End → Printed
 text_of long None begun lines end = whole_text long begun lines end

@@ -4,7 +4,7 @@ ghost use Rattle.arrayvec.specs.ArrayString.{array_string_len};
 ghost use Rattle.fax_tool.specs.ReportText as Text;
 ghost use Rattle.fax_tool.specs.code.Outcome as Outcome;
 ghost use Rattle.fax_tool.specs.code.Outcome.{IsDone, IsStopped};
-ghost use Rattle.fax_tool.specs.Streams.{input_after, no_faults, output_after};
+ghost use Rattle.fax_tool.specs.views.Streams.{input_after, no_faults, output_after};
 ghost use Rattle.fax_tool.specs.declared.words.Command.TheVariants.{Check};
 
 use crate::collected::Collected;

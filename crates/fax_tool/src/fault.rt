@@ -1,6 +1,7 @@
 //! The error lines of faults of the input.
 ghost use Rattle.std.specs.Prelude.{◌≡◌, ◌≤◌, IfOk, length};
-ghost use Rattle.fax_tool.specs.Text.{fault_line, image_fault_line};
+ghost use Rattle.fax_tool.specs.Text.{fault_line};
+ghost use Rattle.fax_tool.specs.ReportText.{image_fault_line};
 ghost use Rattle.fax_tool.specs.code.Outcome as Spec;
 
 use crate::short::push_number;

@@ -7,10 +7,10 @@ ghost use Rattle.fax_tool.specs.code.Outcome.{IsDone, IsStopped, StopsAtBeginnin
 ghost use Rattle.fax_tool.specs.code.Outcome.{StopsWith, WritesOutput};
 ghost use Rattle.fax_tool.specs.code.Printing.{IsLastLine, IsNextLine, PrintsLines};
 ghost use Rattle.fax_tool.specs.code.Transfers.{IsGivenInPart, SendsPart, counted};
-ghost use Rattle.fax_tool.specs.Streams.{input_after, no_faults, output_after};
+ghost use Rattle.fax_tool.specs.views.Streams.{input_after, no_faults, output_after};
 ghost use Rattle.fax_tool.specs.Text.{Line, next_line};
 ghost use Rattle.fax_tool.specs.Run.{HasWorked, IsRead, IsTextOfFirst, IsTextOfLines, begun_of};
-ghost use Rattle.fax_tool.specs.Run.{most_input};
+ghost use Rattle.fax_files.specs.Directory.{max_file};
 ghost use Rattle.fax_walk.specs.Rows.{begins_at};
 ghost use Rattle.fax_walk.specs.views.Walk.{walk_from};
 ghost use Rattle.fax_walk.specs.declared.begun.Begun.TheVariants.{At};
@@ -284,7 +284,7 @@ fn read_or_stop<R: Source, W: Sink>(
     requires taken { R.taken input.old ≡ 0 }
     requires counts { W.counts out.old ≡ no_faults }
     ensures whole { IfOk result (λ file. IfSome (R.left input.old) (λ bytes. file.items ≡ bytes)) }
-    ensures limit { IfOk result (λ file. vec_len file ≤ most_input) }
+    ensures limit { IfOk result (λ file. vec_len file ≤ max_file) }
     ensures read { OnOk result (IsRead
         (input_after (R.left input.old) (R.taken input.new) (R.counts input.new))) }
     ensures unwritten { OnOk result (out.new ≡ out.old) }

@@ -2,8 +2,9 @@
 ghost use Rattle.std.specs.Prelude.{◌≡◌, ℕ, ◌<◌, ◌≤◌, length, take, Option, List, IfOk, IfErr};
 ghost use Rattle.std.specs.Prelude.{OnOk, Result};
 ghost use Rattle.std.specs.Io.KnownBytes.{Appends, Consumes, IsAtEnd, Keeps};
-ghost use Rattle.fax_tool.specs.Streams.{Counts, counts_after, taken_after, no_faults, TakesBytes};
-ghost use Rattle.fax_tool.specs.Streams.{GivesBytes};
+ghost use Rattle.fax_tool.specs.Run.{Counts};
+ghost use Rattle.fax_tool.specs.views.Streams.{GivesBytes, TakesBytes, counts_after, no_faults};
+ghost use Rattle.fax_tool.specs.views.Streams.{taken_after};
 ghost use Rattle.fax_tool.specs.code.Adapters.{IsFaultOf};
 ghost use Rattle.std.specs.IoError.{error_kind};
 ghost use Rattle.fax_tool.specs.code.Adapters.{reader_of, writer_of};
@@ -24,7 +25,7 @@ pub enum StreamFault {
 /// A stream that bytes are taken from. Contracts see its bytes left, where they are known, how many
 /// bytes were taken, and how many calls were interrupted or failed; counts stay at `u64::MAX`.
 pub trait Source {
-    ghost use Rattle.fax_tool.specs.Streams.{Counts};
+    ghost use Rattle.fax_tool.specs.Run.{Counts};
 
     ghost left: { Self → Option (List ℕ) };
 
@@ -44,7 +45,7 @@ pub trait Source {
 /// A stream that bytes are given to. Contracts see its bytes written, where they are known, and how
 /// many calls were interrupted or failed; counts stay at `u64::MAX`.
 pub trait Sink {
-    ghost use Rattle.fax_tool.specs.Streams.{Counts};
+    ghost use Rattle.fax_tool.specs.Run.{Counts};
 
     ghost written: { Self → Option (List ℕ) };
 
@@ -67,7 +68,7 @@ struct FaultCounts {
 }
 
 impl FaultCounts {
-    ghost use Rattle.fax_tool.specs.Streams.{counts_of, counts_after};
+    ghost use Rattle.fax_tool.specs.views.Streams.{counts_of, counts_after};
 
     /// No call was interrupted, and none failed.
     const NONE: FaultCounts = FaultCounts {
@@ -131,7 +132,7 @@ impl<R: io::Read> FromRead<R> {
 }
 
 impl<R: io::Read> Source for FromRead<R> {
-    ghost use Rattle.fax_tool.specs.Streams.{counts_of};
+    ghost use Rattle.fax_tool.specs.views.Streams.{counts_of};
 
     ghost left = { λ s. R.remaining s.reader };
 
@@ -179,7 +180,7 @@ impl<W: io::Write> ToWrite<W> {
 }
 
 impl<W: io::Write> Sink for ToWrite<W> {
-    ghost use Rattle.fax_tool.specs.Streams.{counts_of};
+    ghost use Rattle.fax_tool.specs.views.Streams.{counts_of};
 
     ghost written = { λ s. W.contents s.writer };
 

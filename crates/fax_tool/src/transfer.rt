@@ -3,8 +3,9 @@ ghost use Rattle.std.specs.Prelude.{◌≡◌, ◌≤◌, ◌<◌, ◌-◌, leng
 ghost use Rattle.std.specs.Prelude.{Err, false, vec_len};
 ghost use Rattle.std.specs.Io.KnownBytes.{Appends};
 ghost use Rattle.fax_tool.specs.declared.refusal.Refusal.TheVariants.{Memory};
-ghost use Rattle.fax_tool.specs.Run.{HasFailed, HasWorked, IsRead, most_input, most_interrupted};
-ghost use Rattle.fax_tool.specs.Streams.{counts_after, input_after, no_faults};
+ghost use Rattle.fax_tool.specs.Run.{HasFailed, HasWorked, IsRead, most_interrupted};
+ghost use Rattle.fax_files.specs.Directory.{max_file};
+ghost use Rattle.fax_tool.specs.views.Streams.{counts_after, input_after, no_faults};
 ghost use Rattle.fax_tool.specs.code.Outcome.{HasReadReason};
 ghost use Rattle.fax_tool.specs.code.Transfers.{IsGivenInPart, counted};
 
@@ -87,7 +88,7 @@ pub fn read_whole<R: Source>(alloc: Global, input: &mut R) -> Result<Vec<u8>, Re
     requires counts { R.counts input.old ≡ no_faults }
     requires taken { R.taken input.old ≡ 0 }
     ensures whole { IfOk result (λ file. IfSome (R.left input.old) (λ bytes. file.items ≡ bytes)) }
-    ensures limit { IfOk result (λ file. vec_len file ≤ most_input) }
+    ensures limit { IfOk result (λ file. vec_len file ≤ max_file) }
     ensures read { OnOk result (IsRead
         (input_after (R.left input.old) (R.taken input.new) (R.counts input.new))) }
     ensures reason { IfErr result (λ refusal. HasReadReason refusal

@@ -9,10 +9,10 @@ use Rattle.fax_walk.specs.declared.options.ConvertFault.TheVariants.{Memory as N
 use Rattle.fax_tool.specs.declared.refusal.Refusal.{Refusal}
 use Rattle.fax_tool.specs.declared.refusal.Refusal.TheVariants.{Memory, Read, Write}
 use Rattle.fax_tool.specs.declared.words.Command.{Command}
-use Rattle.fax_tool.specs.Text.{Printed, convert_fault_line, error_text}
-use Rattle.fax_tool.specs.Streams.{Counts, Input, Output}
-use Rattle.fax_tool.specs.Run.{HasFailed, HasReason, HasWorked, IsRead, IsTextAfterMemory}
-use Rattle.fax_tool.specs.Run.{IsTextOf, IsUnread, LeavesText, refusal_line}
+use Rattle.fax_tool.specs.Text.{Printed, error_text}
+use Rattle.fax_tool.specs.ReportText.{convert_fault_line}
+use Rattle.fax_tool.specs.Run.{Counts, Input, Output, HasFailed, HasReason, HasWorked, IsRead}
+use Rattle.fax_tool.specs.Run.{IsTextAfterMemory, IsTextOf, IsUnread, LeavesText, refusal_line}
 
 -- this is the line of the fault for which a file is not converted
 abbrev pub IsLineOf : ConvertFault → List ℕ → Type 0

@@ -4,8 +4,7 @@ use Rattle.std.specs.Prelude.{◌≡◌, ◌⊎◌, ℕ, List, Option, IfSome}
 use Rattle.std.specs.Io.KnownBytes.{Appends}
 use Rattle.clap.specs.Walk.{Text}
 use Rattle.fax_tool.specs.Job.{IsFault, IsJob}
-use Rattle.fax_tool.specs.Run.{HasFailed, IsRefused, WritesText}
-use Rattle.fax_tool.specs.Streams.{Counts, Input, Output}
+use Rattle.fax_tool.specs.Run.{HasFailed, IsRefused, WritesText, Counts, Input, Output}
 use Rattle.fax_tool.specs.Words.{words_status, words_text}
 use Rattle.fax_tool.specs.declared.words.Job.{Job}
 use Rattle.fax_tool.specs.declared.words.Command.{Command}

@@ -3,32 +3,13 @@
 use Rattle.std.specs.Prelude.{◌≡◌, ◌≢◌, ℕ, ◌+◌, ◌-◌, ◌^◌, ◌<◌, min, List, length, take, Option}
 use Rattle.std.specs.Prelude.{Some, None, ⊤, Result, Ok, Err}
 use Rattle.std.specs.Io.KnownBytes.{Appends, Consumes, IsAtEnd, Keeps}
-use Rattle.std.specs.declared.io.ErrorKind.{ErrorKind}
-use Rattle.std.specs.declared.io.ErrorKind.TheVariants.{Interrupted as WasInterrupted}
 use Rattle.fax_tool.specs.declared.streams.StreamFault.{StreamFault}
 use Rattle.fax_tool.specs.declared.streams.StreamFault.TheVariants.{Interrupted, Failed}
+use Rattle.fax_tool.specs.Run.{Counts, Input, Output}
 
--- how many calls on a stream were interrupted, and how many failed
-pub record Counts : Type 0 where
-  pub interrupted : ℕ
-  pub failed : ℕ
-
--- an input after a run: its bytes before it, where they are known, how many were taken, and its
--- counts
-pub record Input : Type 0 where
-  pub bytes : Option (List ℕ)
-  pub taken : ℕ
-  pub counts : Counts
-
+-- an input, and an output, after a run, from what is known of them
 abbrev pub input_after : Option (List ℕ) → ℕ → Counts → Input
 input_after bytes taken counts = record { bytes = bytes; taken = taken; counts = counts }
-
--- an output after a run: what was written before it and after it, where that is known, and its
--- counts
-pub record Output : Type 0 where
-  pub before : Option (List ℕ)
-  pub after : Option (List ℕ)
-  pub counts : Counts
 
 abbrev pub output_after : Option (List ℕ) → Option (List ℕ) → Counts → Output
 output_after before after counts = record { before = before; after = after; counts = counts }

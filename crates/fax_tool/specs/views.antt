@@ -1,0 +1,2 @@
+-- How contracts see streams.
+pub mod Streams
