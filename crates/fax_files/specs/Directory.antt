@@ -107,8 +107,10 @@ field fields tag = find (λ entry. entry.tag == tag) fields
 -- the types of values that are read
 abbrev pub SHORT : ℕ
 SHORT = 3
+
 abbrev pub LONG : ℕ
 LONG = 4
+
 abbrev pub RATIONAL : ℕ
 RATIONAL = 5
 
