@@ -3,7 +3,7 @@ use Rattle.std.proofs.Common.{◌≡◌, ◌≢◌, ℕ, ◌+◌, ◌-◌, ◌*�
 use Rattle.std.specs.Prelude.{fold, if◌then◌else◌}
 use Rattle.std.specs.List.{list_all}
 use Rattle.std.proofs.lemmas.Bool.{and_parts, false≢true, both_ways}
-use Rattle.fax_files.specs.Pbm.{is_digit, IsNumber, spelled_number}
+use Rattle.fax_files.specs.Pbm.{is_digit, SpellsNumber, spelled_number}
 use Rattle.fax_files.specs.code.Pbm.{capped, capped_from, behind_digits, has_digit}
 
 abbrev with_digit : ℕ → ℕ → ℕ
@@ -51,7 +51,7 @@ digits_read n (c ∷ bytes) =
 pub record HasNumber (bytes : List ℕ) : Type 0 where
   pub digits : List ℕ
   pub number : ℕ
-  pub spelled : IsNumber digits number
+  pub spelled : SpellsNumber digits number
   pub is : bytes ≡ digits ++ behind_digits bytes
   pub read : capped_from 0 bytes ≡ capped number
 
@@ -92,10 +92,10 @@ number_from n (c ∷ digits) behind all none =
     ∙ number_from (with_digit n c) digits behind parts.1 none
 
 -- each number is read
-pub number_passed : (digits : List ℕ) (n : ℕ) (behind : List ℕ) → IsNumber digits n → has_digit behind ≡ false
+pub number_passed : (digits : List ℕ) (n : ℕ) (behind : List ℕ) → SpellsNumber digits n → has_digit behind ≡ false
     → capped_from 0 (digits ++ behind) ≡ capped n
 number_passed digits n behind is none = number_from 0 digits behind is.1 none ∙ ap capped (sym is.2)
 
-pub number_begins : (digits : List ℕ) (n : ℕ) (behind : List ℕ) → IsNumber digits n → has_digit (digits ++ behind) ≡ true
+pub number_begins : (digits : List ℕ) (n : ℕ) (behind : List ℕ) → SpellsNumber digits n → has_digit (digits ++ behind) ≡ true
 number_begins [] n behind is = absurd (is.0 refl)
 number_begins (c ∷ digits) n behind is = (and_parts (is_digit c) (list_all is_digit digits) is.1).0

@@ -14,12 +14,12 @@ use Rattle.std.proofs.Math.Seq.{take-append_seam, drop-append_seam}
 use Rattle.fax_bits.specs.declared.Colour.{Colour}
 use Rattle.fax_rows.specs.Packed.{packed_byte, packed_len, packed_row, unpacked_row}
 use Rattle.fax_rows.specs.laws.Packed.{PackingUndoesUnpacking}
-use Rattle.fax_files.specs.Pbm.{Image, IsHead, IsImage, IsNumber, AreImages, is_digit, is_within_limits, spelled_number, head_bytes}
+use Rattle.fax_files.specs.Pbm.{Image, IsHead, IsImage, SpellsNumber, AreImages, is_digit, is_within_limits, spelled_number, head_bytes}
 use Rattle.fax_files.specs.Pbm.{image_bytes, pbm_of, raster_rows, raster_len}
 use Rattle.fax_files.specs.laws.Pbm.{AreOfWidth, IsWritableImage, AreWritableImages}
 
 -- decimals as they are written are a number
-digit_is_number : (n : ℕ) → n < 10 → IsNumber ((48 + n) ∷ []) n
+digit_is_number : (n : ℕ) → n < 10 → SpellsNumber ((48 + n) ∷ []) n
 digit_is_number n small =
     let digit : is_digit (48 + n) ≡ true = grind (arith, nat_tests) in
     ((λ e. cc), ap (λ v. v && true) digit, omega arith)
@@ -28,7 +28,7 @@ nonempty_push : (digits : List ℕ) (d : ℕ) → digits ++ d ∷ [] ≢ []
 nonempty_push [] d = λ e. cc
 nonempty_push (c ∷ digits) d = λ e. cc
 
-more_is_number : (n : ℕ) (digits : List ℕ) → 10 ≤ n → IsNumber digits (n / 10) → IsNumber (digits ++ ((48 + n % 10) ∷ [])) n
+more_is_number : (n : ℕ) (digits : List ℕ) → 10 ≤ n → SpellsNumber digits (n / 10) → SpellsNumber (digits ++ ((48 + n % 10) ∷ [])) n
 more_is_number n digits large is =
     let last = 48 + n % 10 in
     let digit : is_digit last ≡ true = grind (arith, nat_tests) in
@@ -39,8 +39,8 @@ more_is_number n digits large is =
           fold-append (λ number digit. 10 * number + (digit - 48)) 0 digits (last ∷ []) in omega (arith, is.2)),
     )
 
-decimal_is_number : (n : ℕ) → n < 2 ^ 64 → IsNumber (decimal n) n
-decimal_is_number = decimal_by_steps (λ n digits. IsNumber digits n) digit_is_number more_is_number
+decimal_is_number : (n : ℕ) → n < 2 ^ 64 → SpellsNumber (decimal n) n
+decimal_is_number = decimal_by_steps (λ n digits. SpellsNumber digits n) digit_is_number more_is_number
 
 regroup : (a b c d e r : List ℕ) → (((((a ++ b) ++ c) ++ d) ++ e) ++ r) ≡ a ++ (b ++ (c ++ (d ++ (e ++ r))))
 regroup a b c d e r = simp append_assoc

@@ -5,11 +5,11 @@ use Rattle.fax_files.specs.declared.Endian.TheVariants.{Little}
 use Rattle.fax_files.specs.declared.PageForm.{PageForm}
 use Rattle.fax_files.specs.Page.{strip_bytes}
 use Rattle.fax_files.specs.laws.Files.{AreStrips}
-use Rattle.fax_files.specs.laws.Files.{AreRowsOf, WrittenRowsAreRead}
+use Rattle.fax_files.specs.laws.Files.{HoldStripRows, WrittenRowsAreRead}
 
 strips_from : (file : List ℕ) (q : ℕ) (form : PageForm) (s : ℕ) (strips : List (List ℕ)) (lists : List (List (List Colour)))
     → ((i : ℕ) → i < length strips → strip_bytes Little file q (s + i) ≡ Some (get_or strips i []))
-    → s + length strips ≡ form.strips → AreRowsOf form s strips lists → AreStrips Little file q form s lists None
+    → s + length strips ≡ form.strips → HoldStripRows form s strips lists → AreStrips Little file q form s lists None
 strips_from file q form s [] [] read count rows = inl (omega arith, refl)
 strips_from file q form s [] (list ∷ lists) read count rows = absurd rows
 strips_from file q form s (strip ∷ strips) [] read count rows = absurd rows

@@ -51,8 +51,8 @@ abbrev pub spelled_number : List ℕ → ℕ
 spelled_number digits = fold (λ number digit. 10 * number + (digit - 48)) 0 digits
 
 -- a number: one or more digits, with leading zeros or without (the netpbm format, P4)
-abbrev pub IsNumber : List ℕ → ℕ → Type 0
-IsNumber digits n = (digits ≢ []) × IsTrue (list_all is_digit digits) × (n ≡ spelled_number digits)
+abbrev pub SpellsNumber : List ℕ → ℕ → Type 0
+SpellsNumber digits n = (digits ≢ []) × IsTrue (list_all is_digit digits) × (n ≡ spelled_number digits)
 
 -- the bytes begin with an image's header: `P4`, a gap, the width, a gap, the height and one byte of
 -- white space (the netpbm format, P4)
@@ -63,9 +63,9 @@ pub record IsHead (bytes : List ℕ) (width height : ℕ) (rest : List ℕ) : Ty
   pub height_digits : List ℕ
   pub space : ℕ
   pub first_is_gap : IsGap first_gap
-  pub width_is : IsNumber width_digits width
+  pub width_is : SpellsNumber width_digits width
   pub second_is_gap : IsGap second_gap
-  pub height_is : IsNumber height_digits height
+  pub height_is : SpellsNumber height_digits height
   pub space_is : IsTrue (is_white_space space)
   pub spelled : bytes ≡ codes "P4"
       ++ (first_gap ++ (width_digits ++ (second_gap ++ (height_digits ++ space ∷ rest))))

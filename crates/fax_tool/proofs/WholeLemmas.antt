@@ -5,7 +5,7 @@ use Rattle.std.specs.Io.KnownBytes.{Appends}
 use Rattle.std.proofs.KnownBytes.{Appends-nil}
 use Rattle.fax_files.specs.declared.Cause.{Cause}
 use Rattle.fax_walk.specs.declared.walk.Place.{Place}
-use Rattle.fax_walk.specs.Converted.{IsConverted, IsRefused as IsNotConverted}
+use Rattle.fax_walk.specs.Converted.{IsConverted, IsNotConverted}
 use Rattle.fax_walk.specs.Report.{IsReport}
 use Rattle.fax_walk.specs.declared.checking.Report.{Report}
 use Rattle.fax_walk.specs.declared.options.Options.{Options}

@@ -12,7 +12,7 @@ use Rattle.fax_walk.specs.declared.options.ConvertFault.TheVariants.{UnknownInpu
 use Rattle.fax_walk.specs.declared.options.ConvertFault.TheVariants.{OutputTooLarge, Memory}
 use Rattle.fax_walk.specs.declared.options.Options.{Options}
 use Rattle.fax_walk.specs.declared.walk.Place.{Place}
-use Rattle.fax_walk.specs.Converted.{IsConverted, IsRefused as IsNotConverted}
+use Rattle.fax_walk.specs.Converted.{IsConverted, IsNotConverted}
 use Rattle.fax_walk.specs.Report.{IsReport, note_name, note_number}
 use Rattle.fax_tool.specs.Text.{Printed, and_number, fault_line, line_end}
 

@@ -12,7 +12,7 @@ use Rattle.std.proofs.Math.Nat.{mul-le-mul_left}
 use Rattle.fax_bits.specs.declared.Colour.{Colour}
 use Rattle.fax_page.specs.declared.Coding.{Coding}
 use Rattle.fax_page.specs.declared.Coding.TheVariants.{Mmr}
-use Rattle.fax_page.specs.laws.Strips.{AreRowsOf as HasShape}
+use Rattle.fax_page.specs.laws.Strips.{AreRowsOf}
 use Rattle.fax_page.specs.laws.Strips.{CodedStripsAreRead}
 use Rattle.fax_files.specs.declared.PageForm.{PageForm}
 use Rattle.fax_files.specs.views.Page.{IsPageForm}
@@ -20,7 +20,7 @@ use Rattle.fax_files.specs.Page.{strip_form}
 use Rattle.fax_files.specs.laws.Files.{joined}
 use Rattle.fax_files.specs.Pbm.{is_within_limits}
 use Rattle.fax_files.specs.laws.Pbm.{AreOfWidth}
-use Rattle.fax_files.specs.laws.Files.{IsWritable, AreWritable, AreRowsOf}
+use Rattle.fax_files.specs.laws.Files.{IsWritable, AreWritable, HoldStripRows}
 use Rattle.fax_walk.specs.declared.options.Options.{Options}
 use Rattle.fax_walk.specs.Converted.{SourcePage, strips_of, written_form, coded_strips, written_page}
 use Rattle.fax_walk.specs.laws.Written.{HoldsRows, IsWritableSource, written_pages, WrittenFilesAreWalked, CodedFilesAreWalked}
@@ -62,14 +62,14 @@ module _ (law : CodedStripsAreRead) (form : PageForm) (limits : IsPageForm form)
   -- coded strips hold their rows
   holds_from : (s n : ℕ) (rows : List (List Colour)) → s + n ≡ form.strips → length rows ≡ form.rows - s * in_strip
       → All (λ row. length row ≡ form.width) rows
-      → AreRowsOf form s (coded_strips form k s (strips_of in_strip n rows)) (strips_of in_strip n rows)
+      → HoldStripRows form s (coded_strips form k s (strips_of in_strip n rows)) (strips_of in_strip n rows)
   holds_from s zero rows strips count wide = tt
   holds_from s (suc n) rows strips count wide =
       let before : s * in_strip < form.rows = begins_before form s limits (omega arith) in
       let some = limits.some_rows_per_strip in
       let left : length (drop in_strip rows) ≡ form.rows - (s + 1) * in_strip = omega (arith, length-drop in_strip rows) in
       let here : length (take in_strip rows) ≡ (strip_form form s).rows = omega (arith, length-take in_strip rows) in
-      let shape : HasShape (strip_form form s) (take in_strip rows) =
+      let shape : AreRowsOf (strip_form form s) (take in_strip rows) =
       record { count = here; widths = All-take (λ row. length row ≡ form.width) in_strip rows wide } in (
         law (strip_form form s) k (take in_strip rows)
             (record {

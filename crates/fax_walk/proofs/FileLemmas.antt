@@ -31,13 +31,13 @@ use Rattle.fax_walk.specs.views.InOrder.{EndsAfter}
 use Rattle.fax_walk.specs.Pages.{FormItem, FilePage, IsPageAt, IsPageUnder, page_over, IsForm}
 use Rattle.fax_walk.specs.Pages.{IsFormTail, page_or_end, end_past_chain}
 use Rattle.fax_walk.specs.Converted.{AreForms, AreItems, IsTiff, IsTooLarge, target_bytes}
-use Rattle.fax_walk.specs.Converted.{IsConverted, IsRefused, IsSource, SourcePage, page_of_form}
+use Rattle.fax_walk.specs.Converted.{IsConverted, IsNotConverted, IsSource, SourcePage, page_of_form}
 use Rattle.fax_walk.specs.Converted.{pages_of}
 use Rattle.fax_walk.specs.Rows.{Item, Place, first_at, IsRow}
 use Rattle.fax_walk.specs.laws.Tails.{FilesHaveOneForms, FormTailOfStart}
 use Rattle.fax_walk.specs.views.Pages.{PagesView, HandsOutPage, PagesHaveEnded, IsNextPage, pages_start}
 use Rattle.fax_walk.specs.views.Walk.{WalkView, walk_start}
-use Rattle.fax_walk.specs.code.Output.{Progress, with_page, page_of, form_sheet, IsWrittenTo, IsBeginning, IsWhole}
+use Rattle.fax_walk.specs.code.Output.{Progress, with_source_page, page_of, form_sheet, IsWrittenTo, IsBeginning, IsWhole}
 use Rattle.fax_walk.specs.code.Sources.{AreWholePages, IsBeforePage, ConvertsRows, EndsWith, IsPageCount, ArePagesWritten, source_fault}
 use Rattle.fax_walk.specs.code.Sources.{pels_of}
 use Rattle.fax_walk.specs.code.Sources.{HasRows}
@@ -357,7 +357,7 @@ module _ (laws : SourceLaws) (file : List ℕ) (options : Options) (total count 
     -- all its rows were put
     pub page_written : (begun : Output) (new_walk : WalkView) (put new_output : Output)
         → (rows : ConvertsRows walk begun (form_sheet item.form) new_walk put before_page)
-        → IsWrittenTo new_output (with_page now (page_of (form_sheet item.form) (pels_of before_page.page.own)))
+        → IsWrittenTo new_output (with_source_page now (page_of (form_sheet item.form) (pels_of before_page.page.own)))
         → ArePagesWritten file options total new new_walk new_output
     page_written begun new_walk put new_output rows written =
         let own = before_page.page.own in
@@ -394,9 +394,9 @@ module _ (laws : SourceLaws) (file : List ℕ) (options : Options) (total count 
         }
 
   -- the rows of a page end at a fault
-  pub rows_refused : IsTiff file → (fault : ConvertFault) → EndsWith walk.file fault → IsRefused file options fault
+  pub rows_refused : IsTiff file → (fault : ConvertFault) → EndsWith walk.file fault → IsNotConverted file options fault
   rows_refused tiff fault ends =
-      subst (IsRefused file options) (sym ends.fault_is)
+      subst (IsNotConverted file options) (sym ends.fault_is)
       (inr (inr (tiff, ends.items, ends.page, ends.row, ends.cause, rw so_far.walk_from.0 at ends.are, refl)))
 
   module _ (end : End) (ended : EndsAfter (IsFormTail pages.file pages.begun) pages.given end) where
@@ -422,10 +422,10 @@ module _ (laws : SourceLaws) (file : List ℕ) (options : Options) (total count 
       λ same. never_outside file laws.chains so_far.forms pages.given so_far.lead_forms (end_page Outside ended.ends)
 
   pub told : (new : PagesView) (fault : WalkFault) (answer : ConvertFault) → IsTiff file → IsNextPage pages (Err fault) new
-      → answer ≡ source_fault fault → answer ≢ Memory → IsRefused file options answer
+      → answer ≡ source_fault fault → answer ≢ Memory → IsNotConverted file options answer
   told new NoMemory answer tiff ended is not_memory = absurd ended
   told new (AtRow p r cause) answer tiff ended is not_memory =
-      subst (IsRefused file options) (sym is)
+      subst (IsNotConverted file options) (sym is)
       (inr (inr (tiff, so_far.items, p, r, cause, items_end (Fault p r cause) ended.ends, refl)))
   told new CursorOutside answer tiff ended is not_memory = absurd (not_memory is)
 
@@ -451,5 +451,5 @@ module _ (laws : SourceLaws) (file : List ℕ) (options : Options) (total count 
         record { pages = so_far.converted; source = source; output_is = is.bytes_are; fits = is.fits }
 
     pub file_too_large : IsTooLarge options.target so_far.converted (target_bytes options.target options so_far.converted)
-        → IsRefused file options OutputTooLarge
+        → IsNotConverted file options OutputTooLarge
     file_too_large large = (so_far.converted, source, large)

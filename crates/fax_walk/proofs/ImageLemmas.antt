@@ -14,7 +14,7 @@ use Rattle.fax_walk.specs.declared.options.Options.{Options}
 use Rattle.fax_walk.specs.declared.options.ConvertFault.TheVariants.{OutputTooLarge}
 use Rattle.fax_walk.specs.declared.output.Output.{Output}
 use Rattle.fax_walk.specs.declared.output.Output.TheVariants.{TooLarge}
-use Rattle.fax_walk.specs.Converted.{SourcePage, IsPbm, page_of_image, target_bytes, IsTooLarge, IsConverted, IsRefused}
+use Rattle.fax_walk.specs.Converted.{SourcePage, IsPbm, page_of_image, target_bytes, IsTooLarge, IsConverted, IsNotConverted}
 use Rattle.fax_walk.specs.code.Conversion.{IsImageCount}
 use Rattle.fax_walk.specs.code.Output.{Progress, IsWrittenTo, IsBeginning, IsWhole}
 use Rattle.fax_walk.specs.code.Sources.{PutsImage, AreImagesWritten}
@@ -167,7 +167,7 @@ module _ (bytes left : List ℕ) (options : Options) (total count : ℕ) (output
   }
 
   pub refused_images : IsPbm bytes → count ≡ total → IsTooLarge options.target at.pages (target_bytes options.target options at.pages)
-      → IsRefused bytes options OutputTooLarge
+      → IsNotConverted bytes options OutputTooLarge
   refused_images pbm last large = (at.pages, inl (pbm, so_far.before, whole_source last, refl), large)
 
 -- a file of images has one

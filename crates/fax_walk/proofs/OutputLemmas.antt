@@ -19,7 +19,7 @@ use Rattle.fax_files.specs.declared.PageForm.{PageForm}
 use Rattle.fax_files.specs.Pbm.{Image, head_bytes, image_bytes, pbm_of}
 use Rattle.fax_files.specs.laws.Pbm.{AreOfWidth}
 use Rattle.fax_files.specs.Written.{Written, WrittenPage, empty_file, four, with_four_at}
-use Rattle.fax_files.specs.Written.{page_bytes, directory_place, with_page as with_tiff_page}
+use Rattle.fax_files.specs.Written.{page_bytes, directory_place, with_page}
 use Rattle.fax_files.specs.Written.{with_pages, file_of}
 use Rattle.fax_files.specs.Directory.{max_file}
 use Rattle.fax_files.specs.views.Writing.{Writing, with_one_more, length_with, contents}
@@ -152,24 +152,24 @@ pages_append : (old : Written) (total k : ℕ) (pages more : List WrittenPage)
 unfolding with_pages
 pages_append old total k [] more = let here : k ≡ k + 0 = omega arith in ap (λ (n : ℕ). with_pages old total n more) here
 pages_append old total k (page ∷ pages) more =
-    let next = with_tiff_page old total k page.form page.strips in
+    let next = with_page old total k page.form page.strips in
     let there : k + 1 + length pages ≡ k + suc (length pages) = omega arith in
     pages_append next total (k + 1) pages more
     ∙ ap (λ (n : ℕ). with_pages (with_pages next total (k + 1) pages) total n more) there
 
 -- a page more, whatever stands before it
 pages_next : (old : Written) (total : ℕ) (pages : List WrittenPage) (page : WrittenPage)
-    → with_pages old total 0 (pages ++ page ∷ []) ≡ with_tiff_page (with_pages old total 0 pages) total (length pages) page.form page.strips
+    → with_pages old total 0 (pages ++ page ∷ []) ≡ with_page (with_pages old total 0 pages) total (length pages) page.form page.strips
 unfolding with_pages
 pages_next old total pages page =
     let there : 0 + length pages ≡ length pages = omega arith in
     pages_append old total 0 pages (page ∷ [])
-    ∙ ap (λ (n : ℕ). with_tiff_page (with_pages old total 0 pages) total n page.form page.strips) there
+    ∙ ap (λ (n : ℕ). with_page (with_pages old total 0 pages) total n page.form page.strips) there
 
 -- a file does not get shorter with a page
 page_grows : (old : Written) (total k : ℕ) (form : PageForm) (strips : List (List ℕ))
-    → length old.bytes ≤ length (with_tiff_page old total k form strips).bytes
-unfolding with_tiff_page
+    → length old.bytes ≤ length (with_page old total k form strips).bytes
+unfolding with_page
 page_grows old total k form strips =
     let place = directory_place (length old.bytes) strips in
     let file = with_four_at old.bytes old.link place in
@@ -184,7 +184,7 @@ unfolding with_pages
 pages_grow old total k [] = omega arith
 pages_grow old total k (page ∷ pages) =
     let first = page_grows old total k page.form page.strips in
-    let later = pages_grow (with_tiff_page old total k page.form page.strips) total (k + 1) pages in
+    let later = pages_grow (with_page old total k page.form page.strips) total (k + 1) pages in
     omega (arith, first, later)
 
 -- a TIFF file of no page yet
@@ -272,16 +272,16 @@ module _ (part : Part) (coding : Coding) (writer : Writing) (page : OpenStrips) 
       (all_strips as_put options.k part.rows page has.2 all)
       ∙ ap (λ (f : PageForm). coded_strips f options.k 0 (strips_of f.rows_per_strip f.strips part.rows)) same_form
 
-  with_source : with_tiff_page writer.written writer.total writer.added page.form (contents page.done.items)
+  with_source : with_page writer.written writer.total writer.added page.form (contents page.done.items)
       ≡ with_pages empty_file total 0 (map written pages)
   with_source =
       let before = with_pages empty_file total 0 (map written part.at.pages) in
       let count = sym (length-map part.at.pages written) in
-      ap (λ (w : Written). with_tiff_page w writer.total writer.added page.form (contents page.done.items)) has.0.written
-      ∙ ap (λ (n : ℕ). with_tiff_page before n writer.added page.form (contents page.done.items)) has.0.total
-      ∙ ap (λ (n : ℕ). with_tiff_page before total n page.form (contents page.done.items)) (has.0.added ∙ count)
-      ∙ ap (λ (f : PageForm). with_tiff_page before total (length (map written part.at.pages)) f (contents page.done.items)) form_is
-      ∙ ap (λ (l : List (List ℕ)). with_tiff_page before total (length (map written part.at.pages)) (written source).form l) strips_are
+      ap (λ (w : Written). with_page w writer.total writer.added page.form (contents page.done.items)) has.0.written
+      ∙ ap (λ (n : ℕ). with_page before n writer.added page.form (contents page.done.items)) has.0.total
+      ∙ ap (λ (n : ℕ). with_page before total n page.form (contents page.done.items)) (has.0.added ∙ count)
+      ∙ ap (λ (f : PageForm). with_page before total (length (map written part.at.pages)) f (contents page.done.items)) form_is
+      ∙ ap (λ (l : List (List ℕ)). with_page before total (length (map written part.at.pages)) (written source).form l) strips_are
       ∙ sym (pages_next empty_file total (map written part.at.pages) (written source))
       ∙ ap (with_pages empty_file total 0) (sym (map-append written part.at.pages (source ∷ [])))
 

@@ -141,8 +141,8 @@ pub record IsConverted (bytes : List ℕ) (options : Options) (output : List ℕ
   pub fits : IsTooLarge options.target pages output → ⊥
 
 -- the bytes are refused so, for another reason than want of memory
-abbrev pub IsRefused : List ℕ → Options → ConvertFault → Type 0
-IsRefused bytes options OutputTooLarge =
+abbrev pub IsNotConverted : List ℕ → Options → ConvertFault → Type 0
+IsNotConverted bytes options OutputTooLarge =
     (pages : List SourcePage) × IsSource bytes pages
     × IsTooLarge options.target pages (target_bytes options.target options pages)
-IsRefused bytes options fault = IsSourceFault bytes fault
+IsNotConverted bytes options fault = IsSourceFault bytes fault

@@ -53,7 +53,7 @@ fn convert_images(alloc: Global, bytes: &[u8], options: &Options) -> Result<Vec<
     requires { Spec.IsPbm bytes.now }
     ensures ok { IfOk result (λ output. Spec.IsConverted bytes.now options.now output.items) }
     ensures err { IfErr result (λ fault. fault ≢ ConvertFault.Memory
-        → Spec.IsRefused bytes.now options.now fault) }
+        → Spec.IsNotConverted bytes.now options.now fault) }
 {
     fax_files::laws::images_are_read_in_one_way();
     fax_files::laws::images_begin_in_one_way();
@@ -130,7 +130,7 @@ fn convert_file(alloc: Global, file: &[u8], options: &Options) -> Result<Vec<u8>
     requires { Spec.IsTiff file.now }
     ensures ok { IfOk result (λ output. Spec.IsConverted file.now options.now output.items) }
     ensures err { IfErr result (λ fault. fault ≢ ConvertFault.Memory
-        → Spec.IsRefused file.now options.now fault) }
+        → Spec.IsNotConverted file.now options.now fault) }
 {
     fax_bits::laws::bits_stand_by_place();
     fax_page::laws::lines_are_read_in_one_way();
@@ -165,7 +165,7 @@ fn convert_file(alloc: Global, file: &[u8], options: &Options) -> Result<Vec<u8>
 pub fn convert(alloc: Global, bytes: &[u8], options: &Options) -> Result<Vec<u8>, ConvertFault>
     ensures ok { IfOk result (λ output. Spec.IsConverted bytes.now options.now output.items) }
     ensures err { IfErr result (λ fault. fault ≢ ConvertFault.Memory
-        → Spec.IsRefused bytes.now options.now fault) }
+        → Spec.IsNotConverted bytes.now options.now fault) }
 {
     if bytes.starts_with(b"P4") {
         convert_images(alloc, bytes, options)

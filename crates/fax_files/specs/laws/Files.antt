@@ -84,19 +84,19 @@ pub record IsReadAt (file : List ℕ) (q : ℕ) (written : WrittenPage) : Type 0
       → strip_bytes Little file q s ≡ Some (slice_index_or written.strips s [])
 
 -- the rows of strips from strip s on, where each strip's bytes hold all of its rows
-abbrev pub AreRowsOf : PageForm → ℕ → List (List ℕ) → List (List (List Colour)) → Type 0
-AreRowsOf form s [] [] = Unit {0}
-AreRowsOf form s [] (rows ∷ lists) = ⊥
-AreRowsOf form s (strip ∷ strips) [] = ⊥
-AreRowsOf form s (strip ∷ strips) (rows ∷ lists) =
+abbrev pub HoldStripRows : PageForm → ℕ → List (List ℕ) → List (List (List Colour)) → Type 0
+HoldStripRows form s [] [] = Unit {0}
+HoldStripRows form s [] (rows ∷ lists) = ⊥
+HoldStripRows form s (strip ∷ strips) [] = ⊥
+HoldStripRows form s (strip ∷ strips) (rows ∷ lists) =
     IsStrip (strip_form form s) (bits form.order strip) rows None
-    × AreRowsOf form (s + 1) strips lists
+    × HoldStripRows form (s + 1) strips lists
 
 -- a page that is read as it was written has the rows of its strips
 abbrev pub WrittenRowsAreRead : Type 0
 WrittenRowsAreRead =
     (file : List ℕ) (q : ℕ) (written : WrittenPage) (lists : List (List (List Colour)))
-    → IsWritable written → IsReadAt file q written → AreRowsOf written.form 0 written.strips lists
+    → IsWritable written → IsReadAt file q written → HoldStripRows written.form 0 written.strips lists
     → ArePageRows Little file q written.form (joined lists) None
 
 -- a file whose last link, the four bytes at `link`, is still 0

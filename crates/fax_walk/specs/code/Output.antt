@@ -90,8 +90,8 @@ abbrev pub nothing_written : Options → ℕ → Progress
 nothing_written options total = record { options = options; total = total; pages = [] }
 
 -- with one more page
-abbrev pub with_page : Progress → SourcePage → Progress
-with_page at page = record at { pages = at.pages ++ page ∷ [] }
+abbrev pub with_source_page : Progress → SourcePage → Progress
+with_source_page at page = record at { pages = at.pages ++ page ∷ [] }
 
 -- a page that is being written: its sheet, and the rows of it that were put
 pub record Part : Type 0 where
@@ -109,7 +109,7 @@ with_row part row = record part { rows = part.rows ++ row ∷ [] }
 
 -- after the page
 abbrev pub behind : Part → Progress
-behind part = with_page part.at (page_of part.sheet part.rows)
+behind part = with_source_page part.at (page_of part.sheet part.rows)
 
 -- whatever pages follow, up to all of them, the output is too large
 abbrev pub StaysTooLarge : Progress → Type 0
@@ -169,7 +169,7 @@ HasRowsOnPage coding writer (Some page) part =
 abbrev pub BecomesTooLarge : Part → Type 0
 BecomesTooLarge part =
     (rows : List (List Colour)) → length rows ≡ part.sheet.rows → AreOfWidth part.sheet.width rows
-    → StaysTooLarge (with_page part.at (page_of part.sheet rows))
+    → StaysTooLarge (with_source_page part.at (page_of part.sheet rows))
 
 abbrev pub HasPart : Output → Part → Type 0
 HasPart (Images bytes) part = HasImageRows bytes.items part

@@ -12,7 +12,7 @@ use Rattle.fax_files.specs.laws.Files.{joined}
 use Rattle.fax_files.specs.laws.Pbm.{IsWritableImage}
 use Rattle.fax_files.specs.Written.{WrittenPage, file_of}
 use Rattle.fax_files.specs.Directory.{max_file}
-use Rattle.fax_files.specs.laws.Files.{AreRowsOf, AreWritable}
+use Rattle.fax_files.specs.laws.Files.{HoldStripRows, AreWritable}
 use Rattle.fax_walk.specs.declared.end.End.TheVariants.{Proper}
 use Rattle.fax_walk.specs.declared.options.Options.{Options}
 use Rattle.fax_walk.specs.Converted.{SourcePage, written_page, AreForms, AreItems}
@@ -37,7 +37,7 @@ numbered p r (row ∷ rows) = record { page = p; row = r; pels = row } ∷ numbe
 -- the strips of a page hold these rows, each strip all of its own (TIFF 6.0, RowsPerStrip)
 abbrev pub HoldsRows : WrittenPage → List (List Colour) → Type 0
 HoldsRows written rows =
-    (lists : List (List (List Colour))) × AreRowsOf written.form 0 written.strips lists
+    (lists : List (List (List Colour))) × HoldStripRows written.form 0 written.strips lists
     × (rows ≡ joined lists)
 
 -- the rows of pages with their places, page by page from page p on

@@ -3,7 +3,7 @@ use Rattle.std.proofs.lemmas.List.{length-map}
 use Rattle.std.proofs.lemmas.Result.{err_from_is_err_and}
 use Rattle.fax_walk.specs.Pages.{FormItem}
 use Rattle.fax_walk.specs.Rows.{Item}
-use Rattle.fax_walk.specs.Converted.{IsRefused}
+use Rattle.fax_walk.specs.Converted.{IsNotConverted}
 use Rattle.fax_walk.specs.code.Output.{no_rows, form_sheet, IsPartWritten}
 use Rattle.fax_walk.specs.code.Sources.{IsBeforePage, ConvertsRows, part_of, pels_of}
 use Rattle.fax_walk.proofs.FileLemmas.{none_written, rows_refused, if_ok, if_err, now, page_fewer, before_page, page_written}
@@ -56,7 +56,7 @@ returns-in-Ok-None-clause-err c =
     let all = all_written inv.laws _ _ inv.total inv.count inv.counted inv.total_is _ _ _ inv.so_far c.requires c.next_page.new.self ended
     in
     if_err c.finish.result c.finish.ensures.err (λ fault refused not_memory.
-    subst (IsRefused c.args.file.now c.args.options.now) (sym refused.0)
+    subst (IsNotConverted c.args.file.now c.args.options.now) (sym refused.0)
     (file_too_large inv.laws _ _ inv.total inv.count inv.counted inv.total_is _ _ _ inv.so_far c.requires c.next_page.new.self ended
     (refused.1 at inv.so_far.written all)))
 
