@@ -1,6 +1,6 @@
 -- What is handed out in order, one item after another, and its end.
 -- A definition without a citation is this project's profile.
-use Rattle.std.specs.Prelude.{◌≡◌, ℕ, ◌≤◌, List, [], ◌∷◌, length, drop, Option, Some, None, Result}
+use Rattle.std.specs.Prelude.{◌≡◌, ℕ, List, [], ◌∷◌, length, drop, Option, Some, None, Result}
 use Rattle.std.specs.Prelude.{Ok, Err, slice_get}
 use Rattle.fax_walk.specs.declared.end.End.{End}
 

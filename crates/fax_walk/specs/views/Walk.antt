@@ -14,7 +14,6 @@ use Rattle.fax_walk.specs.declared.walk.Place.{Place}
 use Rattle.fax_walk.specs.Cursor.{start}
 use Rattle.fax_walk.specs.LongCursor.{LongPlace}
 use Rattle.fax_walk.specs.InOrder.{IsNumber, EndsAfter, HasToldNoOther}
-use Rattle.fax_walk.specs.laws.InOrder.{IsLeftOf}
 use Rattle.fax_walk.specs.Pages.{FilePage, IsPageAt}
 use Rattle.fax_walk.specs.Rows as Rows
 use Rattle.fax_walk.specs.Rows.{Begins, Item, IsTailFrom, begins_at, cursor_after, long_after}
