@@ -7,7 +7,6 @@ use Rattle.std.proofs.lemmas.Bool.Decides.{nat_tests}
 use Rattle.std.proofs.lemmas.List.{append_cancel_left, append_cancel_right, drop_all}
 use Rattle.std.specs.Prelude.{Option, Some, None, nat_le, Ok}
 use Rattle.std.specs.List.{AllZip}
-use Rattle.fax_files.specs.laws.Files.{FilesHaveOneChain}
 use Rattle.fax_walk.specs.declared.begun.Begun.{Begun}
 use Rattle.fax_walk.specs.declared.begun.Begun.TheVariants.{At, Inside}
 use Rattle.fax_walk.specs.declared.cursor.Cursor.{Cursor}
@@ -16,7 +15,7 @@ use Rattle.fax_walk.specs.declared.end.End.TheVariants.{Fault, Outside, Proper}
 use Rattle.fax_walk.specs.Cursor.{IsCursor, cursor_text}
 use Rattle.fax_walk.specs.LongCursor.{LongPlace, long_cursor_text}
 use Rattle.fax_walk.specs.laws.Cursors.{CursorsAreShort, PlacesAreShort, TextsNameOne}
-use Rattle.fax_walk.specs.laws.Tails.{BeginningsHaveOneTail, IsReached, LongTailsGoOn, PlacesAreReached, TailsGoOn}
+use Rattle.fax_walk.specs.laws.Tails.{BeginningsHaveOneTail, CursorsNameOnePage, IsReached, LongTailsGoOn, PlacesAreReached, TailsGoOn}
 use Rattle.fax_walk.specs.Pages.{FilePage, IsPageAt}
 use Rattle.fax_walk.specs.Rows.{Item, IsTailFrom, cursor_after, long_after}
 use Rattle.fax_tool.specs.Run.{AreRowLines, IsRowLine, most_input}
@@ -141,7 +140,7 @@ next_told long (Some limit) begun lines end next e = by_test (nat_le limit (leng
         ap (λ (l : List Line). begun_text (named long (next_after begun l))) all
         ∙ same_last (texts_of lines) end (named long (next_after begun lines)) next same
 
-module _ (tails : BeginningsHaveOneTail) (chains : FilesHaveOneChain) (go_on : TailsGoOn) (long_go_on : LongTailsGoOn)
+module _ (tails : BeginningsHaveOneTail) (pages : CursorsNameOnePage) (go_on : TailsGoOn) (long_go_on : LongTailsGoOn)
     (places : PlacesAreReached) (short : CursorsAreShort) (long_short : PlacesAreShort) (names : TextsNameOne) (file : List ℕ)
     (limit_kept : length file ≤ 2 ^ 32) where
   reached : (long : Bool) (begun : Begun) → MayBegin file long begun → IsReached file begun
@@ -230,7 +229,7 @@ module _ (tails : BeginningsHaveOneTail) (chains : FilesHaveOneChain) (go_on : T
   same_lines : (begun : Begun) (lines others : List Line) (end other : End) → AreRowLines file begun lines end
       → AreRowLines file begun others other → (others ≡ lines) × (other ≡ end)
   same_lines begun lines others end other are again =
-      let one = one_rows file tails chains begun in
+      let one = one_rows file tails pages begun in
       let first = one.one lines end are in
       let second = one.one others other again in (second.0 ∙ sym first.0, second.1 ∙ sym first.1)
 
@@ -281,16 +280,16 @@ module _ (tails : BeginningsHaveOneTail) (chains : FilesHaveOneChain) (go_on : T
       cut_text None is = absurd cc
       cut_text (Some limit) is = let cut : nat_le limit (length run.lines) ≡ true = sym is in rw cut refl
 
-pub cut_runs_are_read_on : BeginningsHaveOneTail → FilesHaveOneChain → TailsGoOn → LongTailsGoOn → PlacesAreReached → CursorsAreShort
+pub cut_runs_are_read_on : BeginningsHaveOneTail → CursorsNameOnePage → TailsGoOn → LongTailsGoOn → PlacesAreReached → CursorsAreShort
     → PlacesAreShort → TextsNameOne → CutRunsAreReadOn
-cut_runs_are_read_on tails chains go_on long_go_on places short long_short names file long begun max text rows within may run =
-    cut_next tails chains go_on long_go_on places short long_short names file (omega arith) long begun max text rows may run
+cut_runs_are_read_on tails pages go_on long_go_on places short long_short names file long begun max text rows within may run =
+    cut_next tails pages go_on long_go_on places short long_short names file (omega arith) long begun max text rows may run
 
-pub runs_go_on : BeginningsHaveOneTail → FilesHaveOneChain → TailsGoOn → LongTailsGoOn → PlacesAreReached → CursorsAreShort
+pub runs_go_on : BeginningsHaveOneTail → CursorsNameOnePage → TailsGoOn → LongTailsGoOn → PlacesAreReached → CursorsAreShort
     → PlacesAreShort → TextsNameOne → RunsGoOn
-runs_go_on tails chains go_on long_go_on places short long_short names file long begun limits max before rows last cut whole lines was_cut
+runs_go_on tails pages go_on long_go_on places short long_short names file long begun limits max before rows last cut whole lines was_cut
     within may runs run =
-    let all = all_runs tails chains go_on long_go_on places short long_short names file (omega arith) limits long begun max before rows last
+    let all = all_runs tails pages go_on long_go_on places short long_short names file (omega arith) limits long begun max before rows last
     cut run.lines run.end may run.are runs in
     subst (λ (text : Printed). AreAsOneRun before rows last cut lines text) (sym run.text_is)
     (subst (λ (l : List ℕ). AreAsOneRun before rows last cut l (whole_text long begun run.lines run.end)) (sym run.rows_are) all)

@@ -26,7 +26,7 @@ pub fn runs_go_on()
     fax_walk::laws::beginnings_have_one_tail();
     fax_walk::laws::tails_go_on();
     fax_walk::laws::cursors_are_named();
-    fax_files::laws::files_have_one_chain();
+    fax_walk::laws::cursors_name_one_page();
 }
 
 /// What the program does with words, over its streams, but for opening the file that they name:

@@ -133,7 +133,7 @@ module _ (file : List ℕ) where
       under (Err fault) e = absurd cc
       under (Ok head) (offsets, fault, chain, e) = over head offsets fault (slice_get offsets at.page) e
 
-  same_page : FilesHaveOneChain → (at : Cursor) (here there : FilePage) → IsPageAt file at (Ok here) → IsPageAt file at (Ok there)
+  pub same_page : FilesHaveOneChain → (at : Cursor) (here there : FilePage) → IsPageAt file at (Ok here) → IsPageAt file at (Ok there)
       → here ≡ there
   same_page chains at here there is is_too = let same = same_answer (one_page chains file at) (Ok here) (Ok there) is is_too in cc
 

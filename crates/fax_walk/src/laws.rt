@@ -56,6 +56,13 @@ pub fn beginnings_have_one_tail()
     fax_files::laws::forms_are_whole();
 }
 
+/// A cursor names one page of a file at most.
+pub fn cursors_name_one_page()
+    ensures { PageLaws.CursorsNameOnePage }
+{
+    fax_files::laws::files_have_one_chain();
+}
+
 /// Each file and each cursor has forms and an end, and one list of them only. From a page's first
 /// row it is the forms from that page on. What follows a form is the tail from the cursor after it.
 /// Page number n of a file has the number n.
