@@ -1,6 +1,6 @@
 -- Each file has one chain of directories.
 use Rattle.std.proofs.Common.{◌≡◌, ℕ, zero, suc, ◌+◌, ◌*◌, ◌<◌, ◌≤◌, ◌⊎◌, inl, inr, Bool, true, false, ◌&&◌, ◌||◌, eqb, List, [], ◌∷◌}
-use Rattle.std.proofs.Common.{length, Option, Some, None, refl, arith}
+use Rattle.std.proofs.Common.{length, Option, Some, None, refl, subst, arith}
 use Rattle.std.specs.Prelude.{◌==◌, if◌then◌else◌, nat_le}
 use Rattle.std.specs.List.{list_any, IsDistinct, All}
 use Rattle.std.proofs.lemmas.List.Elements.{All-nil, All-cons, recursion_from_All}
@@ -83,27 +83,37 @@ pub few : (xs : List ℕ) (n : ℕ) → IsApart xs → AreBelow xs n → length 
 few xs n apart all = length-le_from_distinct_below xs n (distinct xs apart) all
 
 module _ (endian : Endian) (file : List ℕ) where
-  abbrev Found : List ℕ → ℕ → Type 0
-  Found before due = (offsets : List ℕ) × (end : Option FileFault) × IsChainFrom endian file before due offsets end
+  -- a chain of at most so many offsets
+  abbrev Found : ℕ → List ℕ → ℕ → Type 0
+  Found most before due =
+      (offsets : List ℕ) × (end : Option FileFault) × IsChainFrom endian file before due offsets end × (length offsets ≤ most)
 
-  at_stop : (before : List ℕ) (due : ℕ) (stop : Option (Option FileFault)) → chain_stop endian file before due ≡ stop
-      → (GoesOn endian file before due → Found (due ∷ before) (next_offset endian file due)) → Found before due
-  at_stop before due (Some end) e rest = ([], end, e)
-  at_stop before due None e rest =
+  at_stop : (most : ℕ) (before : List ℕ) (due : ℕ) (stop : Option (Option FileFault)) → chain_stop endian file before due ≡ stop
+      → (GoesOn endian file before due → Found most (due ∷ before) (next_offset endian file due)) → Found (most + 1) before due
+  at_stop most before due (Some end) e rest = ([], end, e, omega arith)
+  at_stop most before due None e rest =
       let found = rest (going_on endian file before due e) in
-      (due ∷ found.0, found.1, (refl, e, found.2))
+      (due ∷ found.0, found.1, (refl, e, found.2), omega (arith, found.3))
+
+  -- at the most so many offsets, the chain has ended
+  at_last : (before : List ℕ) (due : ℕ) (stop : Option (Option FileFault)) → chain_stop endian file before due ≡ stop
+      → (GoesOn endian file before due → ⊥) → Found 0 before due
+  at_last before due (Some end) e none = ([], end, e, omega arith)
+  at_last before due None e none = absurd (none (going_on endian file before due e))
 
   -- there are at most as many offsets as the file has bytes
   exists : (fuel : ℕ) (before : List ℕ) (due : ℕ) → length before + fuel ≡ length file → IsApart before → AreBelow before (length file)
-      → Found before due
-  exists zero before due count apart all = at_stop before due (chain_stop endian file before due) refl (λ on.
+      → Found fuel before due
+  exists zero before due count apart all = at_last before due (chain_stop endian file before due) refl (λ on.
       let within = begins_inside endian file due on.there in
       let n : length (due ∷ before) ≤ length file =
       few (due ∷ before) (length file) (on.fresh, apart) (still_below before (length file) due within all) in
-      absurd (omega arith))
-  exists (suc fuel) before due count apart all = at_stop before due (chain_stop endian file before due) refl (λ on.
+      omega arith)
+  exists (suc fuel) before due count apart all =
+      let more : fuel + 1 ≡ suc fuel = omega arith in
+      subst (λ (n : ℕ). Found n before due) more (at_stop fuel before due (chain_stop endian file before due) refl (λ on.
       exists fuel (due ∷ before) (next_offset endian file due) (omega arith) (on.fresh, apart)
-      (still_below before (length file) due (begins_inside endian file due on.there) all))
+      (still_below before (length file) due (begins_inside endian file due on.there) all)))
 
   some_injective : {A : Type 0} (x y : A) → (let o : Option A = Some x in o) ≡ Some y → x ≡ y
   some_injective x y e = cc
@@ -125,5 +135,6 @@ has_one_chain head file =
       offsets = found.0;
       end = found.1;
       is = found.2;
+      few = found.3;
       one = λ others other that. one head.endian file [] head.first found.0 others found.1 other found.2 that;
     }

@@ -23,10 +23,19 @@ first_holds : (a b : Bool) → (a && b) ≡ true → a ≡ true
 first_holds true b e = refl
 first_holds false b e = absurd cc
 
--- a page has rows
-some_rows : (endian : Endian) (file : List ℕ) (fields : List Entry) (size : ℕ × ℕ) → page_size endian file fields ≡ Ok size → 1 ≤ size.1
+second_holds : (a b : Bool) → (a && b) ≡ true → b ≡ true
+second_holds true b e = e
+second_holds false b e = absurd cc
+
+-- a page has rows, and its size is within the limits
+record IsSize (size : ℕ × ℕ) : Type 0 where
+  width : size.0 ≤ 65535
+  some_rows : 1 ≤ size.1
+  rows : size.1 ≤ 1000000
+
+within_limits : (endian : Endian) (file : List ℕ) (fields : List Entry) (size : ℕ × ℕ) → page_size endian file fields ≡ Ok size → IsSize size
 unfolding page_size
-some_rows endian file fields size e =
+within_limits endian file fields size e =
     let with_rows : ℕ → ℕ → Result (ℕ × ℕ) FileFault =
     λ width rows. check (is_between 1 1000000 rows) (OutOfLimits Tags.IMAGE_LENGTH) >>= λ _. Ok (width, rows) in
     let with_width : ℕ → Result (ℕ × ℕ) FileFault = λ width. check (is_between 1 65535 width) (OutOfLimits Tags.IMAGE_WIDTH)
@@ -36,9 +45,12 @@ some_rows endian file fields size e =
     (λ _. needed_scalar endian file fields Tags.IMAGE_LENGTH >>= with_rows width.0) size width.2 in
     let rows = bind_ok (needed_scalar endian file fields Tags.IMAGE_LENGTH) (with_rows width.0) size tested.1 in
     let within = checked (is_between 1 1000000 rows.0) (OutOfLimits Tags.IMAGE_LENGTH) (λ _. Ok (width.0, rows.0)) size rows.2 in
+    let narrow : nat_le width.0 65535 ≡ true = second_holds (nat_le 1 width.0) (nat_le width.0 65535) tested.0 in
     let low : nat_le 1 rows.0 ≡ true = first_holds (nat_le 1 rows.0) (nat_le rows.0 1000000) within.0 in
-    let some : 1 ≤ rows.0 = grind (arith, nat_tests) in
-    subst (λ (s : ℕ × ℕ). 1 ≤ s.1) (ok_injective (width.0, rows.0) size within.1) some
+    let high : nat_le rows.0 1000000 ≡ true = second_holds (nat_le 1 rows.0) (nat_le rows.0 1000000) within.0 in
+    let found : IsSize (width.0, rows.0) =
+    record { width = grind (arith, nat_tests); some_rows = grind (arith, nat_tests); rows = grind (arith, nat_tests) } in
+    subst IsSize (ok_injective (width.0, rows.0) size within.1) found
 
 not_zero : (n : ℕ) → not (n == 0) ≡ true → n ≢ 0
 not_zero n e = λ none. let test : (n == 0) ≡ true = grind (arith, nat_tests) in cc
@@ -72,10 +84,12 @@ forms_are_whole endian file q form e =
     (λ _. after_offsets endian file fields size.0 pels.0 rows.0 coding.0) form coding.2 in
     let counts = bind_ok (strip_field endian file fields Tags.STRIP_BYTE_COUNTS (strip_count size.0.1 rows.0))
     (λ _. Ok (form_of endian file fields size.0 pels.0 rows.0 coding.0)) form offsets.2 in
-    let above = some_rows endian file fields size.0 size.1 in
-    let some = some_in_strip endian file fields size.0.1 rows.0 above rows.1 in
+    let limits = within_limits endian file fields size.0 size.1 in
+    let some = some_in_strip endian file fields size.0.1 rows.0 limits.some_rows rows.1 in
     let found : IsWholeForm (form_of endian file fields size.0 pels.0 rows.0 coding.0) = record {
-      some_rows = above;
+      width = limits.width;
+      some_rows = limits.some_rows;
+      rows = limits.rows;
       some_in_strip = some;
       enough = (div_ceil_times size.0.1 rows.0 some).0;
       needed = λ s below. strip_begins_before size.0.1 rows.0 s some below;

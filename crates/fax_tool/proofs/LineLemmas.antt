@@ -4,14 +4,13 @@ use Rattle.std.proofs.Common.{◌↔◌, Option, Some, None, Result, Ok, Err, re
 use Rattle.std.proofs.lemmas.Option.{slice_get_within, slice_get-map}
 use Rattle.std.proofs.lemmas.List.{length-map}
 use Rattle.std.proofs.lemmas.Slice.Zip.{AllZip-long}
-use Rattle.std.specs.Prelude.{slice_get, if◌then◌else◌}
+use Rattle.std.specs.Prelude.{slice_get, if◌then◌else◌, nat_lt, ◌==◌}
 use Rattle.std.specs.Prelude.{option_map, IfOk}
 use Rattle.std.specs.List.{AllZip}
 use Rattle.fax_bits.specs.declared.Colour.{Colour}
 use Rattle.fax_bits.specs.declared.Memory.{Memory as NoMemory}
 use Rattle.fax_rows.specs.Rows.{runs_of}
 use Rattle.fax_files.specs.declared.PageForm.{PageForm}
-use Rattle.fax_files.specs.laws.Files.{FilesHaveOneChain}
 use Rattle.fax_files.specs.Page.{strip_bytes}
 use Rattle.fax_walk.specs.declared.begun.Begun.{Begun}
 use Rattle.fax_walk.specs.declared.begun.Begun.TheVariants.{At}
@@ -26,11 +25,10 @@ use Rattle.fax_walk.specs.views.InOrder.{IsNumber, EndsAfter}
 use Rattle.fax_walk.specs.laws.InOrder.{IsOne}
 use Rattle.fax_walk.specs.views.Walk.{WalkView, HasEndedAs, IsNext, IsCursorOf, IsItemNumber, IsLongOf, begins_inside}
 use Rattle.fax_walk.specs.views.Pages.{PagesView, HandsOutPage, IsNextPage, PagesHaveEnded, pages_from}
-use Rattle.fax_walk.specs.laws.Tails.{BeginningsHaveOneTail, CursorsHaveOneFormTail}
-use Rattle.fax_walk.specs.Rows.{Item, Place, IsInStrip, IsRow, IsTailFrom, begins_at, cursor_after, long_after, strip_at}
-use Rattle.fax_walk.proofs.InOrderLemmas.{same_answer}
-use Rattle.fax_walk.proofs.PageLawLemmas.{one_page}
-use Rattle.fax_walk.proofs.RowLawLemmas.{cases_after}
+use Rattle.fax_walk.specs.laws.Tails.{BeginningsHaveOneTail, CursorsHaveOneFormTail, CursorsNameOnePage}
+use Rattle.fax_walk.specs.Pages.{FilePage, FormItem, IsFormTail, IsPageAt}
+use Rattle.fax_walk.specs.Rows.{Item, Place, IsInStrip, IsRow, IsTailFrom, begins_at, cursor_after, exchanged, first_at, long_after, long_at}
+use Rattle.fax_walk.specs.Rows.{row_in_strip, strip_at}
 use Rattle.fax_tool.specs.Run.{AreRowLines, ArePageLines, IsRowLine}
 use Rattle.fax_tool.specs.Text.{Line, begun_at, line_of_page, line_of_row, next_after, page_line_of, row_line, row_line_of}
 use Rattle.fax_tool.specs.code.Printing.{IsLinePut, IsNextAfter, end_of}
@@ -89,18 +87,29 @@ next_is_one begun one given next other is is_too =
     let second = one.one is_too.lines is_too.end is_too.is in
     is.next_is ∙ ap (λ (l : List Line). next_after begun (take given l)) (first.0 ∙ sym second.0) ∙ sym is_too.next_is
 
+abbrev long_at_place : Place → Option LongPlace
+long_at_place at = long_at at.page at.row at.inner
+
+-- the place inside its strip after an item
+abbrev inner_after : PageForm → Item → Place
+inner_after form item =
+    record { page = item.page; row = item.row + 1; inner = Some (record { bits = item.bits; reference = exchanged form item.pels }) }
+
 begins_if : (test : Bool) (place : LongPlace) (at : Cursor) → place.at ≡ at
     → begins_at (begun_at (if test then Some place else None) at) ≡ at
 begins_if true place at same = same
 begins_if false place at same = refl
 
--- the cursor of what goes on after a row is the one after it
+-- the cursor of what goes on after a row is the one after it: on the page after, at the page's next strip, or inside its strip
+after_tests : (form : PageForm) (item : Item) (within first : Bool)
+    → begins_at (begun_at (long_at_place (if within then (if first then first_at item.page (item.row + 1) else inner_after form item)
+    else first_at (item.page + 1) 0)) (cursor_after item)) ≡ cursor_after item
+after_tests form item true true = refl
+after_tests form item true false = begins_if _ _ (cursor_after item) refl
+after_tests form item false first = refl
+
 pub begins_after : (form : PageForm) (item : Item) → begins_at (begun_at (long_after form item) (cursor_after item)) ≡ cursor_after item
-begins_after form item = elim (cases_after form item) [
-  | inl (last, is) ↦ rw is refl
-  | inr (inl (within, first, is)) ↦ rw is refl
-  | inr (inr (within, inside, is)) ↦ rw is (begins_if _ _ (cursor_after item) refl)
-]
+begins_after form item = after_tests form item (nat_lt (item.row + 1) form.rows) (row_in_strip form (item.row + 1) == 0)
 
 module _ (file : List ℕ) where
   row_has_line : (at : Place) (item : Item) (to : Place) → IsRow file at (Ok (item, to)) → (line : Line) × IsRowLine file item line
@@ -133,14 +142,13 @@ module _ (file : List ℕ) where
   row_lines begun items end tail =
       let lines = have_lines begun items end tail in (lines.0, record { items = items; tail = tail; lines_are = lines.1 })
 
-  pub one_line : FilesHaveOneChain → (item : Item) (line other : Line) → IsRowLine file item line → IsRowLine file item other → line ≡ other
-  one_line chains item line other (here, page, is) (there, page_too, is_too) =
-      let answers = same_answer (one_page chains file (record { page = item.page; row = item.row })) (Ok here) (Ok there) page page_too in
-      let same : here ≡ there = cc in
+  pub one_line : CursorsNameOnePage → (item : Item) (line other : Line) → IsRowLine file item line → IsRowLine file item other → line ≡ other
+  one_line pages item line other (here, page, is) (there, page_too, is_too) =
+      let same = pages file (record { page = item.page; row = item.row }) here there page page_too in
       is ∙ ap (λ (h : FilePage). line_of_row h.form item) same ∙ sym is_too
 
-  pub one_rows : BeginningsHaveOneTail → FilesHaveOneChain → (begun : Begun) → IsOne (AreRowLines file begun)
-  one_rows tails chains begun =
+  pub one_rows : BeginningsHaveOneTail → CursorsNameOnePage → (begun : Begun) → IsOne (AreRowLines file begun)
+  one_rows tails pages begun =
       let one = tails file begun in
       let lines = have_lines begun one.items one.end one.is in
       record {
@@ -149,7 +157,7 @@ module _ (file : List ℕ) where
         is = record { items = one.items; tail = one.is; lines_are = lines.1 };
         one = λ others other are.
             let same = one.one are.items other are.tail in (
-              zip_same (IsRowLine file) (one_line chains) one.items others lines.0
+              zip_same (IsRowLine file) (one_line pages) one.items others lines.0
                   (subst (λ (l : List Item). AllZip (IsRowLine file) l others) same.0 are.lines_are) lines.1,
               same.1,
             );
@@ -265,24 +273,24 @@ inside_of None at = refl
 inside_of (Some place) at = refl
 
 -- the place inside a strip after so many rows
-row_place : BeginningsHaveOneTail → FilesHaveOneChain → (walk : WalkView) (place : Option LongPlace) → IsLongOf walk place
+row_place : BeginningsHaveOneTail → CursorsNameOnePage → (walk : WalkView) (place : Option LongPlace) → IsLongOf walk place
     → (next : Begun) × IsNextAfter (AreRowLines walk.file walk.begun) walk.begun walk.given next × (place ≡ begins_inside next)
-row_place tails chains walk place (inl (none, is)) =
-    (walk.begun, none_given walk.begun (one_rows walk.file tails chains walk.begun) walk.given none, is)
-row_place tails chains walk place (inr (before, item, here, count, number, page, is)) =
+row_place tails pages walk place (inl (none, is)) =
+    (walk.begun, none_given walk.begun (one_rows walk.file tails pages walk.begun) walk.given none, is)
+row_place tails pages walk place (inr (before, item, here, count, number, page, is)) =
     let of = line_of walk.file walk.begun before item number in
-    let same = one_line walk.file chains item of.line (line_of_row here.form item) (of.here, of.page, of.line_is) (here, page, refl) in (
+    let same = one_line walk.file pages item of.line (line_of_row here.form item) (of.here, of.page, of.line_is) (here, page, refl) in (
       of.line.next,
       rw count of.next,
       is ∙ sym (ap (λ (l : Line). begins_inside l.next) same ∙ inside_of (long_after here.form item) (cursor_after item)),
     )
 
-pub row_places : BeginningsHaveOneTail → FilesHaveOneChain → (walk : WalkView) (answer : Result (Option LongPlace) NoMemory)
+pub row_places : BeginningsHaveOneTail → CursorsNameOnePage → (walk : WalkView) (answer : Result (Option LongPlace) NoMemory)
     → IfOk answer (IsLongOf walk)
     → IfOk answer (λ place. (next : Begun) × IsNextAfter (AreRowLines walk.file walk.begun) walk.begun walk.given next
     × (place ≡ begins_inside next))
-row_places tails chains walk (Ok place) is = row_place tails chains walk place is
-row_places tails chains walk (Err memory) is = tt
+row_places tails pages walk (Ok place) is = row_place tails pages walk place is
+row_places tails pages walk (Err memory) is = tt
 
 -- a reader of pages stands after the page that it handed out last
 abbrev pub Stands : PagesView → Type 0

@@ -6,7 +6,7 @@ use Rattle.fax_tool.specs.declared.refusal.Refusal.{Refusal}
 use Rattle.fax_tool.specs.declared.words.Command.{Command}
 use Rattle.fax_tool.specs.Run.{Input, Output, AppendsText, IsRefused, IsTextOf, WritesText}
 use Rattle.fax_tool.specs.Text.{Printed}
-use Rattle.fax_tool.specs.code.Outcome.{IsDone, IsReport, IsStopped, WritesOutput, error_of, status_of}
+use Rattle.fax_tool.specs.code.Outcome.{IsDone, IsReported, IsStopped, WritesOutput, error_of, status_of}
 
 low_status : (line : Option (List ℕ)) → status_of line ≡ 3 → ⊥
 low_status None is = omega (arith, is)
@@ -31,7 +31,7 @@ module _ (command : Command) (input : Input) (output error : Output) where
   )
 
   pub run_refused : (outcome : Result (Option (List ℕ)) Refusal) (status : ℕ) → IfOk outcome (IsDone command input output)
-      → IfErr outcome (λ refusal. IsStopped command refusal input output) → IsReport outcome error status → status ≡ 3
+      → IfErr outcome (λ refusal. IsStopped command refusal input output) → IsReported outcome error status → status ≡ 3
       → IsRefused command input output error
   run_refused (Ok line) status ok err (inl (worked, said, is)) three = absurd (low_status line (sym is ∙ three))
   run_refused (Ok line) status ok err (inr (failed, is)) three =
@@ -40,7 +40,7 @@ module _ (command : Command) (input : Input) (output error : Output) where
       inr (refusal, record { reason = err.reason; leaves = err.leaves; said = said })
 
   pub run_written : (outcome : Result (Option (List ℕ)) Refusal) (status : ℕ) → IfOk outcome (IsDone command input output)
-      → IsReport outcome error status → status < 3 → WritesText command input output error status
+      → IsReported outcome error status → status < 3 → WritesText command input output error status
   run_written (Ok line) status ok (inl (worked, said, is)) low = record {
     read = ok.read;
     written = ok.written;

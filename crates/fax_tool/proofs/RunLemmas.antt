@@ -1,23 +1,27 @@
 -- Runs that go on where the one before them was cut.
 use Rattle.std.proofs.Common.{◌≡◌, ℕ, zero, suc, List, [], ◌∷◌, ◌++◌, length}
 use Rattle.std.proofs.Common.{take, drop, refl, ap, sym, ◌∙◌, subst, append_assoc, append-nil}
-use Rattle.std.proofs.Common.{true, false, Bool, take-append-drop, arith}
+use Rattle.std.proofs.Common.{true, false, Bool, take-append-drop, get_or, ◌≤◌, ◌^◌, arith}
 use Rattle.std.proofs.Math.Seq.{take-length}
-use Rattle.std.proofs.lemmas.List.{drop_all}
+use Rattle.std.proofs.lemmas.Bool.Decides.{nat_tests}
+use Rattle.std.proofs.lemmas.List.{append_cancel_left, append_cancel_right, drop_all}
 use Rattle.std.specs.Prelude.{Option, Some, None, nat_le, Ok}
 use Rattle.std.specs.List.{AllZip}
-use Rattle.fax_files.specs.laws.Files.{FilesHaveOneChain}
 use Rattle.fax_walk.specs.declared.begun.Begun.{Begun}
 use Rattle.fax_walk.specs.declared.begun.Begun.TheVariants.{At, Inside}
 use Rattle.fax_walk.specs.declared.cursor.Cursor.{Cursor}
 use Rattle.fax_walk.specs.declared.end.End.{End}
-use Rattle.fax_walk.specs.Cursors.{LongPlace}
-use Rattle.fax_walk.specs.laws.Tails.{BeginningsHaveOneTail, IsReached, LongTailsGoOn, PlacesAreReached, TailsGoOn}
+use Rattle.fax_walk.specs.declared.end.End.TheVariants.{Fault, Outside, Proper}
+use Rattle.fax_walk.specs.Cursors.{IsCursor, cursor_text, LongPlace, long_cursor_text}
+use Rattle.fax_walk.specs.laws.Cursors.{CursorsAreShort, PlacesAreShort, TextsNameOne}
+use Rattle.fax_walk.specs.laws.Tails.{BeginningsHaveOneTail, CursorsNameOnePage, IsReached, LongTailsGoOn, PlacesAreReached, TailsGoOn}
 use Rattle.fax_walk.specs.Pages.{FilePage, IsPageAt}
 use Rattle.fax_walk.specs.Rows.{Item, IsTailFrom, cursor_after, long_after}
 use Rattle.fax_tool.specs.Run.{AreRowLines, IsRowLine}
-use Rattle.fax_tool.specs.Text.{Line, Printed, begun_at, last_line, named, next_after, text_of, texts_of, whole_text}
-use Rattle.fax_tool.specs.laws.Runs.{AreAsOneRun, AreRuns, MayBegin, RunsGoOn, is_cut, up_to}
+use Rattle.fax_files.specs.Directory.{max_file}
+use Rattle.fax_tool.specs.Text.{Line, Printed, begun_at, begun_text, first_text, last_line, line_end, named, next_after, next_line, text_of}
+use Rattle.fax_tool.specs.Text.{texts_of, whole_text}
+use Rattle.fax_tool.specs.laws.Runs.{AreAsOneRun, AreRunsOfRows, CutRunsAreReadOn, IsBegun, IsReadAfter, IsRunOfRows, MayBegin, RunsGoOn, is_cut, up_to}
 use Rattle.fax_tool.proofs.LineLemmas.{begins_after, one_rows}
 
 texts_of-append : (xs ys : List Line) → texts_of (xs ++ ys) ≡ texts_of xs ++ texts_of ys
@@ -86,12 +90,68 @@ as_one_after long begun xs ys end first others rows last cut first_is all =
       status = all.status;
     }
 
-module _ (tails : BeginningsHaveOneTail) (chains : FilesHaveOneChain) (go_on : TailsGoOn) (long_go_on : LongTailsGoOn)
-    (places : PlacesAreReached) (file : List ℕ) where
+-- what a run begins with has one text
+one_begun : TextsNameOne → (begun other : Begun) → IsBegun begun → IsBegun other → begun_text begun ≡ begun_text other → begun ≡ other
+one_begun names (At at) (At other) is is_too e = ap At (names.cursors at other is is_too e)
+one_begun names (At at) (Inside place) is is_too e = absurd (names.apart at place e)
+one_begun names (Inside place) (At at) is is_too e = absurd (names.apart at place (sym e))
+one_begun names (Inside place) (Inside other) is is_too e = ap Inside (names.places place other is is_too e)
+
+-- the text of `next` tells the text that stands in it
+same_text : (rows : List ℕ) (begun next : Begun) → rows ++ next_line begun ≡ rows ++ next_line next → begun_text begun ≡ begun_text next
+same_text rows begun next e =
+    let line = append_cancel_left rows (next_line begun) (next_line next) e in
+    let rest : begun_text begun ++ line_end ≡ begun_text next ++ line_end = ap (λ (l : List ℕ). drop 5 l) line in
+    append_cancel_right (begun_text begun) (begun_text next) line_end rest
+
+same_last : (rows : List ℕ) (end : End) (begun next : Begun) → rows ++ last_line end begun ≡ rows ++ next_line next
+    → begun_text begun ≡ begun_text next
+same_last rows Proper begun next e =
+    let line = append_cancel_left rows (last_line Proper begun) (next_line next) e in
+    let first : ◌≡◌ {A = ℕ} 101 110 = ap (λ (l : List ℕ). get_or l 0 0) line in
+    absurd (omega arith)
+same_last rows (Fault page row cause) begun next e = same_text rows begun next e
+same_last rows Outside begun next e =
+    let line = append_cancel_left rows (last_line Outside begun) (next_line next) e in
+    let first : ◌≡◌ {A = ℕ} 0 110 = ap (λ (l : List ℕ). get_or l 0 0) line in
+    absurd (omega arith)
+
+all_taken : {A : Type 0} (n : ℕ) (xs : List A) → length xs ≤ n → take n xs ≡ xs
+all_taken n xs within =
+    sym (append-nil (take n xs)) ∙ ap (λ l. take n xs ++ l) (sym (drop_all n xs within)) ∙ take-append-drop n xs
+
+-- what stands after `next` after these lines is the text of what goes on after them
+next_told : (long : Bool) (max : Option ℕ) (begun : Begun) (lines : List Line) (end : End) (next : Begun)
+    → (text_of long max begun lines end).output ≡ texts_of (up_to max lines) ++ next_line next
+    → begun_text (named long (next_after begun (up_to max lines))) ≡ begun_text next
+next_told long None begun lines end next e = same_last (texts_of lines) end (named long (next_after begun lines)) next e
+next_told long (Some limit) begun lines end next e = by_test (nat_le limit (length lines)) refl
+  where
+    by_test : (test : Bool) → nat_le limit (length lines) ≡ test
+        → begun_text (named long (next_after begun (take limit lines))) ≡ begun_text next
+    by_test true cut =
+        same_text (texts_of (take limit lines)) (named long (next_after begun (take limit lines))) next (rw cut at e)
+    by_test false whole =
+        let all : take limit lines ≡ lines = all_taken limit lines (grind (arith, nat_tests)) in
+        let text : texts_of lines ++ last_line end (named long (next_after begun lines)) ≡ texts_of (take limit lines) ++ next_line next =
+        rw whole at e in
+        let same : texts_of lines ++ last_line end (named long (next_after begun lines)) ≡ texts_of lines ++ next_line next =
+        text ∙ ap (λ (l : List Line). texts_of l ++ next_line next) all in
+        ap (λ (l : List Line). begun_text (named long (next_after begun l))) all
+        ∙ same_last (texts_of lines) end (named long (next_after begun lines)) next same
+
+module _ (tails : BeginningsHaveOneTail) (pages : CursorsNameOnePage) (go_on : TailsGoOn) (long_go_on : LongTailsGoOn)
+    (places : PlacesAreReached) (short : CursorsAreShort) (long_short : PlacesAreShort) (names : TextsNameOne) (file : List ℕ)
+    (limit_kept : length file ≤ 2 ^ 32) where
   reached : (long : Bool) (begun : Begun) → MayBegin file long begun → IsReached file begun
   reached long (At at) may = tt
-  reached true (Inside place) may = may
+  reached true (Inside place) may = may.1
   reached false (Inside place) may = absurd may
+
+  is_begun : (long : Bool) (begun : Begun) → MayBegin file long begun → IsBegun begun
+  is_begun long (At at) may = may
+  is_begun true (Inside place) may = may.0
+  is_begun false (Inside place) may = absurd may
 
   named_begun : (long : Bool) (begun : Begun) → MayBegin file long begun → named long begun ≡ begun
   named_begun true begun may = refl
@@ -111,16 +171,23 @@ module _ (tails : BeginningsHaveOneTail) (chains : FilesHaveOneChain) (go_on : T
       go_on file begun (item ∷ items) end 0 item (reached false begun may) tail refl in
       record {
         tail = subst (λ (c : Cursor). IsTailFrom file (At c) items end) (sym (begins_after here.form item)) at_cursor;
-        may = tt;
+        may = subst IsCursor (sym (begins_after here.form item))
+            (short file begun (item ∷ items) end 0 item limit_kept (reached false begun may) tail refl);
       }
   after_item true begun item items end here may tail page = by_place (long_after here.form item) refl
     where
       by_place : (place : Option LongPlace) → long_after here.form item ≡ place
           → GoesOn true (begun_at place (cursor_after item)) items end
-      by_place None is = record { tail = go_on file begun (item ∷ items) end 0 item (reached true begun may) tail refl; may = tt }
+      by_place None is = record {
+        tail = go_on file begun (item ∷ items) end 0 item (reached true begun may) tail refl;
+        may = short file begun (item ∷ items) end 0 item limit_kept (reached true begun may) tail refl;
+      }
       by_place (Some place) is = record {
         tail = long_go_on file begun (item ∷ items) end 0 item here place tail refl page is;
-        may = places file begun (item ∷ items) end 0 item here place (reached true begun may) tail refl page is;
+        may = (
+          long_short file begun (item ∷ items) end 0 item here place limit_kept tail refl page is,
+          places file begun (item ∷ items) end 0 item here place (reached true begun may) tail refl page is,
+        );
       }
 
   -- the lines after some of a run's lines
@@ -162,15 +229,15 @@ module _ (tails : BeginningsHaveOneTail) (chains : FilesHaveOneChain) (go_on : T
   same_lines : (begun : Begun) (lines others : List Line) (end other : End) → AreRowLines file begun lines end
       → AreRowLines file begun others other → (others ≡ lines) × (other ≡ end)
   same_lines begun lines others end other are again =
-      let one = one_rows file tails chains begun in
+      let one = one_rows file tails pages begun in
       let first = one.one lines end are in
       let second = one.one others other again in (second.0 ∙ sym first.0, second.1 ∙ sym first.1)
 
   all_runs : (limits : List (Option ℕ)) (long : Bool) (begun : Begun) (max : Option ℕ) (before rows : List ℕ) (last : Printed) (cut : Bool)
       (lines : List Line) (end : End) → MayBegin file long begun → AreRowLines file begun lines end
-      → AreRuns file long begun limits max before rows last cut
+      → AreRunsOfRows file long begun limits max before rows last cut
       → AreAsOneRun before rows last cut (texts_of lines) (whole_text long begun lines end)
-  all_runs [] long begun max before rows last cut lines end may are (next, run, before_is) =
+  all_runs [] long begun max before rows last cut lines end may are (run, before_is) =
       let same = same_lines begun lines run.lines end run.end are run.are in
       let text : last ≡ text_of long max begun lines end = rw (same.0, same.1) at run.text_is in
       let rows_are : rows ≡ texts_of (up_to max lines) = rw same.0 at run.rows_are in
@@ -178,20 +245,51 @@ module _ (tails : BeginningsHaveOneTail) (chains : FilesHaveOneChain) (go_on : T
       rw before_is (alone lines max rows last (whole_text long begun lines end) cut rows_are
       (λ no. text ∙ not_cut long max begun lines end (sym cut_is ∙ no)))
   all_runs (limit ∷ limits) long begun max before rows last cut lines end may are
-      (text, first, next, was_cut, others, run, prints, runs, before_is) =
+      (text, first, was_cut, next, others, run, told, runs, before_is) =
       let same = same_lines begun lines run.lines end run.end are run.are in
       let first_is : first ≡ texts_of (up_to limit lines) = rw same.0 at run.rows_are in
-      let next_is : next ≡ named long (next_after begun (up_to limit lines)) = rw same.0 at run.next_is in
       let goes = after_limit long begun limit lines end may are in
+      let text_is : text ≡ text_of long limit begun lines end = rw (same.0, same.1) at run.text_is in
+      let output : (text_of long limit begun lines end).output ≡ texts_of (up_to limit lines) ++ next_line next =
+      ap (λ (printed : Printed). printed.output) (sym text_is) ∙ told.is ∙ ap (λ (l : List ℕ). l ++ next_line next) first_is in
+      let next_is : next ≡ named long (next_after begun (up_to limit lines)) =
+      sym (one_begun names (named long (next_after begun (up_to limit lines))) next
+      (is_begun long (named long (next_after begun (up_to limit lines))) goes.may) told.limits
+      (next_told long limit begun lines end next output)) in
       let later = all_runs limits long (named long (next_after begun (up_to limit lines))) max others rows last cut (lines_left limit lines)
-      end goes.may goes.are (subst (λ (b : Begun). AreRuns file long b limits max others rows last cut) next_is runs) in
+      end goes.may goes.are (subst (λ (b : Begun). AreRunsOfRows file long b limits max others rows last cut) next_is runs) in
       rw before_is
       (subst (λ (l : List Line). AreAsOneRun (first ++ others) rows last cut (texts_of l) (whole_text long begun l end)) (parts limit lines)
       (as_one_after long begun (up_to limit lines) (lines_left limit lines) end first others rows last cut first_is later))
 
-pub runs_go_on : BeginningsHaveOneTail → FilesHaveOneChain → TailsGoOn → LongTailsGoOn → PlacesAreReached → RunsGoOn
-runs_go_on tails chains go_on long_go_on places file long begun limits max before rows last cut whole lines next was_cut may runs run =
-    let all = all_runs tails chains go_on long_go_on places file limits long begun max before rows last cut run.lines run.end may run.are
-    runs in
+  cut_next : (long : Bool) (begun : Begun) (max : Option ℕ) (text : Printed) (rows : List ℕ) → MayBegin file long begun
+      → IsRunOfRows file long begun max text rows true → (next : Begun) × IsReadAfter rows text.output next
+  cut_next long begun max text rows may run =
+      let next = named long (next_after begun (up_to max run.lines)) in
+      let goes = after_limit long begun max run.lines run.end may run.are in (
+        next,
+        record {
+          limits = is_begun long next goes.may;
+          is = ap (λ (printed : Printed). printed.output) (run.text_is ∙ cut_text max run.cut_is)
+              ∙ ap (λ (l : List ℕ). l ++ next_line next) (sym run.rows_are);
+        },
+      )
+    where
+      cut_text : (max : Option ℕ) → true ≡ is_cut max run.lines
+          → text_of long max begun run.lines run.end ≡ first_text long begun (up_to max run.lines)
+      cut_text None is = absurd cc
+      cut_text (Some limit) is = let cut : nat_le limit (length run.lines) ≡ true = sym is in rw cut refl
+
+pub cut_runs_are_read_on : BeginningsHaveOneTail → CursorsNameOnePage → TailsGoOn → LongTailsGoOn → PlacesAreReached → CursorsAreShort
+    → PlacesAreShort → TextsNameOne → CutRunsAreReadOn
+cut_runs_are_read_on tails pages go_on long_go_on places short long_short names file long begun max text rows within may run =
+    cut_next tails pages go_on long_go_on places short long_short names file (omega arith) long begun max text rows may run
+
+pub runs_go_on : BeginningsHaveOneTail → CursorsNameOnePage → TailsGoOn → LongTailsGoOn → PlacesAreReached → CursorsAreShort
+    → PlacesAreShort → TextsNameOne → RunsGoOn
+runs_go_on tails pages go_on long_go_on places short long_short names file long begun limits max before rows last cut whole lines was_cut
+    within may runs run =
+    let all = all_runs tails pages go_on long_go_on places short long_short names file (omega arith) limits long begun max before rows last
+    cut run.lines run.end may run.are runs in
     subst (λ (text : Printed). AreAsOneRun before rows last cut lines text) (sym run.text_is)
     (subst (λ (l : List ℕ). AreAsOneRun before rows last cut l (whole_text long begun run.lines run.end)) (sym run.rows_are) all)

@@ -14,15 +14,19 @@ use crate::words::parse_words;
 use std::alloc::Global;
 
 /// Runs of `rows`, all with `--long` or all without, the first from any cursor, with `--long` also
-/// from a long cursor to which its strip's rows lead, and each later one from what the run before
-/// it printed after `next `, write together a beginning of one run's lines of rows, and all that it
-/// writes where the last of them was not cut by its limit.
+/// from a long cursor to which its strip's rows lead, and each later one from what is read of the
+/// text that the run before it printed after `next `, write together a beginning of one run's lines
+/// of rows, and all that it writes where the last of them was not cut by its limit. What a run that
+/// was cut printed there is read as a cursor, or as a long one. The file is one that is not too
+/// long to be read.
 pub fn runs_go_on()
-    ensures { Laws.RunsGoOn }
+    ensures runs { Laws.RunsGoOn }
+    ensures read { Laws.CutRunsAreReadOn }
 {
     fax_walk::laws::beginnings_have_one_tail();
     fax_walk::laws::tails_go_on();
-    fax_files::laws::files_have_one_chain();
+    fax_walk::laws::cursors_are_named();
+    fax_walk::laws::cursors_name_one_page();
 }
 
 /// What the program does with words, over its streams, but for opening the file that they name:

@@ -89,7 +89,7 @@ impl Lines for Walk<'_> {
 
     fn long_cursor(&self, alloc: Global) -> Result<Option<LongCursor>, Memory> {
         fax_walk::laws::beginnings_have_one_tail();
-        fax_files::laws::files_have_one_chain();
+        fax_walk::laws::cursors_name_one_page();
         Walk::long_cursor(self, alloc)
     }
 
@@ -106,7 +106,7 @@ impl Lines for Walk<'_> {
 
     fn are_one(&self) {
         fax_walk::laws::beginnings_have_one_tail();
-        fax_files::laws::files_have_one_chain();
+        fax_walk::laws::cursors_name_one_page();
     }
 }
 

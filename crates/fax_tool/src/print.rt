@@ -12,7 +12,6 @@ ghost use Rattle.fax_tool.specs.Text.{Line, next_line};
 ghost use Rattle.fax_tool.specs.Run.{HasWorked, IsRead, IsTextOfFirst, IsTextOfLines, begun_of};
 ghost use Rattle.fax_files.specs.Directory.{max_file};
 ghost use Rattle.fax_walk.specs.Rows.{begins_at};
-ghost use Rattle.fax_walk.specs.views.Walk.{walk_from};
 ghost use Rattle.fax_walk.specs.declared.begun.Begun.TheVariants.{At};
 ghost use Rattle.fax_walk.specs.declared.end.End.{End as TheEnd};
 ghost use Rattle.fax_tool.specs.declared.words.Command.TheVariants.{List as Forms, Rows};
@@ -324,16 +323,6 @@ fn begin_or_stop<W: Sink>(part: &Part, out: &mut W) -> Result<Begun, Refusal>
     }
 }
 
-/// A walk over the rows of a file that begins so.
-fn walk_of(alloc: Global, file: &[u8], begun: Begun) -> Walk
-    ensures { result ≡ walk_from file.now begun }
-{
-    match begun {
-        Begun::At(cursor) => Walk::resume(alloc, file, cursor),
-        Begun::Inside(cursor) => Walk::resume_long(alloc, file, cursor),
-    }
-}
-
 /// Reads the input whole and prints the rows of its pages from the cursor on, up to the limit, and
 /// then `end`, or `next` with the place of the row that was due: a long cursor where the part asks
 /// for it and there is one.
@@ -356,7 +345,7 @@ pub fn rows<R: Source, W: Sink>(
     fax_walk::laws::beginnings_have_one_tail();
     let begun = begin_or_stop(part, out)?;
     let file = read_or_stop(alloc, part.begin(), input, out)?;
-    let mut walk = walk_of(alloc, &file, begun);
+    let mut walk = Walk::begin(alloc, &file, begun);
     print_all(alloc, &mut walk, part.max, part.long, out)
 }
 

@@ -1,6 +1,6 @@
 //! A run of the program over its streams.
 ghost use Rattle.std.specs.Prelude.{◌≡◌, ◌<◌, IfErr, IfOk};
-ghost use Rattle.fax_tool.specs.code.Outcome.{IsDone, IsReport, IsSaid, IsStopped};
+ghost use Rattle.fax_tool.specs.code.Outcome.{IsDone, IsReported, IsSaid, IsStopped};
 ghost use Rattle.fax_tool.specs.Run.{IsRefused, IsStatus, WritesText};
 ghost use Rattle.fax_tool.specs.views.Streams.{input_after, no_faults, output_after};
 
@@ -40,7 +40,7 @@ fn say<E: Sink>(err: &mut E, line: &[u8], status: u8) -> u8
 /// program's status.
 fn report<E: Sink>(outcome: Result<Option<ErrorLine>, Refusal>, err: &mut E) -> u8
     requires { E.counts err.old ≡ no_faults }
-    ensures { IsReport outcome
+    ensures { IsReported outcome
         (output_after (E.written err.old) (E.written err.new) (E.counts err.new)) result }
 {
     match outcome {

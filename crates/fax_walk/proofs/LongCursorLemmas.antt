@@ -15,7 +15,7 @@ use Rattle.fax_walk.specs.code.LongText.{number_and, IsNumberCut}
 use Rattle.fax_walk.proofs.CursorLemmas.{numerals, no_colon}
 
 -- the decimals of a number have no comma
-no_comma : (n : ℕ) → n < 2 ^ 32 → (i : ℕ) → i < length (decimal n) → get_or (decimal n) i 0 ≢ 44
+pub no_comma : (n : ℕ) → n < 2 ^ 32 → (i : ℕ) → i < length (decimal n) → get_or (decimal n) i 0 ≢ 44
 no_comma n small = not_in_digits numerals (decimal n) 44 (digits_decimal numerals n (omega arith)) (λ h. omega arith)
 
 -- a run and a comma

@@ -46,18 +46,18 @@ use Rattle.fax_walk.proofs.WidthLemmas.{row_in}
 
 module _ (file : List ℕ) where
   -- an item, the place where it was read, and what is handed out after it
-  record IsSplit (begun : Begun) (item : Item) (after : List Item) (end : End) : Type 0 where
-    from : Place
-    dropped : ℕ
-    begins : Begins file begun (Ok (from, dropped))
-    front : List Item
-    at : Place
-    lead : LeadTo (IsRow file) from front at
-    to : Place
-    step : IsRow file at (Ok (item, to))
-    rest : AreFrom (IsRow file) to after end
+  pub record IsSplit (begun : Begun) (item : Item) (after : List Item) (end : End) : Type 0 where
+    pub from : Place
+    pub dropped : ℕ
+    pub begins : Begins file begun (Ok (from, dropped))
+    pub front : List Item
+    pub at : Place
+    pub lead : LeadTo (IsRow file) from front at
+    pub to : Place
+    pub step : IsRow file at (Ok (item, to))
+    pub rest : AreFrom (IsRow file) to after end
 
-  split_at_number : (begun : Begun) (all : List Item) (end : End) (n : ℕ) (item : Item) → IsTailFrom file begun all end
+  pub split_at_number : (begun : Begun) (all : List Item) (end : End) (n : ℕ) (item : Item) → IsTailFrom file begun all end
       → slice_get all n ≡ Some item
       → IsSplit begun item (drop (n + 1) all) end
   split_at_number begun all end n item (begin, begins, are) there =
@@ -75,13 +75,13 @@ module _ (file : List ℕ) where
       }
 
   -- the row that was read, on its page and in its strip
-  record IsRead (at : Place) (item : Item) (to : Place) : Type 0 where
-    here : FilePage
-    page : IsPageAt file (cursor_at at) (Ok here)
-    bytes : List ℕ
-    bytes_are : strip_bytes here.endian file here.offset (strip_at here.form at.row) ≡ Some bytes
-    is : IsItem here.form bytes at item
-    to_is : to ≡ place_after here.form item
+  pub record IsRead (at : Place) (item : Item) (to : Place) : Type 0 where
+    pub here : FilePage
+    pub page : IsPageAt file (cursor_at at) (Ok here)
+    pub bytes : List ℕ
+    pub bytes_are : strip_bytes here.endian file here.offset (strip_at here.form at.row) ≡ Some bytes
+    pub is : IsItem here.form bytes at item
+    pub to_is : to ≡ place_after here.form item
 
   in_bytes : (at : Place) (item : Item) (to : Place) (here : FilePage) → IsPageAt file (cursor_at at) (Ok here) → (found : Option (List ℕ))
       → strip_bytes here.endian file here.offset (strip_at here.form at.row) ≡ found → IsInStrip here.form at found (Ok (item, to))
@@ -90,7 +90,7 @@ module _ (file : List ℕ) where
   in_bytes at item to here page (Some bytes) e (is, to_is) =
       record { here = here; page = page; bytes = bytes; bytes_are = e; is = is; to_is = to_is }
 
-  read_at : (at : Place) (item : Item) (to : Place) → IsRow file at (Ok (item, to)) → IsRead at item to
+  pub read_at : (at : Place) (item : Item) (to : Place) → IsRow file at (Ok (item, to)) → IsRead at item to
   read_at at item to (Err end, page, e) = absurd cc
   read_at at item to (Ok here, page, is) =
       in_bytes at item to here page (strip_bytes here.endian file here.offset (strip_at here.form at.row)) refl is
@@ -133,7 +133,7 @@ module _ (file : List ℕ) where
       under (Err fault) e = absurd cc
       under (Ok head) (offsets, fault, chain, e) = over head offsets fault (slice_get offsets at.page) e
 
-  same_page : FilesHaveOneChain → (at : Cursor) (here there : FilePage) → IsPageAt file at (Ok here) → IsPageAt file at (Ok there)
+  pub same_page : FilesHaveOneChain → (at : Cursor) (here there : FilePage) → IsPageAt file at (Ok here) → IsPageAt file at (Ok there)
       → here ≡ there
   same_page chains at here there is is_too = let same = same_answer (one_page chains file at) (Ok here) (Ok there) is is_too in cc
 
@@ -153,17 +153,17 @@ strip_begin : (n r : ℕ) → r % n ≡ 0 → r ≡ r / n * n
 strip_begin n r first = let parts = div-add-mod r n in omega (arith, parts, first)
 
 module _ (forms : FormsAreWhole) (chains : FilesHaveOneChain) (file : List ℕ) where
-  abbrev strip_of : FilePage → ℕ → ℕ → Place
+  abbrev pub strip_of : FilePage → ℕ → ℕ → Place
   strip_of here p r = first_at p (strip_at here.form r * here.form.rows_per_strip)
 
   -- rows of its strip lead to a place on a page
-  record IsFromStrip (at : Place) (here : FilePage) : Type 0 where
-    rows : List Item
-    lead : LeadTo (IsRow file) (strip_of here at.page at.row) rows at
-    count : length rows ≡ row_in_strip here.form at.row
-    row : at.row < here.form.rows
+  pub record IsFromStrip (at : Place) (here : FilePage) : Type 0 where
+    pub rows : List Item
+    pub lead : LeadTo (IsRow file) (strip_of here at.page at.row) rows at
+    pub count : length rows ≡ row_in_strip here.form at.row
+    pub row : at.row < here.form.rows
 
-  abbrev FromStrip : Place → Type 0
+  abbrev pub FromStrip : Place → Type 0
   FromStrip at = (here : FilePage) → IsPageAt file (cursor_at at) (Ok here) → IsFromStrip at here
 
   strip_first : (p r : ℕ) (here : FilePage) → row_in_strip here.form r ≡ 0 → r < here.form.rows → IsFromStrip (first_at p r) here
@@ -283,11 +283,11 @@ module _ (forms : FormsAreWhole) (chains : FilesHaveOneChain) (file : List ℕ) 
 
   module _ (begun : Begun) (reached : IsReached file begun) (item : Item) (after : List Item) (end : End)
       (split : IsSplit file begun item after end) where
-    here_from : FromStrip split.at
+    pub here_from : FromStrip split.at
     here_from = kept (IsRow file) FromStrip from_strip split.from split.at split.front split.lead
         (begins_from begun reached split.from split.dropped split.begins)
 
-    read : IsRead file split.at item split.to
+    pub read : IsRead file split.at item split.to
     read = read_at file split.at item split.to split.step
 
     abbrev on_form : PageForm
@@ -402,21 +402,29 @@ module _ (forms : FormsAreWhole) (chains : FilesHaveOneChain) (file : List ℕ) 
       place_of (Ok begin) = begin.0
       place_of (Err end) = from
 
-  abbrev long_of : PageForm → Item → LongPlace
+  abbrev pub long_of : PageForm → Item → LongPlace
   long_of form item =
       record { at = record { page = item.page; row = item.row + 1 }; bits = item.bits; runs = runs_of (exchanged form item.pels) }
 
-  some_if : (test : Bool) (x place : LongPlace) → (if test then Some x else None) ≡ Some place → x ≡ place
-  some_if true x place e = cc
+  some_if : (test : Bool) (x place : LongPlace) → (if test then Some x else None) ≡ Some place → (x ≡ place) × (test ≡ true)
+  some_if true x place e = (cc, refl)
   some_if false x place e = absurd cc
 
-  long_facts : (form : PageForm) (item : Item) (place : LongPlace) → long_after form item ≡ Some place
-      → (item.row + 1 < form.rows) × (0 < row_in_strip form (item.row + 1)) × (place_after form item ≡ inner_after form item)
-      × (long_of form item ≡ place)
+  -- a place inside a strip after an item
+  pub record IsLong (form : PageForm) (item : Item) (place : LongPlace) : Type 0 where
+    pub within : item.row + 1 < form.rows
+    pub inside : 0 < row_in_strip form (item.row + 1)
+    pub after : place_after form item ≡ inner_after form item
+    pub is : long_of form item ≡ place
+    pub bits : nat_le item.bits 4294967295 ≡ true
+
+  long_facts : (form : PageForm) (item : Item) (place : LongPlace) → long_after form item ≡ Some place → IsLong form item place
   long_facts form item place e = elim (cases_after form item) [
     | inl (last, is) ↦ absurd (no_place (rw is at e))
     | inr (inl (within, first, is)) ↦ absurd (no_place (rw is at e))
-    | inr (inr (within, inside, is)) ↦ (within, inside, is, some_if (nat_le item.bits 4294967295) (long_of form item) place (rw is at e))
+    | inr (inr (within, inside, is)) ↦
+        let some = some_if (nat_le item.bits 4294967295) (long_of form item) place (rw is at e) in
+        record { within = within; inside = inside; after = is; is = some.0; bits = some.1 }
   ]
     where
       no_place : ◌≡◌ {A = Option LongPlace} None (Some place) → ⊥
@@ -425,14 +433,13 @@ module _ (forms : FormsAreWhole) (chains : FilesHaveOneChain) (file : List ℕ) 
   module _ (begun : Begun) (item : Item) (after : List Item) (end : End) (split : IsSplit file begun item after end)
       (here : FilePage) (page : IsPageAt file (record { page = item.page; row = item.row }) (Ok here)) (place : LongPlace)
       (long : long_after here.form item ≡ Some place) where
-    abbrev this : IsRead file split.at item split.to
+    abbrev pub this : IsRead file split.at item split.to
     this = read_at file split.at item split.to split.step
 
-    abbrev its : PageForm
+    abbrev pub its : PageForm
     its = this.here.form
 
-    facts : (item.row + 1 < its.rows) × (0 < row_in_strip its (item.row + 1)) × (place_after its item ≡ inner_after its item)
-        × (long_of its item ≡ place)
+    pub facts : IsLong its item place
     facts = long_facts its item place
         (subst (λ (h : FilePage). long_after h.form item ≡ Some place) (sym (only_here split.at item split.to this item.row here page))
         long)
@@ -440,17 +447,17 @@ module _ (forms : FormsAreWhole) (chains : FilesHaveOneChain) (file : List ℕ) 
     page_here : IsPageAt file (cursor_after item) (Ok this.here)
     page_here = this_page split.at item split.to this (item.row + 1)
 
-    pels_are : pels_of White (runs_of (exchanged its item.pels)) ≡ exchanged its item.pels
+    pub pels_are : pels_of White (runs_of (exchanged its item.pels)) ≡ exchanged its item.pels
     pels_are = pels_behind White 0 (exchanged its item.pels)
 
     to_is : split.to ≡ inner_at (long_of its item)
-    to_is = this.to_is ∙ facts.2 ∙ ap (λ (row : List Colour). record {
+    to_is = this.to_is ∙ facts.after ∙ ap (λ (row : List Colour). record {
       page = item.page;
       row = item.row + 1;
       inner = Some (record { bits = item.bits; reference = row });
     }) (sym pels_are)
 
-    inner : IsInner its.width this.bytes (long_of its item)
+    pub inner : IsInner its.width this.bytes (long_of its item)
     inner = record {
       within = this.is.within;
       width_is = ap (λ (l : List Colour). length l) pels_are ∙ row_wide split.at item split.to wide_here this;
@@ -463,17 +470,17 @@ module _ (forms : FormsAreWhole) (chains : FilesHaveOneChain) (file : List ℕ) 
 
     is_inner : IsInnerOn file this.here (long_of its item)
     is_inner =
-        let next = same_strip split.at item split.to this facts.1 in
+        let next = same_strip split.at item split.to this facts.inside in
         record {
-          row = facts.0;
-          not_first = facts.1;
+          row = facts.within;
+          not_first = facts.inside;
           fits =
               subst (λ (s : ℕ). FitsStrip its.width (strip_bytes this.here.endian file this.here.offset s) (long_of its item)) (sym next.0)
               (subst (λ (o : Option (List ℕ)). FitsStrip its.width o (long_of its item)) (sym this.bytes_are) inner);
         }
 
     long_tail : IsTailFrom file (Inside place) after end
-    long_tail = subst (λ (l : LongPlace). IsTailFrom file (Inside l) after end) facts.3 (
+    long_tail = subst (λ (l : LongPlace). IsTailFrom file (Inside l) after end) facts.is (
       Ok (inner_at (long_of its item), 0),
       (Ok this.here, page_here, inl (is_inner, refl)),
       (after, subst (λ (t : Place). AreFrom (IsRow file) t after end) to_is split.rest, refl),
@@ -483,7 +490,7 @@ module _ (forms : FormsAreWhole) (chains : FilesHaveOneChain) (file : List ℕ) 
     reached_too reached =
         let from : IsFromStrip (inner_at (long_of its item)) this.here =
         subst FromStrip to_is (next_from begun reached item after end split) this.here page_here in
-        subst (IsReachedPlace file) facts.3 (record {
+        subst (IsReachedPlace file) facts.is (record {
           here = this.here;
           page = page_here;
           rows = from.rows;

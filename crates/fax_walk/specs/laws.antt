@@ -1,5 +1,6 @@
 pub mod InOrder
 pub mod Tails
+pub mod Cursors
 pub mod Left
 pub mod Forms
 pub mod Written

@@ -2,6 +2,7 @@
 //! contract.
 ghost use Rattle.std.specs.Prelude.{List};
 ghost use Rattle.fax_walk.specs.Pages.{FormItem};
+ghost use Rattle.fax_walk.specs.laws.Cursors as CursorLaws;
 ghost use Rattle.fax_walk.specs.laws.Forms.{AreFormsLeft};
 ghost use Rattle.fax_walk.specs.laws.Tails as PageLaws;
 ghost use Rattle.fax_walk.specs.laws.Left.{IsLeft};
@@ -55,6 +56,13 @@ pub fn beginnings_have_one_tail()
     fax_files::laws::forms_are_whole();
 }
 
+/// A cursor names one page of a file at most.
+pub fn cursors_name_one_page()
+    ensures { PageLaws.CursorsNameOnePage }
+{
+    fax_files::laws::files_have_one_chain();
+}
+
 /// Each file and each cursor has forms and an end, and one list of them only. From a page's first
 /// row it is the forms from that page on. What follows a form is the tail from the cursor after it.
 /// Page number n of a file has the number n.
@@ -93,6 +101,17 @@ pub fn tails_go_on()
 {
     fax_bits::laws::bits_stand_by_place();
     fax_page::laws::lines_are_read_in_one_way();
+    fax_files::laws::files_have_one_chain();
+    fax_files::laws::forms_are_whole();
+}
+
+/// The cursor after an item of a file of at most 4,294,967,296 bytes has numbers of 32 bits, and so
+/// has the place inside a strip after it, if there is one. Each text is that of one cursor at most.
+pub fn cursors_are_named()
+    ensures cursors { CursorLaws.CursorsAreShort }
+    ensures places { CursorLaws.PlacesAreShort }
+    ensures one { CursorLaws.TextsNameOne }
+{
     fax_files::laws::files_have_one_chain();
     fax_files::laws::forms_are_whole();
 }

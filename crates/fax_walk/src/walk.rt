@@ -147,24 +147,10 @@ impl<'a> Walk<'a> {
         Walk::resume(alloc, file, Cursor { page: 0, row: 0 })
     }
 
-    /// A walk over the rows of a file from a cursor on. Nothing is read yet. Then the page that the
-    /// cursor names is read from the strip on that holds its row, and no page before it.
-    pub fn resume(alloc: Global, file: &'a [u8], cursor: Cursor) -> Self
-        ensures { result ≡ walk_from file.now (At cursor) }
-    {
-        Walk::begin(alloc, file, Begun::At(cursor))
-    }
-
-    /// A walk over the rows of a file from a place inside a strip on. Nothing is read yet. Then no
-    /// row before it is read.
-    pub fn resume_long(alloc: Global, file: &'a [u8], cursor: LongCursor) -> Self
-        ensures { result ≡ walk_from file.now (Inside cursor) }
-    {
-        Walk::begin(alloc, file, Begun::Inside(cursor))
-    }
-
-    /// A walk that begins so.
-    fn begin(alloc: Global, file: &'a [u8], begun: Begun) -> Self
+    /// A walk over the rows of a file from what it begins with on. Nothing is read yet. Then the page
+    /// that it names is read: after a cursor from the strip on that holds its row, after a long
+    /// cursor from its place inside the strip on, and no row before that.
+    pub fn begin(alloc: Global, file: &'a [u8], begun: Begun) -> Self
         ensures { result ≡ walk_from file.now begun }
     {
         let cursor = begun.cursor();
@@ -177,6 +163,20 @@ impl<'a> Walk<'a> {
             page: None,
             told: None,
         }
+    }
+
+    /// A walk that begins with a cursor.
+    pub fn resume(alloc: Global, file: &'a [u8], cursor: Cursor) -> Self
+        ensures { result ≡ walk_from file.now (At cursor) }
+    {
+        Walk::begin(alloc, file, Begun::At(cursor))
+    }
+
+    /// A walk that begins with a long cursor.
+    pub fn resume_long(alloc: Global, file: &'a [u8], cursor: LongCursor) -> Self
+        ensures { result ≡ walk_from file.now (Inside cursor) }
+    {
+        Walk::begin(alloc, file, Begun::Inside(cursor))
     }
 
     /// The cursor after the last row that was handed out, or the one that the walk began with.

@@ -139,11 +139,13 @@ WrittenFilesAreRead =
     (pages : List WrittenPage) → 1 ≤ length pages → length pages ≤ 65535 → AreWritable pages
     → length (file_of pages) ≤ max_file → IsReadAs (file_of pages) pages
 
--- a file has one chain of directories, which has one end (TIFF 6.0, section 2)
+-- a file has one chain of directories, at most as many as its bytes, which has one end
+-- (TIFF 6.0, section 2)
 pub record HasOneChain (head : Header) (file : List ℕ) : Type 0 where
   pub offsets : List ℕ
   pub end : Option FileFault
   pub is : IsChain head file offsets end
+  pub few : length offsets ≤ length file
   pub one : (others : List ℕ) (other : Option FileFault) → IsChain head file others other
       → (others ≡ offsets) × (other ≡ end)
 
@@ -151,10 +153,12 @@ pub record HasOneChain (head : Header) (file : List ℕ) : Type 0 where
 abbrev pub FilesHaveOneChain : Type 0
 FilesHaveOneChain = (head : Header) (file : List ℕ) → HasOneChain head file
 
--- the rows of a page lie in its strips, each of which holds some, and each but the last as many as
--- the others (TIFF 6.0, RowsPerStrip)
+-- the size of a page is within the limits, and its rows lie in its strips, each of which holds some,
+-- and each but the last as many as the others (TIFF 6.0, RowsPerStrip)
 pub record IsWholeForm (form : PageForm) : Type 0 where
+  pub width : form.width ≤ 65535
   pub some_rows : 1 ≤ form.rows
+  pub rows : form.rows ≤ 1000000
   pub some_in_strip : 1 ≤ form.rows_per_strip
   pub enough : form.rows ≤ form.strips * form.rows_per_strip
   pub needed : (s : ℕ) → s < form.strips → s * form.rows_per_strip < form.rows

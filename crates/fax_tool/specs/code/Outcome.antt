@@ -93,8 +93,8 @@ IsSaid error line status result =
     ⊎ (HasFailed error.counts × (result ≡ 3))
 
 -- what is said on the error stream of the way a command ended, with the status
-abbrev pub IsReport : Result (Option (List ℕ)) Refusal → Output → ℕ → Type 0
-IsReport (Ok line) error status = IsSaid error (error_of line) (status_of line) status
-IsReport (Err refusal) error status =
+abbrev pub IsReported : Result (Option (List ℕ)) Refusal → Output → ℕ → Type 0
+IsReported (Ok line) error status = IsSaid error (error_of line) (status_of line) status
+IsReported (Err refusal) error status =
     (HasFailed error.counts ⊎ Appends error.before error.after (refusal_line refusal))
     × (status ≡ 3)

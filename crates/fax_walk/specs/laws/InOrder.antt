@@ -1,7 +1,7 @@
 -- What leads to a place, and what is left, one item after another.
 -- A definition without a citation is this project's profile.
 use Rattle.std.specs.Prelude.{◌≡◌, ℕ, ◌≤◌, List, [], ◌∷◌, length, drop, Option, Some, None, Result}
-use Rattle.std.specs.Prelude.{Ok, Err, slice_get}
+use Rattle.std.specs.Prelude.{Ok}
 use Rattle.fax_walk.specs.declared.end.End.{End}
 
 -- these items are read from a place on, and the last of them leads to this place

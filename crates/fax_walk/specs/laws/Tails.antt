@@ -24,6 +24,12 @@ use Rattle.fax_walk.specs.Rows.{cursor_after, long_after}
 abbrev pub BeginningsHaveOneTail : Type 0
 BeginningsHaveOneTail = (file : List ℕ) (begun : Begun) → IsOne (IsTailFrom file begun)
 
+-- a cursor names one page at most
+abbrev pub CursorsNameOnePage : Type 0
+CursorsNameOnePage =
+    (file : List ℕ) (at : Cursor) (here there : FilePage)
+    → IsPageAt file at (Ok here) → IsPageAt file at (Ok there) → here ≡ there
+
 -- the tail from the first cursor is all items of the file
 abbrev pub TailOfStart : Type 0
 TailOfStart = (file : List ℕ) (items : List Item) (end : End)

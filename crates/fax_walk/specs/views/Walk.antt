@@ -13,7 +13,6 @@ use Rattle.fax_walk.specs.declared.end.WalkFault.TheVariants.{Memory, AtRow, Cur
 use Rattle.fax_walk.specs.declared.walk.Place.{Place}
 use Rattle.fax_walk.specs.Cursors.{start, LongPlace}
 use Rattle.fax_walk.specs.views.InOrder.{IsNumber, EndsAfter, HasToldNoOther}
-use Rattle.fax_walk.specs.laws.InOrder.{IsLeftOf}
 use Rattle.fax_walk.specs.Pages.{FilePage, IsPageAt}
 use Rattle.fax_walk.specs.Rows as Rows
 use Rattle.fax_walk.specs.Rows.{Begins, Item, IsTailFrom, begins_at, cursor_after, long_after}

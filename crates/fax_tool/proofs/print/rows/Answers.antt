@@ -20,7 +20,7 @@ returns-in_err-file-clause-err g c =
 pub returns-clause-ok : goal.returns-clause-ok
 returns-clause-ok g c =
     let prints = rw (
-      c.walk_of-walk.ensures,
+      c.begin-walk.ensures,
       c.deref.ensures.value,
       c.in_ok-begun.ensures.ok,
       c.in_ok-file.ensures.unwritten,
@@ -33,7 +33,7 @@ returns-clause-ok g c =
 pub returns-clause-err : goal.returns-clause-err
 returns-clause-err g c =
     let stops = rw (
-      c.walk_of-walk.ensures,
+      c.begin-walk.ensures,
       c.deref.ensures.value,
       c.in_ok-begun.ensures.ok,
       c.in_ok-file.ensures.unwritten,

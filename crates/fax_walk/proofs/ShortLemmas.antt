@@ -1,0 +1,97 @@
+-- Cursors after items have numbers of 32 bits.
+use Rattle.std.proofs.Common.{◌≡◌, ℕ, ◌+◌, ◌^◌, ◌<◌, true, false, List, [], ◌∷◌, length, drop, Option, Some, None, Ok, Err}
+use Rattle.std.proofs.Common.{Result, refl, sym, ap, ◌∙◌, subst, arith}
+use Rattle.std.specs.Prelude.{if◌then◌else◌, nat_le, slice_get}
+use Rattle.std.specs.List.{All}
+use Rattle.std.proofs.lemmas.Bool.Decides.{nat_tests}
+use Rattle.std.proofs.lemmas.List.Elements.{All-cons, All-nil}
+use Rattle.std.proofs.lemmas.Option.{slice_get_within}
+use Rattle.fax_bits.specs.declared.Colour.{Colour}
+use Rattle.fax_bits.specs.declared.Colour.TheVariants.{White}
+use Rattle.fax_rows.specs.Rows.{other, runs_behind, runs_of, same_colour}
+use Rattle.fax_files.specs.declared.FileFault.{FileFault}
+use Rattle.fax_files.specs.Directory.{IsChain, Header, header}
+use Rattle.fax_files.specs.laws.Files.{FilesHaveOneChain, FormsAreWhole}
+use Rattle.fax_walk.specs.declared.cursor.Cursor.{Cursor}
+use Rattle.fax_walk.specs.Cursors.{IsLongCursor}
+use Rattle.fax_walk.specs.Pages.{FilePage, IsPageAt, IsPageUnder, page_over}
+use Rattle.fax_walk.specs.Rows.{exchanged}
+use Rattle.fax_walk.specs.laws.Cursors.{CursorsAreShort, PlacesAreShort}
+use Rattle.fax_walk.proofs.TailLawLemmas.{facts, here_from, inner, long_of, pels_are, read, split_at_number}
+use Rattle.fax_walk.proofs.TailLawLemmas.{this, whole_page}
+
+-- a page's number is below that of the file's bytes
+module _ (chains : FilesHaveOneChain) (file : List ℕ) where
+  page_few : (at : Cursor) (here : FilePage) → IsPageAt file at (Ok here) → at.page < length file
+  page_few at here is = under (header file) is
+    where
+      over : (head : Header) (offsets : List ℕ) (fault : Option FileFault) (found : Option ℕ) → slice_get offsets at.page ≡ found
+          → IsChain head file offsets fault → Ok here ≡ page_over head.endian file offsets fault at found → at.page < length file
+      over head offsets fault None none chain e = absurd cc
+      over head offsets fault (Some q) there chain e =
+          let one = chains head file in
+          omega (arith, slice_get_within offsets at.page q there, ap (λ (l : List ℕ). length l) (one.one offsets fault chain).0, one.few)
+
+      under : (answer : Result Header FileFault) → IsPageUnder file at answer (Ok here) → at.page < length file
+      under (Err fault) e = absurd cc
+      under (Ok head) (offsets, fault, chain, e) = over head offsets fault (slice_get offsets at.page) refl chain e
+
+-- the longest runs of pels are no longer than all of them
+runs_short : (colour : Colour) (n most : ℕ) (pels : List Colour) → n + length pels < most → All (λ run. run < most) (runs_behind colour n pels)
+unfolding runs_behind
+runs_short colour n most [] within = All-cons (λ run. run < most) n [] (omega arith) (All-nil (λ run. run < most))
+runs_short colour n most (first ∷ pels) within =
+    elim (same_colour first colour)
+    as (λ same. All (λ run. run < most) (if same then runs_behind colour (n + 1) pels else (n ∷ runs_behind (other colour) 1 pels))) [
+      | true ↦ runs_short colour (n + 1) most pels (omega arith)
+      | false ↦ All-cons (λ run. run < most) n (runs_behind (other colour) 1 pels) (omega arith)
+          (runs_short (other colour) 1 most pels (omega arith))
+    ]
+
+-- there is one at least
+some_run : (colour : Colour) (n : ℕ) (pels : List Colour) → 0 < length (runs_behind colour n pels)
+unfolding runs_behind
+some_run colour n [] = omega arith
+some_run colour n (first ∷ pels) =
+    elim (same_colour first colour)
+    as (λ same. 0 < length (if same then runs_behind colour (n + 1) pels else (n ∷ runs_behind (other colour) 1 pels))) [
+      | true ↦ some_run colour (n + 1) pels
+      | false ↦ omega arith
+    ]
+
+pub cursors_are_short : FormsAreWhole → FilesHaveOneChain → CursorsAreShort
+cursors_are_short forms chains file begun all end n item short reached tail there =
+    let split = split_at_number file begun all end n item tail there in
+    let row = read forms chains file begun reached item (drop (n + 1) all) end split in
+    let from = here_from forms chains file begun reached item (drop (n + 1) all) end split row.here row.page in
+    let whole = whole_page file forms (record { page = split.at.page; row = split.at.row }) row.here row.page in
+    let few = page_few chains file (record { page = split.at.page; row = split.at.row }) row.here row.page in
+    record {
+      page = omega (arith, few, short, row.is.same_page);
+      row = omega (arith, from.row, whole.rows, row.is.same_row);
+    }
+
+pub places_are_short : FormsAreWhole → FilesHaveOneChain → PlacesAreShort
+places_are_short forms chains file begun all end n item here place short tail there page long =
+    let after = drop (n + 1) all in
+    let split = split_at_number file begun all end n item tail there in
+    let row = this forms chains file begun item after end split here page place long in
+    let fact = facts forms chains file begun item after end split here page place long in
+    let whole = whole_page file forms (record { page = split.at.page; row = split.at.row }) row.here row.page in
+    let few = page_few chains file (record { page = split.at.page; row = split.at.row }) row.here row.page in
+    let wide : length (exchanged row.here.form item.pels) ≡ row.here.form.width =
+    ap (λ (l : List Colour). length l) (sym (pels_are forms chains file begun item after end split here page place long))
+    ∙ (inner forms chains file begun item after end split here page place long).width_is in
+    let runs : All (λ run. run < 2 ^ 32) (runs_of (exchanged row.here.form item.pels)) =
+    runs_short White 0 (2 ^ 32) (exchanged row.here.form item.pels) (omega (arith, wide, whole.width)) in
+    let bits : item.bits < 2 ^ 32 = by_test fact.bits in
+    let found : IsLongCursor (long_of forms chains file row.here.form item) = record {
+      cursor = record { page = omega (arith, few, short, row.is.same_page); row = omega (arith, fact.within, whole.rows) };
+      bits = bits;
+      runs = runs;
+      some = some_run White 0 (exchanged row.here.form item.pels);
+    } in
+    subst IsLongCursor fact.is found
+  where
+    by_test : nat_le item.bits 4294967295 ≡ true → item.bits < 2 ^ 32
+    by_test is = grind (arith, nat_tests)

@@ -1,0 +1,34 @@
+-- Laws of cursors and of their texts, which the functions of the module `laws` prove.
+-- A definition without a citation is this project's profile.
+use Rattle.std.specs.Prelude.{◌≡◌, ℕ, ◌^◌, ◌≤◌, List, length, Some, Ok, slice_get}
+use Rattle.fax_walk.specs.declared.begun.Begun.{Begun}
+use Rattle.fax_walk.specs.declared.cursor.Cursor.{Cursor}
+use Rattle.fax_walk.specs.declared.end.End.{End}
+use Rattle.fax_walk.specs.Cursors.{IsCursor, cursor_text, IsLongCursor, LongPlace, long_cursor_text}
+use Rattle.fax_walk.specs.Pages.{FilePage, IsPageAt}
+use Rattle.fax_walk.specs.Rows.{Item, IsTailFrom, cursor_after, long_after}
+use Rattle.fax_walk.specs.laws.Tails.{IsReached}
+
+-- the numbers of the cursor after item number n have 32 bits, where those of the file's length do
+abbrev pub CursorsAreShort : Type 0
+CursorsAreShort =
+    (file : List ℕ) (begun : Begun) (all : List Item) (end : End) (n : ℕ) (item : Item)
+    → length file ≤ 2 ^ 32 → IsReached file begun → IsTailFrom file begun all end
+    → slice_get all n ≡ Some item → IsCursor (cursor_after item)
+
+-- and so have those of the place inside a strip after it, if there is one
+abbrev pub PlacesAreShort : Type 0
+PlacesAreShort =
+    (file : List ℕ) (begun : Begun) (all : List Item) (end : End) (n : ℕ) (item : Item)
+    (here : FilePage) (place : LongPlace)
+    → length file ≤ 2 ^ 32 → IsTailFrom file begun all end → slice_get all n ≡ Some item
+    → IsPageAt file (record { page = item.page; row = item.row }) (Ok here)
+    → long_after here.form item ≡ Some place → IsLongCursor place
+
+-- the texts of cursors differ, and those of long cursors, and no text is that of both
+pub record TextsNameOne : Type 0 where
+  pub cursors : (at other : Cursor) → IsCursor at → IsCursor other
+      → cursor_text at ≡ cursor_text other → at ≡ other
+  pub places : (place other : LongPlace) → IsLongCursor place → IsLongCursor other
+      → long_cursor_text place ≡ long_cursor_text other → place ≡ other
+  pub apart : (at : Cursor) (place : LongPlace) → cursor_text at ≡ long_cursor_text place → ⊥
