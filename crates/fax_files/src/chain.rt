@@ -3,7 +3,7 @@
 //! The search takes two steps for each directory that is handed out (Floyd's algorithm), so that
 //! it meets the reader before the chain turns back. It takes no memory.
 
-ghost use Rattle.std.specs.Prelude.{◌≡◌, ℕ, ◌+◌, ◌^◌, ◌<◌, ◌≤◌, Some};
+ghost use Rattle.std.specs.Prelude.{◌≡◌, ℕ, ◌+◌, ◌^◌, ◌<◌, ◌≤◌, Some, unwrap_or};
 ghost use Rattle.fax_files.specs.code.Chain as Spec;
 ghost use Rattle.fax_files.specs.code.Chain.{LeadsOn, place};
 
@@ -40,6 +40,13 @@ fn onward(tiff: &Tiff, offset: u32) -> Option<u32>
     }
 }
 
+/// The offset due after the one at which a directory stands, and 0, which is none, elsewhere.
+fn due_after(tiff: &Tiff, offset: u32) -> u32
+    ensures { result ≡ unwrap_or (Spec.onward tiff.now.head.endian tiff.now.file offset) 0 }
+{
+    onward(tiff, offset).unwrap_or(0)
+}
+
 /// Computes nothing: the offsets of a chain differ, and each is a number of four bytes, not 0.
 fn has_few_pages(tiff: &Tiff, file: &[u8])
     requires { file.now ≡ tiff.now.file }
@@ -55,7 +62,7 @@ fn place_behind(tiff: &Tiff, pages: u64) -> u32
 {
     let mut due = tiff.first();
     for _page in 0..pages {
-        due = onward(tiff, due).unwrap();
+        due = due_after(tiff, due);
     }
     due
 }
@@ -70,8 +77,8 @@ fn first_turn(tiff: &Tiff, round: Round) -> u64
     let mut behind = tiff.first();
     let mut page: u64 = 0;
     while behind != ahead {
-        behind = onward(tiff, behind).unwrap();
-        ahead = onward(tiff, ahead).unwrap();
+        behind = due_after(tiff, behind);
+        ahead = due_after(tiff, ahead);
         page += 1;
     }
     page
@@ -86,10 +93,10 @@ fn round_from(tiff: &Tiff, start: u64, kept: u32) -> Round
     requires on { (i : ℕ) → i < start + start → LeadsOn tiff.now i }
     ensures { Spec.IsRound tiff.now result.start result.len }
 {
-    let mut due = onward(tiff, kept).unwrap();
+    let mut due = due_after(tiff, kept);
     let mut len: u64 = 1;
     while due != kept {
-        due = onward(tiff, due).unwrap();
+        due = due_after(tiff, due);
         len += 1;
     }
     Round { start, len }

@@ -6,7 +6,7 @@ use Rattle.std.proofs.KnownBytes.{Appends-nil}
 use Rattle.fax_files.specs.declared.Cause.{Cause}
 use Rattle.fax_walk.specs.declared.walk.Place.{Place}
 use Rattle.fax_walk.specs.Converted.{IsConverted, IsNotConverted}
-use Rattle.fax_walk.specs.Report.{IsReported}
+use Rattle.fax_walk.specs.Report.{IsReport}
 use Rattle.fax_walk.specs.declared.checking.Report.{Report}
 use Rattle.fax_walk.specs.declared.options.Options.{Options}
 use Rattle.fax_walk.specs.declared.options.ConvertFault.{ConvertFault}
@@ -74,7 +74,7 @@ report_output_is report = report_output_of (report_output report) report.fault
 
 module _ (bytes : Option (List ℕ)) (file : List ℕ) (same : IfSome bytes (λ b. file ≡ b)) (taken : ℕ) (counts : Counts)
     (read : IsRead (input_after bytes taken counts)) (old new : Option (List ℕ)) (given : Counts) (report : Report)
-    (is : IsReported file report) (text : List ℕ) (text_is : text ≡ report_output report) where
+    (is : IsReport file report) (text : List ℕ) (text_is : text ≡ report_output report) where
   pub check_stopped : (refusal : Refusal) → IsGivenInPart old new text given refusal
       → IsStopped Check refusal (input_after bytes taken counts) (output_after old new given)
   check_stopped refusal part =
