@@ -10,19 +10,20 @@ use Rattle.fax_bits.specs.declared.Colour.TheVariants.{White, Black}
 use Rattle.fax_bits.specs.Bits.{bits}
 use Rattle.fax_bits.specs.Written.{bits_number}
 use Rattle.fax_bits.specs.laws.Codes.{AreBitsByPlace, AreBitsOfOneByte}
-use Rattle.fax_rows.specs.Packed.{packed_len, is_black, colour_of_bit, packed_byte, packed_row, unpacked_row}
+use Rattle.fax_rows.specs.Packed.{packed_len, is_black, colour_of_bit, packed_row, unpacked_row}
+use Rattle.fax_rows.specs.code.PackedByte.{packed_byte}
 use Rattle.fax_rows.specs.laws.Packed.{HasBitsOfPels, IsReadBack}
 use Rattle.fax_rows.specs.laws.Packed.{IsPackedBack, PackingUndoesUnpacking}
-use Rattle.fax_rows.proofs.PackedLemmas.{get_or-padded, padded_bits, unpacked_at}
+use Rattle.fax_rows.proofs.PackedLemmas.{get_or-padded, padded_bits, row_bytes, unpacked_at}
 
 length-packed_row : (row : List Colour) → length (packed_row row) ≡ packed_len (length row)
-unfolding packed_row
-length-packed_row row = length-map-range_with_len (λ k. packed_byte row (8 * k)) 0 (packed_len (length row))
+length-packed_row row =
+    ap length (row_bytes row) ∙ length-map-range_with_len (λ k. packed_byte row (8 * k)) 0 (packed_len (length row))
 
 get_or-packed_row : (row : List Colour) (q : ℕ) → q < packed_len (length row) → get_or (packed_row row) q 0 ≡ packed_byte row (8 * q)
-unfolding packed_row
 get_or-packed_row row q within =
-    get_or-map-range_with_len (λ k. packed_byte row (8 * k)) 0 (packed_len (length row)) q q 0 within (omega arith)
+    ap (λ (bytes : List ℕ). get_or bytes q 0) (row_bytes row)
+    ∙ get_or-map-range_with_len (λ k. packed_byte row (8 * k)) 0 (packed_len (length row)) q q 0 within (omega arith)
 
 -- by the laws of the bits of bytes
 module _ (places : AreBitsByPlace) (one_byte : AreBitsOfOneByte) where
@@ -36,15 +37,15 @@ module _ (places : AreBitsByPlace) (one_byte : AreBitsOfOneByte) where
       (omega (
         arith,
         length-drop from (padded_bits row),
-        length-append (map is_black row) (replicate 8 false),
+        length-append (map is_black row) (replicate 7 false),
         length-map row is_black,
-        length-replicate 8 false,
+        length-replicate 7 false,
       )) in
       sym (places.of_byte MsbFirst (bits_number (take 8 (drop from (padded_bits row)))) r in_byte)
       ∙ ap (λ b. get_or b r false) (one_byte.spelled (take 8 (drop from (padded_bits row))) eight)
       ∙ get_or-take 8 (drop from (padded_bits row)) r false in_byte
       ∙ get_or-drop from (padded_bits row) r false
-      ∙ get_or-padded (map is_black row) 8 (from + r)
+      ∙ get_or-padded (map is_black row) 7 (from + r)
 
   -- bit i of a packed row
   bit-packed_row : (row : List Colour) (i : ℕ) → i < 8 * packed_len (length row)

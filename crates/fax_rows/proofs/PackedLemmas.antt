@@ -1,24 +1,27 @@
 -- Rows as packed bytes, bit by bit.
-use Rattle.std.proofs.Common.{◌≡◌, ℕ, zero, suc, ◌+◌, ◌*◌, ◌^◌, ◌<◌, ◌≤◌, List, [], ◌∷◌, ◌++◌, map, length, take, drop, replicate, get_or}
+use Rattle.std.proofs.Common.{◌≡◌, ℕ, zero, suc, ◌+◌, ◌*◌, ◌/◌, ◌^◌, ◌<◌, ◌≤◌, List, [], ◌∷◌, ◌++◌, map, length, take, drop, replicate, get_or}
 use Rattle.std.proofs.Common.{Bool, true, false, if◌then◌else◌, refl, ap, sym, ◌∙◌, arith, inl, inr, length-append, length-drop}
 use Rattle.std.proofs.Common.{get_or-drop, add-one, below_more}
 use mir.Val.{bool_byte}
 use Rattle.std.proofs.lemmas.Bool.{cases_lt}
 use Rattle.std.proofs.Math.Nat.{pow-succ'}
-use Rattle.std.proofs.lemmas.List.{length-replicate, length-map, get_or-map, get_or-take, ext_get_or, length-take-le}
+use Rattle.std.proofs.lemmas.List.{length-replicate, length-map, get_or-map, get_or-take, ext_get_or, length-take-le, drop-drop}
 use Rattle.std.proofs.lemmas.List.FromFn.{fill_by_all}
 use Rattle.std.proofs.lemmas.List.Sums.{fold_more}
 use Rattle.fax_bits.specs.declared.FillOrder.TheVariants.{MsbFirst}
 use Rattle.fax_bits.specs.declared.Colour.{Colour}
 use Rattle.fax_bits.specs.declared.Colour.TheVariants.{White, Black}
 use Rattle.fax_bits.specs.Bits.{bits}
-use Rattle.fax_bits.specs.Written.{bits_number}
+use Rattle.std.specs.List.{range_with_len}
+use Rattle.std.specs.Simd.{first_chunks}
+use Rattle.fax_bits.specs.Written.{bits_number, packed}
 use Rattle.fax_bits.specs.laws.Codes.{AreBitsByPlace}
 use Rattle.fax_rows.specs.Rows.{other}
 use Rattle.fax_rows.specs.code.Turns.{turned, IsTurnedFrom}
 use Rattle.fax_rows.specs.code.Unpacked.{IsUnpackedTo}
 use Rattle.fax_rows.proofs.PlacedRowLemmas.{turned-first}
-use Rattle.fax_rows.specs.Packed.{packed_len, is_black, colour_of_bit, packed_byte, packed_row, unpacked_row}
+use Rattle.fax_rows.specs.Packed.{packed_len, is_black, colour_of_bit, packed_row, unpacked_row}
+use Rattle.fax_rows.specs.code.PackedByte.{packed_byte}
 
 -- by the law of the bits of bytes
 module _ (law : AreBitsByPlace) where
@@ -69,7 +72,7 @@ unpacked_turned b old new i colour pel so_far turns is turn = record {
 
 -- the bits of a row, with zeros after the last pel
 abbrev pub padded_bits : List Colour → List Bool
-padded_bits row = map is_black row ++ replicate 8 false
+padded_bits row = map is_black row ++ replicate 7 false
 
 pub get_or-padded : (b : List Bool) (n i : ℕ) → get_or (b ++ replicate n false) i false ≡ get_or b i false
 get_or-padded [] zero i = refl
@@ -91,12 +94,12 @@ byte_more row from i byte digit bit within few byte_is bit_is digit_is =
     omega (
       arith,
       length-drop from (padded_bits row),
-      length-append (map is_black row) (replicate 8 false),
+      length-append (map is_black row) (replicate 7 false),
       length-map row is_black,
-      length-replicate 8 false,
+      length-replicate 7 false,
     ) in
     let here : get_or (drop from (padded_bits row)) i false ≡ bit =
-    get_or-drop from (padded_bits row) i false ∙ get_or-padded (map is_black row) 8 (from + i) ∙ sym bit_is in
+    get_or-drop from (padded_bits row) i false ∙ get_or-padded (map is_black row) 7 (from + i) ∙ sym bit_is in
     let digit_of : digit ≡ (if get_or (drop from (padded_bits row)) i false then 1 else 0) =
     digit_is ∙ bit_digit bit ∙ ap (λ (b : Bool). if b then 1 else 0) (sym here) in
     let more : bits_number (take (i + 1) (drop from (padded_bits row)))
@@ -113,12 +116,28 @@ pub byte_fits : (byte digit i : ℕ) (bit : Bool) → byte < 2 ^ i → i < 8 →
 byte_fits byte digit i bit fits few digit_is =
     rw (add-one, pow-succ' 2 i) (omega (arith, digit-le bit))
 
+-- chunks of eight from a place on, each by its number
+chunks_at : (f : List Bool → ℕ) (n j : ℕ) (b : List Bool)
+    → map f (first_chunks 8 n (drop (8 * j) b)) ≡ map (λ k. f (take 8 (drop (8 * k) b))) (range_with_len j n)
+chunks_at f zero j b = refl
+chunks_at f (suc n) j b =
+    let next : 8 * j + 8 ≡ 8 * (j + 1) = omega arith in
+    ap (λ rest. f (take 8 (drop (8 * j) b)) ∷ map f (first_chunks 8 n rest)) (drop-drop 8 (8 * j) b ∙ ap (λ m. drop m b) next)
+    ∙ ap (λ rest. f (take 8 (drop (8 * j) b)) ∷ rest) (chunks_at f n (j + 1) b)
+
+-- a packed row byte by byte
+pub row_bytes : (row : List Colour) → packed_row row ≡ map (λ k. packed_byte row (8 * k)) (range_with_len 0 (packed_len (length row)))
+unfolding packed_row packed packed_byte
+row_bytes row =
+    ap (λ n. map bits_number (first_chunks 8 ((n + 7) / 8) (padded_bits row))) (length-map row is_black)
+    ∙ chunks_at bits_number (packed_len (length row)) 0 (padded_bits row)
+
 -- all bytes of a row
 pub packed_at : (row : List Colour) (bytes : List ℕ) → length bytes ≡ packed_len (length row)
     → ((k : ℕ) → k < length bytes → get_or bytes k 0 ≡ packed_byte row (8 * k)) → bytes ≡ packed_row row
-unfolding packed_row
 packed_at row bytes len each =
     fill_by_all (λ k. packed_byte row (8 * k)) bytes (packed_len (length row)) 0 len (λ k h. each k (omega arith))
+    ∙ sym (row_bytes row)
 
 -- after the eighth bit
 pub byte_done : (row : List Colour) (from byte : ℕ) → byte ≡ bits_number (take 8 (drop from (padded_bits row)))

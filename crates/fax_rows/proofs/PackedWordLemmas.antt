@@ -12,7 +12,8 @@ use Rattle.std.proofs.lemmas.Nat.Bits.{bit_at-lt, bit_at-zero, bit_at_xor, bit_a
 use Rattle.std.proofs.lemmas.Nat.Bits.{same_from_bits_below}
 use Rattle.fax_bits.specs.laws.Codes.{AreBitsByPlace, AreBitsOfOneByte}
 use Rattle.fax_bits.specs.declared.Colour.{Colour}
-use Rattle.fax_rows.specs.Packed.{is_black, packed_byte}
+use Rattle.fax_rows.specs.Packed.{is_black}
+use Rattle.fax_rows.specs.code.PackedByte.{packed_byte}
 use Rattle.fax_rows.specs.code.PackedWord.{word_bit, IsPackedWord}
 use Rattle.fax_rows.specs.code.Turns.{row_of, ArePlaces, HasPassed}
 use Rattle.fax_rows.proofs.PackedLaws.{bit-packed_byte}
@@ -208,9 +209,9 @@ module _ (places : AreBitsByPlace) (one_byte : AreBitsOfOneByte) where
       (omega (
         arith,
         length-drop from (padded_bits row),
-        length-append (map is_black row) (replicate 8 false),
+        length-append (map is_black row) (replicate 7 false),
         length-map row is_black,
-        length-replicate 8 false,
+        length-replicate 7 false,
       )))
 
   -- the bytes of a word are those of its pels

@@ -11,7 +11,8 @@ use Rattle.std.proofs.lemmas.Simd.{get_or-replicate}
 use Rattle.fax_bits.specs.declared.Colour.{Colour}
 use Rattle.fax_bits.specs.declared.Colour.TheVariants.{White, Black}
 use Rattle.fax_bits.specs.Written.{bits_number}
-use Rattle.fax_rows.specs.Packed.{is_black, packed_byte}
+use Rattle.fax_rows.specs.Packed.{is_black}
+use Rattle.fax_rows.specs.code.PackedByte.{packed_byte}
 use Rattle.fax_rows.specs.code.Turns.{row_of, alternate, ArePlaces, HasPassed, IsBehind}
 use Rattle.fax_rows.proofs.PackedLemmas.{padded_bits, get_or-padded, byte_more, byte_fits}
 use Rattle.fax_rows.proofs.PlacedRowLemmas.{end_within}
@@ -30,16 +31,16 @@ whole_byte row from b within each = ap bits_number same ∙ number b
         (omega (
           arith,
           length-drop from (padded_bits row),
-          length-append (map is_black row) (replicate 8 false),
+          length-append (map is_black row) (replicate 7 false),
           length-map row is_black,
-          length-replicate 8 false,
+          length-replicate 7 false,
         ))
 
     same : take 8 (drop from (padded_bits row)) ≡ replicate 8 b
     same =
         ext_get_or false (take 8 (drop from (padded_bits row))) (replicate 8 b) (eight ∙ sym (length-replicate 8 b))
         (λ j h. get_or-take 8 (drop from (padded_bits row)) j false (omega (arith, eight)) ∙ get_or-drop from (padded_bits row) j false
-        ∙ get_or-padded (map is_black row) 8 (from + j) ∙ each j (omega (arith, eight))
+        ∙ get_or-padded (map is_black row) 7 (from + j) ∙ each j (omega (arith, eight))
         ∙ sym (get_or-replicate 8 j b false (omega (arith, eight))))
 
     number : (bit : Bool) → bits_number (replicate 8 bit) ≡ (if bit then 255 else 0)

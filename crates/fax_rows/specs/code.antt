@@ -8,3 +8,4 @@ pub mod PlacedRow
 pub mod PlacedReached
 pub mod PackedWord
 pub mod Unpacked
+pub mod PackedByte

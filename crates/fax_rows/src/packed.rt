@@ -5,6 +5,7 @@ ghost use Rattle.std.specs.Prelude.{◌/◌, ◌%◌, ℕ, slice_index, if◌the
 ghost use Rattle.fax_bits.specs.Bits.{bits};
 ghost use Rattle.fax_bits.specs.declared.FillOrder.TheVariants.{MsbFirst};
 ghost use Rattle.fax_rows.specs.Packed as Spec;
+ghost use Rattle.fax_rows.specs.code.PackedByte.{packed_byte};
 ghost use Rattle.fax_rows.specs.code.PackedWord.{IsPackedWord};
 ghost use Rattle.fax_rows.specs.code.Turns.{row_of, ArePlaces, HasPassed, IsAscending};
 
@@ -78,7 +79,7 @@ fn pack_words(places: &[u32], end: usize, width: u32, words: usize, out: &mut [u
     requires within { words ≡ width / 64 }
     requires room { 8 * words ≤ length out.old }
     ensures written { (i : ℕ) → i < 8 * words
-        → slice_index out.new i ≡ Spec.packed_byte (row_of places.now end width) (8 * i) }
+        → slice_index out.new i ≡ packed_byte (row_of places.now end width) (8 * i) }
     ensures so_far { HasPassed places.now end (64 * words) result }
     ensures same_len { length out.new ≡ length out.old }
 {
@@ -148,7 +149,7 @@ fn pack_rest(places: &[u32], end: usize, width: u32, from: usize, passed: usize,
     requires row { ArePlaces places.now end width }
     requires whole { length out.old ≡ Spec.packed_len width }
     requires written { (i : ℕ) → i < from
-        → slice_index out.old i ≡ Spec.packed_byte (row_of places.now end width) (8 * i) }
+        → slice_index out.old i ≡ packed_byte (row_of places.now end width) (8 * i) }
     requires within { from ≤ length out.old }
     requires so_far { HasPassed places.now end (8 * from) passed }
     ensures { out.new ≡ Spec.packed_row (row_of places.now end width) }
@@ -190,7 +191,7 @@ fn packed_byte(places: &[u32], end: usize, width: u32, from: u32, passed: usize)
     requires row { ArePlaces places.now end width }
     requires within { from < width }
     requires so_far { HasPassed places.now end from passed }
-    ensures byte { result.0 ≡ Spec.packed_byte (row_of places.now end width) from }
+    ensures byte { result.0 ≡ packed_byte (row_of places.now end width) from }
     ensures so_far { HasPassed places.now end (from + 8) result.1 }
 {
     let to = width.min(from + 8);

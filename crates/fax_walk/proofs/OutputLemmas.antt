@@ -1,7 +1,7 @@
 -- An output that is written page by page.
-use Rattle.std.proofs.Common.{◌≡◌, ℕ, suc, ◌+◌, ◌-◌, ◌*◌, ◌<◌, ◌≤◌, inl, inr, List, [], ◌∷◌, ◌++◌, length, map, take, drop, Option, Some}
+use Rattle.std.proofs.Common.{◌≡◌, ℕ, zero, suc, ◌+◌, ◌-◌, ◌*◌, ◌/◌, ◌<◌, ◌≤◌, inl, inr, List, [], ◌∷◌, ◌++◌, length, map, take, drop, Option, Some}
 use Rattle.std.proofs.Common.{None, Result, Ok, Err, refl, sym, ap, ◌∙◌, subst, arith, append_assoc, append-nil, length-append, length-take}
-use Rattle.std.proofs.Common.{length-drop}
+use Rattle.std.proofs.Common.{length-drop, Bool, false, replicate}
 use Rattle.std.specs.Prelude.{flat_map, OnOk}
 use Rattle.std.proofs.Math.Nat.{mul-le-mul_left}
 use Rattle.std.proofs.lemmas.Bool.{cases_lt}
@@ -9,9 +9,11 @@ use Rattle.std.proofs.lemmas.Grind.{div_ceil_times}
 use Rattle.std.proofs.lemmas.List.{length_push, flat_map_more, length-map}
 use Rattle.std.proofs.lemmas.List.{map-append}
 use Rattle.std.proofs.lemmas.List.Concat.{flat_map-append}
-use Rattle.std.proofs.lemmas.List.FromFn.{length-map-range_with_len}
+use Rattle.std.specs.Simd.{first_chunks}
+use Rattle.fax_bits.specs.Written.{byte_of, packed}
+use Rattle.fax_bits.specs.declared.FillOrder.TheVariants.{MsbFirst}
 use Rattle.fax_bits.specs.declared.Colour.{Colour}
-use Rattle.fax_rows.specs.Packed.{packed_len, packed_byte, packed_row}
+use Rattle.fax_rows.specs.Packed.{is_black, packed_len, packed_row}
 use Rattle.fax_page.specs.declared.Coding.{Coding}
 use Rattle.fax_page.specs.declared.Coding.TheVariants.{Mh, Mr, Mmr}
 use Rattle.fax_page.specs.views.Writer.{WriterState}
@@ -44,9 +46,18 @@ pub widths_more : (width : ℕ) (rows : List (List Colour)) (row : List Colour) 
 widths_more width [] row are is = (is, tt)
 widths_more width (first ∷ rows) row are is = (are.0, widths_more width rows row are.1 is)
 
+-- as many chunks as are asked for
+chunk_count : (n : ℕ) (b : List Bool) → length (first_chunks 8 n b) ≡ n
+chunk_count zero b = refl
+chunk_count (suc n) b = ap (λ (k : ℕ). suc k) (chunk_count n (drop 8 b))
+
 packed_length : (row : List Colour) → length (packed_row row) ≡ packed_len (length row)
-unfolding packed_row
-packed_length row = length-map-range_with_len (λ k. packed_byte row (8 * k)) 0 (packed_len (length row))
+unfolding packed_row packed
+packed_length row =
+    let b = map is_black row ++ replicate 7 false in
+    length-map (first_chunks 8 ((length (map is_black row) + 7) / 8) b) (byte_of MsbFirst)
+    ∙ chunk_count ((length (map is_black row) + 7) / 8) b
+    ∙ ap (λ (n : ℕ). (n + 7) / 8) (length-map row is_black)
 
 -- how many bytes rows of one width take
 rows_length : (width : ℕ) (rows : List (List Colour)) → AreOfWidth width rows

@@ -1,6 +1,6 @@
 use Rattle.std.proofs.Common.{◌≡◌, ℕ, ◌*◌, ◌/◌, ◌<◌, ◌≤◌, ◌∙◌, refl, get_or, take, arith, inl, inr}
 use Rattle.std.proofs.lemmas.Bool.{cases_lt}
-use Rattle.fax_rows.specs.Packed.{packed_byte}
+use Rattle.fax_rows.specs.code.PackedByte.{packed_byte}
 use Rattle.fax_rows.specs.code.Turns.{row_of, HasPassed}
 use Rattle.fax_rows.proofs.PackedLemmas.{packed_at}
 use Rattle.fax_rows.proofs.PackingLemmas.{passed-lt, whole_white, whole_black, still_passed, place_at_most}

@@ -1,5 +1,5 @@
 use Rattle.std.proofs.Common.{◌≡◌, ℕ, ◌*◌, ◌-◌, ◌<◌, length, get_or}
-use Rattle.fax_rows.specs.Packed.{packed_byte}
+use Rattle.fax_rows.specs.code.PackedByte.{packed_byte}
 use Rattle.fax_rows.specs.code.Turns.{row_of, HasPassed}
 use Rattle.fax_rows.proofs.packed.pack_rest.Given as goal
 

@@ -1,6 +1,6 @@
 use Rattle.std.proofs.Common.{◌≡◌, ℕ, ◌+◌, ◌-◌, ◌*◌, ◌/◌, ◌<◌, ◌≤◌, ◌∙◌, refl, get_or, take, ap, subst, sym, arith, inl, inr}
 use Rattle.std.proofs.lemmas.Bool.{cases_lt}
-use Rattle.fax_rows.specs.Packed.{packed_byte}
+use Rattle.fax_rows.specs.code.PackedByte.{packed_byte}
 use Rattle.fax_rows.specs.code.Turns.{row_of, HasPassed}
 use Rattle.fax_rows.proofs.PackedWordLemmas.{byte_of_word}
 use Rattle.fax_rows.proofs.PackingLemmas.{passed_none, passed-lt, whole_white, whole_black, still_passed, place_at_most}
