@@ -7,7 +7,7 @@ use Rattle.std.proofs.lemmas.Nat.{and_mask}
 use Rattle.std.specs.Prelude.{bit_and}
 use Rattle.std.specs.Int.{bit_at}
 use Rattle.fax_bits.specs.Bits.{code_bits}
-use Rattle.fax_bits.specs.Codes.{IsCutBy}
+use Rattle.fax_bits.specs.code.Meeting.{IsCutBy}
 use Rattle.fax_bits.specs.Bits.{BeginsWith}
 
 -- the first n bits of both are the same

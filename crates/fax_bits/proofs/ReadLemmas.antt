@@ -9,8 +9,8 @@ use Rattle.fax_bits.specs.Written.{bits_number}
 use Rattle.fax_bits.specs.Bits.{code_bits, BeginsWith}
 use Rattle.fax_bits.specs.declared.codes.Meeting.{Meeting}
 use Rattle.fax_bits.specs.declared.codes.Meeting.TheVariants.{Whole, Cut, Other}
-use Rattle.fax_bits.specs.code.Meeting.{IsMeeting}
-use Rattle.fax_bits.specs.Codes.{IsCutBy, bits_of, HasNoCode, IsCutShort, Takes}
+use Rattle.fax_bits.specs.code.Meeting.{IsMeeting, IsCutBy}
+use Rattle.fax_bits.specs.Codes.{bits_of, HasNoCode, IsCutShort, Takes}
 use Rattle.fax_bits.specs.views.Codes.{HasCodeAhead, HasShortCodes}
 use Rattle.fax_bits.proofs.MeetingLemmas.{length-code_bits, ahead_fits}
 use Rattle.fax_bits.proofs.NumberLemmas.{code_bits-number}

@@ -4,7 +4,8 @@ use Rattle.std.specs.Prelude.{◌⊎◌, Contains}
 use Rattle.fax_bits.specs.declared.codes.CodeEntry.{CodeEntry}
 use Rattle.fax_bits.specs.declared.codes.CodeFault.TheVariants.{DataEnds, BadCode}
 use Rattle.fax_bits.specs.declared.codes.CodeFault.{CodeFault}
-use Rattle.fax_bits.specs.Codes.{bits_of, IsCutBy, Takes, IsFaultOf}
+use Rattle.fax_bits.specs.Codes.{bits_of, Takes, IsFaultOf}
+use Rattle.fax_bits.specs.code.Meeting.{IsCutBy}
 use Rattle.fax_bits.specs.Bits.{BeginsWith}
 
 same_bit : (a b : Bool) → (a ≡ b) ⊎ (a ≡ b → ⊥)

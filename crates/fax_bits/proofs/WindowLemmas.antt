@@ -13,7 +13,8 @@ use Rattle.std.proofs.lemmas.Nat.{shl_whole, shr_below, shr_split}
 use Rattle.fax_bits.specs.declared.FillOrder.{FillOrder}
 use Rattle.fax_bits.specs.declared.window.Window.{Window}
 use Rattle.fax_bits.specs.code.BitsAhead.{bits_ahead}
-use Rattle.fax_bits.specs.Bits.{bits, code_bits, HasZerosAhead}
+use Rattle.fax_bits.specs.Bits.{bits, code_bits}
+use Rattle.fax_bits.specs.views.Source.{HasZerosAhead}
 use Rattle.fax_bits.specs.Written.{bits_number}
 use Rattle.fax_bits.specs.code.Window.{first_bits}
 use Rattle.fax_bits.proofs.CodeBitsLemmas.{code_bits-add}

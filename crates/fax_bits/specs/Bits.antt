@@ -27,7 +27,3 @@ BeginsWith {A} list front = (rest : List A) × (list ≡ front ++ rest)
 -- no 1 is among the bits (T.4, section 4.1.3)
 abbrev pub IsAllZeros : List Bool → Type 0
 IsAllZeros b = (zeros : ℕ) × (b ≡ replicate zeros false)
-
--- the bits begin with this many zeros and a 1 (T.4, section 4.1.3)
-abbrev pub HasZerosAhead : List Bool → ℕ → Type 0
-HasZerosAhead b zeros = (behind : List Bool) × (b ≡ replicate zeros false ++ true ∷ behind)

@@ -25,13 +25,11 @@ abbrev pub HasNoCode : {M : Type 0} → List (CodeEntry M) → List Bool → Typ
 HasNoCode {M} table b =
     (entry : CodeEntry M) → Contains table entry → BeginsWith b (bits_of entry) → ⊥
 
--- the bits begin the code, and are not all of it
-abbrev pub IsCutBy : List Bool → List Bool → Type 0
-IsCutBy code b = (missing : Bool) × (more : List Bool) × (b ++ missing ∷ more ≡ code)
-
 -- the bits begin some code of the table, and are not all of it
 abbrev pub IsCutShort : {M : Type 0} → List (CodeEntry M) → List Bool → Type 0
-IsCutShort {M} table b = (entry : CodeEntry M) × Contains table entry × IsCutBy (bits_of entry) b
+IsCutShort {M} table b =
+    (entry : CodeEntry M) × Contains table entry
+    × ((missing : Bool) × (more : List Bool) × (b ++ missing ∷ more ≡ bits_of entry))
 
 -- which fault it is that no code begins the bits (this project's profile)
 abbrev pub IsFaultOf : {M : Type 0} → List (CodeEntry M) → List Bool → CodeFault → Type 0

@@ -4,8 +4,8 @@ use Rattle.std.specs.Prelude.{IsTrue, nat_le, ◌==◌}
 use Rattle.std.proofs.lemmas.Bool.{leb-true, le-leb, eq-eqb, ne_eqb}
 use Rattle.std.proofs.Math.Nat.{add-mul, mul-le-mul_right}
 use Rattle.fax_files.specs.declared.Endian.{Endian}
-use Rattle.fax_files.specs.Directory.{is_inside, Entry, is_integer, value_len, values_place}
-use Rattle.fax_files.specs.Directory.{has_integers}
+use Rattle.fax_files.specs.Directory.{is_inside, Entry, value_len, values_place, has_integers}
+use Rattle.fax_files.specs.code.Entries.{is_integer}
 
 three_true : (a b c : Bool) → (a && (b && c)) ≡ true → (a ≡ true) × (b ≡ true) × (c ≡ true)
 three_true true true c h = (refl, refl, h)

@@ -13,7 +13,8 @@ use Rattle.std.proofs.lemmas.List.Folds.{Any-from_list_any}
 use Rattle.std.proofs.lemmas.Grind.{get_or_default_zero}
 use Rattle.fax_files.specs.declared.fields.TheConstants.{TAGS}
 use Rattle.fax_files.specs.declared.Endian.{Endian}
-use Rattle.fax_files.specs.Directory.{Entry, entry_at, entries_at, field, ascend, number_at}
+use Rattle.fax_files.specs.Directory.{Entry, entries_at, field, ascend, number_at}
+use Rattle.fax_files.specs.code.Entries.{entry_at}
 use Rattle.fax_files.specs.code.Fields.{is_sought, AreFirst}
 
 -- numbers that rise

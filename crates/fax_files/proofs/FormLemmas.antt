@@ -8,7 +8,9 @@ use Rattle.fax_files.specs.declared.FileFault.TheVariants.{BadField, OutOfLimits
 use Rattle.fax_files.specs.declared.PageForm.{PageForm}
 use Rattle.fax_files.specs.declared.Endian.{Endian}
 use Rattle.fax_files.specs.Directory.{◌>>=◌, check, Entry, entries, needed_scalar, scalar_or}
-use Rattle.fax_files.specs.Page.{is_between, page, page_size, pel_format, strip_rows, strip_count, page_coding, strip_field}
+use Rattle.fax_files.specs.Page.{is_between, page, page_size, pel_format, strip_rows, page_coding}
+use Rattle.fax_files.specs.Page.{strip_field}
+use Rattle.fax_files.specs.views.Page.{strip_count}
 use Rattle.fax_files.specs.laws.Files.{IsWholeForm, FormsAreWhole}
 use Rattle.fax_files.proofs.PageLemmas.{bind_ok, ok_injective, form_of, after_offsets, after_coding, after_rows, after_pels, after_size}
 use Rattle.fax_files.proofs.PageLemmas.{strip_begins_before}

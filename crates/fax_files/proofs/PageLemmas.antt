@@ -6,8 +6,9 @@ use Rattle.fax_files.specs.declared.FileFault.{FileFault}
 use Rattle.fax_files.specs.declared.PageForm.{PageForm}
 use Rattle.fax_files.specs.declared.Endian.{Endian}
 use Rattle.fax_files.specs.Directory.{◌>>=◌, is_inside, Entry, value_at}
-use Rattle.fax_files.specs.Page.{PelFormat, RowCoding, pel_format, strip_rows, strip_count}
-use Rattle.fax_files.specs.Page.{page_coding, strip_field, resolution, strip_bytes, bytes_at}
+use Rattle.fax_files.specs.Page.{PelFormat, RowCoding, pel_format, strip_rows, page_coding}
+use Rattle.fax_files.specs.Page.{strip_field, resolution, strip_bytes, bytes_at}
+use Rattle.fax_files.specs.views.Page.{strip_count}
 use Rattle.fax_files.specs.views.Tiff.{TiffDirectory, bytes_of}
 use Rattle.fax_files.specs.code.Tiff.{AreStripPlaces}
 use Rattle.fax_files.specs.declared.tags.TheConstants as Tags

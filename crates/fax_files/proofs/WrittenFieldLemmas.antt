@@ -4,9 +4,10 @@ use Rattle.std.proofs.lemmas.List.{length-append}
 use Rattle.std.proofs.lemmas.Bool.{le-leb, lt-ltb, ltb-true, eqb-true, and_parts}
 use Rattle.std.specs.List.{list_all}
 use Rattle.std.specs.Prelude.{◌&&◌, flat_map, Option, Some, nat_lt, find, ◌==◌}
-use Rattle.fax_files.specs.Directory.{Entry, is_inside, entry_at, entries_at, field, needed, SHORT}
-use Rattle.fax_files.specs.Directory.{LONG, values_place, value_at, has_integers, scalar}
-use Rattle.fax_files.specs.Directory.{needed_scalar, scalar_or, RATIONAL}
+use Rattle.fax_files.specs.Directory.{Entry, is_inside, entries_at, field, needed, SHORT, LONG}
+use Rattle.fax_files.specs.Directory.{values_place, value_at, has_integers, scalar, needed_scalar}
+use Rattle.fax_files.specs.Directory.{scalar_or, RATIONAL}
+use Rattle.fax_files.specs.code.Entries.{entry_at}
 use Rattle.fax_files.specs.declared.Endian.TheVariants.{Little}
 use Rattle.fax_files.specs.views.Page.{IsGoodRational}
 use Rattle.fax_files.specs.Page.{has_rational, good_rational, rational_of}

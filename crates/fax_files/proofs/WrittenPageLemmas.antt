@@ -16,9 +16,10 @@ use Rattle.fax_files.specs.Directory.{Entry, is_inside, number_at, ◌>>=◌, SH
 use Rattle.fax_files.specs.Directory.{entries, is_directory, next_offset}
 use Rattle.fax_files.specs.declared.Endian.TheVariants.{Little}
 use Rattle.fax_files.specs.declared.PageForm.{PageForm}
-use Rattle.fax_files.specs.Page.{page_size, pel_format, strip_rows, strip_count, are_exchanged}
-use Rattle.fax_files.specs.Page.{fill_order, t4_coding, page_coding, resolution, page, strip_bytes}
+use Rattle.fax_files.specs.Page.{page_size, pel_format, strip_rows, are_exchanged, fill_order}
+use Rattle.fax_files.specs.Page.{t4_coding, page_coding, resolution, page, strip_bytes}
 use Rattle.fax_files.specs.Page.{fill_order_of}
+use Rattle.fax_files.specs.views.Page.{strip_count}
 use Rattle.fax_files.specs.Written.{field_count, to_link, to_x, to_y, to_offsets, two, WrittenField}
 use Rattle.fax_files.specs.Written.{short_field, field_bytes, compression_of, options_field}
 use Rattle.fax_files.specs.Written.{offsets_from, lengths_of, array_bytes, rational_bytes}

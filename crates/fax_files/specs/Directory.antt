@@ -68,20 +68,15 @@ pub record Entry : Type 0 where
   pub count : ℕ
   pub place : ℕ
 
--- the entry of twelve bytes at a place
-abbrev pub entry_at : Endian → List ℕ → ℕ → Entry
-entry_at endian file place = record {
+-- n entries of twelve bytes each from a place on
+unfoldable pub entries_at : Endian → List ℕ → ℕ → ℕ → List Entry
+entries_at endian file place zero = []
+entries_at endian file place (suc n) = record {
   tag = number_at endian 2 file place;
   kind = number_at endian 2 file (place + 2);
   count = number_at endian 4 file (place + 4);
   place = place + 8;
-}
-
--- n entries from a place on
-unfoldable pub entries_at : Endian → List ℕ → ℕ → ℕ → List Entry
-entries_at endian file place zero = []
-entries_at endian file place (suc n) =
-    entry_at endian file place ∷ entries_at endian file (place + 12) n
+} ∷ entries_at endian file (place + 12) n
 
 -- the number of entries in the directory at offset q
 abbrev pub entry_count : Endian → List ℕ → ℕ → ℕ
@@ -114,10 +109,6 @@ LONG = 4
 abbrev pub RATIONAL : ℕ
 RATIONAL = 5
 
--- an entry's values are SHORT or LONG, which integers may be (ours)
-abbrev pub is_integer : Entry → Bool
-is_integer entry = (entry.kind == SHORT) || (entry.kind == LONG)
-
 -- how many bytes a value takes, SHORT, LONG or RATIONAL
 abbrev pub value_len : Entry → ℕ
 value_len entry = if entry.kind == SHORT then 2 else (if entry.kind == LONG then 4 else 8)
@@ -135,10 +126,10 @@ value_at endian file entry i =
     number_at endian (if entry.kind == SHORT then 2 else 4) file
     (values_place endian file entry + i * value_len entry)
 
--- an entry has n values at least, SHORT or LONG, and the first n lie in the file
+-- an entry has n values at least, SHORT or LONG (ours), and the first n lie in the file
 unfoldable pub has_integers : Endian → List ℕ → Entry → ℕ → Bool
 has_integers endian file entry n =
-    is_integer entry && (nat_le n entry.count
+    ((entry.kind == SHORT) || (entry.kind == LONG)) && (nat_le n entry.count
     && is_inside file (values_place endian file entry) (n * value_len entry))
 
 -- a scalar's value: the first one of the entry (ours)

@@ -76,10 +76,6 @@ strip_rows endian file fields rows = do
   _ ← check (not (rows_per_strip == 0)) (BadField Tags.ROWS_PER_STRIP)
   Ok (min rows_per_strip rows)
 
--- the number of strips: the rows divided by those of a strip, rounded up (TIFF 6.0, RowsPerStrip)
-abbrev pub strip_count : ℕ → ℕ → ℕ
-strip_count rows rows_per_strip = div_ceil rows rows_per_strip
-
 -- how rows are coded, and whether each EOL ends on a byte boundary
 -- (TIFF 6.0, Compression and T4Options)
 pub record RowCoding : Type 0 where
@@ -118,15 +114,12 @@ has_rational endian file entry =
     (entry.kind == RATIONAL) && (nat_le 1 entry.count
     && is_inside file (values_place endian file entry) 8)
 
--- both numbers are above 0
-abbrev pub are_some : ℕ × ℕ → Bool
-are_some value = nat_lt 0 value.0 && nat_lt 0 value.1
-
--- an entry's RATIONAL, and that of a tag, where there is a good one
+-- an entry's RATIONAL, and that of a tag, where there is one of two numbers above 0
 unfoldable pub good_rational : Endian → List ℕ → Entry → Option (ℕ × ℕ)
 good_rational endian file entry =
-    if has_rational endian file entry && are_some (rational_at endian file entry)
-    then (Some (rational_at endian file entry)) else None
+    let value = rational_at endian file entry in
+    if has_rational endian file entry && (nat_lt 0 value.0 && nat_lt 0 value.1) then (Some value)
+    else None
 
 unfoldable pub rational_of : Endian → List ℕ → List Entry → ℕ → Option (ℕ × ℕ)
 rational_of endian file fields tag =
@@ -164,7 +157,7 @@ page endian file q = do
   size ← page_size endian file fields
   pels ← pel_format endian file fields
   rows_per_strip ← strip_rows endian file fields size.1
-  let strips = strip_count size.1 rows_per_strip
+  let strips = div_ceil size.1 rows_per_strip
   coded ← page_coding endian file fields pels.compression
   _ ← strip_field endian file fields Tags.STRIP_OFFSETS strips
   _ ← strip_field endian file fields Tags.STRIP_BYTE_COUNTS strips

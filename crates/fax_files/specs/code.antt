@@ -4,3 +4,4 @@ pub mod Fields
 pub mod Chain
 pub mod Writing
 pub mod Pbm
+pub mod Entries

@@ -2,6 +2,7 @@
 
 ghost use Rattle.std.specs.Prelude.{◌≡◌, ◌+◌, ◌≤◌, length, IsTrue, IfSome};
 ghost use Rattle.fax_files.specs.Directory as Spec;
+ghost use Rattle.fax_files.specs.code.Entries.{entry_at, is_integer};
 ghost use Rattle.fax_files.specs.Page.{good_rational};
 ghost use Rattle.fax_files.specs.views.Page.{IsGoodRational};
 
@@ -49,7 +50,7 @@ impl Entry {
 
     /// Whether the values are SHORT or LONG.
     fn is_integer(&self) -> bool
-        ensures { result ≡ Spec.is_integer self.now }
+        ensures { result ≡ is_integer self.now }
     {
         self.kind == SHORT_TYPE || self.kind == LONG_TYPE
     }
@@ -71,7 +72,7 @@ impl<'a> File<'a> {
     /// The entry of twelve bytes at a place.
     pub fn entry_at(&self, place: usize) -> Entry
         requires { place + 12 ≤ length self.now.bytes.now }
-        ensures { result ≡ Spec.entry_at self.now.endian self.now.bytes.now place }
+        ensures { result ≡ entry_at self.now.endian self.now.bytes.now place }
     {
         Entry {
             tag: self.u16_at(place),

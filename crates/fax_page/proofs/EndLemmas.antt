@@ -3,8 +3,8 @@ use Rattle.std.proofs.Common.{◌≡◌, ◌≢◌, ℕ, zero, suc, ◌+◌, ◌
 use Rattle.std.proofs.Common.{IsTrue, Option, Some, None, MatchOption, not, is_some, refl, ap, sym, ◌∙◌, subst, arith, inl, inr}
 use Rattle.std.specs.List.{Contains}
 use Rattle.std.proofs.lemmas.List.Elements.{Contains-append_right}
-use Rattle.fax_bits.specs.Bits.{IsAllZeros, HasZerosAhead, code_bits, BeginsWith}
-use Rattle.fax_bits.specs.views.Source.{Source, IsTaken}
+use Rattle.fax_bits.specs.Bits.{IsAllZeros, code_bits, BeginsWith}
+use Rattle.fax_bits.specs.views.Source.{HasZerosAhead, Source, IsTaken}
 use Rattle.fax_page.specs.declared.Coding.{Coding}
 use Rattle.fax_page.specs.declared.Coding.TheVariants.{Mh, Mr, Mmr}
 use Rattle.fax_page.specs.declared.StripFault.{StripFault}

@@ -6,7 +6,8 @@ use Rattle.fax_bits.specs.declared.codes.CodeEntry.{CodeEntry}
 use Rattle.fax_bits.specs.declared.Colour.{Colour}
 use Rattle.fax_bits.specs.declared.Colour.TheVariants.{White}
 use Rattle.fax_bits.specs.declared.runs.RunCode.TheVariants.{Terminating, MakeUp}
-use Rattle.fax_bits.specs.Bits.{code_bits, HasZerosAhead}
+use Rattle.fax_bits.specs.Bits.{code_bits}
+use Rattle.fax_bits.specs.views.Source.{HasZerosAhead}
 use Rattle.fax_bits.specs.Codes.{bits_of, Takes, Spells}
 use Rattle.fax_bits.specs.Tables.{run_table, modes, white_runs, white_terminating, white_make_up, common_make_up, run_extension}
 use Rattle.fax_rows.specs.Rows.{pels_of, AreRuns, Position, beginning, AreSteps}

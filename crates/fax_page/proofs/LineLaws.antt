@@ -8,8 +8,9 @@ use Rattle.fax_page.specs.declared.Dimension.{Dimension}
 use Rattle.fax_page.specs.declared.Dimension.TheVariants.{OneDimensional, TwoDimensional}
 use Rattle.fax_page.specs.declared.StripForm.{StripForm}
 use Rattle.fax_page.specs.declared.StripFault.{StripFault}
-use Rattle.fax_page.specs.Lines.{BeginsBelowEleven, IsStart, IsFirstCodeFault, IsRowIn, IsRowFaultIn, IsNoFirstCode, IsStopInCodes}
-use Rattle.fax_page.specs.Lines.{strip_fault}
+use Rattle.fax_page.specs.Lines.{BeginsBelowEleven, IsStart, IsRowIn, IsRowFaultIn, IsNoFirstCode}
+use Rattle.fax_page.specs.Lines.{IsStopInCodes, strip_fault}
+use Rattle.fax_page.specs.code.Starts.{IsFirstCodeFault}
 use Rattle.fax_page.specs.laws.Strips.{ReadsLinesOneWay, IsOneLine, IsLineOrCause, IsNoCauseOfLine, IsOneCause}
 use Rattle.fax_page.proofs.StartLaws.{one_start, start_or_fault, start_has_no_fault, one_start_fault, first_code_or_fault}
 use Rattle.fax_page.proofs.StartLaws.{first_code_has_no_fault, one_first_code_fault}

@@ -4,14 +4,16 @@ use Rattle.std.proofs.Common.{arith, inl, inr}
 use Rattle.std.specs.Prelude.{◌⊎◌}
 use Rattle.std.proofs.lemmas.Bool.{cases_lt}
 use Rattle.std.proofs.lemmas.List.{length-replicate}
-use Rattle.fax_bits.specs.Bits.{IsAllZeros, HasZerosAhead}
+use Rattle.fax_bits.specs.Bits.{IsAllZeros}
+use Rattle.fax_bits.specs.views.Source.{HasZerosAhead}
 use Rattle.fax_page.specs.declared.Dimension.{Dimension}
 use Rattle.fax_page.specs.declared.Dimension.TheVariants.{OneDimensional, TwoDimensional}
 use Rattle.fax_page.specs.declared.Coding.{Coding}
 use Rattle.fax_page.specs.declared.Coding.TheVariants.{Mh, Mr, Mmr}
 use Rattle.fax_page.specs.declared.StripFault.{StripFault}
 use Rattle.fax_page.specs.declared.StripFault.TheVariants.{DataEnds, MissingEol, EndMarker}
-use Rattle.fax_page.specs.Lines.{tag_bit, IsEndOfLine, BeginsBelowEleven, IsStart, IsStartFault, IsFirstCodeFault}
+use Rattle.fax_page.specs.Lines.{tag_bit, IsEndOfLine, BeginsBelowEleven, IsStart, IsStartFault}
+use Rattle.fax_page.specs.code.Starts.{IsFirstCodeFault}
 use Rattle.fax_page.proofs.StartLemmas.{eleven_ahead, eleven_alone}
 
 -- a 1 after zeros stands at one place

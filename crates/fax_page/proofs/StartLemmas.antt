@@ -2,7 +2,8 @@
 use Rattle.std.proofs.Common.{◌≡◌, ℕ, ◌+◌, ◌-◌, ◌≤◌, List, ◌∷◌, ◌++◌, length, replicate, Bool, true, false, ap, sym, ◌∙◌, arith}
 use Rattle.std.proofs.Common.{append_assoc}
 use Rattle.std.proofs.lemmas.List.{replicate-append-replicate, length-replicate}
-use Rattle.fax_bits.specs.Bits.{IsAllZeros, HasZerosAhead}
+use Rattle.fax_bits.specs.Bits.{IsAllZeros}
+use Rattle.fax_bits.specs.views.Source.{HasZerosAhead}
 
 -- so many zeros begin with fewer
 replicate-split : (n m : ℕ) → n ≤ m → replicate m false ≡ replicate n false ++ replicate (m - n) false

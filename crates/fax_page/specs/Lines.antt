@@ -2,7 +2,7 @@
 -- A definition without a citation is this project's profile.
 use Rattle.std.specs.Prelude.{◌≡◌, ◌≢◌, ℕ, ◌<◌, ◌≤◌, ◌⊎◌, Bool, true, false, List, [], ◌∷◌, ◌++◌}
 use Rattle.std.specs.Prelude.{replicate}
-use Rattle.fax_bits.specs.Bits.{HasZerosAhead, IsAllZeros}
+use Rattle.fax_bits.specs.Bits.{IsAllZeros}
 use Rattle.fax_bits.specs.declared.Colour.{Colour}
 use Rattle.fax_bits.specs.declared.Colour.TheVariants.{White}
 use Rattle.fax_rows.specs.declared.RowFault.{RowFault}
@@ -34,7 +34,9 @@ IsEndOfLine b rest = (zeros : ℕ) × (11 ≤ zeros) × (b ≡ replicate zeros f
 
 -- a 1 stands after fewer than eleven zeros: the bits begin with no EOL (T.4, section 4.1.2)
 abbrev pub BeginsBelowEleven : List Bool → Type 0
-BeginsBelowEleven b = (zeros : ℕ) × (zeros < 11) × HasZerosAhead b zeros
+BeginsBelowEleven b =
+    (zeros : ℕ) × (zeros < 11)
+    × ((behind : List Bool) × (b ≡ replicate zeros false ++ true ∷ behind))
 
 -- what stands before the first code of row i of a strip: in MH an EOL, which the first row may lack,
 -- in MR an EOL and a tag bit, nothing in MMR (T.4, sections 4.1.2, 4.2.2; T.6, section 2.2.1)
@@ -82,24 +84,20 @@ IsStartFault Mr i b fault =
     ⊎ (BeginsBelowEleven b × (fault ≡ MissingEol))
 IsStartFault Mmr i b fault = ⊥
 
--- eleven zeros stand where a row's first code is due, or fewer zeros and nothing after them
-abbrev pub IsFirstCodeFault : List Bool → StripFault → Type 0
-IsFirstCodeFault b fault =
-    ((behind : List Bool) × (b ≡ replicate 11 false ++ behind) × (fault ≡ EndMarker))
-    ⊎ ((zeros : ℕ) × (zeros < 11) × (b ≡ replicate zeros false) × (fault ≡ DataEnds))
-
 -- the codes of a row, coded so, stop with this fault
 abbrev pub IsRowFaultIn : Dimension → ℕ → List Colour → List Bool → RowFault → Type 0
 IsRowFaultIn OneDimensional width reference b fault = IsOneDimensionalFault width b fault
 IsRowFaultIn TwoDimensional width reference b fault = IsTwoDimensionalFault reference b fault
 
--- the first code of row i of a strip is not there
+-- the first code of row i of a strip is not there: eleven zeros stand there, or fewer and no more
 pub record IsNoFirstCode (form : StripForm) (i : ℕ) (b : List Bool)
     (fault : StripFault) : Type 0 where
   pub dimension : Dimension
   pub codes : List Bool
   pub start : IsStart form.coding i b dimension codes
-  pub at_first_code : IsFirstCodeFault codes fault
+  pub at_first_code :
+      ((behind : List Bool) × (codes ≡ replicate 11 false ++ behind) × (fault ≡ EndMarker))
+      ⊎ ((zeros : ℕ) × (zeros < 11) × (codes ≡ replicate zeros false) × (fault ≡ DataEnds))
 
 -- row i of a strip begins, and its codes stop with a fault
 pub record IsStopInCodes (form : StripForm) (i : ℕ) (reference : List Colour) (b : List Bool)

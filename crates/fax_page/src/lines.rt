@@ -2,7 +2,7 @@
 ghost use Rattle.std.specs.Prelude.{◌≡◌, ◌∷◌, [], length, OnOk, IfOk, IfErr};
 ghost use Rattle.fax_bits.specs.views.Source.{KeepsEnd};
 ghost use Rattle.fax_page.specs.Lines as Lines;
-ghost use Rattle.fax_page.specs.code.Starts.{HasEol, HasNoEol, IsNoBegin, IsStop};
+ghost use Rattle.fax_page.specs.code.Starts.{HasEol, HasNoEol, IsFirstCodeFault, IsNoBegin, IsStop};
 
 use crate::{Coding, Dimension, StripFault, StripForm};
 use fax_rows::{BitSource, Row, read_1d, read_2d};
@@ -74,7 +74,7 @@ fn read_start(source: &mut BitSource, coding: Coding, i: u32) -> Result<Dimensio
 /// section 4.1.4), or of the facsimile block (T.6).
 fn check_first_code(source: &BitSource) -> Result<(), StripFault>
     ensures ok { OnOk result (Lines.BeginsBelowEleven source.now.left) }
-    ensures err { IfErr result (λ fault. Lines.IsFirstCodeFault source.now.left fault) }
+    ensures err { IfErr result (λ fault. IsFirstCodeFault source.now.left fault) }
 {
     match source.zeros() {
         Some(zeros) if zeros < EOL_ZEROS => Ok(()),

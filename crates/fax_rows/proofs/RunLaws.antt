@@ -12,7 +12,8 @@ use Rattle.fax_bits.specs.Codes.{Takes, Spells, IsFaultOf, IsRun}
 use Rattle.fax_bits.specs.laws.Codes.{ReadsOneWay}
 use Rattle.fax_rows.specs.declared.RowFault.{RowFault}
 use Rattle.fax_rows.specs.declared.RowFault.TheVariants.{Extension, RunTooLong}
-use Rattle.fax_rows.specs.Faults.{row_fault, IsRunCodeFault, IsAtRunCode, IsRunFault}
+use Rattle.fax_rows.specs.Faults.{row_fault, IsRunCodeFault, IsRunFault}
+use Rattle.fax_rows.specs.code.RowFaults.{IsAtRunCode}
 
 pub sum-cons : (n : ℕ) (ns : List ℕ) → sum (n ∷ ns) ≡ n + sum ns
 sum-cons n ns = grind (arith, common_steps)

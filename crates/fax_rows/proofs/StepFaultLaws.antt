@@ -13,8 +13,10 @@ use Rattle.fax_bits.specs.Tables.{run_table, modes}
 use Rattle.fax_rows.specs.declared.RowFault.{RowFault}
 use Rattle.fax_rows.specs.declared.RowFault.TheVariants.{OutOfRow, Extension as ExtensionFault}
 use Rattle.fax_rows.specs.Rows.{other, Position, beginning, first_pel, a0_number, coloured_up_to}
-use Rattle.fax_rows.specs.Rows.{b1_from, b2_from, IsStepBy, IsStep, IsUnfinished, AreSteps}
-use Rattle.fax_rows.specs.Faults.{row_fault, IsRunFault, IsHorizontalFault, IsModeFault, IsStepFault}
+use Rattle.fax_rows.specs.Rows.{IsStepBy, IsStep, IsUnfinished, AreSteps}
+use Rattle.fax_rows.specs.code.Seen.{b1_from, b2_from}
+use Rattle.fax_rows.specs.Faults.{row_fault, IsRunFault, IsModeFault, IsStepFault}
+use Rattle.fax_rows.specs.code.RowFaults.{IsHorizontalFault}
 use Rattle.fax_rows.specs.laws.Rows.{ReadsRowsOverOneWay}
 use Rattle.fax_rows.proofs.ChangeLemmas.{next_change_is}
 use Rattle.fax_rows.proofs.RunLaws.{same_run, run_has_no_fault, same_run_fault, run_or_fault}

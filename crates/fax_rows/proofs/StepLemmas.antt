@@ -6,8 +6,9 @@ use Rattle.std.proofs.lemmas.Int.{ints}
 use Rattle.fax_bits.specs.declared.Colour.{Colour}
 use Rattle.fax_bits.specs.declared.Colour.TheVariants.{White}
 use Rattle.fax_rows.specs.declared.two_dimensional.steps.Reached.{Reached}
-use Rattle.fax_rows.specs.Rows.{other, Position, beginning, coloured_up_to, b1_from, IsInRow}
-use Rattle.fax_rows.specs.Rows.{IsVerticalStep, IsStep, IsUnfinished, AreSteps}
+use Rattle.fax_rows.specs.Rows.{other, Position, beginning, coloured_up_to, IsInRow, IsVerticalStep}
+use Rattle.fax_rows.specs.Rows.{IsStep, IsUnfinished, AreSteps}
+use Rattle.fax_rows.specs.code.Seen.{b1_from}
 use Rattle.fax_rows.specs.code.Reached.{position_of, reached_pel}
 
 -- a place that is not negative

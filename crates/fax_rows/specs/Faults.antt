@@ -33,13 +33,6 @@ IsRunCodeFault width so_far (run.Terminating n) fault = (width < so_far + n) × 
 IsRunCodeFault width so_far (run.MakeUp n) fault = (width < so_far + n) × (fault ≡ RunTooLong)
 IsRunCodeFault width so_far run.Extension fault = fault ≡ Extension
 
--- the fault stands at the first run code of the bits
-abbrev pub IsAtRunCode : Colour → ℕ → ℕ → List Bool → RowFault → Type 0
-IsAtRunCode colour width so_far b fault =
-    IsCodeFault (run_table colour) b fault
-    ⊎ ((code : RunCode) × (behind : List Bool) × Takes (run_table colour) b code behind
-    × IsRunCodeFault width so_far code fault)
-
 -- the bits begin with a run from the pel `from` on that is not whole: make-up codes within the
 -- width, and then the fault
 pub record IsRunFault (colour : Colour) (width from : ℕ) (b : List Bool)
@@ -48,7 +41,9 @@ pub record IsRunFault (colour : Colour) (width from : ℕ) (b : List Bool)
   pub left : List Bool
   pub spelled : Spells (run_table colour) b (map run.MakeUp make_up) left
   pub within : from + sum make_up ≤ width
-  pub at_code : IsAtRunCode colour width (from + sum make_up) left fault
+  pub at_code : IsCodeFault (run_table colour) left fault
+      ⊎ ((code : RunCode) × (behind : List Bool) × Takes (run_table colour) left code behind
+      × IsRunCodeFault width (from + sum make_up) code fault)
 
 -- the colour of the run after these runs (T.4, section 4.1.1)
 abbrev pub colour_behind : Colour → List ℕ → Colour
@@ -63,20 +58,16 @@ pub record IsOneDimensionalFault (width : ℕ) (b : List Bool) (fault : RowFault
   pub unfinished : sum runs < width
   pub at_run : IsRunFault (colour_behind White runs) width (sum runs) left fault
 
--- horizontal mode with a fault in its first run, or with a first run within the row and a fault in
--- its second
-abbrev pub IsHorizontalFault : List Colour → Position → List Bool → RowFault → Type 0
-IsHorizontalFault reference at b fault =
-    IsRunFault at.colour (length reference) (first_pel at) b fault
-    ⊎ ((first : ℕ) × (middle : List Bool)
-    × IsRun at.colour b first middle × (first_pel at + first ≤ length reference)
-    × IsRunFault (other at.colour) (length reference) (first_pel at + first) middle fault)
-
--- the fault of a mode, with the bits after its code
+-- the fault of a mode, with the bits after its code; in horizontal mode it stands in the first run,
+-- or after a first run within the row in the second
 abbrev pub IsModeFault : ModeCode → List Colour → Position → List Bool → RowFault → Type 0
 IsModeFault mode.Pass reference at b fault = ⊥
 IsModeFault (mode.Vertical d) reference at b fault = (IsInRow reference at d → ⊥) × (fault ≡ OutOfRow)
-IsModeFault mode.Horizontal reference at b fault = IsHorizontalFault reference at b fault
+IsModeFault mode.Horizontal reference at b fault =
+    IsRunFault at.colour (length reference) (first_pel at) b fault
+    ⊎ ((first : ℕ) × (middle : List Bool) × IsRun at.colour b first middle
+    × (first_pel at + first ≤ length reference)
+    × IsRunFault (other at.colour) (length reference) (first_pel at + first) middle fault)
 IsModeFault mode.Extension reference at b fault = fault ≡ Extension
 
 -- the bits begin with a step that has this fault

@@ -120,24 +120,17 @@ coloured_up_to at to =
     let pels = at.pels ++ replicate (to - first_pel at) at.colour in
     record { a0 = Some to; colour = at.colour; pels = pels }
 
--- b1 and b2 as seen from a position
-abbrev pub b1_from : List Colour → Position → ℕ
-b1_from reference at = b1 reference at.a0 at.colour
-
-abbrev pub b2_from : List Colour → Position → ℕ
-b2_from reference at = b2 reference at.a0 at.colour
-
 -- a1 at b1 + d lies right of a0 and not after the row's end
 pub record IsInRow (reference : List Colour) (at : Position) (d : ℤ) : Type 0 where
-  pub right_of_a0 : a0_number at <ℤ (pos (b1_from reference at) +ℤ d)
-  pub within : (pos (b1_from reference at) +ℤ d) ≤ℤ pos (length reference)
+  pub right_of_a0 : a0_number at <ℤ (pos (b1 reference at.a0 at.colour) +ℤ d)
+  pub within : (pos (b1 reference at.a0 at.colour) +ℤ d) ≤ℤ pos (length reference)
 
 -- vertical mode: a1 is b1 + d, and the colour changes there (section 4.2.1.3.2)
 pub record IsVerticalStep (reference : List Colour) (old : Position) (d : ℤ)
     (new : Position) : Type 0 where
   pub in_row : IsInRow reference old d
   pub a1 : ℕ
-  pub a1_is : pos a1 ≡ pos (b1_from reference old) +ℤ d
+  pub a1_is : pos a1 ≡ pos (b1 reference old.a0 old.colour) +ℤ d
   pub new_is : new ≡ record (coloured_up_to old a1) { colour = other old.colour }
 
 -- horizontal mode: a run a0a1 of a0's colour and a run a1a2 of the other, within the row; the
@@ -159,7 +152,7 @@ pub record IsHorizontalStep (reference : List Colour) (old : Position) (b : List
 -- what a mode does, with the bits after its code (section 4.2.1.3.2)
 abbrev pub IsStepBy : ModeCode → List Colour → Position → List Bool → Position → List Bool → Type 0
 IsStepBy Pass reference old b new rest =
-    (new ≡ coloured_up_to old (b2_from reference old)) × (b ≡ rest)
+    (new ≡ coloured_up_to old (b2 reference old.a0 old.colour)) × (b ≡ rest)
 IsStepBy (Vertical d) reference old b new rest = IsVerticalStep reference old d new × (b ≡ rest)
 IsStepBy Horizontal reference old b new rest = IsHorizontalStep reference old b new rest
 IsStepBy Extension reference old b new rest = ⊥

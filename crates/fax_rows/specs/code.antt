@@ -9,3 +9,5 @@ pub mod PlacedReached
 pub mod PackedWord
 pub mod Unpacked
 pub mod PackedByte
+pub mod Seen
+pub mod RowFaults

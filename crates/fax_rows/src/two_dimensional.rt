@@ -5,6 +5,7 @@ ghost use Rattle.std.specs.Prelude.{length, slice_index, OnOk, IfOk, IfErr};
 ghost use Rattle.fax_bits.specs.views.Source.{KeepsEnd};
 ghost use Rattle.fax_rows.specs.Rows as Spec;
 ghost use Rattle.fax_rows.specs.Faults as Fault;
+ghost use Rattle.fax_rows.specs.code.RowFaults.{IsHorizontalFault};
 ghost use Rattle.fax_rows.specs.code.PlacedRow.{placed_pels};
 ghost use Rattle.fax_rows.specs.code.Turns.{row_of, IsAscending};
 ghost use Rattle.fax_rows.specs.code.Reached.{reached_pel};
@@ -36,7 +37,7 @@ fn horizontal(
         (placed_position reference.entry.width places.old at) source.old.left
         (placed_position reference.entry.width places.new next) source.new.left) }
     ensures so_far { IfOk result (λ next. IsReadTo reference.entry places.new next) }
-    ensures err { IfErr result (λ fault. Fault.IsHorizontalFault (placed_pels reference.entry)
+    ensures err { IfErr result (λ fault. IsHorizontalFault (placed_pels reference.entry)
         (placed_position reference.entry.width places.old at) source.old.left fault) }
     ensures first { slice_index places.new 0 ≡ 0 }
     ensures same_len { length places.new ≡ length places.old }

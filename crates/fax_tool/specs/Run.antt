@@ -50,10 +50,6 @@ HasFailed counts = (most_interrupted < counts.interrupted) ⊎ (0 < counts.faile
 abbrev pub HasWorked : Counts → Type 0
 HasWorked counts = (counts.interrupted ≤ most_interrupted) × (counts.failed ≡ 0)
 
--- a status of a run: done, a fault of the input, or a refusal
-abbrev pub IsStatus : ℕ → Type 0
-IsStatus status = (status ≡ 0) ⊎ (status ≡ 1) ⊎ (status ≡ 3)
-
 -- the input worked, and is not too long; or it failed, or is too long
 abbrev pub IsRead : Input → Type 0
 IsRead input = HasWorked input.counts × (input.taken ≤ max_file)

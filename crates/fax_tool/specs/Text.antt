@@ -40,10 +40,6 @@ and_coding Mh = codes " mh"
 and_coding Mr = codes " mr"
 and_coding Mmr = codes " mmr"
 
--- PhotometricInterpretation: 1 where black is coded as white (TIFF 6.0, PhotometricInterpretation)
-abbrev pub photometric_of : Bool → ℕ
-photometric_of exchanged = if exchanged then 1 else 0
-
 -- a blank and a resolution, as `204/1`
 abbrev pub and_fraction : ℕ × ℕ → List ℕ
 and_fraction value = and_number value.0 ++ codes "/" ++ decimal value.1
@@ -54,7 +50,7 @@ unfoldable pub page_line_of : ℕ → PageForm → List ℕ
 page_line_of page form =
     codes "page" ++ and_number page ++ and_number form.width ++ and_number form.rows
     ++ and_coding form.coding ++ and_number (fill_order_of form.order)
-    ++ and_number (photometric_of form.exchanged) ++ and_number form.strips
+    ++ and_number (if form.exchanged then 1 else 0) ++ and_number form.strips
     ++ and_fraction form.x ++ and_fraction form.y ++ and_number form.unit ++ line_end
 
 -- what a run begins with: the place inside a strip, where there is one, else the cursor

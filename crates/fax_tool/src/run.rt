@@ -1,7 +1,7 @@
 //! A run of the program over its streams.
-ghost use Rattle.std.specs.Prelude.{◌≡◌, ◌<◌, IfErr, IfOk};
+ghost use Rattle.std.specs.Prelude.{◌≡◌, ◌⊎◌, ◌<◌, IfErr, IfOk};
 ghost use Rattle.fax_tool.specs.code.Outcome.{IsDone, IsReported, IsSaid, IsStopped};
-ghost use Rattle.fax_tool.specs.Run.{IsRefused, IsStatus, WritesText};
+ghost use Rattle.fax_tool.specs.Run.{IsRefused, WritesText};
 ghost use Rattle.fax_tool.specs.views.Streams.{input_after, no_faults, output_after};
 
 use crate::check::check;
@@ -90,7 +90,7 @@ pub fn run<R: Source, W: Sink, E: Sink>(
     requires taken { R.taken input.old ≡ 0 }
     requires output_counts { W.counts out.old ≡ no_faults }
     requires error_counts { E.counts err.old ≡ no_faults }
-    ensures status { IsStatus result }
+    ensures status { (result ≡ 0) ⊎ (result ≡ 1) ⊎ (result ≡ 3) }
 
     // What was done is the text of what the job's command tells of the input, and no stream failed.
     ensures written { result < 3 → WritesText job.now.command

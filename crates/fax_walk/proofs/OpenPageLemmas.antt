@@ -27,8 +27,10 @@ use Rattle.fax_walk.specs.declared.end.End.TheVariants.{Fault, Outside}
 use Rattle.fax_walk.specs.declared.opening.OpenFault.{OpenFault}
 use Rattle.fax_walk.specs.declared.opening.OpenFault.TheVariants.{Memory, Ended}
 use Rattle.fax_walk.specs.Cursors.{LongPlace}
-use Rattle.fax_walk.specs.Rows.{Inner, Item, Place, IsRow, bits_before, exchanged, first_at, place_after, place_on, reference_of}
-use Rattle.fax_walk.specs.Rows.{IsInner, IsInnerOn, inner_at, long_at, row_in_strip, strip_at}
+use Rattle.fax_walk.specs.Rows.{Inner, Item, Place, IsRow, bits_before, exchanged, first_at}
+use Rattle.fax_walk.specs.Rows.{place_after, reference_of, IsInner, IsInnerOn, inner_at, long_at}
+use Rattle.fax_walk.specs.Rows.{row_in_strip, strip_at}
+use Rattle.fax_walk.specs.code.Places.{place_on}
 use Rattle.fax_walk.specs.Pages.{IsPageAt}
 use Rattle.fax_walk.specs.laws.InOrder.{LeadTo}
 use Rattle.fax_walk.specs.code.Opening.{IsFilePage, PageDue, page_with}

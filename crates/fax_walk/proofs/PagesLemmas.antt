@@ -9,14 +9,15 @@ use Rattle.fax_files.specs.views.Chain.{ChainState}
 use Rattle.fax_files.specs.views.Tiff.{TiffDirectory}
 use Rattle.fax_walk.specs.declared.cursor.Cursor.{Cursor}
 use Rattle.fax_walk.specs.declared.end.End.{End}
-use Rattle.fax_walk.specs.Pages.{AreFrom, FormItem, IsForm, AreFormsBegun, IsFormTail}
+use Rattle.fax_walk.specs.Pages.{AreFrom, FormItem, IsForm, IsFormTail}
+use Rattle.fax_walk.specs.code.Pages.{AreFormsBegun, HasGiven, IsPageAfter, IsFirstDue, IsDueIn}
+use Rattle.fax_walk.specs.code.Pages.{EndsNow}
 use Rattle.fax_walk.specs.views.InOrder.{EndsAfter, HasToldNoOther}
 use Rattle.fax_walk.specs.laws.InOrder.{LeadTo}
 use Rattle.fax_walk.specs.views.Pages.{PagesView, HandsOutPage}
 use Rattle.fax_walk.specs.laws.Forms.{AreFormsLeft}
 use Rattle.fax_walk.specs.laws.Tails.{CursorsHaveOneFormTail, FormTailOfPage}
 use Rattle.fax_walk.specs.code.Opening.{PageDue, IsPageDue, IsFilePage, IsChainBefore, IsNamed, EndsAt, page_with}
-use Rattle.fax_walk.specs.code.Pages.{HasGiven, IsPageAfter, IsFirstDue, IsDueIn, EndsNow}
 use Rattle.fax_walk.proofs.InOrderLemmas.{joined, leads_on}
 
 -- a page of a file is the form of its number

@@ -27,8 +27,10 @@ use Rattle.fax_walk.specs.declared.end.End.{End}
 use Rattle.fax_walk.specs.declared.end.End.TheVariants.{Fault, Outside}
 use Rattle.fax_walk.specs.Cursors.{LongPlace}
 use Rattle.fax_walk.specs.Pages.{AreBegun, FilePage, IsPageAt}
-use Rattle.fax_walk.specs.Rows.{Item, Inner, Place, first_at, strip_at, row_in_strip, exchanged, bits_before, reference_of, place_after}
-use Rattle.fax_walk.specs.Rows.{IsItem, IsInStrip, cursor_at, IsRow, first_row, FitsStrip, IsInnerOn, inner_at, BeginsOn, begins_at}
+use Rattle.fax_walk.specs.Rows.{Item, Inner, Place, first_at, strip_at, row_in_strip, exchanged}
+use Rattle.fax_walk.specs.Rows.{bits_before, reference_of, place_after, IsItem, IsInStrip, IsRow}
+use Rattle.fax_walk.specs.Rows.{first_row, FitsStrip, IsInnerOn, inner_at, BeginsOn, begins_at}
+use Rattle.fax_walk.specs.code.Places.{cursor_at}
 use Rattle.fax_walk.specs.laws.Tails.{BeginningsHaveOneTail}
 use Rattle.fax_walk.proofs.InOrderLemmas.{IsOneAnswer, IsListed, one_begun}
 use Rattle.fax_walk.proofs.PageLawLemmas.{one_on_page, no_page, some_page, next_dropped}

@@ -31,9 +31,10 @@ use Rattle.fax_walk.specs.laws.InOrder.{LeadTo}
 use Rattle.fax_walk.specs.views.Walk.{EndsBefore}
 use Rattle.fax_walk.specs.Converted.{AreItems}
 use Rattle.fax_walk.specs.Rows.{IsInnerOn, Item, Inner, Place, first_at, strip_at, row_in_strip}
-use Rattle.fax_walk.specs.Rows.{exchanged, reference_of, place_after, IsItem, IsInStrip, cursor_at}
-use Rattle.fax_walk.specs.Rows.{IsRow, first_row, IsInner, FitsStrip, inner_at, Begins, IsTailFrom}
+use Rattle.fax_walk.specs.Rows.{exchanged, reference_of, place_after, IsItem, IsInStrip, IsRow}
+use Rattle.fax_walk.specs.Rows.{first_row, IsInner, FitsStrip, inner_at, Begins, IsTailFrom}
 use Rattle.fax_walk.specs.Rows.{cursor_after, long_after}
+use Rattle.fax_walk.specs.code.Places.{cursor_at}
 use Rattle.fax_walk.specs.laws.Tails.{FilesHaveOneItems, ItemsStandByPlace, TailsEndAfter, TailOfStart, IsReachedPlace, TailsGoOn}
 use Rattle.fax_walk.specs.laws.Tails.{LongTailsGoOn, PlacesAreReached, IsReached}
 use Rattle.fax_walk.proofs.InOrderLemmas.{one_from, one_led, one_list, same_answer, same_step, leads_on, joined, kept}

@@ -9,8 +9,9 @@ use Rattle.fax_bits.specs.declared.Colour.{Colour}
 use Rattle.fax_bits.specs.declared.modes.ModeCode.{ModeCode}
 use Rattle.fax_bits.specs.declared.modes.ModeCode.TheVariants.{Pass, Horizontal, Vertical, Extension}
 use Rattle.fax_rows.specs.Rows.{other, is_changing, same_colour, pel, is_right_of, first_place}
-use Rattle.fax_rows.specs.Rows.{next_change, next_of, Position, beginning, first_pel, b1_from}
-use Rattle.fax_rows.specs.Rows.{b2_from, IsStepBy, AreSteps}
+use Rattle.fax_rows.specs.Rows.{next_change, next_of, Position, beginning, first_pel, IsStepBy}
+use Rattle.fax_rows.specs.Rows.{AreSteps}
+use Rattle.fax_rows.specs.code.Seen.{b1_from, b2_from}
 use Rattle.fax_page.specs.declared.Dimension.{Dimension}
 use Rattle.fax_page.specs.declared.Dimension.TheVariants.{OneDimensional, TwoDimensional}
 use Rattle.fax_page.specs.Lines.{IsRowIn}

@@ -2,6 +2,7 @@
 -- A definition without a citation is this project's profile.
 use Rattle.std.specs.Prelude.{◌≡◌, ◌≢◌, ℕ, zero, suc, ◌+◌, ◌<◌, ◌⊎◌, min, false, List, [], ◌∷◌}
 use Rattle.std.specs.Prelude.{◌++◌, length, map, take, drop, Some, None, unwrap_or, codes}
+use Rattle.std.specs.Int.{div_ceil}
 use Rattle.fax_bits.specs.Bits.{BeginsWith}
 use Rattle.fax_bits.specs.declared.Colour.{Colour}
 use Rattle.fax_page.specs.declared.Coding.{Coding}
@@ -10,7 +11,7 @@ use Rattle.fax_page.specs.CodedStrip.{coded_strip}
 use Rattle.fax_files.specs.declared.Cause.{Cause}
 use Rattle.fax_files.specs.declared.pbm.PbmFault.{PbmFault}
 use Rattle.fax_files.specs.declared.PageForm.{PageForm}
-use Rattle.fax_files.specs.Page.{Resolution, usual_resolution, strip_count, strip_form}
+use Rattle.fax_files.specs.Page.{Resolution, usual_resolution, strip_form}
 use Rattle.fax_files.specs.Written.{WrittenPage, file_of}
 use Rattle.fax_files.specs.Directory.{max_file}
 use Rattle.fax_files.specs.Pbm.{Image, AreImages, pbm_of}
@@ -102,7 +103,7 @@ written_form options coding source =
       aligned = options.aligned;
       exchanged = false;
       rows_per_strip = rows_per_strip;
-      strips = strip_count rows rows_per_strip;
+      strips = div_ceil rows rows_per_strip;
       x = source.resolution.x;
       y = source.resolution.y;
       unit = source.resolution.unit;

@@ -90,13 +90,11 @@ first_form at form =
     if at.row == 0 then Ok (at.page, 0)
     else (if nat_le at.row form.rows then Ok (at.page + 1, 0) else Err Outside)
 
-abbrev pub AreFormsBegun : List ℕ → Cursor → Result (ℕ × ℕ) End → Type 0
-AreFormsBegun file at = IsOnPage file at (λ here begin. begin ≡ first_form at here.form)
-
 -- what a reader of pages from a cursor hands out
 abbrev pub IsFormTail : List ℕ → Cursor → List FormItem → End → Type 0
 IsFormTail file at forms end =
-    (begin : Result (ℕ × ℕ) End) × AreFormsBegun file at begin
+    (begin : Result (ℕ × ℕ) End)
+    × IsOnPage file at (λ here begin. begin ≡ first_form at here.form) begin
     × AreBegun (IsForm file) begin forms end
 
 -- the cursor after a page

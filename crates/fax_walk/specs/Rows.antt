@@ -63,19 +63,16 @@ abbrev pub reference_of : ℕ → Option Inner → List Colour
 reference_of width None = white_row width
 reference_of width (Some inner) = inner.reference
 
--- the place of row r of a page: inside its strip, at a strip's first row, or on the page after
-abbrev pub place_on : PageForm → ℕ → ℕ → Inner → Place
-place_on form p r inner =
-    if nat_lt r form.rows
-    then (if row_in_strip form r == 0 then first_at p r
-    else record { page = p; row = r; inner = Some inner })
-    else first_at (p + 1) 0
-
--- the place after an item of a page
+-- the place after an item of a page: inside its strip, at the next one's first row, or on the page
+-- after
 abbrev pub place_after : PageForm → Item → Place
 place_after form item =
-    place_on form item.page (item.row + 1)
-    (record { bits = item.bits; reference = exchanged form item.pels })
+    let r = item.row + 1 in
+    let inner : Inner = record { bits = item.bits; reference = exchanged form item.pels } in
+    if nat_lt r form.rows
+    then (if row_in_strip form r == 0 then first_at item.page r
+    else record { page = item.page; row = r; inner = Some inner })
+    else first_at (item.page + 1) 0
 
 -- the row at a place, in these bytes of its strip
 pub record IsItem (form : PageForm) (bytes : List ℕ) (at : Place) (item : Item) : Type 0 where
@@ -87,13 +84,6 @@ pub record IsItem (form : PageForm) (bytes : List ℕ) (at : Place) (item : Item
       (drop (bits_before at.inner) (bits form.order bytes)) (exchanged form item.pels)
       (drop item.bits (bits form.order bytes))
 
--- no row is at a place, in these bytes of its strip, for this cause
-abbrev pub IsStop : PageForm → List ℕ → Place → StripFault → Type 0
-IsStop form bytes at fault =
-    IsCause (strip_form form (strip_at form at.row)) (row_in_strip form at.row)
-    (reference_of form.width at.inner)
-    (drop (bits_before at.inner) (bits form.order bytes)) fault
-
 -- the row at a place and the place after it, or the end, with what the file has of its strip
 abbrev pub IsInStrip : PageForm → Place → Option (List ℕ) → Result (Item × Place) End → Type 0
 IsInStrip form at None answer =
@@ -101,15 +91,16 @@ IsInStrip form at None answer =
 IsInStrip form at (Some bytes) (Ok (item, to)) =
     IsItem form bytes at item × (to ≡ place_after form item)
 IsInStrip form at (Some bytes) (Err end) =
-    (fault : StripFault) × IsStop form bytes at fault × (end ≡ Fault at.page at.row (Strip fault))
-
-abbrev pub cursor_at : Place → Cursor
-cursor_at at = record { page = at.page; row = at.row }
+    (fault : StripFault)
+    × IsCause (strip_form form (strip_at form at.row)) (row_in_strip form at.row)
+    (reference_of form.width at.inner)
+    (drop (bits_before at.inner) (bits form.order bytes)) fault
+    × (end ≡ Fault at.page at.row (Strip fault))
 
 -- the row at a place of a file and the place after it, or the end
 abbrev pub IsRow : List ℕ → Place → Result (Item × Place) End → Type 0
 IsRow file at =
-    IsOnPage file (cursor_at at) (λ here. IsInStrip here.form at
+    IsOnPage file (record { page = at.page; row = at.row }) (λ here. IsInStrip here.form at
     (strip_bytes here.endian file here.offset (strip_at here.form at.row)))
 
 -- where a walk from a cursor begins, and how many rows it reads before the cursor's: at the

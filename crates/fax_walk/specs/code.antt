@@ -9,3 +9,4 @@ pub mod OpenStrips
 pub mod Output
 pub mod Check
 pub mod Sources
+pub mod Places

@@ -1,6 +1,6 @@
 -- Bits that are read from a place on.
 use Rattle.std.specs.Prelude.{◌≡◌, ℕ, ◌+◌, ◌*◌, ◌<◌, ◌≤◌, Bool, true, false, List, ◌++◌, length}
-use Rattle.std.specs.Prelude.{slice_index_or, drop}
+use Rattle.std.specs.Prelude.{◌∷◌, slice_index_or, drop, replicate}
 use Rattle.fax_bits.specs.declared.FillOrder.{FillOrder}
 use Rattle.fax_bits.specs.Bits.{BeginsWith, bits}
 
@@ -21,3 +21,7 @@ IsTaken front b false rest = (rest ≡ b) × (BeginsWith b front → ⊥)
 -- the source goes on in the same bits: they end at the same place
 abbrev pub KeepsEnd : Source → Source → Type 0
 KeepsEnd old new = new.place + length new.left ≡ old.place + length old.left
+
+-- the bits begin with this many zeros and a 1 (T.4, section 4.1.3)
+abbrev pub HasZerosAhead : List Bool → ℕ → Type 0
+HasZerosAhead b zeros = (behind : List Bool) × (b ≡ replicate zeros false ++ true ∷ behind)

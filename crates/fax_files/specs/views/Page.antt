@@ -3,7 +3,11 @@
 use Rattle.std.specs.Prelude.{◌≡◌, ◌≢◌, ℕ, ◌<◌, ◌≤◌, true}
 use Rattle.fax_page.specs.declared.Coding.TheVariants.{Mmr}
 use Rattle.fax_files.specs.declared.PageForm.{PageForm}
-use Rattle.fax_files.specs.Page.{strip_count}
+use Rattle.std.specs.Int.{div_ceil}
+
+-- the number of strips: the rows divided by those of a strip, rounded up (TIFF 6.0, RowsPerStrip)
+abbrev pub strip_count : ℕ → ℕ → ℕ
+strip_count rows rows_per_strip = div_ceil rows rows_per_strip
 
 -- a rational with numerator and denominator above 0, of 32 bits each (TIFF 6.0, section 2)
 pub record IsGoodRational (value : ℕ × ℕ) : Type 0 where

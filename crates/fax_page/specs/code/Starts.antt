@@ -1,12 +1,12 @@
 -- What stands before a row's codes, and its codes, as they are read.
-use Rattle.std.specs.Prelude.{◌≡◌, ◌⊎◌, ℕ, Bool, true, false, List}
+use Rattle.std.specs.Prelude.{◌≡◌, ◌⊎◌, ◌<◌, ◌++◌, ℕ, Bool, true, false, List, replicate}
 use Rattle.fax_bits.specs.declared.Colour.{Colour}
 use Rattle.fax_bits.specs.Bits.{IsAllZeros}
 use Rattle.fax_rows.specs.declared.RowFault.{RowFault}
 use Rattle.fax_page.specs.declared.Dimension.{Dimension}
 use Rattle.fax_page.specs.declared.StripForm.{StripForm}
 use Rattle.fax_page.specs.declared.StripFault.{StripFault}
-use Rattle.fax_page.specs.declared.StripFault.TheVariants.{DataEnds, MissingEol}
+use Rattle.fax_page.specs.declared.StripFault.TheVariants.{DataEnds, EndMarker, MissingEol}
 use Rattle.fax_page.specs.Lines.{IsEndOfLine, BeginsBelowEleven, IsStartFault, IsNoFirstCode}
 use Rattle.fax_page.specs.Lines.{IsRowFaultIn, strip_fault}
 
@@ -30,3 +30,9 @@ pub record IsStop (dimension : Dimension) (width : ℕ) (reference : List Colour
   pub cause : RowFault
   pub in_codes : IsRowFaultIn dimension width reference b cause
   pub fault_is : fault ≡ strip_fault cause
+
+-- eleven zeros stand where a row's first code is due, or fewer zeros and nothing after them
+abbrev pub IsFirstCodeFault : List Bool → StripFault → Type 0
+IsFirstCodeFault b fault =
+    ((behind : List Bool) × (b ≡ replicate 11 false ++ behind) × (fault ≡ EndMarker))
+    ⊎ ((zeros : ℕ) × (zeros < 11) × (b ≡ replicate zeros false) × (fault ≡ DataEnds))

@@ -5,6 +5,7 @@ ghost use Rattle.std.specs.Prelude.{[], List, Bool, length, slice_index, IfSome,
 ghost use Rattle.fax_bits.specs.Codes.{IsRun};
 ghost use Rattle.fax_rows.specs.Rows.{other as other_than};
 ghost use Rattle.fax_rows.specs.Rows as Spec;
+ghost use Rattle.fax_rows.specs.code.Seen.{b2_from};
 ghost use Rattle.fax_rows.specs.code.PlacedRow.{placed_pels};
 ghost use Rattle.fax_rows.specs.code.Reached.{reached_pel, position_of};
 ghost use Rattle.fax_rows.specs.code.PlacedReached.{placed_position, IsReadTo};
@@ -74,7 +75,7 @@ pub(crate) fn pass(reference: PlacedRow, places: &[u32], at: PlacedReached) -> P
     requires unfinished { reached_pel at.reached < reference.width }
     ensures step { let from = placed_position reference.entry.width places.now at in
         placed_position reference.entry.width places.now result
-        ≡ Spec.coloured_up_to from (Spec.b2_from (placed_pels reference.entry) from) }
+        ≡ Spec.coloured_up_to from (b2_from (placed_pels reference.entry) from) }
     ensures so_far { IsReadTo reference.entry places.now result }
 {
     PlacedReached {

@@ -7,8 +7,7 @@ use Rattle.fax_rows.specs.Packed.{packed_len, packed_row}
 use Rattle.fax_page.specs.declared.Coding.{Coding}
 use Rattle.fax_page.specs.declared.Coding.TheVariants.{Mh, Mr, Mmr}
 use Rattle.fax_files.specs.declared.PageForm.{PageForm}
-use Rattle.fax_files.specs.views.Page.{IsGoodRational}
-use Rattle.fax_files.specs.Page.{strip_count}
+use Rattle.fax_files.specs.views.Page.{IsGoodRational, strip_count}
 use Rattle.fax_files.specs.Pbm.{head_bytes, pbm_of}
 use Rattle.fax_files.specs.laws.Pbm.{AreOfWidth}
 use Rattle.fax_files.specs.Written.{empty_file, with_pages}

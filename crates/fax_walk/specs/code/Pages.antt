@@ -1,5 +1,5 @@
 -- How far a reader of a file's pages has come.
-use Rattle.std.specs.Prelude.{◌≡◌, ℕ, ◌≤◌, List, length, Option, Some, None, Ok}
+use Rattle.std.specs.Prelude.{◌≡◌, ℕ, ◌≤◌, List, length, Option, Some, None, Result, Ok}
 use Rattle.fax_files.specs.views.Chain.{ChainState}
 use Rattle.fax_walk.specs.declared.cursor.Cursor.{Cursor}
 use Rattle.fax_walk.specs.declared.end.End.{End}
@@ -7,9 +7,13 @@ use Rattle.fax_walk.specs.declared.pages.PagesStage.{PagesStage}
 use Rattle.fax_walk.specs.declared.pages.PagesStage.TheVariants.{Before, After, Ended}
 use Rattle.fax_walk.specs.laws.InOrder.{LeadTo}
 use Rattle.fax_walk.specs.views.InOrder.{EndsAfter, HasToldNoOther}
-use Rattle.fax_walk.specs.Pages.{FormItem, IsForm, AreFormsBegun, IsFormTail}
+use Rattle.fax_walk.specs.Pages.{FormItem, IsForm, IsFormTail, IsOnPage, first_form}
 use Rattle.fax_walk.specs.views.Pages.{PagesView, IsTailOf}
 use Rattle.fax_walk.specs.code.Opening.{PageDue, IsChainBefore}
+
+-- where a reader of pages begins that has this cursor
+abbrev pub AreFormsBegun : List ℕ → Cursor → Result (ℕ × ℕ) End → Type 0
+AreFormsBegun file at = IsOnPage file at (λ here begin. begin ≡ first_form at here.form)
 
 -- how the pages ended, once that was told
 abbrev pub told_of : PagesStage → Option End

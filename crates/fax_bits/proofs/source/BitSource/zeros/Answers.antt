@@ -1,7 +1,6 @@
 use Rattle.std.proofs.Common.{◌≡◌, ◌%◌, drop, ap, sym, ◌∙◌, subst, arith}
-use Rattle.fax_bits.specs.Bits.{HasZerosAhead}
+use Rattle.fax_bits.specs.views.Source.{HasZerosAhead, Source}
 use Rattle.fax_bits.specs.code.BitsAhead.{bits_ahead}
-use Rattle.fax_bits.specs.views.Source.{Source}
 use Rattle.fax_bits.proofs.WordLemmas.{bits-from}
 use Rattle.fax_bits.proofs.source.BitSource.zeros.Goals as goal
 

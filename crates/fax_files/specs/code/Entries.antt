@@ -1,0 +1,18 @@
+-- Entries one by one (TIFF 6.0, section 2).
+use Rattle.std.specs.Prelude.{ℕ, ◌+◌, Bool, ◌==◌, ◌||◌, List}
+use Rattle.fax_files.specs.declared.Endian.{Endian}
+use Rattle.fax_files.specs.Directory.{Entry, LONG, SHORT, number_at}
+
+-- the entry of twelve bytes at a place
+abbrev pub entry_at : Endian → List ℕ → ℕ → Entry
+entry_at endian file place = record {
+  tag = number_at endian 2 file place;
+  kind = number_at endian 2 file (place + 2);
+  count = number_at endian 4 file (place + 4);
+  place = place + 8;
+}
+
+-- an entry's values are SHORT or LONG, which integers may be (ours)
+abbrev pub is_integer : Entry → Bool
+is_integer entry = (entry.kind == SHORT) || (entry.kind == LONG)
+
