@@ -78,14 +78,6 @@ pub none_given : {tail : List Line → End → Type 0} (begun : Begun) → IsOne
     → IsNextAfter tail begun given begun
 none_given begun one given none = rw none (record { lines = one.items; end = one.end; is = one.is; within = omega arith; next_is = refl })
 
--- what goes on after a number of lines is one
-pub next_is_one : {tail : List Line → End → Type 0} (begun : Begun) → IsOne tail → (given : ℕ) (next other : Begun)
-    → IsNextAfter tail begun given next → IsNextAfter tail begun given other → next ≡ other
-next_is_one begun one given next other is is_too =
-    let first = one.one is.lines is.end is.is in
-    let second = one.one is_too.lines is_too.end is_too.is in
-    is.next_is ∙ ap (λ (l : List Line). next_after begun (take given l)) (first.0 ∙ sym second.0) ∙ sym is_too.next_is
-
 abbrev long_at_place : Place → Option LongPlace
 long_at_place at = long_at at.page at.row at.inner
 

@@ -67,35 +67,9 @@ no_forms file at end (inr (here, page, above, end_is)) =
     let far : nat_le at.row here.form.rows ≡ false = grind (arith, nat_tests, above) in
     (Err end, (Ok here, page, rw (later, far, end_is) refl), (refl, refl))
 
--- a reader that begins with a page hands it out first
-pub due_first : (pages : PagesView) (result : Result PageDue End) → pages.told ≡ None → pages.given ≡ 0
-    → IfOk result (BeginsWith pages.file pages.begun) → IfOk result (IsDueIn pages)
-due_first pages (Ok due) untold none begins = record {
-  untold = untold;
-  come = record { first = due.page; begins = begins.begins; forms = []; lead = refl; count = sym none; few = omega (arith, none) };
-  file_is = begins.file_is;
-}
-due_first pages (Err end) untold none begins = begins
-
 no_other : (told : Option End) (end : End) → told ≡ None → HasToldNoOther told end
 no_other None end e = tt
 no_other (Some told) end e = absurd cc
-
-pub ends_first : (pages : PagesView) (result : Result PageDue End) → pages.told ≡ None → pages.given ≡ 0
-    → IfErr result (IsFormTail pages.file pages.begun []) → IfErr result (EndsNow pages)
-ends_first pages (Ok due) untold none ends = ends
-ends_first pages (Err end) untold none ends = (([], ends, sym none), no_other pages.told end untold)
-
--- the same for a reader that has handed out pages
-pub due_after : (pages : PagesView) (chain : ChainState) (result : Result PageDue End) → pages.told ≡ None
-    → HasGiven pages.file pages.begun pages.given chain.given × IsChainBefore pages.file chain.given chain
-    → IfOk result (IsPageAfter chain) → IfOk result (IsDueIn pages)
-due_after pages chain (Ok due) untold sound after = record {
-  untold = untold;
-  come = subst (HasGiven pages.file pages.begun pages.given) (sym after.0) sound.0;
-  file_is = after.1 ∙ sound.1.file_is;
-}
-due_after pages chain (Err end) untold sound after = after
 
 -- after the forms that lead to a page the pages end
 ended_after : (file : List ℕ) (begun : Cursor) (given p : ℕ) (end : End) → HasGiven file begun given p → IsForm file p (Err end)
