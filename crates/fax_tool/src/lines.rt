@@ -2,7 +2,6 @@
 ghost use Rattle.std.specs.Prelude.{◌≡◌, ◌<◌, ◌↔◌, ℕ, List, IfOk, None};
 ghost use Rattle.fax_walk.specs.laws.InOrder.{IsOne};
 ghost use Rattle.fax_walk.specs.views.Walk.{begins_inside};
-ghost use Rattle.fax_walk.specs.views.Pages.{pages_from};
 ghost use Rattle.fax_walk.specs.Rows.{begins_at};
 ghost use Rattle.fax_walk.specs.declared.begun.Begun.{Begun};
 ghost use Rattle.fax_walk.specs.declared.end.End.{End as TheEnd};
@@ -16,7 +15,6 @@ use crate::row_line::put_row_line;
 use fax_bits::Memory;
 use fax_walk::{Cursor, End, LongCursor, Pages, Walk, WalkFault};
 use std::alloc::Global;
-use std::marker::Model;
 
 /// Lines that are printed one after another. Contracts see all of them and the end after them,
 /// which no call changes, what they began with, how many were collected, and a number that each
@@ -110,41 +108,8 @@ impl Lines for Walk<'_> {
     }
 }
 
-/// A reader of pages, with its cursor after the page that it handed out last. Contracts see the
-/// reader.
-#[derive(Drop)]
-pub struct PageLines<'a> {
-    pages: Pages<'a>,
-}
-
-impl<'a> Model for PageLines<'a> {
-    ghost use Rattle.fax_walk.specs.views.Pages.{PagesView};
-    ghost use Rattle.fax_walk.specs.declared.begun.Begun.TheVariants.{At};
-    ghost use Rattle.fax_tool.specs.Run.{ArePageLines};
-    ghost use Rattle.fax_tool.specs.code.Printing.{IsNextAfter};
-
-    ghost Value = { PagesView };
-
-    ghost view = { λ lines. lines.pages };
-
-    ghost invariant = { λ lines. IsNextAfter (ArePageLines lines.pages.file lines.pages.begun)
-        (At lines.pages.begun) lines.pages.given (At lines.pages.cursor) };
-}
-
-impl<'a> PageLines<'a> {
-    /// The pages of a file from a cursor on. Nothing is read yet.
-    pub fn resume(file: &'a [u8], cursor: Cursor) -> Self
-        ensures { result ≡ pages_from file.now cursor }
-    {
-        fax_walk::laws::form_tails_are_one();
-        PageLines {
-            pages: Pages::resume(file, cursor),
-        }
-    }
-}
-
 /// A line for each page.
-impl Lines for PageLines<'_> {
+impl Lines for Pages<'_> {
     ghost use Rattle.std.specs.Prelude.{◌-◌, ◌^◌};
     ghost use Rattle.fax_walk.specs.declared.begun.Begun.TheVariants.{At};
     ghost use Rattle.fax_tool.specs.Run.{ArePageLines};
@@ -158,16 +123,18 @@ impl Lines for PageLines<'_> {
     ghost left = { λ pages. 2 ^ 32 - pages.given };
 
     fn cursor(&self) -> Cursor {
-        self.pages.cursor()
+        fax_walk::laws::form_tails_are_one();
+        Pages::cursor(self)
     }
 
     fn long_cursor(&self, _alloc: Global) -> Result<Option<LongCursor>, Memory> {
-        let _ = &self.pages;
+        fax_walk::laws::form_tails_are_one();
+        let _after = Pages::cursor(self);
         Ok(None)
     }
 
     fn put_next(&mut self, text: &mut Collected) -> Result<Option<End>, Memory> {
-        match self.pages.next_page() {
+        match self.next_page() {
             Ok(Some((page, form))) => {
                 put_page_line(text, page, &form)?;
                 Ok(None)

@@ -18,14 +18,14 @@ ghost use Rattle.fax_tool.specs.declared.words.Command.TheVariants.{List as Form
 
 use crate::collected::Collected;
 use crate::fault::{ErrorLine, end_line};
-use crate::lines::{Lines, PageLines};
+use crate::lines::Lines;
 use crate::refusal::Refusal;
 use crate::streams::{Sink, Source};
 use crate::transfer::{Interruptions, give_all, read_whole};
 use crate::words::Part;
 use arrayvec::ArrayString;
 use fax_bits::Memory;
-use fax_walk::{Begun, Cursor, End, Walk};
+use fax_walk::{Begun, Cursor, End, Pages, Walk};
 use std::alloc::Global;
 
 /// How many bytes of text are collected, and a line more, before they are written.
@@ -369,6 +369,6 @@ pub fn list<R: Source, W: Sink>(
 {
     fax_walk::laws::form_tails_are_one();
     let file = read_or_stop(alloc, part.cursor, input, out)?;
-    let mut pages = PageLines::resume(&file, part.cursor);
+    let mut pages = Pages::resume(&file, part.cursor);
     print_all(alloc, &mut pages, part.max, false, out)
 }

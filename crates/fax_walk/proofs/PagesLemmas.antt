@@ -80,13 +80,13 @@ ended_after file begun given p end come is = (
   ap (λ (l : List FormItem). length l) (append-nil come.forms) ∙ come.count,
 )
 
-pub ends_later : (file : List ℕ) (begun cursor : Cursor) (given : ℕ) (told : Option End) (chain : ChainState) (result : Result PageDue End)
+pub ends_later : (file : List ℕ) (begun : Cursor) (given : ℕ) (told : Option End) (chain : ChainState) (result : Result PageDue End)
     → told ≡ None
     → HasGiven file begun given chain.given × IsChainBefore file chain.given chain → IfErr result
     (λ end. IsForm chain.tiff.file chain.given (Err end))
-    → IfErr result (EndsNow (record { file = file; begun = begun; given = given; cursor = cursor; told = told }))
-ends_later file begun cursor given told chain (Ok due) untold sound after = after
-ends_later file begun cursor given told chain (Err end) untold sound after =
+    → IfErr result (EndsNow (record { file = file; begun = begun; given = given; told = told }))
+ends_later file begun given told chain (Ok due) untold sound after = after
+ends_later file begun given told chain (Err end) untold sound after =
     (ended_after file begun given chain.given end sound.0 (rw (sound.1.file_is) at after), no_other told end untold)
 
 number_of : (front : List FormItem) (item : FormItem) (more : List FormItem) (n : ℕ) → length front ≡ n
@@ -112,7 +112,7 @@ module _ (tails : CursorsHaveOneFormTail) (of_page : FormTailOfPage) where
   pub page_given : (pages : PagesView) (due : PageDue) → IsDueIn pages due → IsPageDue due.page due.chain due.directory due.form
       → due.page + 1 < 2 ^ 32
       → HandsOutPage pages (record { page = due.page; form = due.form })
-      (record pages { given = pages.given + 1; cursor = record { page = due.page + 1; row = 0 }; told = None })
+      (record pages { given = pages.given + 1; told = None })
   page_given pages due is its short =
       let item : FormItem = record { page = due.page; form = due.form } in
       let more = forms_on pages.file (due.page + 1) in
@@ -128,18 +128,13 @@ module _ (tails : CursorsHaveOneFormTail) (of_page : FormTailOfPage) where
         );
         limits = its.limits;
         few = omega (arith, is.come.few, short);
-        new_is = ap (λ (t : Option End). record pages {
-          given = pages.given + 1;
-          cursor = record { page = due.page + 1; row = 0 };
-          told =
-              t;
-        }) (sym is.untold);
+        new_is = ap (λ (t : Option End). record pages { given = pages.given + 1; told = t }) (sym is.untold);
       }
 
-  pub forms_left : (file : List ℕ) (begun cursor : Cursor) (given p : ℕ) → HasGiven file begun given p
+  pub forms_left : (file : List ℕ) (begun : Cursor) (given p : ℕ) → HasGiven file begun given p
       → (forms : List FormItem) × (end : End)
-      × AreFormsLeft (record { file = file; begun = begun; given = given; cursor = cursor; told = None }) forms end
-  forms_left file begun cursor given p come =
+      × AreFormsLeft (record { file = file; begun = begun; given = given; told = None }) forms end
+  forms_left file begun given p come =
       let more = forms_on file p in (
         more.0,
         more.1,
@@ -152,16 +147,16 @@ module _ (tails : CursorsHaveOneFormTail) (of_page : FormTailOfPage) where
         },
       )
 
-  pub forms_left_first : (file : List ℕ) (begun cursor : Cursor)
+  pub forms_left_first : (file : List ℕ) (begun : Cursor)
       → (forms : List FormItem) × (end : End)
-      × AreFormsLeft (record { file = file; begun = begun; given = 0; cursor = cursor; told = None }) forms end
-  forms_left_first file begun cursor =
+      × AreFormsLeft (record { file = file; begun = begun; given = 0; told = None }) forms end
+  forms_left_first file begun =
       let one = tails file begun in
       (one.items, one.end, record { all = one.items; is = one.is; within = omega arith; rest = refl; is_told = tt })
 
-pub forms_left_none : (file : List ℕ) (begun cursor : Cursor) (given : ℕ) (end : End) → EndsAfter (IsFormTail file begun) given end
-    → AreFormsLeft (record { file = file; begun = begun; given = given; cursor = cursor; told = Some end }) [] end
-forms_left_none file begun cursor given end (all, is, count) = record {
+pub forms_left_none : (file : List ℕ) (begun : Cursor) (given : ℕ) (end : End) → EndsAfter (IsFormTail file begun) given end
+    → AreFormsLeft (record { file = file; begun = begun; given = given; told = Some end }) [] end
+forms_left_none file begun given end (all, is, count) = record {
   all = all;
   is = is;
   within = omega (arith, count);
