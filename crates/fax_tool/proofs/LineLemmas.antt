@@ -1,6 +1,6 @@
 -- The lines of rows and of pages.
 use Rattle.std.proofs.Common.{◌≡◌, ℕ, zero, suc, ◌+◌, inl, inr, Bool, true, false, List, [], ◌∷◌, ◌++◌, take, drop, map}
-use Rattle.std.proofs.Common.{◌↔◌, Option, Some, None, Result, Ok, Err, refl, sym, ap, ◌∙◌, subst, arith}
+use Rattle.std.proofs.Common.{Option, Some, None, Result, Ok, Err, refl, sym, ap, ◌∙◌, subst, arith}
 use Rattle.std.proofs.lemmas.Option.{slice_get_within, slice_get-map}
 use Rattle.std.proofs.lemmas.List.{length-map}
 use Rattle.std.proofs.lemmas.Slice.Zip.{AllZip-long}
@@ -16,7 +16,6 @@ use Rattle.fax_walk.specs.declared.begun.Begun.{Begun}
 use Rattle.fax_walk.specs.declared.begun.Begun.TheVariants.{At}
 use Rattle.fax_walk.specs.declared.cursor.Cursor.{Cursor}
 use Rattle.fax_walk.specs.declared.end.End.{End}
-use Rattle.fax_walk.specs.declared.end.End.TheVariants.{Proper, Fault, Outside}
 use Rattle.fax_walk.specs.declared.end.WalkFault.{WalkFault}
 use Rattle.fax_walk.specs.declared.end.WalkFault.TheVariants.{Memory, AtRow, CursorOutside}
 use Rattle.fax_walk.specs.Cursors.{LongPlace}
@@ -24,7 +23,7 @@ use Rattle.fax_walk.specs.Pages.{AreFrom, AreBegun, FilePage, FormItem, IsFormTa
 use Rattle.fax_walk.specs.views.InOrder.{IsNumber, EndsAfter}
 use Rattle.fax_walk.specs.laws.InOrder.{IsOne}
 use Rattle.fax_walk.specs.views.Walk.{WalkView, HasEndedAs, IsNext, IsCursorOf, IsItemNumber, IsLongOf, begins_inside}
-use Rattle.fax_walk.specs.views.Pages.{PagesView, HandsOutPage, IsNextPage, PagesHaveEnded, pages_from}
+use Rattle.fax_walk.specs.views.Pages.{PagesView, HandsOutPage, IsCursorOf as IsPageCursor, IsNextPage, PagesHaveEnded}
 use Rattle.fax_walk.specs.laws.Tails.{BeginningsHaveOneTail, CursorsHaveOneFormTail, CursorsNameOnePage}
 use Rattle.fax_walk.specs.Pages.{FilePage, FormItem, IsFormTail, IsPageAt}
 use Rattle.fax_walk.specs.Rows.{Item, Place, IsInStrip, IsRow, IsTailFrom, begins_at, cursor_after, exchanged, first_at, long_after, long_at}
@@ -78,14 +77,6 @@ next_at begun lines n line there = ap (next_after begun) (take_at lines n line t
 pub none_given : {tail : List Line → End → Type 0} (begun : Begun) → IsOne tail → (given : ℕ) → given ≡ 0
     → IsNextAfter tail begun given begun
 none_given begun one given none = rw none (record { lines = one.items; end = one.end; is = one.is; within = omega arith; next_is = refl })
-
--- what goes on after a number of lines is one
-pub next_is_one : {tail : List Line → End → Type 0} (begun : Begun) → IsOne tail → (given : ℕ) (next other : Begun)
-    → IsNextAfter tail begun given next → IsNextAfter tail begun given other → next ≡ other
-next_is_one begun one given next other is is_too =
-    let first = one.one is.lines is.end is.is in
-    let second = one.one is_too.lines is_too.end is_too.is in
-    is.next_is ∙ ap (λ (l : List Line). next_after begun (take given l)) (first.0 ∙ sym second.0) ∙ sym is_too.next_is
 
 abbrev long_at_place : Place → Option LongPlace
 long_at_place at = long_at at.page at.row at.inner
@@ -292,26 +283,12 @@ pub row_places : BeginningsHaveOneTail → CursorsNameOnePage → (walk : WalkVi
 row_places tails pages walk (Ok place) is = row_place tails pages walk place is
 row_places tails pages walk (Err memory) is = tt
 
--- a reader of pages stands after the page that it handed out last
-abbrev pub Stands : PagesView → Type 0
-Stands pages = IsNextAfter (ArePageLines pages.file pages.begun) (At pages.begun) pages.given (At pages.cursor)
-
-pub first_stands : CursorsHaveOneFormTail → (pages : PagesView) (file : List ℕ) (at : Cursor) → pages ≡ pages_from file at → Stands pages
-first_stands tails pages file at is = rw is (none_given (At at) (one_pages file tails at) 0 refl)
-
-still : (old new : PagesView) (end : End) → PagesHaveEnded old end new → Stands old → Stands new
-still old new end ended stands = rw ended.new_is stands
-
-pub pages_stand : (old new : PagesView) (answer : Result (Option (ℕ × PageForm)) WalkFault) → IsNextPage old answer new → Stands old
-    → Stands new
-pages_stand old new (Ok (Some found)) hands stands =
-    let item : FormItem = record { page = found.0; form = found.1 } in
-    rw hands.new_is (after_number (At old.begun) old.given (line_of_page item)
-    (page_number old.file old.begun old.given item hands.number))
-pages_stand old new (Ok None) ended stands = still old new Proper ended stands
-pages_stand old new (Err (AtRow page row cause)) ended stands = still old new (Fault page row cause) ended stands
-pages_stand old new (Err CursorOutside) ended stands = still old new Outside ended stands
-pages_stand old new (Err Memory) ended stands = absurd ended
+-- the cursor after so many pages
+pub page_cursor : CursorsHaveOneFormTail → (pages : PagesView) (at : Cursor) → IsPageCursor pages at
+    → IsNextAfter (ArePageLines pages.file pages.begun) (At pages.begun) pages.given (At at)
+page_cursor tails pages at (inl (none, is)) = rw is (none_given (At pages.begun) (one_pages pages.file tails pages.begun) pages.given none)
+page_cursor tails pages at (inr (before, item, count, number, is)) =
+    rw (is, count) (after_number (At pages.begun) before (line_of_page item) (page_number pages.file pages.begun before item number))
 
 abbrev pub IsPagePut : PagesView → PagesView → List ℕ → Result (Option End) NoMemory → List ℕ → Type 0
 IsPagePut old new text answer new_text = IsLinePut (ArePageLines old.file old.begun) old.given text answer new.given new_text
@@ -338,19 +315,6 @@ pub pages_refused : (old new : PagesView) (fault : WalkFault) (end : End) (text 
 pages_refused old new (AtRow page row cause) end text ended is = pages_ended old new end text (rw (some_is is) at ended)
 pages_refused old new CursorOutside end text ended is = pages_ended old new end text (rw (some_is is) at ended)
 pages_refused old new Memory end text ended is = absurd (none_is is)
-
-still_same : (old new : PagesView) (end : End) → PagesHaveEnded old end new → (lines : List Line) (met : End)
-    → ArePageLines old.file old.begun lines met ↔ ArePageLines new.file new.begun lines met
-still_same old new end ended lines met = rw ended.new_is (λ are. are, λ are. are)
-
--- all pages of a reader stay the same
-pub same_pages : (old new : PagesView) (answer : Result (Option (ℕ × PageForm)) WalkFault) → IsNextPage old answer new
-    → (lines : List Line) (end : End) → ArePageLines old.file old.begun lines end ↔ ArePageLines new.file new.begun lines end
-same_pages old new (Ok (Some found)) hands lines end = rw hands.new_is (λ are. are, λ are. are)
-same_pages old new (Ok None) ended lines end = still_same old new Proper ended lines end
-same_pages old new (Err (AtRow page row cause)) ended lines end = still_same old new (Fault page row cause) ended lines end
-same_pages old new (Err CursorOutside) ended lines end = still_same old new Outside ended lines end
-same_pages old new (Err Memory) ended lines end = absurd ended
 
 -- the rows ended so
 pub rows_refused : (old new : WalkView) (fault : WalkFault) (end : End) → IsNext old (Err fault) new → end_of fault ≡ Some end

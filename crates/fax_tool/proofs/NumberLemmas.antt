@@ -33,6 +33,8 @@ length_three n low high = ap length (three_digits n low high)
 pub length_four : (n : ℕ) → 1000 ≤ n → n < 10000 → length (decimal n) ≡ 4
 length_four n low high = ap length (four_digits n low high)
 
+pub ruleset lengths = (length_two, length_three, length_four)
+
 -- a run and any other number have so many digits at most
 pub length_short : (n : ℕ) → n < 2 ^ 16 → length (decimal n) ≤ 5
 length_short n short = length-decimal-le 5 n (omega arith) (omega arith) (omega arith)

@@ -72,10 +72,6 @@ one_less_left None (Some left) count is some = absurd is
 one_less_left (Some limit) None count is some = absurd is
 one_less_left (Some limit) (Some left) count is some = omega arith
 
-at_limit : (max : Option ℕ) (count : ℕ) → IsLeftOf max (Some 0) count → max ≡ Some count
-at_limit None count is = absurd is
-at_limit (Some limit) count is = let same : limit ≡ count = omega (arith, is) in ap (λ n. Some n) same
-
 below_limit : (max left : Option ℕ) (count : ℕ) → IsLeftOf max left count → IfSome left (λ n. 0 < n) → IfSome max (λ limit. count < limit)
 below_limit None left count is above = tt
 below_limit (Some limit) None count is above = absurd is
@@ -135,16 +131,6 @@ module _ (tail now : List Line → End → Type 0) (one : IsOne tail) (given : �
       → Appends output new_written (texts_of (take given some.lines))
   all_written new_written moved =
       rw some.collected (Appends-trans output written new_written some.sent text some.printed moved)
-
-  pub ended_at_limit : (new_written : Option (List ℕ)) → left ≡ Some 0 → Appends written new_written text
-      → PrintsLines tail max None given output new_written
-  ended_at_limit new_written none_left moved = record {
-    lines = some.lines;
-    end = some.end;
-    is = some.is;
-    ends = (at_limit max given (rw none_left at some.limit), some.within);
-    printed = all_written new_written moved;
-  }
 
   pub ended_at_end : (end : End) (new_given : ℕ) (new_written : Option (List ℕ)) (new_text : List ℕ) → IfSome left (λ n. 0 < n)
       → EndsAfter now given end → new_given ≡ given → new_text ≡ text → Appends written new_written new_text

@@ -12,13 +12,13 @@ use Rattle.fax_walk.specs.declared.begun.Begun.TheVariants.{At, Inside}
 use Rattle.fax_walk.specs.declared.cursor.Cursor.{Cursor}
 use Rattle.fax_walk.specs.declared.end.End.{End}
 use Rattle.fax_walk.specs.declared.end.End.TheVariants.{Fault, Outside, Proper}
-use Rattle.fax_walk.specs.Cursors.{IsCursor, cursor_text, LongPlace, long_cursor_text}
+use Rattle.fax_walk.specs.Cursor.{IsCursor}
+use Rattle.fax_walk.specs.LongCursor.{LongPlace}
 use Rattle.fax_walk.specs.laws.Cursors.{CursorsAreShort, PlacesAreShort, TextsNameOne}
 use Rattle.fax_walk.specs.laws.Tails.{BeginningsHaveOneTail, CursorsNameOnePage, IsReached, LongTailsGoOn, PlacesAreReached, TailsGoOn}
 use Rattle.fax_walk.specs.Pages.{FilePage, IsPageAt}
 use Rattle.fax_walk.specs.Rows.{Item, IsTailFrom, cursor_after, long_after}
 use Rattle.fax_tool.specs.Run.{AreRowLines, IsRowLine}
-use Rattle.fax_files.specs.Directory.{max_file}
 use Rattle.fax_tool.specs.Text.{Line, Printed, begun_at, begun_text, first_text, last_line, line_end, named, next_after, next_line, text_of}
 use Rattle.fax_tool.specs.Text.{texts_of, whole_text}
 use Rattle.fax_tool.specs.laws.Runs.{AreAsOneRun, AreRunsOfRows, CutRunsAreReadOn, IsBegun, IsReadAfter, IsRunOfRows, MayBegin, RunsGoOn, is_cut, up_to}

@@ -8,7 +8,8 @@ use Rattle.fax_tool.specs.declared.refusal.Refusal.TheVariants.{Memory, Read, Wr
 use Rattle.fax_tool.specs.Run.{Counts, Output, HasWorked, LeavesText}
 use Rattle.fax_tool.specs.views.Streams.{output_after}
 use Rattle.fax_tool.specs.Text.{Printed}
-use Rattle.fax_tool.specs.code.Outcome.{StopsPrinting, StopsWith}
+use Rattle.fax_tool.specs.Run.{LeavesText}
+use Rattle.fax_tool.specs.code.Outcome.{StopsPrinting}
 use Rattle.fax_tool.specs.code.Transfers.{IsGivenInPart}
 
 pub if_some : {A : Type 0} (P : A → Type 0) (left : Option A) → ((x : A) → P x) → IfSome left P
@@ -87,11 +88,6 @@ stops_in_front first old new bytes more counts refusal holds given =
       reason = given.failed;
       leaves = (given.front.front, (given.front.rest ++ more, inr (subst first parts holds)), given.front.written);
     })
-
--- all of a text was given where memory was refused
-pub stops_with : (old new : Option (List ℕ)) (text : List ℕ) (counts : Counts) → HasWorked counts → Appends old new text
-    → StopsWith text Memory (output_after old new counts)
-stops_with old new text counts worked moved = record { reason = worked; leaves = (text, refl, moved) }
 
 -- such a text was given in part
 pub stops_at : (is : Printed → Type 0) (first : List ℕ → Type 0) (old new : Option (List ℕ)) (bytes : List ℕ) (counts : Counts)

@@ -1,16 +1,15 @@
 -- Bytes that move in several calls.
-use Rattle.std.proofs.Common.{◌≡◌, ℕ, ◌+◌, ◌-◌, ◌≤◌, arith, List, [], ◌++◌}
-use Rattle.std.proofs.Common.{append-nil, refl, length, take, drop, ap, sym, ◌∙◌, append_assoc, length-drop}
+use Rattle.std.proofs.Common.{◌≡◌, ℕ, ◌+◌, ◌-◌, ◌≤◌, arith, List, ◌++◌}
+use Rattle.std.proofs.Common.{refl, length, take, drop, ap, sym, ◌∙◌, append_assoc, length-drop}
 use Rattle.std.proofs.Common.{take-append-drop}
 use Rattle.std.proofs.Math.Seq.{take-length}
-use Rattle.std.proofs.KnownBytes.{Appends-nil, Appends-trans, Appends-kept}
+use Rattle.std.proofs.KnownBytes.{Appends-trans}
 use Rattle.std.specs.Prelude.{Option, Result, Ok, Err, IfErr, ⊤}
-use Rattle.std.specs.Io.KnownBytes.{Appends, Keeps}
+use Rattle.std.specs.Io.KnownBytes.{Appends}
 use Rattle.fax_tool.specs.declared.refusal.Refusal.{Refusal}
-use Rattle.fax_tool.specs.Run.{Counts, IsRead, most_interrupted}
-use Rattle.fax_files.specs.Directory.{max_file}
-use Rattle.fax_tool.specs.views.Streams.{capped_sum, input_after}
-use Rattle.fax_tool.specs.code.Transfers.{counted, IsGivenInPart, SendsPart, WritesFront}
+use Rattle.fax_tool.specs.Streams.{Counts, capped_sum, input_after}
+use Rattle.fax_tool.specs.Run.{IsRead, most_input, most_interrupted}
+use Rattle.fax_tool.specs.code.Transfers.{counted, IsGivenInPart}
 
 -- some front of the bytes is written
 pub record IsPartWritten (old new : Option (List ℕ)) (bytes rest : List ℕ) : Type 0 where
@@ -30,15 +29,6 @@ more_written old mid new bytes rest n part appends = rw (rest_behind rest n) (re
       part.parts ∙ ap (λ xs. part.front ++ xs) (sym (take-append-drop n rest)) ∙ sym (append_assoc part.front (take n rest) (drop n rest));
   written = Appends-trans old mid new part.front (take n rest) part.written appends;
 })
-
-pub kept_written : (old mid new : Option (List ℕ)) (bytes rest : List ℕ) → IsPartWritten old mid bytes rest → Keeps mid new
-    → IsPartWritten old new bytes rest
-kept_written old mid new bytes rest part keeps =
-    record { front = part.front; parts = part.parts; written = Appends-kept old mid new part.front part.written keeps }
-
-pub front_written : (old new : Option (List ℕ)) (bytes rest : List ℕ) → IsPartWritten old new bytes rest → WritesFront old new bytes
-front_written old new bytes rest part =
-    record { front = part.front; rest = rest; parts = part.parts; written = part.written }
 
 pub second_given : (old mid new : Option (List ℕ)) (first second : List ℕ) → Appends old mid first → Appends mid new second
     → Appends old new (first ++ second)
@@ -78,12 +68,6 @@ pub second_given_err : (old mid new : Option (List ℕ)) (first second : List �
 second_given_err old mid new first second counts (Ok done) given is = tt
 second_given_err old mid new first second counts (Err refusal) given is =
     second_given_in_part old mid new first second counts refusal given is
-
-pub none_sent : (known : Option (List ℕ)) (text : List ℕ) → SendsPart known known text text
-none_sent known text = record { part = []; parts = refl; written = Appends-nil known }
-
-pub all_sent : (old new : Option (List ℕ)) (text left : List ℕ) → Appends old new text → left ≡ [] → SendsPart old new text left
-all_sent old new text left given none = rw none (record { part = text; parts = sym (append-nil text); written = given })
 
 -- an input of which so much was taken has worked
 pub still_read : (bytes : Option (List ℕ)) (new old : Counts) (interruptions taken more new_taken : ℕ) → interruptions ≤ most_interrupted

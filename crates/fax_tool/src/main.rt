@@ -3,22 +3,14 @@
 //! The program is `run` over `parse_words`: `main` only gathers the words and opens the streams.
 #![tactic(auto)]
 
-mod check;
-mod collected;
-mod convert;
-mod fault;
+mod commands;
 pub mod laws;
-mod lines;
-mod page_line;
-mod print;
 mod refusal;
-mod row_line;
 mod run;
-mod short;
 mod streams;
 #[cfg(test)]
 mod tests;
-mod transfer;
+mod text;
 mod words;
 
 pub use fax_bits::{FillOrder, Memory};

@@ -4,13 +4,13 @@ ghost use Rattle.fax_tool.specs.code.Outcome.{IsDone, IsReported, IsSaid, IsStop
 ghost use Rattle.fax_tool.specs.Run.{IsRefused, WritesText};
 ghost use Rattle.fax_tool.specs.views.Streams.{input_after, no_faults, output_after};
 
-use crate::check::check;
-use crate::convert::convert;
-use crate::fault::ErrorLine;
-use crate::print::{list, rows};
+use crate::commands::check::check;
+use crate::commands::convert::convert;
+use crate::commands::print::{list, rows};
 use crate::refusal::Refusal;
+use crate::streams::transfer::{Interruptions, give_all};
 use crate::streams::{Sink, Source};
-use crate::transfer::{Interruptions, give_all};
+use crate::text::fault::ErrorLine;
 use crate::words::{Command, Job};
 use std::alloc::Global;
 

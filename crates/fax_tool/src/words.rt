@@ -19,7 +19,7 @@ ghost use Rattle.fax_tool.specs.code.Entries.{HasEntries, HasFlag, HasNumber, Ha
 ghost use Rattle.fax_tool.specs.code.Entries.{IsApp, entries_of};
 
 use crate::streams::Sink;
-use crate::transfer::{Interruptions, give_all};
+use crate::streams::transfer::{Interruptions, give_all};
 use clap::builder::ValueParser;
 use clap::error::ErrorKind;
 use clap::{Arg, ArgAction, ArgMatches, value_parser};

@@ -11,12 +11,11 @@ use Rattle.fax_files.specs.declared.pbm.PbmFault.{PbmFault}
 use Rattle.fax_files.specs.Pbm.{Image, IsImage, IsImageFault, AreImages, raster_rows}
 use Rattle.fax_files.specs.laws.Pbm.{AreOfWidth, ImagesAreReadInOneWay, ImagesBeginInOneWay}
 use Rattle.fax_walk.specs.declared.options.Options.{Options}
-use Rattle.fax_walk.specs.declared.options.ConvertFault.TheVariants.{OutputTooLarge}
 use Rattle.fax_walk.specs.declared.output.Output.{Output}
 use Rattle.fax_walk.specs.declared.output.Output.TheVariants.{TooLarge}
-use Rattle.fax_walk.specs.Converted.{SourcePage, IsPbm, page_of_image, target_bytes, IsTooLarge, IsConverted, IsNotConverted}
+use Rattle.fax_walk.specs.Converted.{SourcePage, IsPbm, page_of_image}
 use Rattle.fax_walk.specs.code.Conversion.{IsImageCount}
-use Rattle.fax_walk.specs.code.Output.{Progress, IsWrittenTo, IsBeginning, IsWhole}
+use Rattle.fax_walk.specs.code.Output.{Progress, IsWrittenTo, IsBeginning}
 use Rattle.fax_walk.specs.code.Sources.{PutsImage, AreImagesWritten}
 
 pub raster_count : (width n : ℕ) (bytes : List ℕ) → length (raster_rows width n bytes) ≡ n
@@ -70,12 +69,6 @@ image_left_out output width height raster large enough = λ at written. record {
   widths = raster_widths width height raster enough;
   has = rw large (rw large at written.has);
 }
-
-some_by : (images : List Image) (bytes : List ℕ) → IsPbm bytes → AreImages bytes images None → (total : ℕ) → length images ≡ total
-    → 1 ≤ total
-some_by [] bytes pbm (inl none) total count = let spelled = sym none.0 ∙ pbm.1 in absurd cc
-some_by [] bytes pbm (inr fault) total count = absurd cc
-some_by (image ∷ images) bytes pbm are total count = omega (arith, count)
 
 -- no image stands in no bytes
 no_bytes : (image : Image) (rest : List ℕ) → IsImage [] image rest → ⊥
@@ -150,26 +143,3 @@ module _ (bytes left : List ℕ) (options : Options) (total count : ℕ) (output
   -- after the last image
   pub all_written : count ≡ total → length at.pages ≡ total
   all_written last = length-map so_far.before page_of_image ∙ so_far.count_is ∙ last
-
-  whole_source : count ≡ total → AreImages bytes so_far.before None
-  whole_source last =
-      let none : so_far.rest ≡ [] =
-      nil_from_length so_far.rest (omega (arith, length-append so_far.before so_far.rest, so_far.total_is, so_far.count_is)) in
-      subst (λ (l : List Image). AreImages bytes l None) (ap (λ (l : List Image). so_far.before ++ l) none ∙ append-nil so_far.before)
-      so_far.all
-
-  pub converted_images : IsPbm bytes → count ≡ total → (result : List ℕ) → IsWhole at result → IsConverted bytes options result
-  converted_images pbm last result whole = record {
-    pages = at.pages;
-    source = inl (pbm, so_far.before, whole_source last, refl);
-    output_is = whole.bytes_are;
-    fits = whole.fits;
-  }
-
-  pub refused_images : IsPbm bytes → count ≡ total → IsTooLarge options.target at.pages (target_bytes options.target options at.pages)
-      → IsNotConverted bytes options OutputTooLarge
-  refused_images pbm last large = (at.pages, inl (pbm, so_far.before, whole_source last, refl), large)
-
--- a file of images has one
-pub some_images : (bytes : List ℕ) (total : ℕ) → IsPbm bytes → IsImageCount bytes total → 1 ≤ total
-some_images bytes total pbm counted = some_by counted.images bytes pbm counted.are total counted.count_is

@@ -76,9 +76,8 @@ module _ {A : Type 0} (tail : List A → End → Type 0) (one : IsOne tail) wher
 
 pub forms_left_go_on : CursorsHaveOneFormTail → FormsLeftGoOn
 forms_left_go_on tails old new item forms end hands left =
-    let next : AreFormsLeft (record old { given = old.given + 1; cursor = new.cursor }) forms end =
-    let cursors : new.cursor ≡ new.cursor = refl in
-    subst (λ (v : PagesView). AreFormsLeft (record v { cursor = new.cursor }) forms end) hands.new_is left in
+    let next : AreFormsLeft (record old { given = old.given + 1 }) forms end =
+    subst (λ (v : PagesView). AreFormsLeft v forms end) hands.new_is left in
     left_on (OfPages.IsTailOf old) (tails old.file old.begun) old.given old.told old.told item forms end hands.untold hands.number next
 
 pub forms_left_end : CursorsHaveOneFormTail → FormsLeftEnd

@@ -1,5 +1,5 @@
 -- A long cursor's text is cut at its colons and commas, and its numbers are read.
-use Rattle.std.proofs.Common.{◌≡◌, ◌≢◌, ℕ, ◌^◌, ◌<◌, ◌-◌, List, [], ◌∷◌, ◌++◌, length, get_or, refl, ap, sym, ◌∙◌, append_assoc}
+use Rattle.std.proofs.Common.{◌≡◌, ◌≢◌, ℕ, ◌^◌, ◌<◌, ◌-◌, List, [], ◌∷◌, ◌++◌, length, get_or, ap, sym, ◌∙◌, append_assoc}
 use Rattle.std.proofs.Common.{length-append, arith}
 use Rattle.std.specs.Prelude.{Option, MatchOption, Some, None, decimal, flat_map}
 use Rattle.std.specs.Borrow.{Bor}
@@ -65,9 +65,6 @@ pub record IsRunText (text : List ℕ) : Type 0 where
 pub record AreRunsCut (text runs rest : List ℕ) : Type 0 where
   pub parts : text ≡ flat_map run_and runs ++ rest
   pub others : IsRunsText text → IsRunsText rest
-
-pub none_cut : (text : List ℕ) → AreRunsCut text [] text
-none_cut text = record { parts = refl; others = λ is. is }
 
 -- the text before a comma is a run's, and after it stand the others
 before_comma : (rest : List ℕ) (run behind : Bor (List ℕ)) → IsSplitOnceResult 44 rest (Some (run, behind))

@@ -6,7 +6,7 @@ use Rattle.std.proofs.Math.Nat.{mul-le-mul_right, mod-eq-sub-div-mul, div-add-mo
 use Rattle.std.proofs.lemmas.Bool.{cases_lt}
 use Rattle.std.proofs.lemmas.Bool.Decides.{nat_tests}
 use Rattle.std.proofs.lemmas.Grind.{div_ceil_times}
-use Rattle.std.specs.Prelude.{IfOk, IfErr, nat_lt, nat_le, ◌==◌}
+use Rattle.std.specs.Prelude.{IfOk, IfErr, nat_lt, ◌==◌}
 use Rattle.fax_bits.specs.declared.Colour.{Colour}
 use Rattle.fax_bits.specs.declared.Colour.TheVariants.{White}
 use Rattle.fax_bits.specs.Bits.{bits}
@@ -512,19 +512,3 @@ module _ (page : PageState) (limits : IsPageForm page.form) (within : page.numbe
     inside =
         at_inner page.form page.page (row_of page) _ (row_below page limits strip_is due)
         (omega (arith, some, (numbers page limits strip_is due).1))
-
-    pub long_some : page.strip.place ≤ 4294967295
-        → Some (record {
-          at = record { page = page.page; row = row_of page };
-          bits = page.strip.place;
-          runs = runs_of page.strip.reference;
-        })
-        ≡ long_of
-    long_some few =
-        let test : nat_le page.strip.place 4294967295 ≡ true = grind (arith, nat_tests, few) in
-        rw (inside, test) refl
-
-    pub long_far : 4294967295 < page.strip.place → None ≡ long_of
-    long_far far =
-        let test : nat_le page.strip.place 4294967295 ≡ false = grind (arith, nat_tests, far) in
-        rw (inside, test) refl

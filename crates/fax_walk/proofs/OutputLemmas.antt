@@ -143,21 +143,6 @@ image_row part row old new has due width new_is =
       fits = omega (arith, has.fits, size, room);
     }
 
--- an image is ended
-pub image_ended : (part : Part) (bytes : List ℕ) → HasImageRows bytes part → length part.rows ≡ part.sheet.rows
-    → HasImages bytes (behind part)
-image_ended part bytes has all =
-    let page = page_of part.sheet part.rows in
-    let images = map (λ (page : SourcePage). page.image) part.at.pages in
-    let head = ap (λ (n : ℕ). head_bytes part.sheet.width n ++ flat_map packed_row part.rows) (sym all) in
-    record {
-      target = has.target;
-      bytes_are = has.bytes_are ∙ ap (λ (l : List ℕ). pbm_of images ++ l) head
-          ∙ flat_map_more image_bytes [] images page.image
-          ∙ ap pbm_of (sym (map-append (λ (page : SourcePage). page.image) part.at.pages (page ∷ [])));
-      fits = omega (arith, has.fits);
-    }
-
 pages_append : (old : Written) (total k : ℕ) (pages more : List WrittenPage)
     → with_pages old total k (pages ++ more) ≡ with_pages (with_pages old total k pages) total (k + length pages) more
 unfolding with_pages

@@ -68,35 +68,9 @@ no_forms file at end (inr (here, page, above, end_is)) =
     let far : nat_le at.row here.form.rows ≡ false = grind (arith, nat_tests, above) in
     (Err end, (Ok here, page, rw (later, far, end_is) refl), (refl, refl))
 
--- a reader that begins with a page hands it out first
-pub due_first : (pages : PagesView) (result : Result PageDue End) → pages.told ≡ None → pages.given ≡ 0
-    → IfOk result (IsFirstDue pages.file pages.begun) → IfOk result (IsDueIn pages)
-due_first pages (Ok due) untold none begins = record {
-  untold = untold;
-  come = record { first = due.page; begins = begins.begins; forms = []; lead = refl; count = sym none; few = omega (arith, none) };
-  file_is = begins.file_is;
-}
-due_first pages (Err end) untold none begins = begins
-
 no_other : (told : Option End) (end : End) → told ≡ None → HasToldNoOther told end
 no_other None end e = tt
 no_other (Some told) end e = absurd cc
-
-pub ends_first : (pages : PagesView) (result : Result PageDue End) → pages.told ≡ None → pages.given ≡ 0
-    → IfErr result (IsFormTail pages.file pages.begun []) → IfErr result (EndsNow pages)
-ends_first pages (Ok due) untold none ends = ends
-ends_first pages (Err end) untold none ends = (([], ends, sym none), no_other pages.told end untold)
-
--- the same for a reader that has handed out pages
-pub due_after : (pages : PagesView) (chain : ChainState) (result : Result PageDue End) → pages.told ≡ None
-    → HasGiven pages.file pages.begun pages.given chain.given × IsChainBefore pages.file chain.given chain
-    → IfOk result (IsPageAfter chain) → IfOk result (IsDueIn pages)
-due_after pages chain (Ok due) untold sound after = record {
-  untold = untold;
-  come = subst (HasGiven pages.file pages.begun pages.given) (sym after.0) sound.0;
-  file_is = after.1 ∙ sound.1.file_is;
-}
-due_after pages chain (Err end) untold sound after = after
 
 -- after the forms that lead to a page the pages end
 ended_after : (file : List ℕ) (begun : Cursor) (given p : ℕ) (end : End) → HasGiven file begun given p → IsForm file p (Err end)
@@ -107,13 +81,13 @@ ended_after file begun given p end come is = (
   ap (λ (l : List FormItem). length l) (append-nil come.forms) ∙ come.count,
 )
 
-pub ends_later : (file : List ℕ) (begun cursor : Cursor) (given : ℕ) (told : Option End) (chain : ChainState) (result : Result PageDue End)
+pub ends_later : (file : List ℕ) (begun : Cursor) (given : ℕ) (told : Option End) (chain : ChainState) (result : Result PageDue End)
     → told ≡ None
     → HasGiven file begun given chain.given × IsChainBefore file chain.given chain → IfErr result
     (λ end. IsForm chain.tiff.file chain.given (Err end))
-    → IfErr result (EndsNow (record { file = file; begun = begun; given = given; cursor = cursor; told = told }))
-ends_later file begun cursor given told chain (Ok due) untold sound after = after
-ends_later file begun cursor given told chain (Err end) untold sound after =
+    → IfErr result (EndsNow (record { file = file; begun = begun; given = given; told = told }))
+ends_later file begun given told chain (Ok due) untold sound after = after
+ends_later file begun given told chain (Err end) untold sound after =
     (ended_after file begun given chain.given end sound.0 (rw (sound.1.file_is) at after), no_other told end untold)
 
 number_of : (front : List FormItem) (item : FormItem) (more : List FormItem) (n : ℕ) → length front ≡ n
@@ -139,7 +113,7 @@ module _ (tails : CursorsHaveOneFormTail) (of_page : FormTailOfPage) where
   pub page_given : (pages : PagesView) (due : PageDue) → IsDueIn pages due → IsPageDue due.page due.chain due.directory due.form
       → due.page + 1 < 2 ^ 32
       → HandsOutPage pages (record { page = due.page; form = due.form })
-      (record pages { given = pages.given + 1; cursor = record { page = due.page + 1; row = 0 }; told = None })
+      (record pages { given = pages.given + 1; told = None })
   page_given pages due is its short =
       let item : FormItem = record { page = due.page; form = due.form } in
       let more = forms_on pages.file (due.page + 1) in
@@ -155,18 +129,13 @@ module _ (tails : CursorsHaveOneFormTail) (of_page : FormTailOfPage) where
         );
         limits = its.limits;
         few = omega (arith, is.come.few, short);
-        new_is = ap (λ (t : Option End). record pages {
-          given = pages.given + 1;
-          cursor = record { page = due.page + 1; row = 0 };
-          told =
-              t;
-        }) (sym is.untold);
+        new_is = ap (λ (t : Option End). record pages { given = pages.given + 1; told = t }) (sym is.untold);
       }
 
-  pub forms_left : (file : List ℕ) (begun cursor : Cursor) (given p : ℕ) → HasGiven file begun given p
+  pub forms_left : (file : List ℕ) (begun : Cursor) (given p : ℕ) → HasGiven file begun given p
       → (forms : List FormItem) × (end : End)
-      × AreFormsLeft (record { file = file; begun = begun; given = given; cursor = cursor; told = None }) forms end
-  forms_left file begun cursor given p come =
+      × AreFormsLeft (record { file = file; begun = begun; given = given; told = None }) forms end
+  forms_left file begun given p come =
       let more = forms_on file p in (
         more.0,
         more.1,
@@ -179,16 +148,16 @@ module _ (tails : CursorsHaveOneFormTail) (of_page : FormTailOfPage) where
         },
       )
 
-  pub forms_left_first : (file : List ℕ) (begun cursor : Cursor)
+  pub forms_left_first : (file : List ℕ) (begun : Cursor)
       → (forms : List FormItem) × (end : End)
-      × AreFormsLeft (record { file = file; begun = begun; given = 0; cursor = cursor; told = None }) forms end
-  forms_left_first file begun cursor =
+      × AreFormsLeft (record { file = file; begun = begun; given = 0; told = None }) forms end
+  forms_left_first file begun =
       let one = tails file begun in
       (one.items, one.end, record { all = one.items; is = one.is; within = omega arith; rest = refl; is_told = tt })
 
-pub forms_left_none : (file : List ℕ) (begun cursor : Cursor) (given : ℕ) (end : End) → EndsAfter (IsFormTail file begun) given end
-    → AreFormsLeft (record { file = file; begun = begun; given = given; cursor = cursor; told = Some end }) [] end
-forms_left_none file begun cursor given end (all, is, count) = record {
+pub forms_left_none : (file : List ℕ) (begun : Cursor) (given : ℕ) (end : End) → EndsAfter (IsFormTail file begun) given end
+    → AreFormsLeft (record { file = file; begun = begun; given = given; told = Some end }) [] end
+forms_left_none file begun given end (all, is, count) = record {
   all = all;
   is = is;
   within = omega (arith, count);

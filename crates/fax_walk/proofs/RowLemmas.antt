@@ -38,16 +38,6 @@ pub record HasConverted (walk : WalkView) (output : Output) (sheet : Sheet) (cou
   pub within : count ≤ length due.page.own
   pub put : PutsRows output sheet (take count (pels_of due.page.own)) new_output
 
-pub none_converted : (walk : WalkView) (output : Output) (sheet : Sheet) (due : IsBeforePage walk sheet.width sheet.rows)
-    → HasConverted walk output sheet 0 walk output due
-none_converted walk output sheet due = record {
-  same_file = refl;
-  same_begun = refl;
-  given = omega arith;
-  within = omega arith;
-  put = λ at begun. begun;
-}
-
 take_pels : (n : ℕ) (items : List Item) → take n (pels_of items) ≡ pels_of (take n items)
 take_pels zero items = refl
 take_pels (suc n) [] = refl

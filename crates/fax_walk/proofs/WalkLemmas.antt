@@ -379,12 +379,6 @@ module _ (walk : WalkView) (cursor : Cursor) (page : Option PageState) where
         )
   ]
 
-  pub no_page_given : Sound walk.told → page ≡ None → walk.given ≡ 0
-  no_page_given sound none = elim (stands_on page walk.told sound) [
-    | inl first ↦ first.0
-    | inr (on, is, last) ↦ absurd cc
-  ]
-
   -- how many rows were read
   read_on : (at : PageState) (told : Option End) → IsSound file begun walk.given cursor (Some at) told
       → HasReadTo file begun walk.given cursor at

@@ -21,14 +21,15 @@ enum PagesStage<'a> {
 }
 
 /// A reader of a file's pages, without their strips. Contracts see its file, the cursor that it
-/// began with, how many pages it handed out, the cursor after the last of them, and how the pages
-/// ended, once it told that. It takes no memory.
+/// began with, how many pages it handed out, and how the pages ended, once it told that. It takes
+/// no memory.
 #[derive(Drop)]
 pub struct Pages<'a> {
     file: &'a [u8],
     begun: Cursor,
     /// How many pages were handed out.
     given: u32,
+    /// The cursor after the last of them, or the one that the reader began with.
     cursor: Cursor,
     stage: PagesStage<'a>,
 }
@@ -43,7 +44,6 @@ impl<'a> Model for Pages<'a> {
       file = p.file.now;
       begun = p.begun;
       given = p.given;
-      cursor = p.cursor;
       told = told_of p.stage;
     } };
 
@@ -81,7 +81,7 @@ fn first_page<'a>(file: &'a [u8], cursor: Cursor) -> Result<DuePage<'a>, End>
 
 impl<'a> Pages<'a> {
     ghost use Rattle.fax_walk.specs.laws.Forms.{AreFormsLeft};
-    ghost use Rattle.fax_walk.specs.views.Pages.{IsNextPage, pages_from, pages_start};
+    ghost use Rattle.fax_walk.specs.views.Pages.{IsCursorOf, IsNextPage, pages_from, pages_start};
 
     /// A reader of all pages of a file, from any bytes. Nothing is read yet.
     pub fn start(file: &'a [u8]) -> Self
@@ -106,7 +106,7 @@ impl<'a> Pages<'a> {
 
     /// The cursor after the last page that was handed out, or the one that the reader began with.
     pub fn cursor(&self) -> Cursor
-        ensures { result ≡ self.now.cursor }
+        ensures { IsCursorOf self.now result }
     {
         self.cursor
     }

@@ -2,9 +2,7 @@
 -- A definition without a citation is this project's profile.
 use Rattle.fax_tool.specs.declared.streams.FromRead.{FromRead}
 use Rattle.fax_tool.specs.declared.streams.ToWrite.{ToWrite}
-use Rattle.std.specs.Prelude.{◌≡◌, ◌≢◌, ℕ, ◌+◌, ◌-◌, ◌^◌, ◌<◌, min, List, length, take, Option}
-use Rattle.std.specs.Prelude.{Some, None, ⊤, Result, Ok, Err}
-use Rattle.std.specs.Io.KnownBytes.{Appends, Consumes, IsAtEnd, Keeps}
+use Rattle.std.specs.Prelude.{◌≡◌, ◌≢◌}
 use Rattle.std.specs.declared.io.ErrorKind.{ErrorKind}
 use Rattle.std.specs.declared.io.ErrorKind.TheVariants.{Interrupted as WasInterrupted}
 use Rattle.fax_tool.specs.declared.streams.StreamFault.{StreamFault}

@@ -6,9 +6,9 @@ use Rattle.fax_walk.specs.declared.end.End.{End}
 use Rattle.fax_walk.specs.declared.pages.PagesStage.{PagesStage}
 use Rattle.fax_walk.specs.declared.pages.PagesStage.TheVariants.{Before, After, Ended}
 use Rattle.fax_walk.specs.laws.InOrder.{LeadTo}
-use Rattle.fax_walk.specs.views.InOrder.{EndsAfter, HasToldNoOther}
-use Rattle.fax_walk.specs.Pages.{FormItem, IsForm, IsFormTail, IsOnPage, first_form}
-use Rattle.fax_walk.specs.views.Pages.{PagesView, IsTailOf}
+use Rattle.fax_walk.specs.InOrder.{EndsAfter, HasToldNoOther}
+use Rattle.fax_walk.specs.Pages.{FormItem, IsForm, AreFormsBegun, IsFormTail}
+use Rattle.fax_walk.specs.views.Pages.{PagesView, IsCursorOf, IsTailOf}
 use Rattle.fax_walk.specs.code.Opening.{PageDue, IsChainBefore}
 
 -- where a reader of pages begins that has this cursor
@@ -31,11 +31,18 @@ pub record HasGiven (file : List ℕ) (begun : Cursor) (given p : ℕ) : Type 0 
   pub few : given ≤ p
 
 -- a reader of pages has come as far as its chain, or to its end
-abbrev pub IsSoundReader : List ℕ → Cursor → ℕ → Cursor → PagesStage → Type 0
-IsSoundReader file begun given cursor Before = (given ≡ 0) × (cursor ≡ begun)
-IsSoundReader file begun given cursor (After chain) =
+abbrev pub HasCome : List ℕ → Cursor → ℕ → PagesStage → Type 0
+HasCome file begun given Before = given ≡ 0
+HasCome file begun given (After chain) =
     HasGiven file begun given chain.given × IsChainBefore file chain.given chain
-IsSoundReader file begun given cursor (Ended end) = EndsAfter (IsFormTail file begun) given end
+HasCome file begun given (Ended end) = EndsAfter (IsFormTail file begun) given end
+
+-- a reader of pages has come so far, and has the cursor after the page that it handed out last
+pub record IsSoundReader (file : List ℕ) (begun : Cursor) (given : ℕ) (cursor : Cursor)
+    (stage : PagesStage) : Type 0 where
+  pub come : HasCome file begun given stage
+  pub cursor_is : IsCursorOf (record { file = file; begun = begun; given = given; told = None })
+      cursor
 
 -- a page is the one after the directories that a chain has handed out
 abbrev pub IsPageAfter : ChainState → PageDue → Type 0

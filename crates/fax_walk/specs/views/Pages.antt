@@ -1,5 +1,5 @@
 -- A reader of pages, as contracts see it.
-use Rattle.std.specs.Prelude.{◌≡◌, ℕ, ◌+◌, ◌^◌, ◌<◌, List, Option, Some, None, Result, Ok, Err}
+use Rattle.std.specs.Prelude.{◌≡◌, ℕ, ◌+◌, ◌^◌, ◌<◌, ◌⊎◌, List, Option, Some, None, Result, Ok, Err}
 use Rattle.fax_files.specs.declared.PageForm.{PageForm}
 use Rattle.fax_files.specs.views.Page.{IsPageForm}
 use Rattle.fax_walk.specs.declared.cursor.Cursor.{Cursor}
@@ -11,19 +11,17 @@ use Rattle.fax_walk.specs.Cursors.{start}
 use Rattle.fax_walk.specs.views.InOrder.{IsNumber, EndsAfter, HasToldNoOther}
 use Rattle.fax_walk.specs.Pages.{FormItem, IsFormTail, cursor_after_page}
 
--- a reader of pages: its file, the cursor that it began with, how many pages it handed out, the
--- cursor after the last of them, or the one that it began with, and how the pages ended, once it
--- told that
+-- a reader of pages: its file, the cursor that it began with, how many pages it handed out, and how
+-- the pages ended, once it told that
 pub record PagesView : Type 0 where
   pub file : List ℕ
   pub begun : Cursor
   pub given : ℕ
-  pub cursor : Cursor
   pub told : Option End
 
 -- a reader of pages from a cursor, before its first page
 abbrev pub pages_from : List ℕ → Cursor → PagesView
-pages_from file at = record { file = file; begun = at; given = 0; cursor = at; told = None }
+pages_from file at = record { file = file; begun = at; given = 0; told = None }
 
 -- a reader of pages before the first one of its file
 abbrev pub pages_start : List ℕ → PagesView
@@ -39,7 +37,7 @@ pub record HandsOutPage (old : PagesView) (item : FormItem) (new : PagesView) : 
   pub number : IsNumber (IsTailOf old) old.given item
   pub limits : IsPageForm item.form
   pub few : old.given + 1 < 2 ^ 32
-  pub new_is : new ≡ record old { given = old.given + 1; cursor = cursor_after_page item }
+  pub new_is : new ≡ record old { given = old.given + 1 }
 
 -- the pages end so after those that were handed out, and no other end was told
 pub record PagesHaveEnded (old : PagesView) (end : End) (new : PagesView) : Type 0 where
@@ -55,3 +53,10 @@ IsNextPage old (Ok None) new = PagesHaveEnded old Proper new
 IsNextPage old (Err (AtRow page row cause)) new = PagesHaveEnded old (Fault page row cause) new
 IsNextPage old (Err CursorOutside) new = PagesHaveEnded old Outside new
 IsNextPage old (Err Memory) new = ⊥
+
+-- the cursor after the page that was handed out last, or the one that the reader began with
+abbrev pub IsCursorOf : PagesView → Cursor → Type 0
+IsCursorOf pages at =
+    ((pages.given ≡ 0) × (at ≡ pages.begun))
+    ⊎ ((before : ℕ) × (item : FormItem) × (pages.given ≡ before + 1)
+    × IsNumber (IsTailOf pages) before item × (at ≡ cursor_after_page item))

@@ -5,8 +5,8 @@ use Rattle.fax_walk.proofs.pages.Pages.due.Goals as goal
 
 pub returns-in-After-clause-err : goal.returns-in-After-clause-err
 returns-in-After-clause-err c =
-    let sound = rw c.in-After.is at c.self.invariant in
+    let sound = rw c.in-After.is at c.self.invariant.come in
     let after = rw c.again.ensures at c.page_after.ensures.err in
     rw (← c.self.view_is)
-    (ends_later c.self.inside.file.now c.self.inside.begun c.self.inside.cursor c.self.inside.given (told_of c.self.inside.stage)
+    (ends_later c.self.inside.file.now c.self.inside.begun c.self.inside.given (told_of c.self.inside.stage)
     c.in-After.chain c.page_after.result (rw c.in-After.is refl) sound after)

@@ -1,12 +1,19 @@
-use Rattle.std.proofs.Common.{◌≡◌, ◌+◌, ◌<◌, ◌^◌, refl, sym, ◌∙◌, arith}
+use Rattle.std.proofs.Common.{inr, ◌≡◌, ◌+◌, ◌<◌, ◌^◌, refl, sym, ◌∙◌, arith}
 use Rattle.fax_walk.proofs.PagesLemmas.{page_given, given_more}
 use Rattle.fax_walk.proofs.pages.Pages.next_page.Goals.{in-Proper, in-Fault, in-Outside}
 use Rattle.fax_walk.proofs.pages.Pages.next_page.Goals as goal
 
 pub invariant_of-self : goal.invariant_of-self
 invariant_of-self c =
+    let laws = c.form_tails_are_one.ensures in
     let due = rw (sym c.page.view_is, sym c.self.view_is) at c.in-Ok.ensures.ok in
-    given_more c.self.inside.file.now c.self.inside.begun c.self.inside.given _ due.come due.file_is c.page.invariant.its
+    let after : c.given.result ≡ c.page.inside.page + 1 = c.given.ensures ∙ c.page.invariant.its.after.given in
+    let short : c.page.inside.page + 1 < 2 ^ 32 = omega (arith, after, c.given.type_inv) in
+    let hands = page_given laws.one laws.first _ _ due c.page.invariant short in
+    record {
+      come = given_more c.self.inside.file.now c.self.inside.begun c.self.inside.given _ due.come due.file_is c.page.invariant.its;
+      cursor_is = inr (c.self.inside.given, record { page = c.page.inside.page; form = c.page.inside.form }, refl, hands.number, rw after refl);
+    }
 
 pub returns-in-Ok : goal.returns-in-Ok
 returns-in-Ok c =
@@ -14,10 +21,10 @@ returns-in-Ok c =
     let due = rw (sym c.page.view_is, sym c.self.view_is) at c.in-Ok.ensures.ok in
     let after : c.given.result ≡ c.page.inside.page + 1 = c.given.ensures ∙ c.page.invariant.its.after.given in
     let short : c.page.inside.page + 1 < 2 ^ 32 = omega (arith, after, c.given.type_inv) in
-    rw (← c.self.view_is, after) (page_given laws.one laws.first _ _ due c.page.invariant short)
+    rw (← c.self.view_is) (page_given laws.one laws.first _ _ due c.page.invariant short)
 
 pub invariant_of-self-2 : goal.invariant_of-self-2
-invariant_of-self-2 c = (rw (sym c.self.view_is) at c.in-Err.ensures.err).0
+invariant_of-self-2 c = record { come = (rw (sym c.self.view_is) at c.in-Err.ensures.err).0; cursor_is = c.self.invariant.cursor_is }
 
 pub returns : goal.returns
 returns c =

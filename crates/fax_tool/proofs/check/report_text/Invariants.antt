@@ -1,7 +1,0 @@
-use Rattle.std.proofs.Common.{◌≡◌, take}
-use Rattle.std.specs.Prelude.{flat_map}
-use Rattle.fax_tool.specs.ReportText.{note_line}
-use Rattle.fax_tool.proofs.check.report_text.Given as goal
-
-abbrev pub invariant-loop-note : goal.invariant-loop-note
-invariant-loop-note l = l.text ≡ flat_map note_line (take l.note-index l.report.notes.items)

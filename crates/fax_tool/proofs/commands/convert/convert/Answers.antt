@@ -1,0 +1,44 @@
+use Rattle.std.proofs.Common.{refl, rules}
+use Rattle.std.proofs.lemmas.Result.{err_from_is_err_and}
+use Rattle.fax_tool.specs.declared.words.Command.TheVariants.{Convert}
+use Rattle.fax_tool.proofs.CommandLemmas.{whole_unread, without_memory}
+use Rattle.fax_tool.proofs.WholeLemmas.{converted, conversion_stopped, not_converted}
+use Rattle.fax_tool.proofs.commands.convert.convert.Goals as goal
+
+pub returns-in_err-file-clause-err : goal.returns-in_err-file-clause-err
+returns-in_err-file-clause-err g c =
+    let p = err_from_is_err_and c.from_residual.result c.from_residual.ensures.1 in
+    rw (p.1, p.2)
+    (whole_unread (Convert c.args.options) (λ file. refl) (g.R.Source.left c.args.input.now) _ _ (g.W.Sink.written c.args.out.now) _
+    (rw c.requires.counts (search rules)) _ c.in_err-file.ensures.reason)
+
+pub returns-in_err-give_all-in-Ok-clause-err : goal.returns-in_err-give_all-in-Ok-clause-err
+returns-in_err-give_all-in-Ok-clause-err g c =
+    let p = err_from_is_err_and c.from_residual-in_err-give_all-in-Ok.result c.from_residual-in_err-give_all-in-Ok.ensures.1 in
+    let is = rw c.deref.ensures.value at c.in-Ok.ensures.ok in
+    let given = rw c.deref-in-Ok.ensures.value at c.in_err-give_all-in-Ok.ensures.err in
+    rw (p.1, p.2)
+    (conversion_stopped (g.R.Source.left c.args.input.now) c.in_ok-file.file.items c.in_ok-file.ensures.whole _ _ c.in_ok-file.ensures.read
+    c.args.options (g.W.Sink.written c.args.out.now) _ _ c.in-Ok.bytes.items _ is given)
+
+pub returns-in-Ok-clause-ok : goal.returns-in-Ok-clause-ok
+returns-in-Ok-clause-ok g c =
+    let is = rw c.deref.ensures.value at c.in-Ok.ensures.ok in
+    let given = rw c.deref-in-Ok.ensures.value at c.in_ok-give_all-in-Ok.ensures.ok in
+    converted (g.R.Source.left c.args.input.now) c.in_ok-file.file.items c.in_ok-file.ensures.whole _ _ c.in_ok-file.ensures.read
+    c.args.options (g.W.Sink.written c.args.out.now) _ _ c.in-Ok.bytes.items is given c.in_ok-give_all-in-Ok.ensures.worked
+
+pub returns-in_err-conversion_line-in-Err-clause-err : goal.returns-in_err-conversion_line-in-Err-clause-err
+returns-in_err-conversion_line-in-Err-clause-err g c =
+    let p = err_from_is_err_and c.from_residual-in_err-conversion_line-in-Err.result
+    c.from_residual-in_err-conversion_line-in-Err.ensures.1 in
+    rw (p.1, p.2)
+    (without_memory (Convert c.args.options) (λ file. refl) (g.R.Source.left c.args.input.now) _ _ (g.W.Sink.written c.args.out.now) _
+    (rw c.requires.counts (search rules)) c.in_ok-file.ensures.read)
+
+pub returns-clause-ok : goal.returns-clause-ok
+returns-clause-ok g c =
+    let refused = rw c.deref.ensures.value at c.in-Err.ensures.err in
+    not_converted (g.R.Source.left c.args.input.now) c.in_ok-file.file.items c.in_ok-file.ensures.whole _ _ c.in_ok-file.ensures.read
+    c.args.options (g.W.Sink.written c.args.out.now) (g.W.Sink.written c.args.out.now) _ c.in-Err.fault _ refused
+    c.in_ok-conversion_line-in-Err.ensures (rw c.requires.counts (search rules))

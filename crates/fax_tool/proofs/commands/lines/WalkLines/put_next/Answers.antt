@@ -1,0 +1,59 @@
+use Rattle.std.proofs.Common.{refl, ap, arith}
+use Rattle.fax_walk.specs.views.Walk.{WalkView}
+use Rattle.fax_tool.proofs.LineLemmas.{row_put, rows_end, rows_refused}
+use Rattle.fax_tool.proofs.commands.lines.WalkLines.put_next.Goals as goal
+
+pub returns-in_ok-put_row_line-in-Ok-Some-clause-put : goal.returns-in_ok-put_row_line-in-Ok-Some-clause-put
+returns-in_ok-put_row_line-in-Ok-Some-clause-put c =
+    let next = rw (c.in-Ok-Some.is, c.in-Ok-Some.field-0-is) at c.next_row.follows.holds-at-none in
+    row_put c.args.self.now.file c.args.self.now.begun c.args.self.now.given _ next.0 _ _ _ c.args.text.now _ next.1.number next.2.0
+    next.2.1 next.2.2 (ap (λ (w : WalkView). w.given) next.1.new_is) c.in_ok-put_row_line-in-Ok-Some.ensures.ok
+
+pub returns-in_ok-put_row_line-in-Ok-Some-clause-tail : goal.returns-in_ok-put_row_line-in-Ok-Some-clause-tail
+returns-in_ok-put_row_line-in-Ok-Some-clause-tail c =
+    let next = rw (c.in-Ok-Some.is, c.in-Ok-Some.field-0-is) at c.next_row.follows.holds-at-none in
+    λ lines end. rw next.1.new_is (λ are. are, λ are. are)
+
+pub returns-in_ok-put_row_line-in-Ok-Some-clause-begun : goal.returns-in_ok-put_row_line-in-Ok-Some-clause-begun
+returns-in_ok-put_row_line-in-Ok-Some-clause-begun c =
+    let next = rw (c.in-Ok-Some.is, c.in-Ok-Some.field-0-is) at c.next_row.follows.holds-at-none in
+    ap (λ (w : WalkView). w.begun) next.1.new_is
+
+pub returns-in_ok-put_row_line-in-Ok-Some-clause-fewer : goal.returns-in_ok-put_row_line-in-Ok-Some-clause-fewer
+returns-in_ok-put_row_line-in-Ok-Some-clause-fewer c =
+    let next = rw (c.in-Ok-Some.is, c.in-Ok-Some.field-0-is) at c.next_row.follows.holds-at-none in
+    λ none. omega (arith, next.1.few, ap (λ (w : WalkView). w.given) next.1.new_is)
+
+pub returns-in-Ok-None-clause-put : goal.returns-in-Ok-None-clause-put
+returns-in-Ok-None-clause-put c =
+    let ended = rw (c.in-Ok-None.is, c.in-Ok-None.field-0-is) at c.next_row.follows.holds-at-none in (
+      rows_end c.args.self.now.file c.args.self.now.begun c.args.self.now.given _ ended.0,
+      ap (λ (w : WalkView). w.given) ended.2,
+      refl,
+    )
+
+pub returns-in-Ok-None-clause-tail : goal.returns-in-Ok-None-clause-tail
+returns-in-Ok-None-clause-tail c =
+    let ended = rw (c.in-Ok-None.is, c.in-Ok-None.field-0-is) at c.next_row.follows.holds-at-none in
+    λ lines end. rw ended.2 (λ are. are, λ are. are)
+
+pub returns-in_ok-end_of-in-Err-clause-put : goal.returns-in_ok-end_of-in-Err-clause-put
+returns-in_ok-end_of-in-Err-clause-put c =
+    let next = rw c.in-Err.is at c.next_row.follows.holds-at-none in
+    let ended = rows_refused c.args.self.now c.next_row.follows.lender-at-none c.in-Err.fault _ next c.in_ok-end_of-in-Err.ensures in (
+      rows_end c.args.self.now.file c.args.self.now.begun c.args.self.now.given _ ended.0,
+      ap (λ (w : WalkView). w.given) ended.2,
+      refl,
+    )
+
+pub returns-in_ok-end_of-in-Err-clause-tail : goal.returns-in_ok-end_of-in-Err-clause-tail
+returns-in_ok-end_of-in-Err-clause-tail c =
+    let next = rw c.in-Err.is at c.next_row.follows.holds-at-none in
+    let ended = rows_refused c.args.self.now c.next_row.follows.lender-at-none c.in-Err.fault _ next c.in_ok-end_of-in-Err.ensures in
+    λ lines end. rw ended.2 (λ are. are, λ are. are)
+
+pub returns-in_ok-end_of-in-Err-clause-begun : goal.returns-in_ok-end_of-in-Err-clause-begun
+returns-in_ok-end_of-in-Err-clause-begun c =
+    let next = rw c.in-Err.is at c.next_row.follows.holds-at-none in
+    let ended = rows_refused c.args.self.now c.next_row.follows.lender-at-none c.in-Err.fault _ next c.in_ok-end_of-in-Err.ensures in
+    ap (λ (w : WalkView). w.begun) ended.2

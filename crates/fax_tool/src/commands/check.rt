@@ -1,0 +1,113 @@
+//! `check`: what is worth a note in a file.
+ghost use Rattle.std.specs.Prelude.{◌≡◌, ◌≤◌, ◌+◌, ◌++◌, IfErr, IfOk};
+ghost use Rattle.arrayvec.specs.ArrayString.{array_string_len};
+ghost use Rattle.fax_tool.specs.ReportText as Text;
+ghost use Rattle.fax_tool.specs.code.Outcome as Outcome;
+ghost use Rattle.fax_tool.specs.code.Outcome.{IsDone, IsStopped};
+ghost use Rattle.fax_tool.specs.views.Streams.{input_after, no_faults, output_after};
+ghost use Rattle.fax_tool.specs.declared.words.Command.TheVariants.{Check};
+
+use crate::refusal::Refusal;
+use crate::streams::transfer::{Interruptions, give_all, read_whole};
+use crate::streams::{Sink, Source};
+use crate::text::collected::Collected;
+use crate::text::fault::{ErrorLine, row_fault_line};
+use crate::text::push_number;
+use arrayvec::ArrayString;
+use fax_bits::Memory;
+use fax_walk::{Note, Report};
+use itoa::Buffer;
+use std::alloc::Global;
+
+/// A line of the report, which is made without memory.
+type ReportLine = ArrayString<64>;
+
+/// Appends the number of a strip, where there is one.
+fn push_strip(line: &mut ReportLine, strip: Option<u32>)
+    requires { array_string_len line.old + 17 ≤ 64 }
+    ensures text { line.new.bytes ≡ line.old.bytes ++ Text.and_strip strip }
+    ensures len { array_string_len line.new ≤ array_string_len line.old + 17 }
+{
+    if let Some(strip) = strip {
+        line.push_str(" strip");
+        push_number(line, strip);
+    }
+}
+
+/// The line of a note: `note page P strip S`, or without a strip where it is on the page's
+/// directory, and the note's number and name.
+#[tactic(auto, unfolding(crate::specs::ReportText::note_line))]
+fn note_line(note: Note) -> ReportLine
+    ensures { result.bytes ≡ Text.note_line note }
+{
+    let mut digits = Buffer::new();
+    let mut line = ReportLine::new();
+    line.push_str("note page");
+    push_number(&mut line, note.page);
+    push_strip(&mut line, note.strip);
+    line.push_str(": N");
+    line.push_str(digits.format(note.kind.number()));
+    line.push_str(" ");
+    line.push_str(note.kind.name());
+    line.push_str("\n");
+    line
+}
+
+/// The last line: how many pages were read wholly, and how many rows.
+fn counts_line(pages: u64, rows: u64) -> ReportLine
+    ensures { result.bytes ≡ Text.counts_line pages rows }
+{
+    let mut line = ReportLine::new();
+    line.push_str("pages");
+    push_number(&mut line, pages);
+    line.push_str(" rows");
+    push_number(&mut line, rows);
+    line.push_str("\n");
+    line
+}
+
+/// The text of a report: its notes, line by line, and its counts.
+fn report_text(alloc: Global, report: &Report) -> Result<Collected, Memory>
+    ensures { IfOk result (λ text. text ≡ Text.report_output report.now) }
+{
+    let mut text = Collected::new(alloc);
+    for note in &report.notes {
+        text.put(note_line(*note).as_str())?;
+    }
+    text.put(counts_line(report.pages, report.rows).as_str())?;
+    Ok(text)
+}
+
+/// The line of a report's fault, if there is one.
+fn fault_line(report: &Report) -> Option<ErrorLine>
+    ensures error { (Text.report_text report.now).error ≡ Outcome.error_of result }
+    ensures status { (Text.report_text report.now).status ≡ Outcome.status_of result }
+{
+    let (place, cause) = report.fault?;
+    Some(row_fault_line(place.page, place.row, cause))
+}
+
+/// Reads the input whole and writes what is worth a note in it, how many pages were read wholly,
+/// and how many rows.
+pub fn check<R: Source, W: Sink>(
+    alloc: Global,
+    input: &mut R,
+    out: &mut W,
+) -> Result<Option<ErrorLine>, Refusal>
+    requires input_counts { R.counts input.old ≡ no_faults }
+    requires taken { R.taken input.old ≡ 0 }
+    requires counts { W.counts out.old ≡ no_faults }
+    ensures ok { IfOk result (IsDone Check
+        (input_after (R.left input.old) (R.taken input.new) (R.counts input.new))
+        (output_after (W.written out.old) (W.written out.new) (W.counts out.new))) }
+    ensures err { IfErr result (λ refusal. IsStopped Check refusal
+        (input_after (R.left input.old) (R.taken input.new) (R.counts input.new))
+        (output_after (W.written out.old) (W.written out.new) (W.counts out.new))) }
+{
+    let file = read_whole(alloc, input)?;
+    let report = fax_walk::check(alloc, &file)?;
+    let text = report_text(alloc, &report)?;
+    let mut interruptions = Interruptions::NONE;
+    give_all(out, &mut interruptions, text.as_bytes())?;
+    Ok(fault_line(&report))
+}

@@ -1,0 +1,150 @@
+//! What is printed line by line: the rows of a file, or its pages.
+ghost use Rattle.std.specs.Prelude.{◌≡◌, ◌<◌, ◌↔◌, ℕ, List, IfOk, None};
+ghost use Rattle.fax_walk.specs.laws.InOrder.{IsOne};
+ghost use Rattle.fax_walk.specs.views.Walk.{begins_inside};
+ghost use Rattle.fax_walk.specs.Rows.{begins_at};
+ghost use Rattle.fax_walk.specs.declared.begun.Begun.{Begun};
+ghost use Rattle.fax_walk.specs.declared.end.End.{End as TheEnd};
+ghost use Rattle.fax_tool.specs.Text.{Line};
+ghost use Rattle.fax_tool.specs.code.Printing as Spec;
+ghost use Rattle.fax_tool.specs.code.Printing.{IsLinePut, IsNextAfter};
+
+use crate::text::collected::Collected;
+use crate::text::page_line::put_page_line;
+use crate::text::row_line::put_row_line;
+use fax_bits::Memory;
+use fax_walk::{Cursor, End, LongCursor, Pages, Walk, WalkFault};
+use std::alloc::Global;
+
+/// Lines that are printed one after another. Contracts see all of them and the end after them,
+/// which no call changes, what they began with, how many were collected, and a number that each
+/// line makes less.
+pub trait Lines {
+    ghost tail: { Self → List Line → TheEnd → Type 0 };
+
+    ghost begun: { Self → Begun };
+
+    ghost given: { Self → ℕ };
+
+    ghost left: { Self → ℕ };
+
+    /// The cursor after what the last line told, or the one that the lines began with.
+    fn cursor(&self) -> Cursor
+        ensures { (next : Begun)
+            × IsNextAfter (tail self.now) (begun self.now) (given self.now) next
+            × (result ≡ begins_at next) };
+
+    /// The place inside a strip after what the last line told, or the one that the lines began
+    /// with, if there is one.
+    fn long_cursor(&self, alloc: Global) -> Result<Option<LongCursor>, Memory>
+        ensures { IfOk result (λ place. (next : Begun)
+            × IsNextAfter (tail self.now) (begun self.now) (given self.now) next
+            × (place ≡ begins_inside next)) };
+
+    /// Collects the next line after the text, or answers how the lines ended. Where memory is
+    /// refused the text is as it was.
+    fn put_next(&mut self, text: &mut Collected) -> Result<Option<End>, Memory>
+        ensures tail { (lines : List Line) (end : TheEnd) → tail self.old lines end
+            ↔ tail self.new lines end }
+        ensures begun { begun self.new ≡ begun self.old }
+        ensures fewer { IfOk result (λ end. end ≡ None → left self.new < left self.old) }
+        ensures put { IsLinePut (tail self.old) (given self.old) text.old result (given self.new)
+            text.new };
+
+    /// The lines and the end after them are one. It computes nothing.
+    fn are_one(&self)
+        ensures { IsOne (tail self.now) };
+}
+
+/// How lines end where a walk or a reader of pages answers so; want of memory is no end.
+fn end_of(fault: WalkFault) -> Result<End, Memory>
+    ensures { IfOk result (λ end. Spec.end_of fault ≡ Some end) }
+{
+    match fault {
+        WalkFault::AtRow { page, row, cause } => Ok(End::Fault { page, row, cause }),
+        WalkFault::CursorOutside => Ok(End::Outside),
+        WalkFault::Memory => Err(Memory),
+    }
+}
+
+/// A line for each row.
+impl Lines for Walk<'_> {
+    ghost use Rattle.std.specs.Prelude.{◌-◌, ◌^◌};
+    ghost use Rattle.fax_tool.specs.Run.{AreRowLines};
+
+    ghost tail = { λ walk. AreRowLines walk.file walk.begun };
+
+    ghost begun = { λ walk. walk.begun };
+
+    ghost given = { λ walk. walk.given };
+
+    ghost left = { λ walk. 2 ^ 64 - walk.given };
+
+    fn cursor(&self) -> Cursor {
+        fax_walk::laws::beginnings_have_one_tail();
+        Walk::cursor(self)
+    }
+
+    fn long_cursor(&self, alloc: Global) -> Result<Option<LongCursor>, Memory> {
+        fax_walk::laws::beginnings_have_one_tail();
+        fax_walk::laws::cursors_name_one_page();
+        Walk::long_cursor(self, alloc)
+    }
+
+    fn put_next(&mut self, text: &mut Collected) -> Result<Option<End>, Memory> {
+        match self.next_row() {
+            Ok(Some((place, row))) => {
+                put_row_line(text, place, row)?;
+                Ok(None)
+            }
+            Ok(None) => Ok(Some(End::Proper)),
+            Err(fault) => Ok(Some(end_of(fault)?)),
+        }
+    }
+
+    fn are_one(&self) {
+        fax_walk::laws::beginnings_have_one_tail();
+        fax_walk::laws::cursors_name_one_page();
+    }
+}
+
+/// A line for each page.
+impl Lines for Pages<'_> {
+    ghost use Rattle.std.specs.Prelude.{◌-◌, ◌^◌};
+    ghost use Rattle.fax_walk.specs.declared.begun.Begun.TheVariants.{At};
+    ghost use Rattle.fax_tool.specs.Run.{ArePageLines};
+
+    ghost tail = { λ pages. ArePageLines pages.file pages.begun };
+
+    ghost begun = { λ pages. At pages.begun };
+
+    ghost given = { λ pages. pages.given };
+
+    ghost left = { λ pages. 2 ^ 32 - pages.given };
+
+    fn cursor(&self) -> Cursor {
+        fax_walk::laws::form_tails_are_one();
+        Pages::cursor(self)
+    }
+
+    fn long_cursor(&self, _alloc: Global) -> Result<Option<LongCursor>, Memory> {
+        fax_walk::laws::form_tails_are_one();
+        let _after = Pages::cursor(self);
+        Ok(None)
+    }
+
+    fn put_next(&mut self, text: &mut Collected) -> Result<Option<End>, Memory> {
+        match self.next_page() {
+            Ok(Some((page, form))) => {
+                put_page_line(text, page, &form)?;
+                Ok(None)
+            }
+            Ok(None) => Ok(Some(End::Proper)),
+            Err(fault) => Ok(Some(end_of(fault)?)),
+        }
+    }
+
+    fn are_one(&self) {
+        fax_walk::laws::form_tails_are_one();
+    }
+}

@@ -1,0 +1,374 @@
+//! `rows` and `list`: the runs of each row, or the form of each page, line by line.
+ghost use Rattle.std.specs.Prelude.{◌≡◌, ℕ, ◌++◌, ◌≤◌, ◌-◌, ◌<◌, ◌↔◌, false, true, List};
+ghost use Rattle.std.specs.Prelude.{IfErr, IfOk, IfSome, OnErr, OnOk, [], option_map, vec_len};
+ghost use Rattle.std.specs.Io.KnownBytes.{Appends};
+ghost use Rattle.std.specs.String.{string_bytes};
+ghost use Rattle.fax_tool.specs.code.Outcome.{IsDone, IsStopped, StopsAtBeginning, StopsPrinting};
+ghost use Rattle.fax_tool.specs.code.Outcome.{StopsWith, WritesOutput};
+ghost use Rattle.fax_tool.specs.code.Printing.{IsLastLine, IsNextLine, PrintsLines};
+ghost use Rattle.fax_tool.specs.code.Transfers.{IsGivenInPart, SendsPart, counted};
+ghost use Rattle.fax_tool.specs.views.Streams.{input_after, no_faults, output_after};
+ghost use Rattle.fax_tool.specs.Text.{Line, next_line};
+ghost use Rattle.fax_tool.specs.Run.{HasWorked, IsRead, IsTextOfFirst, IsTextOfLines, begun_of};
+ghost use Rattle.fax_files.specs.Directory.{max_file};
+ghost use Rattle.fax_walk.specs.Rows.{begins_at};
+ghost use Rattle.fax_walk.specs.declared.begun.Begun.TheVariants.{At};
+ghost use Rattle.fax_walk.specs.declared.end.End.{End as TheEnd};
+ghost use Rattle.fax_tool.specs.declared.words.Command.TheVariants.{List as Forms, Rows};
+
+use crate::commands::lines::Lines;
+use crate::refusal::Refusal;
+use crate::streams::transfer::{Interruptions, give_all, read_whole};
+use crate::streams::{Sink, Source};
+use crate::text::collected::Collected;
+use crate::text::fault::{ErrorLine, end_line};
+use crate::words::Part;
+use arrayvec::ArrayString;
+use fax_bits::Memory;
+use fax_walk::{Begun, Cursor, End, Pages, Walk};
+use std::alloc::Global;
+
+/// How many bytes of text are collected, and a line more, before they are written.
+const ENOUGH_TEXT: usize = 65_536;
+
+/// The line that a run ends with where rows are left, made without memory: `next` and the cursor.
+fn next_line(cursor: Cursor) -> ArrayString<29>
+    ensures { result.bytes ≡ next_line (At cursor) }
+{
+    let mut line = ArrayString::new();
+    line.push_str("next ");
+    line.push_str(cursor.text().as_str());
+    line.push_str("\n");
+    line
+}
+
+/// Writes a text in two parts.
+#[tactic(auto, using(crate::proofs::TransferLemmas::second_given))]
+fn give_two<W: Sink>(
+    out: &mut W,
+    interruptions: &mut Interruptions,
+    first: &[u8],
+    second: &[u8],
+) -> Result<(), Refusal>
+    requires { W.counts out.old ≡ counted interruptions.old }
+    ensures ok { OnOk result (Appends (W.written out.old) (W.written out.new)
+        (first.now ++ second.now)) }
+    ensures worked { OnOk result (HasWorked (W.counts out.new)) }
+    ensures err { IfErr result (IsGivenInPart (W.written out.old) (W.written out.new)
+        (first.now ++ second.now)
+        (W.counts out.new)) }
+{
+    match give_all(out, interruptions, first) {
+        Ok(()) => give_all(out, interruptions, second),
+        Err(refusal) => Err(refusal),
+    }
+}
+
+/// Writes the lines that are whole, and the line that says where to go on, when memory was refused.
+fn stop_for_memory<W: Sink>(
+    out: &mut W,
+    interruptions: &mut Interruptions,
+    lines: &[u8],
+    next: &str,
+) -> Refusal
+    requires { W.counts out.old ≡ counted interruptions.old }
+    ensures { StopsWith (lines.now ++ next.now) result
+        (output_after (W.written out.old) (W.written out.new) (W.counts out.new)) }
+{
+    match give_two(out, interruptions, lines, next.as_bytes()) {
+        Ok(()) => Refusal::Memory,
+        Err(refusal) => refusal,
+    }
+}
+
+/// Writes the text that is collected, and empties it; its room stays.
+fn write_out<W: Sink>(
+    out: &mut W,
+    interruptions: &mut Interruptions,
+    text: &mut Collected,
+) -> Result<(), Refusal>
+    requires { W.counts out.old ≡ counted interruptions.old }
+    ensures ok { OnOk result (Appends (W.written out.old) (W.written out.new) text.old) }
+    ensures emptied { OnOk result (text.new ≡ []) }
+    ensures counts { OnOk result (W.counts out.new ≡ counted interruptions.new) }
+    ensures err { IfErr result (IsGivenInPart (W.written out.old) (W.written out.new) text.old
+        (W.counts out.new)) }
+{
+    give_all(out, interruptions, text.as_bytes())?;
+    text.clear();
+    Ok(())
+}
+
+/// Writes the text that is collected where it is long, and empties it then.
+fn write_where_long<W: Sink>(
+    out: &mut W,
+    interruptions: &mut Interruptions,
+    text: &mut Collected,
+) -> Result<(), Refusal>
+    requires { W.counts out.old ≡ counted interruptions.old }
+    ensures ok { OnOk result (SendsPart (W.written out.old) (W.written out.new) text.old text.new) }
+    ensures counts { OnOk result (W.counts out.new ≡ counted interruptions.new) }
+    ensures err { IfErr result (IsGivenInPart (W.written out.old) (W.written out.new) text.old
+        (W.counts out.new)) }
+{
+    if text.len() < ENOUGH_TEXT {
+        return Ok(());
+    }
+    write_out(out, interruptions, text)
+}
+
+/// What is left of a limit after one more line.
+fn after_one(left: Option<u32>) -> Option<u32>
+    requires { IfSome left (λ n. 0 < n) }
+    ensures { result ≡ option_map (λ n. n - 1) left }
+{
+    match left {
+        Some(n) => Some(n - 1),
+        None => None,
+    }
+}
+
+/// Prints the lines, up to the limit, and answers how they ended, or `None` at the limit.
+fn print_lines<L: Lines, W: Sink>(
+    alloc: Global,
+    lines: &mut L,
+    max: Option<u32>,
+    out: &mut W,
+    interruptions: &mut Interruptions,
+) -> Result<Option<End>, Refusal>
+    requires counts { W.counts out.old ≡ counted interruptions.old }
+    requires fresh { L.given lines.old ≡ 0 }
+    ensures ok { IfOk result (λ ending. PrintsLines (L.tail lines.old) max ending
+        (L.given lines.new) (W.written out.old) (W.written out.new)) }
+    ensures tail { OnOk result ((all : List Line) (end : TheEnd) → L.tail lines.old all end
+        ↔ L.tail lines.new all end) }
+    ensures begun { OnOk result (L.begun lines.new ≡ L.begun lines.old) }
+    ensures counts { OnOk result (W.counts out.new ≡ counted interruptions.new) }
+    ensures err { IfErr result (λ refusal. StopsPrinting (λ _. ⊥)
+        (IsTextOfFirst (L.tail lines.old) max (L.begun lines.old)) refusal
+        (output_after (W.written out.old) (W.written out.new) (W.counts out.new))) }
+{
+    lines.are_one();
+    let mut text = Collected::new(alloc);
+    let mut left = max;
+    loop {
+        if left == Some(0) {
+            write_out(out, interruptions, &mut text)?;
+            return Ok(None);
+        }
+        write_where_long(out, interruptions, &mut text)?;
+        let cursor = lines.cursor();
+        match lines.put_next(&mut text) {
+            Ok(None) => left = after_one(left),
+            Ok(Some(end)) => {
+                write_out(out, interruptions, &mut text)?;
+                return Ok(Some(end));
+            }
+            Err(Memory) => {
+                let next = next_line(cursor);
+                return Err(stop_for_memory(out, interruptions, text.as_bytes(), &next));
+            }
+        }
+    }
+}
+
+/// The line that says where to go on, with the long cursor, where there is one.
+fn long_next_line<L: Lines>(alloc: Global, lines: &L) -> Result<String, Memory>
+    ensures { IfOk result (λ line. IsNextLine (L.tail lines.now) (L.begun lines.now)
+        (L.given lines.now) true (string_bytes line)) }
+{
+    lines.are_one();
+    let mut line = String::from_str(alloc, "next ").map_err(|_| Memory)?;
+    match lines.long_cursor(alloc)? {
+        Some(place) => place.put_text(&mut line)?,
+        None => lines.cursor().put_text(&mut line)?,
+    }
+    line.push_str("\n").map_err(|_| Memory)?;
+    Ok(line)
+}
+
+/// Writes where to go on, with a long cursor where it is asked for and there is one.
+fn give_next<L: Lines, W: Sink>(
+    alloc: Global,
+    lines: &L,
+    long: bool,
+    out: &mut W,
+    interruptions: &mut Interruptions,
+) -> Result<(), Refusal>
+    requires { W.counts out.old ≡ counted interruptions.old }
+    ensures ok { OnOk result ((line : List ℕ) × IsNextLine (L.tail lines.now)
+        (L.begun lines.now) (L.given lines.now) long line
+        × Appends (W.written out.old) (W.written out.new) line) }
+    ensures worked { OnOk result (HasWorked (W.counts out.new)) }
+    ensures err { IfErr result (λ refusal. StopsPrinting
+        (λ printed. IsNextLine (L.tail lines.now) (L.begun lines.now) (L.given lines.now) long
+        printed.output)
+        (IsNextLine (L.tail lines.now) (L.begun lines.now) (L.given lines.now) false) refusal
+        (output_after (W.written out.old) (W.written out.new) (W.counts out.new))) }
+{
+    let next = next_line(lines.cursor());
+    if long {
+        return match long_next_line(alloc, lines) {
+            Ok(line) => give_all(out, interruptions, line.as_bytes()),
+            Err(Memory) => Err(stop_for_memory(out, interruptions, b"", &next)),
+        };
+    }
+    give_all(out, interruptions, next.as_bytes())
+}
+
+/// Writes the last line of the output: `end`, or where to go on, or none for a cursor outside of
+/// the file. Where printing ended at its limit there is no end.
+fn give_last_line<L: Lines, W: Sink>(
+    alloc: Global,
+    lines: &L,
+    long: bool,
+    ending: Option<End>,
+    out: &mut W,
+    interruptions: &mut Interruptions,
+) -> Result<(), Refusal>
+    requires { W.counts out.old ≡ counted interruptions.old }
+    ensures ok { OnOk result ((line : List ℕ) × IsLastLine (L.tail lines.now)
+        (L.begun lines.now) (L.given lines.now) long ending line
+        × Appends (W.written out.old) (W.written out.new) line) }
+    ensures worked { OnOk result (HasWorked (W.counts out.new)) }
+    ensures err { IfErr result (λ refusal. StopsPrinting
+        (λ printed. IsLastLine (L.tail lines.now) (L.begun lines.now) (L.given lines.now) long
+        ending printed.output)
+        (IsNextLine (L.tail lines.now) (L.begun lines.now) (L.given lines.now) false) refusal
+        (output_after (W.written out.old) (W.written out.new) (W.counts out.new))) }
+{
+    match ending {
+        Some(End::Proper) => give_all(out, interruptions, b"end\n"),
+        Some(End::Outside) => give_all(out, interruptions, b""),
+        Some(End::Fault { .. }) => give_next(alloc, lines, long, out, interruptions),
+        None => give_next(alloc, lines, long, out, interruptions),
+    }
+}
+
+/// Prints the lines, up to the limit, and the last line, and answers the line of their fault, if
+/// there is one.
+fn print_all<L: Lines, W: Sink>(
+    alloc: Global,
+    lines: &mut L,
+    max: Option<u32>,
+    long: bool,
+    out: &mut W,
+) -> Result<Option<ErrorLine>, Refusal>
+    requires counts { W.counts out.old ≡ no_faults }
+    requires fresh { L.given lines.old ≡ 0 }
+    ensures ok { IfOk result (WritesOutput
+        (IsTextOfLines (L.tail lines.old) long max (L.begun lines.old))
+        (output_after (W.written out.old) (W.written out.new) (W.counts out.new))) }
+    ensures worked { OnOk result (HasWorked (W.counts out.new)) }
+    ensures err { IfErr result (λ refusal. StopsPrinting
+        (IsTextOfLines (L.tail lines.old) long max (L.begun lines.old))
+        (IsTextOfFirst (L.tail lines.old) max (L.begun lines.old)) refusal
+        (output_after (W.written out.old) (W.written out.new) (W.counts out.new))) }
+{
+    lines.are_one();
+    let mut interruptions = Interruptions::NONE;
+    let ending = print_lines(alloc, lines, max, out, &mut interruptions)?;
+    give_last_line(alloc, lines, long, ending, out, &mut interruptions)?;
+    Ok(end_line(ending))
+}
+
+/// Reads the input whole. Where memory is refused it writes where to go on: at this cursor.
+fn read_or_stop<R: Source, W: Sink>(
+    alloc: Global,
+    cursor: Cursor,
+    input: &mut R,
+    out: &mut W,
+) -> Result<Vec<u8>, Refusal>
+    requires input_counts { R.counts input.old ≡ no_faults }
+    requires taken { R.taken input.old ≡ 0 }
+    requires counts { W.counts out.old ≡ no_faults }
+    ensures whole { IfOk result (λ file. IfSome (R.left input.old) (λ bytes. file.items ≡ bytes)) }
+    ensures limit { IfOk result (λ file. vec_len file ≤ max_file) }
+    ensures read { OnOk result (IsRead
+        (input_after (R.left input.old) (R.taken input.new) (R.counts input.new))) }
+    ensures unwritten { OnOk result (out.new ≡ out.old) }
+    ensures err { IfErr result (λ refusal. StopsAtBeginning (next_line (At cursor)) refusal
+        (input_after (R.left input.old) (R.taken input.new) (R.counts input.new))
+        (output_after (W.written out.old) (W.written out.new) (W.counts out.new))) }
+{
+    match read_whole(alloc, input) {
+        Ok(file) => Ok(file),
+        Err(refusal) => match refusal {
+            Refusal::Memory => {
+                let mut interruptions = Interruptions::NONE;
+                let next = next_line(cursor);
+                Err(stop_for_memory(out, &mut interruptions, b"", &next))
+            }
+            _ => Err(refusal),
+        },
+    }
+}
+
+/// What the rows of a part begin with. Where memory is refused it writes where to go on: there.
+fn begin_or_stop<W: Sink>(part: &Part, out: &mut W) -> Result<Begun, Refusal>
+    requires { W.counts out.old ≡ no_faults }
+    ensures ok { IfOk result (λ begun. begun ≡ begun_of part.now) }
+    ensures unwritten { OnOk result (out.new ≡ out.old) }
+    ensures err { IfErr result (λ refusal. StopsWith
+        (next_line (At (begins_at (begun_of part.now)))) refusal
+        (output_after (W.written out.old) (W.written out.new) (W.counts out.new))) }
+{
+    match part.begun() {
+        Ok(begun) => Ok(begun),
+        Err(Memory) => {
+            let mut interruptions = Interruptions::NONE;
+            let next = next_line(part.begin());
+            Err(stop_for_memory(out, &mut interruptions, b"", &next))
+        }
+    }
+}
+
+/// Reads the input whole and prints the rows of its pages from the cursor on, up to the limit, and
+/// then `end`, or `next` with the place of the row that was due: a long cursor where the part asks
+/// for it and there is one.
+pub fn rows<R: Source, W: Sink>(
+    alloc: Global,
+    part: &Part,
+    input: &mut R,
+    out: &mut W,
+) -> Result<Option<ErrorLine>, Refusal>
+    requires input_counts { R.counts input.old ≡ no_faults }
+    requires taken { R.taken input.old ≡ 0 }
+    requires counts { W.counts out.old ≡ no_faults }
+    ensures ok { IfOk result (IsDone (Rows part.now)
+        (input_after (R.left input.old) (R.taken input.new) (R.counts input.new))
+        (output_after (W.written out.old) (W.written out.new) (W.counts out.new))) }
+    ensures err { IfErr result (λ refusal. IsStopped (Rows part.now) refusal
+        (input_after (R.left input.old) (R.taken input.new) (R.counts input.new))
+        (output_after (W.written out.old) (W.written out.new) (W.counts out.new))) }
+{
+    fax_walk::laws::beginnings_have_one_tail();
+    let begun = begin_or_stop(part, out)?;
+    let file = read_or_stop(alloc, part.begin(), input, out)?;
+    let mut walk = Walk::begin(alloc, &file, begun);
+    print_all(alloc, &mut walk, part.max, part.long, out)
+}
+
+/// Reads the input whole and prints the forms of its pages from the cursor on, up to the limit, and
+/// then `end`, or `next` with the place of the page that was due.
+pub fn list<R: Source, W: Sink>(
+    alloc: Global,
+    part: &Part,
+    input: &mut R,
+    out: &mut W,
+) -> Result<Option<ErrorLine>, Refusal>
+    requires input_counts { R.counts input.old ≡ no_faults }
+    requires taken { R.taken input.old ≡ 0 }
+    requires counts { W.counts out.old ≡ no_faults }
+    ensures ok { IfOk result (IsDone (Forms part.now)
+        (input_after (R.left input.old) (R.taken input.new) (R.counts input.new))
+        (output_after (W.written out.old) (W.written out.new) (W.counts out.new))) }
+    ensures err { IfErr result (λ refusal. IsStopped (Forms part.now) refusal
+        (input_after (R.left input.old) (R.taken input.new) (R.counts input.new))
+        (output_after (W.written out.old) (W.written out.new) (W.counts out.new))) }
+{
+    fax_walk::laws::form_tails_are_one();
+    let file = read_or_stop(alloc, part.cursor, input, out)?;
+    let mut pages = Pages::resume(&file, part.cursor);
+    print_all(alloc, &mut pages, part.max, false, out)
+}

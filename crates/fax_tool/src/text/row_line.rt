@@ -1,0 +1,109 @@
+//! The line of a row.
+ghost use Rattle.std.specs.Prelude.{◌≡◌, ◌+◌, ◌*◌, ◌≤◌, ◌++◌, OnErr, OnOk, decimal, flat_map};
+ghost use Rattle.std.specs.Prelude.{length, take};
+ghost use Rattle.fax_rows.specs.Rows.{runs_of};
+ghost use Rattle.fax_tool.specs.Text.{and_number, row_line_of};
+
+use crate::text::collected::{Collected, make_room, write_bytes};
+use fax_bits::Memory;
+use fax_rows::{LongestRuns, Row};
+use fax_walk::Place;
+use itoa::Buffer;
+
+/// The most bytes of a line but for its runs: a word, two numbers after a blank each, and the line
+/// end.
+const LINE_BYTES: usize = 26;
+
+/// The most bytes of a run after a blank.
+const RUN_BYTES: usize = 6;
+
+/// Writes a number of two digits or more at a place, and answers where it ends.
+#[tactic(auto, using(crate::proofs::NumberLemmas::lengths))]
+fn write_digits(bytes: &mut [u8], at: usize, number: u32) -> usize
+    requires long { 10 ≤ number }
+    requires room { at + length (decimal number) ≤ length bytes.old }
+    ensures written { take result bytes.new ≡ take at bytes.old ++ decimal number }
+    ensures end { result ≡ at + length (decimal number) }
+{
+    if number < 100 {
+        bytes[at] = b'0' + (number / 10) as u8;
+        bytes[at + 1] = b'0' + (number % 10) as u8;
+        return at + 2;
+    }
+    if number < 1000 {
+        bytes[at] = b'0' + (number / 100) as u8;
+        bytes[at + 1] = b'0' + (number / 10 % 10) as u8;
+        bytes[at + 2] = b'0' + (number % 10) as u8;
+        return at + 3;
+    }
+    if number < 10000 {
+        bytes[at] = b'0' + (number / 1000) as u8;
+        bytes[at + 1] = b'0' + (number / 100 % 10) as u8;
+        bytes[at + 2] = b'0' + (number / 10 % 10) as u8;
+        bytes[at + 3] = b'0' + (number % 10) as u8;
+        return at + 4;
+    }
+    let mut digits = Buffer::new();
+    write_bytes(bytes, at, digits.format(number).as_bytes())
+}
+
+/// Writes a blank and a number at a place, and answers where they end.
+#[inline(always)]
+#[tactic(auto, using(crate::proofs::NumberLemmas::length_one))]
+fn write_number(bytes: &mut [u8], at: usize, number: u32) -> usize
+    requires { at + length (and_number number) ≤ length bytes.old }
+    ensures written { take result bytes.new ≡ take at bytes.old ++ and_number number }
+    ensures end { result ≡ at + length (and_number number) }
+{
+    bytes[at] = b' ';
+    if number < 10 {
+        bytes[at + 1] = b'0' + number as u8;
+        return at + 2;
+    }
+    write_digits(bytes, at + 1, number)
+}
+
+/// Writes the runs of a row at a place, each after a blank, and answers where they end.
+fn write_runs(bytes: &mut [u8], at: usize, row: &Row) -> usize
+    requires { at + 6 * length (runs_of row.now) ≤ length bytes.old }
+    ensures written { take result bytes.new ≡ take at bytes.old
+        ++ flat_map and_number (runs_of row.now) }
+    ensures within { result ≤ at + 6 * length (runs_of row.now) }
+{
+    let mut end = at;
+    let mut runs = LongestRuns::of_row(row);
+    while let Some(run) = runs.next_run() {
+        end = write_number(bytes, end, run);
+    }
+    end
+}
+
+/// Writes the line of a row at a place, and answers where it ends.
+fn write_line(bytes: &mut [u8], at: usize, place: Place, row: &Row) -> usize
+    requires { at + (26 + 6 * length (runs_of row.now)) ≤ length bytes.old }
+    ensures written { take result bytes.new
+        ≡ take at bytes.old ++ row_line_of place.page place.row (runs_of row.now) }
+    ensures within { result ≤ length bytes.new }
+{
+    bytes[at] = b'r';
+    bytes[at + 1] = b'o';
+    bytes[at + 2] = b'w';
+    let page_end = write_number(bytes, at + 3, place.page);
+    let row_end = write_number(bytes, page_end, place.row);
+    let end = write_runs(bytes, row_end, row);
+    bytes[end] = b'\n';
+    end + 1
+}
+
+/// Appends the line of a row: `row P R` and the row's runs.
+pub fn put_row_line(text: &mut Collected, place: Place, row: &Row) -> Result<(), Memory>
+    ensures ok { OnOk result (text.new ≡ text.old
+        ++ row_line_of place.page place.row (runs_of row.now)) }
+    ensures err { OnErr result (text.new ≡ text.old) }
+{
+    let runs = LongestRuns::of_row(row).len();
+    let end = text.end;
+    make_room(&mut text.bytes, end, LINE_BYTES + RUN_BYTES * runs)?;
+    text.end = write_line(text.bytes.as_mut_slice(), end, place, row);
+    Ok(())
+}
