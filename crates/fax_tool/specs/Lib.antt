@@ -1,6 +1,6 @@
 pub mod Streams
 pub mod Words
-pub mod CommandLine
+pub mod Grammar
 pub mod Job
 pub mod Text
 pub mod ReportText
