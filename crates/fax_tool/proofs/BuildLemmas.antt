@@ -6,7 +6,7 @@ use Rattle.clap.specs.Simple.{App, app_of, app_of_fields, with_rule, with_subcom
 use Rattle.clap.specs.declared.builder.arg.Arg.{Arg}
 use Rattle.clap.specs.declared.builder.command.Command.{Command}
 use Rattle.clap.specs.declared.builder.command.Command.TheViews.{out-Command}
-use Rattle.fax_tool.specs.CommandLine.{bare_app}
+use Rattle.fax_tool.specs.code.CommandLine.{bare_app}
 use Rattle.fax_tool.specs.code.Entries.{IsApp}
 
 pub bare : (new c : Command) (name : Text) → out-Command c ≡ record (out-Command new) { disable_help_flag = true }

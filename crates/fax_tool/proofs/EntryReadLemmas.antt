@@ -20,7 +20,7 @@ use Rattle.clap.specs.declared.builder.value_parser.ValueParser.TheVariants as p
 use Rattle.clap.specs.declared.parser.matches.Found.{Found}
 use Rattle.clap.proofs.ValueTestLemmas.{accepts-Accepts}
 use Rattle.clap.proofs.WalkLemmas.{one_text-rows}
-use Rattle.fax_tool.specs.code.Entries.{HasFlag, HasNumber, IsNumberText}
+use Rattle.fax_tool.specs.code.Entries.{HasFlag, HasNumber, IsNumberText, given_by}
 use Rattle.fax_tool.specs.Job.{is_set, number_in}
 use Rattle.fax_tool.proofs.EntryLemmas.{ArePassed, entry_passed, entry_read}
 
@@ -95,7 +95,7 @@ has_flag name entries all = go (first_of name entries) refl
 pub number_read : (E : Type 0) (G : Text → Result ℕ E → Type 0) (f : Found) (name : Text) (most : ℕ) (r : Option ℕ)
     → ((u : Text) (x : Result ℕ E) → G u x → ParsesUnsigned 32 10 u x) → HasNumber name most (rows_of f) → most < 2 ^ 32
     → (one_text f name ≡ None → r ≡ None) → ((t : Text) → one_text f name ≡ Some t → ReadsOne G t r)
-    → r ≡ number_in name (rows_of f)
+    → r ≡ number_in name (given_by (rows_of f))
 number_read E G f name most r only has fits none value = go (first_of name (rows_of f)) refl
   where
     read : one_text f name ≡ first_of name (rows_of f)
@@ -105,7 +105,7 @@ number_read E G f name most r only has fits none value = go (first_of name (rows
     some t is (Some n) h = ap Some (only t (Ok n) h).1
     some t is None h = absurd (only t (Err h.0) h.1 (is.digits, (let within = is.within in omega arith)))
 
-    go : (o : Option Text) → first_of name (rows_of f) ≡ o → r ≡ number_in name (rows_of f)
+    go : (o : Option Text) → first_of name (rows_of f) ≡ o → r ≡ number_in name (given_by (rows_of f))
     go None is = none (read ∙ is) ∙ sym (ap (option_map (λ t. digits_value 10 (without_leading_plus t))) is)
     go (Some t) is = some t (has.is t is) r (value t (read ∙ is)) ∙ sym (ap (option_map (λ t. digits_value 10 (without_leading_plus t))) is)
 
@@ -113,13 +113,14 @@ pub u32_read : (f : Found) (name : Text) (most : ℕ) (r : Option ℕ) → HasNu
     → (one_text f name ≡ None → r ≡ None)
     → ((t : Text) → one_text f name ≡ Some t
     → ReadsOne (λ bs r. ParsesUnsigned 32 10 bs r × ExplainsUnsignedError 10 bs r × HasUnsignedDigitsIfOk bs r) t r)
-    → r ≡ number_in name (rows_of f)
+    → r ≡ number_in name (given_by (rows_of f))
 u32_read f name most r has fits none value =
     number_read ParseIntError (λ bs r. ParsesUnsigned 32 10 bs r × ExplainsUnsignedError 10 bs r × HasUnsignedDigitsIfOk bs r)
     f name most r (λ u x g. g.0) has fits none value
 
 -- the number of such an entry is in its range
-pub in_range : (name : Text) (most : ℕ) (entries : List Row) → HasNumber name most entries → (n : ℕ) → number_in name entries ≡ Some n
+pub in_range : (name : Text) (most : ℕ) (entries : List Row) → HasNumber name most entries → (n : ℕ)
+    → number_in name (given_by entries) ≡ Some n
     → (0 < n) × (n ≤ most)
 in_range name most entries has n is = go (first_of name entries) refl is
   where
@@ -135,8 +136,8 @@ in_range name most entries has n is = go (first_of name entries) refl is
 
 -- and so is the usual one
 pub in_range_or : (name : Text) (most usual : ℕ) (entries : List Row) → HasNumber name most entries → 0 < usual → usual ≤ most
-    → (0 < unwrap_or (number_in name entries) usual) × (unwrap_or (number_in name entries) usual ≤ most)
-in_range_or name most usual entries has some within = go (number_in name entries) (in_range name most entries has)
+    → (0 < unwrap_or (number_in name (given_by entries)) usual) × (unwrap_or (number_in name (given_by entries)) usual ≤ most)
+in_range_or name most usual entries has some within = go (number_in name (given_by entries)) (in_range name most entries has)
   where
     go : (o : Option ℕ) → ((n : ℕ) → o ≡ Some n → (0 < n) × (n ≤ most)) → (0 < unwrap_or o usual) × (unwrap_or o usual ≤ most)
     go None each = (some, within)
@@ -145,7 +146,7 @@ in_range_or name most usual entries has some within = go (number_in name entries
 -- what a getter reads of a flag
 pub flag_read : (f : Found) (name : Text) (r : Bool) → HasFlag name (rows_of f)
     → (one_text f name ≡ None → r ≡ false) → (one_text f name ≡ Some (codes "true") → r ≡ true)
-    → (one_text f name ≡ Some (codes "false") → r ≡ false) → r ≡ is_set name (rows_of f)
+    → (one_text f name ≡ Some (codes "false") → r ≡ false) → r ≡ is_set name (given_by (rows_of f))
 flag_read f name r has none set unset =
     let read = one_text-rows f name ∙ has.0 in
     let as_set = λ (o : Option Text) (at : first_of name (rows_of f) ≡ o).

@@ -1,10 +1,10 @@
 -- The examples of words, computed.
 use Rattle.std.proofs.Common.{refl}
-use Rattle.clap.proofs.OnLiterals.{clap_on_literals}
+use Rattle.std.specs.Str.{chars}
 use Rattle.fax_tool.specs.laws.Examples.{AreNotTaken, AreRead}
 
 pub are_read : AreRead
-unfolding clap_on_literals
+unfolding chars
 are_read = record {
   cursor = refl;
   cursor_joined = refl;
@@ -33,10 +33,10 @@ are_read = record {
 }
 
 pub are_not_taken : AreNotTaken
-unfolding clap_on_literals
+unfolding chars
 are_not_taken = record {
   none = refl;
-  command = refl;
+  name = refl;
   help = refl;
   help_of_rows = refl;
   command_after = refl;
@@ -49,6 +49,6 @@ are_not_taken = record {
   k = refl;
   order = refl;
   long = refl;
-  flag = refl;
-  target = refl;
+  flag_value = refl;
+  no_target = refl;
 }

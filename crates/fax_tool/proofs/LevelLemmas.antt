@@ -10,9 +10,9 @@ use Rattle.clap.specs.Simple.{App, Shape, argument_words, built, entered, label_
 use Rattle.clap.specs.Faults.{built_fault, check_fault, defaults_fault, entered_fault, level_fault, settle_fault, walk_fault}
 use Rattle.clap.specs.declared.builder.value_parser.ValueParser.TheVariants as parser
 use Rattle.clap.proofs.OnLiterals.{clap_on_literals}
-use Rattle.fax_tool.specs.CommandLine.{faxpages_app}
+use Rattle.fax_tool.specs.code.CommandLine.{faxpages_app}
 use Rattle.fax_tool.specs.code.Entries.{HasEntries, HasFlag, HasNumber}
-use Rattle.fax_tool.specs.Job.{AreTaken, command_of}
+use Rattle.fax_tool.proofs.ReadLemmas.{AreTaken, command_of}
 use Rattle.fax_tool.proofs.EntryLemmas.{AreRulesOf, level_passes, none_first, none_then}
 use Rattle.fax_tool.proofs.EntryReadLemmas.{has_flag, has_number}
 

@@ -6,6 +6,14 @@ mod EntryReadLemmas
 mod GetterLemmas
 mod LevelLemmas
 mod ExampleLemmas
+mod RuleLemmas
+mod UseLemmas
+mod ViewLemmas
+mod TurnLemmas
+mod WalkLemmas
+mod RowLemmas
+mod ReadLemmas
+mod AgreeLemmas
 mod AnswerLemmas
 pub mod LineLemmas
 pub mod StopLemmas

@@ -1,5 +1,5 @@
 pub mod Words
-pub mod CommandLine
+pub mod Grammar
 pub mod Job
 pub mod Text
 pub mod ReportText

@@ -6,3 +6,4 @@ pub mod Printing
 pub mod Outcome
 pub mod Caller
 pub mod Entries
+pub mod CommandLine

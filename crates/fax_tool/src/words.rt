@@ -3,11 +3,10 @@ ghost use Rattle.std.specs.Prelude.{◌≡◌, ◌≢◌, ◌⊎◌, true, false
 ghost use Rattle.std.specs.Prelude.{Some, None, codes, option_map};
 ghost use Rattle.std.specs.Io.KnownBytes.{Appends};
 ghost use Rattle.std.specs.String.{string_bytes};
-ghost use Rattle.clap.specs.Walk.{Text, first_of, rule_of, texts};
+ghost use Rattle.clap.specs.Walk.{first_of, rule_of};
 ghost use Rattle.fax_walk.specs.declared.options.Target.TheVariants.{Mmr, Pbm};
 ghost use Rattle.fax_tool.specs.declared.words.WordsFault.TheVariants.{Usage as BadWords};
-ghost use Rattle.fax_tool.specs.CommandLine.{check_app, convert_app, faxpages_app, printing_app};
-ghost use Rattle.fax_tool.specs.CommandLine.{rows_app, value_rule};
+ghost use Rattle.fax_tool.specs.Grammar.{Text, texts};
 ghost use Rattle.fax_tool.specs.Job.{AreOptions, HasNoTarget, HasRanges, IsCommand};
 ghost use Rattle.fax_tool.specs.Job.{IsCommandFault, IsFault, IsJob};
 ghost use Rattle.fax_tool.specs.Job.{IsNoCursor, IsNoLongCursor, IsPartOfPages, IsPartOfRows};
@@ -16,7 +15,9 @@ ghost use Rattle.fax_tool.specs.Run.{HasFailed};
 ghost use Rattle.fax_tool.specs.views.Streams.{no_faults};
 ghost use Rattle.fax_tool.specs.Words.{words_status, words_text};
 ghost use Rattle.fax_tool.specs.code.Entries.{HasEntries, HasFlag, HasNumber, HasOptions};
-ghost use Rattle.fax_tool.specs.code.Entries.{IsApp, entries_of};
+ghost use Rattle.fax_tool.specs.code.CommandLine.{check_app, convert_app, faxpages_app};
+ghost use Rattle.fax_tool.specs.code.CommandLine.{printing_app, rows_app, value_rule};
+ghost use Rattle.fax_tool.specs.code.Entries.{IsApp, entries_of, given_by};
 
 use crate::streams::Sink;
 use crate::streams::transfer::{Interruptions, give_all};
@@ -289,7 +290,7 @@ fn file_of(alloc: Global, matches: &ArgMatches) -> Result<Option<String>, AllocE
 /// The part of a file's pages that the words after `list` name.
 fn pages_of(matches: &ArgMatches) -> Result<Part, NotACursor>
     requires { HasNumber (codes "max") 4294967295 (entries_of matches.now) }
-    ensures ok { IfOk result (λ part. IsPartOfPages (entries_of matches.now) part) }
+    ensures ok { IfOk result (λ part. IsPartOfPages (given_by (entries_of matches.now)) part) }
     ensures err { OnErr result ((text : Text)
         × (first_of (codes "cursor") (entries_of matches.now) ≡ Some text) × IsNoCursor text) }
 {
@@ -309,7 +310,7 @@ fn pages_of(matches: &ArgMatches) -> Result<Part, NotACursor>
 fn rows_of(alloc: Global, matches: &ArgMatches) -> Result<Part, WordsFault>
     requires max { HasNumber (codes "max") 4294967295 (entries_of matches.now) }
     requires long { HasFlag (codes "long") (entries_of matches.now) }
-    ensures ok { IfOk result (λ part. IsPartOfRows (entries_of matches.now) part) }
+    ensures ok { IfOk result (λ part. IsPartOfRows (given_by (entries_of matches.now)) part) }
     ensures err { IfErr result (λ fault. (fault ≢ BadWords)
         × (fault ≡ WordsFault.NotACursor → (text : Text)
         × (first_of (codes "cursor") (entries_of matches.now) ≡ Some text)
@@ -335,7 +336,7 @@ fn rows_of(alloc: Global, matches: &ArgMatches) -> Result<Part, WordsFault>
 
 /// What the word after `-o` names, if it names a target.
 fn target_of(matches: &ArgMatches) -> Option<Target>
-    ensures { result ≡ target_in (entries_of matches.now) }
+    ensures { result ≡ target_in (given_by (entries_of matches.now)) }
 {
     match matches.get_str("o")? {
         "pbm" => Some(Target::Pbm),
@@ -349,7 +350,7 @@ fn target_of(matches: &ArgMatches) -> Option<Target>
 /// Which bit of a byte is to be first.
 fn order_of(matches: &ArgMatches) -> FillOrder
     requires { HasNumber (codes "order") 2 (entries_of matches.now) }
-    ensures { result ≡ order_by (number_in (codes "order") (entries_of matches.now)) }
+    ensures { result ≡ order_by (number_in (codes "order") (given_by (entries_of matches.now))) }
 {
     let order = matches.get_one::<u32>("order").unwrap_or(1);
     if order == 2 {
@@ -374,8 +375,9 @@ fn has_eols(target: Target) -> bool
 /// EOLs where these are to be aligned.
 fn options_of(matches: &ArgMatches) -> Option<Options>
     requires { HasOptions (entries_of matches.now) }
-    ensures some { IfSome result (λ options. AreOptions (entries_of matches.now) options) }
-    ensures none { result ≡ None → HasNoTarget (entries_of matches.now) }
+    ensures some { IfSome result (λ options.
+        AreOptions (given_by (entries_of matches.now)) options) }
+    ensures none { result ≡ None → HasNoTarget (given_by (entries_of matches.now)) }
 {
     let target = target_of(matches)?;
     let aligned = matches.get_flag("align");
@@ -395,10 +397,10 @@ fn options_of(matches: &ArgMatches) -> Option<Options>
 fn command_of(alloc: Global, name: &str, matches: &ArgMatches) -> Result<Command, WordsFault>
     requires { HasEntries name.now (entries_of matches.now) }
     ensures command { IfOk result (λ command.
-        IsCommand name.now (entries_of matches.now) command) }
+        IsCommand name.now (given_by (entries_of matches.now)) command) }
     ensures ranges { IfOk result (λ command. HasRanges command) }
     ensures fault { IfErr result (λ fault.
-        IsCommandFault name.now (entries_of matches.now) fault) }
+        IsCommandFault name.now (given_by (entries_of matches.now)) fault) }
 {
     match name {
         "list" => Ok(Command::List(pages_of(matches)?)),

@@ -1,5 +1,6 @@
 -- What a reader of the entries of a command line may rely on: it speaks of this code alone.
-use Rattle.std.specs.Prelude.{◌≡◌, ◌⊎◌, ◌||◌, ◌<◌, ◌≤◌, ℕ, true, false, List, Some, None, codes}
+use Rattle.std.specs.Prelude.{◌≡◌, ◌⊎◌, ◌||◌, ◌<◌, ◌≤◌, ℕ, true, false, List, Option, Some}
+use Rattle.std.specs.Prelude.{None, codes}
 use Rattle.std.specs.Option.{ForSome}
 use Rattle.std.specs.Str.{bytes_eq}
 use Rattle.std.specs.Str.Parse.{IsNumeral, digits_value, without_leading_plus}
@@ -17,6 +18,10 @@ IsApp c a = (app_of c ≡ a) × ((out-Command c).has_globals ≡ false)
 -- the entries of some matches
 abbrev pub entries_of : ArgMatches → List Row
 entries_of m = rows_of (found_of m)
+
+-- the text that the entries give for a name
+abbrev pub given_by : List Row → Text → Option Text
+given_by entries name = first_of name entries
 
 -- the text is a number from 1 up to the most, where a plus may stand first
 pub record IsNumberText (most : ℕ) (text : Text) : Type 0 where

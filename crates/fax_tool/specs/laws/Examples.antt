@@ -1,30 +1,27 @@
 -- What some words give, and some that are not taken.
-use Rattle.std.specs.Prelude.{◌≡◌, ◌==◌, ℕ, Bool, true, false, List, [], ◌∷◌, length, Option}
-use Rattle.std.specs.Prelude.{Some, None, codes, if◌then◌else◌, option_and_then, option_map}
-use Rattle.clap.specs.Walk.{Row, Text, first_of}
-use Rattle.clap.specs.Faults.{fault_of}
+use Rattle.std.specs.Prelude.{◌≡◌, ℕ, Bool, true, false, List, [], ◌∷◌, Option, Some, None, codes}
+use Rattle.std.specs.Prelude.{option_and_then, option_map}
 use Rattle.fax_walk.specs.declared.options.Target.{Target}
 use Rattle.fax_walk.specs.declared.options.Target.TheVariants.{Mh}
-use Rattle.fax_tool.specs.CommandLine.{faxpages_app}
-use Rattle.fax_tool.specs.Job.{command_of, is_set, number_in, target_in}
+use Rattle.fax_tool.specs.Grammar.{Text, Use, read, text_in}
+use Rattle.fax_tool.specs.Job.{is_set, number_in, target_in}
 
--- the command that these words name, and the entries after it, where the words are taken
-abbrev pub read : List Text → Option (Text × List Row)
-read words = if length (fault_of faxpages_app (codes "faxpages" ∷ words)) == 0
-    then command_of (codes "faxpages" ∷ words) else None
+-- the command that these words name, and the uses after it
+abbrev pub command : List Text → Option (Text × List Use)
+command words = read (codes "faxpages" ∷ words)
 
 -- the text, the number, the flag and the target that they give
 abbrev pub text : Text → List Text → Option Text
-text name words = option_and_then (λ c. first_of name c.1) (read words)
+text name words = option_and_then (λ c. text_in c.1 name) (command words)
 
 abbrev pub number : Text → List Text → Option ℕ
-number name words = option_and_then (λ c. number_in name c.1) (read words)
+number name words = option_and_then (λ c. number_in name (text_in c.1)) (command words)
 
 abbrev pub flag : Text → List Text → Option Bool
-flag name words = option_map (λ c. is_set name c.1) (read words)
+flag name words = option_map (λ c. is_set name (text_in c.1)) (command words)
 
 abbrev pub target : List Text → Option Target
-target words = option_and_then (λ c. target_in c.1) (read words)
+target words = option_and_then (λ c. target_in (text_in c.1)) (command words)
 
 -- each option in each spelling
 pub record AreRead : Type 0 where
@@ -64,21 +61,21 @@ pub record AreRead : Type 0 where
   pub file_hyphen : text (codes "FILE") (codes "list" ∷ codes "-" ∷ []) ≡ Some (codes "-")
   pub no_file : text (codes "FILE") (codes "list" ∷ []) ≡ None
 
--- words that are not taken
+-- words that no command has
 pub record AreNotTaken : Type 0 where
-  pub none : read [] ≡ None
-  pub command : read (codes "row" ∷ []) ≡ None
-  pub help : read (codes "--help" ∷ []) ≡ None
-  pub help_of_rows : read (codes "rows" ∷ codes "--help" ∷ []) ≡ None
-  pub command_after : read (codes "--" ∷ codes "list" ∷ []) ≡ None
-  pub one_file : read (codes "list" ∷ codes "a" ∷ codes "b" ∷ []) ≡ None
-  pub no_value : read (codes "list" ∷ codes "--max" ∷ []) ≡ None
-  pub value : read (codes "list" ∷ codes "--cursor" ∷ codes "--max=3" ∷ []) ≡ None
-  pub once : read (codes "list" ∷ codes "--cursor=a" ∷ codes "--cursor=a" ∷ []) ≡ None
-  pub zero : read (codes "list" ∷ codes "--max=0" ∷ []) ≡ None
-  pub too_many : read (codes "rows" ∷ codes "--max=4294967296" ∷ []) ≡ None
-  pub k : read (codes "convert" ∷ codes "-omr" ∷ codes "--k=1000001" ∷ []) ≡ None
-  pub order : read (codes "convert" ∷ codes "-omr" ∷ codes "--order=3" ∷ []) ≡ None
-  pub long : read (codes "list" ∷ codes "--long" ∷ []) ≡ None
-  pub flag : read (codes "rows" ∷ codes "--long=true" ∷ []) ≡ None
-  pub target : read (codes "convert" ∷ codes "a" ∷ []) ≡ None
+  pub none : command [] ≡ None
+  pub name : command (codes "row" ∷ []) ≡ None
+  pub help : command (codes "--help" ∷ []) ≡ None
+  pub help_of_rows : command (codes "rows" ∷ codes "--help" ∷ []) ≡ None
+  pub command_after : command (codes "--" ∷ codes "list" ∷ []) ≡ None
+  pub one_file : command (codes "list" ∷ codes "a" ∷ codes "b" ∷ []) ≡ None
+  pub no_value : command (codes "list" ∷ codes "--max" ∷ []) ≡ None
+  pub value : command (codes "list" ∷ codes "--cursor" ∷ codes "--max=3" ∷ []) ≡ None
+  pub once : command (codes "list" ∷ codes "--cursor=a" ∷ codes "--cursor=a" ∷ []) ≡ None
+  pub zero : command (codes "list" ∷ codes "--max=0" ∷ []) ≡ None
+  pub too_many : command (codes "rows" ∷ codes "--max=4294967296" ∷ []) ≡ None
+  pub k : command (codes "convert" ∷ codes "-omr" ∷ codes "--k=1000001" ∷ []) ≡ None
+  pub order : command (codes "convert" ∷ codes "-omr" ∷ codes "--order=3" ∷ []) ≡ None
+  pub long : command (codes "list" ∷ codes "--long" ∷ []) ≡ None
+  pub flag_value : command (codes "rows" ∷ codes "--long=true" ∷ []) ≡ None
+  pub no_target : target (codes "convert" ∷ codes "a" ∷ []) ≡ None

@@ -2,7 +2,7 @@
 -- A definition without a citation is this project's profile.
 use Rattle.std.specs.Prelude.{◌≡◌, ◌⊎◌, ℕ, List, Option, IfSome}
 use Rattle.std.specs.Io.KnownBytes.{Appends}
-use Rattle.clap.specs.Walk.{Text}
+use Rattle.fax_tool.specs.Grammar.{Text}
 use Rattle.fax_tool.specs.Job.{IsFault, IsJob}
 use Rattle.fax_tool.specs.Run.{HasFailed, IsRefused, WritesText, Counts, Input, Output}
 use Rattle.fax_tool.specs.Words.{words_status, words_text}

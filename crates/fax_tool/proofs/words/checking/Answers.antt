@@ -1,5 +1,5 @@
 use Rattle.std.proofs.lemmas.Result.{IfOk-weaker}
-use Rattle.fax_tool.specs.CommandLine.{file_rule}
+use Rattle.fax_tool.specs.code.CommandLine.{file_rule}
 use Rattle.fax_tool.proofs.BuildLemmas.{add_arg, bare}
 use Rattle.fax_tool.proofs.words.checking.Goals as goal
 

@@ -4,7 +4,7 @@ use Rattle.std.proofs.lemmas.Result.{IfOk-weaker}
 use Rattle.clap.specs.Walk.{Rule, rule_of}
 use Rattle.clap.specs.declared.builder.action.ArgAction.TheVariants.{SetTrue}
 use Rattle.clap.specs.declared.builder.value_parser.ValueParser.TheVariants.{Signed}
-use Rattle.fax_tool.specs.CommandLine.{file_rule, flag_rule, number_rule, target_rule, value_rule}
+use Rattle.fax_tool.specs.code.CommandLine.{file_rule, flag_rule, number_rule, target_rule, value_rule}
 use Rattle.fax_tool.proofs.BuildLemmas.{add_arg, bare}
 use Rattle.fax_tool.proofs.words.converting.Goals as goal
 

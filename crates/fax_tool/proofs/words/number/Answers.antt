@@ -2,7 +2,7 @@ use Rattle.std.proofs.Common.{◌≡◌, ◌∙◌, ap, ap₂}
 use Rattle.std.specs.Prelude.{Some, Option}
 use Rattle.clap.specs.Walk.{Rule, rule_of}
 use Rattle.clap.specs.declared.builder.value_parser.ValueParser.{ValueParser}
-use Rattle.fax_tool.specs.CommandLine.{text_rule}
+use Rattle.fax_tool.specs.code.CommandLine.{text_rule}
 use Rattle.fax_tool.proofs.words.number.Goals as goal
 
 pub returns-clause-rule : goal.returns-clause-rule

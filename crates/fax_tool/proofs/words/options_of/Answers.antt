@@ -2,17 +2,17 @@ use Rattle.std.proofs.Common.{◌≡◌, ◌∙◌, ◌<◌, ⊎_elim, ap, codes
 use Rattle.std.specs.Prelude.{Some, unwrap_or}
 use Rattle.clap.specs.Matches.{found_of}
 use Rattle.fax_walk.specs.declared.options.Target.TheVariants.{Mmr, Pbm}
-use Rattle.fax_tool.specs.code.Entries.{entries_of}
+use Rattle.fax_tool.specs.code.Entries.{entries_of, given_by}
 use Rattle.fax_tool.specs.Job.{is_set, number_in, target_in}
 use Rattle.fax_tool.proofs.EntryReadLemmas.{flag_read, in_range, in_range_or, u32_read}
 use Rattle.fax_tool.proofs.words.options_of.Goals as goal
 use Rattle.fax_tool.proofs.words.options_of.Goals.{After-get_flag-aligned, After-get_one-2, else-aligned-via-then-aligned+else-not-has_eols}
 use Rattle.fax_tool.proofs.words.options_of.Goals.{else-aligned-via-else-aligned}
 
-target_named : (c : After-get_flag-aligned) → target_in (entries_of c.args.matches.now) ≡ Some c.in_ok-target.target
+target_named : (c : After-get_flag-aligned) → target_in (given_by (entries_of c.args.matches.now)) ≡ Some c.in_ok-target.target
 target_named c = sym c.target_of.ensures ∙ c.in_ok-target.was
 
-flag : (c : After-get_flag-aligned) → c.get_flag-aligned.result ≡ is_set (codes "align") (entries_of c.args.matches.now)
+flag : (c : After-get_flag-aligned) → c.get_flag-aligned.result ≡ is_set (codes "align") (given_by (entries_of c.args.matches.now))
 flag c =
     flag_read (found_of c.args.matches.now) (codes "align") c.get_flag-aligned.result c.requires.align
     c.get_flag-aligned.ensures.none c.get_flag-aligned.ensures.value c.get_flag-aligned.ensures.other
@@ -26,12 +26,12 @@ returns-then-not-has_eols-clause-none c is =
           (c.has_eols.ensures.none c.if-not-has_eols.true),
     )
 
-k_read : (c : After-get_one-2) → c.get_one.result ≡ number_in (codes "k") (entries_of c.args.matches.now)
+k_read : (c : After-get_one-2) → c.get_one.result ≡ number_in (codes "k") (given_by (entries_of c.args.matches.now))
 k_read c =
     u32_read (found_of c.args.matches.now) (codes "k") 1000000 c.get_one.result c.requires.k (lit< tt)
     c.get_one.ensures.none c.get_one.ensures.value
 
-strip_read : (c : After-get_one-2) → c.get_one-2.result ≡ number_in (codes "strip") (entries_of c.args.matches.now)
+strip_read : (c : After-get_one-2) → c.get_one-2.result ≡ number_in (codes "strip") (given_by (entries_of c.args.matches.now))
 strip_read c =
     u32_read (found_of c.args.matches.now) (codes "strip") 1000000 c.get_one-2.result c.requires.strip (lit< tt)
     c.get_one-2.ensures.none c.get_one-2.ensures.value
@@ -44,7 +44,7 @@ has_eols c aligned = elim c.else-aligned.branch [
 
 pub invariant_of-result : goal.invariant_of-result
 invariant_of-result c =
-    let k : 0 < unwrap_or (number_in (codes "k") (entries_of c.args.matches.now)) 4 =
+    let k : 0 < unwrap_or (number_in (codes "k") (given_by (entries_of c.args.matches.now))) 4 =
     (in_range_or (codes "k") 1000000 4 (entries_of c.args.matches.now) c.requires.k (lit< tt) (lit≤ tt)).0 in
     record {
       some_k = rw (c.unwrap_or.ensures, k_read c) k;

@@ -3,13 +3,14 @@ use Rattle.std.specs.Prelude.{unwrap_or}
 use Rattle.std.proofs.lemmas.Bool.{ne_eqb}
 use Rattle.clap.specs.Matches.{found_of}
 use Rattle.fax_bits.specs.declared.FillOrder.TheVariants.{LsbFirst, MsbFirst}
-use Rattle.fax_tool.specs.code.Entries.{entries_of}
+use Rattle.fax_tool.specs.code.Entries.{entries_of, given_by}
 use Rattle.fax_tool.specs.Job.{number_in, order_by}
 use Rattle.fax_tool.proofs.EntryReadLemmas.{u32_read}
 use Rattle.fax_tool.proofs.words.order_of.Goals as goal
 use Rattle.fax_tool.proofs.words.order_of.Goals.{After-unwrap_or-order}
 
-read : (c : After-unwrap_or-order) → c.unwrap_or-order.result ≡ unwrap_or (number_in (codes "order") (entries_of c.args.matches.now)) 1
+read : (c : After-unwrap_or-order)
+    → c.unwrap_or-order.result ≡ unwrap_or (number_in (codes "order") (given_by (entries_of c.args.matches.now))) 1
 read c =
     c.unwrap_or-order.ensures
     ∙ ap (λ o. unwrap_or o 1) (u32_read (found_of c.args.matches.now) (codes "order") 2 c.get_one.result c.requires (lit< tt)
@@ -22,9 +23,9 @@ usual : (o : Option ℕ) → (unwrap_or o 1 ≡ 2 → ⊥) → MsbFirst ≡ orde
 usual o other = rw (ne_eqb (unwrap_or o 1) 2 other) refl
 
 pub returns-then-order-eq2 : goal.returns-then-order-eq2
-returns-then-order-eq2 c = last_first (number_in (codes "order") (entries_of c.args.matches.now))
+returns-then-order-eq2 c = last_first (number_in (codes "order") (given_by (entries_of c.args.matches.now)))
     (sym (read (goal.at.returns-then-order-eq2 c).After-unwrap_or-order) ∙ c.if-order-eq2.true)
 
 pub returns-else-order-eq2 : goal.returns-else-order-eq2
-returns-else-order-eq2 c = usual (number_in (codes "order") (entries_of c.args.matches.now))
+returns-else-order-eq2 c = usual (number_in (codes "order") (given_by (entries_of c.args.matches.now)))
     (λ two. c.if-order-eq2.false (read (goal.at.returns-else-order-eq2 c).After-unwrap_or-order ∙ two))

@@ -1,12 +1,21 @@
-use Rattle.std.proofs.Common.{◌≡◌, inr, rules, subst, sym, List, Some}
-use Rattle.std.specs.Prelude.{Err, IfErr, Ok, Result}
+use Rattle.std.proofs.Common.{◌≡◌, ◌∙◌, ap, inl, inr, refl, rules, subst, sym, List, [], Some}
+use Rattle.std.specs.Prelude.{◌≢◌, codes, option_and_then, Err, IfErr, Ok, Result}
 use Rattle.std.specs.Result.{IsErrAnd}
-use Rattle.clap.specs.Walk.{Row, Text, texts}
-use Rattle.fax_tool.specs.code.Entries.{entries_of}
-use Rattle.fax_tool.specs.Job.{AreTaken, IsCommandFault, IsFault, command_of}
+use Rattle.clap.specs.Walk.{Row}
+use Rattle.clap.specs.Faults.{fault_of}
+use Rattle.clap.specs.Kinds.{HasKind, IsAmong, Kinds}
+use Rattle.clap.specs.Values.{kind_of}
+use Rattle.clap.specs.declared.error.Error.{Error}
+use Rattle.clap.specs.declared.error.kind.ErrorKind.TheVariants.{OutOfMemory}
+use Rattle.fax_tool.specs.Grammar.{Text, texts}
+use Rattle.fax_tool.specs.code.CommandLine.{faxpages_app}
+use Rattle.fax_tool.specs.code.Entries.{entries_of, given_by}
+use Rattle.fax_tool.specs.Job.{IsCommandFault, IsFault, target_of}
 use Rattle.fax_tool.specs.declared.words.WordsFault.{WordsFault}
 use Rattle.fax_tool.specs.declared.words.WordsFault.TheVariants.{Memory, NotACursor, Usage}
+use Rattle.fax_tool.proofs.AgreeLemmas.{command_agrees, fault_agrees}
 use Rattle.fax_tool.proofs.LevelLemmas.{taken_entries}
+use Rattle.fax_tool.proofs.ReadLemmas.{AreTaken, IsReadAs, command_of, read_as}
 use Rattle.fax_tool.proofs.words.parse_words.Goals as goal
 use Rattle.fax_tool.proofs.words.parse_words.Goals.{In-Some}
 
@@ -20,13 +29,18 @@ pub command_of-requires : goal.command_of-requires
 command_of-requires c =
     taken_entries (texts c.args.words.now) c.in-Some.name.now (entries_of c.in-Some.of_command.now) (taken c) (named c)
 
-refused : (words : List Text) (name : Text) (entries : List Row) (fault : WordsFault) → AreTaken words
-    → command_of words ≡ Some (name, entries)
-    → IsCommandFault name entries fault → IsFault words fault
-refused words name entries Usage taken named is =
-    inr (record { taken = taken; name = name; entries = entries; named = named; command = is })
-refused words name entries NotACursor taken named is = record { taken = taken; name = name; entries = entries; named = named; command = is }
-refused words name entries Memory taken named is = tt
+-- what the words are read as
+of_words : (c : In-Some) → IsReadAs (texts c.args.words.now) c.in-Some.name.now (entries_of c.in-Some.of_command.now)
+of_words c =
+    (read_as (texts c.args.words.now)).0 c.in-Some.name.now (entries_of c.in-Some.of_command.now) (taken c) (named c)
+
+refused : (words : List Text) (name : Text) (entries : List Row) (fault : WordsFault) → IsReadAs words name entries
+    → IsCommandFault name (given_by entries) fault → IsFault words fault
+refused words name entries Usage of is =
+    inr (record { name = name; uses = of.0; named = of.1; command = fault_agrees entries of.0 of.2 name Usage is })
+refused words name entries NotACursor of is =
+    record { name = name; uses = of.0; named = of.1; command = fault_agrees entries of.0 of.2 name NotACursor is }
+refused words name entries Memory of is = tt
 
 fault_up : {T : Type 0} (r : Result T WordsFault) (fault : WordsFault) (words : List Text) → IsErrAnd r (λ y. y ≡ fault)
     → IsFault words fault
@@ -39,17 +53,42 @@ returns-in_err-command_of-clause-fault c =
     let at = (goal.at.returns-in_err-command_of-clause-fault c).In-Some in
     let words = texts c.args.words.now in
     fault_up c.from_residual-in_err-command_of.result c.in_err-command_of.field-0.0 words c.from_residual-in_err-command_of.ensures.1
-    (refused words c.in-Some.name.now (entries_of c.in-Some.of_command.now) c.in_err-command_of.field-0.0 (taken at) (named at)
+    (refused words c.in-Some.name.now (entries_of c.in-Some.of_command.now) c.in_err-command_of.field-0.0 (of_words at)
     c.in_err-command_of.ensures.fault)
 
 pub returns-clause-job : goal.returns-clause-job
 returns-clause-job c =
-    let at = (goal.at.returns-clause-job c).In-Some in
+    let of = of_words (goal.at.returns-clause-job c).In-Some in
+    let entries = entries_of c.in-Some.of_command.now in
     record {
-      taken = taken at;
       name = c.in-Some.name.now;
-      entries = entries_of c.in-Some.of_command.now;
-      named = named at;
-      command = c.in_ok-command_of.ensures.command;
-      file = c.in_ok-file_of.ensures;
+      uses = of.0;
+      named = of.1;
+      command = command_agrees entries of.0 of.2 c.in-Some.name.now c.in_ok-command_of.field-0 c.in_ok-command_of.ensures.command;
+      file = c.in_ok-file_of.ensures ∙ of.2.name;
     }
+
+-- words that clap does not take
+unread : (words : List Text) → (AreTaken words → ⊥) → IsFault words Usage
+unread words untaken = elim ((read_as words).1 untaken) [
+  | inl none ↦ inl none
+  | inr of ↦ inr (record { name = codes "convert"; uses = of.0; named = of.1; command = (refl, inl (ap (option_and_then target_of) of.2)) })
+]
+
+untaken_up : {T : Type 0} (r : Result T WordsFault) (words : List Text) (error : Error)
+    → IsErrAnd r (λ gives. (gives ≢ NotACursor) × (gives ≡ Usage → kind_of error ≢ OutOfMemory))
+    → HasKind (fault_of faxpages_app words) error → IfErr r (IsFault words)
+untaken_up (Ok x) words error gives is = tt
+untaken_up (Err Usage) words error gives is = unread words (λ taken. none taken is)
+  where
+    none : {kinds : Kinds} → kinds ≡ [] → HasKind kinds error → ⊥
+    none empty (inl memory) = gives.1 refl memory
+    none empty (inr among) = subst (IsAmong (kind_of error)) empty among
+untaken_up (Err NotACursor) words error gives is = absurd (gives.0 refl)
+untaken_up (Err Memory) words error gives is = tt
+
+pub returns-in_err-matches-clause-fault : goal.returns-in_err-matches-clause-fault
+returns-in_err-matches-clause-fault c =
+    let words = texts c.args.words.now in
+    let kinds : HasKind (fault_of faxpages_app words) c.in_err-matches.field-0.0 = search rules in
+    untaken_up c.from_residual-in_err-matches.result words c.in_err-matches.field-0.0 c.from_residual-in_err-matches.ensures.1 kinds

@@ -2,7 +2,7 @@ use Rattle.std.proofs.Common.{◌≡◌, ◌∙◌, ap, rules, codes, pos}
 use Rattle.std.proofs.lemmas.Result.{IfOk-weaker}
 use Rattle.clap.specs.Walk.{rule_of}
 use Rattle.clap.specs.declared.builder.value_parser.ValueParser.TheVariants.{Signed}
-use Rattle.fax_tool.specs.CommandLine.{file_rule, number_rule, value_rule}
+use Rattle.fax_tool.specs.code.CommandLine.{file_rule, number_rule, value_rule}
 use Rattle.fax_tool.proofs.BuildLemmas.{add_arg, bare}
 use Rattle.fax_tool.proofs.words.printing.Goals as goal
 

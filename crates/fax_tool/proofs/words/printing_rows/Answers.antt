@@ -1,7 +1,7 @@
 use Rattle.std.proofs.Common.{◌≡◌, rules, codes, false}
 use Rattle.std.proofs.lemmas.Result.{IfOk-weaker}
 use Rattle.clap.specs.Walk.{rule_of}
-use Rattle.fax_tool.specs.CommandLine.{flag_rule}
+use Rattle.fax_tool.specs.code.CommandLine.{flag_rule}
 use Rattle.fax_tool.proofs.BuildLemmas.{add_arg}
 use Rattle.fax_tool.proofs.words.printing_rows.Goals as goal
 

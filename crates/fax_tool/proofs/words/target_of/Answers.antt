@@ -1,7 +1,7 @@
 use Rattle.std.proofs.Common.{◌≡◌, ◌∙◌, ap, codes, sym}
 use Rattle.std.specs.Prelude.{option_and_then}
 use Rattle.clap.specs.Matches.{found_of}
-use Rattle.fax_tool.specs.code.Entries.{entries_of}
+use Rattle.fax_tool.specs.code.Entries.{entries_of, given_by}
 use Rattle.fax_tool.specs.Job.{target_in, target_of}
 use Rattle.fax_tool.proofs.GetterLemmas.{no_target, none_given, text_given}
 use Rattle.fax_tool.proofs.words.target_of.Goals as goal
@@ -12,7 +12,7 @@ returns-in_err-get_str c =
     c.from_residual.ensures ∙ sym (ap (option_and_then target_of) (none_given (found_of c.args.matches.now) (codes "o") _ c.get_str.ensures
     c.in_err-get_str.was))
 
-named : (c : In_ok-get_str) → target_in (entries_of c.args.matches.now) ≡ target_of c.in_ok-get_str.field-0.now
+named : (c : In_ok-get_str) → target_in (given_by (entries_of c.args.matches.now)) ≡ target_of c.in_ok-get_str.field-0.now
 named c = ap (option_and_then target_of) (text_given (found_of c.args.matches.now) (codes "o") _ c.in_ok-get_str.field-0 c.get_str.ensures
     c.in_ok-get_str.was)
 

@@ -1,0 +1,277 @@
+-- What the rows of a parse are, of the uses that the words make.
+use Rattle.std.proofs.Common.{◌≡◌, ◌∙◌, ◌||◌, ◌&&◌, ◌++◌, ap, append_assoc, cond, codes, refl, sym, Bool, true, false}
+use Rattle.std.proofs.Common.{List, [], ◌∷◌, Option, Some, None, map}
+use Rattle.std.specs.Prelude.{find, not, slice_get, option_and_then, option_map}
+use Rattle.std.specs.List.{fold, list_all, list_any}
+use Rattle.std.specs.Option.{option_map_or}
+use Rattle.std.specs.Str.{bytes_eq}
+use Rattle.clap.specs.Kinds.{Kinds, or_else}
+use Rattle.clap.specs.Walk.{Row, Text, arg_by_index, more_values, with_values, first_of, has_row, reading_by, rows_after, settled, walk}
+use Rattle.clap.specs.Walk.{walk_from, idle, nothing_held, with_default}
+use Rattle.clap.specs.Takes.{is_given}
+use Rattle.clap.specs.Facts.{explicit_source}
+use Rattle.clap.specs.Faults.{check_fault, default_fault, defaults_fault, level_fault, settle_fault, walk_fault}
+use Rattle.clap.specs.declared.error.kind.ErrorKind.TheVariants.{MissingRequiredArgument}
+use Rattle.clap.specs.declared.parser.matches.ValueSource.TheVariants.{DefaultValue}
+use Rattle.fax_tool.specs.Grammar.{Item, Use, are_apart, checked, file, flag, is_taken, is_used, letter, name_of, number, text, text_in}
+use Rattle.fax_tool.specs.Grammar.{uses_from, uses_of}
+use Rattle.fax_tool.proofs.RuleLemmas.{rule_of, rules_of}
+use Rattle.fax_tool.proofs.UseLemmas.{at_end, guard, guard_twice, row_of}
+use Rattle.fax_tool.proofs.TurnLemmas.{IsOf, leaf, run, stand}
+use Rattle.fax_tool.proofs.WalkLemmas.{entered, whole_walk}
+
+rows_used : (id : Text) (before : List Use) → has_row id (map row_of before) ≡ is_used id before
+rows_used id [] = refl
+rows_used id (u ∷ us) = ap (λ b. bytes_eq (name_of u.item) id || b) (rows_used id us)
+
+rows_of_more : (before : List Use) (u : Use) → map row_of before ++ row_of u ∷ [] ≡ map row_of (before ++ u ∷ [])
+rows_of_more [] u = refl
+rows_of_more (x ∷ xs) u = ap (λ rs. row_of x ∷ rs) (rows_of_more xs u)
+
+no_more_uses : (before : List Use) → before ++ [] ≡ before
+no_more_uses [] = refl
+no_more_uses (u ∷ us) = ap (λ xs. u ∷ xs) (no_more_uses us)
+
+entered_from : (before uses : List Use)
+    → entered (map row_of before) uses ≡ cond (are_apart before uses && list_all is_taken uses) (Some (map row_of (before ++ uses))) None
+entered_from before [] = ap (λ us. Some (map row_of us)) (sym (no_more_uses before))
+entered_from before (u ∷ us) =
+    rw (rows_used (name_of u.item) before)
+    (go (is_used (name_of u.item) before) (is_taken u) (are_apart (before ++ u ∷ []) us) (list_all is_taken us)
+    (ap (λ rs. entered rs us) (rows_of_more before u) ∙ (entered_from (before ++ u ∷ []) us
+    ∙ ap (λ xs. cond (are_apart (before ++ u ∷ []) us && list_all is_taken us) (Some (map row_of xs)) None) (append_assoc before (u ∷ []) us))))
+  where
+    go : (used taken apart all : Bool)
+        → entered (map row_of before ++ row_of u ∷ []) us ≡ cond (apart && all) (Some (map row_of (before ++ u ∷ us))) None
+        → option_and_then (λ r. entered r us) (cond (not used && taken) (Some (map row_of before ++ row_of u ∷ [])) None)
+        ≡ cond ((not used && apart) && (taken && all)) (Some (map row_of (before ++ u ∷ us))) None
+    go true taken apart all later = refl
+    go false true apart all later = later
+    go false false true all later = refl
+    go false false false all later = refl
+
+-- the rows of uses that pass
+pub entered_is : (uses : List Use) → entered [] uses ≡ option_map (map row_of) (checked uses)
+entered_is uses = entered_from [] uses ∙ go (are_apart [] uses && list_all is_taken uses)
+  where
+    go : (b : Bool) → cond b (Some (map row_of uses)) None ≡ option_map (map row_of) (cond b (Some uses) None)
+    go true = refl
+    go false = refl
+
+-- ---- defaults
+
+no_fault_either : (b : Bool) (kinds : Kinds) → kinds ≡ [] → cond b [] kinds ≡ []
+no_fault_either true kinds none = refl
+no_fault_either false kinds none = none
+
+no_default_fault : (rows : List Row) (item : Item) → default_fault rows (rule_of item) ≡ []
+no_default_fault rows (text own) = no_fault_either _ _ refl
+no_default_fault rows (number own most) = no_fault_either _ _ refl
+no_default_fault rows (letter x) = no_fault_either _ _ refl
+no_default_fault rows (flag own) = no_fault_either _ _ refl
+no_default_fault rows file = no_fault_either _ _ refl
+
+no_defaults_fault : (items : List Item) (rows : List Row) → defaults_fault rows (rules_of items) ≡ []
+unfolding defaults_fault
+no_defaults_fault [] rows = refl
+no_defaults_fault (item ∷ items) rows =
+    rw (no_default_fault rows item) (no_defaults_fault items (with_default rows (rule_of item)))
+
+-- a flag has a default
+abbrev pub is_flag : Text → Item → Bool
+is_flag name (flag own) = bytes_eq own name
+is_flag name item = false
+
+abbrev default_row : Text → Row
+default_row name = record { id = name; values = codes "false" ∷ []; count = None; source = Some DefaultValue; reading = reading_by (rule_of (flag name)) }
+
+same_either : (b : Bool) (rows : List Row) → cond b rows rows ≡ rows
+same_either true rows = refl
+same_either false rows = refl
+
+-- a flag's default is one more row, where it has none
+flag_default : (name : Text) (rows : List Row)
+    → with_default rows (rule_of (flag name)) ≡ cond (has_row name rows) rows (rows ++ default_row name ∷ [])
+flag_default name rows = go (has_row name rows) refl
+  where
+    go : (b : Bool) → has_row name rows ≡ b
+        → cond b rows (with_values name (reading_by (rule_of (flag name))) DefaultValue (codes "false" ∷ []) rows)
+        ≡ cond b rows (rows ++ default_row name ∷ [])
+    go true has = refl
+    go false none = at_end name (more_values DefaultValue (codes "false" ∷ [])) (default_row name ∷ []) rows none
+
+abbrev row_at : Text → List Row → Option Row
+row_at id rows = find (λ r. bytes_eq r.id id) rows
+
+row_at_more : (id : Text) (rows : List Row) (r : Row) → bytes_eq r.id id ≡ false → row_at id (rows ++ r ∷ []) ≡ row_at id rows
+row_at_more id [] r other = rw other refl
+row_at_more id (x ∷ xs) r other = ap (cond (bytes_eq x.id id) (Some x)) (row_at_more id xs r other)
+
+-- the row of an item that is no flag
+default_keeps : (id : Text) (item : Item) (rows : List Row) → is_flag id item ≡ false
+    → row_at id (with_default rows (rule_of item)) ≡ row_at id rows
+default_keeps id (text own) rows other = ap (row_at id) (same_either (has_row own rows) rows)
+default_keeps id (number own most) rows other = ap (row_at id) (same_either (has_row own rows) rows)
+default_keeps id (letter x) rows other = ap (row_at id) (same_either (has_row (x ∷ []) rows) rows)
+default_keeps id file rows other = ap (row_at id) (same_either (has_row (codes "FILE") rows) rows)
+default_keeps id (flag own) rows other = ap (row_at id) (flag_default own rows) ∙ go (has_row own rows)
+  where
+    go : (b : Bool) → row_at id (cond b rows (rows ++ default_row own ∷ [])) ≡ row_at id rows
+    go true = refl
+    go false = row_at_more id rows (default_row own) other
+
+abbrev pub is_no_flag : Text → List Item → Bool
+is_no_flag id items = list_all (λ item. not (is_flag id item)) items
+
+defaults_keep : (id : Text) (items : List Item) (rows : List Row) → is_no_flag id items ≡ true
+    → row_at id (fold with_default rows (rules_of items)) ≡ row_at id rows
+defaults_keep id [] rows none = refl
+defaults_keep id (item ∷ items) rows none = go (is_flag id item) refl none
+    (λ none. defaults_keep id items (with_default rows (rule_of item)) none)
+  where
+    go : (b : Bool) → is_flag id item ≡ b → (not b && is_no_flag id items) ≡ true
+        → (is_no_flag id items ≡ true → row_at id (fold with_default (with_default rows (rule_of item)) (rules_of items))
+        ≡ row_at id (with_default rows (rule_of item)))
+        → row_at id (fold with_default (with_default rows (rule_of item)) (rules_of items)) ≡ row_at id rows
+    go true is none later = cc
+    go false is none later = later none ∙ default_keeps id item rows is
+
+-- the text of a flag
+abbrev pub is_true : Option Text → Bool
+is_true given = option_map_or (λ value. bytes_eq value (codes "true")) given false
+
+abbrev first_at : Option Row → Option Text
+first_at = option_and_then (λ r. slice_get r.values 0)
+
+flag_more : (id own : Text) (rows : List Row)
+    → is_true (first_at (row_at id (rows ++ default_row own ∷ []))) ≡ is_true (first_at (row_at id rows))
+flag_more id own [] = go (bytes_eq own id)
+  where
+    go : (b : Bool) → is_true (first_at (cond b (Some (default_row own)) None)) ≡ false
+    go true = refl
+    go false = refl
+flag_more id own (x ∷ xs) = go (bytes_eq x.id id) (flag_more id own xs)
+  where
+    go : (b : Bool) → is_true (first_at (row_at id (xs ++ default_row own ∷ []))) ≡ is_true (first_at (row_at id xs))
+        → is_true (first_at (cond b (Some x) (row_at id (xs ++ default_row own ∷ []))))
+        ≡ is_true (first_at (cond b (Some x) (row_at id xs)))
+    go true later = refl
+    go false later = later
+
+default_sets : (id : Text) (item : Item) (rows : List Row)
+    → is_true (first_at (row_at id (with_default rows (rule_of item)))) ≡ is_true (first_at (row_at id rows))
+default_sets id (text own) rows = ap (λ o. is_true (first_at o)) (default_keeps id (text own) rows refl)
+default_sets id (number own most) rows = ap (λ o. is_true (first_at o)) (default_keeps id (number own most) rows refl)
+default_sets id (letter x) rows = ap (λ o. is_true (first_at o)) (default_keeps id (letter x) rows refl)
+default_sets id file rows = ap (λ o. is_true (first_at o)) (default_keeps id file rows refl)
+default_sets id (flag own) rows = ap (λ rows. is_true (first_at (row_at id rows))) (flag_default own rows) ∙ go (has_row own rows)
+  where
+    go : (b : Bool) → is_true (first_at (row_at id (cond b rows (rows ++ default_row own ∷ [])))) ≡ is_true (first_at (row_at id rows))
+    go true = refl
+    go false = flag_more id own rows
+
+defaults_set : (id : Text) (items : List Item) (rows : List Row)
+    → is_true (first_at (row_at id (fold with_default rows (rules_of items)))) ≡ is_true (first_at (row_at id rows))
+defaults_set id [] rows = refl
+defaults_set id (item ∷ items) rows = defaults_set id items (with_default rows (rule_of item)) ∙ default_sets id item rows
+
+first_use : (id : Text) (uses : List Use) → first_at (row_at id (map row_of uses)) ≡ text_in uses id
+first_use id [] = refl
+first_use id (u ∷ us) = go (bytes_eq (name_of u.item) id) (first_use id us)
+  where
+    go : (b : Bool) → first_at (row_at id (map row_of us)) ≡ text_in us id
+        → first_at (cond b (Some (row_of u)) (row_at id (map row_of us)))
+        ≡ option_map (λ given. given.value) (cond b (Some u) (find (λ given. bytes_eq (name_of given.item) id) us))
+    go true later = refl
+    go false later = later
+
+abbrev explicit : Option Row → Bool
+explicit o = option_map_or (λ r. explicit_source r.source) o false
+
+given_use : (id : Text) (uses : List Use) → explicit (row_at id (map row_of uses)) ≡ is_used id uses
+given_use id [] = refl
+given_use id (u ∷ us) = go (bytes_eq (name_of u.item) id) (given_use id us)
+  where
+    go : (b : Bool) → explicit (row_at id (map row_of us)) ≡ is_used id us
+        → explicit (cond b (Some (row_of u)) (row_at id (map row_of us))) ≡ (b || is_used id us)
+    go true later = refl
+    go false later = later
+
+-- the rows of uses, with what was left out
+abbrev pub filled_rows : List Item → List Use → List Row
+filled_rows items uses = fold with_default (map row_of uses) (rules_of items)
+
+pub text_filled : (id : Text) (items : List Item) (uses : List Use) → is_no_flag id items ≡ true
+    → first_of id (filled_rows items uses) ≡ text_in uses id
+text_filled id items uses none = ap first_at (defaults_keep id items (map row_of uses) none) ∙ first_use id uses
+
+pub flag_filled : (id : Text) (items : List Item) (uses : List Use)
+    → is_true (first_of id (filled_rows items uses)) ≡ is_true (text_in uses id)
+flag_filled id items uses = defaults_set id items (map row_of uses) ∙ ap is_true (first_use id uses)
+
+pub given_filled : (id : Text) (items : List Item) (uses : List Use) → is_no_flag id items ≡ true
+    → is_given id (filled_rows items uses) ≡ is_used id uses
+given_filled id items uses none = ap explicit (defaults_keep id items (map row_of uses) none) ∙ given_use id uses
+
+-- ---- a level
+
+abbrev pub lacks : List Item → List Row → Bool
+lacks items rows = list_any (λ a. a.required && not (is_given a.id rows)) (rules_of items)
+
+guard_then : {A B : Type 0} (a : Kinds) (x : A) (f : A → Option B) → guard a (f x) ≡ option_and_then f (guard a (Some x))
+guard_then [] x f = refl
+guard_then (k ∷ ks) x f = refl
+
+guard_into : {A B : Type 0} (a : Kinds) (o : Option A) (f : A → Option B) → guard a (option_and_then f o) ≡ option_and_then f (guard a o)
+guard_into [] o f = refl
+guard_into (k ∷ ks) o f = refl
+
+module _ (name : Text) (items : List Item) where
+  abbrev pub ended : List Row → Option (List Row)
+  ended rows = cond (lacks items (fold with_default rows (rules_of items))) None (Some (fold with_default rows (rules_of items)))
+
+  last_checks : (rows : List Row)
+      → guard (or_else (defaults_fault rows (rules_of items)) (check_fault (leaf name items) (fold with_default rows (rules_of items)) false))
+      (Some (fold with_default rows (rules_of items))) ≡ ended rows
+  last_checks rows = rw (no_defaults_fault items rows) (go (lacks items (fold with_default rows (rules_of items))))
+    where
+      go : (b : Bool) → guard (cond b (MissingRequiredArgument ∷ []) []) (Some (fold with_default rows (rules_of items)))
+          ≡ cond b None (Some (fold with_default rows (rules_of items)))
+      go true = refl
+      go false = refl
+
+  -- a level without a fault, and its rows
+  pub level_is : (words : List Text)
+      → guard (level_fault (leaf name items) [] nothing_held words false []) (Some (rows_after (rules_of items) [] words))
+      ≡ option_and_then ended (run name items (stand [] None idle 1 false) words)
+  level_is words =
+      let s = leaf name items in
+      let end = (walk (rules_of items) [] nothing_held words).held in
+      let rows = (settled (rules_of items) end).rows in
+      let turns = walk_fault s [] (walk_from nothing_held) words in
+      let settle = settle_fault (rules_of items) false end in
+      guard_twice turns _ _ ∙ (ap (guard turns) (guard_twice settle _ _ ∙ (ap (guard settle) (last_checks rows)
+      ∙ guard_then settle rows ended))
+      ∙ guard_into turns (guard settle (Some rows)) ended)
+
+  -- a level, by the uses that its words make
+  abbrev pub IsLevel : Type 0
+  IsLevel = (words : List Text)
+      → guard (level_fault (leaf name items) [] nothing_held words false []) (Some (rows_after (rules_of items) [] words))
+      ≡ option_and_then (λ uses. cond (lacks items (filled_rows items uses)) None (Some (filled_rows items uses))) (uses_of items words)
+
+  pub level : arg_by_index (rules_of items) 1 ≡ Some (rule_of file) → arg_by_index (rules_of items) 2 ≡ None → IsOf items file
+      → ((test : Item → Bool) (item : Item) → find test items ≡ Some item → IsOf items item) → IsLevel
+  level first second file_is each words =
+      level_is words ∙ (ap (option_and_then ended) (whole_walk name items first second file_is each words)
+      ∙ go (uses_from items None words))
+    where
+      pass : (o : Option (List Use)) → option_and_then ended (option_map (map row_of) o)
+          ≡ option_and_then (λ uses. cond (lacks items (filled_rows items uses)) None (Some (filled_rows items uses))) o
+      pass None = refl
+      pass (Some uses) = refl
+
+      go : (o : Option (List Use)) → option_and_then ended (option_and_then (entered []) o)
+          ≡ option_and_then (λ uses. cond (lacks items (filled_rows items uses)) None (Some (filled_rows items uses))) (option_and_then checked o)
+      go None = refl
+      go (Some uses) = ap (option_and_then ended) (entered_is uses) ∙ pass (checked uses)

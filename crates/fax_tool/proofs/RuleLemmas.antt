@@ -1,0 +1,78 @@
+-- What clap's rules are of items, and what it finds by a name.
+use Rattle.std.proofs.Common.{◌≡◌, ◌||◌, ◌&&◌, cond, refl, Bool, true, false, ℕ, List, [], ◌∷◌, Some}
+use Rattle.std.proofs.Common.{is_some, map}
+use Rattle.std.specs.Prelude.{find, not, option_map}
+use Rattle.std.specs.Str.{bytes_eq}
+use Rattle.clap.specs.Walk.{Rule, arg_by_long, arg_by_short}
+use Rattle.clap.specs.Walk.{has_long as rule_has_long, has_short}
+use Rattle.clap.specs.Simple.{Shape, built, filled, new_shape, with_index}
+use Rattle.std.specs.List.{slice_index_or}
+use Rattle.fax_tool.specs.code.CommandLine.{faxpages_app, file_rule, flag_rule, number_rule, text_rule}
+use Rattle.fax_tool.specs.Grammar.{Item, Text, commands, file, flag, has_letter, has_long, letter, number, text}
+use Rattle.clap.proofs.OnLiterals.{clap_on_literals}
+use Rattle.clap.specs.Simple.{new_rule}
+
+abbrev pub letter_rule : ℕ → Rule
+letter_rule x = record (new_rule (x ∷ [])) { short = Some x; required = true }
+
+-- the rule that an item is, when the command is built
+abbrev pub rule_of : Item → Rule
+rule_of (text name) = filled (text_rule name)
+rule_of (number name most) = filled (number_rule name most)
+rule_of (letter x) = filled (letter_rule x)
+rule_of (flag name) = filled (flag_rule name)
+rule_of file = with_index 1 (filled file_rule)
+
+abbrev pub rules_of : List Item → List Rule
+rules_of = map rule_of
+
+abbrev pub items_at : ℕ → List Item
+items_at i = (slice_index_or commands i ([], [])).1
+
+abbrev pub sub_at : ℕ → Shape
+sub_at i = slice_index_or (built faxpages_app).subs i (new_shape [])
+
+list_rules : (sub_at 0).rules ≡ rules_of (items_at 0)
+unfolding clap_on_literals
+list_rules = refl
+
+convert_rules : (sub_at 2).rules ≡ rules_of (items_at 2)
+unfolding clap_on_literals
+convert_rules = refl
+
+or_false : (b : Bool) → (b || false) ≡ b
+or_false true = refl
+or_false false = refl
+
+long_test : (name : Text) (item : Item) → (not (is_some (rule_of item).index) && rule_has_long (rule_of item) name) ≡ has_long name item
+long_test name (text own) = or_false (bytes_eq own name)
+long_test name (number own most) = or_false (bytes_eq own name)
+long_test name (letter x) = refl
+long_test name (flag own) = or_false (bytes_eq own name)
+long_test name file = refl
+
+letter_test : (x : ℕ) (item : Item) → (not (is_some (rule_of item).index) && has_short (rule_of item) x) ≡ has_letter x item
+letter_test x (text own) = refl
+letter_test x (number own most) = refl
+letter_test x (letter own) = or_false _
+letter_test x (flag own) = refl
+letter_test x file = refl
+
+-- a find of rules is one of items, where the tests agree
+find_rule : (test : Rule → Bool) (own : Item → Bool) → ((item : Item) → test (rule_of item) ≡ own item) → (items : List Item)
+    → find test (rules_of items) ≡ option_map rule_of (find own items)
+find_rule test own same [] = refl
+find_rule test own same (item ∷ items) = go (test (rule_of item)) (own item) (same item) (find_rule test own same items)
+  where
+    go : (a b : Bool) → a ≡ b → find test (rules_of items) ≡ option_map rule_of (find own items)
+        → cond a (Some (rule_of item)) (find test (rules_of items)) ≡ option_map rule_of (cond b (Some item) (find own items))
+    go true true e later = refl
+    go false false e later = later
+    go true false e later = cc
+    go false true e later = cc
+
+pub by_long : (items : List Item) (name : Text) → arg_by_long (rules_of items) name ≡ option_map rule_of (find (has_long name) items)
+by_long items name = find_rule _ (has_long name) (long_test name) items
+
+pub by_short : (items : List Item) (x : ℕ) → arg_by_short (rules_of items) x ≡ option_map rule_of (find (has_letter x) items)
+by_short items x = find_rule _ (has_letter x) (letter_test x) items
