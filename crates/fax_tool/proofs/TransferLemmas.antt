@@ -7,7 +7,8 @@ use Rattle.std.proofs.KnownBytes.{Appends-trans}
 use Rattle.std.specs.Prelude.{Option, Result, Ok, Err, IfErr, ⊤}
 use Rattle.std.specs.Io.KnownBytes.{Appends}
 use Rattle.fax_tool.specs.declared.refusal.Refusal.{Refusal}
-use Rattle.fax_tool.specs.Run.{Counts, IsRead, most_input, most_interrupted}
+use Rattle.fax_tool.specs.Run.{Counts, IsRead, most_interrupted}
+use Rattle.fax_files.specs.Directory.{max_file}
 use Rattle.fax_tool.specs.views.Streams.{capped_sum, input_after}
 use Rattle.fax_tool.specs.code.Transfers.{counted, IsGivenInPart}
 

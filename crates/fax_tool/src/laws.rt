@@ -2,7 +2,7 @@
 //! what the program does: each has a law as its contract.
 ghost use Rattle.std.specs.Prelude.{◌≡◌, ◌⊎◌, ◌<◌};
 ghost use Rattle.fax_tool.specs.Grammar.{texts};
-ghost use Rattle.fax_tool.specs.Streams.{input_after, no_faults, output_after};
+ghost use Rattle.fax_tool.specs.views.Streams.{input_after, no_faults, output_after};
 ghost use Rattle.fax_tool.specs.laws.Words.{IsRefusedOfWords, SaysFault, WritesOfWords};
 ghost use Rattle.fax_tool.specs.laws.Words.{WordsHaveOneAnswer};
 ghost use Rattle.fax_tool.specs.laws.Runs as Laws;

@@ -7,7 +7,7 @@ use Rattle.fax_walk.specs.declared.pages.PagesStage.{PagesStage}
 use Rattle.fax_walk.specs.declared.pages.PagesStage.TheVariants.{Before, After, Ended}
 use Rattle.fax_walk.specs.laws.InOrder.{LeadTo}
 use Rattle.fax_walk.specs.views.InOrder.{EndsAfter, HasToldNoOther}
-use Rattle.fax_walk.specs.Pages.{FormItem, IsForm, IsFormTail}
+use Rattle.fax_walk.specs.Pages.{FormItem, IsForm, IsFormTail, IsOnPage, first_form}
 use Rattle.fax_walk.specs.views.Pages.{PagesView, IsCursorOf, IsTailOf}
 use Rattle.fax_walk.specs.code.Opening.{PageDue, IsChainBefore}
 
