@@ -25,7 +25,7 @@ pub use pels::Row;
 pub use places::b1_b2;
 pub use put::{put_1d, put_2d};
 use thiserror::Error;
-pub use two_dimensional::read_2d;
+pub use two_dimensional::{read_2d, read_2d_choice};
 
 /// Why a row could not be read.
 #[derive(Clone, Copy, Debug, PartialEq, Eq, Error)]
