@@ -251,8 +251,8 @@ module _ (reference row : List Colour) (same : length row ≡ length reference) 
       let first_is : a1 - unwrap_or old.a0 0 ≡ first = omega arith in
       let second_is : to - a1 ≡ second = omega arith in
       let runs : run_pair_bits Horizontal row old.a0
-          (record { a1 = a1; a2 = to; b1 = b1_from reference old; b2 = b2_from reference old })
-          ≡ run_bits old.colour first ++ run_bits (other old.colour) second = rw (colour, first_is, second_is) refl in
+      (record { a1 = a1; a2 = to; b1 = b1_from reference old; b2 = b2_from reference old })
+      ≡ run_bits old.colour first ++ run_bits (other old.colour) second = rw (colour, first_is, second_is) refl in
       step_is _ Horizontal b new rest before at (rw (not_pass, not_near) refl) (ap (λ (p : Position). p.a0) pair.new_is)
       (bits ∙ ap (λ c. mode_bits Horizontal ++ c) (pair.bits ∙ ap (λ c. c ++ rest) (sym runs))
       ∙ sym (append_assoc (mode_bits Horizontal) _ rest))

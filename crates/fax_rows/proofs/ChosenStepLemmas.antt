@@ -59,7 +59,7 @@ module _ (reference : PlacedRow) (places : List ℕ) (at : PlacedReached) (so_fa
       → IsVerticalStep (placed_pels reference) (placed_position reference.width places at) read new
       → first_pel new ≤ b2_from (placed_pels reference) (placed_position reference.width places at) → read ≡ d
       → IsChosenStep (placed_pels reference) (placed_position reference.width places at) b new rest
-  vertical_chosen_as b d read new rest takes step left same =
+  vertical_chosen_as b d distance new rest takes step left same =
       vertical_chosen b d new rest takes
       (subst (λ e. IsVerticalStep (placed_pels reference) (placed_position reference.width places at) e new) same step) left
 

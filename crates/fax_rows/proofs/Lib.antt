@@ -32,3 +32,4 @@ pub mod TakenModeLemmas
 pub mod ChosenLemmas
 pub mod ChosenRowLemmas
 pub mod ChosenStepLemmas
+pub mod ChosenRunLemmas

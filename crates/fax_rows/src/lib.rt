@@ -20,7 +20,7 @@ use fax_bits::CodeFault;
 pub use fax_bits::{BitSink, BitSource, Colour, FillOrder, Memory};
 pub use lanes::first_other;
 pub use longest_runs::LongestRuns;
-pub use one_dimensional::read_1d;
+pub use one_dimensional::{read_1d, read_1d_choice};
 pub use pels::Row;
 pub use places::b1_b2;
 pub use put::{put_1d, put_2d};
