@@ -23,3 +23,4 @@ pub mod WordLemmas
 pub mod WindowLemmas
 pub mod PackedLemmas
 pub mod LaneLemmas
+pub mod WrittenRunLemmas

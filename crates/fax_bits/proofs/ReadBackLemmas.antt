@@ -55,7 +55,7 @@ spells_often colour (suc q) more =
     (spells-append (run_table colour) (f (MakeUp 2560) ++ rest) rest more (MakeUp 2560 ∷ []) (replicate q (MakeUp 2560)) first
     (spells_often colour q more))
 
-one_make_up-suc : (k : ℕ) → one_make_up (suc k) ≡ MakeUp (64 * suc k) ∷ []
+pub one_make_up-suc : (k : ℕ) → one_make_up (suc k) ≡ MakeUp (64 * suc k) ∷ []
 one_make_up-suc k = let some : nat_eq (suc k) 0 ≡ false = grind (arith, nat_tests) in rw some
 
 spells_rest : (colour : Colour) (steps : ℕ) (more : List Bool) → steps ≤ 40

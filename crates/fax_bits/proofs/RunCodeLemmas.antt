@@ -28,13 +28,13 @@ pub run_meaning-terminating : (n : ℕ) → n < 64 → run_meaning n ≡ Termina
 run_meaning-terminating n short =
     let below : nat_lt n 64 ≡ true = grind (arith, nat_tests) in rw below
 
-make_up-at : (place : ℕ) → 64 ≤ place → place < 104 → run_meaning place ≡ MakeUp (64 * (place - 63))
+pub make_up-at : (place : ℕ) → 64 ≤ place → place < 104 → run_meaning place ≡ MakeUp (64 * (place - 63))
 make_up-at place above below =
     let not_terminating : nat_lt place 64 ≡ false = grind (arith, nat_tests) in
     let make_up : nat_lt place 104 ≡ true = grind (arith, nat_tests) in
     rw (not_terminating, make_up)
 
-extension-at : (place : ℕ) → 104 ≤ place → run_meaning place ≡ Extension
+pub extension-at : (place : ℕ) → 104 ≤ place → run_meaning place ≡ Extension
 extension-at place above =
     let not_terminating : nat_lt place 64 ≡ false = grind (arith, nat_tests) in
     let not_make_up : nat_lt place 104 ≡ false = grind (arith, nat_tests) in

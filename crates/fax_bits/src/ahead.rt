@@ -3,7 +3,8 @@
 //! then the row is read again from its source.
 ghost use Rattle.std.specs.Prelude.{◌≡◌, ◌+◌, ◌*◌, ◌<◌, ◌≤◌, ◌++◌, length, IfSome};
 ghost use Rattle.fax_bits.specs.Bits.{code_bits};
-ghost use Rattle.fax_bits.specs.Codes.{Takes, IsRun};
+ghost use Rattle.fax_bits.specs.Codes.{Takes};
+ghost use Rattle.fax_bits.specs.Runs.{IsRun, run_bits};
 ghost use Rattle.fax_bits.specs.Tables.{modes, run_table};
 ghost use Rattle.fax_bits.specs.code.BitsAhead.{bits_ahead};
 ghost use Rattle.fax_bits.specs.views.Source.{KeepsEnd, source_of};
@@ -157,6 +158,8 @@ impl<'a> Ahead<'a> {
     #[inline(always)]
     pub fn run(self, colour: Colour) -> Option<(Ahead<'a>, u32)>
         ensures run { IfSome result (λ read. IsRun colour self.entry.left read.1 read.0.left) }
+        ensures written { IfSome result
+            (λ read. self.entry.left ≡ run_bits colour read.1 ++ read.0.left) }
         ensures same_end { IfSome result (λ read. KeepsEnd self.entry read.0) }
         ensures shorter { IfSome result (λ read. length read.0.left < length self.entry.left) }
     {
@@ -177,6 +180,8 @@ impl<'a> Ahead<'a> {
     #[inline(always)]
     fn long_run(self, colour: Colour) -> Option<(Ahead<'a>, u32)>
         ensures run { IfSome result (λ read. IsRun colour self.entry.left read.1 read.0.left) }
+        ensures written { IfSome result
+            (λ read. self.entry.left ≡ run_bits colour read.1 ++ read.0.left) }
         ensures same_end { IfSome result (λ read. KeepsEnd self.entry read.0) }
         ensures shorter { IfSome result (λ read. length read.0.left < length self.entry.left) }
     {

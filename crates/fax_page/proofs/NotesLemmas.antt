@@ -1,5 +1,5 @@
 -- A strip that is read for its notes, row by row.
-use Rattle.std.proofs.Common.{◌≡◌, ℕ, ◌+◌, ◌<◌, ◌↔◌, List, [], ◌∷◌, ◌++◌, length, Bool, true, false, IsTrue, refl, ap, sym, ◌∙◌, subst}
+use Rattle.std.proofs.Common.{◌≡◌, ℕ, ◌+◌, ◌<◌, ◌↔◌, List, [], ◌∷◌, ◌++◌, length, Bool, true, false, not, IsTrue, refl, ap, sym, ◌∙◌, subst}
 use Rattle.std.proofs.Common.{arith, append_assoc, append-nil, length-append, inl, inr, Option, Some, None}
 use Rattle.fax_bits.specs.declared.Colour.{Colour}
 use Rattle.fax_bits.specs.Bits.{BeginsWith}
@@ -17,9 +17,8 @@ use Rattle.fax_page.specs.Lines.{IsBegin, IsCause, IsLine, IsRowIn, white_row}
 use Rattle.fax_page.specs.Strip.{AreLines, EndsAt, IsStrip}
 use Rattle.fax_page.specs.CodedStrip.{row_bits}
 use Rattle.fax_page.specs.laws.Strips.{ReadsLinesOneWay}
-use Rattle.fax_page.specs.Notes.{IsChosen, HasOtherChoice, IsNotedAs}
-use Rattle.fax_page.specs.views.Strip.{IsNotesFault}
-use Rattle.fax_page.specs.code.Notes.{IsLineRead, IsLineFault, AreRowsRead, AreNotesBehind}
+use Rattle.fax_page.specs.Notes.{IsChosen, HasOtherChoice, IsNotedAs, IsNotesFault}
+use Rattle.fax_page.specs.code.Notes.{IsLineRead, IsLineNoted, IsLineFault, AreRowsRead, AreNotesBehind}
 use Rattle.fax_page.proofs.StartLaws.{one_start}
 
 -- what follows the codes that T.4 chooses is what follows the row
@@ -77,25 +76,28 @@ module _ (reads : (form : StripForm) (i : ℕ) (reference : List Colour) → Rea
       }
 
   -- one more row: whether some row is coded otherwise is true then, where this one is
-  pub row_noted : (form : StripForm) (b left rest : List Bool) (i : ℕ) (reference row : List Colour) (other chosen : Bool) (new : Bool)
-      → i < form.rows → AreRowsRead form b i reference left other → IsLineRead form i reference left row rest chosen
-      → (chosen ≡ false → new ≡ true) → (chosen ≡ true → new ≡ other) → AreRowsRead form b (i + 1) row rest new
-  row_noted form b left rest i reference row other chosen new due so_far read marked kept = record {
+  pub row_noted : (form : StripForm) (b left rest : List Bool) (i : ℕ) (reference row : List Colour) (other now : Bool)
+      → i < form.rows → AreRowsRead form b i reference left other → IsLineNoted form i reference left row rest other now
+      → AreRowsRead form b (i + 1) row rest now
+  row_noted form b left rest i reference row other now due so_far noted = record {
     before = so_far.before ++ row ∷ [];
     count = omega (arith, so_far.count, length-append so_far.before (row ∷ []));
     lines = λ more end behind lines.
         subst (λ rows. AreLines form 0 (white_row form.width) b rows end behind) (sym (append_assoc so_far.before (row ∷ []) more))
-        (so_far.lines (row ∷ more) end behind (rest, due, read.line, lines));
-    found = λ is more. onto more (found chosen kept is read.choice more);
-    onward = λ more has. onto more (so_far.onward (row ∷ more) (rest, read.line, inr has));
+        (so_far.lines (row ∷ more) end behind (rest, due, noted.line, lines));
+    found = λ is more. onto more (elim (noted.found is) [
+      | inl before ↦ so_far.found before (row ∷ more)
+      | inr other_choice ↦ so_far.onward (row ∷ more) (rest, noted.line, inl other_choice)
+    ]);
+    onward = λ more has. onto more (so_far.onward (row ∷ more) (rest, noted.line, inr has));
     back = λ more has.
         elim (so_far.back (row ∷ more) (subst (λ rows. HasOtherChoice form 0 (white_row form.width) b rows)
         (append_assoc so_far.before (row ∷ []) more) has)) [
-          | inl is ↦ inl (stays chosen marked kept is)
+          | inl is ↦ inl (noted.kept is)
           | inr here ↦
-              let same = same_line form i reference row left rest here.0 read.line here.1 in
+              let same = same_line form i reference row left rest here.0 noted.line here.1 in
               elim here.2 [
-                | inl not ↦ inl (marks chosen marked read.choice (λ is. not (same.chosen is)))
+                | inl other_choice ↦ inl (marks now noted.none (λ is. other_choice (same.chosen is)))
                 | inr behind ↦ inr (subst (λ c. HasOtherChoice form (i + 1) row c more) (sym same.same_behind) behind)
               ]
         ];
@@ -106,22 +108,35 @@ module _ (reads : (form : StripForm) (i : ℕ) (reference : List Colour) → Rea
       onto more has =
           subst (λ rows. HasOtherChoice form 0 (white_row form.width) b rows) (sym (append_assoc so_far.before (row ∷ []) more)) has
 
-      found : (chosen : Bool) → (chosen ≡ true → new ≡ other) → new ≡ true
-          → (IsTrue chosen ↔ IsChosen read.line.dimension reference read.line.codes row rest) → (more : List (List Colour))
-          → HasOtherChoice form 0 (white_row form.width) b (so_far.before ++ row ∷ more)
-      found true kept is choice more = so_far.found (sym (kept refl) ∙ is) (row ∷ more)
-      found false kept is choice more =
-          so_far.onward (row ∷ more) (rest, read.line, inl (λ chosen_so. let no = choice.1 chosen_so in cc no))
+      marks : (now : Bool) → (now ≡ false → IsChosen noted.line.dimension reference noted.line.codes row rest)
+          → (IsChosen noted.line.dimension reference noted.line.codes row rest → ⊥) → now ≡ true
+      marks true none other_choice = refl
+      marks false none other_choice = absurd (other_choice (none refl))
 
-      stays : (chosen : Bool) → (chosen ≡ false → new ≡ true) → (chosen ≡ true → new ≡ other) → other ≡ true → new ≡ true
-      stays true marked kept is = kept refl ∙ is
-      stays false marked kept is = marked refl
+-- a row that is compared
+pub line_compared : (form : StripForm) (i : ℕ) (reference row : List Colour) (b rest : List Bool) (other chosen : Bool) → other ≡ false
+    → IsLineRead form i reference b row rest chosen → IsLineNoted form i reference b row rest other (not chosen)
+line_compared form i reference row b rest other true none read = record {
+  line = read.line;
+  kept = λ h. absurd (cc (sym none ∙ h));
+  found = λ h. absurd (cc h);
+  none = λ h. read.choice.0 refl;
+}
+line_compared form i reference row b rest other false none read = record {
+  line = read.line;
+  kept = λ h. refl;
+  found = λ h. inr (λ is. let no = read.choice.1 is in cc no);
+  none = λ h. absurd (cc h);
+}
 
-      marks : (chosen : Bool) → (chosen ≡ false → new ≡ true)
-          → (IsTrue chosen ↔ IsChosen read.line.dimension reference read.line.codes row rest)
-          → (IsChosen read.line.dimension reference read.line.codes row rest → ⊥) → new ≡ true
-      marks true marked choice not = absurd (not (choice.0 refl))
-      marks false marked choice not = marked refl
+-- a row whose codes are seen to be chosen
+pub line_seen : (form : StripForm) (i : ℕ) (reference row : List Colour) (b codes rest : List Bool) (dimension : Dimension)
+    → IsBegin form i b dimension codes → IsRowIn dimension form.width reference codes row rest
+    → IsChosen dimension reference codes row rest → IsLineRead form i reference b row rest true
+line_seen form i reference row b codes rest dimension begin read chosen = record {
+  line = record { dimension = dimension; codes = codes; begin = begin; coded = read };
+  choice = (λ yes. chosen, λ is. refl);
+}
 
 -- before the first row
 pub none_read : (form : StripForm) (b : List Bool) → AreRowsRead form b 0 (white_row form.width) b false

@@ -100,7 +100,7 @@ pub(crate) fn read_begin(
 }
 
 /// Reads the codes of a row that is coded so into `row`, of which nothing is said after a fault.
-pub(crate) fn read_codes(
+fn read_codes(
     source: &mut BitSource,
     dimension: Dimension,
     reference: &Row,

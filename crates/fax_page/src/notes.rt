@@ -1,16 +1,18 @@
 //! What is worth a note in a strip that has all its rows.
-ghost use Rattle.std.specs.Prelude.{◌≡◌, ◌≤◌, List, length, IfOk, IfErr, OnOk};
+ghost use Rattle.std.specs.Prelude.{◌≡◌, ◌≤◌, List, length, IfOk, IfErr, IsTrue, OnOk};
 ghost use Rattle.fax_bits.specs.Bits.{bits};
 ghost use Rattle.fax_bits.specs.views.Sink.{Appends};
 ghost use Rattle.fax_bits.specs.declared.Colour.{Colour};
 ghost use Rattle.fax_page.specs.CodedStrip.{row_bits};
+ghost use Rattle.fax_page.specs.Lines.{IsRowIn};
 ghost use Rattle.fax_page.specs.Notes as Spec;
 ghost use Rattle.fax_page.specs.views.Strip.{IsNotesFault, IsStripForm};
 ghost use Rattle.fax_page.specs.code.Notes as Code;
+ghost use Rattle.fax_page.specs.code.Starts.{IsStop};
 
-use crate::lines::{read_begin, read_codes, read_eol};
+use crate::lines::{read_begin, read_eol, read_line};
 use crate::{Coding, Dimension, StripFault, StripForm};
-use fax_rows::{BitSink, BitSource, Memory, Row, put_1d, put_2d};
+use fax_rows::{BitSink, BitSource, Memory, Row, put_1d, put_2d, read_1d_choice, read_2d_choice};
 use std::alloc::Global;
 use std::mem::swap;
 use thiserror::Error;
@@ -78,8 +80,33 @@ fn put_codes(
     }
 }
 
+/// Reads the codes of a row that is coded so into `row`, of which nothing is said after a fault, and
+/// answers whether they are seen to be those that T.4 chooses.
+fn read_seen(
+    source: &mut BitSource,
+    dimension: Dimension,
+    reference: &Row,
+    row: &mut Row,
+) -> Result<bool, StripFault>
+    requires same_width { length reference.now ≡ length row.old }
+    ensures ok { OnOk result (IsRowIn dimension (length row.old) reference.now
+        source.old.left row.new source.new.left) }
+    ensures chosen { IfOk result (λ chosen. IsTrue chosen
+        → Spec.IsChosen dimension reference.now source.old.left row.new source.new.left) }
+    ensures err { IfErr result
+        (IsStop dimension (length row.old) reference.now source.old.left) }
+    ensures same_width { length row.new ≡ length row.old }
+{
+    let chosen = match dimension {
+        Dimension::OneDimensional => read_1d_choice(source, row)?,
+        Dimension::TwoDimensional => read_2d_choice(source, reference, row)?,
+    };
+    Ok(chosen)
+}
+
 /// Reads row `i` of a strip into `row`, of which nothing is said after a fault, and answers whether
-/// its codes are those that T.4 chooses. What was in the sink is forgotten.
+/// its codes are those that T.4 chooses. Only where that is not seen while it is read, the row is
+/// written and compared. What was in the sink is forgotten then.
 fn read_choice(
     source: &mut BitSource,
     form: StripForm,
@@ -103,12 +130,44 @@ fn read_choice(
         Err(fault) => return Err(NotesFault::Strip { row: i, fault }),
     };
     let codes = source.again();
-    if let Err(fault) = read_codes(source, dimension, reference, row) {
-        return Err(NotesFault::Strip { row: i, fault });
+    match read_seen(source, dimension, reference, row) {
+        Ok(true) => return Ok(true),
+        Ok(false) => {}
+        Err(fault) => return Err(NotesFault::Strip { row: i, fault }),
     }
     sink.clear();
     put_codes(sink, dimension, reference, row)?;
     Ok(sink.begins(&codes))
+}
+
+/// Reads row `i` of a strip into `row`, of which nothing is said after a fault, and answers whether
+/// the codes of some row up to it are others than T.4 chooses, where it is told whether those of a
+/// row before it are. Then only the row is read.
+fn read_noted(
+    source: &mut BitSource,
+    form: StripForm,
+    i: u32,
+    reference: &Row,
+    row: &mut Row,
+    sink: &mut BitSink,
+    other: bool,
+) -> Result<bool, NotesFault>
+    requires reference_width { length reference.now ≡ form.width }
+    requires width { length row.old ≡ form.width }
+    requires limits { IsStripForm form }
+    ensures ok { IfOk result
+        (Code.IsLineNoted form i reference.now source.old.left row.new source.new.left other) }
+    ensures err { IfErr result (Code.IsLineFault form i reference.now source.old.left) }
+    ensures same_width { length row.new ≡ length row.old }
+{
+    if other {
+        return match read_line(source, form, i, reference, row) {
+            Ok(()) => Ok(true),
+            Err(fault) => Err(NotesFault::Strip { row: i, fault }),
+        };
+    }
+    let chosen = read_choice(source, form, i, reference, row, sink)?;
+    Ok(!chosen)
 }
 
 /// Goes after an EOL of a return to control, and answers whether there is one (T.4, sections 4.1.4
@@ -197,10 +256,15 @@ pub fn strip_notes(alloc: Global, bytes: &[u8], form: StripForm) -> Result<Strip
     let mut sink = BitSink::new(alloc, form.order);
     let mut not_t4_choice = false;
     for i in 0..form.rows {
-        let chosen = read_choice(&mut source, form, i, &reference, &mut row, &mut sink)?;
-        if !chosen {
-            not_t4_choice = true;
-        }
+        not_t4_choice = read_noted(
+            &mut source,
+            form,
+            i,
+            &reference,
+            &mut row,
+            &mut sink,
+            not_t4_choice,
+        )?;
         swap(&mut reference, &mut row);
     }
     Ok(notes_behind(&source, form.coding, not_t4_choice))

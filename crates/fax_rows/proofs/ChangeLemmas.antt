@@ -187,7 +187,7 @@ still_left false change h = refl
 pub both : (a b : Bool) → a ≡ true → b ≡ true → (a && b) ≡ true
 both a b h l = rw h l
 
-same_as : (a b : Colour) → a ≡ b → not (same_colour a b) ≡ false
+pub same_as : (a b : Colour) → a ≡ b → not (same_colour a b) ≡ false
 same_as White White h = refl
 same_as Black Black h = refl
 same_as White Black h = cc

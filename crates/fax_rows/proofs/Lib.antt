@@ -28,3 +28,8 @@ pub mod PlacedExchangeLemmas
 pub mod PaintLemmas
 pub mod WrittenPlaceLemmas
 pub mod WrittenStepLemmas
+pub mod TakenModeLemmas
+pub mod ChosenLemmas
+pub mod ChosenRowLemmas
+pub mod ChosenStepLemmas
+pub mod ChosenRunLemmas

@@ -15,7 +15,7 @@ use Rattle.fax_rows.proofs.ChangeLemmas.{still_left, both, next_change_is}
 use Rattle.fax_rows.proofs.PlaceLemmas.{next_of_at}
 use Rattle.fax_rows.proofs.TurnLemmas.{other-other, length-pels_by, alternate-suc, below_later, not_later, pel_behind, changing_at}
 use Rattle.fax_rows.proofs.TurnLemmas.{unchanging}
-use Rattle.fax_rows.proofs.PlacedRowLemmas.{at_end, next_here}
+use Rattle.fax_rows.proofs.PlacedRowLemmas.{at_end, next_here, end_within}
 
 -- a place further right is right of a place too
 further_right : (from : Option ℕ) (i j : ℕ) → i ≤ j → is_right_of from i ≡ true → is_right_of from j ≡ true
@@ -156,6 +156,10 @@ module _ (row : PlacedRow) where
         | inl less ↦ less.0
         | inr over ↦ absurd (omega (arith, over.1))
       ]
+
+  -- b1 and b2 stand among the places
+  pub b1_index : (b : ℕ) → b ≤ row.end + 1 → b + 1 < length row.places.now
+  b1_index b within = omega (arith, row.placed.room, end_within row.places.now row.end row.width row.placed)
 
   -- b1 is the place at that index
   pub b1_is : (a0 : Option ℕ) (colour : Colour) (b : ℕ) → IsB1At row a0 colour b

@@ -17,7 +17,8 @@ use Rattle.fax_rows.specs.declared.rows.PlacedRow.{PlacedRow}
 use Rattle.fax_rows.specs.code.PlacedRow.{placed_pels, IsB1At}
 use Rattle.fax_rows.specs.code.Turns.{turned, pels_by, IsAscending, IsTurnedFrom}
 use Rattle.fax_rows.specs.code.PlacedReached.{placed_position, IsReadTo}
-use Rattle.fax_bits.specs.Codes.{IsRun}
+use Rattle.fax_rows.specs.code.Chosen.{after_pair}
+use Rattle.fax_bits.specs.Runs.{IsRun}
 use Rattle.fax_rows.proofs.StepLemmas.{AreStepsSoFar, unfinished_below, abs-same, vertical_step}
 use Rattle.std.proofs.Math.Seq.{take-length}
 use Rattle.fax_rows.proofs.PaintLemmas.{painted_front}
@@ -69,7 +70,7 @@ right_behind_first (Some a) a1 h = omega (arith, ltb-true a a1 h)
 
 module _ (reference : PlacedRow) (places : List ℕ) (at : PlacedReached) (so_far : IsReadTo reference places at)
     (unfinished : reached_pel at.reached < reference.width) where
-  b2_order : reached_pel at.reached ≤ get_or reference.places.now (at.b1 + 1) 0
+  pub b2_order : reached_pel at.reached ≤ get_or reference.places.now (at.b1 + 1) 0
   b2_order =
       let b1 = so_far.b1 unfinished in
       let first = b1_ahead reference at.reached.a0 at.reached.colour at.b1 b1 unfinished in
@@ -215,29 +216,18 @@ module _ (reference : PlacedRow) (places : List ℕ) (at : PlacedReached) (so_fa
   under_within = let b1 = so_far.b1 unfinished in b1_at_most reference at.b1 b1.some b1.within
 
   -- two places are put where two runs end
-  pub horizontal_placed : (b mid rest : List Bool) (first second : ℕ) (turned_colour : Colour) (between new : List ℕ)
-      (middle_end next_end next_b1 : ℕ)
-      → IsRun at.reached.colour b first mid → IsRun turned_colour mid second rest → turned_colour ≡ other at.reached.colour
+  pub pair_placed : (first second : ℕ) (between new : List ℕ) (middle_end next_end next_b1 : ℕ)
       → reached_pel at.reached + first + second ≤ reference.width
       → IsTurnedFrom (take at.end places) (take middle_end between) (reached_pel at.reached + first)
       → IsTurnedFrom (take middle_end between) (take next_end new) (reached_pel at.reached + first + second)
-      → IsHorizontalStep (placed_pels reference) (placed_position reference.width places at) b
-      (placed_position reference.width new (record {
+      → placed_position reference.width new (record {
         reached =
             record { a0 = Some (reached_pel at.reached + first + second); colour = at.reached.colour };
         end = next_end;
         b1 = next_b1;
-      })) rest
-  horizontal_placed b mid rest first second turned_colour between new middle_end next_end next_b1 run another is within turn again =
-      record {
-        first = first;
-        second = second;
-        middle = mid;
-        first_run = run;
-        second_run = subst (λ c. IsRun c mid second rest) is another;
-        within = omega (arith, length-placed_pels reference);
-        new_is = ap position pels;
-      }
+      })
+      ≡ after_pair (placed_position reference.width places at) first second
+  pair_placed first second between new middle_end next_end next_b1 within turn again = ap position pels
     where
       position : List Colour → Position
       position pels = record { a0 = Some (reached_pel at.reached + first + second); colour = at.reached.colour; pels = pels }
@@ -263,6 +253,30 @@ module _ (reference : PlacedRow) (places : List ℕ) (at : PlacedReached) (so_fa
           (front_to reference.width (reached_pel at.reached) (reached_pel at.reached + first) (take at.end places) (take middle_end between)
           at.reached.colour (omega arith) (omega arith) turn.left so_far.behind
           ∙ ap (λ n. take (reached_pel at.reached) (pels_by reference.width (take at.end places)) ++ replicate n at.reached.colour) one)
+
+  pub horizontal_placed : (b mid rest : List Bool) (first second : ℕ) (turned_colour : Colour) (between new : List ℕ)
+      (middle_end next_end next_b1 : ℕ)
+      → IsRun at.reached.colour b first mid → IsRun turned_colour mid second rest → turned_colour ≡ other at.reached.colour
+      → reached_pel at.reached + first + second ≤ reference.width
+      → IsTurnedFrom (take at.end places) (take middle_end between) (reached_pel at.reached + first)
+      → IsTurnedFrom (take middle_end between) (take next_end new) (reached_pel at.reached + first + second)
+      → IsHorizontalStep (placed_pels reference) (placed_position reference.width places at) b
+      (placed_position reference.width new (record {
+        reached =
+            record { a0 = Some (reached_pel at.reached + first + second); colour = at.reached.colour };
+        end = next_end;
+        b1 = next_b1;
+      })) rest
+  horizontal_placed b mid rest first second turned_colour between new middle_end next_end next_b1 run another is within turn again =
+      record {
+        first = first;
+        second = second;
+        middle = mid;
+        first_run = run;
+        second_run = subst (λ c. IsRun c mid second rest) is another;
+        within = omega (arith, length-placed_pels reference);
+        new_is = pair_placed first second between new middle_end next_end next_b1 within turn again;
+      }
 
   pub horizontal_so_far : (first second : ℕ) (between new : List ℕ) (middle_end next_end next_b1 : ℕ)
       → reached_pel at.reached + first + second ≤ reference.width → length new ≡ length places → IsAscending new next_end

@@ -20,12 +20,12 @@ use fax_bits::CodeFault;
 pub use fax_bits::{BitSink, BitSource, Colour, FillOrder, Memory};
 pub use lanes::first_other;
 pub use longest_runs::LongestRuns;
-pub use one_dimensional::read_1d;
+pub use one_dimensional::{read_1d, read_1d_choice};
 pub use pels::Row;
 pub use places::b1_b2;
 pub use put::{put_1d, put_2d};
 use thiserror::Error;
-pub use two_dimensional::read_2d;
+pub use two_dimensional::{read_2d, read_2d_choice};
 
 /// Why a row could not be read.
 #[derive(Clone, Copy, Debug, PartialEq, Eq, Error)]

@@ -1,9 +1,10 @@
 //! Rows in two-dimensional coding (ITU-T T.4, section 4.2.1.3, and T.6, section 2.2), read into
 //! places of change over a reference row's places.
 ghost use Rattle.std.specs.Prelude.{◌≡◌, ◌+◌, ◌-◌, ◌≤◌, ◌<◌};
-ghost use Rattle.std.specs.Prelude.{length, slice_index, OnOk, IfOk, IfErr};
+ghost use Rattle.std.specs.Prelude.{◌++◌, length, slice_index, OnOk, IfOk, IfErr, IsTrue};
 ghost use Rattle.fax_bits.specs.views.Source.{KeepsEnd};
-ghost use Rattle.fax_rows.specs.Rows as Spec;
+ghost use Rattle.fax_rows.specs.Coded.{two_dimensional_bits};
+ghost use Rattle.fax_rows.specs.TwoDimensional as Spec;
 ghost use Rattle.fax_rows.specs.Faults as Fault;
 ghost use Rattle.fax_rows.specs.code.RowFaults.{IsHorizontalFault};
 ghost use Rattle.fax_rows.specs.code.PlacedRow.{placed_pels};
@@ -111,27 +112,68 @@ fn read_exactly(
     Ok(at.end)
 }
 
-/// Reads the modes of a row over the reference row, and answers where its places end.
-fn read_places(
+/// Reads the modes of a row over the reference row, and answers where its places end, and whether
+/// its codes are seen to be T.4's choice, where that is asked for.
+fn read_places<const CHOICE: bool>(
     source: &mut BitSource,
     reference: PlacedRow,
     places: &mut [u32],
-) -> Result<usize, RowFault>
+) -> Result<(usize, bool), RowFault>
     requires room { length places.old ≡ reference.width + 4 }
     requires first { slice_index places.old 0 ≡ 0 }
-    ensures ok { IfOk result (λ end. Spec.IsTwoDimensionalRow (placed_pels reference.entry)
-        source.old.left (row_of places.new end reference.entry.width) source.new.left) }
-    ensures ascending { IfOk result (λ end. IsAscending places.new end) }
-    ensures last { IfOk result (λ end. slice_index places.new (end - 1) ≤ reference.entry.width) }
+    ensures ok { IfOk result (λ read. Spec.IsTwoDimensionalRow (placed_pels reference.entry)
+        source.old.left (row_of places.new read.0 reference.entry.width) source.new.left) }
+    ensures ascending { IfOk result (λ read. IsAscending places.new read.0) }
+    ensures last { IfOk result
+        (λ read. slice_index places.new (read.0 - 1) ≤ reference.entry.width) }
+    ensures chosen { IfOk result (λ read. IsTrue read.1
+        → source.old.left ≡ two_dimensional_bits (placed_pels reference.entry)
+        (row_of places.new read.0 reference.entry.width) ++ source.new.left) }
     ensures err { IfErr result (λ fault. Fault.IsTwoDimensionalFault
         (placed_pels reference.entry) source.old.left fault) }
     ensures first { slice_index places.new 0 ≡ 0 }
     ensures same_len { length places.new ≡ length places.old }
     ensures same_end { KeepsEnd source.old source.new }
 {
-    match read_quickly(source, reference, places) {
-        Some(end) => Ok(end),
-        None => read_exactly(source, reference, places),
+    match read_quickly::<CHOICE>(source, reference, places) {
+        Some(read) => Ok(read),
+        None => {
+            let end = read_exactly(source, reference, places)?;
+            Ok((end, false))
+        }
+    }
+}
+
+/// What `read_2d` does. It answers too whether the row's codes are seen to be T.4's choice, where
+/// that is asked for.
+#[inline(always)]
+fn read_row<const CHOICE: bool>(
+    source: &mut BitSource,
+    reference: &Row,
+    row: &mut Row,
+) -> Result<bool, RowFault>
+    requires width { length reference.now ≡ length row.old }
+    ensures ok { OnOk result
+        (Spec.IsTwoDimensionalRow reference.now source.old.left row.new source.new.left) }
+    ensures chosen { IfOk result (λ chosen. IsTrue chosen
+        → source.old.left ≡ two_dimensional_bits reference.now row.new ++ source.new.left) }
+    ensures err { IfErr result
+        (λ fault. Fault.IsTwoDimensionalFault reference.now source.old.left fault) }
+    ensures same_width { length row.new ≡ length row.old }
+    ensures same_end { KeepsEnd source.old source.new }
+{
+    let reference = reference.placed();
+    let width = row.width;
+    let places = row.places.as_mut_slice();
+    match read_places::<CHOICE>(source, reference, places) {
+        Ok((end, chosen)) => {
+            row.end = close(places, end, width);
+            Ok(chosen)
+        }
+        Err(fault) => {
+            row.end = close(places, 1, width);
+            Err(fault)
+        }
     }
 }
 
@@ -154,17 +196,33 @@ pub fn read_2d(source: &mut BitSource, reference: &Row, row: &mut Row) -> Result
     // The source goes on in the same bits.
     ensures same_end { KeepsEnd source.old source.new }
 {
-    let reference = reference.placed();
-    let width = row.width;
-    let places = row.places.as_mut_slice();
-    match read_places(source, reference, places) {
-        Ok(end) => {
-            row.end = close(places, end, width);
-            Ok(())
-        }
-        Err(fault) => {
-            row.end = close(places, 1, width);
-            Err(fault)
-        }
-    }
+    read_row::<false>(source, reference, row)?;
+    Ok(())
+}
+
+/// Reads a row as `read_2d` does, and answers whether its codes are seen to be those that T.4
+/// chooses (T.4, section 4.2.1.3.3; T.6, section 2.2.3). Where they are not seen to be so, nothing
+/// is said of them.
+///
+/// # Errors
+///
+/// As for `read_2d`.
+pub fn read_2d_choice(
+    source: &mut BitSource,
+    reference: &Row,
+    row: &mut Row,
+) -> Result<bool, RowFault>
+    requires width { length reference.now ≡ length row.old }
+    ensures ok { OnOk result
+        (Spec.IsTwoDimensionalRow reference.now source.old.left row.new source.new.left) }
+    ensures chosen { IfOk result (λ chosen. IsTrue chosen
+        → source.old.left ≡ two_dimensional_bits reference.now row.new ++ source.new.left) }
+    ensures err { IfErr result
+        (λ fault. Fault.IsTwoDimensionalFault reference.now source.old.left fault) }
+    ensures same_width { length row.new ≡ length row.old }
+
+    // The source goes on in the same bits.
+    ensures same_end { KeepsEnd source.old source.new }
+{
+    read_row::<true>(source, reference, row)
 }

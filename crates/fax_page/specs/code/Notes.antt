@@ -22,6 +22,15 @@ pub record IsLineRead (form : StripForm) (i : ℕ) (reference : List Colour) (b 
   pub line : IsLine form i reference b row rest
   pub choice : IsTrue chosen ↔ IsChosen line.dimension reference line.codes row rest
 
+-- row i was read, and whether its codes, or those of a row before it, are others than T.4 chooses
+pub record IsLineNoted (form : StripForm) (i : ℕ) (reference : List Colour) (b : List Bool)
+    (row : List Colour) (rest : List Bool) (other : Bool) (now : Bool) : Type 0 where
+  pub line : IsLine form i reference b row rest
+  pub kept : other ≡ true → now ≡ true
+  pub found : now ≡ true
+      → (other ≡ true) ⊎ (IsChosen line.dimension reference line.codes row rest → ⊥)
+  pub none : now ≡ false → IsChosen line.dimension reference line.codes row rest
+
 -- row i cannot be read. Of want of memory nothing is said
 abbrev pub IsLineFault : StripForm → ℕ → List Colour → List Bool → NotesFault → Type 0
 IsLineFault form i reference b Memory = ⊤

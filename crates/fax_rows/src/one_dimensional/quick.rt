@@ -1,18 +1,39 @@
 //! A row in one-dimensional coding that has no fault, read quickly: the bits ahead stand in a
 //! value. Each function gives up, with `None`, at any doubt, and the row is read again from its
 //! source.
-ghost use Rattle.std.specs.Prelude.{◌≡◌, ◌+◌, ◌-◌, ◌≤◌, ◌<◌, ◌^◌, IfSome, length, None};
-ghost use Rattle.std.specs.Prelude.{slice_index, take};
-ghost use Rattle.fax_bits.specs.Codes.{IsRun};
+ghost use Rattle.std.specs.Prelude.{◌≡◌, ◌+◌, ◌-◌, ◌≤◌, ◌<◌, ◌^◌, ◌⊎◌, ◌++◌, IfSome, IsTrue, length};
+ghost use Rattle.std.specs.Prelude.{None, slice_index, take};
+ghost use Rattle.fax_bits.specs.Runs.{IsRun, run_bits};
 ghost use Rattle.fax_bits.specs.views.Source.{KeepsEnd};
-ghost use Rattle.fax_rows.specs.Rows.{IsOneDimensionalRow};
+ghost use Rattle.fax_rows.specs.Coded.{one_dimensional_bits};
+ghost use Rattle.fax_rows.specs.OneDimensional.{IsOneDimensionalRow};
 ghost use Rattle.fax_rows.specs.code.Turns.{row_of, IsAscending, IsTurnedFrom};
 
 use crate::turns::turn_behind;
 use fax_bits::{Ahead, BitSource, Colour};
 
-/// Reads a run after `total` pels, and answers where the places end then, and how many pels are
-/// read.
+/// Whether a run may be one of the longest: it has pels, or it is the first of its row (T.4, section
+/// 4.1.1).
+#[inline(always)]
+fn may_be_longest(colour: Colour, total: u32, run: u32) -> bool
+    ensures { IsTrue result → (0 < run) ⊎ ((total ≡ 0) × (colour ≡ Colour.White)) }
+{
+    match colour {
+        Colour::White => run > 0 || total == 0,
+        Colour::Black => run > 0,
+    }
+}
+
+/// Whether both are so.
+#[inline(always)]
+fn both(first: bool, second: bool) -> bool
+    ensures { IsTrue result → IsTrue first × IsTrue second }
+{
+    first && second
+}
+
+/// Reads a run after `total` pels, and answers where the places end then, how many pels are read,
+/// and whether the run may be one of the longest.
 #[inline(always)]
 fn next_run<'a>(
     ahead: Ahead<'a>,
@@ -21,7 +42,7 @@ fn next_run<'a>(
     end: usize,
     total: u32,
     colour: Colour,
-) -> Option<(Ahead<'a>, usize, u32)>
+) -> Option<(Ahead<'a>, usize, u32, bool)>
     requires short { width < 2 ^ 16 }
     requires unfinished { total < width }
     requires room { length places.old ≡ width + 4 }
@@ -29,6 +50,10 @@ fn next_run<'a>(
     requires last { slice_index places.old (end - 1) ≤ total }
     ensures run { IfSome result
         (λ read. IsRun colour ahead.entry.left (read.2 - total) read.0.left) }
+    ensures written { IfSome result
+        (λ read. ahead.entry.left ≡ run_bits colour (read.2 - total) ++ read.0.left) }
+    ensures longest { IfSome result (λ read. IsTrue read.3
+        → (0 < read.2 - total) ⊎ ((total ≡ 0) × (colour ≡ Colour.White))) }
     ensures right { IfSome result (λ read. total ≤ read.2) }
     ensures within { IfSome result (λ read. read.2 ≤ width) }
     ensures turned { IfSome result
@@ -46,16 +71,16 @@ fn next_run<'a>(
     }
     let place = total + run;
     let next = turn_behind(places, end, place, run);
-    Some((behind, next, place))
+    Some((behind, next, place, may_be_longest(colour, total, run)))
 }
 
 /// Reads the runs of a row from the bits ahead.
 #[inline(always)]
-fn read_ahead<'a>(
+fn read_ahead<'a, const CHOICE: bool>(
     mut ahead: Ahead<'a>,
     places: &mut [u32],
     width: u32,
-) -> Option<(Ahead<'a>, usize)>
+) -> Option<(Ahead<'a>, usize, bool)>
     requires some { 0 < width }
     requires short { width < 2 ^ 16 }
     requires room { length places.old ≡ width + 4 }
@@ -67,41 +92,69 @@ fn read_ahead<'a>(
     ensures first { slice_index places.new 0 ≡ 0 }
     ensures same_len { length places.new ≡ length places.old }
     ensures same_end { IfSome result (λ read. KeepsEnd ahead.entry read.0) }
+    ensures chosen { IfSome result (λ read. IsTrue read.2
+        → ahead.entry.left ≡ one_dimensional_bits (row_of places.new read.1 width) ++ read.0.left) }
 {
+    crate::laws::one_dimensional_rows_are_read_as_nothing_else();
     let mut end = 1;
     let mut total = 0;
+    let mut chosen = CHOICE;
     while total < width {
-        let (behind, next, place) = next_run(ahead, places, width, end, total, Colour::White)?;
+        let (behind, next, place, fits) = next_run(
+            ahead,
+            places,
+            width,
+            end,
+            total,
+            Colour::White,
+        )?;
         ahead = behind;
         end = next;
         total = place;
+        chosen = both(chosen, fits);
         if total < width {
-            let (behind, next, place) = next_run(ahead, places, width, end, total, Colour::Black)?;
+            let (behind, next, place, fits) = next_run(
+                ahead,
+                places,
+                width,
+                end,
+                total,
+                Colour::Black,
+            )?;
             ahead = behind;
             end = next;
             total = place;
+            chosen = both(chosen, fits);
         }
     }
-    Some((ahead, end))
+    Some((ahead, end, chosen))
 }
 
-/// Reads the runs of a row, and answers where its places end. After `None` the source is as it was.
+/// Reads the runs of a row, and answers where its places end, and whether its codes are seen to be
+/// T.4's choice, where that is asked for. After `None` the source is as it was.
 #[inline(never)]
-pub(crate) fn read_quickly(source: &mut BitSource, places: &mut [u32], width: u32) -> Option<usize>
+pub(crate) fn read_quickly<const CHOICE: bool>(
+    source: &mut BitSource,
+    places: &mut [u32],
+    width: u32,
+) -> Option<(usize, bool)>
     requires some { 0 < width }
     requires short { width < 2 ^ 16 }
     requires room { length places.old ≡ width + 4 }
     requires first { slice_index places.old 0 ≡ 0 }
-    ensures row { IfSome result (λ end. IsOneDimensionalRow width source.old.left
-        (row_of places.new end width) source.new.left) }
-    ensures ascending { IfSome result (λ end. IsAscending places.new end) }
-    ensures last { IfSome result (λ end. slice_index places.new (end - 1) ≤ width) }
+    ensures row { IfSome result (λ read. IsOneDimensionalRow width source.old.left
+        (row_of places.new read.0 width) source.new.left) }
+    ensures ascending { IfSome result (λ read. IsAscending places.new read.0) }
+    ensures last { IfSome result (λ read. slice_index places.new (read.0 - 1) ≤ width) }
     ensures first { slice_index places.new 0 ≡ 0 }
     ensures same_len { length places.new ≡ length places.old }
     ensures same_end { KeepsEnd source.old source.new }
+    ensures chosen { IfSome result (λ read. IsTrue read.1
+        → source.old.left ≡ one_dimensional_bits (row_of places.new read.0 width)
+        ++ source.new.left) }
     ensures unchanged { result ≡ None → source.new ≡ source.old }
 {
-    let (behind, end) = read_ahead(source.ahead()?, places, width)?;
+    let (behind, end, chosen) = read_ahead::<CHOICE>(source.ahead()?, places, width)?;
     *source = behind.source();
-    Some(end)
+    Some((end, chosen))
 }

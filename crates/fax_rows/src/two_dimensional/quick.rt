@@ -1,10 +1,14 @@
 //! A row in two-dimensional coding that has no fault, read quickly: the bits ahead stand in a
 //! value. Each function gives up, with `None`, at any doubt, and the row is read again from its
 //! source.
-ghost use Rattle.std.specs.Prelude.{◌≡◌, ◌+◌, ◌-◌, ◌≤◌, ◌<◌, IfSome, length, None, slice_index};
+ghost use Rattle.std.specs.Prelude.{◌≡◌, ◌+◌, ◌-◌, ◌≤◌, ◌<◌, ◌⊎◌, ◌++◌, IfSome, IsTrue, length, true};
+ghost use Rattle.std.specs.Prelude.{None, slice_index};
 ghost use Rattle.fax_bits.specs.views.Source.{KeepsEnd};
-ghost use Rattle.fax_rows.specs.Rows as Spec;
-ghost use Rattle.fax_rows.specs.code.PlacedRow.{placed_pels};
+ghost use Rattle.fax_rows.specs.Coded.{two_dimensional_bits};
+ghost use Rattle.fax_rows.specs.Elements.{b1, b2, is_right_of};
+ghost use Rattle.fax_rows.specs.TwoDimensional as Spec;
+ghost use Rattle.fax_rows.specs.code.Chosen as Chosen;
+ghost use Rattle.fax_rows.specs.code.PlacedRow.{placed_pels, IsB1At};
 ghost use Rattle.fax_rows.specs.code.Turns.{row_of, IsAscending};
 ghost use Rattle.fax_rows.specs.code.Reached.{reached_pel};
 ghost use Rattle.fax_rows.specs.code.PlacedReached.{placed_position, IsReadTo};
@@ -24,7 +28,7 @@ fn two_runs<'a>(
     places: &mut [u32],
     at: PlacedReached,
     colour: Colour,
-) -> Option<(Ahead<'a>, PlacedReached)>
+) -> Option<(Ahead<'a>, PlacedReached, bool)>
     requires so_far { IsReadTo reference places.old at }
     requires unfinished { reached_pel at.reached < reference.width }
     requires colour { colour ≡ at.reached.colour }
@@ -36,6 +40,10 @@ fn two_runs<'a>(
     ensures same_len { length places.new ≡ length places.old }
     ensures same_end { IfSome result (λ next. KeepsEnd ahead.entry next.0) }
     ensures no_longer { IfSome result (λ next. length next.0.left ≤ length ahead.entry.left) }
+    ensures chosen { IfSome result (λ next. IsTrue next.2
+        → Chosen.IsChosenPair (placed_pels reference.entry)
+        (placed_position reference.entry.width places.old at) ahead.entry.left
+        (placed_position reference.entry.width places.new next.1) next.0.left) }
 {
     let from = at.reached.first_pel();
     let (after, first) = ahead.run(colour)?;
@@ -43,7 +51,9 @@ fn two_runs<'a>(
     if first > reference.width - from || second > reference.width - from - first {
         return None;
     }
-    Some((after, after_runs(reference, places, at, first, second)))
+    let chosen = chooses_runs(reference, at, first, second);
+    let next = after_runs(reference, places, at, first, second);
+    Some((after, next, chosen))
 }
 
 /// Horizontal mode (T.4, section 4.2.1.3.2). The index of b1 tells a0's colour.
@@ -53,7 +63,7 @@ fn horizontal<'a>(
     reference: PlacedRow,
     places: &mut [u32],
     at: PlacedReached,
-) -> Option<(Ahead<'a>, PlacedReached)>
+) -> Option<(Ahead<'a>, PlacedReached, bool)>
     requires so_far { IsReadTo reference places.old at }
     requires unfinished { reached_pel at.reached < reference.width }
     ensures step { IfSome result (λ next. Spec.IsHorizontalStep (placed_pels reference.entry)
@@ -64,11 +74,52 @@ fn horizontal<'a>(
     ensures same_len { length places.new ≡ length places.old }
     ensures same_end { IfSome result (λ next. KeepsEnd ahead.entry next.0) }
     ensures no_longer { IfSome result (λ next. length next.0.left ≤ length ahead.entry.left) }
+    ensures chosen { IfSome result (λ next. IsTrue next.2
+        → Chosen.IsChosenPair (placed_pels reference.entry)
+        (placed_position reference.entry.width places.old at) ahead.entry.left
+        (placed_position reference.entry.width places.new next.1) next.0.left) }
 {
     match colour_after(at.b1) {
         Colour::White => two_runs(ahead, reference, places, at, Colour::White),
         Colour::Black => two_runs(ahead, reference, places, at, Colour::Black),
     }
+}
+
+/// Whether T.4 chooses vertical mode where a1 is reached by it: b2 is not left of a1 (T.4, section
+/// 4.2.1.3.3).
+#[inline(always)]
+fn chooses_a1(reference: PlacedRow, at: PlacedReached, next: PlacedReached) -> bool
+    requires b1 { IsB1At reference at.reached.a0 at.reached.colour at.b1 }
+    ensures { IsTrue result → reached_pel next.reached
+        ≤ b2 (placed_pels reference.entry) at.reached.a0 at.reached.colour }
+{
+    next.reached.first_pel() <= reference.places[at.b1 + 1]
+}
+
+/// Whether T.4 chooses horizontal mode with two runs of so many pels, as far as the row is read
+/// (T.4, section 4.2.1.3.3).
+#[inline(always)]
+fn chooses_runs(reference: PlacedRow, at: PlacedReached, first: u32, second: u32) -> bool
+    requires b1 { IsB1At reference at.reached.a0 at.reached.colour at.b1 }
+    requires within { reached_pel at.reached + first + second ≤ reference.width }
+    ensures right { IsTrue result
+        → is_right_of at.reached.a0 (reached_pel at.reached + first) ≡ true }
+    ensures second { IsTrue result
+        → reached_pel at.reached + first < reference.entry.width → 0 < second }
+    ensures left { IsTrue result → reached_pel at.reached + first
+        ≤ b2 (placed_pels reference.entry) at.reached.a0 at.reached.colour }
+    ensures far { IsTrue result → (reached_pel at.reached + first + 3
+        < b1 (placed_pels reference.entry) at.reached.a0 at.reached.colour)
+        ⊎ (b1 (placed_pels reference.entry) at.reached.a0 at.reached.colour + 3
+        < reached_pel at.reached + first) }
+{
+    let a1 = at.reached.first_pel() + first;
+    let b1 = reference.places[at.b1];
+    let b2 = reference.places[at.b1 + 1];
+    (first > 0 || at.reached.a0.is_none())
+        && (second > 0 || a1 == reference.width)
+        && a1 <= b2
+        && (a1 + 3 < b1 || b1 + 3 < a1)
 }
 
 /// Reads one mode, and goes on by what it says (T.4, section 4.2.1.3.3).
@@ -78,7 +129,7 @@ fn step<'a>(
     reference: PlacedRow,
     places: &mut [u32],
     at: PlacedReached,
-) -> Option<(Ahead<'a>, PlacedReached)>
+) -> Option<(Ahead<'a>, PlacedReached, bool)>
     requires so_far { IsReadTo reference places.old at }
     requires unfinished { reached_pel at.reached < reference.width }
     ensures step { IfSome result (λ next. Spec.IsStep (placed_pels reference.entry)
@@ -89,15 +140,22 @@ fn step<'a>(
     ensures same_len { length places.new ≡ length places.old }
     ensures same_end { IfSome result (λ next. KeepsEnd ahead.entry next.0) }
     ensures shorter { IfSome result (λ next. length next.0.left < length ahead.entry.left) }
+    ensures chosen { IfSome result (λ next. IsTrue next.2
+        → Chosen.IsChosenStep (placed_pels reference.entry)
+        (placed_position reference.entry.width places.old at) ahead.entry.left
+        (placed_position reference.entry.width places.new next.1) next.0.left) }
 {
     let (after, mode) = ahead.mode()?;
     match mode {
-        ModeCode::Vertical(0) => Some((after, under_b1(reference, places, at))),
+        ModeCode::Vertical(0) => Some((after, under_b1(reference, places, at), true)),
         ModeCode::Vertical(d) => {
             let next = vertical(reference, places, at, d)?;
-            Some((after, next))
+            Some((after, next, chooses_a1(reference, at, next)))
         }
-        ModeCode::Pass => Some((after, pass(reference, places, at))),
+        ModeCode::Pass => {
+            let next = pass(reference, places, at);
+            Some((after, next, next.reached.first_pel() < reference.width))
+        }
         ModeCode::Horizontal => horizontal(after, reference, places, at),
         ModeCode::Extension => None,
     }
@@ -105,11 +163,11 @@ fn step<'a>(
 
 /// Reads the modes of a row from the bits ahead.
 #[inline(always)]
-fn read_ahead<'a>(
+fn read_ahead<'a, const CHOICE: bool>(
     mut ahead: Ahead<'a>,
     reference: PlacedRow,
     places: &mut [u32],
-) -> Option<(Ahead<'a>, usize)>
+) -> Option<(Ahead<'a>, usize, bool)>
     requires room { length places.old ≡ reference.width + 4 }
     requires first { slice_index places.old 0 ≡ 0 }
     ensures row { IfSome result (λ read. Spec.IsTwoDimensionalRow (placed_pels reference.entry)
@@ -120,36 +178,45 @@ fn read_ahead<'a>(
     ensures first { slice_index places.new 0 ≡ 0 }
     ensures same_len { length places.new ≡ length places.old }
     ensures same_end { IfSome result (λ read. KeepsEnd ahead.entry read.0) }
+    ensures chosen { IfSome result (λ read. IsTrue read.2
+        → ahead.entry.left ≡ two_dimensional_bits (placed_pels reference.entry)
+        (row_of places.new read.1 reference.entry.width) ++ read.0.left) }
 {
     let mut at = PlacedReached::BEGINNING;
+    let mut chosen = CHOICE;
     while at.reached.first_pel() < reference.width {
-        let (after, next) = step(ahead, reference, places, at)?;
+        let (after, next, fits) = step(ahead, reference, places, at)?;
         ahead = after;
         at = next;
+        chosen = chosen && fits;
     }
-    Some((ahead, at.end))
+    Some((ahead, at.end, chosen))
 }
 
 /// Reads the modes of a row over the reference row, and answers where its places end. After `None`
 /// the source is as it was.
 #[inline(never)]
-pub(crate) fn read_quickly(
+pub(crate) fn read_quickly<const CHOICE: bool>(
     source: &mut BitSource,
     reference: PlacedRow,
     places: &mut [u32],
-) -> Option<usize>
+) -> Option<(usize, bool)>
     requires room { length places.old ≡ reference.width + 4 }
     requires first { slice_index places.old 0 ≡ 0 }
-    ensures row { IfSome result (λ end. Spec.IsTwoDimensionalRow (placed_pels reference.entry)
-        source.old.left (row_of places.new end reference.entry.width) source.new.left) }
-    ensures ascending { IfSome result (λ end. IsAscending places.new end) }
-    ensures last { IfSome result (λ end. slice_index places.new (end - 1) ≤ reference.entry.width) }
+    ensures row { IfSome result (λ read. Spec.IsTwoDimensionalRow (placed_pels reference.entry)
+        source.old.left (row_of places.new read.0 reference.entry.width) source.new.left) }
+    ensures ascending { IfSome result (λ read. IsAscending places.new read.0) }
+    ensures last { IfSome result
+        (λ read. slice_index places.new (read.0 - 1) ≤ reference.entry.width) }
     ensures first { slice_index places.new 0 ≡ 0 }
     ensures same_len { length places.new ≡ length places.old }
     ensures same_end { KeepsEnd source.old source.new }
+    ensures chosen { IfSome result (λ read. IsTrue read.1
+        → source.old.left ≡ two_dimensional_bits (placed_pels reference.entry)
+        (row_of places.new read.0 reference.entry.width) ++ source.new.left) }
     ensures unchanged { result ≡ None → source.new ≡ source.old }
 {
-    let (after, end) = read_ahead(source.ahead()?, reference, places)?;
+    let (after, end, chosen) = read_ahead::<CHOICE>(source.ahead()?, reference, places)?;
     *source = after.source();
-    Some(end)
+    Some((end, chosen))
 }

@@ -2,10 +2,10 @@
 //! (ITU-T T.4, section 4.2.1.3.2).
 ghost use Rattle.std.specs.Prelude.{◌≡◌, ◌+◌, ◌-◌, ◌≤◌, ◌<◌, ◌^◌, ◌+ℤ◌, ◌≤ℤ◌, pos, negsuc};
 ghost use Rattle.std.specs.Prelude.{[], List, Bool, length, slice_index, IfSome, IfNone};
-ghost use Rattle.fax_bits.specs.Codes.{IsRun};
-ghost use Rattle.fax_rows.specs.Rows.{other as other_than};
-ghost use Rattle.fax_rows.specs.Rows as Spec;
-ghost use Rattle.fax_rows.specs.code.Seen.{b2_from};
+ghost use Rattle.fax_bits.specs.Runs.{IsRun};
+ghost use Rattle.fax_rows.specs.Elements.{other as other_than};
+ghost use Rattle.fax_rows.specs.TwoDimensional as Spec;
+ghost use Rattle.fax_rows.specs.code.Chosen.{after_pair};
 ghost use Rattle.fax_rows.specs.code.PlacedRow.{placed_pels};
 ghost use Rattle.fax_rows.specs.code.Reached.{reached_pel, position_of};
 ghost use Rattle.fax_rows.specs.code.PlacedReached.{placed_position, IsReadTo};
@@ -232,6 +232,8 @@ pub(crate) fn after_runs(
         → Spec.IsHorizontalStep (placed_pels reference.entry)
         (placed_position reference.entry.width places.old at) b
         (placed_position reference.entry.width places.new result) rest }
+    ensures placed { placed_position reference.entry.width places.new result
+        ≡ after_pair (placed_position reference.entry.width places.old at) first second }
     ensures so_far { IsReadTo reference.entry places.new result }
     ensures first { slice_index places.new 0 ≡ 0 }
     ensures same_len { length places.new ≡ length places.old }

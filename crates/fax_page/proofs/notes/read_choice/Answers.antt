@@ -1,18 +1,19 @@
-use Rattle.std.proofs.Common.{◌≡◌, ◌++◌, ◌↔◌, length, IsTrue, subst, ◌∙◌, ap, arith}
+use Rattle.std.proofs.Common.{◌≡◌, ◌++◌, ◌↔◌, length, IsTrue, subst, ◌∙◌, ap, arith, rules}
+use Prim.{search}
 use Rattle.fax_bits.specs.views.Sink.{Sink}
 use Rattle.fax_bits.specs.views.Source.{Source}
 use Rattle.fax_bits.specs.Bits.{BeginsWith}
 use Rattle.fax_rows.specs.laws.Rows.{HasWidth}
 use Rattle.fax_page.specs.Lines.{IsRowIn}
 use Rattle.fax_page.specs.CodedStrip.{row_bits}
-use Rattle.fax_page.proofs.NotesLemmas.{line_read}
+use Rattle.fax_page.proofs.NotesLemmas.{line_read, line_seen}
 use Rattle.fax_page.proofs.notes.read_choice.Goals as goal
 
 pub returns-clause-ok : goal.returns-clause-ok
 returns-clause-ok c =
     let form = c.args.form in
-    let row = c.read_codes.new.row in
-    let width : length row ≡ form.width = c.in_default.ensures.same_width ∙ c.requires.width in
+    let row = c.read_seen.new.row in
+    let width : length row ≡ form.width = c.in-Ok-false.ensures.same_width ∙ c.requires.width in
     let fits : HasWidth row =
     record { some = omega (arith, width, c.requires.limits.some_pels); short = omega (arith, width, c.requires.limits.short_rows) } in
     let put : c.put_codes.new.sink.bits ≡ row_bits c.in-Ok.dimension c.args.reference.now row =
@@ -22,6 +23,15 @@ returns-clause-ok c =
     subst (λ (s : Source). IsTrue c.begins.result ↔ BeginsWith s.left c.put_codes.new.sink.bits) c.again-codes.ensures c.begins.ensures in
     line_read c.one_dimensional_rows_are_read_as_nothing_else.ensures c.two_dimensional_rows_are_read_as_nothing_else.ensures
     form c.args.i c.args.reference.now row c.args.source.now.left _ _ _ _ _ fits width c.requires.reference_width c.in-Ok.ensures.ok
-    (subst (λ n. IsRowIn c.in-Ok.dimension n c.args.reference.now c.read_begin.new.source.left row c.read_codes.new.source.left)
-    c.requires.width c.in_default.ensures.ok)
+    (subst (λ n. IsRowIn c.in-Ok.dimension n c.args.reference.now c.read_begin.new.source.left row c.read_seen.new.source.left)
+    c.requires.width c.in-Ok-false.ensures.ok)
     put begins
+
+pub returns-in-Ok-true-clause-ok : goal.returns-in-Ok-true-clause-ok
+returns-in-Ok-true-clause-ok c =
+    line_seen c.args.form c.args.i c.args.reference.now c.read_seen.new.row c.args.source.now.left c.read_begin.new.source.left
+    c.read_seen.new.source.left c.in-Ok.dimension c.in-Ok.ensures.ok
+    (subst (λ n. IsRowIn c.in-Ok.dimension n c.args.reference.now c.read_begin.new.source.left c.read_seen.new.row
+    c.read_seen.new.source.left)
+    c.requires.width c.in-Ok-true.ensures.ok)
+    (c.in-Ok-true.ensures.chosen (search rules))

@@ -6,6 +6,7 @@ use Rattle.fax_bits.specs.Bits.{code_bits}
 use Rattle.fax_bits.proofs.MeetingLemmas.{length-code_bits}
 use Rattle.fax_bits.proofs.ReadLemmas.{found_is_short}
 use Rattle.fax_bits.proofs.AheadLemmas.{number-below, short_run, taken_ahead, end_kept_ahead, shorter_ahead}
+use Rattle.fax_bits.proofs.WrittenRunLemmas.{short_written}
 use Rattle.fax_bits.proofs.ahead.Ahead.run.Goals as goal
 
 pub find_short_run-requires : goal.find_short_run-requires
@@ -40,6 +41,18 @@ returns-in-Some-clause-run c =
     let bytes = c.self.inside.bytes.now in
     let w = c.in_ok-window in
     short_run c.args.colour _ _ _
+    (taken_ahead order bytes c.self.inside.window w.window c.args.self c.self.invariant c.self.view_is w.ensures.ahead w.ensures.place
+    w.ensures.within w.ensures.many
+    c.number.result (c.number.ensures.number order bytes)
+    (run_table c.args.colour) c.in-Some.len (Terminating c.in-Some.pels) c.in-Some.ensures c.behind.result c.behind.ensures.count
+    c.behind.ensures.at)
+
+pub returns-in-Some-clause-written : goal.returns-in-Some-clause-written
+returns-in-Some-clause-written c =
+    let order = c.self.inside.order in
+    let bytes = c.self.inside.bytes.now in
+    let w = c.in_ok-window in
+    short_written c.args.colour _ _ _
     (taken_ahead order bytes c.self.inside.window w.window c.args.self c.self.invariant c.self.view_is w.ensures.ahead w.ensures.place
     w.ensures.within w.ensures.many
     c.number.result (c.number.ensures.number order bytes)

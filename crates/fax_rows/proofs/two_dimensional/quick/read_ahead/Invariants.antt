@@ -1,16 +1,19 @@
-use Rattle.std.proofs.Common.{◌≡◌, ◌+◌, length}
+use Rattle.std.proofs.Common.{◌≡◌, ◌+◌, length, IsTrue}
 use Rattle.fax_rows.specs.code.PlacedRow.{placed_pels}
 use Rattle.fax_rows.specs.code.PlacedReached.{placed_position, IsReadTo}
+use Rattle.fax_rows.proofs.ChosenRowLemmas.{IsChosenSoFar}
 use Rattle.fax_rows.proofs.StepLemmas.{AreStepsSoFar}
 use Rattle.fax_rows.proofs.two_dimensional.quick.read_ahead.Given as goal
 
 abbrev pub invariant-loop-ahead : goal.invariant-loop-ahead
-invariant-loop-ahead l = record {
+invariant-loop-ahead g l = record {
   steps : AreStepsSoFar (placed_pels l.reference) l.initial.ahead.left (placed_position l.reference.width l.places l.at)
       l.ahead.left;
+  chosen : IsTrue l.chosen → IsChosenSoFar (placed_pels l.reference) l.initial.ahead.left
+      (placed_position l.reference.width l.places l.at) l.ahead.left;
   so_far : IsReadTo l.reference l.places l.at;
   same_end : l.ahead.place + length l.ahead.left ≡ l.initial.ahead.place + length l.initial.ahead.left;
 }
 
 abbrev pub decreases-loop-ahead : goal.decreases-loop-ahead
-decreases-loop-ahead l = length l.ahead.left
+decreases-loop-ahead g l = length l.ahead.left

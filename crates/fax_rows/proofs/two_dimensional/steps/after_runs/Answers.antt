@@ -2,7 +2,7 @@ use Rattle.std.proofs.Common.{◌∙◌, refl, arith}
 use Rattle.fax_rows.specs.Rows.{other}
 use Rattle.fax_rows.proofs.PlacedReadLemmas.{places_within}
 use Rattle.fax_rows.proofs.PlacedB1Lemmas.{same_start}
-use Rattle.fax_rows.proofs.PlacedStepLemmas.{room_left, horizontal_placed, horizontal_so_far}
+use Rattle.fax_rows.proofs.PlacedStepLemmas.{room_left, pair_placed, horizontal_placed, horizontal_so_far}
 use Rattle.fax_rows.proofs.two_dimensional.steps.after_runs.Goals as goal
 
 pub turn_behind-between-requires-clause-room : goal.turn_behind-between-requires-clause-room
@@ -43,3 +43,11 @@ returns-clause-so_far c =
     (c.b1_after.ensures (omega (arith, from)) c.args.at.reached.colour
     (same_start c.args.reference c.args.at.reached.a0 c.args.at.reached.colour c.args.at.b1 _ (c.requires.so_far.b1 c.requires.unfinished)
     (omega (arith, from))))))
+
+pub returns-clause-placed : goal.returns-clause-placed
+returns-clause-placed c =
+    rw c.first_pel.ensures
+    (pair_placed c.args.reference c.args.places.now c.args.at c.requires.so_far c.requires.unfinished c.args.first c.args.second
+    c.turn_behind-between.new.places c.turn_behind-end.new.places c.turn_behind-between.result c.turn_behind-end.result c.b1_after.result
+    c.requires.within (rw (← c.first_pel.ensures) c.turn_behind-between.ensures.turned)
+    (rw (← c.first_pel.ensures) c.turn_behind-end.ensures.turned))

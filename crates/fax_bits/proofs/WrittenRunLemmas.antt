@@ -1,0 +1,123 @@
+-- A run that is read by one make-up code at most has the bits that are written.
+use Rattle.std.proofs.Common.{◌≡◌, ℕ, suc, ◌+◌, ◌*◌, ◌-◌, ◌/◌, ◌%◌, ◌<◌, ◌≤◌, List, [], ◌∷◌, ◌++◌, length, Bool, refl, ap, sym, ◌∙◌}
+use Rattle.std.proofs.Common.{arith, inl, inr, append_assoc, append-nil, zero-add}
+use Rattle.std.specs.Prelude.{Some, slice_get, flat_map}
+use Rattle.std.proofs.lemmas.Bool.{cases_lt}
+use Rattle.std.proofs.Math.Nat.{eq-or-lt_of_le}
+use Rattle.std.proofs.lemmas.Option.{slice_get_read}
+use Rattle.fax_bits.specs.declared.codes.CodeEntry.{CodeEntry}
+use Rattle.fax_bits.specs.declared.Colour.{Colour}
+use Rattle.fax_bits.specs.declared.Colour.TheVariants.{White, Black}
+use Rattle.fax_bits.specs.declared.runs.RunCode.{RunCode}
+use Rattle.fax_bits.specs.declared.runs.RunCode.TheVariants.{Terminating, MakeUp}
+use Rattle.fax_bits.specs.declared.runs.TheConstants.{WHITE_CODES, WHITE_LENS, BLACK_CODES, BLACK_LENS}
+use Rattle.fax_bits.specs.Codes.{bits_of, Takes}
+use Rattle.fax_bits.specs.code.Codes.{run_meaning}
+use Rattle.fax_bits.specs.code.TableLaws.{length-white_runs, length-black_runs}
+use Rattle.fax_bits.specs.Runs.{run_code_bits, run_codes, run_bits}
+use Rattle.fax_bits.specs.Tables.{run_table, white_runs, black_runs}
+use Rattle.fax_bits.proofs.ArrayLemmas.{slice_get-run_entries, white_runs_are, black_runs_are}
+use Rattle.fax_bits.proofs.PutLemmas.{short_bits}
+use Rattle.fax_bits.proofs.ReadBackLemmas.{one_make_up-suc}
+use Rattle.fax_bits.proofs.RunCodeLemmas.{bits_at-found, bits_at-run_table, run_meaning-terminating, make_up-at, extension-at}
+
+-- the place of a code in its table, whose bits are those that are written
+record IsCodeAt (colour : Colour) (b : List Bool) (code : RunCode) (rest : List Bool) : Type 0 where
+  place : ℕ
+  within : place < 105
+  means : run_meaning place ≡ code
+  bits : b ≡ run_code_bits colour code ++ rest
+
+entry_at : (colour : Colour) (b : List Bool) (code : RunCode) (rest : List Bool) (takes : Takes (run_table colour) b code rest) (place : ℕ)
+    (entry : CodeEntry RunCode)
+    → place < 105 → slice_get (run_table colour) place ≡ Some takes.entry → slice_get (run_table colour) place ≡ Some entry
+    → entry.meaning ≡ run_meaning place → IsCodeAt colour b code rest
+entry_at colour b code rest takes place entry within at found meaning =
+    let both : Some entry ≡ Some takes.entry = sym found ∙ at in
+    let same : entry ≡ takes.entry = cc in
+    let means : run_meaning place ≡ code = sym meaning ∙ ap (λ (e : CodeEntry RunCode). e.meaning) same ∙ takes.means in
+    let bits : bits_of takes.entry ≡ run_code_bits colour code =
+    sym (bits_at-found (run_table colour) place takes.entry at) ∙ bits_at-run_table colour place within ∙ ap (run_code_bits colour) means in
+    record { place = place; within = within; means = means; bits = takes.spelled ∙ ap (λ c. c ++ rest) bits }
+
+code_taken : (colour : Colour) (b : List Bool) (code : RunCode) (rest : List Bool) → Takes (run_table colour) b code rest
+    → IsCodeAt colour b code rest
+code_taken White b code rest takes =
+    let place = takes.listed.0 in
+    let within : place < 105 = omega (arith, takes.listed.1, length-white_runs) in
+    let at = slice_get_read white_runs (length white_runs) place takes.entry refl takes.listed.1 (sym takes.listed.2) in
+    let found = ap (λ table. slice_get table place) white_runs_are ∙ slice_get-run_entries 0 WHITE_CODES WHITE_LENS place within within in
+    entry_at White b code rest takes place _ within at found (ap run_meaning (zero-add place))
+code_taken Black b code rest takes =
+    let place = takes.listed.0 in
+    let within : place < 105 = omega (arith, takes.listed.1, length-black_runs) in
+    let at = slice_get_read black_runs (length black_runs) place takes.entry refl takes.listed.1 (sym takes.listed.2) in
+    let found = ap (λ table. slice_get table place) black_runs_are ∙ slice_get-run_entries 0 BLACK_CODES BLACK_LENS place within within in
+    entry_at Black b code rest takes place _ within at found (ap run_meaning (zero-add place))
+
+short_means : (place n : ℕ) → place < 105 → run_meaning place ≡ Terminating n → n < 64
+short_means place n within means =
+    elim (cases_lt place 64) [
+      | inl low ↦ let is = run_meaning-terminating place low in let same : place ≡ n = cc in omega arith
+      | inr high ↦ elim (cases_lt place 104) [
+        | inl middle ↦ let is = make_up-at place high middle in cc
+        | inr last ↦ let is = extension-at place last in cc
+      ]
+    ]
+
+-- how many steps of 64 pels a make-up code means
+record AreSteps (m : ℕ) : Type 0 where
+  steps : ℕ
+  some : 0 < steps
+  few : steps ≤ 40
+  are : m ≡ 64 * steps
+
+make_up_means : (place m : ℕ) → place < 105 → run_meaning place ≡ MakeUp m → AreSteps m
+make_up_means place m within means =
+    elim (cases_lt place 64) [
+      | inl low ↦ let is = run_meaning-terminating place low in cc
+      | inr high ↦ elim (cases_lt place 104) [
+        | inl middle ↦
+            let is = make_up-at place high middle in
+            let same : m ≡ 64 * (place - 63) = cc in
+            record { steps = place - 63; some = omega arith; few = omega arith; are = same }
+        | inr last ↦ let is = extension-at place last in cc
+      ]
+    ]
+
+pub short_written : (colour : Colour) (b : List Bool) (n : ℕ) (rest : List Bool) → Takes (run_table colour) b (Terminating n) rest
+    → b ≡ run_bits colour n ++ rest
+short_written colour b n rest takes =
+    let code = code_taken colour b (Terminating n) rest takes in
+    code.bits ∙ ap (λ c. c ++ rest) (short_bits colour n (short_means code.place n code.within code.means))
+
+-- the codes of a run with a make-up code
+long_codes : (steps n : ℕ) → 0 < steps → steps ≤ 40 → n < 64 → run_codes (64 * steps + n) ≡ MakeUp (64 * steps) ∷ Terminating n ∷ []
+long_codes steps n some few short =
+    let low : (64 * steps + n) % 64 ≡ n = omega arith in
+    elim (eq-or-lt_of_le few) [
+      | inl all ↦
+          let often : (64 * steps + n) / 2560 ≡ 1 = omega arith in
+          let none : (64 * steps + n) % 2560 / 64 ≡ 0 = omega arith in
+          let most : 64 * steps ≡ 2560 = omega arith in
+          rw (often, none, low, most) refl
+      | inr less ↦
+          let often : (64 * steps + n) / 2560 ≡ 0 = omega arith in
+          let more : (64 * steps + n) % 2560 / 64 ≡ suc (steps - 1) = omega arith in
+          let same : suc (steps - 1) ≡ steps = omega arith in
+          rw (often, more, low, one_make_up-suc (steps - 1), same) refl
+    ]
+
+pub long_written : (colour : Colour) (b : List Bool) (m n : ℕ) (middle rest : List Bool) → Takes (run_table colour) b (MakeUp m) middle
+    → Takes (run_table colour) middle (Terminating n) rest → b ≡ run_bits colour (m + n) ++ rest
+unfolding run_bits
+long_written colour b m n middle rest first last =
+    let up = code_taken colour b (MakeUp m) middle first in
+    let low = code_taken colour middle (Terminating n) rest last in
+    let steps = make_up_means up.place m up.within up.means in
+    let f = run_code_bits colour in
+    let codes : run_codes (m + n) ≡ MakeUp m ∷ Terminating n ∷ [] =
+    rw steps.are (long_codes steps.steps n steps.some steps.few (short_means low.place n low.within low.means)) in
+    up.bits ∙ ap (λ c. f (MakeUp m) ++ c) low.bits ∙ sym (append_assoc (f (MakeUp m)) (f (Terminating n)) rest)
+    ∙ ap (λ c. (f (MakeUp m) ++ c) ++ rest) (sym (append-nil (f (Terminating n))))
+    ∙ ap (λ cs. flat_map f cs ++ rest) (sym codes)

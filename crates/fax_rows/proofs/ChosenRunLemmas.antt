@@ -1,0 +1,95 @@
+-- A row in one-dimensional coding that is read by its longest runs has the bits that are written.
+use Rattle.std.proofs.Common.{◌≡◌, ℕ, zero, suc, ◌+◌, ◌-◌, ◌<◌, ◌≤◌, ◌^◌, List, [], ◌∷◌, ◌++◌, length, get_or, Bool, refl, ap, sym, ◌∙◌}
+use Rattle.std.proofs.Common.{subst, arith, inl, inr, append_assoc, append-nil, length-append}
+use Rattle.std.specs.Prelude.{◌⊎◌, sum}
+use Rattle.std.proofs.lemmas.Bool.{cases_lt}
+use Rattle.std.proofs.Math.ListN.{get_or-append}
+use Rattle.std.proofs.Math.Seq.{get_or-append_right}
+use Rattle.fax_bits.specs.declared.Colour.{Colour}
+use Rattle.fax_bits.specs.declared.Colour.TheVariants.{White, Black}
+use Rattle.fax_bits.specs.Runs.{run_bits}
+use Rattle.fax_rows.specs.Coded.{alternating_bits, one_dimensional_bits}
+use Rattle.fax_rows.specs.Elements.{other, pels_of, runs_of}
+use Rattle.fax_rows.specs.Faults.{colour_behind}
+use Rattle.fax_rows.specs.OneDimensional.{IsOneDimensionalRow}
+use Rattle.fax_rows.specs.laws.Rows.{OneDimensionalBitsAreOneRow}
+use Rattle.fax_rows.proofs.GivenRunLemmas.{longest_are_back}
+use Rattle.fax_rows.proofs.RowLaws.{length-pels_of}
+use Rattle.fax_rows.proofs.RowLemmas.{colour_behind-push}
+use Rattle.fax_rows.proofs.RunLaws.{sum-cons}
+use Rattle.fax_rows.proofs.RunLemmas.{sum-push}
+
+-- the bits begin with those of runs, of which the first alone may have no pels
+pub record AreWrittenRuns (b : List Bool) (total : ℕ) (colour : Colour) (rest : List Bool) : Type 0 where
+  pub runs : List ℕ
+  pub bits : b ≡ alternating_bits White runs ++ rest
+  pub sum_is : total ≡ sum runs
+  pub colour_is : colour ≡ colour_behind White runs
+  pub some : (i : ℕ) → 0 < i → i < length runs → 0 < get_or runs i 0
+
+pub runs_begin : (b : List Bool) → AreWrittenRuns b 0 White b
+unfolding alternating_bits
+runs_begin b = record { runs = []; bits = refl; sum_is = refl; colour_is = refl; some = λ i h l. absurd (omega arith) }
+
+alternating-push : (colour : Colour) (runs : List ℕ) (n : ℕ)
+    → alternating_bits colour (runs ++ n ∷ []) ≡ alternating_bits colour runs ++ run_bits (colour_behind colour runs) n
+unfolding alternating_bits
+alternating-push colour [] n = append-nil (run_bits colour n)
+alternating-push colour (m ∷ runs) n =
+    ap (λ b. run_bits colour m ++ b) (alternating-push (other colour) runs n)
+    ∙ sym (append_assoc (run_bits colour m) (alternating_bits (other colour) runs) (run_bits (colour_behind (other colour) runs) n))
+
+-- only the first run has none before it
+first_alone : (runs : List ℕ) → sum runs ≡ 0 → colour_behind White runs ≡ White → ((i : ℕ) → 0 < i → i < length runs → 0 < get_or runs i 0)
+    → length runs ≡ 0
+first_alone [] none colour some = refl
+first_alone (n ∷ []) none colour some = cc
+first_alone (n ∷ m ∷ runs) none colour some =
+    absurd (omega (arith, some 1 (omega arith) (omega arith), sum-cons n (m ∷ runs), sum-cons m runs))
+
+-- each run but the first has pels still
+some_push : (runs : List ℕ) (n : ℕ) → ((i : ℕ) → 0 < i → i < length runs → 0 < get_or runs i 0) → (0 < n) ⊎ (length runs ≡ 0)
+    → (i : ℕ) → 0 < i → i < length (runs ++ n ∷ []) → 0 < get_or (runs ++ n ∷ []) i 0
+some_push runs n some fits i h l =
+    elim (cases_lt i (length runs)) [
+      | inl less ↦ omega (arith, some i h less, get_or-append runs (n ∷ []) 0 i less)
+      | inr over ↦
+          let last : i - length runs ≡ 0 = omega (arith, length-append runs (n ∷ [])) in
+          let here : get_or (runs ++ n ∷ []) i 0 ≡ n = get_or-append_right runs (n ∷ []) i 0 over ∙ ap (λ k. get_or (n ∷ []) k 0) last in
+          elim fits [
+            | inl pels ↦ omega (arith, here)
+            | inr none ↦ absurd (omega (arith, length-append runs (n ∷ [])))
+          ]
+    ]
+
+pub runs_go_on : (b : List Bool) (total place : ℕ) (colour : Colour) (mid rest : List Bool) → AreWrittenRuns b total colour mid
+    → total ≤ place → mid ≡ run_bits colour (place - total) ++ rest → (0 < place - total) ⊎ ((total ≡ 0) × (colour ≡ White))
+    → AreWrittenRuns b place (other colour) rest
+runs_go_on b total place colour mid rest so_far right run fits =
+    let n = place - total in
+    record {
+      runs = so_far.runs ++ n ∷ [];
+      bits = so_far.bits ∙ ap (λ c. alternating_bits White so_far.runs ++ c) (run ∙ ap (λ c. run_bits c n ++ rest) so_far.colour_is)
+          ∙ sym (append_assoc (alternating_bits White so_far.runs) (run_bits (colour_behind White so_far.runs) n) rest)
+          ∙ ap (λ c. c ++ rest) (sym (alternating-push White so_far.runs n));
+      sum_is = omega (arith, sum-push so_far.runs n, so_far.sum_is);
+      colour_is = ap other so_far.colour_is ∙ sym (colour_behind-push White so_far.runs n);
+      some = some_push so_far.runs n so_far.some (elim fits [
+        | inl pels ↦ inl pels
+        | inr none ↦ inr (first_alone so_far.runs (sym so_far.sum_is ∙ none.0) (sym so_far.colour_is ∙ none.1) so_far.some)
+      ]);
+    }
+
+-- these are the longest runs of the row that is read
+pub runs_end : OneDimensionalBitsAreOneRow → (width : ℕ) (b : List Bool) (total : ℕ) (colour : Colour) (row : List Colour)
+    (rest : List Bool) → AreWrittenRuns b total colour rest → total ≡ width → 0 < width → width < 2 ^ 16
+    → IsOneDimensionalRow width b row rest → b ≡ one_dimensional_bits row ++ rest
+runs_end one width b total colour row rest written done some short read =
+    let own = pels_of White written.runs in
+    let len : length own ≡ width = length-pels_of White written.runs ∙ sym written.sum_is ∙ done in
+    let longest : runs_of own ≡ written.runs =
+    longest_are_back written.runs width some (record { whole = sym written.sum_is ∙ done; some = written.some }) in
+    let bits : b ≡ one_dimensional_bits own ++ rest = written.bits ∙ ap (λ runs. alternating_bits White runs ++ rest) (sym longest) in
+    let same = (one own row rest rest (record { some = omega (arith, len); short = omega (arith, len) })
+    (subst (λ c. IsOneDimensionalRow (length own) c row rest) bits (subst (λ n. IsOneDimensionalRow n b row rest) (sym len) read))).0 in
+    bits ∙ ap (λ pels. one_dimensional_bits pels ++ rest) same

@@ -1,0 +1,94 @@
+-- Steps over places of change that T.4 would have chosen.
+use Rattle.std.proofs.Common.{◌≡◌, ℕ, ◌+◌, ◌<◌, ◌≤◌, List, length, take, get_or, Bool, ℤ, pos, refl, ap, sym, ◌∙◌, subst, arith, length-take-le}
+use Rattle.std.specs.Prelude.{Option, Some, None, IfSome}
+use Rattle.std.proofs.lemmas.Int.{ints}
+use Rattle.fax_bits.specs.declared.Colour.{Colour}
+use Rattle.fax_bits.specs.declared.Colour.TheVariants.{White, Black}
+use Rattle.fax_bits.specs.declared.modes.ModeCode.TheVariants.{Pass, Horizontal, Vertical}
+use Rattle.fax_bits.specs.Codes.{Takes}
+use Rattle.fax_bits.specs.Tables.{modes}
+use Rattle.fax_rows.specs.declared.two_dimensional.steps.PlacedReached.{PlacedReached}
+use Rattle.fax_rows.specs.declared.rows.PlacedRow.{PlacedRow}
+use Rattle.fax_rows.specs.TwoDimensional.{Position, first_pel, b1_from, b2_from, coloured_up_to, IsVerticalStep}
+use Rattle.fax_rows.specs.code.Chosen.{IsChosenStep, IsChosenPair}
+use Rattle.fax_rows.specs.code.PlacedRow.{placed_pels}
+use Rattle.fax_rows.specs.code.PlacedReached.{placed_position, IsReadTo}
+use Rattle.fax_rows.specs.code.Reached.{reached_pel}
+use Rattle.fax_rows.specs.code.Turns.{turned, pels_by}
+use Rattle.fax_rows.proofs.ChosenLemmas.{vertical_is, pass_is, horizontal_is}
+use Rattle.fax_rows.proofs.PlacedB1Lemmas.{length-placed_pels, b1_is, b2_is, b2_ahead}
+use Rattle.fax_rows.proofs.PlacedRowLemmas.{take-first, turned-first}
+use Rattle.fax_rows.proofs.PlacedStepLemmas.{b2_order}
+use Rattle.fax_rows.proofs.TakenModeLemmas.{mode_taken}
+use Rattle.fax_rows.proofs.TurnLemmas.{length-pels_by}
+
+-- what holds of a value that is there, by what else holds of it
+pub map_some : {A : Type 0} {P Q : A → Type 0} (found : Option A) → IfSome found P → ((x : A) → P x → Q x) → IfSome found Q
+map_some None h f = tt
+map_some (Some x) h f = f x h
+
+module _ (reference : PlacedRow) (places : List ℕ) (at : PlacedReached) (so_far : IsReadTo reference places at)
+    (unfinished : reached_pel at.reached < reference.width) where
+  -- a0's colour just before the first pel
+  start : at.reached.a0 ≡ None → White ≡ at.reached.colour
+  start is =
+      let first : take at.end places ≡ take 1 places = ap (λ n. take n places) (so_far.started is) in
+      let one = take-first places (omega (arith, so_far.room)) so_far.ascending.first in
+      sym (turned-first (reached_pel at.reached)) ∙ ap (λ ps. turned Black ps (reached_pel at.reached)) (sym (first ∙ one))
+      ∙ so_far.behind (reached_pel at.reached) (omega arith)
+
+  read : length (take (reached_pel at.reached) (pels_by reference.width (take at.end places))) ≡ reached_pel at.reached
+  read =
+      length-take-le (reached_pel at.reached) (pels_by reference.width (take at.end places))
+      (omega (arith, length-pels_by reference.width (take at.end places)))
+
+  inside : reached_pel at.reached < length (placed_pels reference)
+  inside = omega (arith, length-placed_pels reference)
+
+  pub vertical_chosen : (b : List Bool) (d : ℤ) (new : Position) (rest : List Bool) → Takes modes b (Vertical d) rest
+      → IsVerticalStep (placed_pels reference) (placed_position reference.width places at) d new
+      → first_pel new ≤ b2_from (placed_pels reference) (placed_position reference.width places at)
+      → IsChosenStep (placed_pels reference) (placed_position reference.width places at) b new rest
+  vertical_chosen b d new rest takes step left row len goes =
+      let mode = mode_taken b (Vertical d) rest takes in
+      vertical_is (placed_pels reference) row len (placed_position reference.width places at) start read inside d b new rest step mode.bits
+      mode.near left goes
+
+  -- where the distance is said in two ways
+  pub vertical_chosen_as : (b : List Bool) (d read : ℤ) (new : Position) (rest : List Bool) → Takes modes b (Vertical d) rest
+      → IsVerticalStep (placed_pels reference) (placed_position reference.width places at) read new
+      → first_pel new ≤ b2_from (placed_pels reference) (placed_position reference.width places at) → read ≡ d
+      → IsChosenStep (placed_pels reference) (placed_position reference.width places at) b new rest
+  vertical_chosen_as b d distance new rest takes step left same =
+      vertical_chosen b d new rest takes
+      (subst (λ e. IsVerticalStep (placed_pels reference) (placed_position reference.width places at) e new) same step) left
+
+  -- a1 under b1 is not right of b2
+  pub under_chosen : (b : List Bool) (new : Position) (rest : List Bool) → Takes modes b (Vertical (pos 0)) rest
+      → IsVerticalStep (placed_pels reference) (placed_position reference.width places at) (pos 0) new
+      → IsChosenStep (placed_pels reference) (placed_position reference.width places at) b new rest
+  under_chosen b new rest takes step =
+      let b1 = so_far.b1 unfinished in
+      let first = b1_is reference at.reached.a0 at.reached.colour at.b1 b1 in
+      let second = b2_is reference at.reached.a0 at.reached.colour at.b1 b1 in
+      let order = b2_ahead reference at.b1 b1.some b1.within in
+      vertical_chosen b (pos 0) new rest takes step (rw step.new_is (omega (arith, ints, step.a1_is)))
+
+  pub pass_chosen : (b : List Bool) (new : Position) (rest : List Bool) → Takes modes b Pass rest
+      → new ≡ coloured_up_to (placed_position reference.width places at) (b2_from (placed_pels reference)
+      (placed_position reference.width places at))
+      → first_pel new < length (placed_pels reference)
+      → IsChosenStep (placed_pels reference) (placed_position reference.width places at) b new rest
+  pass_chosen b new rest takes new_is ends row len goes =
+      let b1 = so_far.b1 unfinished in
+      let second = b2_is reference at.reached.a0 at.reached.colour at.b1 b1 in
+      pass_is (placed_pels reference) row len (placed_position reference.width places at) start read inside b new rest new_is
+      ((mode_taken b Pass rest takes).bits)
+      (let order = b2_order reference places at so_far unfinished in omega arith) ends goes
+
+  pub pair_chosen : (b middle : List Bool) (new : Position) (rest : List Bool) → Takes modes b Horizontal middle
+      → IsChosenPair (placed_pels reference) (placed_position reference.width places at) middle new rest
+      → IsChosenStep (placed_pels reference) (placed_position reference.width places at) b new rest
+  pair_chosen b middle new rest takes pair row len goes =
+      horizontal_is (placed_pels reference) row len (placed_position reference.width places at) start read inside b middle new rest pair
+      ((mode_taken b Horizontal middle takes).bits) goes

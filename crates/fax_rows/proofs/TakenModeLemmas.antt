@@ -1,0 +1,60 @@
+-- A mode that is read has the bits that are written.
+use Rattle.std.proofs.Common.{◌≡◌, ℕ, zero, suc, ◌<◌, List, ◌++◌, length, Bool, true, pos, negsuc, refl, ap, sym, ◌∙◌, subst, arith}
+use Rattle.std.specs.Prelude.{Some, slice_get, nat_abs, nat_le}
+use Rattle.std.proofs.lemmas.Option.{slice_get_read}
+use Rattle.fax_bits.specs.declared.codes.CodeEntry.{CodeEntry}
+use Rattle.fax_bits.specs.declared.modes.ModeCode.{ModeCode}
+use Rattle.fax_bits.specs.declared.modes.ModeCode.TheVariants.{Pass, Horizontal, Vertical, Extension}
+use Rattle.fax_bits.specs.Bits.{code_bits}
+use Rattle.fax_bits.specs.Codes.{bits_of, Takes}
+use Rattle.fax_bits.specs.Runs.{mode_bits}
+use Rattle.fax_bits.specs.Tables.{modes}
+
+-- a1 is at most 3 pels from b1
+abbrev pub is_near : ModeCode → Bool
+is_near (Vertical d) = nat_le (nat_abs d) 3
+is_near _ = true
+
+-- an entry whose bits are those that are written for its mode
+record IsOwn (entry : CodeEntry ModeCode) : Type 0 where
+  bits : bits_of entry ≡ mode_bits entry.meaning
+  near : is_near entry.meaning ≡ true
+
+own : (entry listed : CodeEntry ModeCode) → Some listed ≡ Some entry → bits_of listed ≡ mode_bits listed.meaning
+    → is_near listed.meaning ≡ true → IsOwn entry
+own entry listed found bits near =
+    let same : listed ≡ entry = cc in
+    subst IsOwn same (record { bits = bits; near = near })
+
+own_at : (place : ℕ) → place < 10 → (entry : CodeEntry ModeCode) → slice_get modes place ≡ Some entry → IsOwn entry
+unfolding modes mode_bits code_bits
+own_at zero h entry found = own entry _ found refl refl
+own_at (suc zero) h entry found = own entry _ found refl refl
+own_at (suc (suc zero)) h entry found = own entry _ found refl refl
+own_at (suc (suc (suc zero))) h entry found = own entry _ found refl refl
+own_at (suc (suc (suc (suc zero)))) h entry found = own entry _ found refl refl
+own_at (suc (suc (suc (suc (suc zero))))) h entry found = own entry _ found refl refl
+own_at (suc (suc (suc (suc (suc (suc zero)))))) h entry found = own entry _ found refl refl
+own_at (suc (suc (suc (suc (suc (suc (suc zero))))))) h entry found = own entry _ found refl refl
+own_at (suc (suc (suc (suc (suc (suc (suc (suc zero)))))))) h entry found = own entry _ found refl refl
+own_at (suc (suc (suc (suc (suc (suc (suc (suc (suc zero))))))))) h entry found = own entry _ found refl refl
+own_at (suc (suc (suc (suc (suc (suc (suc (suc (suc (suc n)))))))))) h entry found = absurd (omega arith)
+
+within_table : (place : ℕ) → place < length modes → place < 10
+unfolding modes
+within_table place within = within
+
+-- a mode that is taken
+pub record IsOwnMode (b : List Bool) (mode : ModeCode) (rest : List Bool) : Type 0 where
+  pub bits : b ≡ mode_bits mode ++ rest
+  pub near : is_near mode ≡ true
+
+pub mode_taken : (b : List Bool) (mode : ModeCode) (rest : List Bool) → Takes modes b mode rest → IsOwnMode b mode rest
+mode_taken b mode rest takes =
+    let place = takes.listed.0 in
+    let at = slice_get_read modes (length modes) place takes.entry refl takes.listed.1 (sym takes.listed.2) in
+    let is = own_at place (within_table place takes.listed.1) takes.entry at in
+    record {
+      bits = takes.spelled ∙ ap (λ c. c ++ rest) (is.bits ∙ ap mode_bits takes.means);
+      near = ap is_near (sym takes.means) ∙ is.near;
+    }

@@ -1,0 +1,50 @@
+-- Steps that are read, and whether T.4 would have chosen them.
+use Rattle.std.specs.Prelude.{◌≡◌, ℕ, ◌+◌, ◌<◌, ◌≤◌, ◌⊎◌, Bool, true, List, ◌++◌, length, take}
+use Rattle.std.specs.Prelude.{replicate, Some}
+use Rattle.fax_bits.specs.declared.Colour.{Colour}
+use Rattle.fax_bits.specs.Runs.{run_bits}
+use Rattle.fax_rows.specs.Elements.{other, pel, is_right_of, b1, b2}
+use Rattle.fax_rows.specs.TwoDimensional.{Position, first_pel, b1_from, b2_from}
+use Rattle.fax_rows.specs.code.Ahead.{bits_from, place_from}
+
+-- the row has the pels that are read, and a0's colour at a0 (T.4, section 4.2.1.3.1)
+pub record GoesOnFrom (row : List Colour) (at : Position) : Type 0 where
+  pub read : at.pels ≡ take (first_pel at) row
+  pub coloured : (a : ℕ) → at.a0 ≡ Some a → a < length row → pel row a ≡ at.colour
+
+-- the bits are those of the step that T.4 chooses for the row (T.4, section 4.2.1.3.3)
+pub record IsStepOf (reference row : List Colour) (old : Position) (b : List Bool) (new : Position)
+    (rest : List Bool) : Type 0 where
+  pub before : GoesOnFrom row old
+  pub place : new.a0 ≡ Some (place_from reference row old.a0)
+  pub bits : b ≡ bits_from reference row old.a0 ++ rest
+
+-- and are so for each row that goes on from the new position
+abbrev pub IsChosenStep : List Colour → Position → List Bool → Position → List Bool → Type 0
+IsChosenStep reference old b new rest =
+    (row : List Colour) → length row ≡ length reference → GoesOnFrom row new
+    → IsStepOf reference row old b new rest
+
+-- where two runs of so many pels end, the first of a0's colour (T.4, section 4.2.1.3.2)
+abbrev pub after_pair : Position → ℕ → ℕ → Position
+after_pair old first second =
+    record {
+      a0 = Some (first_pel old + first + second);
+      colour = old.colour;
+      pels = old.pels ++ replicate first old.colour ++ replicate second (other old.colour);
+    }
+
+-- the two runs of horizontal mode are those that T.4 chooses, where the row goes on in a0's colour
+-- (T.4, sections 4.2.1.3.2 and 4.2.1.3.3)
+pub record IsChosenPair (reference : List Colour) (old : Position) (b : List Bool) (new : Position)
+    (rest : List Bool) : Type 0 where
+  pub first : ℕ
+  pub second : ℕ
+  pub within : first_pel old + first + second ≤ length reference
+  pub right : is_right_of old.a0 (first_pel old + first) ≡ true
+  pub some : first_pel old + first < length reference → 0 < second
+  pub left : first_pel old + first ≤ b2_from reference old
+  pub far : (first_pel old + first + 3 < b1_from reference old)
+      ⊎ (b1_from reference old + 3 < first_pel old + first)
+  pub bits : b ≡ (run_bits old.colour first ++ run_bits (other old.colour) second) ++ rest
+  pub new_is : new ≡ after_pair old first second
