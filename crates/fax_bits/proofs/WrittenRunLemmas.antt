@@ -14,7 +14,7 @@ use Rattle.fax_bits.specs.declared.runs.TheConstants.{WHITE_CODES, WHITE_LENS, B
 use Rattle.fax_bits.specs.Codes.{bits_of, Takes}
 use Rattle.fax_bits.specs.code.Codes.{run_meaning}
 use Rattle.fax_bits.specs.code.TableLaws.{length-white_runs, length-black_runs}
-use Rattle.fax_bits.specs.Runs.{run_code_bits, run_codes, run_bits}
+use Rattle.fax_bits.specs.Written.{run_code_bits, run_codes, run_bits}
 use Rattle.fax_bits.specs.Tables.{run_table, white_runs, black_runs}
 use Rattle.fax_bits.proofs.ArrayLemmas.{slice_get-run_entries, white_runs_are, black_runs_are}
 use Rattle.fax_bits.proofs.PutLemmas.{short_bits}

@@ -3,8 +3,8 @@
 //! then the row is read again from its source.
 ghost use Rattle.std.specs.Prelude.{◌≡◌, ◌+◌, ◌*◌, ◌<◌, ◌≤◌, ◌++◌, length, IfSome};
 ghost use Rattle.fax_bits.specs.Bits.{code_bits};
-ghost use Rattle.fax_bits.specs.Codes.{Takes};
-ghost use Rattle.fax_bits.specs.Runs.{IsRun, run_bits};
+ghost use Rattle.fax_bits.specs.Codes.{Takes, IsRun};
+ghost use Rattle.fax_bits.specs.Written.{run_bits};
 ghost use Rattle.fax_bits.specs.Tables.{modes, run_table};
 ghost use Rattle.fax_bits.specs.code.BitsAhead.{bits_ahead};
 ghost use Rattle.fax_bits.specs.views.Source.{KeepsEnd, source_of};

@@ -13,10 +13,12 @@ use Rattle.fax_bits.specs.declared.Colour.{Colour}
 use Rattle.fax_bits.specs.declared.Colour.TheVariants.{White, Black}
 use Rattle.fax_bits.specs.declared.modes.ModeCode.{ModeCode}
 use Rattle.fax_bits.specs.declared.modes.ModeCode.TheVariants.{Pass, Horizontal, Vertical}
-use Rattle.fax_bits.specs.Runs.{mode_bits, run_bits}
-use Rattle.fax_rows.specs.Elements.{other, same_colour, pel, pel_before, is_changing, is_right_of, next_change}
+use Rattle.fax_bits.specs.Written.{mode_bits, run_bits}
+use Rattle.fax_rows.specs.Rows.{other, same_colour, pel, pel_before, is_changing, is_right_of}
+use Rattle.fax_rows.specs.Rows.{next_change, Position, first_pel, a0_number, coloured_up_to}
+use Rattle.fax_rows.specs.Rows.{IsVerticalStep}
+use Rattle.fax_rows.specs.code.Seen.{b1_from, b2_from}
 use Rattle.fax_rows.specs.Coded.{Places, places, colour_of, chosen_mode, run_pair_bits, next_a0}
-use Rattle.fax_rows.specs.TwoDimensional.{Position, first_pel, a0_number, b1_from, b2_from, coloured_up_to, IsVerticalStep}
 use Rattle.fax_rows.specs.code.Ahead.{bits_from, place_from}
 use Rattle.fax_rows.specs.code.Chosen.{GoesOnFrom, IsStepOf, IsChosenPair}
 use Rattle.fax_rows.proofs.ChangeLemmas.{first_of, next_change_is, still_left, both, same_as}

@@ -5,7 +5,7 @@ use Rattle.fax_bits.specs.declared.Colour.{Colour}
 use Rattle.fax_bits.specs.declared.FillOrder.TheVariants.{MsbFirst}
 use Rattle.fax_bits.specs.views.Sink.{Sink}
 use Rattle.fax_rows.specs.Coded.{two_dimensional_bits}
-use Rattle.fax_rows.specs.TwoDimensional.{Position, first_pel}
+use Rattle.fax_rows.specs.Rows.{Position, first_pel}
 use Rattle.fax_rows.specs.code.Ahead.{bits_from}
 use Rattle.fax_rows.specs.code.Chosen.{GoesOnFrom, IsChosenStep}
 use Rattle.fax_rows.proofs.ChangeLemmas.{first_of}

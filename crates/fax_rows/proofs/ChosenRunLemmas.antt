@@ -7,11 +7,10 @@ use Rattle.std.proofs.Math.ListN.{get_or-append}
 use Rattle.std.proofs.Math.Seq.{get_or-append_right}
 use Rattle.fax_bits.specs.declared.Colour.{Colour}
 use Rattle.fax_bits.specs.declared.Colour.TheVariants.{White, Black}
-use Rattle.fax_bits.specs.Runs.{run_bits}
+use Rattle.fax_bits.specs.Written.{run_bits}
 use Rattle.fax_rows.specs.Coded.{alternating_bits, one_dimensional_bits}
-use Rattle.fax_rows.specs.Elements.{other, pels_of, runs_of}
+use Rattle.fax_rows.specs.Rows.{other, pels_of, runs_of, IsOneDimensionalRow}
 use Rattle.fax_rows.specs.Faults.{colour_behind}
-use Rattle.fax_rows.specs.OneDimensional.{IsOneDimensionalRow}
 use Rattle.fax_rows.specs.laws.Rows.{OneDimensionalBitsAreOneRow}
 use Rattle.fax_rows.proofs.GivenRunLemmas.{longest_are_back}
 use Rattle.fax_rows.proofs.RowLaws.{length-pels_of}

@@ -9,7 +9,8 @@ use Rattle.fax_bits.specs.Codes.{Takes}
 use Rattle.fax_bits.specs.Tables.{modes}
 use Rattle.fax_rows.specs.declared.two_dimensional.steps.PlacedReached.{PlacedReached}
 use Rattle.fax_rows.specs.declared.rows.PlacedRow.{PlacedRow}
-use Rattle.fax_rows.specs.TwoDimensional.{Position, first_pel, b1_from, b2_from, coloured_up_to, IsVerticalStep}
+use Rattle.fax_rows.specs.Rows.{Position, first_pel, coloured_up_to, IsVerticalStep}
+use Rattle.fax_rows.specs.code.Seen.{b1_from, b2_from}
 use Rattle.fax_rows.specs.code.Chosen.{IsChosenStep, IsChosenPair}
 use Rattle.fax_rows.specs.code.PlacedRow.{placed_pels}
 use Rattle.fax_rows.specs.code.PlacedReached.{placed_position, IsReadTo}

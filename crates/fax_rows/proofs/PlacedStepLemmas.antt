@@ -18,7 +18,7 @@ use Rattle.fax_rows.specs.code.PlacedRow.{placed_pels, IsB1At}
 use Rattle.fax_rows.specs.code.Turns.{turned, pels_by, IsAscending, IsTurnedFrom}
 use Rattle.fax_rows.specs.code.PlacedReached.{placed_position, IsReadTo}
 use Rattle.fax_rows.specs.code.Chosen.{after_pair}
-use Rattle.fax_bits.specs.Runs.{IsRun}
+use Rattle.fax_bits.specs.Codes.{IsRun}
 use Rattle.fax_rows.proofs.StepLemmas.{AreStepsSoFar, unfinished_below, abs-same, vertical_step}
 use Rattle.std.proofs.Math.Seq.{take-length}
 use Rattle.fax_rows.proofs.PaintLemmas.{painted_front}

@@ -7,7 +7,7 @@ use Rattle.fax_bits.specs.declared.modes.ModeCode.{ModeCode}
 use Rattle.fax_bits.specs.declared.modes.ModeCode.TheVariants.{Pass, Horizontal, Vertical, Extension}
 use Rattle.fax_bits.specs.Bits.{code_bits}
 use Rattle.fax_bits.specs.Codes.{bits_of, Takes}
-use Rattle.fax_bits.specs.Runs.{mode_bits}
+use Rattle.fax_bits.specs.Written.{mode_bits}
 use Rattle.fax_bits.specs.Tables.{modes}
 
 -- a1 is at most 3 pels from b1

@@ -3,7 +3,7 @@ ghost use Rattle.std.specs.Prelude.{◌≡◌, ◌+◌, ◌-◌, ◌≤◌, ◌<
 ghost use Rattle.std.specs.Prelude.{◌++◌, OnOk, IfOk, IfErr, IsTrue};
 ghost use Rattle.fax_bits.specs.views.Source.{KeepsEnd};
 ghost use Rattle.fax_rows.specs.Coded.{one_dimensional_bits};
-ghost use Rattle.fax_rows.specs.OneDimensional.{IsOneDimensionalRow};
+ghost use Rattle.fax_rows.specs.Rows.{IsOneDimensionalRow};
 ghost use Rattle.fax_rows.specs.Faults.{IsOneDimensionalFault};
 ghost use Rattle.fax_rows.specs.code.Turns.{row_of, IsAscending};
 

@@ -2,9 +2,9 @@
 use Rattle.std.specs.Prelude.{◌≡◌, ℕ, ◌+◌, ◌<◌, ◌≤◌, ◌⊎◌, Bool, true, List, ◌++◌, length, take}
 use Rattle.std.specs.Prelude.{replicate, Some}
 use Rattle.fax_bits.specs.declared.Colour.{Colour}
-use Rattle.fax_bits.specs.Runs.{run_bits}
-use Rattle.fax_rows.specs.Elements.{other, pel, is_right_of, b1, b2}
-use Rattle.fax_rows.specs.TwoDimensional.{Position, first_pel, b1_from, b2_from}
+use Rattle.fax_bits.specs.Written.{run_bits}
+use Rattle.fax_rows.specs.Rows.{other, pel, is_right_of, b1, b2, Position, first_pel}
+use Rattle.fax_rows.specs.code.Seen.{b1_from, b2_from}
 use Rattle.fax_rows.specs.code.Ahead.{bits_from, place_from}
 
 -- the row has the pels that are read, and a0's colour at a0 (T.4, section 4.2.1.3.1)

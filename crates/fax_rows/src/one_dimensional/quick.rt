@@ -3,10 +3,11 @@
 //! source.
 ghost use Rattle.std.specs.Prelude.{◌≡◌, ◌+◌, ◌-◌, ◌≤◌, ◌<◌, ◌^◌, ◌⊎◌, ◌++◌, IfSome, IsTrue, length};
 ghost use Rattle.std.specs.Prelude.{None, slice_index, take};
-ghost use Rattle.fax_bits.specs.Runs.{IsRun, run_bits};
+ghost use Rattle.fax_bits.specs.Codes.{IsRun};
+ghost use Rattle.fax_bits.specs.Written.{run_bits};
 ghost use Rattle.fax_bits.specs.views.Source.{KeepsEnd};
 ghost use Rattle.fax_rows.specs.Coded.{one_dimensional_bits};
-ghost use Rattle.fax_rows.specs.OneDimensional.{IsOneDimensionalRow};
+ghost use Rattle.fax_rows.specs.Rows.{IsOneDimensionalRow};
 ghost use Rattle.fax_rows.specs.code.Turns.{row_of, IsAscending, IsTurnedFrom};
 
 use crate::turns::turn_behind;

@@ -5,8 +5,8 @@ ghost use Rattle.std.specs.Prelude.{◌≡◌, ◌+◌, ◌-◌, ◌≤◌, ◌<
 ghost use Rattle.std.specs.Prelude.{None, slice_index};
 ghost use Rattle.fax_bits.specs.views.Source.{KeepsEnd};
 ghost use Rattle.fax_rows.specs.Coded.{two_dimensional_bits};
-ghost use Rattle.fax_rows.specs.Elements.{b1, b2, is_right_of};
-ghost use Rattle.fax_rows.specs.TwoDimensional as Spec;
+ghost use Rattle.fax_rows.specs.Rows.{b1, b2, is_right_of};
+ghost use Rattle.fax_rows.specs.Rows as Spec;
 ghost use Rattle.fax_rows.specs.code.Chosen as Chosen;
 ghost use Rattle.fax_rows.specs.code.PlacedRow.{placed_pels, IsB1At};
 ghost use Rattle.fax_rows.specs.code.Turns.{row_of, IsAscending};

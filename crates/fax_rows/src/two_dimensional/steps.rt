@@ -2,9 +2,10 @@
 //! (ITU-T T.4, section 4.2.1.3.2).
 ghost use Rattle.std.specs.Prelude.{◌≡◌, ◌+◌, ◌-◌, ◌≤◌, ◌<◌, ◌^◌, ◌+ℤ◌, ◌≤ℤ◌, pos, negsuc};
 ghost use Rattle.std.specs.Prelude.{[], List, Bool, length, slice_index, IfSome, IfNone};
-ghost use Rattle.fax_bits.specs.Runs.{IsRun};
-ghost use Rattle.fax_rows.specs.Elements.{other as other_than};
-ghost use Rattle.fax_rows.specs.TwoDimensional as Spec;
+ghost use Rattle.fax_bits.specs.Codes.{IsRun};
+ghost use Rattle.fax_rows.specs.Rows.{other as other_than};
+ghost use Rattle.fax_rows.specs.Rows as Spec;
+ghost use Rattle.fax_rows.specs.code.Seen.{b2_from};
 ghost use Rattle.fax_rows.specs.code.Chosen.{after_pair};
 ghost use Rattle.fax_rows.specs.code.PlacedRow.{placed_pels};
 ghost use Rattle.fax_rows.specs.code.Reached.{reached_pel, position_of};

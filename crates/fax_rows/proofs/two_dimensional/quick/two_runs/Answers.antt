@@ -1,6 +1,7 @@
 use Rattle.std.proofs.Common.{◌++◌, ◌∙◌, ap, sym, subst, append_assoc, arith}
-use Rattle.fax_bits.specs.Runs.{IsRun, run_bits}
-use Rattle.fax_rows.specs.Elements.{other}
+use Rattle.fax_bits.specs.Codes.{IsRun}
+use Rattle.fax_bits.specs.Written.{run_bits}
+use Rattle.fax_rows.specs.Rows.{other}
 use Rattle.fax_rows.proofs.PlacedB1Lemmas.{length-placed_pels}
 use Rattle.fax_rows.proofs.two_dimensional.quick.two_runs.Goals as goal
 
