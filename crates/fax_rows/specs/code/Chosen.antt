@@ -2,6 +2,7 @@
 use Rattle.std.specs.Prelude.{◌≡◌, ℕ, ◌+◌, ◌<◌, ◌≤◌, ◌⊎◌, Bool, true, List, ◌++◌, length, take}
 use Rattle.std.specs.Prelude.{replicate, Some}
 use Rattle.fax_bits.specs.declared.Colour.{Colour}
+use Rattle.fax_bits.specs.Codes.{IsRun}
 use Rattle.fax_bits.specs.Written.{run_bits}
 use Rattle.fax_rows.specs.Rows.{other, pel, is_right_of, b1, b2, Position, first_pel}
 use Rattle.fax_rows.specs.code.Seen.{b1_from, b2_from}
@@ -24,6 +25,15 @@ abbrev pub IsChosenStep : List Colour → Position → List Bool → Position �
 IsChosenStep reference old b new rest =
     (row : List Colour) → length row ≡ length reference → GoesOnFrom row new
     → IsStepOf reference row old b new rest
+
+-- the bits begin with a run of the colour and one of the other, and are as they are written
+-- (T.4, section 4.1.1)
+pub record IsPair (colour : Colour) (b : List Bool) (first second : ℕ) (rest : List Bool) : Type 0
+  where
+    pub middle : List Bool
+    pub first_run : IsRun colour b first middle
+    pub second_run : IsRun (other colour) middle second rest
+    pub bits : b ≡ (run_bits colour first ++ run_bits (other colour) second) ++ rest
 
 -- where two runs of so many pels end, the first of a0's colour (T.4, section 4.2.1.3.2)
 abbrev pub after_pair : Position → ℕ → ℕ → Position

@@ -19,72 +19,6 @@ use crate::runs::other;
 use crate::turns::colour_after;
 use fax_bits::{Ahead, BitSource, Colour, ModeCode};
 
-/// Horizontal mode: two runs from a0 on, the first of a0's colour, which stays (T.4, section
-/// 4.2.1.3.2).
-#[inline(always)]
-fn two_runs<'a>(
-    ahead: Ahead<'a>,
-    reference: PlacedRow,
-    places: &mut [u32],
-    at: PlacedReached,
-    colour: Colour,
-) -> Option<(Ahead<'a>, PlacedReached, bool)>
-    requires so_far { IsReadTo reference places.old at }
-    requires unfinished { reached_pel at.reached < reference.width }
-    requires colour { colour ≡ at.reached.colour }
-    ensures step { IfSome result (λ next. Spec.IsHorizontalStep (placed_pels reference.entry)
-        (placed_position reference.entry.width places.old at) ahead.entry.left
-        (placed_position reference.entry.width places.new next.1) next.0.left) }
-    ensures so_far { IfSome result (λ next. IsReadTo reference.entry places.new next.1) }
-    ensures first { slice_index places.new 0 ≡ 0 }
-    ensures same_len { length places.new ≡ length places.old }
-    ensures same_end { IfSome result (λ next. KeepsEnd ahead.entry next.0) }
-    ensures no_longer { IfSome result (λ next. length next.0.left ≤ length ahead.entry.left) }
-    ensures chosen { IfSome result (λ next. IsTrue next.2
-        → Chosen.IsChosenPair (placed_pels reference.entry)
-        (placed_position reference.entry.width places.old at) ahead.entry.left
-        (placed_position reference.entry.width places.new next.1) next.0.left) }
-{
-    let from = at.reached.first_pel();
-    let (after, first) = ahead.run(colour)?;
-    let (after, second) = after.run(other(colour))?;
-    if first > reference.width - from || second > reference.width - from - first {
-        return None;
-    }
-    let chosen = chooses_runs(reference, at, first, second);
-    let next = after_runs(reference, places, at, first, second);
-    Some((after, next, chosen))
-}
-
-/// Horizontal mode (T.4, section 4.2.1.3.2). The index of b1 tells a0's colour.
-#[inline(always)]
-fn horizontal<'a>(
-    ahead: Ahead<'a>,
-    reference: PlacedRow,
-    places: &mut [u32],
-    at: PlacedReached,
-) -> Option<(Ahead<'a>, PlacedReached, bool)>
-    requires so_far { IsReadTo reference places.old at }
-    requires unfinished { reached_pel at.reached < reference.width }
-    ensures step { IfSome result (λ next. Spec.IsHorizontalStep (placed_pels reference.entry)
-        (placed_position reference.entry.width places.old at) ahead.entry.left
-        (placed_position reference.entry.width places.new next.1) next.0.left) }
-    ensures so_far { IfSome result (λ next. IsReadTo reference.entry places.new next.1) }
-    ensures first { slice_index places.new 0 ≡ 0 }
-    ensures same_len { length places.new ≡ length places.old }
-    ensures same_end { IfSome result (λ next. KeepsEnd ahead.entry next.0) }
-    ensures no_longer { IfSome result (λ next. length next.0.left ≤ length ahead.entry.left) }
-    ensures chosen { IfSome result (λ next. IsTrue next.2
-        → Chosen.IsChosenPair (placed_pels reference.entry)
-        (placed_position reference.entry.width places.old at) ahead.entry.left
-        (placed_position reference.entry.width places.new next.1) next.0.left) }
-{
-    match colour_after(at.b1) {
-        Colour::White => two_runs(ahead, reference, places, at, Colour::White),
-        Colour::Black => two_runs(ahead, reference, places, at, Colour::Black),
-    }
-}
-
 /// Whether T.4 chooses vertical mode where a1 is reached by it: b2 is not left of a1 (T.4, section
 /// 4.2.1.3.3).
 #[inline(always)]
@@ -120,6 +54,67 @@ fn chooses_runs(reference: PlacedRow, at: PlacedReached, first: u32, second: u32
         && (second > 0 || a1 == reference.width)
         && a1 <= b2
         && (a1 + 3 < b1 || b1 + 3 < a1)
+}
+
+/// Reads a run of the colour and a run of the other one, and answers how many pels they have.
+#[inline(always)]
+fn two_runs<'a>(ahead: Ahead<'a>, colour: Colour) -> Option<(Ahead<'a>, u32, u32)>
+    ensures pair { IfSome result
+        (λ read. Chosen.IsPair colour ahead.entry.left read.1 read.2 read.0.left) }
+    ensures same_end { IfSome result (λ read. KeepsEnd ahead.entry read.0) }
+    ensures no_longer { IfSome result (λ read. length read.0.left ≤ length ahead.entry.left) }
+{
+    let (after, first) = ahead.run(colour)?;
+    let (after, second) = after.run(other(colour))?;
+    Some((after, first, second))
+}
+
+/// What `two_runs` does, in code of its own for each colour.
+#[inline(always)]
+fn two_runs_by_colour<'a>(ahead: Ahead<'a>, colour: Colour) -> Option<(Ahead<'a>, u32, u32)>
+    ensures pair { IfSome result
+        (λ read. Chosen.IsPair colour ahead.entry.left read.1 read.2 read.0.left) }
+    ensures same_end { IfSome result (λ read. KeepsEnd ahead.entry read.0) }
+    ensures no_longer { IfSome result (λ read. length read.0.left ≤ length ahead.entry.left) }
+{
+    match colour {
+        Colour::White => two_runs(ahead, Colour::White),
+        Colour::Black => two_runs(ahead, Colour::Black),
+    }
+}
+
+/// Horizontal mode: two runs from a0 on, the first of a0's colour, which stays (T.4, section
+/// 4.2.1.3.2). The index of b1 tells that colour.
+#[inline(always)]
+fn horizontal<'a>(
+    ahead: Ahead<'a>,
+    reference: PlacedRow,
+    places: &mut [u32],
+    at: PlacedReached,
+) -> Option<(Ahead<'a>, PlacedReached, bool)>
+    requires so_far { IsReadTo reference places.old at }
+    requires unfinished { reached_pel at.reached < reference.width }
+    ensures step { IfSome result (λ next. Spec.IsHorizontalStep (placed_pels reference.entry)
+        (placed_position reference.entry.width places.old at) ahead.entry.left
+        (placed_position reference.entry.width places.new next.1) next.0.left) }
+    ensures so_far { IfSome result (λ next. IsReadTo reference.entry places.new next.1) }
+    ensures first { slice_index places.new 0 ≡ 0 }
+    ensures same_len { length places.new ≡ length places.old }
+    ensures same_end { IfSome result (λ next. KeepsEnd ahead.entry next.0) }
+    ensures no_longer { IfSome result (λ next. length next.0.left ≤ length ahead.entry.left) }
+    ensures chosen { IfSome result (λ next. IsTrue next.2
+        → Chosen.IsChosenPair (placed_pels reference.entry)
+        (placed_position reference.entry.width places.old at) ahead.entry.left
+        (placed_position reference.entry.width places.new next.1) next.0.left) }
+{
+    let from = at.reached.first_pel();
+    let (after, first, second) = two_runs_by_colour(ahead, colour_after(at.b1))?;
+    if first > reference.width - from || second > reference.width - from - first {
+        return None;
+    }
+    let chosen = chooses_runs(reference, at, first, second);
+    let next = after_runs(reference, places, at, first, second);
+    Some((after, next, chosen))
 }
 
 /// Reads one mode, and goes on by what it says (T.4, section 4.2.1.3.3).
@@ -163,7 +158,7 @@ fn step<'a>(
 
 /// Reads the modes of a row from the bits ahead.
 #[inline(always)]
-fn read_ahead<'a, const CHOICE: bool>(
+fn read_ahead<'a>(
     mut ahead: Ahead<'a>,
     reference: PlacedRow,
     places: &mut [u32],
@@ -183,7 +178,7 @@ fn read_ahead<'a, const CHOICE: bool>(
         (row_of places.new read.1 reference.entry.width) ++ read.0.left) }
 {
     let mut at = PlacedReached::BEGINNING;
-    let mut chosen = CHOICE;
+    let mut chosen = true;
     while at.reached.first_pel() < reference.width {
         let (after, next, fits) = step(ahead, reference, places, at)?;
         ahead = after;
@@ -196,7 +191,7 @@ fn read_ahead<'a, const CHOICE: bool>(
 /// Reads the modes of a row over the reference row, and answers where its places end. After `None`
 /// the source is as it was.
 #[inline(never)]
-pub(crate) fn read_quickly<const CHOICE: bool>(
+pub(crate) fn read_quickly(
     source: &mut BitSource,
     reference: PlacedRow,
     places: &mut [u32],
@@ -216,7 +211,7 @@ pub(crate) fn read_quickly<const CHOICE: bool>(
         (row_of places.new read.0 reference.entry.width) ++ source.new.left) }
     ensures unchanged { result ≡ None → source.new ≡ source.old }
 {
-    let (after, end, chosen) = read_ahead::<CHOICE>(source.ahead()?, reference, places)?;
+    let (after, end, chosen) = read_ahead(source.ahead()?, reference, places)?;
     *source = after.source();
     Some((end, chosen))
 }

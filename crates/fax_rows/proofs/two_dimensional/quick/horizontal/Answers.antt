@@ -1,0 +1,30 @@
+use Rattle.std.proofs.Common.{◌∙◌, subst, arith}
+use Rattle.fax_rows.specs.code.Chosen.{IsPair}
+use Rattle.fax_rows.proofs.PlacedB1Lemmas.{length-placed_pels}
+use Rattle.fax_rows.proofs.two_dimensional.quick.horizontal.Goals as goal
+
+pub returns-clause-step : goal.returns-clause-step
+returns-clause-step c =
+    let read = c.in_ok-after in
+    let colour = c.colour_after.ensures ∙ (c.requires.so_far.b1 c.requires.unfinished).colour_is in
+    let pair = subst (λ own. IsPair own c.args.ahead.left read.first read.second read.after.left) colour read.ensures.pair in
+    c.after_runs-next.ensures.step c.args.ahead.left pair.middle read.after.left pair.first_run pair.second_run
+
+pub returns-clause-chosen : goal.returns-clause-chosen
+returns-clause-chosen c is =
+    let read = c.in_ok-after in
+    let colour = c.colour_after.ensures ∙ (c.requires.so_far.b1 c.requires.unfinished).colour_is in
+    let pair = subst (λ own. IsPair own c.args.ahead.left read.first read.second read.after.left) colour read.ensures.pair in
+    let fits = c.chooses_runs-chosen.ensures in
+    let len = length-placed_pels c.args.reference in
+    record {
+      first = read.first;
+      second = read.second;
+      within = omega (arith, len, c.first_pel-from.ensures);
+      right = fits.right is;
+      some = λ h. fits.second is (omega (arith, len));
+      left = fits.left is;
+      far = fits.far is;
+      bits = pair.bits;
+      new_is = c.after_runs-next.ensures.placed;
+    }
