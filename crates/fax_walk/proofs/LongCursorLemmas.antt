@@ -1,7 +1,7 @@
 -- A long cursor's text is cut at its colons and commas, and its numbers are read.
 use Rattle.std.proofs.Common.{◌≡◌, ◌≢◌, ℕ, ◌^◌, ◌<◌, ◌-◌, List, [], ◌∷◌, ◌++◌, length, get_or, ap, sym, ◌∙◌, append_assoc}
-use Rattle.std.proofs.Common.{length-append, arith}
-use Rattle.std.specs.Prelude.{Option, MatchOption, Some, None, decimal, flat_map}
+use Rattle.std.proofs.Common.{length-append, Result, Ok, Err, arith}
+use Rattle.std.specs.Prelude.{Option, MatchOption, OnOk, Some, None, decimal, flat_map, ⊤}
 use Rattle.std.specs.Borrow.{Bor}
 use Rattle.std.specs.List.{All}
 use Rattle.std.proofs.lemmas.Fmt.{digits_decimal, decimal_injective, decimal_digit}
@@ -177,3 +177,12 @@ is_long_text text behind_version behind_page behind_row behind_bits version plac
     whole ∙ ap (λ n. number_and n behind_version) two ∙ ap (number_and 2) (page ∙ ap (number_and place.at.page)
     (row ∙ ap (number_and place.at.row) (bits ∙ ap (number_and place.bits) runs)))
     ∙ sym (text_by_numbers place)
+
+-- the parts of a long cursor's text, put one after another
+pub put_one_after_another : {E : Type 0} (answer : Result ⊤ E) (old t₁ t₂ t₃ t₄ t₅ t₆ t₇ t₈ new : List ℕ) (place : LongPlace)
+    → t₁ ≡ old ++ decimal 2 → t₂ ≡ t₁ ++ 58 ∷ [] → t₃ ≡ t₂ ++ decimal place.at.page → t₄ ≡ t₃ ++ 58 ∷ []
+    → t₅ ≡ t₄ ++ decimal place.at.row → t₆ ≡ t₅ ++ 58 ∷ [] → t₇ ≡ t₆ ++ decimal place.bits → t₈ ≡ t₇ ++ 58 ∷ []
+    → OnOk answer (new ≡ t₈ ++ runs_text place.runs) → OnOk answer (new ≡ old ++ long_cursor_text place)
+put_one_after_another (Err fault) old t₁ t₂ t₃ t₄ t₅ t₆ t₇ t₈ new place e₁ e₂ e₃ e₄ e₅ e₆ e₇ e₈ put = tt
+put_one_after_another (Ok done) old t₁ t₂ t₃ t₄ t₅ t₆ t₇ t₈ new place e₁ e₂ e₃ e₄ e₅ e₆ e₇ e₈ put =
+    rw (put, e₈, e₇, e₆, e₅, e₄, e₃, e₂, e₁, text_by_numbers place) (simp append_assoc)

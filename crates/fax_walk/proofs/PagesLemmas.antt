@@ -1,5 +1,5 @@
 -- Steps of a reader of pages.
-use Rattle.std.proofs.Common.{◌≡◌, ℕ, zero, suc, ◌+◌, ◌^◌, ◌<◌, true, false, List, [], ◌∷◌, ◌++◌, length, Option, Some, None, Result, Ok}
+use Rattle.std.proofs.Common.{◌≡◌, ℕ, zero, suc, ◌+◌, ◌^◌, ◌<◌, Bool, true, false, List, [], ◌∷◌, ◌++◌, length, Option, Some, None, Result, Ok}
 use Rattle.std.proofs.Common.{Err, inl, inr, refl, sym, ap, ◌∙◌, subst, arith, append-nil, length-append}
 use Rattle.std.proofs.lemmas.Bool.Decides.{nat_tests}
 use Rattle.std.proofs.lemmas.List.{drop_at, drop_all, length_push}
@@ -14,7 +14,11 @@ use Rattle.fax_walk.specs.code.Pages.{AreFormsBegun, HasGiven, IsPageAfter, IsFi
 use Rattle.fax_walk.specs.code.Pages.{EndsNow}
 use Rattle.fax_walk.specs.views.InOrder.{EndsAfter, HasToldNoOther}
 use Rattle.fax_walk.specs.laws.InOrder.{LeadTo}
-use Rattle.fax_walk.specs.views.Pages.{PagesView, HandsOutPage}
+use Rattle.fax_walk.specs.declared.end.End.TheVariants.{Fault, Outside, Proper}
+use Rattle.fax_walk.specs.declared.end.WalkFault.{WalkFault}
+use Rattle.fax_walk.specs.declared.end.WalkFault.TheVariants.{AtRow, CursorOutside}
+use Rattle.fax_walk.specs.code.Walk.{answer_of}
+use Rattle.fax_walk.specs.views.Pages.{PagesView, HandsOutPage, IsNextPage, PagesHaveEnded}
 use Rattle.fax_walk.specs.laws.Forms.{AreFormsLeft}
 use Rattle.fax_walk.specs.laws.Tails.{CursorsHaveOneFormTail, FormTailOfPage}
 use Rattle.fax_walk.specs.code.Opening.{PageDue, IsPageDue, IsFilePage, IsChainBefore, IsNamed, EndsAt, page_with}
@@ -182,3 +186,17 @@ given_more file begun given due come file_is its = (
   },
   rw (file_is, ← its.after.given) at its.after,
 )
+
+-- what is answered where the pages have ended
+pub ended_properly : (old new : PagesView) (end : End) (more : Bool) → PagesHaveEnded old end new → Ok more ≡ answer_of end
+    → PagesHaveEnded old Proper new
+ended_properly old new Proper more ended is = ended
+ended_properly old new (Fault page row cause) more ended is = absurd cc
+ended_properly old new Outside more ended is = absurd cc
+
+pub ended_so : (old new : PagesView) (end : End) (fault : WalkFault) → PagesHaveEnded old end new → Err fault ≡ answer_of end
+    → IsNextPage old (Err fault) new
+ended_so old new Proper fault ended is = absurd cc
+ended_so old new (Fault page row cause) fault ended is =
+    let same : fault ≡ AtRow page row cause = cc in rw same ended
+ended_so old new Outside fault ended is = let same : fault ≡ CursorOutside = cc in rw same ended

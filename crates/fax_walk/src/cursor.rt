@@ -75,7 +75,8 @@ impl Cursor {
     {
         let mut digits = Buffer::new();
         let mut text = ArrayString::new();
-        text.push_str("1:");
+        text.push_str(VERSION);
+        text.push_str(":");
         text.push_str(digits.format(self.page));
         text.push_str(":");
         text.push_str(digits.format(self.row));

@@ -31,8 +31,21 @@ pub enum WalkFault {
 
 impl End {
     ghost use Rattle.std.specs.Prelude.{◌≡◌};
+    ghost use Rattle.fax_walk.specs.code.Walk.{answer_of};
     ghost use Rattle.fax_files.specs.declared.Cause.TheVariants.{File};
     ghost use Rattle.fax_walk.specs.declared.end.End.TheVariants.{Fault};
+
+    /// What a call answers that goes on to what comes next, where that has ended so: that there is
+    /// nothing, or the fault.
+    pub(crate) fn answer(self) -> Result<bool, WalkFault>
+        ensures { result ≡ answer_of self }
+    {
+        match self {
+            End::Proper => Ok(false),
+            End::Fault { page, row, cause } => Err(WalkFault::AtRow { page, row, cause }),
+            End::Outside => Err(WalkFault::CursorOutside),
+        }
+    }
 
     /// The end at a fault of the file, where this row of a page was due.
     pub(crate) fn of_file(page: u32, row: u32, fault: FileFault) -> End

@@ -158,7 +158,8 @@ impl LongCursor {
         ensures ok { OnOk result (string_bytes text.new ≡ string_bytes text.old
             ++ long_cursor_text self.now) }
     {
-        put(text, "2:")?;
+        put_number(text, VERSION)?;
+        put(text, ":")?;
         put_number(text, self.at.page)?;
         put(text, ":")?;
         put_number(text, self.at.row)?;

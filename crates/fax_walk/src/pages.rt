@@ -146,7 +146,7 @@ impl<'a> Pages<'a> {
         ensures { IsNextPage self.old result self.new }
     {
         crate::laws::form_tails_are_one();
-        let end = match self.due() {
+        match self.due() {
             Ok(page) => {
                 self.given += 1;
                 self.cursor = Cursor {
@@ -154,15 +154,13 @@ impl<'a> Pages<'a> {
                     row: 0,
                 };
                 self.stage = PagesStage::After(page.chain);
-                return Ok(Some((page.page, page.form)));
+                Ok(Some((page.page, page.form)))
             }
-            Err(end) => end,
-        };
-        self.stage = PagesStage::Ended(end);
-        match end {
-            End::Proper => Ok(None),
-            End::Fault { page, row, cause } => Err(WalkFault::AtRow { page, row, cause }),
-            End::Outside => Err(WalkFault::CursorOutside),
+            Err(end) => {
+                self.stage = PagesStage::Ended(end);
+                end.answer()?;
+                Ok(None)
+            }
         }
     }
 }

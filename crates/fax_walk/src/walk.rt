@@ -125,17 +125,6 @@ fn go_on<'a>(
     Ok(page.cursor())
 }
 
-/// What a call answers that goes to the next row, where the rows have ended so.
-fn answer_of(end: End) -> Result<bool, WalkFault>
-    ensures { result ≡ Spec.answer_of end }
-{
-    match end {
-        End::Proper => Ok(false),
-        End::Fault { page, row, cause } => Err(WalkFault::AtRow { page, row, cause }),
-        End::Outside => Err(WalkFault::CursorOutside),
-    }
-}
-
 impl<'a> Walk<'a> {
     ghost use Rattle.fax_walk.specs.views.Lent.{EndsAs};
     ghost use Rattle.fax_walk.specs.views.Walk.{IsNext, IsCursorOf, IsLongOf, AreRead, walk_start};
@@ -235,7 +224,7 @@ impl<'a> Walk<'a> {
         ensures { Spec.IsAdvance self.old result self.new }
     {
         if let Some(end) = self.told {
-            return answer_of(end);
+            return end.answer();
         }
         match go_on(self.alloc, self.file, &self.begun, &mut self.page) {
             Ok(cursor) => {
@@ -246,7 +235,7 @@ impl<'a> Walk<'a> {
             Err(OpenFault::Memory) => Err(WalkFault::Memory),
             Err(OpenFault::Ended(end)) => {
                 self.told = Some(end);
-                answer_of(end)
+                end.answer()
             }
         }
     }

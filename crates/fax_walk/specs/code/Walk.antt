@@ -140,7 +140,7 @@ IsSound file begun given cursor page None =
     GoesOnFrom file begun given cursor page × ShowsLast file begun given cursor page
 IsSound file begun given cursor page (Some end) = HasEndedOn file begun given cursor page end
 
--- what a call answers that goes to the next row, where the rows have ended so
+-- what a call answers that goes on, where the rows or the pages have ended so
 abbrev pub answer_of : End → Result Bool WalkFault
 answer_of Proper = Ok false
 answer_of (Fault page row cause) = Err (AtRow page row cause)

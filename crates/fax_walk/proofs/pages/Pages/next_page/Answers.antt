@@ -1,6 +1,6 @@
 use Rattle.std.proofs.Common.{inr, ◌≡◌, ◌+◌, ◌<◌, ◌^◌, refl, sym, ◌∙◌, arith}
-use Rattle.fax_walk.proofs.PagesLemmas.{page_given, given_more}
-use Rattle.fax_walk.proofs.pages.Pages.next_page.Goals.{in-Proper, in-Fault, in-Outside}
+use Rattle.std.proofs.lemmas.Result.{err_from_is_err_and}
+use Rattle.fax_walk.proofs.PagesLemmas.{ended_properly, ended_so, page_given, given_more}
 use Rattle.fax_walk.proofs.pages.Pages.next_page.Goals as goal
 
 pub invariant_of-self : goal.invariant_of-self
@@ -23,29 +23,23 @@ returns-in-Ok c =
     let short : c.page.inside.page + 1 < 2 ^ 32 = omega (arith, after, c.given.type_inv) in
     rw (← c.self.view_is) (page_given laws.one laws.first _ _ due c.page.invariant short)
 
-pub invariant_of-self-2 : goal.invariant_of-self-2
-invariant_of-self-2 c = record { come = (rw (sym c.self.view_is) at c.in-Err.ensures.err).0; cursor_is = c.self.invariant.cursor_is }
+pub invariant_of-self-in-Err : goal.invariant_of-self-in-Err
+invariant_of-self-in-Err c =
+    record { come = (rw (sym c.self.view_is) at c.in-Err.ensures.err).0; cursor_is = c.self.invariant.cursor_is }
 
-pub returns : goal.returns
-returns c =
+pub invariant_of-self-in_err-answer-in-Err : goal.invariant_of-self-in_err-answer-in-Err
+invariant_of-self-in_err-answer-in-Err c =
+    record { come = (rw (sym c.self.view_is) at c.in-Err.ensures.err).0; cursor_is = c.self.invariant.cursor_is }
+
+pub returns-in_ok-answer-in-Err : goal.returns-in_ok-answer-in-Err
+returns-in_ok-answer-in-Err c =
     let ends = rw (sym c.self.view_is) at c.in-Err.ensures.err in
-    elim c.match-end.branch [
-      | in-Proper w ↦ rw (← c.self.view_is, w.result-is) (record {
-        ends = rw w.in-Proper.is at ends.0;
-        no_other =
-            rw w.in-Proper.is at ends.1;
-        new_is = rw w.in-Proper.is refl;
-      })
-      | in-Fault w ↦ rw (← c.self.view_is, w.result-is) (record {
-        ends = rw w.in-Fault.is at ends.0;
-        no_other =
-            rw w.in-Fault.is at ends.1;
-        new_is = rw w.in-Fault.is refl;
-      })
-      | in-Outside w ↦ rw (← c.self.view_is, w.result-is) (record {
-        ends = rw w.in-Outside.is at ends.0;
-        no_other =
-            rw w.in-Outside.is at ends.1;
-        new_is = rw w.in-Outside.is refl;
-      })
-    ]
+    rw (← c.self.view_is) (ended_properly _ _ c.in-Err.end _ (record { ends = ends.0; no_other = ends.1; new_is = refl })
+    c.in_ok-answer-in-Err.ensures)
+
+pub returns-in_err-answer-in-Err : goal.returns-in_err-answer-in-Err
+returns-in_err-answer-in-Err c =
+    let p = err_from_is_err_and c.from_residual.result c.from_residual.ensures.1 in
+    let ends = rw (sym c.self.view_is) at c.in-Err.ensures.err in
+    rw (← c.self.view_is, p.1, p.2) (ended_so _ _ c.in-Err.end _ (record { ends = ends.0; no_other = ends.1; new_is = refl })
+    c.in_err-answer-in-Err.ensures)

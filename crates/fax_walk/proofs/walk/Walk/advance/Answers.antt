@@ -42,7 +42,7 @@ returns-in-Some c =
     let w = c.self.inside in
     let walk : WalkView = record { file = w.file.now; begun = w.begun; given = w.given; told = w.told } in
     let end = c.in-Some.end in
-    rw (← c.self.view_is, c.answer_of.ensures)
+    rw (← c.self.view_is, c.answer.ensures)
     (subst (λ (t : Option End). IsAdvance walk (answer_of end) (record walk { told = t })) (sym c.in-Some.is)
     (advance_ends walk _ end (ends_again walk w.cursor w.page end c.in-Some.is c.self.invariant)))
 
@@ -52,6 +52,6 @@ returns-in-Err-Ended c =
     let walk : WalkView = record { file = w.file.now; begun = w.begun; given = w.given; told = w.told } in
     let next = rw c.in-Err-Ended.field-0-is at c.in-Err-Ended.ensures in
     let end = c.in-Err-Ended.end in
-    rw (← c.self.view_is, c.answer_of-in-Err-Ended.ensures)
+    rw (← c.self.view_is, c.answer-in-Err-Ended.ensures)
     (advance_ends walk (record walk { told = Some end }) end
     (ends_now walk w.cursor w.page c.go_on.new.page end c.in_default.is c.self.invariant next))
