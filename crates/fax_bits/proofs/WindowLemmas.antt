@@ -1,6 +1,6 @@
 -- Words of 64 bits: `count` bits, the highest first, with zeros after them.
 use Rattle.std.proofs.Common.{◌≡◌, ℕ, zero, suc, ◌+◌, ◌-◌, ◌*◌, ◌/◌, ◌%◌, ◌^◌, ◌<◌, ◌≤◌, List, [], ◌∷◌, ◌++◌, length, take, drop, replicate}
-use Rattle.std.proofs.Common.{get_or, Bool, true, false, nat_eq, refl, append_assoc, ap, sym, ◌∙◌, subst, arith, length-append, length-drop}
+use Rattle.std.proofs.Common.{get_or, Bool, true, false, nat_eq, refl, append_assoc, ap, sym, ◌∙◌, subst, arith}
 use Rattle.std.proofs.Common.{add-zero}
 use Rattle.std.specs.Prelude.{bit_or}
 use Rattle.std.specs.Int.{bit_at}
@@ -10,15 +10,11 @@ use Rattle.std.proofs.lemmas.List.{take-append-le, take-append-drop}
 use lib.Count.{count_leading_zeros}
 use Rattle.std.proofs.lemmas.Nat.{leading_length, shr_high, mod-pow-add, mod_below, or_shifted, pow-add, pow_pos, shl_below, shl-shr}
 use Rattle.std.proofs.lemmas.Nat.{shl_whole, shr_below, shr_split}
-use Rattle.fax_bits.specs.declared.FillOrder.{FillOrder}
-use Rattle.fax_bits.specs.declared.window.Window.{Window}
-use Rattle.fax_bits.specs.code.BitsAhead.{bits_ahead}
-use Rattle.fax_bits.specs.Bits.{bits, code_bits}
+use Rattle.fax_bits.specs.Bits.{code_bits}
 use Rattle.fax_bits.specs.views.Source.{HasZerosAhead}
 use Rattle.fax_bits.specs.Written.{bits_number}
 use Rattle.fax_bits.specs.code.Window.{first_bits}
 use Rattle.fax_bits.proofs.CodeBitsLemmas.{code_bits-add}
-use Rattle.fax_bits.proofs.SourceLemmas.{length-bits}
 use Rattle.fax_bits.proofs.MeetingLemmas.{length-code_bits}
 use Rattle.fax_bits.proofs.NumberLemmas.{number-code_bits}
 

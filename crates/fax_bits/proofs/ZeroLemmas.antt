@@ -1,10 +1,8 @@
 -- Zeros that bits begin with.
-use Rattle.std.proofs.Common.{◌≡◌, ℕ, zero, suc, ◌+◌, ◌-◌, ◌<◌, List, [], ◌∷◌, length, get_or, Bool, true, false, refl, ap, sym, ◌∙◌, inl}
-use Rattle.std.proofs.Common.{inr, arith}
-use Rattle.std.proofs.lemmas.Bool.{cases_lt}
+use Rattle.std.proofs.Common.{◌≡◌, ℕ, zero, suc, ◌<◌, List, [], ◌∷◌, length, get_or, Bool, true, false, refl, ap}
+use Rattle.std.proofs.Common.{arith}
 use Rattle.fax_bits.specs.Bits.{IsAllZeros}
 use Rattle.fax_bits.specs.views.Source.{HasZerosAhead}
-use Rattle.fax_bits.specs.code.Source.{IsZeroByteAt}
 
 -- the first n bits are 0
 abbrev pub IsZeroBelow : List Bool → ℕ → Type 0

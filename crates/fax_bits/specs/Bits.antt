@@ -1,6 +1,6 @@
 -- The bits of a strip: a list of truth values, where true is the bit 1.
 -- A definition without a citation is this project's profile.
-use Rattle.std.specs.Prelude.{◌≡◌, ℕ, zero, suc, ◌==◌, Bool, true, false}
+use Rattle.std.specs.Prelude.{◌≡◌, ℕ, zero, suc, ◌==◌, Bool, false}
 use Rattle.std.specs.Prelude.{List, [], ◌∷◌, ◌++◌, replicate, reverse, flat_map}
 use Rattle.std.specs.Int.{bit_at}
 use Rattle.fax_bits.specs.declared.FillOrder.{FillOrder}

@@ -1,6 +1,6 @@
 -- The code tables of ITU-T T.4, each code spelled as the standard prints it.
 use Rattle.std.specs.Prelude.{ℕ, ◌+◌, ◌*◌, ◌-◌, ◌==◌, List, [], ◌∷◌, ◌++◌, length, fold, codes}
-use Rattle.std.specs.Prelude.{pos, negsuc, if◌then◌else◌}
+use Rattle.std.specs.Prelude.{pos, negsuc}
 use Rattle.std.specs.List.{slice_split}
 use Rattle.fax_bits.specs.declared.codes.CodeEntry.{CodeEntry}
 use Rattle.fax_bits.specs.declared.Colour.{Colour}

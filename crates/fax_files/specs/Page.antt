@@ -1,6 +1,6 @@
 -- The form of a page, from the fields of its directory, and the bytes of its strips.
 -- A definition without a citation is this project's profile.
-use Rattle.std.specs.Prelude.{◌≡◌, ℕ, ◌+◌, ◌-◌, ◌*◌, ◌/◌, ◌%◌, ◌^◌, min, Bool, false, nat_le, nat_lt}
+use Rattle.std.specs.Prelude.{ℕ, ◌+◌, ◌-◌, ◌*◌, ◌/◌, ◌%◌, ◌^◌, min, Bool, false, nat_le, nat_lt}
 use Rattle.std.specs.Prelude.{◌==◌, ◌&&◌, ◌||◌, not, if◌then◌else◌, List, take, drop, Option, Some}
 use Rattle.std.specs.Prelude.{None, Result, Ok}
 use Rattle.std.specs.Int.{div_ceil}

@@ -1,20 +1,9 @@
 -- Codes by their place in a table.
-use Rattle.std.specs.Prelude.{◌≡◌, ℕ, zero, suc, ◌^◌, ◌<◌, ◌≤◌, Bool, List, [], ◌∷◌, ◌++◌, Contains}
-use Rattle.std.specs.Prelude.{Some, slice_get}
+use Rattle.std.specs.Prelude.{ℕ, zero, suc, Bool, List, [], ◌∷◌}
 use Rattle.fax_bits.specs.declared.codes.CodeEntry.{CodeEntry}
-use Rattle.fax_bits.specs.declared.codes.TheConstants.{LONGEST_CODE}
-use Rattle.fax_bits.specs.declared.codes.CodeFault.{CodeFault}
-use Rattle.fax_bits.specs.declared.codes.CodeFault.TheVariants.{DataEnds, BadCode}
-use Rattle.fax_bits.specs.Bits.{code_bits}
 use Rattle.fax_bits.specs.Codes.{bits_of}
-use Rattle.std.specs.Prelude.{ℕ, ◌+◌, ◌*◌, ◌-◌, ◌==◌, List, [], ◌∷◌, ◌++◌, length, fold, codes, pos}
-use Rattle.std.specs.Prelude.{negsuc, nat_lt, if◌then◌else◌}
-use Rattle.std.specs.List.{slice_split}
-use Rattle.fax_bits.specs.declared.Colour.{Colour}
-use Rattle.fax_bits.specs.declared.Colour.TheVariants.{White, Black}
-use Rattle.fax_bits.specs.declared.modes.ModeCode.{ModeCode}
-use Rattle.fax_bits.specs.declared.modes.ModeCode.TheVariants.{Pass, Horizontal, Vertical}
-use Rattle.fax_bits.specs.declared.modes.ModeCode.TheVariants.{Extension as ModeExtension}
+use Rattle.std.specs.Prelude.{ℕ, ◌*◌, ◌-◌, List, [], ◌∷◌}
+use Rattle.std.specs.Prelude.{nat_lt, if◌then◌else◌}
 use Rattle.fax_bits.specs.declared.runs.RunCode.{RunCode}
 use Rattle.fax_bits.specs.declared.runs.RunCode.TheVariants.{Terminating, MakeUp, Extension}
 

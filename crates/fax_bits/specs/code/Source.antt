@@ -1,8 +1,6 @@
 -- Bits that are read from a place on.
-use Rattle.std.specs.Prelude.{◌≡◌, ℕ, ◌+◌, ◌*◌, ◌<◌, ◌≤◌, Bool, true, false, List, ◌++◌, length}
-use Rattle.std.specs.Prelude.{slice_index_or, drop}
-use Rattle.fax_bits.specs.declared.FillOrder.{FillOrder}
-use Rattle.fax_bits.specs.Bits.{bits}
+use Rattle.std.specs.Prelude.{◌≡◌, ℕ, ◌+◌, ◌*◌, ◌<◌, ◌≤◌, Bool, false, List, length}
+use Rattle.std.specs.Prelude.{slice_index_or}
 
 -- eight zeros stand at this place of the bits
 pub record IsZeroByteAt (b : List Bool) (place : ℕ) : Type 0 where

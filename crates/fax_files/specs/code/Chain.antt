@@ -1,14 +1,14 @@
 -- The places of a chain's offsets, and a reader that looks for a loop as it goes.
 use Rattle.std.specs.Prelude.{◌≡◌, ◌≢◌, ◌+◌, ◌^◌, ◌<◌, ◌≤◌, ℕ, zero, suc, ◌==◌, if◌then◌else◌, Bool}
 use Rattle.std.specs.Prelude.{false}
-use Rattle.std.specs.Prelude.{List, length, Option, Some, None, Result, Ok, Err, slice_get}
+use Rattle.std.specs.Prelude.{List, length, Option, Some, None}
 use Rattle.fax_files.specs.declared.Endian.{Endian}
 use Rattle.fax_files.specs.declared.FileFault.{FileFault}
 use Rattle.fax_files.specs.declared.FileFault.TheVariants.{DirectoryLoop}
 use Rattle.fax_files.specs.declared.chain.Search.{Search}
 use Rattle.fax_files.specs.declared.chain.Search.TheVariants.{Running, Known}
 use Rattle.fax_files.specs.Directory.{is_directory, next_offset, IsChain}
-use Rattle.fax_files.specs.views.Tiff.{TiffFile, TiffDirectory, directory_of}
+use Rattle.fax_files.specs.views.Tiff.{TiffFile}
 
 -- the offset that stands i places after this one, directory by directory
 abbrev pub link : Endian → List ℕ → ℕ → ℕ → ℕ

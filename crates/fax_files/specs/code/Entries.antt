@@ -15,4 +15,3 @@ entry_at endian file place = record {
 -- an entry's values are SHORT or LONG, which integers may be (ours)
 abbrev pub is_integer : Entry → Bool
 is_integer entry = (entry.kind == SHORT) || (entry.kind == LONG)
-

@@ -1,9 +1,7 @@
 -- How a raw PBM is read, step by step, and how a reader is seen.
-use Rattle.std.specs.Prelude.{◌≡◌, ◌≢◌, ℕ, ◌+◌, ◌-◌, ◌*◌, ◌==◌, ◌||◌, min, Bool, true, false, not}
+use Rattle.std.specs.Prelude.{◌≡◌, ℕ, ◌+◌, ◌-◌, ◌*◌, ◌==◌, ◌||◌, min, Bool, true, false, not}
 use Rattle.std.specs.Prelude.{if◌then◌else◌, List, [], ◌∷◌, ◌++◌, codes, Option, Some, None}
-use Rattle.fax_files.specs.declared.pbm.PbmFault.{PbmFault}
-use Rattle.fax_files.specs.Pbm.{is_white_space, is_line_end, is_digit, Image, IsImage, IsImageFault}
-use Rattle.fax_files.specs.Pbm.{raster_rows}
+use Rattle.fax_files.specs.Pbm.{is_white_space, is_line_end, is_digit}
 
 -- a byte that begins a piece of a gap
 abbrev pub begins_piece : ℕ → Bool

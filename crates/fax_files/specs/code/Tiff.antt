@@ -1,10 +1,6 @@
 -- A TIFF file and its directories, as the contracts see them.
-use Rattle.std.specs.Prelude.{◌≡◌, ◌≤◌, ℕ, ◌+◌, Bool, IsTrue, List, length, Option, Some, Result}
-use Rattle.fax_files.specs.declared.Endian.{Endian}
-use Rattle.fax_files.specs.Directory.{Header, Entry, entries, field, has_integers, is_directory}
-use Rattle.fax_files.specs.declared.FileFault.{FileFault}
-use Rattle.fax_files.specs.declared.PageForm.{PageForm}
-use Rattle.fax_files.specs.Page.{page, strip_bytes}
+use Rattle.std.specs.Prelude.{◌≡◌, ◌≤◌, ℕ, ◌+◌, IsTrue, length, Some}
+use Rattle.fax_files.specs.Directory.{Entry, entries, field, has_integers}
 use Rattle.fax_files.specs.declared.tags.TheConstants as Tags
 use Rattle.fax_files.specs.views.Tiff.{TiffDirectory}
 

@@ -1,15 +1,13 @@
 -- A file that is being written, as the contracts see it.
-use Rattle.std.specs.Prelude.{◌≡◌, ◌≤◌, ℕ, ◌+◌, ◌-◌, ◌*◌, ◌%◌, ◌==◌, if◌then◌else◌, List, [], ◌∷◌}
-use Rattle.std.specs.Prelude.{◌++◌, length, replicate, Vec}
-use Rattle.std.specs.declared.alloc.Global.{Global}
+use Rattle.std.specs.Prelude.{◌≡◌, ◌≤◌, ℕ, ◌+◌, ◌-◌, ◌*◌, ◌%◌, ◌==◌, if◌then◌else◌, List}
+use Rattle.std.specs.Prelude.{◌++◌, length, replicate}
 use Rattle.fax_files.specs.declared.PageForm.{PageForm}
 use Rattle.fax_files.specs.declared.written.Layout.{Layout}
 use Rattle.fax_files.specs.declared.tags.TheConstants as Tags
-use Rattle.fax_files.specs.Written.{Written, with_page, to_offsets, four, long_field, WrittenPage}
-use Rattle.fax_files.specs.Written.{with_pages, empty_file, file_of, WrittenField, fields_with}
+use Rattle.fax_files.specs.Written.{to_offsets, four, long_field}
+use Rattle.fax_files.specs.Written.{WrittenField, fields_with}
 use Rattle.fax_files.specs.Written.{fields_bytes, values_bytes, offsets_from, lengths_of}
 use Rattle.fax_files.specs.Directory.{max_file}
-use Rattle.fax_files.specs.views.Writing.{Writing, contents, with_one_more}
 
 -- the fields of a page where it is laid out so
 abbrev pub laid_out_fields : Layout → PageForm → List WrittenField

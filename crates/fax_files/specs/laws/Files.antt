@@ -1,11 +1,10 @@
 -- The laws of TIFF files: their chain, their forms, and what is written and read back.
 -- A definition without a citation is this project's profile.
-use Rattle.std.specs.Prelude.{◌≡◌, ℕ, ◌+◌, ◌-◌, ◌*◌, ◌<◌, ◌⊎◌, min, if◌then◌else◌, List, [], ◌∷◌}
+use Rattle.std.specs.Prelude.{◌≡◌, ℕ, ◌+◌, ◌*◌, ◌<◌, ◌⊎◌, if◌then◌else◌, List, [], ◌∷◌}
 use Rattle.std.specs.Prelude.{map, flat_map, Option, Some, None}
 use Rattle.fax_bits.specs.declared.Colour.{Colour}
 use Rattle.fax_bits.specs.Bits.{bits}
 use Rattle.fax_rows.specs.Rows.{other}
-use Rattle.fax_page.specs.declared.StripForm.{StripForm}
 use Rattle.fax_page.specs.declared.StripFault.{StripFault}
 use Rattle.fax_page.specs.Strip.{IsStrip}
 use Rattle.fax_files.specs.declared.FileFault.TheVariants.{StripOutside}
@@ -23,14 +22,10 @@ use Rattle.fax_files.specs.Directory.{Header, number_at, is_directory, next_offs
 use Rattle.fax_files.specs.Directory.{max_file}
 use Rattle.fax_files.specs.views.Page.{IsPageForm}
 use Rattle.fax_files.specs.Written.{four, directory_place, Written, with_page, WrittenPage, file_of}
-use Rattle.fax_files.specs.Written.{to_offsets, long_field, with_pages, empty_file, WrittenField}
-use Rattle.fax_files.specs.Written.{fields_with, fields_bytes, values_bytes, offsets_from}
-use Rattle.fax_files.specs.Written.{lengths_of}
-use Rattle.std.specs.Prelude.{◌≡◌, ◌≤◌, ℕ, ◌+◌, ◌-◌, ◌*◌, ◌%◌, ◌==◌, if◌then◌else◌, List, [], ◌∷◌}
-use Rattle.std.specs.Prelude.{◌++◌, length, replicate, Vec}
+use Rattle.fax_files.specs.Written.{with_pages, empty_file}
+use Rattle.std.specs.Prelude.{◌≡◌, ◌≤◌, ℕ, ◌+◌, ◌*◌, if◌then◌else◌, List, [], ◌∷◌}
+use Rattle.std.specs.Prelude.{◌++◌, length, Vec}
 use Rattle.std.specs.declared.alloc.Global.{Global}
-use Rattle.fax_files.specs.declared.written.Layout.{Layout}
-use Rattle.fax_files.specs.declared.tags.TheConstants as Tags
 use Rattle.fax_files.specs.views.Writing.{Writing, contents, with_one_more}
 
 -- From strip s on the page has these strips, each a list of rows. The end is none after the last

@@ -1,13 +1,8 @@
 -- A reader of a file's chain of directories.
-use Rattle.std.specs.Prelude.{◌≡◌, ◌≢◌, ◌+◌, ◌^◌, ◌<◌, ◌≤◌, ℕ, zero, suc, ◌==◌, if◌then◌else◌, Bool}
-use Rattle.std.specs.Prelude.{false}
-use Rattle.std.specs.Prelude.{List, length, Option, Some, None, Result, Ok, Err, slice_get}
-use Rattle.fax_files.specs.declared.Endian.{Endian}
+use Rattle.std.specs.Prelude.{◌≡◌, ◌+◌, ℕ}
+use Rattle.std.specs.Prelude.{List, Option, Some, None, Result, Ok, Err, slice_get}
 use Rattle.fax_files.specs.declared.FileFault.{FileFault}
-use Rattle.fax_files.specs.declared.FileFault.TheVariants.{DirectoryLoop}
-use Rattle.fax_files.specs.declared.chain.Search.{Search}
-use Rattle.fax_files.specs.declared.chain.Search.TheVariants.{Running, Known}
-use Rattle.fax_files.specs.Directory.{is_directory, next_offset, IsChain}
+use Rattle.fax_files.specs.Directory.{IsChain}
 use Rattle.fax_files.specs.views.Tiff.{TiffFile, TiffDirectory, directory_of}
 
 -- a reader of a file's chain: the file, and how many directories were handed out

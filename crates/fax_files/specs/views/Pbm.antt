@@ -1,8 +1,8 @@
 -- A reader of raw PBM.
-use Rattle.std.specs.Prelude.{◌≡◌, ◌≢◌, ℕ, ◌+◌, ◌-◌, ◌*◌, ◌==◌, ◌||◌, min, Bool, true, false, not}
-use Rattle.std.specs.Prelude.{if◌then◌else◌, List, [], ◌∷◌, ◌++◌, codes, Option, Some, None}
+use Rattle.std.specs.Prelude.{◌≡◌, ◌≢◌, ℕ}
+use Rattle.std.specs.Prelude.{List, [], Option, Some, None}
 use Rattle.fax_files.specs.declared.pbm.PbmFault.{PbmFault}
-use Rattle.fax_files.specs.Pbm.{is_white_space, is_line_end, is_digit, Image, IsImage, IsImageFault}
+use Rattle.fax_files.specs.Pbm.{Image, IsImage, IsImageFault}
 use Rattle.fax_files.specs.Pbm.{raster_rows}
 
 -- a reader: the bytes that are left, and the fault that was answered

@@ -1,11 +1,10 @@
 -- A TIFF file and its directories.
-use Rattle.std.specs.Prelude.{◌≡◌, ◌≤◌, ℕ, ◌+◌, Bool, IsTrue, List, length, Option, Some, Result}
+use Rattle.std.specs.Prelude.{ℕ, Bool, List, Option, Result}
 use Rattle.fax_files.specs.declared.Endian.{Endian}
-use Rattle.fax_files.specs.Directory.{Header, Entry, entries, field, has_integers, is_directory}
+use Rattle.fax_files.specs.Directory.{Header, is_directory}
 use Rattle.fax_files.specs.declared.FileFault.{FileFault}
 use Rattle.fax_files.specs.declared.PageForm.{PageForm}
 use Rattle.fax_files.specs.Page.{page, strip_bytes}
-use Rattle.fax_files.specs.declared.tags.TheConstants as Tags
 
 -- a file and what its header says
 pub record TiffFile : Type 0 where

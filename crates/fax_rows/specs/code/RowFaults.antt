@@ -24,4 +24,3 @@ IsHorizontalFault reference at b fault =
     ⊎ ((first : ℕ) × (middle : List Bool)
     × IsRun at.colour b first middle × (first_pel at + first ≤ length reference)
     × IsRunFault (other at.colour) (length reference) (first_pel at + first) middle fault)
-

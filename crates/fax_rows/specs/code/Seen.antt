@@ -9,4 +9,3 @@ b1_from reference at = b1 reference at.a0 at.colour
 
 abbrev pub b2_from : List Colour → Position → ℕ
 b2_from reference at = b2 reference at.a0 at.colour
-

@@ -16,4 +16,3 @@ place_on form p r inner =
     then (if row_in_strip form r == 0 then first_at p r
     else record { page = p; row = r; inner = Some inner })
     else first_at (p + 1) 0
-
