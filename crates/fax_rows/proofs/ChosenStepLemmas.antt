@@ -1,15 +1,14 @@
 -- Steps over places of change that T.4 would have chosen.
-use Rattle.std.proofs.Common.{◌≡◌, ℕ, ◌+◌, ◌<◌, ◌≤◌, List, length, take, get_or, Bool, ℤ, pos, refl, ap, sym, ◌∙◌, subst, arith, length-take-le}
+use Rattle.std.proofs.Common.{◌≡◌, ℕ, ◌<◌, ◌≤◌, List, length, take, Bool, ℤ, pos, ap, sym, ◌∙◌, subst, arith, length-take-le}
 use Rattle.std.specs.Prelude.{Option, Some, None, IfSome}
 use Rattle.std.proofs.lemmas.Int.{ints}
-use Rattle.fax_bits.specs.declared.Colour.{Colour}
 use Rattle.fax_bits.specs.declared.Colour.TheVariants.{White, Black}
 use Rattle.fax_bits.specs.declared.modes.ModeCode.TheVariants.{Pass, Horizontal, Vertical}
 use Rattle.fax_bits.specs.Codes.{Takes}
 use Rattle.fax_bits.specs.Tables.{modes}
 use Rattle.fax_rows.specs.declared.two_dimensional.steps.PlacedReached.{PlacedReached}
 use Rattle.fax_rows.specs.declared.rows.PlacedRow.{PlacedRow}
-use Rattle.fax_rows.specs.TwoDimensional.{Position, first_pel, b1_from, b2_from, coloured_up_to, IsVerticalStep}
+use Rattle.fax_rows.specs.TwoDimensional.{Position, first_pel, b2_from, coloured_up_to, IsVerticalStep}
 use Rattle.fax_rows.specs.code.Chosen.{IsChosenStep, IsChosenPair}
 use Rattle.fax_rows.specs.code.PlacedRow.{placed_pels}
 use Rattle.fax_rows.specs.code.PlacedReached.{placed_position, IsReadTo}

@@ -3,7 +3,7 @@ use Rattle.std.specs.Prelude.{◌≡◌, ℕ, ◌+◌, ◌<◌, ◌≤◌, ◌�
 use Rattle.std.specs.Prelude.{replicate, Some}
 use Rattle.fax_bits.specs.declared.Colour.{Colour}
 use Rattle.fax_bits.specs.Runs.{IsRun, run_bits}
-use Rattle.fax_rows.specs.Elements.{other, pel, is_right_of, b1, b2}
+use Rattle.fax_rows.specs.Elements.{other, pel, is_right_of}
 use Rattle.fax_rows.specs.TwoDimensional.{Position, first_pel, b1_from, b2_from}
 use Rattle.fax_rows.specs.code.Ahead.{bits_from, place_from}
 
