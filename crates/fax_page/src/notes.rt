@@ -80,8 +80,8 @@ fn put_codes(
     }
 }
 
-/// Reads the codes of a row that is coded so into `row`, of which nothing is said after a fault, and
-/// answers whether they are seen to be those that T.4 chooses.
+/// Reads the codes of a row that is coded so into `row`, of which nothing is said after a fault,
+/// and answers whether they are seen to be those that T.4 chooses.
 fn read_seen(
     source: &mut BitSource,
     dimension: Dimension,

@@ -1,5 +1,5 @@
 -- A step that is read as T.4 would have chosen it.
-use Rattle.std.proofs.Common.{◌≡◌, ℕ, zero, suc, ◌+◌, ◌-◌, ◌<◌, ◌≤◌, ℤ, negsuc, ◌-ℤ◌, ◌+ℤ◌, ◌≤ℤ◌, List, [], ◌++◌, length, take, replicate, get_or}
+use Rattle.std.proofs.Common.{◌≡◌, ℕ, zero, suc, ◌+◌, ◌-◌, ◌<◌, ◌≤◌, ℤ, negsuc, ◌-ℤ◌, List, ◌++◌, length, take, replicate, get_or}
 use Rattle.std.proofs.Common.{Bool, true, false, pos, refl, ap, sym, ◌∙◌, subst, arith, inl, inr, take-take, take_at, append_assoc, append-nil}
 use Rattle.std.specs.Prelude.{◌⊎◌, not, Option, Some, None, unwrap_or, ◌<ℤ◌, nat_abs, nat_lt, nat_le}
 use Rattle.std.proofs.lemmas.Bool.{cases_lt, ltb-true, lt-ltb, true≢false}
@@ -19,7 +19,6 @@ use Rattle.fax_rows.specs.Rows.{next_change, Position, first_pel, a0_number, col
 use Rattle.fax_rows.specs.Rows.{IsVerticalStep}
 use Rattle.fax_rows.specs.code.Seen.{b1_from, b2_from}
 use Rattle.fax_rows.specs.Coded.{Places, places, colour_of, chosen_mode, run_pair_bits, next_a0}
-use Rattle.fax_rows.specs.code.Ahead.{bits_from, place_from}
 use Rattle.fax_rows.specs.code.Chosen.{GoesOnFrom, IsStepOf, IsChosenPair}
 use Rattle.fax_rows.proofs.ChangeLemmas.{first_of, next_change_is, still_left, both, same_as}
 use Rattle.fax_rows.proofs.PlaceLemmas.{next_change_at}

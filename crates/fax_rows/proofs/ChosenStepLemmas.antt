@@ -1,8 +1,7 @@
 -- Steps over places of change that T.4 would have chosen.
-use Rattle.std.proofs.Common.{◌≡◌, ℕ, ◌+◌, ◌<◌, ◌≤◌, List, length, take, get_or, Bool, ℤ, pos, refl, ap, sym, ◌∙◌, subst, arith, length-take-le}
+use Rattle.std.proofs.Common.{◌≡◌, ℕ, ◌<◌, ◌≤◌, List, length, take, Bool, ℤ, pos, ap, sym, ◌∙◌, subst, arith, length-take-le}
 use Rattle.std.specs.Prelude.{Option, Some, None, IfSome}
 use Rattle.std.proofs.lemmas.Int.{ints}
-use Rattle.fax_bits.specs.declared.Colour.{Colour}
 use Rattle.fax_bits.specs.declared.Colour.TheVariants.{White, Black}
 use Rattle.fax_bits.specs.declared.modes.ModeCode.TheVariants.{Pass, Horizontal, Vertical}
 use Rattle.fax_bits.specs.Codes.{Takes}
@@ -10,7 +9,7 @@ use Rattle.fax_bits.specs.Tables.{modes}
 use Rattle.fax_rows.specs.declared.two_dimensional.steps.PlacedReached.{PlacedReached}
 use Rattle.fax_rows.specs.declared.rows.PlacedRow.{PlacedRow}
 use Rattle.fax_rows.specs.Rows.{Position, first_pel, coloured_up_to, IsVerticalStep}
-use Rattle.fax_rows.specs.code.Seen.{b1_from, b2_from}
+use Rattle.fax_rows.specs.code.Seen.{b2_from}
 use Rattle.fax_rows.specs.code.Chosen.{IsChosenStep, IsChosenPair}
 use Rattle.fax_rows.specs.code.PlacedRow.{placed_pels}
 use Rattle.fax_rows.specs.code.PlacedReached.{placed_position, IsReadTo}

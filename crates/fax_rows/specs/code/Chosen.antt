@@ -4,7 +4,7 @@ use Rattle.std.specs.Prelude.{replicate, Some}
 use Rattle.fax_bits.specs.declared.Colour.{Colour}
 use Rattle.fax_bits.specs.Codes.{IsRun}
 use Rattle.fax_bits.specs.Written.{run_bits}
-use Rattle.fax_rows.specs.Rows.{other, pel, is_right_of, b1, b2, Position, first_pel}
+use Rattle.fax_rows.specs.Rows.{other, pel, is_right_of, Position, first_pel}
 use Rattle.fax_rows.specs.code.Seen.{b1_from, b2_from}
 use Rattle.fax_rows.specs.code.Ahead.{bits_from, place_from}
 

@@ -1,8 +1,8 @@
 //! A row in one-dimensional coding that has no fault, read quickly: the bits ahead stand in a
 //! value. Each function gives up, with `None`, at any doubt, and the row is read again from its
 //! source.
-ghost use Rattle.std.specs.Prelude.{◌≡◌, ◌+◌, ◌-◌, ◌≤◌, ◌<◌, ◌^◌, ◌⊎◌, ◌++◌, IfSome, IsTrue, length};
-ghost use Rattle.std.specs.Prelude.{None, slice_index, take};
+ghost use Rattle.std.specs.Prelude.{◌≡◌, ◌+◌, ◌-◌, ◌≤◌, ◌<◌, ◌^◌, ◌⊎◌, ◌++◌};
+ghost use Rattle.std.specs.Prelude.{IfSome, IsTrue, length, None, slice_index, take};
 ghost use Rattle.fax_bits.specs.Codes.{IsRun};
 ghost use Rattle.fax_bits.specs.Written.{run_bits};
 ghost use Rattle.fax_bits.specs.views.Source.{KeepsEnd};
@@ -13,8 +13,8 @@ ghost use Rattle.fax_rows.specs.code.Turns.{row_of, IsAscending, IsTurnedFrom};
 use crate::turns::turn_behind;
 use fax_bits::{Ahead, BitSource, Colour};
 
-/// Whether a run may be one of the longest: it has pels, or it is the first of its row (T.4, section
-/// 4.1.1).
+/// Whether a run may be one of the longest: it has pels, or it is the first of its row (T.4,
+/// section 4.1.1).
 #[inline(always)]
 fn may_be_longest(colour: Colour, total: u32, run: u32) -> bool
     ensures { IsTrue result → (0 < run) ⊎ ((total ≡ 0) × (colour ≡ Colour.White)) }

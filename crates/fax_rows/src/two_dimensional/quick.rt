@@ -1,8 +1,8 @@
 //! A row in two-dimensional coding that has no fault, read quickly: the bits ahead stand in a
 //! value. Each function gives up, with `None`, at any doubt, and the row is read again from its
 //! source.
-ghost use Rattle.std.specs.Prelude.{◌≡◌, ◌+◌, ◌-◌, ◌≤◌, ◌<◌, ◌⊎◌, ◌++◌, IfSome, IsTrue, length, true};
-ghost use Rattle.std.specs.Prelude.{None, slice_index};
+ghost use Rattle.std.specs.Prelude.{◌≡◌, ◌+◌, ◌-◌, ◌≤◌, ◌<◌, ◌⊎◌, ◌++◌, IfSome};
+ghost use Rattle.std.specs.Prelude.{IsTrue, length, true, None, slice_index};
 ghost use Rattle.fax_bits.specs.views.Source.{KeepsEnd};
 ghost use Rattle.fax_rows.specs.Coded.{two_dimensional_bits};
 ghost use Rattle.fax_rows.specs.Rows.{b1, b2, is_right_of};

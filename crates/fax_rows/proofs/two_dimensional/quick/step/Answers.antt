@@ -1,4 +1,4 @@
-use Rattle.std.proofs.Common.{◌≡◌, pos, ◌∙◌, arith, rules}
+use Rattle.std.proofs.Common.{◌≡◌, pos, arith, rules}
 use Prim.{search}
 use Rattle.std.proofs.lemmas.Bool.{ltb-true}
 use Rattle.fax_rows.proofs.ChosenStepLemmas.{map_some, vertical_chosen_as, under_chosen, pass_chosen, pair_chosen}
