@@ -14,6 +14,7 @@ mod WalkLemmas
 mod RowLemmas
 mod ReadLemmas
 mod AgreeLemmas
+mod SpellLemmas
 mod AnswerLemmas
 pub mod LineLemmas
 pub mod StopLemmas
