@@ -87,9 +87,11 @@ by_items all [] are = tt
 by_items all (item ∷ items) are = (are.0, by_items all items are.1)
 
 each_read : (items : List Item) → AreRead items items → (item : Item) → Contains items item → IsRead items item
-each_read items are item among = All-contains (IsRead items) items item (All-from_recursion (IsRead items) items (by_items items items are)) among
+each_read items are item among = All-contains (IsRead items) items item
+    (All-from_recursion (IsRead items) items (by_items items items are)) among
 
-letter_read : (items : List Item) (x : ℕ) → ((b : ℕ) (bs : Text) → word_of items (codes "-" ++ x ∷ b ∷ bs) ≡ option_word (attached (b ∷ bs)) (letter x))
+letter_read : (items : List Item) (x : ℕ) →
+    ((b : ℕ) (bs : Text) → word_of items (codes "-" ++ x ∷ b ∷ bs) ≡ option_word (attached (b ∷ bs)) (letter x))
     → (value : Text) → attached value ≡ Some value → word_of items (codes "-" ++ x ∷ value) ≡ says (use_of (letter x) value)
 letter_read items x of [] is = cc
 letter_read items x of (b ∷ bs) is = of b bs ∙ ap (λ v. option_word v (letter x)) is
