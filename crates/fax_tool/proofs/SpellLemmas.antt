@@ -1,13 +1,12 @@
 -- What is written as the uses say is read as these uses.
-use Rattle.std.proofs.Common.{◌≡◌, ◌∙◌, ◌⊎◌, ◌++◌, ap, cond, codes, inl, inr, refl, sym, subst, Bool, true, false, ℕ}
-use Rattle.std.proofs.Common.{List, [], ◌∷◌, Option, Some, None}
-use Rattle.std.specs.Prelude.{option_map}
-use Rattle.std.specs.List.{All, AllByRecursion, Contains, slice_index_or}
+use Rattle.std.proofs.Common.{◌≡◌, ◌∙◌, ◌++◌, ap, codes, inl, inr, refl, sym, true, ℕ}
+use Rattle.std.proofs.Common.{List, [], ◌∷◌, Some, None}
+use Rattle.std.specs.List.{AllByRecursion, Contains, slice_index_or}
 use Rattle.std.specs.Str.{chars}
 use Rattle.std.proofs.lemmas.List.Elements.{All-contains, All-from_recursion}
-use Rattle.fax_tool.specs.Grammar.{Item, Text, Use, Word, attached, commands, file, flag, is_plain, letter, number}
-use Rattle.fax_tool.specs.Grammar.{option_word, says, text, use_of, uses_from, waits, with_word, word_of}
-use Rattle.fax_tool.specs.laws.Spelling.{AreSpelled, IsLong, IsPair, IsShort, IsSpelled, IsWord, SpelledWordsAreRead}
+use Rattle.fax_tool.specs.Grammar.{Item, Text, Use, attached, commands, file, flag, is_plain, letter, number}
+use Rattle.fax_tool.specs.Grammar.{option_word, says, text, use_of, uses_from, waits, word_of}
+use Rattle.fax_tool.specs.laws.Spelling.{AreSpelled, IsPair, IsSpelled, SpelledWordsAreRead}
 use Rattle.fax_tool.proofs.ViewLemmas.{View, as_end, as_long, as_plain, as_short, view}
 
 -- what one word of an item says
