@@ -15,6 +15,7 @@ mod RowLemmas
 mod ReadLemmas
 mod AgreeLemmas
 mod SpellLemmas
+mod ShapeLemmas
 mod AnswerLemmas
 pub mod LineLemmas
 pub mod StopLemmas

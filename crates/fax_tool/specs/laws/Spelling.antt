@@ -1,6 +1,7 @@
 -- How uses are written, and that what is so written is read.
 use Rattle.std.specs.Prelude.{◌≡◌, ◌⊎◌, ℕ, true, List, [], ◌∷◌, ◌++◌, Some, None, codes}
 use Rattle.std.specs.List.{All, Contains}
+use Rattle.std.specs.Str.{IsUtf8}
 use Rattle.fax_tool.specs.Grammar.{Item, Text, Use, attached, commands, file, flag, is_plain, letter}
 use Rattle.fax_tool.specs.Grammar.{number, text, uses_from}
 
@@ -43,3 +44,8 @@ AreSpelled items (first ∷ uses) words =
 abbrev pub SpelledWordsAreRead : Type 0
 SpelledWordsAreRead = All (λ command. (uses : List Use) (words : List Text)
     → AreSpelled command.1 uses words → uses_from command.1 None words ≡ Some uses) commands
+
+-- and of texts nothing else is read
+abbrev pub ReadTextsAreSpelled : Type 0
+ReadTextsAreSpelled = All (λ command. (uses : List Use) (words : List Text) → All IsUtf8 words
+    → uses_from command.1 None words ≡ Some uses → AreSpelled command.1 uses words) commands
