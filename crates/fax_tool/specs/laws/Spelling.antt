@@ -2,8 +2,8 @@
 use Rattle.std.specs.Prelude.{◌≡◌, ◌⊎◌, ℕ, true, List, [], ◌∷◌, ◌++◌, Some, None, codes}
 use Rattle.std.specs.List.{All, Contains}
 use Rattle.std.specs.Str.{IsUtf8}
-use Rattle.fax_tool.specs.Grammar.{Item, Text, Use, attached, commands, file, flag, is_plain, letter}
-use Rattle.fax_tool.specs.Grammar.{number, text, uses_from}
+use Rattle.fax_tool.specs.Grammar.{Item, Text, Use, attached, commands, file, flag, is_plain}
+use Rattle.fax_tool.specs.Grammar.{letter, number, text, uses_from}
 
 -- a word alone, or a name and a plain text after it
 abbrev pub IsWord : Text → List Text → Type 0
