@@ -14,6 +14,8 @@ mod WalkLemmas
 mod RowLemmas
 mod ReadLemmas
 mod AgreeLemmas
+mod SpellLemmas
+mod ShapeLemmas
 mod AnswerLemmas
 pub mod LineLemmas
 pub mod StopLemmas

@@ -96,7 +96,8 @@ level_body turns w =
 named_fault : (name : Text) (rest : List Text) → subcommand_met (names_of program) idle name ≡ Some name
     → walk_fault program.top (names_of program) stand_at (name ∷ rest) ≡ []
 unfolding walk_fault walked
-named_fault name rest met = rw (met, and_false (bytes_eq name (codes "help"))) (stopped_fault program.top (names_of program) stand_at (name, []) rest)
+named_fault name rest met = rw (met, and_false (bytes_eq name (codes "help")))
+    (stopped_fault program.top (names_of program) stand_at (name, []) rest)
 
 named_walk : (name : Text) (rest : List Text) → subcommand_met (names_of program) idle name ≡ Some name
     → fold (walked program.top.rules (names_of program)) stand_at (name ∷ rest) ≡ record stand_at { stopped = Some (name, rest) }
@@ -184,7 +185,8 @@ module _ (name : Text) (items : List Item) (met : subcommand_met (names_of progr
 
   untaken_at : (own : Text) (rest : List Text) → (AreTaken (own ∷ name ∷ rest) → ⊥) → IsUntaken rest
   untaken_at own rest untaken =
-      go (uses_of items rest) refl (level_fault (leaf name items) [] nothing_held rest false []) (fault_named own name rest (leaf name items) met found)
+      go (uses_of items rest) refl (level_fault (leaf name items) [] nothing_held rest false [])
+      (fault_named own name rest (leaf name items) met found)
       (is_level rest)
     where
       pass : (uses : List Use) → uses_of items rest ≡ Some uses → (b : Bool) → lacks items (filled_rows items uses) ≡ b → (fault : Kinds)
@@ -295,17 +297,20 @@ unread_from name items rest whole (inr (uses, is, lacking)) = let no = sym (whol
 unread_list : (own : Text) (rest : List Text) → (AreTaken (own ∷ codes "list" ∷ rest) → ⊥) → IsUnread (own ∷ codes "list" ∷ rest)
 unfolding clap_on_literals
 unread_list own rest untaken =
-    inl (unread_from (name_at 0) (items_at 0) rest (λ uses. refl) (untaken_at (name_at 0) (items_at 0) refl refl list_level own rest untaken))
+    inl (unread_from (name_at 0) (items_at 0) rest (λ uses. refl)
+    (untaken_at (name_at 0) (items_at 0) refl refl list_level own rest untaken))
 
 unread_rows : (own : Text) (rest : List Text) → (AreTaken (own ∷ codes "rows" ∷ rest) → ⊥) → IsUnread (own ∷ codes "rows" ∷ rest)
 unfolding clap_on_literals
 unread_rows own rest untaken =
-    inl (unread_from (name_at 1) (items_at 1) rest (λ uses. refl) (untaken_at (name_at 1) (items_at 1) refl refl rows_level own rest untaken))
+    inl (unread_from (name_at 1) (items_at 1) rest (λ uses. refl)
+    (untaken_at (name_at 1) (items_at 1) refl refl rows_level own rest untaken))
 
 unread_check : (own : Text) (rest : List Text) → (AreTaken (own ∷ codes "check" ∷ rest) → ⊥) → IsUnread (own ∷ codes "check" ∷ rest)
 unfolding clap_on_literals
 unread_check own rest untaken =
-    inl (unread_from (name_at 3) (items_at 3) rest (λ uses. refl) (untaken_at (name_at 3) (items_at 3) refl refl check_level own rest untaken))
+    inl (unread_from (name_at 3) (items_at 3) rest (λ uses. refl)
+    (untaken_at (name_at 3) (items_at 3) refl refl check_level own rest untaken))
 
 not_used : (name : Text) (uses : List Use) → is_used name uses ≡ false → text_in uses name ≡ None
 not_used name [] none = refl
@@ -373,8 +378,10 @@ read_as (own ∷ word ∷ rest) =
 
     go : (a b c d : Bool) → bytes_eq (codes "list") word ≡ a → bytes_eq (codes "rows") word ≡ b → bytes_eq (codes "convert") word ≡ c
         → bytes_eq (codes "check") word ≡ d → ReadsTaken (own ∷ word ∷ rest) × ReadsUntaken (own ∷ word ∷ rest)
-    go true b c d list rows convert check = at (codes "list") word (named_as (codes "list") word list) (taken_list own rest, unread_list own rest)
-    go false true c d list rows convert check = at (codes "rows") word (named_as (codes "rows") word rows) (taken_rows own rest, unread_rows own rest)
+    go true b c d list rows convert check = at (codes "list") word (named_as (codes "list") word list)
+        (taken_list own rest, unread_list own rest)
+    go false true c d list rows convert check = at (codes "rows") word (named_as (codes "rows") word rows)
+        (taken_rows own rest, unread_rows own rest)
     go false false true d list rows convert check =
         at (codes "convert") word (named_as (codes "convert") word convert) (taken_convert own rest, unread_convert own rest)
     go false false false true list rows convert check =

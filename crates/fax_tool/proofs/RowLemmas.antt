@@ -39,7 +39,8 @@ entered_from before (u ∷ us) =
     rw (rows_used (name_of u.item) before)
     (go (is_used (name_of u.item) before) (is_taken u) (are_apart (before ++ u ∷ []) us) (list_all is_taken us)
     (ap (λ rs. entered rs us) (rows_of_more before u) ∙ (entered_from (before ++ u ∷ []) us
-    ∙ ap (λ xs. cond (are_apart (before ++ u ∷ []) us && list_all is_taken us) (Some (map row_of xs)) None) (append_assoc before (u ∷ []) us))))
+    ∙ ap (λ xs. cond (are_apart (before ++ u ∷ []) us && list_all is_taken us) (Some (map row_of xs)) None)
+    (append_assoc before (u ∷ []) us))))
   where
     go : (used taken apart all : Bool)
         → entered (map row_of before ++ row_of u ∷ []) us ≡ cond (apart && all) (Some (map row_of (before ++ u ∷ us))) None
@@ -83,7 +84,14 @@ is_flag name (flag own) = bytes_eq own name
 is_flag name item = false
 
 abbrev default_row : Text → Row
-default_row name = record { id = name; values = codes "false" ∷ []; count = None; source = Some DefaultValue; reading = reading_by (rule_of (flag name)) }
+default_row name = record {
+  id = name;
+  values = codes "false" ∷ [];
+  count = None;
+  source = Some DefaultValue;
+  reading = reading_by
+      (rule_of (flag name));
+}
 
 same_either : (b : Bool) (rows : List Row) → cond b rows rows ≡ rows
 same_either true rows = refl
@@ -231,7 +239,8 @@ module _ (name : Text) (items : List Item) where
   ended rows = cond (lacks items (fold with_default rows (rules_of items))) None (Some (fold with_default rows (rules_of items)))
 
   last_checks : (rows : List Row)
-      → guard (or_else (defaults_fault rows (rules_of items)) (check_fault (leaf name items) (fold with_default rows (rules_of items)) false))
+      → guard (or_else (defaults_fault rows (rules_of items))
+      (check_fault (leaf name items) (fold with_default rows (rules_of items)) false))
       (Some (fold with_default rows (rules_of items))) ≡ ended rows
   last_checks rows = rw (no_defaults_fault items rows) (go (lacks items (fold with_default rows (rules_of items))))
     where
@@ -272,6 +281,7 @@ module _ (name : Text) (items : List Item) where
       pass (Some uses) = refl
 
       go : (o : Option (List Use)) → option_and_then ended (option_and_then (entered []) o)
-          ≡ option_and_then (λ uses. cond (lacks items (filled_rows items uses)) None (Some (filled_rows items uses))) (option_and_then checked o)
+          ≡ option_and_then (λ uses. cond (lacks items (filled_rows items uses)) None (Some (filled_rows items uses)))
+          (option_and_then checked o)
       go None = refl
       go (Some uses) = ap (option_and_then ended) (entered_is uses) ∙ pass (checked uses)

@@ -23,7 +23,8 @@ use Rattle.fax_tool.proofs.UseLemmas.{IsItem, enter, flag_used, guard, guard_twi
 
 -- a built command of these items
 abbrev pub leaf : Text → List Item → Shape
-leaf name items = record (new_shape name) { rules = rules_of items; disable_help_flag = true; disable_help_subcommand = true; is_built = true }
+leaf name items = record (new_shape name)
+    { rules = rules_of items; disable_help_flag = true; disable_help_subcommand = true; is_built = true }
 
 -- what is known of an item of a command
 abbrev pub IsOf : List Item → Item → Type 0
@@ -127,12 +128,14 @@ module _ (name : Text) (items : List Item) where
       → IsItem item
       → is_option item ≡ true
       → guard (react_fault (rules_of items) false (rule_of item) (value ∷ []) (holding rows (pend p)))
-      (run (stand (used (rule_of item) (value ∷ []) (settled (rules_of items) (holding rows (pend p))).rows) None idle position false) words)
+      (run (stand (used (rule_of item) (value ∷ []) (settled (rules_of items) (holding rows (pend p))).rows) None idle position false)
+      words)
       ≡ option_and_then (goes words position (says (use_of item value))) (settle p rows)
   valued item value p rows position words is fits takes =
       guard_twice (settle_fault (rules_of items) false (holding rows (pend p)))
       (use_fault false (rule_of item) (value ∷ []) (settled (rules_of items) (holding rows (pend p))).rows) _
-      ∙ settle_then p rows (λ r. guard (use_fault false (rule_of item) (value ∷ []) r) (run (stand (used (rule_of item) (value ∷ []) r) None idle position false) words)) is
+      ∙ settle_then p rows (λ r. guard (use_fault false (rule_of item) (value ∷ []) r)
+      (run (stand (used (rule_of item) (value ∷ []) r) None idle position false) words)) is
       ∙ and_then_at (settle p rows) _ _ (λ r at. option_used item value r (λ r. run (stand r None idle position false) words) fits takes)
 
   -- an option or a flag that was found
@@ -143,16 +146,19 @@ module _ (name : Text) (items : List Item) where
   abbrev found_run : Option Rule → Option Text → Text → Option Use → List Row → ℕ → List Text → Option (List Row)
   found_run o v word p rows position words =
       guard (long_fault (rules_of items) false o v (holding rows (pend p)))
-      (guard (step_fault (leaf name items) position (found_step o v word (holding rows (pend p))).0 (found_step o v word (holding rows (pend p))).1)
+      (guard (step_fault (leaf name items) position (found_step o v word (holding rows (pend p))).0
+      (found_step o v word (holding rows (pend p))).1)
       (run (after_step (rules_of items) word (stand rows (pend p) idle position false)
       (found_step o v word (holding rows (pend p))).0 (found_step o v word (holding rows (pend p))).1) words))
 
   met_is : (item : Item) (value : Option Text) (word : Text) (p : Option Use) (rows : List Row) (position : ℕ) (words : List Text)
       → IsPending items p
       → IsItem item
-      → found_run (Some (rule_of item)) value word p rows position words ≡ option_and_then (goes words position (option_word value item)) (settle p rows)
+      → found_run (Some (rule_of item)) value word p rows position words ≡ option_and_then
+      (goes words position (option_word value item)) (settle p rows)
   met_is (text own) (Some value) word p rows position words is fits = valued (text own) value p rows position words is fits refl
-  met_is (number own most) (Some value) word p rows position words is fits = valued (number own most) value p rows position words is fits refl
+  met_is (number own most) (Some value) word p rows position words is fits = valued (number own most) value p rows position words is
+      fits refl
   met_is (letter x) (Some value) word p rows position words is fits = valued (letter x) value p rows position words is fits refl
   met_is file (Some value) word p rows position words is fits = valued file value p rows position words is fits refl
   met_is (flag own) (Some value) word p rows position words is fits = sym (and_then_none (settle p rows))
@@ -163,7 +169,8 @@ module _ (name : Text) (items : List Item) where
   met_is (flag own) None word p rows position words is fits =
       guard_twice (settle_fault (rules_of items) false (holding rows (pend p)))
       (use_fault false (rule_of (flag own)) [] (settled (rules_of items) (holding rows (pend p))).rows) _
-      ∙ settle_then p rows (λ r. guard (use_fault false (rule_of (flag own)) [] r) (run (stand (used (rule_of (flag own)) [] r) None idle position false) words)) is
+      ∙ settle_then p rows (λ r. guard (use_fault false (rule_of (flag own)) [] r)
+      (run (stand (used (rule_of (flag own)) [] r) None idle position false) words)) is
       ∙ and_then_at (settle p rows) _ _ (λ r at. flag_used own r (λ r. run (stand r None idle position false) words))
 
   module _ (each : (test : Item → Bool) (item : Item) → find test items ≡ Some item → IsItem item) where
@@ -233,9 +240,12 @@ module _ (name : Text) (items : List Item) where
         let w = stand rows (pend p) idle position false in
         let rest = drop (length (encode_utf8 x)) (b ∷ bs) in
         let as_found : run w (word ∷ words)
-        ≡ short_run (arg_by_short c x) rest (flags_fault c false (length bs) rest 0) (bundle_met c (length bs) rest 0 done) word p rows position words =
+        ≡ short_run (arg_by_short c x) rest (flags_fault c false (length bs) rest 0) (bundle_met c (length bs) rest 0 done) word p rows
+        position words =
         turn w word words ∙ guard_twice (word_fault (leaf name items) [] false idle word h) _ _ ∙ rw (no_end, no_long, form, char) refl in
         as_found
-        ∙ ap (λ o. short_run o rest (flags_fault c false (length bs) rest 0) (bundle_met c (length bs) rest 0 done) word p rows position words)
+        ∙ ap (λ o. short_run o rest (flags_fault c false (length bs) rest 0) (bundle_met c (length bs) rest 0 done) word p rows position
+        words)
         (by_short items x)
-        ∙ short_is x (find (has_letter x) items) b bs _ _ word p rows position words is (found_passes (has_letter x) items) (each (has_letter x))
+        ∙ short_is x (find (has_letter x) items) b bs _ _ word p rows position words is (found_passes (has_letter x) items)
+        (each (has_letter x))

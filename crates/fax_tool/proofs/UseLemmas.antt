@@ -129,7 +129,8 @@ number_test most (x ∷ xs) fits = go (x == 45) refl
         subst (λ x. accepts false (parser.Signed (pos 1) (pos most)) (x ∷ xs) ≡ is_number most (x ∷ xs)) (sym is)
         (negative (digits_value 10 xs) (is_numeral xs)
         ∙ sym (ap (λ b. b && (nat_le 1 (digits_value 10 (45 ∷ xs)) && nat_le (digits_value 10 (45 ∷ xs)) most)) (no_digits xs)))
-    go false other = rw other (both_fit (is_numeral (without_leading_plus (x ∷ xs))) (nat_le 1 (digits_value 10 (without_leading_plus (x ∷ xs))))
+    go false other = rw other (both_fit (is_numeral (without_leading_plus (x ∷ xs)))
+        (nat_le 1 (digits_value 10 (without_leading_plus (x ∷ xs))))
         (digits_value 10 (without_leading_plus (x ∷ xs))) most fits)
 
 values_of : (ok : Bool) (k : ErrorKind) (r : Option (List Row)) → guard (or_else (cond ok [] (k ∷ [])) []) r ≡ cond ok r None
@@ -144,9 +145,12 @@ is_option item = true
 pub option_used : (item : Item) (value : Text) (rows : List Row) (K : List Row → Option (List Row)) → IsItem item → is_option item ≡ true
     → guard (use_fault false (rule_of item) (value ∷ []) rows) (K (used (rule_of item) (value ∷ []) rows))
     ≡ option_and_then K (enter rows (use_of item value))
-option_used (text name) value rows K fits is = set_step name (reading_by (rule_of (text name))) value _ true kind.ArgumentConflict rows K (λ r. refl)
-option_used (letter x) value rows K fits is = set_step (x ∷ []) (reading_by (rule_of (letter x))) value _ true kind.ArgumentConflict rows K (λ r. refl)
-option_used file value rows K fits is = set_step (codes "FILE") (reading_by (rule_of file)) value _ true kind.ArgumentConflict rows K (λ r. refl)
+option_used (text name) value rows K fits is = set_step name (reading_by (rule_of (text name))) value _ true kind.ArgumentConflict rows
+    K (λ r. refl)
+option_used (letter x) value rows K fits is = set_step (x ∷ []) (reading_by (rule_of (letter x))) value _ true kind.ArgumentConflict
+    rows K (λ r. refl)
+option_used file value rows K fits is = set_step (codes "FILE") (reading_by (rule_of file)) value _ true kind.ArgumentConflict rows K
+    (λ r. refl)
 option_used (flag name) value rows K fits is = cc
 option_used (number name most) value rows K fits is =
     set_step name (reading_by (rule_of (number name most))) value _ (is_number most value) kind.ArgumentConflict rows K

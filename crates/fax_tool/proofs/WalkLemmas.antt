@@ -80,7 +80,8 @@ filed_enter true rows u is = λ r into. filed_after true rows r u is into r refl
 
 filed_by : (rows : List Row) (word : Text) → IsFiled true (enter rows (use_of file word))
 filed_by rows word r is =
-    subst (λ q. has_row (codes "FILE") q ≡ true) (entered_row rows (use_of file word) r is) (gets (codes "FILE") rows (row_of (use_of file word)) refl)
+    subst (λ q. has_row (codes "FILE") q ≡ true) (entered_row rows (use_of file word) r is)
+    (gets (codes "FILE") rows (row_of (use_of file word)) refl)
 
 no_second : (rows : List Row) (word : Text) → has_row (codes "FILE") rows ≡ true → enter rows (use_of file word) ≡ None
 no_second rows word has = rw has refl
@@ -119,7 +120,8 @@ module _ (name : Text) (items : List Item) (first : arg_by_index (rules_of items
       go false = refl
 
   -- no second file
-  none_placed : (rows : List Row) (pending : Option (Text × List Text)) (waiting : Waiting) (trailing : Bool) (word : Text) (words : List Text)
+  none_placed : (rows : List Row) (pending : Option (Text × List Text)) (waiting : Waiting) (trailing : Bool) (word : Text)
+      (words : List Text)
       → place_run (arg_by_index (rules_of items) 2) rows pending waiting 2 trailing word words ≡ None
   none_placed rows pending waiting trailing word words = ap (λ o. place_run o rows pending waiting 2 trailing word words) second
 
@@ -227,7 +229,8 @@ module _ (name : Text) (items : List Item) (first : arg_by_index (rules_of items
       ∙ ap (option_and_then (entered r)) (sym (with_says word words (says (use_of file word)) says_is))))
   plain_idle word words idles says_is p rows true is at =
       no_place p rows false word words (uses_from items None words) at
-      ∙ ap (λ o. option_and_then (λ r. option_and_then (entered r) o) (settle p rows)) (sym (with_says word words (says (use_of file word)) says_is))
+      ∙ ap (λ o. option_and_then (λ r. option_and_then (entered r) o) (settle p rows))
+      (sym (with_says word words (says (use_of file word)) says_is))
 
   idle_step : (word : Text) (words : List Text) → View word → IdleOf words → WaitsOf words → IdleOf (word ∷ words)
   unfolding walked walk_fault bundle_met flags_fault
@@ -238,13 +241,16 @@ module _ (name : Text) (items : List Item) (first : arg_by_index (rules_of items
   idle_step word words (as_long own v no_end form says_is not_plain) idles waiting p rows filed is at =
       let W = option_map_or (option_word v) (find (has_long own) items) unknown in
       long_turn name items (λ test item is. (each test item is).1) own v word p rows (place_of filed) words is no_end form
-      ∙ (and_then_at (settle p rows) _ _ (λ r into. goes_on W words r filed idles waiting (found_said (find (has_long own) items) v (each (has_long own)))
+      ∙ (and_then_at (settle p rows) _ _
+      (λ r into. goes_on W words r filed idles waiting (found_said (find (has_long own) items) v (each (has_long own)))
       (filed_at filed (settle p rows) r into at))
       ∙ ap (λ o. option_and_then (λ r. option_and_then (entered r) o) (settle p rows)) (sym (with_says word words W (says_is items))))
   idle_step word words (as_short b bs x no_end no_long form char says_is not_plain) idles waiting p rows filed is at =
       let W = letter_word items (b ∷ bs) x in
       short_turn name items (λ test item is. (each test item is).1) b bs x word p rows (place_of filed) words is no_end no_long form char
-      ∙ (and_then_at (settle p rows) _ _ (λ r into. goes_on W words r filed idles waiting (found_said (find (has_letter x) items) (attached (drop 1 (b ∷ bs))) (each (has_letter x)))
+      ∙ (and_then_at (settle p rows) _ _
+      (λ r into. goes_on W words r filed idles waiting
+      (found_said (find (has_letter x) items) (attached (drop 1 (b ∷ bs))) (each (has_letter x)))
       (filed_at filed (settle p rows) r into at))
       ∙ ap (λ o. option_and_then (λ r. option_and_then (entered r) o) (settle p rows)) (sym (with_says word words W (says_is items))))
   idle_step word words (as_plain no_end no_long (inl none) says_is plain) idles waiting p rows filed is at =
@@ -269,7 +275,8 @@ module _ (name : Text) (items : List Item) (first : arg_by_index (rules_of items
 
       go : (b : Bool) (v : Option Text)
           → guard (cond b (option_fault (rules_of items) false a v (holding rows (Some (name_of item, []))))
-          (cond (is_some v) (TooManyValues ∷ []) (react_fault (rules_of items) false a [] (holding rows (Some (name_of item, [])))))) r ≡ None
+          (cond (is_some v) (TooManyValues ∷ []) (react_fault (rules_of items) false a [] (holding rows (Some (name_of item, [])))))) r
+          ≡ None
       go true (Some v) = react (v ∷ [])
       go true None = none r
       go false (Some v) = refl
@@ -323,7 +330,8 @@ module _ (name : Text) (items : List Item) (first : arg_by_index (rules_of items
   enough file takes = refl
 
   value_run : (item : Item) (rows : List Row) (word : Text) (words : List Text) (filed : Bool) → IsOf items item → is_option item ≡ true
-      → run name items (after_step (rules_of items) word (stand rows (Some (name_of item, [])) (option (name_of item)) (place_of filed) false)
+      → run name items (after_step (rules_of items) word
+      (stand rows (Some (name_of item, [])) (option (name_of item)) (place_of filed) false)
       (plain_word (rules_of items) (option (name_of item)) word (holding rows (Some (name_of item, [])))).0
       (plain_word (rules_of items) (option (name_of item)) word (holding rows (Some (name_of item, [])))).1) words
       ≡ run name items (stand rows (pend (Some (use_of item word))) idle (place_of filed) false) words

@@ -1,4 +1,5 @@
--- The words of a command line: which uses of options, flags and the file they make.
+-- The words of a command line: which uses of options, flags and the file they make. Bytes are
+-- those of UTF-8.
 -- A definition without a citation is this project's profile.
 use Rattle.std.specs.Prelude.{◌==◌, ◌&&◌, ℕ, Bool, true, false, not, List, [], ◌∷◌, ◌++◌, codes}
 use Rattle.std.specs.Prelude.{Option, Some, None, is_some, length, drop, find, slice_get, nat_le}
@@ -10,9 +11,11 @@ use Rattle.std.specs.Option.{option_map_or}
 use Rattle.std.specs.Str.{bytes_eq, chars}
 use Rattle.std.specs.Str.Parse.{digits_value, without_leading_plus}
 
+-- a text, as its bytes
 abbrev pub Text : Type 0
 Text = List ℕ
 
+-- the words behind references
 abbrev pub texts : List (Bor Text) → List Text
 texts = map (λ word. word.now)
 
@@ -29,6 +32,7 @@ pub data Item : Type 0 where
   -- a word that is no option
   file : Item
 
+-- the name by which the text of an item is asked for
 abbrev pub name_of : Item → Text
 name_of (text name) = name
 name_of (number name most) = name
@@ -36,7 +40,7 @@ name_of (letter x) = x ∷ []
 name_of (flag name) = name
 name_of file = codes "FILE"
 
--- each command's name, and what may stand after it
+-- each command's name, and what may stand after it, in any order; 111 is `o`
 abbrev pub commands : List (Text × List Item)
 commands = (codes "list", text (codes "cursor") ∷ number (codes "max") 4294967295 ∷ file ∷ [])
     ∷ (
@@ -56,6 +60,7 @@ pub record Use : Type 0 where
   pub item : Item
   pub value : Text
 
+-- the use of an item with this text
 abbrev pub use_of : Item → Text → Use
 use_of item value = record { item = item; value = value }
 
@@ -92,6 +97,7 @@ option_word (Some value) (flag name) = unknown
 option_word None item = waits item
 option_word (Some value) item = says (use_of item value)
 
+-- the item is written `--name`
 abbrev pub has_long : Text → Item → Bool
 has_long name (text own) = bytes_eq own name
 has_long name (number own most) = bytes_eq own name
@@ -108,6 +114,7 @@ long_word items [] = ends
 long_word items (b ∷ bs) = option_map_or (option_word (joined (b ∷ bs)))
     (find (has_long (before_first (λ b. b == 61) (b ∷ bs))) items) unknown
 
+-- the item is written `-x`
 abbrev pub has_letter : ℕ → Item → Bool
 has_letter x (letter own) = own == x
 has_letter x item = false
@@ -122,6 +129,7 @@ abbrev pub letter_word : List Item → Text → ℕ → Word
 letter_word items rest x =
     option_map_or (option_word (attached (drop 1 rest))) (find (has_letter x) items) unknown
 
+-- what a word says: it begins with `--`, or with `-` and a character, or is the file
 abbrev pub word_of : List Item → Text → Word
 word_of items word = option_map_or (long_word items) (after (codes "--") word)
     (option_map_or (λ rest. option_map_or (letter_word items rest) (first_char rest)
@@ -135,7 +143,7 @@ file_after [] = Some []
 file_after (word ∷ []) = Some (use_of file word ∷ [])
 file_after (word ∷ other ∷ words) = None
 
--- what a first word and those after it say
+-- what a first word says, and those after it
 abbrev pub with_word : Word → List Text → (Option Item → Option (List Use)) → Option (List Use)
 with_word (says first) words others = option_map (λ uses. first ∷ uses) (others None)
 with_word (waits item) words others = others (Some item)
@@ -158,13 +166,16 @@ is_number most value =
     (nat_lt 0 (length digits) && list_all (λ d. nat_lt (digit_value d) 10) digits)
     && (nat_le 1 (digits_value 10 digits) && nat_le (digits_value 10 digits) most)
 
+-- the item may have this text
 abbrev pub takes : Item → Text → Bool
 takes (number name most) value = is_number most value
 takes item value = true
 
+-- its item may have its text
 abbrev pub is_taken : Use → Bool
 is_taken given = takes given.item given.value
 
+-- the name is used
 abbrev pub is_used : Text → List Use → Bool
 is_used name uses = list_any (λ given. bytes_eq (name_of given.item) name) uses
 
@@ -178,6 +189,7 @@ are_apart before (first ∷ uses) =
 abbrev pub checked : List Use → Option (List Use)
 checked uses = if are_apart [] uses && list_all is_taken uses then Some uses else None
 
+-- the uses that the words after a command's name make
 abbrev pub uses_of : List Item → List Text → Option (List Use)
 uses_of items words = option_and_then checked (uses_from items None words)
 

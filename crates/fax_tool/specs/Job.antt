@@ -44,6 +44,7 @@ target_of text =
     else (if bytes_eq text (codes "mr") then Some Mr
     else (if bytes_eq text (codes "mmr") then Some Mmr else None)))
 
+-- the target that is given: `-o` has to be there
 abbrev pub target_in : Given → Option Target
 target_in given = option_and_then target_of (given (codes "o"))
 

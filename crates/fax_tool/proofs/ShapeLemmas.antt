@@ -1,0 +1,302 @@
+-- What a text that is read looks like.
+use Rattle.std.proofs.Common.{◌≡◌, ◌∙◌, ◌<◌, ◌==◌, ◌++◌, ap, append_assoc, arith, cond, codes, inl, inr, lit<, refl, sym, subst}
+use Rattle.std.proofs.Common.{Bool, true, false, ℕ, suc, drop}
+use Rattle.std.proofs.Common.{List, [], ◌∷◌, Option, Some, None}
+use Rattle.std.specs.Prelude.{find, option_and_then, option_map, slice_get}
+use Rattle.std.specs.List.{All, Contains, before_first, position_or_len, slice_index_or}
+use Rattle.std.specs.Option.{option_map_or}
+use Rattle.std.specs.Str.{IsUtf8, bytes_eq, chars}
+use Rattle.std.proofs.lemmas.Bool.Decides.{nat_tests}
+use Rattle.std.proofs.lemmas.Slice.Eq.{bytes_eq-Decides}
+use Rattle.std.proofs.lemmas.List.Elements.{All-contains, All-from_recursion, All-head, All-tail}
+use Rattle.std.proofs.lemmas.Str.{IsUtf8-past_char, byte_from_char, encode_ascii, encodes-chars}
+use Rattle.std.specs.Str.{encode_utf8_all}
+use Rattle.std.proofs.Math.Numerals.{add-one, one-add}
+use Rattle.fax_tool.specs.Grammar.{Item, Text, Use, Word, attached, commands, ends, file, file_after, first_char, flag, has_letter}
+use Rattle.fax_tool.specs.Grammar.{has_long, is_plain, joined, letter}
+use Rattle.fax_tool.specs.Grammar.{number, option_word, says, text, unknown, use_of, uses_from, waits, with_word, word_of}
+use Rattle.fax_tool.specs.laws.Spelling.{AreSpelled, ReadTextsAreSpelled, IsShort, IsSpelled, IsWord}
+use Rattle.clap.specs.Lexer.{long_of, long_of_rest, name_and_value, short_of, short_of_rest, strip_byte}
+use Rattle.fax_tool.proofs.ViewLemmas.{View, as_end, as_long, as_plain, as_short, hyphens, view}
+
+-- a text's first byte is its first character, where that is ASCII
+first_byte : (b : ℕ) (bs : Text) (x : ℕ) → IsUtf8 (45 ∷ b ∷ bs) → first_char (b ∷ bs) ≡ Some x → x < 128 → b ≡ x
+first_byte b bs x utf8 is ascii =
+    let rest : IsUtf8 (b ∷ bs) = IsUtf8-past_char (45 ∷ b ∷ bs) (b ∷ bs) 45 utf8
+    (ap (λ l. l ++ b ∷ bs) (sym (encode_ascii 45 (lit< tt)))) in
+    go (chars (b ∷ bs)) is (encodes-chars (b ∷ bs) rest)
+  where
+    go : (cs : Text) → slice_get cs 0 ≡ Some x → encode_utf8_all cs ≡ b ∷ bs → b ≡ x
+    go [] is spells = cc
+    go (c ∷ cs) is spells =
+        let same : c ≡ x = cc in
+        byte_from_char (b ∷ bs) (encode_utf8_all cs) c (sym spells) (subst (λ c. c < 128) (sym same) ascii) ∙ same
+
+-- a text, at its first `=`
+at_equals : (xs : Text) → xs ≡ before_first (λ b. b == 61) xs ++ option_map_or (λ v. 61 ∷ v) (joined xs) []
+at_equals [] = refl
+at_equals (x ∷ xs) = go (x == 61) refl (at_equals xs)
+  where
+    go : (t : Bool) → (x == 61) ≡ t → xs ≡ before_first (λ b. b == 61) xs ++ option_map_or (λ v. 61 ∷ v) (joined xs) []
+        → x ∷ xs ≡ before_first (λ b. b == 61) (x ∷ xs) ++ option_map_or (λ v. 61 ∷ v) (joined (x ∷ xs)) []
+    go true same later =
+        let is : x ≡ 61 = grind (arith, nat_tests) in
+        rw same (ap (λ x. x ∷ xs) is)
+    go false other later =
+        let n = position_or_len (λ b. b == 61) xs in
+        let later = rw (add-one n) at later in
+        rw (other, one-add n, add-one (suc n)) (ap (λ ys. x ∷ ys) later)
+
+no_more : (xs : Text) → xs ++ [] ≡ xs
+no_more [] = refl
+no_more (x ∷ xs) = ap (λ ys. x ∷ ys) (no_more xs)
+
+abbrev with_equals : Option Text → Text
+with_equals v = option_map_or (λ t. 61 ∷ t) v []
+
+is_byte : (x c : ℕ) → (x == c) ≡ true → x ≡ c
+is_byte x c is = grind (arith, nat_tests)
+
+long_shape : (word own : Text) (v : Option Text) → long_of word ≡ Some (own, v) → word ≡ 45 ∷ 45 ∷ own ++ with_equals v
+long_shape [] own v is = cc
+long_shape (x ∷ xs) own v is = first (x == 45) refl is
+  where
+    third : (zs : Text) → long_of_rest zs ≡ Some (own, v) → zs ≡ own ++ with_equals v
+    third [] is = cc
+    third (z ∷ zs) is =
+        let pair : name_and_value (z ∷ zs) ≡ (own, v) = cc in
+        at_equals (z ∷ zs) ∙ ap (λ (p : Text × Option Text). p.0 ++ with_equals p.1) pair
+
+    second : (ys : Text) → option_and_then long_of_rest (strip_byte 45 ys) ≡ Some (own, v) → ys ≡ 45 ∷ own ++ with_equals v
+    second [] is = cc
+    second (y ∷ ys) is = go (y == 45) refl is
+      where
+        go : (b : Bool) → (y == 45) ≡ b → option_and_then long_of_rest (cond b (Some ys) None) ≡ Some (own, v)
+            → y ∷ ys ≡ 45 ∷ own ++ with_equals v
+        go true same is = ap (λ y. y ∷ ys) (is_byte y 45 same) ∙ ap (λ zs. 45 ∷ zs) (third ys is)
+        go false other is = cc
+
+    first : (b : Bool) → (x == 45) ≡ b
+        → option_and_then long_of_rest (option_and_then (strip_byte 45) (cond b (Some xs) None)) ≡ Some (own, v)
+        → x ∷ xs ≡ 45 ∷ 45 ∷ own ++ with_equals v
+    first true same is = ap (λ x. x ∷ xs) (is_byte x 45 same) ∙ ap (λ ys. 45 ∷ ys) (second xs is)
+    first false other is = cc
+
+short_shape : (word : Text) (b : ℕ) (bs : Text) → short_of word ≡ Some (b ∷ bs) → word ≡ 45 ∷ b ∷ bs
+short_shape [] b bs is = cc
+short_shape (x ∷ xs) b bs is = first (x == 45) refl is
+  where
+    second : (ys : Text) → short_of_rest ys ≡ Some (b ∷ bs) → ys ≡ b ∷ bs
+    second [] is = cc
+    second (y ∷ ys) is = go (y == 45) is
+      where
+        go : (t : Bool) → cond t None (Some (y ∷ ys)) ≡ Some (b ∷ bs) → y ∷ ys ≡ b ∷ bs
+        go true is = cc
+        go false is = cc
+
+    first : (t : Bool) → (x == 45) ≡ t → option_and_then short_of_rest (cond t (Some xs) None) ≡ Some (b ∷ bs)
+        → x ∷ xs ≡ 45 ∷ b ∷ bs
+    first true same is = ap (λ x. x ∷ xs) (is_byte x 45 same) ∙ ap (λ ys. 45 ∷ ys) (second xs is)
+    first false other is = cc
+
+contains_found : (test : Item → Bool) (items : List Item) (item : Item) → find test items ≡ Some item → Contains items item ×
+    (test item ≡ true)
+contains_found test [] item is = cc
+contains_found test (first ∷ items) item is = go (test first) refl is (contains_found test items item)
+  where
+    go : (t : Bool) → test first ≡ t → cond t (Some first) (find test items) ≡ Some item
+        → (find test items ≡ Some item → Contains items item × (test item ≡ true)) → Contains (first ∷ items) item × (test item ≡ true)
+    go true here is later =
+        let same : first ≡ item = cc in
+        ((0, omega arith, same), subst (λ item. test item ≡ true) same here)
+    go false here is later =
+        let of = later is in
+        let low = of.0.1 in
+        ((suc of.0.0, omega arith, of.0.2), of.1)
+
+abbrev SpelledAs : List Item → Word → Text → Type 0
+SpelledAs items (says u) word = Contains items u.item × IsSpelled u.item u.value (word ∷ [])
+SpelledAs items (waits item) word =
+    Contains items item × ((value : Text) → is_plain value ≡ true → IsSpelled item value (word ∷ value ∷ []))
+SpelledAs items ends word = word ≡ hyphens
+SpelledAs items unknown word = Unit {0}
+
+named_text : (n own : Text) → bytes_eq n own ≡ true → n ≡ own
+named_text n own is = (bytes_eq-Decides n own).0 is
+
+-- a letter is ASCII
+abbrev IsAsciiLetter : Item → Type 0
+IsAsciiLetter (letter x) = x < 128
+IsAsciiLetter item = Unit {0}
+
+module _ (items : List Item) where
+  joined_word : (n own word t : Text) → bytes_eq n own ≡ true → word ≡ 45 ∷ 45 ∷ own ++ 61 ∷ t → IsWord
+      (codes "--" ++ n ++ codes "=" ++ t) (word ∷ [])
+  joined_word n own word t named shape =
+      ap (λ w. w ∷ []) (shape ∙ (ap (λ own. 45 ∷ 45 ∷ own ++ 61 ∷ t) (sym (named_text n own named)) ∙ sym
+      (append_assoc (45 ∷ 45 ∷ n) (61 ∷ []) t)))
+
+  bare_word : (n own word : Text) → bytes_eq n own ≡ true → word ≡ 45 ∷ 45 ∷ own ++ [] → word ≡ codes "--" ++ n
+  bare_word n own word named shape =
+      shape ∙ ap (λ own. 45 ∷ 45 ∷ own) (no_more own ∙ sym (named_text n own named))
+
+  long_as : (item : Item) (own : Text) (v : Option Text) (word : Text) → Contains items item → has_long own item ≡ true
+      → word ≡ 45 ∷ 45 ∷ own ++ with_equals v → SpelledAs items (option_word v item) word
+  long_as (text n) own (Some t) word among named shape = (among, inl (joined_word n own word t named shape))
+  long_as (number n most) own (Some t) word among named shape = (among, inl (joined_word n own word t named shape))
+  long_as (flag n) own (Some t) word among named shape = tt
+  long_as (text n) own None word among named shape =
+      (among, λ value plain. inr (ap (λ w. w ∷ value ∷ []) (bare_word n own word named shape), plain))
+  long_as (number n most) own None word among named shape =
+      (among, λ value plain. inr (ap (λ w. w ∷ value ∷ []) (bare_word n own word named shape), plain))
+  long_as (flag n) own None word among named shape = (among, (ap (λ w. w ∷ []) (bare_word n own word named shape), refl))
+  long_as (letter x) own v word among named shape = cc
+  long_as file own v word among named shape = cc
+
+  short_as : (item : Item) (x : ℕ) (bs word : Text) → Contains items item → has_letter x item ≡ true → word ≡ 45 ∷ x ∷ bs
+      → SpelledAs items (option_word (attached bs) item) word
+  short_as (letter l) x [] word among named shape =
+      (among, λ value plain. inr (inr (ap (λ w. w ∷ value ∷ []) (shape ∙ ap (λ x. 45 ∷ x ∷ []) (sym (is_byte l x named))), plain)))
+  short_as (letter l) x (c ∷ cs) word among named shape = (among, go (c == 61) refl)
+    where
+      whole : word ∷ [] ≡ (45 ∷ l ∷ c ∷ cs) ∷ []
+      whole = ap (λ w. w ∷ []) (shape ∙ ap (λ x. 45 ∷ x ∷ c ∷ cs) (sym (is_byte l x named)))
+
+      go : (t : Bool) → (c == 61) ≡ t → IsShort l (cond t cs (c ∷ cs)) (word ∷ [])
+      go true same = inl (whole ∙ ap (λ c. (45 ∷ l ∷ c ∷ cs) ∷ []) (is_byte c 61 same))
+      go false other = inr (inl (whole, rw other refl))
+  short_as (text n) x bs word among named shape = cc
+  short_as (number n most) x bs word among named shape = cc
+  short_as (flag n) x bs word among named shape = cc
+  short_as file x bs word among named shape = cc
+
+  module _ (has_file : Contains items file) (ascii : (x : ℕ) → Contains items (letter x) → x < 128) where
+    spelled_as : (word : Text) → IsUtf8 word → View word → SpelledAs items (word_of items word) word
+    spelled_as word utf8 (as_end is_end says_is not_plain) =
+        subst (λ W. SpelledAs items W word) (sym (says_is items)) ((bytes_eq-Decides word hyphens).0 is_end)
+    spelled_as word utf8 (as_long own v no_end form says_is not_plain) =
+        subst (λ W. SpelledAs items W word) (sym (says_is items)) (go (find (has_long own) items) (contains_found (has_long own) items))
+      where
+        go : (o : Option Item) → ((item : Item) → o ≡ Some item → Contains items item × (has_long own item ≡ true))
+            → SpelledAs items (option_map_or (option_word v) o unknown) word
+        go None found = tt
+        go (Some item) found =
+            let of = found item refl in
+            long_as item own v word of.0 of.1 (long_shape word own v form)
+    spelled_as word utf8 (as_short b bs x no_end no_long form char says_is not_plain) =
+        subst (λ W. SpelledAs items W word) (sym (says_is items)) (go (find (has_letter x) items) (contains_found (has_letter x) items))
+      where
+        shape : word ≡ 45 ∷ b ∷ bs
+        shape = short_shape word b bs form
+
+        letter_at : (item : Item) → Contains items item → has_letter x item ≡ true → x < 128
+        letter_at (letter l) among named = subst (λ x. x < 128) (is_byte l x named) (ascii l among)
+        letter_at (text n) among named = cc
+        letter_at (number n most) among named = cc
+        letter_at (flag n) among named = cc
+        letter_at file among named = cc
+
+        go : (o : Option Item) → ((item : Item) → o ≡ Some item → Contains items item × (has_letter x item ≡ true))
+            → SpelledAs items (option_map_or (option_word (attached (drop 1 (b ∷ bs)))) o unknown) word
+        go None found = tt
+        go (Some item) found =
+            let of = found item refl in
+            let same = first_byte b bs x (subst IsUtf8 shape utf8) char (letter_at item of.0 of.1) in
+            short_as item x bs word of.0 of.1 (shape ∙ ap (λ b. 45 ∷ b ∷ bs) same)
+    spelled_as word utf8 (as_plain no_end no_long form says_is plain) =
+        subst (λ W. SpelledAs items W word) (sym (says_is items)) (has_file, (refl, plain))
+
+    abbrev IdleSpelled : List Text → Type 0
+    IdleSpelled words = (uses : List Use) → All IsUtf8 words → uses_from items None words ≡ Some uses → AreSpelled items uses words
+
+    -- the first word is the text that was waited for
+    abbrev WaitsSpelled : List Text → Type 0
+    WaitsSpelled words = (item : Item) (uses : List Use) → All IsUtf8 words → uses_from items (Some item) words ≡ Some uses
+        → (value : Text) × (others : List Text) × (us : List Use) × (words ≡ value ∷ others) × (is_plain value ≡ true)
+        × (uses ≡ use_of item value ∷ us) × AreSpelled items us others
+
+    after_end : (words : List Text) (uses : List Use) → file_after words ≡ Some uses → AreSpelled items uses (hyphens ∷ words)
+    after_end [] uses is = let none : uses ≡ [] = cc in subst (λ uses. AreSpelled items uses (hyphens ∷ [])) (sym none) (inr refl)
+    after_end (word ∷ []) uses is =
+        let one : use_of file word ∷ [] ≡ uses = cc in
+        subst (λ uses. AreSpelled items uses (hyphens ∷ word ∷ [])) one (inr (refl, refl, refl))
+    after_end (word ∷ other ∷ words) uses is = cc
+
+    -- a first use, and those after it
+    then_uses : (u : Use) (o : Option (List Use)) (uses : List Use) → option_map (λ us. u ∷ us) o ≡ Some uses
+        → (us : List Use) × (o ≡ Some us) × (uses ≡ u ∷ us)
+    then_uses u None uses is = cc
+    then_uses u (Some us) uses is = (us, refl, (let same : u ∷ us ≡ uses = cc in sym same))
+
+    idle_from : (word : Text) (words : List Text) (W : Word) → SpelledAs items W word → IdleSpelled words → WaitsSpelled words
+        → All IsUtf8 words → (uses : List Use) → with_word W words (λ waiting. uses_from items waiting words) ≡ Some uses
+        → AreSpelled items uses (word ∷ words)
+    idle_from word words (says u) is idles waiting utf8 uses reads =
+        let of = then_uses u (uses_from items None words) uses reads in
+        subst (λ uses. AreSpelled items uses (word ∷ words)) (sym of.2)
+        (inl (word ∷ [], words, refl, is.0, is.1, idles of.0 utf8 of.1))
+    idle_from word words (waits item) is idles waiting utf8 uses reads =
+        let of = waiting item uses utf8 reads in
+        let first : AreSpelled items (use_of item of.0 ∷ of.2) (word ∷ of.0 ∷ of.1) =
+        inl (word ∷ of.0 ∷ [], of.1, refl, is.0, is.1 of.0 of.4, of.6) in
+        subst (λ words. AreSpelled items uses (word ∷ words)) (sym of.3)
+        (subst (λ uses. AreSpelled items uses (word ∷ of.0 ∷ of.1)) (sym of.5) first)
+    idle_from word words ends is idles waiting utf8 uses reads =
+        subst (λ word. AreSpelled items uses (word ∷ words)) (sym is) (after_end words uses reads)
+    idle_from word words unknown is idles waiting utf8 uses reads = cc
+
+    waits_from : (word : Text) (words : List Text) → IdleSpelled words → WaitsSpelled (word ∷ words)
+    waits_from word words idles item uses utf8 reads = go (is_plain word) refl reads
+      where
+        go : (b : Bool) → is_plain word ≡ b → cond b (option_map (λ us. use_of item word ∷ us) (uses_from items None words)) None ≡ Some
+            uses
+            → (value : Text) × (others : List Text) × (us : List Use) × (word ∷ words ≡ value ∷ others) × (is_plain value ≡ true)
+            × (uses ≡ use_of item value ∷ us) × AreSpelled items us others
+        go true plain reads =
+            let of = then_uses (use_of item word) (uses_from items None words) uses reads in
+            (word, words, of.0, refl, plain, of.2, idles of.0 (All-tail IsUtf8 word words utf8) of.1)
+        go false other reads = cc
+
+    all_spelled : (words : List Text) → IdleSpelled words × WaitsSpelled words
+    all_spelled [] = (
+      λ uses utf8 is. (let none : uses ≡ [] = cc in subst (λ uses. AreSpelled items uses []) (sym none) (inl refl)),
+      λ
+          item uses utf8 is. cc,
+    )
+    all_spelled (word ∷ words) =
+        let others = all_spelled words in (
+          λ uses utf8 is. idle_from word words (word_of items word) (spelled_as word (All-head IsUtf8 word words utf8) (view word))
+              others.0 others.1
+              (All-tail IsUtf8 word words utf8) uses is,
+          waits_from word words others.0,
+        )
+
+abbrev items_at : ℕ → List Item
+items_at i = (slice_index_or commands i ([], [])).1
+
+abbrev IsSpelledOf : List Item → Type 0
+IsSpelledOf items = (uses : List Use) (words : List Text) → All IsUtf8 words → uses_from items None words ≡ Some uses
+    → AreSpelled items uses words
+
+-- the letters of a command are ASCII
+abbrev AsciiLetters : List Item → Type 0
+AsciiLetters items = (x : ℕ) → Contains items (letter x) → x < 128
+
+ascii_items : (items : List Item) → All (λ item. IsAsciiLetter item) items → AsciiLetters items
+ascii_items items are x among = All-contains IsAsciiLetter items (letter x) are among
+
+spelled_of : (items : List Item) → Contains items file → All (λ item. IsAsciiLetter item) items → IsSpelledOf items
+spelled_of items has_file are uses words utf8 is = (all_spelled items has_file (ascii_items items are) words).0 uses utf8 is
+
+pub read_texts_are_spelled : ReadTextsAreSpelled
+read_texts_are_spelled = All-from_recursion (λ command. IsSpelledOf command.1) commands (
+  spelled_of (items_at 0) (2, lit< tt, refl) (All-from_recursion IsAsciiLetter (items_at 0) (tt, (tt, (tt, tt)))),
+  (
+    spelled_of (items_at 1) (2, lit< tt, refl) (All-from_recursion IsAsciiLetter (items_at 1) (tt, (tt, (tt, (tt, tt))))),
+    (
+      spelled_of (items_at 2) (5, lit< tt, refl)
+          (All-from_recursion IsAsciiLetter (items_at 2) (lit< tt, (tt, (tt, (tt, (tt, (tt, tt))))))),
+      (spelled_of (items_at 3) (0, lit< tt, refl) (All-from_recursion IsAsciiLetter (items_at 3) (tt, tt)), tt),
+    ),
+  ),
+)

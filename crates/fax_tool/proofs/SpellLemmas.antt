@@ -1,0 +1,125 @@
+-- What is written as the uses say is read as these uses.
+use Rattle.std.proofs.Common.{◌≡◌, ◌∙◌, ◌++◌, ap, codes, inl, inr, refl, sym, true, ℕ}
+use Rattle.std.proofs.Common.{List, [], ◌∷◌, Some, None}
+use Rattle.std.specs.List.{AllByRecursion, Contains, slice_index_or}
+use Rattle.std.specs.Str.{chars}
+use Rattle.std.proofs.lemmas.List.Elements.{All-contains, All-from_recursion}
+use Rattle.fax_tool.specs.Grammar.{Item, Text, Use, attached, commands, file, flag, is_plain, letter, number}
+use Rattle.fax_tool.specs.Grammar.{option_word, says, text, use_of, uses_from, waits, word_of}
+use Rattle.fax_tool.specs.laws.Spelling.{AreSpelled, IsPair, IsSpelled, SpelledWordsAreRead}
+use Rattle.fax_tool.proofs.ViewLemmas.{View, as_end, as_long, as_plain, as_short, view}
+
+-- what one word of an item says
+abbrev IsRead : List Item → Item → Type 0
+IsRead items (text name) =
+    ((value : Text) → word_of items (codes "--" ++ name ++ codes "=" ++ value) ≡ says (use_of (text name) value))
+    × (word_of items (codes "--" ++ name) ≡ waits (text name))
+IsRead items (number name most) =
+    ((value : Text) → word_of items (codes "--" ++ name ++ codes "=" ++ value) ≡ says (use_of (number name most) value))
+    × (word_of items (codes "--" ++ name) ≡ waits (number name most))
+IsRead items (letter x) =
+    ((value : Text) → word_of items (codes "-" ++ x ∷ codes "=" ++ value) ≡ says (use_of (letter x) value))
+    × ((value : Text) → attached value ≡ Some value → word_of items (codes "-" ++ x ∷ value) ≡ says (use_of (letter x) value))
+    × (word_of items (codes "-" ++ x ∷ []) ≡ waits (letter x))
+IsRead items (flag name) = word_of items (codes "--" ++ name) ≡ says (use_of (flag name) (codes "true"))
+IsRead items file = Unit {0}
+
+plain_read : (items : List Item) (word : Text) → is_plain word ≡ true → word_of items word ≡ says (use_of file word)
+plain_read items word is = go (view word)
+  where
+    go : View word → word_of items word ≡ says (use_of file word)
+    go (as_end is_end says_is not_plain) = let no = sym is ∙ not_plain in cc
+    go (as_long own v no_end form says_is not_plain) = let no = sym is ∙ not_plain in cc
+    go (as_short b bs x no_end no_long form char says_is not_plain) = let no = sym is ∙ not_plain in cc
+    go (as_plain no_end no_long form says_is plain) = says_is items
+
+module _ (items : List Item) (each : (item : Item) → Contains items item → IsRead items item) where
+  -- a word that says a use
+  one_word : (word : Text) (u : Use) (us : List Use) (own others words : List Text) → words ≡ own ++ others → own ≡ word ∷ []
+      → word_of items word ≡ says u → uses_from items None others ≡ Some us → uses_from items None words ≡ Some (u ∷ us)
+  one_word word u us own others words split is says_is more = rw (split, is, says_is, more) refl
+
+  -- a word that waits for the next one
+  two_words : (item : Item) (name value : Text) (us : List Use) (own others words : List Text) → words ≡ own ++ others
+      → IsPair name value own → word_of items name ≡ waits item → uses_from items None others ≡ Some us
+      → uses_from items None words ≡ Some (use_of item value ∷ us)
+  two_words item name value us own others words split is waits_is more = rw (split, is.0, waits_is, is.1, more) refl
+
+  spelled_use : (item : Item) (value : Text) (us : List Use) (own others words : List Text) → words ≡ own ++ others → IsRead items item
+      → IsSpelled item value own → uses_from items None others ≡ Some us → uses_from items None words ≡ Some (use_of item value ∷ us)
+  spelled_use (text name) value us own others words split reads (inl is) more =
+      one_word _ (use_of (text name) value) us own others words split is (reads.0 value) more
+  spelled_use (text name) value us own others words split reads (inr is) more =
+      two_words (text name) _ value us own others words split is reads.1 more
+  spelled_use (number name most) value us own others words split reads (inl is) more =
+      one_word _ (use_of (number name most) value) us own others words split is (reads.0 value) more
+  spelled_use (number name most) value us own others words split reads (inr is) more =
+      two_words (number name most) _ value us own others words split is reads.1 more
+  spelled_use (letter x) value us own others words split reads (inl is) more =
+      one_word _ (use_of (letter x) value) us own others words split is (reads.0 value) more
+  spelled_use (letter x) value us own others words split reads (inr (inl is)) more =
+      one_word _ (use_of (letter x) value) us own others words split is.0 (reads.1 value is.1) more
+  spelled_use (letter x) value us own others words split reads (inr (inr is)) more =
+      two_words (letter x) _ value us own others words split is reads.2 more
+  spelled_use (flag name) value us own others words split reads is more =
+      one_word _ (use_of (flag name) value) us own others words split is.0 (reads ∙ ap (λ v. says (use_of (flag name) v)) (sym is.1)) more
+  spelled_use file value us own others words split reads is more =
+      one_word value (use_of file value) us own others words split is.0 (plain_read items value is.1) more
+
+  spelled : (uses : List Use) (words : List Text) → AreSpelled items uses words → uses_from items None words ≡ Some uses
+  unfolding chars
+  spelled [] words (inl none) = rw none refl
+  spelled [] words (inr ends) = rw ends refl
+  spelled (u ∷ us) words (inl (own, others, split, among, is, more)) =
+      spelled_use u.item u.value us own others words split (each u.item among) is (spelled us others more)
+  spelled (u ∷ us) words (inr (as_file, none, is)) =
+      let u_is : use_of file u.value ≡ u = ap (λ item. use_of item u.value) (sym as_file) in
+      rw is (ap (λ us. Some us) (ap (λ u. u ∷ []) u_is ∙ ap (λ us. u ∷ us) (sym none)))
+
+-- the same, of each item of a list
+abbrev AreRead : List Item → List Item → Type 0
+AreRead all [] = Unit {0}
+AreRead all (item ∷ items) = IsRead all item × AreRead all items
+
+by_items : (all items : List Item) → AreRead all items → AllByRecursion (IsRead all) items
+by_items all [] are = tt
+by_items all (item ∷ items) are = (are.0, by_items all items are.1)
+
+each_read : (items : List Item) → AreRead items items → (item : Item) → Contains items item → IsRead items item
+each_read items are item among = All-contains (IsRead items) items item
+    (All-from_recursion (IsRead items) items (by_items items items are)) among
+
+letter_read : (items : List Item) (x : ℕ) →
+    ((b : ℕ) (bs : Text) → word_of items (codes "-" ++ x ∷ b ∷ bs) ≡ option_word (attached (b ∷ bs)) (letter x))
+    → (value : Text) → attached value ≡ Some value → word_of items (codes "-" ++ x ∷ value) ≡ says (use_of (letter x) value)
+letter_read items x of [] is = cc
+letter_read items x of (b ∷ bs) is = of b bs ∙ ap (λ v. option_word v (letter x)) is
+
+abbrev items_at : ℕ → List Item
+items_at i = (slice_index_or commands i ([], [])).1
+
+abbrev IsReadOf : List Item → Type 0
+IsReadOf items = (uses : List Use) (words : List Text) → AreSpelled items uses words → uses_from items None words ≡ Some uses
+
+list_read : IsReadOf (items_at 0)
+unfolding chars
+list_read = spelled (items_at 0) (each_read (items_at 0) ((λ value. refl, refl), ((λ value. refl, refl), (tt, tt))))
+
+rows_read : IsReadOf (items_at 1)
+unfolding chars
+rows_read = spelled (items_at 1) (each_read (items_at 1) ((λ value. refl, refl), ((λ value. refl, refl), (tt, (refl, tt)))))
+
+convert_read : IsReadOf (items_at 2)
+unfolding chars
+convert_read = spelled (items_at 2) (each_read (items_at 2) (
+  (λ value. refl, letter_read (items_at 2) 111 (λ b bs. refl), refl),
+  ((λ value. refl, refl), ((λ value. refl, refl), ((λ value. refl, refl), (refl, (tt, tt))))),
+))
+
+check_read : IsReadOf (items_at 3)
+unfolding chars
+check_read = spelled (items_at 3) (each_read (items_at 3) (tt, tt))
+
+pub spelled_words_are_read : SpelledWordsAreRead
+spelled_words_are_read =
+    All-from_recursion (λ command. IsReadOf command.1) commands (list_read, (rows_read, (convert_read, (check_read, tt))))

@@ -1,0 +1,62 @@
+"""The words of each command: of the grammar, of the manual page's synopsis and of the completions. Each gives for a
+command's name its options, in their order, as pairs of the option and whether it has a value."""
+
+import re
+
+from contracts import read
+
+OPTION = re.compile(r'(text|number|letter|flag) (?:\(codes "(\w+)"\)|(\d+))')
+
+
+def in_grammar():
+    """What specs/Grammar.antt lists."""
+    text = read("crates", "fax_tool", "specs", "Grammar.antt").split("\ncommands = ")[1].split("\n\n")[0]
+    found = {}
+    for command in re.split(r"\(\s*(?=codes \"\w+\",)", text)[1:]:
+        name = re.match(r'codes "(\w+)"', command).group(1)
+        found[name] = [
+            ("-" + chr(int(letter)) if kind == "letter" else "--" + long, kind != "flag")
+            for kind, long, letter in OPTION.findall(command)
+        ]
+    return found
+
+
+def in_synopsis(lines):
+    """What the lines of the synopsis have: an option, and its value beside it if it has one."""
+    found = {}
+    for line in lines:
+        name, rest = re.match(r"faxpages (\w+) (.*)", line).groups()
+        found[name] = [(option, value != "") for option, value in re.findall(r"(--?\w+)( [^\]\s]+)?", rest)]
+    return found
+
+
+def in_bash():
+    text = read("share", "completions", "faxpages.bash")
+    names = re.search(r"words='([\w ]+)'", text).group(1).split()
+    options = dict(re.findall(r"^    (\w+)\) echo (-.*) ;;", text, re.M))
+    valued = set(re.findall(r"--?\w+", " ".join(re.findall(r"^        (-[-\w| ]+)\)", text, re.M))))
+    return {name: [(option, option in valued) for option in options.get(name, "").split()] for name in names}
+
+
+def in_zsh():
+    text = read("share", "completions", "_faxpages")
+    names = re.findall(r"'(\w+):", text.split("commands=(")[1].split("\n)")[0])
+    part = text.split("part=(")[1].split("\n)")[0]
+    cases = text.split("case $command in\n")[1].split("\nesac")[0]
+    found = {}
+    for name in names:
+        case = re.search(rf"^{name}\)(.*?);;", cases, re.M | re.S).group(1).replace("$part", part)
+        found[name] = [(option, value != "") for option, value in re.findall(r"'(--?\w+)\[[^\]]*\](:?)", case)]
+    return found
+
+
+def in_fish():
+    text = read("share", "completions", "faxpages.fish")
+    found = {name: [] for name in re.search(r"set -l commands ([\w ]+)", text).group(1).split()}
+    for line in re.findall(r"__fish_seen_subcommand_from (\w.*)", text):
+        option = re.match(r"([\w ]+)' -(l|s) (\w+)( -x)?", line)
+        if option:
+            names, kind, name, value = option.groups()
+            for command in names.split():
+                found[command].append((("--" if kind == "l" else "-") + name, value is not None))
+    return found
