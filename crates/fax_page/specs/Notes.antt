@@ -1,7 +1,7 @@
 -- What is worth a note in a strip that has all its rows.
 -- A definition without a citation is this project's profile.
 use Rattle.std.specs.Prelude.{◌≡◌, ◌≢◌, ℕ, zero, suc, ◌+◌, ◌⊎◌, ◌↔◌, true, List, [], ◌∷◌, ◌++◌}
-use Rattle.std.specs.Prelude.{length, Bool, None, Some, IsTrue, ⊤}
+use Rattle.std.specs.Prelude.{Bool, None, IsTrue}
 use Rattle.std.specs.List.{Contains}
 use Rattle.fax_bits.specs.declared.Colour.{Colour}
 use Rattle.fax_page.specs.declared.Coding.{Coding}
@@ -10,10 +10,8 @@ use Rattle.fax_page.specs.declared.Dimension.{Dimension}
 use Rattle.fax_page.specs.declared.Dimension.TheVariants.{OneDimensional}
 use Rattle.fax_page.specs.declared.StripForm.{StripForm}
 use Rattle.fax_page.specs.declared.notes.StripNotes.{StripNotes}
-use Rattle.fax_page.specs.declared.notes.NotesFault.{NotesFault}
-use Rattle.fax_page.specs.declared.notes.NotesFault.TheVariants.{Memory, Strip}
 use Rattle.fax_page.specs.Lines.{tag_bit, IsEndOfLine, IsLine, white_row}
-use Rattle.fax_page.specs.Strip.{AreLines, IsStrip}
+use Rattle.fax_page.specs.Strip.{AreLines}
 use Rattle.fax_page.specs.CodedStrip.{end_of_block, row_bits}
 
 -- one EOL of a return to control: in MR the tag bit of a one-dimensional row follows it

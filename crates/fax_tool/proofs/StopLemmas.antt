@@ -5,7 +5,7 @@ use Rattle.std.specs.Io.KnownBytes.{Appends}
 use Rattle.std.proofs.KnownBytes.{Appends-trans}
 use Rattle.fax_tool.specs.declared.refusal.Refusal.{Refusal}
 use Rattle.fax_tool.specs.declared.refusal.Refusal.TheVariants.{Memory, Read, Write}
-use Rattle.fax_tool.specs.Run.{Counts, Output, HasWorked, LeavesText}
+use Rattle.fax_tool.specs.Run.{Counts, Output, LeavesText}
 use Rattle.fax_tool.specs.views.Streams.{output_after}
 use Rattle.fax_tool.specs.Text.{Printed}
 use Rattle.fax_tool.specs.Run.{LeavesText}

@@ -1,8 +1,8 @@
 -- Images that are converted.
 use Rattle.std.proofs.Common.{◌≡◌, ◌≢◌, ℕ, zero, suc, ◌+◌, ◌*◌, ◌<◌, ◌≤◌, inl, inr, List, [], ◌∷◌, ◌++◌, length, map, take, drop, Some}
-use Rattle.std.proofs.Common.{None, refl, sym, ap, ◌∙◌, subst, arith, append_assoc, append-nil, length-append, length-take, length-drop}
+use Rattle.std.proofs.Common.{None, refl, sym, ap, ◌∙◌, subst, arith, append_assoc, length-append, length-take, length-drop}
 use Rattle.std.specs.Prelude.{flat_map}
-use Rattle.std.proofs.lemmas.List.{length-map, drop-drop, map-append, length_push, nil_from_length}
+use Rattle.std.proofs.lemmas.List.{length-map, drop-drop, map-append, length_push}
 use Rattle.fax_bits.specs.Bits.{bits, byte_bits, code_bits}
 use Rattle.fax_bits.specs.declared.FillOrder.TheVariants.{MsbFirst}
 use Rattle.fax_bits.specs.declared.Colour.{Colour}
@@ -13,7 +13,7 @@ use Rattle.fax_files.specs.laws.Pbm.{AreOfWidth, ImagesAreReadInOneWay, ImagesBe
 use Rattle.fax_walk.specs.declared.options.Options.{Options}
 use Rattle.fax_walk.specs.declared.output.Output.{Output}
 use Rattle.fax_walk.specs.declared.output.Output.TheVariants.{TooLarge}
-use Rattle.fax_walk.specs.Converted.{SourcePage, IsPbm, page_of_image}
+use Rattle.fax_walk.specs.Converted.{SourcePage, page_of_image}
 use Rattle.fax_walk.specs.code.Conversion.{IsImageCount}
 use Rattle.fax_walk.specs.code.Output.{Progress, IsWrittenTo, IsBeginning}
 use Rattle.fax_walk.specs.code.Sources.{PutsImage, AreImagesWritten}

@@ -1,7 +1,7 @@
 -- What a file is converted to.
 -- A definition without a citation is this project's profile.
 use Rattle.std.specs.Prelude.{◌≡◌, ◌≢◌, ℕ, zero, suc, ◌+◌, ◌<◌, ◌⊎◌, min, false, List, [], ◌∷◌}
-use Rattle.std.specs.Prelude.{◌++◌, length, map, take, drop, Some, None, unwrap_or, codes}
+use Rattle.std.specs.Prelude.{length, map, take, drop, Some, None, unwrap_or, codes}
 use Rattle.std.specs.Int.{div_ceil}
 use Rattle.fax_bits.specs.Bits.{BeginsWith}
 use Rattle.fax_bits.specs.declared.Colour.{Colour}

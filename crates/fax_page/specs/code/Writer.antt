@@ -1,14 +1,9 @@
 -- A strip that is written row by row.
-use Rattle.std.specs.Prelude.{◌≡◌, ℕ, ◌+◌, ◌<◌, ◌≤◌, Bool, true, false, List, [], ◌∷◌, ◌++◌, length}
-use Rattle.std.specs.Prelude.{Result, Ok, Err}
-use Rattle.fax_bits.specs.Written.{packed}
+use Rattle.std.specs.Prelude.{◌≡◌, ℕ, ◌<◌, ◌≤◌, List, length}
 use Rattle.fax_bits.specs.declared.Colour.{Colour}
 use Rattle.fax_bits.specs.declared.FillOrder.{FillOrder}
-use Rattle.fax_bits.specs.declared.Memory.{Memory}
 use Rattle.fax_page.specs.declared.StripForm.{StripForm}
-use Rattle.fax_page.specs.CodedStrip.{coded_line, coded_lines, coded_strip, end_bits}
 use Rattle.fax_page.specs.views.Strip.{IsStripForm}
-use Rattle.fax_page.specs.Lines.{white_row}
 
 -- the form is within the limits, k is not 0, the bits are put in the form's order, the last row has
 -- the form's width, and there are no more rows than the form says

@@ -1,16 +1,10 @@
 -- Laws of strips, which the functions of the module `laws` prove.
 -- A definition without a citation is this project's profile.
-use Rattle.std.specs.Prelude.{◌≡◌, ℕ, ◌+◌, ◌-◌, ◌%◌, Bool, true, false, nat_eq, if◌then◌else◌, List}
-use Rattle.std.specs.Prelude.{[], ◌∷◌, ◌++◌, length, replicate, All}
+use Rattle.std.specs.Prelude.{◌≡◌, ℕ, ◌+◌, ◌%◌, Bool, true, List}
+use Rattle.std.specs.Prelude.{◌++◌, length, All}
 use Rattle.fax_bits.specs.declared.Colour.{Colour}
-use Rattle.fax_bits.specs.Written.{packed}
-use Rattle.fax_rows.specs.Coded.{one_dimensional_bits, two_dimensional_bits}
-use Rattle.fax_page.specs.declared.Dimension.{Dimension}
-use Rattle.fax_page.specs.declared.Dimension.TheVariants.{OneDimensional, TwoDimensional}
-use Rattle.fax_page.specs.declared.Coding.{Coding}
-use Rattle.fax_page.specs.declared.Coding.TheVariants.{Mh, Mr, Mmr}
 use Rattle.fax_page.specs.declared.StripForm.{StripForm}
-use Rattle.fax_page.specs.Lines.{tag_bit, white_row, IsLine, IsCause}
+use Rattle.fax_page.specs.Lines.{IsLine, IsCause}
 use Rattle.std.specs.Prelude.{◌≡◌, ℕ, ◌+◌, ◌<◌, ◌%◌, ◌⊎◌, Bool, true, List, ◌++◌, length, Option}
 use Rattle.std.specs.Prelude.{None}
 use Rattle.fax_bits.specs.Bits.{bits}

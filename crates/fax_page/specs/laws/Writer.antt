@@ -1,13 +1,8 @@
 -- A writer that puts rows one after another gives the bytes of their strip.
-use Rattle.std.specs.Prelude.{◌≡◌, ℕ, ◌+◌, ◌<◌, ◌≤◌, Bool, true, false, List, [], ◌∷◌, ◌++◌, length}
-use Rattle.std.specs.Prelude.{Result, Ok, Err}
-use Rattle.fax_bits.specs.Written.{packed}
+use Rattle.std.specs.Prelude.{◌≡◌, ℕ, false, List, [], ◌∷◌, ◌++◌, length}
 use Rattle.fax_bits.specs.declared.Colour.{Colour}
-use Rattle.fax_bits.specs.declared.FillOrder.{FillOrder}
-use Rattle.fax_bits.specs.declared.Memory.{Memory}
 use Rattle.fax_page.specs.declared.StripForm.{StripForm}
-use Rattle.fax_page.specs.CodedStrip.{coded_line, coded_lines, coded_strip, end_bits}
-use Rattle.fax_page.specs.views.Strip.{IsStripForm}
+use Rattle.fax_page.specs.CodedStrip.{coded_lines, coded_strip}
 use Rattle.fax_page.specs.Lines.{white_row}
 use Rattle.fax_page.specs.views.Writer.{FinishesAs, PutsRow, WriterState, writer_beginning}
 

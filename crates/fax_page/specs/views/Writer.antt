@@ -1,13 +1,11 @@
 -- A strip that is written row by row.
-use Rattle.std.specs.Prelude.{◌≡◌, ℕ, ◌+◌, ◌<◌, ◌≤◌, Bool, true, false, List, [], ◌∷◌, ◌++◌, length}
+use Rattle.std.specs.Prelude.{◌≡◌, ℕ, ◌+◌, Bool, true, false, List, [], ◌++◌, length}
 use Rattle.std.specs.Prelude.{Result, Ok, Err}
 use Rattle.fax_bits.specs.Written.{packed}
 use Rattle.fax_bits.specs.declared.Colour.{Colour}
-use Rattle.fax_bits.specs.declared.FillOrder.{FillOrder}
 use Rattle.fax_bits.specs.declared.Memory.{Memory}
 use Rattle.fax_page.specs.declared.StripForm.{StripForm}
-use Rattle.fax_page.specs.CodedStrip.{coded_line, coded_lines, coded_strip, end_bits}
-use Rattle.fax_page.specs.views.Strip.{IsStripForm}
+use Rattle.fax_page.specs.CodedStrip.{coded_line, end_bits}
 use Rattle.fax_page.specs.Lines.{white_row}
 
 -- how far a strip is written: its form and k, its bits, how many rows were put, the last of them,

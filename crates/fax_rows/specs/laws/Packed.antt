@@ -1,14 +1,10 @@
 -- What is read back of packed pels.
 -- A definition without a citation is this project's profile.
-use Rattle.std.specs.Prelude.{◌≡◌, ℕ, ◌+◌, ◌-◌, ◌*◌, ◌/◌, Bool, true, false, List, ◌++◌, map}
-use Rattle.std.specs.Prelude.{length, take, drop, replicate, not, slice_index_or}
-use Rattle.std.specs.List.{range_with_len}
+use Rattle.std.specs.Prelude.{◌≡◌, ℕ, ◌-◌, ◌*◌, false, List, ◌++◌, map}
+use Rattle.std.specs.Prelude.{length, take, replicate}
 use Rattle.fax_bits.specs.declared.FillOrder.TheVariants.{MsbFirst}
 use Rattle.fax_bits.specs.declared.Colour.{Colour}
-use Rattle.fax_bits.specs.declared.Colour.TheVariants.{White, Black}
 use Rattle.fax_bits.specs.Bits.{bits}
-use Rattle.fax_bits.specs.Written.{bits_number}
-use Rattle.fax_rows.specs.Rows.{same_colour, first_place}
 use Rattle.fax_rows.specs.Packed.{is_black, packed_len, packed_row, unpacked_row}
 
 -- the bits of a packed row are its pels, and zeros up to a whole byte (the netpbm format, P4)

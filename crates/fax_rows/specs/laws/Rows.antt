@@ -1,10 +1,8 @@
 -- Laws of rows, which the functions of the module `laws` prove.
 -- A definition without a citation is this project's profile.
-use Rattle.std.specs.Prelude.{ℕ, zero, suc, ◌+◌, ◌<◌, ◌^◌, Bool, true, false, not, ◌&&◌, nat_lt}
-use Rattle.std.specs.Prelude.{if◌then◌else◌, List, [], ◌∷◌, ◌++◌, length, replicate, slice_index_or}
-use Rattle.std.specs.Prelude.{Option, Some, None}
+use Rattle.std.specs.Prelude.{ℕ, ◌<◌, ◌^◌, Bool}
+use Rattle.std.specs.Prelude.{List, ◌++◌, length}
 use Rattle.fax_bits.specs.declared.Colour.{Colour}
-use Rattle.fax_bits.specs.declared.Colour.TheVariants.{White, Black}
 use Rattle.std.specs.Prelude.{◌≡◌, ℕ, Bool, List, ◌++◌, length}
 use Rattle.fax_bits.specs.laws.Codes.{IsReadInOneWay}
 use Rattle.fax_rows.specs.Coded.{one_dimensional_bits, two_dimensional_bits}
