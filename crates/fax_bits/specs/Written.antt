@@ -1,4 +1,5 @@
--- Bits, bytes and codes as they are written (T.4, sections 4.1.1 and 4.2.1.3.2; TIFF 6.0, FillOrder).
+-- Bits, bytes and codes as they are written (T.4, sections 4.1.1 and 4.2.1.3.2; TIFF 6.0,
+-- FillOrder).
 use Rattle.std.specs.Prelude.{ℕ, ◌+◌, ◌*◌, ◌/◌, ◌%◌, ◌==◌, Bool, true, false, if◌then◌else◌, List}
 use Rattle.std.specs.Prelude.{[], ◌∷◌, ◌++◌, length, map, fold, flat_map, replicate, reverse}
 use Rattle.std.specs.Ordering.{int_eq}

@@ -14,8 +14,8 @@ use Rattle.fax_files.specs.declared.FileFault.{FileFault}
 use Rattle.fax_files.specs.declared.FileFault.TheVariants.{BadField, Unsupported, OutOfLimits}
 use Rattle.fax_files.specs.declared.PageForm.{PageForm}
 use Rattle.fax_files.specs.declared.tags.TheConstants as Tags
-use Rattle.fax_files.specs.Directory.{Entry, RATIONAL, check, entries, field, has_integers, is_inside}
-use Rattle.fax_files.specs.Directory.{needed, needed_scalar, number_at, scalar_or, value_at}
+use Rattle.fax_files.specs.Directory.{Entry, RATIONAL, check, entries, field, has_integers}
+use Rattle.fax_files.specs.Directory.{is_inside, needed, needed_scalar, number_at, scalar_or, value_at}
 use Rattle.fax_files.specs.Directory.{values_place, ◌>>=◌}
 
 -- the number lies between these two
@@ -149,8 +149,8 @@ resolution endian file fields =
     (rational_of endian file fields Tags.Y_RESOLUTION)
     (scalar_or endian file fields Tags.RESOLUTION_UNIT 2)
 
--- the form of the page whose directory stands whole at offset q, or the first fault of its fields in
--- this order
+-- the form of the page whose directory stands whole at offset q, or the first fault of its fields,
+-- in this order
 unfoldable pub page : Endian → List ℕ → ℕ → Result PageForm FileFault
 page endian file q = do
   let fields = entries endian file q

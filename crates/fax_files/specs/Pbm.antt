@@ -52,7 +52,8 @@ spelled_number digits = fold (λ number digit. 10 * number + (digit - 48)) 0 dig
 
 -- a number: one or more digits, with leading zeros or without (the netpbm format, P4)
 abbrev pub SpellsNumber : List ℕ → ℕ → Type 0
-SpellsNumber digits n = (digits ≢ []) × IsTrue (list_all is_digit digits) × (n ≡ spelled_number digits)
+SpellsNumber digits n =
+    (digits ≢ []) × IsTrue (list_all is_digit digits) × (n ≡ spelled_number digits)
 
 -- the bytes begin with an image's header: `P4`, a gap, the width, a gap, the height and one byte of
 -- white space (the netpbm format, P4)

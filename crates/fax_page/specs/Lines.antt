@@ -38,8 +38,8 @@ BeginsBelowEleven b =
     (zeros : ℕ) × (zeros < 11)
     × ((behind : List Bool) × (b ≡ replicate zeros false ++ true ∷ behind))
 
--- what stands before the first code of row i of a strip: in MH an EOL, which the first row may lack,
--- in MR an EOL and a tag bit, nothing in MMR (T.4, sections 4.1.2, 4.2.2; T.6, section 2.2.1)
+-- what stands before the first code of row i of a strip: in MH an EOL, which row 0 may lack, in MR
+-- an EOL and a tag bit, nothing in MMR (T.4, sections 4.1.2 and 4.2.2; T.6, section 2.2.1)
 abbrev pub IsStart : Coding → ℕ → List Bool → Dimension → List Bool → Type 0
 IsStart Mh i b dimension rest =
     (dimension ≡ OneDimensional)
@@ -89,7 +89,7 @@ abbrev pub IsRowFaultIn : Dimension → ℕ → List Colour → List Bool → Ro
 IsRowFaultIn OneDimensional width reference b fault = IsOneDimensionalFault width b fault
 IsRowFaultIn TwoDimensional width reference b fault = IsTwoDimensionalFault reference b fault
 
--- the first code of row i of a strip is not there: eleven zeros stand there, or fewer and no more
+-- the first code of row i of a strip is not there: eleven zeros are, or the bits end after fewer
 pub record IsNoFirstCode (form : StripForm) (i : ℕ) (b : List Bool)
     (fault : StripFault) : Type 0 where
   pub dimension : Dimension

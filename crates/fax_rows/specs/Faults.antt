@@ -62,7 +62,8 @@ pub record IsOneDimensionalFault (width : ℕ) (b : List Bool) (fault : RowFault
 -- or after a first run within the row in the second
 abbrev pub IsModeFault : ModeCode → List Colour → Position → List Bool → RowFault → Type 0
 IsModeFault mode.Pass reference at b fault = ⊥
-IsModeFault (mode.Vertical d) reference at b fault = (IsInRow reference at d → ⊥) × (fault ≡ OutOfRow)
+IsModeFault (mode.Vertical d) reference at b fault =
+    (IsInRow reference at d → ⊥) × (fault ≡ OutOfRow)
 IsModeFault mode.Horizontal reference at b fault =
     IsRunFault at.colour (length reference) (first_pel at) b fault
     ⊎ ((first : ℕ) × (middle : List Bool) × IsRun at.colour b first middle

@@ -148,7 +148,7 @@ first_text long begun lines = record {
 }
 
 -- what is written of lines and their end: with a limit, and at least so many lines, the first ones
--- up to it and where to go on; else all of them and their end
+-- up to it and where to go on, also if these are all; else all of them and their end
 abbrev pub text_of : Bool → Option ℕ → Begun → List Line → End → Printed
 text_of long None begun lines end = whole_text long begun lines end
 text_of long (Some limit) begun lines end =

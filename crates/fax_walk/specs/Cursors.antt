@@ -18,7 +18,7 @@ pub record IsCursor (at : Cursor) : Type 0 where
   pub row : at.row < 2 ^ 32
 
 -- a place inside a strip: a cursor, the bits of the strip before its row, and the runs of the row's
--- reference
+-- reference, as coded
 pub record LongPlace : Type 0 where
   pub at : Cursor
   pub bits : ℕ

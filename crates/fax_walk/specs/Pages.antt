@@ -13,7 +13,7 @@ use Rattle.fax_walk.specs.declared.end.End.{End}
 use Rattle.fax_walk.specs.declared.end.End.TheVariants.{Proper, Fault, Outside}
 
 -- from a place on these items are handed out, and then this end, where each place has an item and
--- the place after it, or the end
+-- the place after it, or the end (`Err`, also of a proper one)
 abbrev pub AreFrom : {S A : Type 0} → (S → Result (A × S) End → Type 0) → S → List A → End → Type 0
 AreFrom next at [] end = next at (Err end)
 AreFrom {S} next at (item ∷ items) end =
@@ -43,7 +43,7 @@ abbrev pub page_or_end : Endian → ℕ → ℕ → Result PageForm FileFault �
 page_or_end endian q p (Err refused) = Err (Fault p 0 (File refused))
 page_or_end endian q p (Ok form) = Ok (record { endian = endian; offset = q; form = form })
 
--- the page that a cursor names in a file with these directories, of which it names this, if any
+-- the page at offset q, where the cursor names one of these directories, else how the chain ends
 abbrev pub page_over : Endian → List ℕ → List ℕ → Option FileFault → Cursor → Option ℕ
     → Result FilePage End
 page_over endian file offsets fault at None = Err (end_past_chain (length offsets) fault at)

@@ -111,7 +111,7 @@ first_row at form =
     if nat_lt at.row form.rows then Ok (strip, row_in_strip form at.row)
     else (if at.row == form.rows then Ok (first_at (at.page + 1) 0, 0) else Err Outside)
 
--- a place inside a strip has the runs of a row of the width, and its bits are there in the strip
+-- a place inside a strip has the longest runs of a row of the width, as coded, and its bits
 pub record IsInner (width : ℕ) (bytes : List ℕ) (place : LongPlace) : Type 0 where
   pub within : place.bits ≤ 8 * length bytes
   pub width_is : length (pels_of White place.runs) ≡ width

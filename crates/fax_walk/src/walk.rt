@@ -136,9 +136,9 @@ impl<'a> Walk<'a> {
         Walk::resume(alloc, file, Cursor { page: 0, row: 0 })
     }
 
-    /// A walk over the rows of a file from what it begins with on. Nothing is read yet. Then the page
-    /// that it names is read: after a cursor from the strip on that holds its row, after a long
-    /// cursor from its place inside the strip on, and no row before that.
+    /// A walk over the rows of a file from what it begins with on. Nothing is read yet. Then the
+    /// page that it names is read: after a cursor from the strip on that holds its row, after a
+    /// long cursor from its place inside the strip on, and no row before that.
     pub fn begin(alloc: Global, file: &'a [u8], begun: Begun) -> Self
         ensures { result ≡ walk_from file.now begun }
     {

@@ -91,7 +91,8 @@ HoldStripRows form s (strip ∷ strips) (rows ∷ lists) =
 abbrev pub WrittenRowsAreRead : Type 0
 WrittenRowsAreRead =
     (file : List ℕ) (q : ℕ) (written : WrittenPage) (lists : List (List (List Colour)))
-    → IsWritable written → IsReadAt file q written → HoldStripRows written.form 0 written.strips lists
+    → IsWritable written → IsReadAt file q written
+    → HoldStripRows written.form 0 written.strips lists
     → ArePageRows Little file q written.form (joined lists) None
 
 -- a file whose last link, the four bytes at `link`, is still 0
@@ -148,8 +149,8 @@ pub record HasOneChain (head : Header) (file : List ℕ) : Type 0 where
 abbrev pub FilesHaveOneChain : Type 0
 FilesHaveOneChain = (head : Header) (file : List ℕ) → HasOneChain head file
 
--- the size of a page is within the limits, and its rows lie in its strips, each of which holds some,
--- and each but the last as many as the others (TIFF 6.0, RowsPerStrip)
+-- the size of a page is within the limits, and its rows lie in its strips, each of which holds
+-- some, and each but the last as many as the others (TIFF 6.0, RowsPerStrip)
 pub record IsWholeForm (form : PageForm) : Type 0 where
   pub width : form.width ≤ 65535
   pub some_rows : 1 ≤ form.rows

@@ -24,8 +24,8 @@ is_cut (Some limit) lines = nat_le limit (length lines)
 -- a run of `rows` over a file from what it begins with, with long cursors or without, and with a
 -- limit or with none: what it writes, the lines of rows at the beginning of that, and whether the
 -- limit cut it
-pub record IsRunOfRows (file : List ℕ) (long : Bool) (begun : Begun) (max : Option ℕ) (text : Printed)
-    (rows : List ℕ) (cut : Bool) : Type 0 where
+pub record IsRunOfRows (file : List ℕ) (long : Bool) (begun : Begun) (max : Option ℕ)
+    (text : Printed) (rows : List ℕ) (cut : Bool) : Type 0 where
   pub lines : List Line
   pub end : End
   pub are : AreRowLines file begun lines end
