@@ -1,6 +1,6 @@
 //! Walks over a small file in standard input, and calls the walk again wherever it answers that
-//! memory was refused. It prints each row's place and changing elements, and takes no memory itself:
-//! so the tests can refuse each growth of the walk, and compare what is printed.
+//! memory was refused. It prints each row's place and changing elements, and takes no memory
+//! itself: so the tests can refuse each growth of the walk, and compare what is printed.
 #![tactic(auto)]
 
 use fax_rows::Row;

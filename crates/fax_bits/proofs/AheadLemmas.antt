@@ -110,7 +110,8 @@ module _ (order : FillOrder) (bytes : List ℕ) (old window : Window) (source : 
     pub number-below : number < 8192
     number-below = peeked-below source.left 13 (omega (arith, many, loaded-left)) number spelled_is
 
-    module _ {M : Type 0} (table : List (CodeEntry M)) (len : ℕ) (meaning : M) (found : HasCodeAhead table (code_bits 13 number) len meaning)
+    module _ {M : Type 0} (table : List (CodeEntry M)) (len : ℕ) (meaning : M)
+        (found : HasCodeAhead table (code_bits 13 number) len meaning)
         (behind : Window) (count : behind.count + len ≡ window.count) (at : behind.at ≡ window.at) where
       short : len ≤ 13
       short = omega (arith, found_is_short table (code_bits 13 number) len meaning found, length-code_bits 13 number)

@@ -35,7 +35,8 @@ record IsSize (size : ℕ × ℕ) : Type 0 where
   some_rows : 1 ≤ size.1
   rows : size.1 ≤ 1000000
 
-within_limits : (endian : Endian) (file : List ℕ) (fields : List Entry) (size : ℕ × ℕ) → page_size endian file fields ≡ Ok size → IsSize size
+within_limits : (endian : Endian) (file : List ℕ) (fields : List Entry) (size : ℕ × ℕ)
+    → page_size endian file fields ≡ Ok size → IsSize size
 unfolding page_size
 within_limits endian file fields size e =
     let with_rows : ℕ → ℕ → Result (ℕ × ℕ) FileFault =

@@ -15,7 +15,8 @@ use Rattle.fax_files.specs.declared.FileFault.TheVariants.{BadField, Unsupported
 use Rattle.fax_files.specs.declared.PageForm.{PageForm}
 use Rattle.fax_files.specs.declared.tags.TheConstants as Tags
 use Rattle.fax_files.specs.Directory.{Entry, RATIONAL, check, entries, field, has_integers}
-use Rattle.fax_files.specs.Directory.{is_inside, needed, needed_scalar, number_at, scalar_or, value_at}
+use Rattle.fax_files.specs.Directory.{is_inside, needed, needed_scalar, number_at, scalar_or}
+use Rattle.fax_files.specs.Directory.{value_at}
 use Rattle.fax_files.specs.Directory.{values_place, ◌>>=◌}
 
 -- the number lies between these two

@@ -60,8 +60,8 @@ fn change_right_of(row: &[bool], from: Option<usize>) -> usize {
     row.len()
 }
 
-/// Appends the codes of a run: the longest make-up code as often as it fits, at most one other, and a
-/// terminating code.
+/// Appends the codes of a run: the longest make-up code as often as it fits, at most one other, and
+/// a terminating code.
 fn put_run(bits: &mut Vec<bool>, run: usize, black: bool) -> Result<(), AllocError> {
     for _ in 0..run / MOST_IN_A_CODE {
         put_code(bits, black, LAST_TERMINATING.saturating_add(40))?;

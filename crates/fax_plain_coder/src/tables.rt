@@ -1,5 +1,5 @@
-//! The codes of T.4 as text: runs (tables 2, 3a and 3b), one entry for each length in ascending order, and
-//! modes (table 4).
+//! The codes of T.4 as text: runs (tables 2, 3a and 3b), one entry for each length in ascending
+//! order, and modes (table 4).
 /// How many codes each table has.
 pub const CODES: usize = 105;
 
@@ -18,7 +18,8 @@ pub const PASS: usize = 0;
 /// The entry of horizontal mode.
 pub const HORIZONTAL: usize = 1;
 
-/// The entry of vertical mode with a1 at b1: entry 5 + d has a1 so far to the right, entry 5 - d to the left.
+/// The entry of vertical mode with a1 at b1: entry 5 + d has a1 so far to the right, entry 5 - d to
+/// the left.
 pub const VERTICAL_0: usize = 5;
 
 /// The codes of modes.

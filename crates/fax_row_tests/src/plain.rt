@@ -1,4 +1,5 @@
-//! Rows that are written, compared with a plain coder: every row of few pels over every reference row.
+//! Rows that are written, compared with a plain coder: every row of few pels over every reference
+//! row.
 use fax_bits::FillOrder;
 use fax_plain_coder::{pack, write_runs, write_steps};
 use fax_rows::{BitSink, BitSource, Row, put_1d, put_2d, read_1d, read_2d};
@@ -110,7 +111,8 @@ fn compare_steps(
     Ok(())
 }
 
-/// Compares every row of a width over every reference row of that width. Answers how many pairs there are.
+/// Compares every row of a width over every reference row of that width. Answers how many pairs
+/// there are.
 fn compare_width(rt: &impl Abort, alloc: Global, width: u32) -> Result<u32, Fail> {
     assert!(rt; width > 0 && width < 17);
     let samples = samples_of(rt, alloc, width)?;

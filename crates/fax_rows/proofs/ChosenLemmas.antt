@@ -1,6 +1,7 @@
 -- A step that is read as T.4 would have chosen it.
 use Rattle.std.proofs.Common.{◌≡◌, ℕ, zero, suc, ◌+◌, ◌-◌, ◌<◌, ◌≤◌, ℤ, negsuc, ◌-ℤ◌, List, ◌++◌, length, take, replicate, get_or}
-use Rattle.std.proofs.Common.{Bool, true, false, pos, refl, ap, sym, ◌∙◌, subst, arith, inl, inr, take-take, take_at, append_assoc, append-nil}
+use Rattle.std.proofs.Common.{Bool, true, false, pos, refl, ap, sym, ◌∙◌, subst, arith, inl, inr, take-take, take_at, append_assoc}
+use Rattle.std.proofs.Common.{append-nil}
 use Rattle.std.specs.Prelude.{◌⊎◌, not, Option, Some, None, unwrap_or, ◌<ℤ◌, nat_abs, nat_lt, nat_le}
 use Rattle.std.proofs.lemmas.Bool.{cases_lt, ltb-true, lt-ltb, true≢false}
 use Rattle.std.proofs.lemmas.Bool.Decides.{nat_tests}
@@ -152,7 +153,8 @@ module _ (reference row : List Colour) (same : length row ≡ length reference) 
       let goes_on = subst (GoesOnFrom row) step.new_is goes in
       let a1 = step.a1 in
       let a1_left : a1 ≤ b2_from reference old = rw step.new_is at left in
-      let right : is_right_of old.a0 a1 ≡ true = right_of_number old.a0 old.colour old.pels a1 (omega (arith, ints, step.a1_is, step.in_row.right_of_a0)) in
+      let right : is_right_of old.a0 a1 ≡ true =
+      right_of_number old.a0 old.colour old.pels a1 (omega (arith, ints, step.a1_is, step.in_row.right_of_a0)) in
       let order : first_pel old ≤ a1 = right_behind_first old.a0 a1 right in
       let within : a1 ≤ length row = omega (arith, ints, step.a1_is, step.in_row.within, same) in
       let each : (k : ℕ) → first_pel old ≤ k → k < a1 → pel row k ≡ old.colour = λ k h l.
@@ -194,7 +196,8 @@ module _ (reference row : List Colour) (same : length row ≡ length reference) 
       (bits ∙ ap (λ c. c ++ rest) (sym (append-nil (mode_bits Pass))))
 
   -- the pels of two runs
-  run_first : (first second k : ℕ) → k < first → get_or (replicate first old.colour ++ replicate second (other old.colour)) k White ≡ old.colour
+  run_first : (first second k : ℕ) → k < first
+      → get_or (replicate first old.colour ++ replicate second (other old.colour)) k White ≡ old.colour
   run_first first second k h =
       get_or-append (replicate first old.colour) (replicate second (other old.colour)) White k
       (omega (arith, length-replicate first old.colour))

@@ -2,7 +2,8 @@
 -- (T.4, sections 4.1.1 and 4.2.1.3; T.6, section 2.2). The sections below are those of T.4.
 use Rattle.std.specs.Prelude.{◌≡◌, ◌≢◌, ℕ, zero, suc, ◌+◌, ◌-◌, ◌<◌, ◌≤◌, nat_lt, ℤ, pos, negsuc}
 use Rattle.std.specs.Prelude.{◌+ℤ◌, ◌<ℤ◌, ◌≤ℤ◌, Bool, true, false, not, ◌&&◌, if◌then◌else◌, List}
-use Rattle.std.specs.Prelude.{[], ◌∷◌, ◌++◌, length, replicate, sum, take, slice_index_or, Option, Some}
+use Rattle.std.specs.Prelude.{[], ◌∷◌, ◌++◌, length, replicate, sum, take, slice_index_or, Option}
+use Rattle.std.specs.Prelude.{Some}
 use Rattle.std.specs.Prelude.{None, unwrap_or}
 use Rattle.fax_bits.specs.declared.Colour.{Colour}
 use Rattle.fax_bits.specs.declared.Colour.TheVariants.{White, Black}

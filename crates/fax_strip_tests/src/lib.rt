@@ -1,5 +1,5 @@
-//! The tests of `fax_page`: strips from outside, a comparison with a plain writing of strips, and a page
-//! of real size.
+//! The tests of `fax_page`: strips from outside, a comparison with a plain writing of strips, and a
+//! page of real size.
 #![tactic(auto)]
 
 #[cfg(test)]

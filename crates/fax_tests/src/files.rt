@@ -5,8 +5,8 @@ ghost use Rattle.std.specs.Prelude.{◌+◌, ◌≤◌};
 use fax_files::*;
 use std::process::Abort;
 
-/// A file of one page, 8 pels by 1 row, as the standards lay it out: header, a strip of three bytes, a zero byte, a
-/// directory of sixteen entries, and two resolutions.
+/// A file of one page, 8 pels by 1 row, as the standards lay it out: header, a strip of three
+/// bytes, a zero byte, a directory of sixteen entries, and two resolutions.
 pub(crate) const ONE_PAGE: [u8; 226] = [
     0x49, 0x49, 0x2A, 0x00, 0x0C, 0x00, 0x00, 0x00, // II, 42, the first directory at 12
     0x00, 0x18, 0xE0, 0x00, // the strip
@@ -336,8 +336,8 @@ fn names_the_fault_of_a_cut_file(rt: HostRuntime) {
     }
 }
 
-/// A change of the file of one page that is read: where it begins, its bytes, and the width, the rows and the bytes of
-/// the strip that come of it.
+/// A change of the file of one page that is read: where it begins, its bytes, and the width, the
+/// rows and the bytes of the strip that come of it.
 #[derive(Drop)]
 struct Read(usize, &'static [u8], u32, u32, usize);
 

@@ -26,7 +26,8 @@ use Rattle.fax_walk.specs.views.Walk.{WalkView, HasEndedAs, IsNext, IsCursorOf, 
 use Rattle.fax_walk.specs.views.Pages.{PagesView, HandsOutPage, IsCursorOf as IsPageCursor, IsNextPage, PagesHaveEnded}
 use Rattle.fax_walk.specs.laws.Tails.{BeginningsHaveOneTail, CursorsHaveOneFormTail, CursorsNameOnePage}
 use Rattle.fax_walk.specs.Pages.{FilePage, FormItem, IsFormTail, IsPageAt}
-use Rattle.fax_walk.specs.Rows.{Item, Place, IsInStrip, IsRow, IsTailFrom, begins_at, cursor_after, exchanged, first_at, long_after, long_at}
+use Rattle.fax_walk.specs.Rows.{Item, Place, IsInStrip, IsRow, IsTailFrom, begins_at, cursor_after, exchanged, first_at, long_after}
+use Rattle.fax_walk.specs.Rows.{long_at}
 use Rattle.fax_walk.specs.Rows.{row_in_strip, strip_at}
 use Rattle.fax_tool.specs.Run.{AreRowLines, ArePageLines, IsRowLine}
 use Rattle.fax_tool.specs.Text.{Line, begun_at, line_of_page, line_of_row, next_after, page_line_of, row_line, row_line_of}
@@ -133,7 +134,8 @@ module _ (file : List ℕ) where
   row_lines begun items end tail =
       let lines = have_lines begun items end tail in (lines.0, record { items = items; tail = tail; lines_are = lines.1 })
 
-  pub one_line : CursorsNameOnePage → (item : Item) (line other : Line) → IsRowLine file item line → IsRowLine file item other → line ≡ other
+  pub one_line : CursorsNameOnePage → (item : Item) (line other : Line) → IsRowLine file item line → IsRowLine file item other
+      → line ≡ other
   one_line pages item line other (here, page, is) (there, page_too, is_too) =
       let same = pages file (record { page = item.page; row = item.row }) here there page page_too in
       is ∙ ap (λ (h : FilePage). line_of_row h.form item) same ∙ sym is_too

@@ -20,7 +20,8 @@ use Rattle.fax_walk.specs.Rows.{Item, IsTailFrom, cursor_after, long_after}
 use Rattle.fax_tool.specs.Run.{AreRowLines, IsRowLine}
 use Rattle.fax_tool.specs.Text.{Line, Printed, begun_at, begun_text, first_text, last_line, line_end, named, next_after, next_line, text_of}
 use Rattle.fax_tool.specs.Text.{texts_of, whole_text}
-use Rattle.fax_tool.specs.laws.Runs.{AreAsOneRun, AreRunsOfRows, CutRunsAreReadOn, IsBegun, IsReadAfter, IsRunOfRows, MayBegin, RunsGoOn, is_cut, up_to}
+use Rattle.fax_tool.specs.laws.Runs.{AreAsOneRun, AreRunsOfRows, CutRunsAreReadOn, IsBegun, IsReadAfter, IsRunOfRows, MayBegin, RunsGoOn}
+use Rattle.fax_tool.specs.laws.Runs.{is_cut, up_to}
 use Rattle.fax_tool.proofs.LineLemmas.{begins_after, one_rows}
 
 texts_of-append : (xs ys : List Line) → texts_of (xs ++ ys) ≡ texts_of xs ++ texts_of ys

@@ -40,14 +40,13 @@ name_of (letter x) = x ∷ []
 name_of (flag name) = name
 name_of file = codes "FILE"
 
+-- what may stand after `list`, and after `rows` with a flag more
+abbrev pub part : List Item
+part = text (codes "cursor") ∷ number (codes "max") 4294967295 ∷ file ∷ []
+
 -- each command's name, and what may stand after it, in any order; 111 is `o`
 abbrev pub commands : List (Text × List Item)
-commands = (codes "list", text (codes "cursor") ∷ number (codes "max") 4294967295 ∷ file ∷ [])
-    ∷ (
-      codes "rows",
-      text (codes "cursor") ∷ number (codes "max") 4294967295 ∷ file
-          ∷ flag (codes "long") ∷ [],
-    )
+commands = (codes "list", part) ∷ (codes "rows", part ++ flag (codes "long") ∷ [])
     ∷ (
       codes "convert",
       letter 111 ∷ number (codes "order") 2 ∷ number (codes "k") 1000000

@@ -9,7 +9,8 @@ abbrev pub usage_text : List ℕ
 usage_text =
     codes "usage: faxpages list [--cursor C] [--max N] [FILE]\n"
     ++ codes "       faxpages rows [--cursor C] [--max N] [--long] [FILE]\n"
-    ++ codes "       faxpages convert -o pbm|mh|mr|mmr [--order 1|2] [--k K] [--strip ROWS] [--align] [FILE]\n"
+    ++ codes "       faxpages convert -o pbm|mh|mr|mmr [--order 1|2] [--k K] [--strip ROWS]"
+    ++ codes " [--align] [FILE]\n"
     ++ codes "       faxpages check [FILE]\n"
 
 -- the text for the error stream

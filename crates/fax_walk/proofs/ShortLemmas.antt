@@ -37,7 +37,8 @@ module _ (chains : FilesHaveOneChain) (file : List ℕ) where
       under (Ok head) (offsets, fault, chain, e) = over head offsets fault (slice_get offsets at.page) refl chain e
 
 -- the longest runs of pels are no longer than all of them
-runs_short : (colour : Colour) (n most : ℕ) (pels : List Colour) → n + length pels < most → All (λ run. run < most) (runs_behind colour n pels)
+runs_short : (colour : Colour) (n most : ℕ) (pels : List Colour) → n + length pels < most
+    → All (λ run. run < most) (runs_behind colour n pels)
 unfolding runs_behind
 runs_short colour n most [] within = All-cons (λ run. run < most) n [] (omega arith) (All-nil (λ run. run < most))
 runs_short colour n most (first ∷ pels) within =

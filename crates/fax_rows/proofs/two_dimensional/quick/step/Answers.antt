@@ -15,7 +15,8 @@ returns-in-Vertical-eq0-clause-chosen c is =
 pub returns-in_ok-next-in-Vertical-clause-chosen : goal.returns-in_ok-next-in-Vertical-clause-chosen
 returns-in_ok-next-in-Vertical-clause-chosen c is =
     let takes = rw c.in-Vertical.is at c.in_ok-after.ensures.takes in
-    vertical_chosen_as c.args.reference c.args.places.now c.args.at c.requires.so_far c.requires.unfinished c.args.ahead.left c.in-Vertical.d _ _
+    vertical_chosen_as c.args.reference c.args.places.now c.args.at c.requires.so_far c.requires.unfinished c.args.ahead.left
+    c.in-Vertical.d _ _
     c.in_ok-after.after.left takes c.in_ok-next-in-Vertical.ensures.step (c.chooses_a1.ensures is) (search rules)
 
 pub returns-in-Pass-clause-chosen : goal.returns-in-Pass-clause-chosen

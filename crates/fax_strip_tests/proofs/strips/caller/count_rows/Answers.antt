@@ -24,7 +24,8 @@ returns-in-Ok-false c =
     let at_end : IsAtEnd c.loop-count.reader c.advance.new.self = rw c.in-Ok-false.field-0-test at c.in-Ok-false.ensures in (
       so_far.3,
       so_far.4,
-      c.strips_are_read_row_by_row.ensures.ends c.args.form c.args.bytes.now so_far.3 c.loop-count.reader c.advance.new.self so_far.5 at_end,
+      c.strips_are_read_row_by_row.ensures.ends c.args.form c.args.bytes.now so_far.3 c.loop-count.reader c.advance.new.self
+          so_far.5 at_end,
     )
 
 pub returns-in-Err : goal.returns-in-Err

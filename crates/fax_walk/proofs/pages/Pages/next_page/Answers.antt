@@ -12,7 +12,13 @@ invariant_of-self c =
     let hands = page_given laws.one laws.first _ _ due c.page.invariant short in
     record {
       come = given_more c.self.inside.file.now c.self.inside.begun c.self.inside.given _ due.come due.file_is c.page.invariant.its;
-      cursor_is = inr (c.self.inside.given, record { page = c.page.inside.page; form = c.page.inside.form }, refl, hands.number, rw after refl);
+      cursor_is = inr (
+        c.self.inside.given,
+        record { page = c.page.inside.page; form = c.page.inside.form },
+        refl,
+        hands.number,
+        rw after refl,
+      );
     }
 
 pub returns-in-Ok : goal.returns-in-Ok
