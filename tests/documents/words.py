@@ -10,7 +10,9 @@ OPTION = re.compile(r'(text|number|letter|flag) (?:\(codes "(\w+)"\)|(\d+))')
 
 def in_grammar():
     """What specs/Grammar.antt lists."""
-    text = read("crates", "fax_tool", "specs", "Grammar.antt").split("\ncommands = ")[1].split("\n\n")[0]
+    grammar = read("crates", "fax_tool", "specs", "Grammar.antt")
+    part, text = (grammar.split(f"\n{name} = ")[1].split("\n\n")[0] for name in ("part", "commands"))
+    text = re.sub(r"\bpart\b", lambda _: part, text)
     found = {}
     for command in re.split(r"\(\s*(?=codes \"\w+\",)", text)[1:]:
         name = re.match(r'codes "(\w+)"', command).group(1)
