@@ -157,6 +157,9 @@ def reached(roots, all_modules):
         if at in seen or at[0] not in all_modules:
             continue
         if at[1] not in all_modules[at[0]].blocks:
+            again = all_modules[at[0]].uses.get(at[1])
+            if again and again[1]:
+                due.append(again)
             continue
         seen.add(at)
         due.extend(all_modules[at[0]].names_in(at[1]))

@@ -1,10 +1,12 @@
 -- The bits of a strip: a list of truth values, where true is the bit 1.
 -- A definition without a citation is this project's profile.
-use Rattle.std.specs.Prelude.{◌≡◌, ℕ, zero, suc, ◌==◌, Bool, false}
-use Rattle.std.specs.Prelude.{List, [], ◌∷◌, ◌++◌, replicate, reverse, flat_map}
+use Rattle.std.specs.Prelude.{◌≡◌, ℕ, zero, suc, ◌==◌, Bool, false, List, [], ◌∷◌, ◌++◌, replicate}
+use Rattle.std.specs.Prelude.{reverse, flat_map}
 use Rattle.std.specs.Int.{bit_at}
-use Rattle.fax_bits.specs.declared.FillOrder.{FillOrder}
-use Rattle.fax_bits.specs.declared.FillOrder.TheVariants.{MsbFirst, LsbFirst}
+pub use Rattle.fax_bits.specs.declared.Colour.{Colour}
+pub use Rattle.fax_bits.specs.declared.Colour.TheVariants.{White, Black}
+pub use Rattle.fax_bits.specs.declared.FillOrder.{FillOrder}
+pub use Rattle.fax_bits.specs.declared.FillOrder.TheVariants.{MsbFirst, LsbFirst}
 
 -- the lowest `len` bits of a number, the highest of them first (T.4, tables 2 to 4)
 unfoldable pub code_bits : ℕ → ℕ → List Bool

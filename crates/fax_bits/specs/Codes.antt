@@ -1,12 +1,10 @@
 -- What it is that bits begin with a code of a table, with a run, or with none (T.4, section 4.1.1).
 use Rattle.std.specs.Prelude.{◌≡◌, ℕ, ◌+◌, Bool, List, [], ◌∷◌, ◌++◌, map, sum, Contains}
-use Rattle.fax_bits.specs.declared.Colour.{Colour}
-use Rattle.fax_bits.specs.declared.codes.CodeEntry.{CodeEntry}
+use Rattle.fax_bits.specs.Bits.{Colour, BeginsWith, code_bits}
+use Rattle.fax_bits.specs.Tables.{CodeEntry, run_table}
 use Rattle.fax_bits.specs.declared.codes.CodeFault.{CodeFault}
 use Rattle.fax_bits.specs.declared.codes.CodeFault.TheVariants.{DataEnds, BadCode}
 use Rattle.fax_bits.specs.declared.runs.RunCode.TheVariants.{MakeUp, Terminating}
-use Rattle.fax_bits.specs.Bits.{BeginsWith, code_bits}
-use Rattle.fax_bits.specs.Tables.{run_table}
 
 -- the bits of an entry's code
 abbrev pub bits_of : {M : Type 0} → CodeEntry M → List Bool

@@ -1,14 +1,13 @@
 -- The code tables of ITU-T T.4, each code spelled as the standard prints it.
-use Rattle.std.specs.Prelude.{ℕ, ◌+◌, ◌*◌, ◌-◌, ◌==◌, List, [], ◌∷◌, ◌++◌, length, fold, codes}
-use Rattle.std.specs.Prelude.{pos, negsuc}
+use Rattle.std.specs.Prelude.{ℕ, ◌+◌, ◌*◌, ◌-◌, ◌==◌, List, [], ◌∷◌, ◌++◌, length, fold, codes, pos}
+use Rattle.std.specs.Prelude.{negsuc}
 use Rattle.std.specs.List.{slice_split}
-use Rattle.fax_bits.specs.declared.codes.CodeEntry.{CodeEntry}
-use Rattle.fax_bits.specs.declared.Colour.{Colour}
-use Rattle.fax_bits.specs.declared.Colour.TheVariants.{White, Black}
-use Rattle.fax_bits.specs.declared.modes.ModeCode.{ModeCode}
+use Rattle.fax_bits.specs.Bits.{Colour, White, Black}
 use Rattle.fax_bits.specs.declared.modes.ModeCode.TheVariants as mode
-use Rattle.fax_bits.specs.declared.runs.RunCode.{RunCode}
 use Rattle.fax_bits.specs.declared.runs.RunCode.TheVariants.{Terminating, MakeUp, Extension}
+pub use Rattle.fax_bits.specs.declared.codes.CodeEntry.{CodeEntry}
+pub use Rattle.fax_bits.specs.declared.modes.ModeCode.{ModeCode}
+pub use Rattle.fax_bits.specs.declared.runs.RunCode.{RunCode}
 
 -- the number that binary digits spell, the highest first (48 is the digit 0)
 abbrev pub binary : List ℕ → ℕ

@@ -4,15 +4,10 @@ use Rattle.std.specs.Prelude.{ℕ, ◌+◌, ◌*◌, ◌/◌, ◌%◌, ◌==◌,
 use Rattle.std.specs.Prelude.{[], ◌∷◌, ◌++◌, length, map, fold, flat_map, replicate, reverse}
 use Rattle.std.specs.Ordering.{int_eq}
 use Rattle.std.specs.Simd.{first_chunks}
-use Rattle.fax_bits.specs.declared.Colour.{Colour}
-use Rattle.fax_bits.specs.declared.FillOrder.{FillOrder}
-use Rattle.fax_bits.specs.declared.FillOrder.TheVariants.{MsbFirst, LsbFirst}
-use Rattle.fax_bits.specs.declared.codes.CodeEntry.{CodeEntry}
-use Rattle.fax_bits.specs.declared.modes.ModeCode.{ModeCode}
+use Rattle.fax_bits.specs.Bits.{Colour, FillOrder, MsbFirst, LsbFirst}
+use Rattle.fax_bits.specs.Tables.{CodeEntry, ModeCode, RunCode, run_table, modes}
 use Rattle.fax_bits.specs.declared.modes.ModeCode.TheVariants as mode
-use Rattle.fax_bits.specs.declared.runs.RunCode.{RunCode}
 use Rattle.fax_bits.specs.declared.runs.RunCode.TheVariants.{Terminating, MakeUp, Extension}
-use Rattle.fax_bits.specs.Tables.{run_table, modes}
 use Rattle.fax_bits.specs.Codes.{bits_of}
 
 -- the number that bits spell, the highest first

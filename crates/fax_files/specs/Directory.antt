@@ -5,12 +5,12 @@ use Rattle.std.specs.Prelude.{◌||◌, not, if◌then◌else◌, List, [], ◌�
 use Rattle.std.specs.Prelude.{Option, Some, None, Result, Ok, Err, codes, bytes_eq}
 use Rattle.std.specs.List.{list_any}
 use Rattle.byteorder.specs.Endian.{little_number, big_number}
-use Rattle.fax_files.specs.declared.Endian.{Endian}
-use Rattle.fax_files.specs.declared.Endian.TheVariants.{Little, Big}
-use Rattle.fax_files.specs.declared.FileFault.{FileFault}
 use Rattle.fax_files.specs.declared.FileFault.TheVariants.{ShortHeader, ByteOrder, Magic}
 use Rattle.fax_files.specs.declared.FileFault.TheVariants.{NoDirectory, MissingField, BadField}
 use Rattle.fax_files.specs.declared.FileFault.TheVariants.{DirectoryOutside, DirectoryLoop}
+pub use Rattle.fax_files.specs.declared.Endian.{Endian}
+pub use Rattle.fax_files.specs.declared.Endian.TheVariants.{Little, Big}
+pub use Rattle.fax_files.specs.declared.FileFault.{FileFault}
 
 -- the most bytes of a file that is read or written (ours)
 abbrev pub max_file : ℕ

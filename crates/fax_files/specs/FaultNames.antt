@@ -1,12 +1,12 @@
 -- The names of faults, as they are printed.
 -- A definition without a citation is this project's profile.
 use Rattle.std.specs.Prelude.{ℕ, List, codes, Option, Some, None}
-use Rattle.fax_page.specs.declared.StripFault.{StripFault}
 use Rattle.fax_page.specs.declared.StripFault.TheVariants as strip
-use Rattle.fax_files.specs.declared.FileFault.{FileFault}
+use Rattle.fax_files.specs.Directory.{FileFault}
 use Rattle.fax_files.specs.declared.FileFault.TheVariants as file
 use Rattle.fax_files.specs.declared.Cause.{Cause}
 use Rattle.fax_files.specs.declared.Cause.TheVariants.{File, Strip}
+pub use Rattle.fax_page.specs.declared.StripFault.{StripFault}
 
 -- the name of a file's fault
 abbrev pub file_fault_name : FileFault → List ℕ

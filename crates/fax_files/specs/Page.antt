@@ -6,18 +6,15 @@ use Rattle.std.specs.Prelude.{None, Result, Ok}
 use Rattle.std.specs.Int.{div_ceil}
 use Rattle.fax_bits.specs.declared.FillOrder.{FillOrder}
 use Rattle.fax_bits.specs.declared.FillOrder.TheVariants.{MsbFirst, LsbFirst}
-use Rattle.fax_page.specs.declared.Coding.{Coding}
-use Rattle.fax_page.specs.declared.Coding.TheVariants.{Mh, Mr, Mmr}
 use Rattle.fax_page.specs.declared.StripForm.{StripForm}
-use Rattle.fax_files.specs.declared.Endian.{Endian}
-use Rattle.fax_files.specs.declared.FileFault.{FileFault}
+use Rattle.fax_files.specs.Directory.{Endian, FileFault, Entry, RATIONAL, check, entries, field}
+use Rattle.fax_files.specs.Directory.{has_integers, is_inside, needed, needed_scalar, number_at}
+use Rattle.fax_files.specs.Directory.{scalar_or, value_at, values_place, ◌>>=◌}
 use Rattle.fax_files.specs.declared.FileFault.TheVariants.{BadField, Unsupported, OutOfLimits}
-use Rattle.fax_files.specs.declared.PageForm.{PageForm}
 use Rattle.fax_files.specs.declared.tags.TheConstants as Tags
-use Rattle.fax_files.specs.Directory.{Entry, RATIONAL, check, entries, field, has_integers}
-use Rattle.fax_files.specs.Directory.{is_inside, needed, needed_scalar, number_at, scalar_or}
-use Rattle.fax_files.specs.Directory.{value_at}
-use Rattle.fax_files.specs.Directory.{values_place, ◌>>=◌}
+pub use Rattle.fax_page.specs.declared.Coding.{Coding}
+pub use Rattle.fax_page.specs.declared.Coding.TheVariants.{Mh, Mr, Mmr}
+pub use Rattle.fax_files.specs.declared.PageForm.{PageForm}
 
 -- the number lies between these two
 abbrev pub is_between : ℕ → ℕ → ℕ → Bool

@@ -4,7 +4,7 @@ use Rattle.std.specs.Prelude.{◌≡◌, ◌≢◌, ℕ, zero, suc, ◌+◌, ◌
 use Rattle.std.specs.Prelude.{◌&&◌, not, List, [], ◌∷◌, ◌++◌, length, take, drop, fold, codes}
 use Rattle.std.specs.Prelude.{decimal, Option, Some, None, IsTrue, IsFalse}
 use Rattle.std.specs.List.{list_all, flat_map}
-use Rattle.fax_bits.specs.declared.Colour.{Colour}
+use Rattle.fax_rows.specs.Rows.{Colour}
 use Rattle.fax_rows.specs.Packed.{packed_len, packed_row, unpacked_row}
 use Rattle.fax_files.specs.declared.pbm.PbmFault.{PbmFault}
 use Rattle.fax_files.specs.declared.pbm.PbmFault.TheVariants.{BadHeader, OutOfLimits, ShortRaster}

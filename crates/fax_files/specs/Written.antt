@@ -3,12 +3,9 @@
 use Rattle.std.specs.Prelude.{ℕ, ◌+◌, ◌*◌, ◌%◌, Bool, if◌then◌else◌, List, [], ◌∷◌, ◌++◌, length}
 use Rattle.std.specs.Prelude.{take, drop, replicate, flat_map, codes}
 use Rattle.byteorder.specs.Endian.{little_bytes}
-use Rattle.fax_page.specs.declared.Coding.{Coding}
-use Rattle.fax_page.specs.declared.Coding.TheVariants.{Mh, Mr, Mmr}
+use Rattle.fax_files.specs.Page.{Coding, Mh, Mr, Mmr, fill_order_of, PageForm}
 use Rattle.fax_files.specs.Directory.{SHORT, LONG, RATIONAL}
-use Rattle.fax_files.specs.Page.{fill_order_of}
 use Rattle.fax_files.specs.declared.tags.TheConstants as Tags
-use Rattle.fax_files.specs.declared.PageForm.{PageForm}
 
 -- numbers of two and of four bytes, all little-endian
 abbrev pub two : ℕ → List ℕ

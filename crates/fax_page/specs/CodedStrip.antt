@@ -1,16 +1,12 @@
 -- Strips as they are written.
 -- A definition without a citation is this project's profile.
-use Rattle.std.specs.Prelude.{ℕ, ◌+◌, ◌-◌, ◌%◌, Bool, true, false, nat_eq, if◌then◌else◌, List}
-use Rattle.std.specs.Prelude.{[], ◌∷◌, ◌++◌, length, replicate}
-use Rattle.fax_bits.specs.declared.Colour.{Colour}
+use Rattle.std.specs.Prelude.{ℕ, ◌+◌, ◌-◌, ◌%◌, Bool, true, false, nat_eq, if◌then◌else◌, List, []}
+use Rattle.std.specs.Prelude.{◌∷◌, ◌++◌, length, replicate}
+use Rattle.fax_rows.specs.Rows.{Colour}
 use Rattle.fax_bits.specs.Written.{packed}
 use Rattle.fax_rows.specs.Coded.{one_dimensional_bits, two_dimensional_bits}
-use Rattle.fax_page.specs.declared.Dimension.{Dimension}
-use Rattle.fax_page.specs.declared.Dimension.TheVariants.{OneDimensional, TwoDimensional}
-use Rattle.fax_page.specs.declared.Coding.{Coding}
-use Rattle.fax_page.specs.declared.Coding.TheVariants.{Mh, Mr, Mmr}
-use Rattle.fax_page.specs.declared.StripForm.{StripForm}
-use Rattle.fax_page.specs.Lines.{tag_bit, white_row}
+use Rattle.fax_page.specs.Lines.{Dimension, OneDimensional, TwoDimensional, Coding, Mh, Mr, Mmr}
+use Rattle.fax_page.specs.Lines.{StripForm, tag_bit, white_row}
 
 -- EOL: eleven zeros and a 1 (T.4, section 4.1.2)
 abbrev pub end_of_line : List Bool

@@ -3,20 +3,18 @@
 use Rattle.std.specs.Prelude.{◌≡◌, ◌≢◌, ℕ, ◌<◌, ◌≤◌, ◌⊎◌, Bool, true, false, List, [], ◌∷◌, ◌++◌}
 use Rattle.std.specs.Prelude.{replicate}
 use Rattle.fax_bits.specs.Bits.{IsAllZeros}
-use Rattle.fax_bits.specs.declared.Colour.{Colour}
-use Rattle.fax_bits.specs.declared.Colour.TheVariants.{White}
+use Rattle.fax_rows.specs.Rows.{Colour, White, IsOneDimensionalRow, IsTwoDimensionalRow}
 use Rattle.fax_rows.specs.declared.RowFault.{RowFault}
 use Rattle.fax_rows.specs.declared.RowFault.TheVariants as in_row
-use Rattle.fax_rows.specs.Rows.{IsOneDimensionalRow, IsTwoDimensionalRow}
 use Rattle.fax_rows.specs.Faults.{IsOneDimensionalFault, IsTwoDimensionalFault}
-use Rattle.fax_page.specs.declared.Dimension.{Dimension}
-use Rattle.fax_page.specs.declared.Dimension.TheVariants.{OneDimensional, TwoDimensional}
-use Rattle.fax_page.specs.declared.Coding.{Coding}
-use Rattle.fax_page.specs.declared.Coding.TheVariants.{Mh, Mr, Mmr}
-use Rattle.fax_page.specs.declared.StripForm.{StripForm}
-use Rattle.fax_page.specs.declared.StripFault.{StripFault}
 use Rattle.fax_page.specs.declared.StripFault.TheVariants.{DataEnds, BadCode, Extension, RunTooLong}
 use Rattle.fax_page.specs.declared.StripFault.TheVariants.{OutOfRow, MissingEol, EndMarker}
+pub use Rattle.fax_page.specs.declared.Dimension.{Dimension}
+pub use Rattle.fax_page.specs.declared.Dimension.TheVariants.{OneDimensional, TwoDimensional}
+pub use Rattle.fax_page.specs.declared.Coding.{Coding}
+pub use Rattle.fax_page.specs.declared.Coding.TheVariants.{Mh, Mr, Mmr}
+pub use Rattle.fax_page.specs.declared.StripForm.{StripForm}
+pub use Rattle.fax_page.specs.declared.StripFault.{StripFault}
 
 -- a strip's first reference is all white (T.6, section 2.2.1; in MR this project's profile, since
 -- T.4 begins a page with a one-dimensional row)

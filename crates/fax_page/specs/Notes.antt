@@ -3,14 +3,10 @@
 use Rattle.std.specs.Prelude.{◌≡◌, ◌≢◌, ℕ, zero, suc, ◌+◌, ◌⊎◌, ◌↔◌, true, List, [], ◌∷◌, ◌++◌}
 use Rattle.std.specs.Prelude.{Bool, None, IsTrue}
 use Rattle.std.specs.List.{Contains}
-use Rattle.fax_bits.specs.declared.Colour.{Colour}
-use Rattle.fax_page.specs.declared.Coding.{Coding}
-use Rattle.fax_page.specs.declared.Coding.TheVariants.{Mh, Mr, Mmr}
-use Rattle.fax_page.specs.declared.Dimension.{Dimension}
-use Rattle.fax_page.specs.declared.Dimension.TheVariants.{OneDimensional}
-use Rattle.fax_page.specs.declared.StripForm.{StripForm}
+use Rattle.fax_rows.specs.Rows.{Colour}
+use Rattle.fax_page.specs.Lines.{Coding, Mh, Mr, Mmr, Dimension, OneDimensional, StripForm, tag_bit}
+use Rattle.fax_page.specs.Lines.{IsEndOfLine, IsLine, white_row}
 use Rattle.fax_page.specs.declared.notes.StripNotes.{StripNotes}
-use Rattle.fax_page.specs.Lines.{tag_bit, IsEndOfLine, IsLine, white_row}
 use Rattle.fax_page.specs.Strip.{AreLines}
 use Rattle.fax_page.specs.CodedStrip.{end_of_block, row_bits}
 

@@ -1,10 +1,8 @@
 -- The rows of a strip.
 -- A definition without a citation is this project's profile.
 use Rattle.std.specs.Prelude.{◌≡◌, ℕ, ◌+◌, ◌<◌, Bool, List, [], ◌∷◌, Option, Some, None}
-use Rattle.fax_bits.specs.declared.Colour.{Colour}
-use Rattle.fax_page.specs.declared.StripForm.{StripForm}
-use Rattle.fax_page.specs.declared.StripFault.{StripFault}
-use Rattle.fax_page.specs.Lines.{IsLine, IsCause, white_row}
+use Rattle.fax_rows.specs.Rows.{Colour}
+use Rattle.fax_page.specs.Lines.{StripForm, StripFault, IsLine, IsCause, white_row}
 
 -- a strip ends before row i: it has all its rows, or the cause is in the way of that row
 abbrev pub EndsAt : StripForm → ℕ → List Colour → List Bool → Option StripFault → Type 0

@@ -3,12 +3,9 @@
 use Rattle.std.specs.Prelude.{ℕ, zero, suc, ◌+◌, ◌-◌, pos, ◌-ℤ◌, nat_abs, Bool, nat_lt, nat_le}
 use Rattle.std.specs.Prelude.{nat_eq, if◌then◌else◌, List, [], ◌∷◌, ◌++◌, length, Option, Some}
 use Rattle.std.specs.Prelude.{None, unwrap_or}
-use Rattle.fax_bits.specs.declared.Colour.{Colour}
-use Rattle.fax_bits.specs.declared.Colour.TheVariants.{White}
-use Rattle.fax_bits.specs.declared.modes.ModeCode.{ModeCode}
+use Rattle.fax_rows.specs.Rows.{Colour, White, ModeCode, other, pel, next_change, b1, b2, runs_of}
 use Rattle.fax_bits.specs.declared.modes.ModeCode.TheVariants.{Pass, Horizontal, Vertical}
 use Rattle.fax_bits.specs.Written.{run_bits, mode_bits}
-use Rattle.fax_rows.specs.Rows.{other, pel, next_change, b1, b2, runs_of}
 
 -- the bits of runs of alternating colours (T.4, section 4.1.1)
 unfoldable pub alternating_bits : Colour → List ℕ → List Bool

@@ -1,12 +1,11 @@
 -- Where the codes of a row stop, and why.
 -- A definition without a citation is this project's profile.
 use Rattle.std.specs.Prelude.{◌≡◌, ℕ, ◌+◌, ◌<◌, ◌≤◌, ◌⊎◌, Bool, List, [], ◌∷◌, map, sum, length}
-use Rattle.fax_bits.specs.declared.Colour.{Colour}
-use Rattle.fax_bits.specs.declared.Colour.TheVariants.{White}
+use Rattle.fax_rows.specs.Rows.{Colour, White, ModeCode, AreRuns, AreSteps, IsInRow, IsUnfinished}
+use Rattle.fax_rows.specs.Rows.{Position, beginning, first_pel, other}
 use Rattle.fax_bits.specs.declared.codes.CodeEntry.{CodeEntry}
 use Rattle.fax_bits.specs.declared.codes.CodeFault.{CodeFault}
 use Rattle.fax_bits.specs.declared.codes.CodeFault.TheVariants as code_fault
-use Rattle.fax_bits.specs.declared.modes.ModeCode.{ModeCode}
 use Rattle.fax_bits.specs.declared.modes.ModeCode.TheVariants as mode
 use Rattle.fax_bits.specs.declared.runs.RunCode.{RunCode}
 use Rattle.fax_bits.specs.declared.runs.RunCode.TheVariants as run
@@ -15,8 +14,6 @@ use Rattle.fax_bits.specs.Codes.{IsFaultOf, IsRun, Spells, Takes}
 use Rattle.fax_rows.specs.declared.RowFault.{RowFault}
 use Rattle.fax_rows.specs.declared.RowFault.TheVariants.{DataEnds, BadCode, Extension, RunTooLong}
 use Rattle.fax_rows.specs.declared.RowFault.TheVariants.{OutOfRow}
-use Rattle.fax_rows.specs.Rows.{AreRuns, AreSteps, IsInRow, IsUnfinished, Position, beginning}
-use Rattle.fax_rows.specs.Rows.{first_pel, other}
 
 -- a row's name for the fault of a code
 abbrev pub row_fault : CodeFault → RowFault

@@ -3,15 +3,14 @@
 use Rattle.std.specs.Prelude.{◌≡◌, ◌≢◌, ℕ, zero, suc, ◌+◌, ◌-◌, ◌<◌, ◌≤◌, nat_lt, ℤ, pos, negsuc}
 use Rattle.std.specs.Prelude.{◌+ℤ◌, ◌<ℤ◌, ◌≤ℤ◌, Bool, true, false, not, ◌&&◌, if◌then◌else◌, List}
 use Rattle.std.specs.Prelude.{[], ◌∷◌, ◌++◌, length, replicate, sum, take, slice_index_or, Option}
-use Rattle.std.specs.Prelude.{Some}
-use Rattle.std.specs.Prelude.{None, unwrap_or}
-use Rattle.fax_bits.specs.declared.Colour.{Colour}
-use Rattle.fax_bits.specs.declared.Colour.TheVariants.{White, Black}
-use Rattle.fax_bits.specs.declared.modes.ModeCode.{ModeCode}
+use Rattle.std.specs.Prelude.{Some, None, unwrap_or}
 use Rattle.fax_bits.specs.declared.modes.ModeCode.TheVariants.{Pass, Horizontal, Vertical}
 use Rattle.fax_bits.specs.declared.modes.ModeCode.TheVariants.{Extension}
 use Rattle.fax_bits.specs.Tables.{modes}
 use Rattle.fax_bits.specs.Codes.{IsRun, Takes}
+pub use Rattle.fax_bits.specs.declared.Colour.{Colour}
+pub use Rattle.fax_bits.specs.declared.Colour.TheVariants.{White, Black}
+pub use Rattle.fax_bits.specs.declared.modes.ModeCode.{ModeCode}
 
 -- the opposite colour
 abbrev pub other : Colour → Colour

@@ -2,8 +2,8 @@
 -- A definition without a citation is this project's profile.
 use Rattle.std.specs.Prelude.{◌≡◌, ◌⊎◌, ℕ, List, [], ◌++◌, flat_map, Option, Some, None, codes}
 use Rattle.std.specs.Prelude.{decimal}
-use Rattle.fax_files.specs.declared.Cause.{Cause}
-use Rattle.fax_files.specs.declared.pbm.PbmFault.{PbmFault}
+use Rattle.fax_walk.specs.Pages.{Cause}
+use Rattle.fax_walk.specs.Report.{PbmFault, IsReport, note_name, note_number}
 use Rattle.fax_files.specs.Pbm.{pbm_fault_name}
 use Rattle.fax_walk.specs.declared.checking.Note.{Note}
 use Rattle.fax_walk.specs.declared.checking.Report.{Report}
@@ -13,7 +13,6 @@ use Rattle.fax_walk.specs.declared.options.ConvertFault.TheVariants.{OutputTooLa
 use Rattle.fax_walk.specs.declared.options.Options.{Options}
 use Rattle.fax_walk.specs.declared.walk.Place.{Place}
 use Rattle.fax_walk.specs.Converted.{IsConverted, IsNotConverted}
-use Rattle.fax_walk.specs.Report.{IsReport, note_name, note_number}
 use Rattle.fax_tool.specs.Text.{Printed, and_number, fault_line, line_end}
 
 -- ` strip S`, where a note is on a strip

@@ -5,10 +5,8 @@ use Rattle.std.specs.Prelude.{Option, IfSome, Ok, codes}
 use Rattle.std.specs.Io.KnownBytes.{Appends}
 use Rattle.std.specs.List.{AllZip}
 use Rattle.fax_files.specs.Directory.{max_file}
-use Rattle.fax_walk.specs.declared.begun.Begun.{Begun}
-use Rattle.fax_walk.specs.declared.begun.Begun.TheVariants.{At}
-use Rattle.fax_walk.specs.declared.cursor.Cursor.{Cursor}
-use Rattle.fax_walk.specs.declared.end.End.{End}
+use Rattle.fax_tool.specs.Text.{Begun, At, Cursor, End, Line, Printed, begun_at, first_text}
+use Rattle.fax_tool.specs.Text.{line_of_page, line_of_row, text_of}
 use Rattle.fax_walk.specs.Pages.{FilePage, FormItem, IsFormTail, IsPageAt}
 use Rattle.fax_walk.specs.Rows.{Item, IsTailFrom}
 use Rattle.fax_tool.specs.declared.refusal.Refusal.{Refusal}
@@ -17,8 +15,6 @@ use Rattle.fax_tool.specs.declared.words.Command.{Command}
 use Rattle.fax_tool.specs.declared.words.Command.TheVariants.{List as Forms, Rows, Convert, Check}
 use Rattle.fax_tool.specs.declared.words.Part.{Part}
 use Rattle.fax_tool.specs.ReportText.{IsCheckText, IsConversionText}
-use Rattle.fax_tool.specs.Text.{Line, Printed, begun_at, first_text, line_of_page, line_of_row}
-use Rattle.fax_tool.specs.Text.{text_of}
 
 -- how many calls on a stream were interrupted, and how many failed
 pub record Counts : Type 0 where

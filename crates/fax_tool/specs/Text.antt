@@ -3,20 +3,16 @@
 use Rattle.std.specs.Prelude.{ℕ, Bool, true, false, nat_le, if◌then◌else◌, List, [], ◌∷◌, ◌++◌}
 use Rattle.std.specs.Prelude.{flat_map, length, take, Option, Some, None, codes, decimal}
 use Rattle.fax_rows.specs.Rows.{runs_of}
-use Rattle.fax_page.specs.declared.Coding.{Coding}
-use Rattle.fax_page.specs.declared.Coding.TheVariants.{Mh, Mr, Mmr}
-use Rattle.fax_files.specs.declared.Cause.{Cause}
-use Rattle.fax_files.specs.declared.PageForm.{PageForm}
+use Rattle.fax_files.specs.Page.{Coding, Mh, Mr, Mmr, fill_order_of}
+use Rattle.fax_walk.specs.Pages.{Cause, PageForm, FormItem, cursor_after_page}
 use Rattle.fax_files.specs.FaultNames.{fault_name, fault_tag}
-use Rattle.fax_files.specs.Page.{fill_order_of}
-use Rattle.fax_walk.specs.declared.begun.Begun.{Begun}
-use Rattle.fax_walk.specs.declared.begun.Begun.TheVariants.{At, Inside}
-use Rattle.fax_walk.specs.declared.cursor.Cursor.{Cursor}
-use Rattle.fax_walk.specs.declared.end.End.{End}
 use Rattle.fax_walk.specs.declared.end.End.TheVariants.{Proper, Fault, Outside}
 use Rattle.fax_walk.specs.Cursors.{LongPlace, cursor_text, long_cursor_text}
-use Rattle.fax_walk.specs.Pages.{FormItem, cursor_after_page}
 use Rattle.fax_walk.specs.Rows.{Item, begins_at, cursor_after, long_after}
+pub use Rattle.fax_walk.specs.declared.end.End.{End}
+pub use Rattle.fax_walk.specs.declared.begun.Begun.{Begun}
+pub use Rattle.fax_walk.specs.declared.begun.Begun.TheVariants.{At, Inside}
+pub use Rattle.fax_walk.specs.declared.cursor.Cursor.{Cursor}
 
 -- a line end, and a blank and the number
 abbrev pub line_end : List ℕ

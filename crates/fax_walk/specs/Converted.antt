@@ -4,14 +4,11 @@ use Rattle.std.specs.Prelude.{◌≡◌, ◌≢◌, ℕ, zero, suc, ◌+◌, ◌
 use Rattle.std.specs.Prelude.{length, map, take, drop, Some, None, unwrap_or, codes}
 use Rattle.std.specs.Int.{div_ceil}
 use Rattle.fax_bits.specs.Bits.{BeginsWith}
-use Rattle.fax_bits.specs.declared.Colour.{Colour}
-use Rattle.fax_page.specs.declared.Coding.{Coding}
-use Rattle.fax_page.specs.declared.Coding.TheVariants.{Mh, Mr, Mmr}
+use Rattle.fax_rows.specs.Rows.{Colour}
+use Rattle.fax_files.specs.Page.{Coding, Mh, Mr, Mmr, Resolution, usual_resolution, strip_form}
 use Rattle.fax_page.specs.CodedStrip.{coded_strip}
-use Rattle.fax_files.specs.declared.Cause.{Cause}
-use Rattle.fax_files.specs.declared.pbm.PbmFault.{PbmFault}
-use Rattle.fax_files.specs.declared.PageForm.{PageForm}
-use Rattle.fax_files.specs.Page.{Resolution, usual_resolution, strip_form}
+use Rattle.fax_walk.specs.Pages.{Cause, PageForm, Proper, Fault, End, AreFrom, FormItem, IsForm}
+use Rattle.fax_walk.specs.Report.{PbmFault}
 use Rattle.fax_files.specs.Written.{WrittenPage, file_of}
 use Rattle.fax_files.specs.Directory.{max_file}
 use Rattle.fax_files.specs.Pbm.{Image, AreImages, pbm_of}
@@ -22,9 +19,6 @@ use Rattle.fax_walk.specs.declared.options.Target.TheVariants.{Mmr as ToMmr}
 use Rattle.fax_walk.specs.declared.options.ConvertFault.{ConvertFault}
 use Rattle.fax_walk.specs.declared.options.ConvertFault.TheVariants.{UnknownInput, Pbm as PbmSource}
 use Rattle.fax_walk.specs.declared.options.ConvertFault.TheVariants.{Source, OutputTooLarge}
-use Rattle.fax_walk.specs.declared.end.End.TheVariants.{Proper, Fault}
-use Rattle.fax_walk.specs.declared.end.End.{End}
-use Rattle.fax_walk.specs.Pages.{AreFrom, FormItem, IsForm}
 use Rattle.fax_walk.specs.Rows.{IsRow, Item, first_at}
 
 -- the forms of a file's pages, and its rows, each with their end

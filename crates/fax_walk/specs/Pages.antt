@@ -3,14 +3,15 @@
 use Rattle.std.specs.Prelude.{◌≡◌, ℕ, ◌+◌, ◌==◌, ◌&&◌, if◌then◌else◌, nat_le, List, [], ◌∷◌, length}
 use Rattle.std.specs.Prelude.{drop, Option, Some, None, Result, Ok, Err, slice_get}
 use Rattle.fax_files.specs.declared.FileFault.{FileFault}
-use Rattle.fax_files.specs.declared.Cause.TheVariants.{File}
-use Rattle.fax_files.specs.declared.PageForm.{PageForm}
 use Rattle.fax_files.specs.declared.Endian.{Endian}
 use Rattle.fax_files.specs.Directory.{Header, IsChain, header}
 use Rattle.fax_files.specs.Page.{page}
-use Rattle.fax_walk.specs.declared.cursor.Cursor.{Cursor}
-use Rattle.fax_walk.specs.declared.end.End.{End}
-use Rattle.fax_walk.specs.declared.end.End.TheVariants.{Proper, Fault, Outside}
+pub use Rattle.fax_walk.specs.declared.cursor.Cursor.{Cursor}
+pub use Rattle.fax_walk.specs.declared.end.End.{End}
+pub use Rattle.fax_walk.specs.declared.end.End.TheVariants.{Proper, Fault, Outside}
+pub use Rattle.fax_files.specs.declared.PageForm.{PageForm}
+pub use Rattle.fax_files.specs.declared.Cause.{Cause}
+pub use Rattle.fax_files.specs.declared.Cause.TheVariants.{File, Strip}
 
 -- from a place on these items are handed out, and then this end, where each place has an item and
 -- the place after it, or the end (`Err`, also of a proper one)

@@ -2,16 +2,15 @@
 -- A definition without a citation is this project's profile.
 use Rattle.std.specs.Prelude.{◌≡◌, ℕ, ◌+◌, ◌*◌, ◌==◌, Bool, not, if◌then◌else◌, List, [], ◌∷◌, ◌++◌}
 use Rattle.std.specs.Prelude.{length, flat_map, codes, Option, Some, None, Result, Ok, Err}
-use Rattle.fax_bits.specs.declared.Colour.{Colour}
+use Rattle.fax_rows.specs.Rows.{Colour}
 use Rattle.fax_bits.specs.Bits.{bits}
-use Rattle.fax_page.specs.declared.StripFault.{StripFault}
+use Rattle.fax_files.specs.FaultNames.{StripFault}
 use Rattle.fax_page.specs.declared.notes.StripNotes.{StripNotes}
 use Rattle.fax_page.specs.Strip.{IsStrip}
 use Rattle.fax_page.specs.Notes.{IsNotedAs}
 use Rattle.fax_files.specs.declared.FileFault.TheVariants.{StripOutside}
-use Rattle.fax_files.specs.declared.Cause.{Cause}
-use Rattle.fax_files.specs.declared.Cause.TheVariants.{File, Strip}
-use Rattle.fax_files.specs.declared.PageForm.{PageForm}
+use Rattle.fax_walk.specs.Pages.{Cause, File, Strip, PageForm, End, Proper, Fault, Outside, AreFrom}
+use Rattle.fax_walk.specs.Pages.{FilePage, IsOnPage, IsPageAt}
 use Rattle.fax_files.specs.declared.Endian.{Endian}
 use Rattle.fax_files.specs.Directory.{entries, ascend}
 use Rattle.fax_files.specs.Page.{strip_form, strip_bytes}
@@ -21,12 +20,10 @@ use Rattle.fax_walk.specs.declared.checking.NoteKind.TheVariants.{NoEndOfBlock, 
 use Rattle.fax_walk.specs.declared.checking.NoteKind.TheVariants.{DataAfterEnd, NotT4Choice}
 use Rattle.fax_walk.specs.declared.checking.NoteKind.TheVariants.{EntriesOutOfOrder}
 use Rattle.fax_walk.specs.declared.checking.Report.{Report}
-use Rattle.fax_walk.specs.declared.end.End.{End}
-use Rattle.fax_walk.specs.declared.end.End.TheVariants.{Proper, Fault, Outside}
 use Rattle.fax_walk.specs.declared.walk.Place.{Place}
 use Rattle.fax_walk.specs.Converted.{AreItems}
-use Rattle.fax_walk.specs.Pages.{AreFrom, FilePage, IsOnPage, IsPageAt}
 use Rattle.fax_walk.specs.Rows.{Item}
+pub use Rattle.fax_files.specs.declared.pbm.PbmFault.{PbmFault}
 
 -- the name of a note, and its number
 abbrev pub note_name : NoteKind → List ℕ

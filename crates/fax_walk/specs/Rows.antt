@@ -3,23 +3,17 @@
 use Rattle.std.specs.Prelude.{◌≡◌, ℕ, ◌+◌, ◌*◌, ◌/◌, ◌%◌, ◌<◌, ◌≤◌, ◌⊎◌, ◌==◌, nat_lt, nat_le}
 use Rattle.std.specs.Prelude.{if◌then◌else◌, List, map, length, drop, Option, Some, None, Result}
 use Rattle.std.specs.Prelude.{Ok, Err, ⊤}
-use Rattle.fax_bits.specs.declared.Colour.{Colour}
-use Rattle.fax_bits.specs.declared.Colour.TheVariants.{White}
+use Rattle.fax_rows.specs.Rows.{Colour, White, other, pels_of, runs_of}
 use Rattle.fax_bits.specs.Bits.{bits}
-use Rattle.fax_rows.specs.Rows.{other, pels_of, runs_of}
-use Rattle.fax_page.specs.declared.StripFault.{StripFault}
+use Rattle.fax_files.specs.FaultNames.{StripFault}
 use Rattle.fax_page.specs.Lines.{IsCause, IsLine, white_row}
 use Rattle.fax_files.specs.declared.FileFault.TheVariants.{StripOutside}
-use Rattle.fax_files.specs.declared.Cause.TheVariants.{File, Strip}
-use Rattle.fax_files.specs.declared.PageForm.{PageForm}
+use Rattle.fax_walk.specs.Pages.{File, Strip, PageForm, Cursor, End, Fault, Outside, AreBegun}
+use Rattle.fax_walk.specs.Pages.{FilePage, IsOnPage}
 use Rattle.fax_files.specs.Page.{strip_bytes, strip_form}
 use Rattle.fax_walk.specs.declared.begun.Begun.{Begun}
 use Rattle.fax_walk.specs.declared.begun.Begun.TheVariants.{At, Inside}
-use Rattle.fax_walk.specs.declared.cursor.Cursor.{Cursor}
-use Rattle.fax_walk.specs.declared.end.End.{End}
-use Rattle.fax_walk.specs.declared.end.End.TheVariants.{Fault, Outside}
 use Rattle.fax_walk.specs.Cursors.{LongPlace}
-use Rattle.fax_walk.specs.Pages.{AreBegun, FilePage, IsOnPage}
 
 -- a row, its page and its number there, both from 0, and the bits of its strip up to its end
 pub record Item : Type 0 where
