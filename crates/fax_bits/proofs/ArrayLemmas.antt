@@ -5,7 +5,7 @@ use Rattle.fax_bits.specs.declared.codes.CodeEntry.{CodeEntry}
 use Rattle.fax_bits.specs.declared.runs.RunCode.{RunCode}
 use Rattle.fax_bits.specs.declared.runs.TheConstants.{WHITE_CODES, WHITE_LENS, BLACK_CODES, BLACK_LENS}
 use Rattle.fax_bits.specs.Tables.{white_runs, white_terminating, white_make_up, black_runs, black_terminating, black_make_up}
-use Rattle.fax_bits.specs.Tables.{common_make_up, run_extension}
+use Rattle.fax_bits.specs.Tables.{common_make_up}
 use Rattle.fax_bits.specs.code.Codes.{run_meaning}
 
 abbrev pub run_entries : ℕ → List ℕ → List ℕ → List (CodeEntry RunCode)
@@ -24,9 +24,9 @@ slice_get-run_entries first (c ∷ codes) (l ∷ lens) (suc i) h k =
     let e : first + suc i ≡ suc first + i = omega arith in rw e (slice_get-run_entries (suc first) codes lens i (omega arith) (omega arith))
 
 pub white_runs_are : white_runs ≡ run_entries 0 WHITE_CODES WHITE_LENS
-unfolding white_runs run_extension white_terminating white_make_up common_make_up
+unfolding white_runs white_terminating white_make_up common_make_up
 white_runs_are = refl
 
 pub black_runs_are : black_runs ≡ run_entries 0 BLACK_CODES BLACK_LENS
-unfolding black_runs run_extension black_terminating black_make_up common_make_up
+unfolding black_runs black_terminating black_make_up common_make_up
 black_runs_are = refl

@@ -10,26 +10,26 @@ use Rattle.fax_bits.specs.declared.indexes.TheConstants.{WHITE_SHORT, WHITE_LONG
 use Rattle.fax_bits.specs.views.Places.{place_of}
 use Rattle.fax_bits.proofs.PlaceLemmas.{long_codes_test, short_place}
 use Rattle.fax_bits.specs.Tables.{modes, white_runs, white_terminating, white_make_up, black_runs, black_terminating, black_make_up}
-use Rattle.fax_bits.specs.Tables.{common_make_up, run_extension}
+use Rattle.fax_bits.specs.Tables.{common_make_up}
 
 -- the places for the first numbers of so many bits
 abbrev pub places : {M : Type 0} → List (CodeEntry M) → ℕ → ℕ → List ℕ
 places table width count = map (place_of table width) (range_with_len 0 count)
 
 white_short_is : WHITE_SHORT ≡ places white_runs 9 512
-unfolding white_runs run_extension white_terminating white_make_up common_make_up
+unfolding white_runs white_terminating white_make_up common_make_up
 white_short_is = refl
 
 white_long_is : WHITE_LONG ≡ places white_runs 13 64
-unfolding white_runs run_extension white_terminating white_make_up common_make_up
+unfolding white_runs white_terminating white_make_up common_make_up
 white_long_is = refl
 
 black_short_is : BLACK_SHORT ≡ places black_runs 6 64
-unfolding black_runs run_extension black_terminating black_make_up common_make_up
+unfolding black_runs black_terminating black_make_up common_make_up
 black_short_is = refl
 
 black_long_is : BLACK_LONG ≡ places black_runs 13 512
-unfolding black_runs run_extension black_terminating black_make_up common_make_up
+unfolding black_runs black_terminating black_make_up common_make_up
 black_long_is = refl
 
 mode_places_is : MODE_PLACES ≡ places modes 7 128
@@ -52,11 +52,11 @@ short_place_at array table short low number is few test within above =
     place_at array table short (2 ^ short) (number / 2 ^ (13 - short)) is small ∙ short_place table short low number few test above
 
 white_long_codes : long_codes_test 9 64 white_runs ≡ true
-unfolding white_runs run_extension white_terminating white_make_up common_make_up
+unfolding white_runs white_terminating white_make_up common_make_up
 white_long_codes = refl
 
 black_long_codes : long_codes_test 6 512 black_runs ≡ true
-unfolding black_runs run_extension black_terminating black_make_up common_make_up
+unfolding black_runs black_terminating black_make_up common_make_up
 black_long_codes = refl
 
 mode_long_codes : long_codes_test 7 0 modes ≡ true

@@ -8,7 +8,8 @@ use Rattle.std.proofs.lemmas.List.Concat.{flat_map-append}
 use Rattle.fax_bits.specs.declared.Colour.{Colour}
 use Rattle.fax_bits.specs.declared.runs.RunCode.{RunCode}
 use Rattle.fax_bits.specs.declared.runs.RunCode.TheVariants.{Terminating, MakeUp}
-use Rattle.fax_bits.specs.Written.{run_codes, one_make_up, run_code_bits, run_bits}
+use Rattle.fax_bits.specs.Written.{run_codes, run_code_bits, run_bits}
+use Rattle.fax_bits.specs.code.Codes.{one_make_up}
 use Rattle.fax_bits.specs.views.Sink.{Sink, Appends, AppendsCodes}
 
 pub appends-then : (old mid new : Sink) (first second : List Bool) → Appends old first mid → Appends mid second new

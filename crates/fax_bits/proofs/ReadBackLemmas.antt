@@ -13,7 +13,8 @@ use Rattle.fax_bits.specs.declared.runs.RunCode.{RunCode}
 use Rattle.fax_bits.specs.declared.runs.RunCode.TheVariants.{Terminating, MakeUp}
 use Rattle.fax_bits.specs.Codes.{Takes, Spells, IsRun}
 use Rattle.fax_bits.specs.laws.Codes.{RunBitsAreRead, RunBitsAreOneRun}
-use Rattle.fax_bits.specs.Written.{run_code_bits, run_codes, run_bits, one_make_up}
+use Rattle.fax_bits.specs.Written.{run_code_bits, run_codes, run_bits}
+use Rattle.fax_bits.specs.code.Codes.{one_make_up}
 use Rattle.fax_bits.specs.code.TableLaws.{run_table_is_prefix_free}
 use Rattle.fax_bits.specs.Tables.{run_table}
 use Rattle.fax_bits.specs.code.Codes.{run_meaning}

@@ -50,15 +50,13 @@ run_code_bits colour code = code_for (same_run_code code) (run_table colour)
 unfoldable pub mode_bits : ModeCode → List Bool
 mode_bits m = code_for (same_mode m) modes
 
--- the make-up code of so many steps of 64 pels, if there are any
-abbrev pub one_make_up : ℕ → List RunCode
-one_make_up steps = if steps == 0 then [] else (MakeUp (64 * steps) ∷ [])
-
--- the codes of a run as it is written: 2560 as often as it fits, at most one other make-up code, a
--- terminating code
+-- the codes of a run as it is written: 2560 as often as it fits, at most one other make-up code, of
+-- so many steps of 64 pels, and a terminating code
 abbrev pub run_codes : ℕ → List RunCode
 run_codes n =
-    replicate (n / 2560) (MakeUp 2560) ++ one_make_up (n % 2560 / 64) ++ Terminating (n % 64) ∷ []
+    let steps = n % 2560 / 64 in
+    replicate (n / 2560) (MakeUp 2560) ++ (if steps == 0 then [] else MakeUp (64 * steps) ∷ [])
+    ++ Terminating (n % 64) ∷ []
 
 -- the bits of a run as it is written
 unfoldable pub run_bits : Colour → ℕ → List Bool

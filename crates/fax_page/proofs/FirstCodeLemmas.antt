@@ -9,7 +9,7 @@ use Rattle.fax_bits.specs.declared.runs.RunCode.TheVariants.{Terminating, MakeUp
 use Rattle.fax_bits.specs.Bits.{code_bits}
 use Rattle.fax_bits.specs.views.Source.{HasZerosAhead}
 use Rattle.fax_bits.specs.Codes.{bits_of, Takes, Spells}
-use Rattle.fax_bits.specs.Tables.{run_table, modes, white_runs, white_terminating, white_make_up, common_make_up, run_extension}
+use Rattle.fax_bits.specs.Tables.{run_table, modes, white_runs, white_terminating, white_make_up, common_make_up}
 use Rattle.fax_rows.specs.Rows.{pels_of, AreRuns, Position, beginning, AreSteps}
 use Rattle.fax_page.specs.declared.Dimension.{Dimension}
 use Rattle.fax_page.specs.declared.Dimension.TheVariants.{OneDimensional, TwoDimensional}
@@ -48,7 +48,7 @@ one_at (first ∷ table) (suc i) entry all within is =
     one_at table i entry (both (has_one 11 (bits_of first)) (all_have_one table) all).1 (omega arith) is
 
 all_have_one-white : all_have_one (run_table White) ≡ true
-unfolding code_bits white_runs run_extension white_terminating white_make_up common_make_up
+unfolding code_bits white_runs white_terminating white_make_up common_make_up
 all_have_one-white = refl
 
 all_have_one-modes : all_have_one modes ≡ true

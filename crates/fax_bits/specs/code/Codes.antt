@@ -3,7 +3,7 @@ use Rattle.std.specs.Prelude.{ℕ, zero, suc, Bool, List, [], ◌∷◌}
 use Rattle.fax_bits.specs.declared.codes.CodeEntry.{CodeEntry}
 use Rattle.fax_bits.specs.Codes.{bits_of}
 use Rattle.std.specs.Prelude.{ℕ, ◌*◌, ◌-◌, List, [], ◌∷◌}
-use Rattle.std.specs.Prelude.{nat_lt, if◌then◌else◌}
+use Rattle.std.specs.Prelude.{◌==◌, nat_lt, if◌then◌else◌}
 use Rattle.fax_bits.specs.declared.runs.RunCode.{RunCode}
 use Rattle.fax_bits.specs.declared.runs.RunCode.TheVariants.{Terminating, MakeUp, Extension}
 
@@ -18,3 +18,7 @@ abbrev pub run_meaning : ℕ → RunCode
 run_meaning i =
     if nat_lt i 64 then Terminating i
     else (if nat_lt i 104 then MakeUp (64 * (i - 63)) else Extension)
+
+-- the make-up code of so many steps of 64 pels, if there are any
+abbrev pub one_make_up : ℕ → List RunCode
+one_make_up steps = if steps == 0 then [] else MakeUp (64 * steps) ∷ []

@@ -7,19 +7,18 @@ use Rattle.fax_bits.specs.Codes.{bits_of}
 use Rattle.fax_bits.specs.views.Codes.{HasShortCodes, IsPrefixFree}
 use Rattle.fax_bits.specs.Tables.{run_table, modes, white_runs, white_terminating, white_make_up}
 use Rattle.fax_bits.specs.Tables.{black_runs, black_terminating, black_make_up, common_make_up}
-use Rattle.fax_bits.specs.Tables.{run_extension}
 use Rattle.fax_bits.specs.code.TableTests.{prefix_free_test, short_codes_test, is_prefix_free}
 use Rattle.fax_bits.specs.code.TableTests.{has_short_codes}
 
 prefix_free_test-run_table : (colour : Colour) → prefix_free_test (map bits_of (run_table colour))
     ≡ true
-unfolding code_bits white_runs black_runs run_extension white_terminating black_terminating
+unfolding code_bits white_runs black_runs white_terminating black_terminating
     white_make_up black_make_up common_make_up
 prefix_free_test-run_table White = refl
 prefix_free_test-run_table Black = refl
 
 short_codes_test-run_table : (colour : Colour) → short_codes_test (run_table colour) ≡ true
-unfolding white_runs black_runs run_extension white_terminating black_terminating white_make_up
+unfolding white_runs black_runs white_terminating black_terminating white_make_up
     black_make_up common_make_up
 short_codes_test-run_table White = refl
 short_codes_test-run_table Black = refl
@@ -47,11 +46,11 @@ pub modes_has_short_codes : HasShortCodes modes
 modes_has_short_codes = has_short_codes modes short_codes_test-modes
 
 pub length-white_runs : length white_runs ≡ 105
-unfolding white_runs run_extension white_terminating white_make_up common_make_up
+unfolding white_runs white_terminating white_make_up common_make_up
 length-white_runs = refl
 
 pub length-black_runs : length black_runs ≡ 105
-unfolding black_runs run_extension black_terminating black_make_up common_make_up
+unfolding black_runs black_terminating black_make_up common_make_up
 length-black_runs = refl
 
 pub length-modes : length modes ≡ 10

@@ -1,7 +1,7 @@
 use Rattle.std.proofs.Common.{◌≡◌, ◌∙◌, ◌/◌, ◌%◌, ◌++◌, ◌∷◌, [], replicate, refl, subst, arith}
 use Rattle.std.proofs.lemmas.Result.{on_ok_weaker, on_err_weaker}
 use Rattle.fax_bits.specs.declared.runs.RunCode.TheVariants.{MakeUp, Terminating}
-use Rattle.fax_bits.specs.Written.{one_make_up}
+use Rattle.fax_bits.specs.code.Codes.{one_make_up}
 use Rattle.fax_bits.proofs.PutLemmas.{Put, put-prefix, first_codes, put-make_up, put-no_make_up, put-terminating, on_err-of}
 use Rattle.fax_bits.proofs.put.put_long_run.Goals as goal
 use Rattle.fax_bits.proofs.put.put_long_run.Goals.{then-steps-gt0+in_ok-put_make_up-2, else-steps-gt0}
