@@ -15,7 +15,7 @@ use Rattle.std.specs.Simd.{first_chunks}
 use Rattle.fax_bits.specs.Written.{byte_of, packed}
 use Rattle.fax_bits.specs.declared.FillOrder.TheVariants.{MsbFirst}
 use Rattle.fax_bits.specs.declared.Colour.{Colour}
-use Rattle.fax_rows.specs.Packed.{is_black, packed_len, packed_row, unpacked_row}
+use Rattle.fax_rows.specs.Coded.{is_black, packed_len, packed_row, unpacked_row}
 use Rattle.fax_rows.specs.laws.Packed.{PackingUndoesUnpacking}
 use Rattle.fax_files.specs.Pbm.{Image, IsHead, IsImage, SpellsNumber, AreImages, is_digit, is_within_limits, spelled_number, head_bytes}
 use Rattle.fax_files.specs.Pbm.{image_bytes, pbm_of, raster_rows, raster_len}

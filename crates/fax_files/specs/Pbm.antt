@@ -5,7 +5,7 @@ use Rattle.std.specs.Prelude.{◌&&◌, not, List, [], ◌∷◌, ◌++◌, leng
 use Rattle.std.specs.Prelude.{decimal, Option, Some, None, IsTrue, IsFalse}
 use Rattle.std.specs.List.{list_all, flat_map}
 use Rattle.fax_rows.specs.Rows.{Colour}
-use Rattle.fax_rows.specs.Packed.{packed_len, packed_row, unpacked_row}
+use Rattle.fax_rows.specs.Coded.{packed_len, packed_row, unpacked_row}
 use Rattle.fax_files.specs.declared.pbm.PbmFault.{PbmFault}
 use Rattle.fax_files.specs.declared.pbm.PbmFault.TheVariants.{BadHeader, OutOfLimits, ShortRaster}
 use Rattle.fax_files.specs.Page.{is_between}

@@ -8,7 +8,7 @@ ghost use Rattle.std.specs.Option.{IfNone};
 ghost use Rattle.fax_files.specs.Pbm as Pbm;
 ghost use Rattle.fax_files.specs.code.Pbm as Spec;
 ghost use Rattle.fax_files.specs.views.Pbm as View;
-ghost use Rattle.fax_rows.specs.Packed as Packed;
+ghost use Rattle.fax_rows.specs.Coded as Packed;
 
 use fax_bits::Memory;
 use fax_rows::Row;

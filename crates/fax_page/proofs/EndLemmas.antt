@@ -10,7 +10,7 @@ use Rattle.fax_page.specs.declared.Coding.TheVariants.{Mh, Mr, Mmr}
 use Rattle.fax_page.specs.declared.StripFault.{StripFault}
 use Rattle.fax_page.specs.Lines.{IsEndOfLine}
 use Rattle.fax_page.specs.CodedStrip.{end_of_block}
-use Rattle.fax_page.specs.Notes.{IsReturnEol, AreReturnEols, IsEndMark, HasEndMark, IsBehindEnd}
+use Rattle.fax_page.specs.Strip.{IsReturnEol, AreReturnEols, IsEndMark, HasEndMark, IsBehindEnd}
 use Rattle.fax_page.specs.code.Starts.{HasEol, HasNoEol}
 use Rattle.fax_page.specs.code.Notes.{AreEolsTaken, IsBehind, TakesReturnEol, AreNotesBehind}
 use Rattle.fax_page.proofs.StartLaws.{same_eol, eol_is_not_zeros, eol_is_not_below}

@@ -17,7 +17,8 @@ use Rattle.fax_page.specs.Lines.{IsBegin, IsCause, IsLine, IsRowIn, white_row}
 use Rattle.fax_page.specs.Strip.{AreLines, EndsAt, IsStrip}
 use Rattle.fax_page.specs.CodedStrip.{row_bits}
 use Rattle.fax_page.specs.laws.Strips.{ReadsLinesOneWay}
-use Rattle.fax_page.specs.Notes.{IsChosen, HasOtherChoice, IsNotedAs}
+use Rattle.fax_page.specs.Strip.{HasOtherChoice, IsNotedAs}
+use Rattle.fax_page.specs.code.Notes.{IsChosen}
 use Rattle.fax_page.specs.views.Strip.{IsNotesFault}
 use Rattle.fax_page.specs.code.Notes.{IsLineRead, IsLineNoted, IsLineFault, AreRowsRead, AreNotesBehind}
 use Rattle.fax_page.proofs.StartLaws.{one_start}

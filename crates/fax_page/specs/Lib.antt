@@ -1,7 +1,6 @@
 pub mod Lines
 pub mod Strip
 pub mod CodedStrip
-pub mod Notes
 pub mod code
 pub mod laws
 pub mod views

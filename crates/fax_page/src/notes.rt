@@ -5,7 +5,7 @@ ghost use Rattle.fax_bits.specs.views.Sink.{Appends};
 ghost use Rattle.fax_bits.specs.declared.Colour.{Colour};
 ghost use Rattle.fax_page.specs.CodedStrip.{row_bits};
 ghost use Rattle.fax_page.specs.Lines.{IsRowIn};
-ghost use Rattle.fax_page.specs.Notes as Spec;
+ghost use Rattle.fax_page.specs.Strip as Spec;
 ghost use Rattle.fax_page.specs.views.Strip.{IsNotesFault, IsStripForm};
 ghost use Rattle.fax_page.specs.code.Notes as Code;
 ghost use Rattle.fax_page.specs.code.Starts.{IsStop};
@@ -92,7 +92,7 @@ fn read_seen(
     ensures ok { OnOk result (IsRowIn dimension (length row.old) reference.now
         source.old.left row.new source.new.left) }
     ensures chosen { IfOk result (λ chosen. IsTrue chosen
-        → Spec.IsChosen dimension reference.now source.old.left row.new source.new.left) }
+        → Code.IsChosen dimension reference.now source.old.left row.new source.new.left) }
     ensures err { IfErr result
         (IsStop dimension (length row.old) reference.now source.old.left) }
     ensures same_width { length row.new ≡ length row.old }

@@ -7,8 +7,8 @@ use Rattle.std.proofs.Math.Nat.{eq-or-lt_of_le}
 use Rattle.fax_bits.specs.declared.Colour.{Colour}
 use Rattle.fax_bits.specs.declared.Colour.TheVariants.{White, Black}
 use Rattle.fax_rows.specs.Rows.{other, same_colour, pel, pel_before, is_changing, is_right_of}
-use Rattle.fax_rows.specs.Rows.{first_place, next_change, next_of}
-use Rattle.fax_rows.specs.Coded.{colour_of}
+use Rattle.fax_rows.specs.Rows.{first_place, next_change, b1}
+use Rattle.fax_rows.specs.code.Choice.{colour_of}
 
 -- the first of n places from i on that passes the test
 pub record IsFirstPlace (test : ℕ → Bool) (i n place : ℕ) : Type 0 where
@@ -164,8 +164,8 @@ pels_up_to (first ∷ row) (suc from) (suc to) colour order within each =
     (λ k h l. each (suc k) (omega arith) (omega arith))))
 
 -- the next changing element of another colour lies in the row or is its width, right of the place
-pub next_of_within : (row : List Colour) (from : Option ℕ) (colour : Colour) → next_of row from colour ≤ length row
-unfolding next_of
+pub next_of_within : (row : List Colour) (from : Option ℕ) (colour : Colour) → b1 row from colour ≤ length row
+unfolding b1
 next_of_within row from colour =
     omega (
       arith,
@@ -173,9 +173,9 @@ next_of_within row from colour =
           (length row)).within,
     )
 
-pub next_of_right : (row : List Colour) (from : Option ℕ) (colour : Colour) → next_of row from colour < length row
-    → is_right_of from (next_of row from colour) ≡ true
-unfolding next_of
+pub next_of_right : (row : List Colour) (from : Option ℕ) (colour : Colour) → b1 row from colour < length row
+    → is_right_of from (b1 row from colour) ≡ true
+unfolding b1
 next_of_right row from colour inside =
     let first = first_place_is (λ i. is_right_of from i && (is_changing row i && not (same_colour (pel row i) colour))) 0 (length row) in
     (both_true (is_right_of from _) _ (first.there (omega arith))).0

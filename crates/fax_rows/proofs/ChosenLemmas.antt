@@ -19,7 +19,7 @@ use Rattle.fax_rows.specs.Rows.{other, same_colour, pel, pel_before, is_changing
 use Rattle.fax_rows.specs.Rows.{next_change, Position, first_pel, a0_number, coloured_up_to}
 use Rattle.fax_rows.specs.Rows.{IsVerticalStep}
 use Rattle.fax_rows.specs.code.Seen.{b1_from, b2_from}
-use Rattle.fax_rows.specs.Coded.{Places, places, colour_of, chosen_mode, run_pair_bits, next_a0}
+use Rattle.fax_rows.specs.code.Choice.{Places, places, colour_of, chosen_mode, run_pair_bits, next_a0}
 use Rattle.fax_rows.specs.code.Chosen.{GoesOnFrom, IsStepOf, IsChosenPair}
 use Rattle.fax_rows.proofs.ChangeLemmas.{first_of, next_change_is, still_left, both, same_as}
 use Rattle.fax_rows.proofs.PlaceLemmas.{next_change_at}

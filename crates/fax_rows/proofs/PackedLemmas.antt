@@ -21,7 +21,7 @@ use Rattle.fax_rows.specs.Rows.{other}
 use Rattle.fax_rows.specs.code.Turns.{turned, IsTurnedFrom}
 use Rattle.fax_rows.specs.code.Unpacked.{IsUnpackedTo}
 use Rattle.fax_rows.proofs.PlacedRowLemmas.{turned-first}
-use Rattle.fax_rows.specs.Packed.{packed_len, is_black, colour_of_bit, packed_row, unpacked_row}
+use Rattle.fax_rows.specs.Coded.{packed_len, is_black, colour_of_bit, packed_row, unpacked_row}
 use Rattle.fax_rows.specs.code.PackedByte.{packed_byte}
 
 -- by the law of the bits of bytes

@@ -12,7 +12,7 @@ use Rattle.std.proofs.lemmas.Nat.Bits.{bit_at-lt, bit_at-zero, bit_at_xor, bit_a
 use Rattle.std.proofs.lemmas.Nat.Bits.{same_from_bits_below}
 use Rattle.fax_bits.specs.laws.Codes.{AreBitsByPlace, AreBitsOfOneByte}
 use Rattle.fax_bits.specs.declared.Colour.{Colour}
-use Rattle.fax_rows.specs.Packed.{is_black}
+use Rattle.fax_rows.specs.Coded.{is_black}
 use Rattle.fax_rows.specs.code.PackedByte.{packed_byte}
 use Rattle.fax_rows.specs.code.PackedWord.{word_bit, IsPackedWord}
 use Rattle.fax_rows.specs.code.Turns.{row_of, ArePlaces, HasPassed}

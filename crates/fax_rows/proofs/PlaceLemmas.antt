@@ -5,7 +5,7 @@ use Rattle.std.specs.Prelude.{◌⊎◌, ◌&&◌, not}
 use Rattle.std.proofs.lemmas.Bool.{true≢false}
 use Rattle.std.proofs.Math.Nat.{eq-or-lt_of_le}
 use Rattle.fax_bits.specs.declared.Colour.{Colour}
-use Rattle.fax_rows.specs.Rows.{first_place, next_change, next_of, is_right_of, is_changing}
+use Rattle.fax_rows.specs.Rows.{first_place, next_change, b1, is_right_of, is_changing}
 use Rattle.fax_rows.specs.Rows.{same_colour, pel}
 
 -- one place of a search
@@ -45,8 +45,8 @@ next_change_at row from r within left at =
 pub next_of_at : (row : List Colour) (from : Option ℕ) (colour : Colour) (r : ℕ) → r ≤ length row
     → ((k : ℕ) → k < r → (is_right_of from k && (is_changing row k && not (same_colour (pel row k) colour))) ≡ false)
     → (r < length row → (is_right_of from r && (is_changing row r && not (same_colour (pel row r) colour))) ≡ true)
-    → r ≡ next_of row from colour
-unfolding next_of
+    → r ≡ b1 row from colour
+unfolding b1
 next_of_at row from colour r within left at =
     sym (first_place_at (λ i. is_right_of from i && (is_changing row i && not (same_colour (pel row i) colour))) 0 (length row) r
     (omega arith) (omega arith)

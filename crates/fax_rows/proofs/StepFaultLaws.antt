@@ -13,7 +13,7 @@ use Rattle.fax_bits.specs.Tables.{run_table, modes}
 use Rattle.fax_rows.specs.declared.RowFault.{RowFault}
 use Rattle.fax_rows.specs.declared.RowFault.TheVariants.{OutOfRow, Extension as ExtensionFault}
 use Rattle.fax_rows.specs.Rows.{other, Position, beginning, first_pel, a0_number, coloured_up_to}
-use Rattle.fax_rows.specs.Rows.{IsStepBy, IsStep, IsUnfinished, AreSteps}
+use Rattle.fax_rows.specs.Rows.{IsStepBy, IsStep, AreSteps}
 use Rattle.fax_rows.specs.code.Seen.{b1_from, b2_from}
 use Rattle.fax_rows.specs.Faults.{row_fault, IsRunFault, IsModeFault, IsStepFault}
 use Rattle.fax_rows.specs.code.RowFaults.{IsHorizontalFault}
@@ -63,7 +63,7 @@ pub record AreStepsToFault (reference : List Colour) (from : Position) (b : List
   pub last : Position
   pub left : List Bool
   pub steps : AreSteps reference from b positions last left
-  pub unfinished : IsUnfinished reference last
+  pub unfinished : last.a0 ≢ Some (length reference)
   pub at_step : IsStepFault reference last left fault
 
 abbrev IsEndOrFault : List Colour → Position → List Bool → Type 0
@@ -246,7 +246,7 @@ module _ (runs_read : (colour : Colour) → ReadsOneWay (run_table colour)) (mod
       ]
 
   -- a step before them
-  step_before : (reference : List Colour) (old : Position) (b : List Bool) (new : Position) (rest : List Bool) → IsUnfinished reference old
+  step_before : (reference : List Colour) (old : Position) (b : List Bool) (new : Position) (rest : List Bool) → (old.a0 ≢ Some (length reference))
       → IsStep reference old b new rest → IsEndOrFault reference new rest → IsEndOrFault reference old b
   step_before reference old b new rest unfinished step (inl end) =
       inl record {
@@ -294,7 +294,7 @@ module _ (runs_read : (colour : Colour) → ReadsOneWay (run_table colour)) (mod
       (last another : Position)
       (rest left : List Bool) (fault : RowFault) → old ≡ start → b ≡ c
       → AreSteps reference old b positions last rest → last.a0 ≡ Some (length reference)
-      → AreSteps reference start c more another left → IsUnfinished reference another → IsStepFault reference another left fault → ⊥
+      → AreSteps reference start c more another left → (another.a0 ≢ Some (length reference)) → IsStepFault reference another left fault → ⊥
   ended_or_not reference old start b c [] [] last another rest left fault from at first ended second unfinished fails =
       unfinished (ap (λ (p : Position). p.a0) (second.0 ∙ sym from ∙ sym first.0) ∙ ended)
   ended_or_not reference old start b c [] (next ∷ more) last another rest left fault from at first ended second unfinished fails =

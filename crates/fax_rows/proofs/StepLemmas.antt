@@ -1,5 +1,5 @@
 -- A row in two-dimensional coding, step by step.
-use Rattle.std.proofs.Common.{◌≡◌, ℕ, ◌<◌, List, [], ◌∷◌, ◌++◌, length, Option, Some, None, Bool, pos, negsuc, ◌+ℤ◌, ◌≤ℤ◌, ℤ, refl, ap, ◌∙◌}
+use Rattle.std.proofs.Common.{◌≡◌, ◌≢◌, ℕ, ◌<◌, List, [], ◌∷◌, ◌++◌, length, Option, Some, None, Bool, pos, negsuc, ◌+ℤ◌, ◌≤ℤ◌, ℤ, refl, ap, ◌∙◌}
 use Rattle.std.proofs.Common.{arith}
 use Rattle.std.specs.Prelude.{unwrap_or, nat_abs}
 use Rattle.std.proofs.lemmas.Int.{ints}
@@ -7,7 +7,7 @@ use Rattle.fax_bits.specs.declared.Colour.{Colour}
 use Rattle.fax_bits.specs.declared.Colour.TheVariants.{White}
 use Rattle.fax_rows.specs.declared.two_dimensional.steps.Reached.{Reached}
 use Rattle.fax_rows.specs.Rows.{other, Position, beginning, coloured_up_to, IsInRow, IsVerticalStep}
-use Rattle.fax_rows.specs.Rows.{IsStep, IsUnfinished, AreSteps}
+use Rattle.fax_rows.specs.Rows.{IsStep, AreSteps}
 use Rattle.fax_rows.specs.code.Seen.{b1_from}
 use Rattle.fax_rows.specs.code.Reached.{position_of, reached_pel}
 
@@ -40,7 +40,7 @@ vertical_step reference old new at next d a1 colour in_row a1_is coloured turn =
 
 AreSteps-push : (reference : List Colour) (old : Position) (b : List Bool) (positions : List Position) (at new : Position)
     (mid rest : List Bool)
-    → AreSteps reference old b positions at mid → IsUnfinished reference at → IsStep reference at mid new rest
+    → AreSteps reference old b positions at mid → (at.a0 ≢ Some (length reference)) → IsStep reference at mid new rest
     → AreSteps reference old b (positions ++ new ∷ []) new rest
 AreSteps-push reference old b [] at new mid rest steps unfinished step =
     (rw (← steps.0) unfinished, rest, rw (← steps.0, steps.1) step, (refl, refl))

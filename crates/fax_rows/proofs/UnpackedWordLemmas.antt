@@ -15,7 +15,7 @@ use Rattle.fax_bits.specs.declared.Colour.TheVariants.{Black}
 use Rattle.fax_bits.specs.Bits.{bits}
 use Rattle.fax_bits.specs.laws.Codes.{AreBitsByPlace}
 use Rattle.fax_rows.specs.Rows.{other}
-use Rattle.fax_rows.specs.Packed.{colour_of_bit}
+use Rattle.fax_rows.specs.Coded.{colour_of_bit}
 use Rattle.fax_rows.specs.code.PackedWord.{word_bit}
 use Rattle.fax_rows.specs.code.Turns.{turned, IsAscending, IsTurnedFrom}
 use Rattle.fax_rows.specs.code.Unpacked.{IsUnpackedTo}

@@ -7,7 +7,7 @@ use Rattle.std.proofs.lemmas.List.{append-nil}
 use Rattle.fax_bits.specs.declared.modes.ModeCode.{ModeCode}
 use Rattle.fax_bits.specs.declared.modes.ModeCode.TheVariants.{Horizontal, Vertical}
 use Rattle.fax_bits.specs.Written.{run_bits, mode_bits}
-use Rattle.fax_rows.specs.Coded.{places, colour_of, chosen_mode, run_pair_bits, next_a0}
+use Rattle.fax_rows.specs.code.Choice.{places, colour_of, chosen_mode, run_pair_bits, next_a0}
 use Rattle.fax_bits.specs.declared.Colour.{Colour}
 use Rattle.fax_bits.specs.declared.Colour.TheVariants.{Black}
 use Rattle.fax_rows.specs.declared.put.ChangesAhead.{ChangesAhead}

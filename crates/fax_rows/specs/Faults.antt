@@ -1,7 +1,7 @@
 -- Where the codes of a row stop, and why.
 -- A definition without a citation is this project's profile.
-use Rattle.std.specs.Prelude.{◌≡◌, ℕ, ◌+◌, ◌<◌, ◌≤◌, ◌⊎◌, Bool, List, [], ◌∷◌, map, sum, length}
-use Rattle.fax_rows.specs.Rows.{Colour, White, ModeCode, AreRuns, AreSteps, IsInRow, IsUnfinished}
+use Rattle.std.specs.Prelude.{◌≡◌, ◌≢◌, ℕ, ◌+◌, ◌<◌, ◌≤◌, ◌⊎◌, Bool, List, [], ◌∷◌, map, sum, length, Some}
+use Rattle.fax_rows.specs.Rows.{Colour, White, ModeCode, AreRuns, AreSteps, IsInRow}
 use Rattle.fax_rows.specs.Rows.{Position, beginning, first_pel, other}
 use Rattle.fax_bits.specs.declared.codes.CodeEntry.{CodeEntry}
 use Rattle.fax_bits.specs.declared.codes.CodeFault.{CodeFault}
@@ -82,5 +82,5 @@ pub record IsTwoDimensionalFault (reference : List Colour) (b : List Bool)
   pub last : Position
   pub left : List Bool
   pub steps : AreSteps reference beginning b positions last left
-  pub unfinished : IsUnfinished reference last
+  pub unfinished : last.a0 ≢ Some (length reference)
   pub at_step : IsStepFault reference last left fault

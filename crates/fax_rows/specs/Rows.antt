@@ -50,16 +50,12 @@ first_place test i (suc n) = if test i then i else first_place test (i + 1) n
 unfoldable pub next_change : List Colour → Option ℕ → ℕ
 next_change row from = first_place (λ i. is_right_of from i && is_changing row i) 0 (length row)
 
--- the next changing element right of a place that is not of the colour, or the width
-unfoldable pub next_of : List Colour → Option ℕ → Colour → ℕ
-next_of row from colour =
-    first_place (λ i. is_right_of from i
-    && (is_changing row i && not (same_colour (pel row i) colour))) 0 (length row)
-
 -- b1: the first changing element of the reference row right of a0 and of the colour opposite to
--- a0's; and b2: the next one right of b1 (section 4.2.1.3.1)
-abbrev pub b1 : List Colour → Option ℕ → Colour → ℕ
-b1 reference a0 colour = next_of reference a0 colour
+-- a0's, or the width; and b2: the next one right of b1 (section 4.2.1.3.1)
+unfoldable pub b1 : List Colour → Option ℕ → Colour → ℕ
+b1 reference a0 colour =
+    first_place (λ i. is_right_of a0 i
+    && (is_changing reference i && not (same_colour (pel reference i) colour))) 0 (length reference)
 
 abbrev pub b2 : List Colour → Option ℕ → Colour → ℕ
 b2 reference a0 colour = next_change reference (Some (b1 reference a0 colour))
@@ -166,16 +162,13 @@ pub record IsStep (reference : List Colour) (old : Position) (b : List Bool) (ne
   pub taken : Takes modes b mode behind
   pub step : IsStepBy mode reference old behind new rest
 
--- the position is not at the row's end (section 4.2.1.3.4)
-abbrev pub IsUnfinished : List Colour → Position → Type 0
-IsUnfinished reference at = at.a0 ≢ Some (length reference)
-
--- the bits begin with steps through these positions, each of them from within the row
+-- the bits begin with steps through these positions, each of them from before the row's end
+-- (section 4.2.1.3.4)
 abbrev pub AreSteps : List Colour → Position → List Bool → List Position → Position → List Bool
     → Type 0
 AreSteps reference old b [] new rest = (new ≡ old) × (b ≡ rest)
 AreSteps reference old b (next ∷ more) new rest =
-    IsUnfinished reference old × (middle : List Bool)
+    (old.a0 ≢ Some (length reference)) × (middle : List Bool)
     × IsStep reference old b next middle × AreSteps reference next middle more new rest
 
 -- the bits begin with this row in two-dimensional coding over the reference row: steps from the

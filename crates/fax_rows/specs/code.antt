@@ -1,5 +1,6 @@
 -- What speaks of this code alone: how far a row is read or written.
 pub mod Ahead
+pub mod Choice
 pub mod Chosen
 pub mod FirstOther
 pub mod LongestRuns

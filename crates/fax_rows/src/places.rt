@@ -22,7 +22,7 @@ impl Row {
     /// width where there is none (T.4, section 4.2.1.3.1). `None` is the place just before the
     /// first pel. It is for other callers, as `next_change` is.
     pub fn next_of(&self, from: Option<u32>, colour: Colour) -> u32
-        ensures place { result ≡ Spec.next_of self.now from colour }
+        ensures place { result ≡ Spec.b1 self.now from colour }
         ensures within { result ≤ length self.now }
         ensures right { result < length self.now → Spec.is_right_of from result ≡ true }
     {

@@ -4,6 +4,7 @@ ghost use Rattle.std.specs.Prelude.{◌≡◌, ◌+◌, ◌-◌, ◌≤◌, ◌<
 ghost use Rattle.std.specs.Prelude.{None, OnOk, OnErr, IfOk};
 ghost use Rattle.fax_bits.specs.views.Sink.{Appends, AppendsPrefix};
 ghost use Rattle.fax_rows.specs.code.Ahead as Spec;
+ghost use Rattle.fax_rows.specs.code.Choice as Choice;
 ghost use Rattle.fax_rows.specs.Coded as Coded;
 ghost use Rattle.fax_rows.specs.code.PlacedRow.{placed_pels};
 
@@ -152,7 +153,7 @@ impl ChangesAhead {
 fn choose(a1: u32, b1: u32, b2: u32) -> ModeCode
     requires a1 { a1 < 2 ^ 16 }
     requires b1 { b1 < 2 ^ 16 }
-    ensures { result ≡ Coded.chosen_mode (record { a1 = a1; a2 = 0; b1 = b1; b2 = b2 }) }
+    ensures { result ≡ Choice.chosen_mode (record { a1 = a1; a2 = 0; b1 = b1; b2 = b2 }) }
 {
     if b2 < a1 {
         return ModeCode::Pass;

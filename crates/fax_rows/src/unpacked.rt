@@ -5,7 +5,7 @@ ghost use Rattle.std.specs.Prelude.{slice_index, slice_index_or};
 ghost use Rattle.fax_bits.specs.Bits.{bits};
 ghost use Rattle.fax_bits.specs.declared.Colour.TheVariants.{Black as TurnsFrom};
 ghost use Rattle.fax_bits.specs.declared.FillOrder.TheVariants.{MsbFirst};
-ghost use Rattle.fax_rows.specs.Packed as Spec;
+ghost use Rattle.fax_rows.specs.Coded as Spec;
 ghost use Rattle.fax_rows.specs.code.PackedWord.{word_bit};
 ghost use Rattle.fax_rows.specs.code.Turns.{row_of, turned, IsAscending};
 ghost use Rattle.fax_rows.specs.code.Unpacked.{IsUnpackedTo};

@@ -6,7 +6,7 @@ use Rattle.std.proofs.lemmas.List.{length-map, drop-drop, map-append, length_pus
 use Rattle.fax_bits.specs.Bits.{bits, byte_bits, code_bits}
 use Rattle.fax_bits.specs.declared.FillOrder.TheVariants.{MsbFirst}
 use Rattle.fax_bits.specs.declared.Colour.{Colour}
-use Rattle.fax_rows.specs.Packed.{packed_len, unpacked_row, colour_of_bit}
+use Rattle.fax_rows.specs.Coded.{packed_len, unpacked_row, colour_of_bit}
 use Rattle.fax_files.specs.declared.pbm.PbmFault.{PbmFault}
 use Rattle.fax_files.specs.Pbm.{Image, IsImage, IsImageFault, AreImages, raster_rows}
 use Rattle.fax_files.specs.laws.Pbm.{AreOfWidth, ImagesAreReadInOneWay, ImagesBeginInOneWay}

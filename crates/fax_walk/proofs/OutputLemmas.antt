@@ -14,7 +14,7 @@ use Rattle.std.specs.Simd.{first_chunks}
 use Rattle.fax_bits.specs.Written.{byte_of, packed}
 use Rattle.fax_bits.specs.declared.FillOrder.TheVariants.{MsbFirst}
 use Rattle.fax_bits.specs.declared.Colour.{Colour}
-use Rattle.fax_rows.specs.Packed.{is_black, packed_len, packed_row}
+use Rattle.fax_rows.specs.Coded.{is_black, packed_len, packed_row}
 use Rattle.fax_page.specs.declared.Coding.{Coding}
 use Rattle.fax_page.specs.declared.Coding.TheVariants.{Mh, Mr, Mmr}
 use Rattle.fax_page.specs.views.Writer.{WriterState}

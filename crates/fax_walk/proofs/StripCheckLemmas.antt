@@ -13,7 +13,7 @@ use Rattle.fax_page.specs.declared.notes.NotesFault.{NotesFault}
 use Rattle.fax_page.specs.declared.notes.NotesFault.TheVariants.{Memory, Strip as RowOfStrip}
 use Rattle.fax_page.specs.declared.notes.StripNotes.{StripNotes}
 use Rattle.fax_page.specs.Strip.{IsStrip}
-use Rattle.fax_page.specs.Notes.{IsNotedAs}
+use Rattle.fax_page.specs.Strip.{IsNotedAs}
 use Rattle.fax_page.specs.views.Strip.{IsNotesFault}
 use Rattle.fax_files.specs.declared.Cause.{Cause}
 use Rattle.fax_files.specs.declared.Cause.TheVariants.{File, Strip}

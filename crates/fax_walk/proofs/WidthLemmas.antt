@@ -9,7 +9,7 @@ use Rattle.fax_bits.specs.declared.Colour.{Colour}
 use Rattle.fax_bits.specs.declared.modes.ModeCode.{ModeCode}
 use Rattle.fax_bits.specs.declared.modes.ModeCode.TheVariants.{Pass, Horizontal, Vertical, Extension}
 use Rattle.fax_rows.specs.Rows.{other, is_changing, same_colour, pel, is_right_of, first_place}
-use Rattle.fax_rows.specs.Rows.{next_change, next_of, Position, beginning, first_pel, IsStepBy}
+use Rattle.fax_rows.specs.Rows.{next_change, b1, Position, beginning, first_pel, IsStepBy}
 use Rattle.fax_rows.specs.Rows.{AreSteps}
 use Rattle.fax_rows.specs.code.Seen.{b1_from, b2_from}
 use Rattle.fax_page.specs.declared.Dimension.{Dimension}
@@ -38,8 +38,8 @@ right_of a i true h = grind (arith, nat_tests)
 right_of a i false h = grind (arith, nat_tests)
 
 -- b1 stands right of a0, and b2 right of b1, or after the row
-b1_behind : (reference : List Colour) (a : ℕ) (colour : Colour) → a ≤ length reference → a ≤ next_of reference (Some a) colour
-unfolding next_of
+b1_behind : (reference : List Colour) (a : ℕ) (colour : Colour) → a ≤ length reference → a ≤ b1 reference (Some a) colour
+unfolding b1
 b1_behind reference a colour within =
     let test : ℕ → Bool = λ i. is_right_of (Some a) i && (is_changing reference i && not (same_colour (pel reference i) colour)) in
     elim (found test 0 (length reference)) [
@@ -48,7 +48,7 @@ b1_behind reference a colour within =
     ]
 
 b1_right : (reference : List Colour) (a0 : Option ℕ) (colour : Colour) → unwrap_or a0 0 ≤ length reference
-    → unwrap_or a0 0 ≤ next_of reference a0 colour
+    → unwrap_or a0 0 ≤ b1 reference a0 colour
 b1_right reference None colour within = omega arith
 b1_right reference (Some a) colour within = b1_behind reference a colour within
 

@@ -7,7 +7,7 @@ use Rattle.fax_bits.specs.Bits.{bits}
 use Rattle.fax_files.specs.FaultNames.{StripFault}
 use Rattle.fax_page.specs.declared.notes.StripNotes.{StripNotes}
 use Rattle.fax_page.specs.Strip.{IsStrip}
-use Rattle.fax_page.specs.Notes.{IsNotedAs}
+use Rattle.fax_page.specs.Strip.{IsNotedAs}
 use Rattle.fax_files.specs.declared.FileFault.TheVariants.{StripOutside}
 use Rattle.fax_walk.specs.Pages.{Cause, File, Strip, PageForm, End, Proper, Fault, Outside, AreFrom}
 use Rattle.fax_walk.specs.Pages.{FilePage, IsOnPage, IsPageAt}

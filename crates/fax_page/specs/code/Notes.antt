@@ -11,10 +11,16 @@ use Rattle.fax_page.specs.declared.StripFault.{StripFault}
 use Rattle.fax_page.specs.declared.notes.NotesFault.{NotesFault}
 use Rattle.fax_page.specs.declared.notes.NotesFault.TheVariants.{Memory, Strip}
 use Rattle.fax_page.specs.declared.notes.StripNotes.{StripNotes}
+use Rattle.fax_page.specs.declared.Dimension.{Dimension}
 use Rattle.fax_page.specs.Lines.{IsLine, IsCause, white_row}
+use Rattle.fax_page.specs.CodedStrip.{row_bits}
 use Rattle.fax_page.specs.Strip.{AreLines}
-use Rattle.fax_page.specs.Notes.{IsReturnEol, AreReturnEols, HasEndMark, IsBehindEnd, IsChosen}
-use Rattle.fax_page.specs.Notes.{HasOtherChoice}
+use Rattle.fax_page.specs.Strip.{IsReturnEol, AreReturnEols, HasEndMark, IsBehindEnd}
+use Rattle.fax_page.specs.Strip.{HasOtherChoice}
+
+-- a row's codes are those that T.4 chooses (T.4, sections 4.1.1 and 4.2.1.3.3)
+abbrev pub IsChosen : Dimension → List Colour → List Bool → List Colour → List Bool → Type 0
+IsChosen dimension reference codes row rest = codes ≡ row_bits dimension reference row ++ rest
 
 -- row i was read, and whether its codes are those that T.4 chooses
 pub record IsLineRead (form : StripForm) (i : ℕ) (reference : List Colour) (b : List Bool)

@@ -8,7 +8,7 @@ use Rattle.fax_bits.specs.Written.{run_bits, mode_bits}
 use Rattle.fax_rows.specs.declared.put.ChangesAhead.{ChangesAhead}
 use Rattle.fax_rows.specs.declared.put.Written.{Written}
 use Rattle.fax_rows.specs.declared.rows.Rows.{Rows}
-use Rattle.fax_rows.specs.Coded.{places, colour_of, chosen_mode, run_pair_bits, next_a0}
+use Rattle.fax_rows.specs.code.Choice.{places, colour_of, chosen_mode, run_pair_bits, next_a0}
 use Rattle.fax_rows.specs.Rows.{other, next_change, b1, b2}
 use Rattle.fax_rows.specs.code.PlacedRow.{placed_pels, IsB1At}
 use Rattle.fax_rows.specs.code.Turns.{alternate, IsFrom}

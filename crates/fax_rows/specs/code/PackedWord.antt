@@ -3,7 +3,7 @@ use Rattle.std.specs.Prelude.{◌≡◌, ℕ, ◌+◌, ◌-◌, ◌^◌, ◌<◌
 use Rattle.std.specs.Prelude.{slice_index_or}
 use Rattle.std.specs.Int.{bit_at}
 use Rattle.fax_bits.specs.declared.Colour.{Colour}
-use Rattle.fax_rows.specs.Packed.{is_black}
+use Rattle.fax_rows.specs.Coded.{is_black}
 
 -- bit i of a word, the highest first
 abbrev pub word_bit : ℕ → ℕ → Bool

@@ -2,7 +2,7 @@
 use Rattle.std.specs.Prelude.{◌≡◌, ℕ, ◌≤◌, ◌<◌, Bool, false, List, slice_index_or}
 use Rattle.fax_bits.specs.declared.Colour.{Colour}
 use Rattle.fax_bits.specs.declared.Colour.TheVariants.{Black}
-use Rattle.fax_rows.specs.Packed.{colour_of_bit}
+use Rattle.fax_rows.specs.Coded.{colour_of_bit}
 use Rattle.fax_rows.specs.code.Turns.{turned}
 
 -- the places that are put are those of the pels of the first i bits, after which the row has this

@@ -5,7 +5,7 @@ use Rattle.std.specs.Prelude.{length, take, replicate}
 use Rattle.fax_bits.specs.declared.FillOrder.TheVariants.{MsbFirst}
 use Rattle.fax_bits.specs.declared.Colour.{Colour}
 use Rattle.fax_bits.specs.Bits.{bits}
-use Rattle.fax_rows.specs.Packed.{is_black, packed_len, packed_row, unpacked_row}
+use Rattle.fax_rows.specs.Coded.{is_black, packed_len, packed_row, unpacked_row}
 
 -- the bits of a packed row are its pels, and zeros up to a whole byte (the netpbm format, P4)
 abbrev pub HasBitsOfPels : Type 0

@@ -4,7 +4,7 @@ use Rattle.fax_bits.specs.declared.Colour.{Colour}
 use Rattle.fax_bits.specs.declared.FillOrder.TheVariants.{MsbFirst}
 use Rattle.fax_bits.specs.Bits.{bits}
 use Rattle.fax_rows.specs.Rows.{first_place, same_colour}
-use Rattle.fax_rows.specs.Packed.{colour_of_bit}
+use Rattle.fax_rows.specs.Coded.{colour_of_bit}
 
 -- the least place from this one on whose bit, the highest of each byte first, is not of the colour,
 -- or the place after the last bit (the netpbm format, P4)

@@ -1,7 +1,7 @@
 use Rattle.std.proofs.Common.{◌+◌, ◌*◌, ◌/◌, take, get_or, false, ◌∙◌, arith}
 use Rattle.fax_bits.specs.declared.FillOrder.TheVariants.{MsbFirst}
 use Rattle.fax_bits.specs.Bits.{bits}
-use Rattle.fax_rows.specs.Packed.{colour_of_bit}
+use Rattle.fax_rows.specs.Coded.{colour_of_bit}
 use Rattle.fax_rows.proofs.FirstOtherLemmas.{first_other_stands, plain_pel, other_pel}
 use Rattle.fax_rows.proofs.PackedLemmas.{unpacked_run, unpacked_turned, unpacked_at}
 use Rattle.fax_rows.proofs.PlacedReadLemmas.{places_within}

@@ -1,7 +1,7 @@
 use Rattle.std.proofs.Common.{◌*◌, ◌-◌, ◌<◌, take, get_or}
 use Rattle.fax_bits.specs.declared.FillOrder.TheVariants.{MsbFirst}
 use Rattle.fax_bits.specs.Bits.{bits}
-use Rattle.fax_rows.specs.Packed.{colour_of_bit}
+use Rattle.fax_rows.specs.Coded.{colour_of_bit}
 use Rattle.fax_rows.specs.code.PackedWord.{word_bit}
 use Rattle.fax_rows.specs.code.Turns.{IsAscending}
 use Rattle.fax_rows.specs.code.Unpacked.{IsUnpackedTo}

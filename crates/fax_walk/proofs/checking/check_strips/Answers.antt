@@ -2,7 +2,7 @@ use Rattle.std.proofs.Common.{◌≡◌, Some, None, refl, sym, ◌∙◌, ap, s
 use Rattle.std.proofs.lemmas.Result.{IfOk-weaker}
 use Rattle.fax_bits.specs.Bits.{bits}
 use Rattle.fax_page.specs.views.Strip.{IsNotesFault}
-use Rattle.fax_page.specs.Notes.{IsNotedAs}
+use Rattle.fax_page.specs.Strip.{IsNotedAs}
 use Rattle.fax_page.specs.declared.StripForm.{StripForm}
 use Rattle.fax_files.specs.views.Tiff.{TiffDirectory, bytes_of}
 use Rattle.fax_walk.proofs.StripCheckLemmas.{none_before, strip_after, all_read, strip_outside, row_inside, strip_fault}

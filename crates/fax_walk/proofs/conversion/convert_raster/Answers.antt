@@ -1,5 +1,5 @@
 use Rattle.std.proofs.Common.{◌<◌, [], ◌∷◌, ◌++◌, length, sym, ap, ◌∙◌, subst, arith}
-use Rattle.fax_rows.specs.Packed.{packed_len}
+use Rattle.fax_rows.specs.Coded.{packed_len}
 use Rattle.fax_files.specs.Pbm.{raster_rows}
 use Rattle.fax_walk.specs.code.Output.{image_sheet, IsPartWritten}
 use Rattle.fax_walk.specs.code.Sources.{part_of}

@@ -1,5 +1,5 @@
 use Rattle.std.proofs.Common.{ap, ◌∙◌, arith}
-use Rattle.fax_rows.specs.Rows.{next_of}
+use Rattle.fax_rows.specs.Rows.{b1}
 use Rattle.fax_rows.proofs.PlacedRowLemmas.{end_within}
 use Rattle.fax_rows.proofs.PlacedB1Lemmas.{placed_width, b1_is, b1_at_most, b1_right}
 use Rattle.fax_rows.proofs.pels.Row.next_of.Goals as goal
@@ -16,7 +16,7 @@ returns c =
     let width = placed_width row c.args.self.now c.placed-row.ensures in
     record {
       place = b1_is row c.args.from c.args.colour c.b1_from.result at
-          ∙ ap (λ pels. next_of pels c.args.from c.args.colour) c.placed-row.ensures;
+          ∙ ap (λ pels. b1 pels c.args.from c.args.colour) c.placed-row.ensures;
       within = omega (arith, width, b1_at_most row c.b1_from.result at.some at.within);
       right = λ h. b1_right row c.args.from c.args.colour c.b1_from.result at (omega (arith, width));
     }

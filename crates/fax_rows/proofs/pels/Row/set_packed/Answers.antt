@@ -1,5 +1,5 @@
 use Rattle.std.proofs.Common.{take, ap, ◌∙◌, arith}
-use Rattle.fax_rows.specs.Packed.{unpacked_row}
+use Rattle.fax_rows.specs.Coded.{unpacked_row}
 use Rattle.fax_rows.specs.code.Turns.{pels_by}
 use Rattle.fax_rows.proofs.TurnLemmas.{length-pels_by}
 use Rattle.fax_rows.proofs.PlacedRowLemmas.{width_is}
