@@ -6,7 +6,7 @@ use Rattle.std.proofs.lemmas.Option.{slice_get_read}
 use Rattle.fax_bits.specs.declared.codes.CodeEntry.{CodeEntry}
 use Rattle.fax_bits.specs.Codes.{bits_of, Takes}
 use Rattle.fax_bits.specs.views.Codes.{HasShortCodes, IsPrefixFree}
-use Rattle.fax_bits.specs.laws.Codes.{TakesOne, TakesBits, ReadsOneWay}
+use Rattle.fax_bits.specs.laws.Codes.{HasOneAnswer, TakesBits, ReadsOneWay}
 use Rattle.fax_bits.proofs.MeetingLemmas.{length-code_bits}
 use Rattle.fax_bits.proofs.ReadingLemmas.{takes_or_fails, taken_has_no_fault, has_one_fault}
 
@@ -41,7 +41,7 @@ same_entry table entry other more free here there is =
     let found : Some entry ≡ Some other = sym at ∙ ap (slice_get table) place ∙ at_other in
     cc
 
-pub takes_one : {M : Type 0} (table : List (CodeEntry M)) → IsPrefixFree table → TakesOne table
+pub takes_one : {M : Type 0} (table : List (CodeEntry M)) → IsPrefixFree table → HasOneAnswer (Takes table)
 takes_one table free b meaning other rest remaining first second =
     elim (one_starts_the_other (bits_of first.entry) (bits_of second.entry) rest remaining (sym first.spelled ∙ second.spelled)) [
       | inl longer ↦

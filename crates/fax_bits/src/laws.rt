@@ -1,6 +1,7 @@
 //! Laws of bits and of the code tables. The functions compute nothing: each has a law as its
 //! contract.
 ghost use Rattle.fax_bits.specs.declared.Colour.{Colour};
+ghost use Rattle.fax_bits.specs.Codes.{Takes};
 ghost use Rattle.fax_bits.specs.laws.Codes as Law;
 ghost use Rattle.fax_bits.specs.Tables.{run_table, modes};
 
@@ -26,7 +27,7 @@ pub fn bits_are_packed_in_one_way()
 
 /// At most one code of a table is taken of any bits, with one rest after it.
 pub fn one_code_is_taken<T: CodeTable>()
-    ensures { Law.TakesOne T.table }
+    ensures { Law.HasOneAnswer (Takes T.table) }
 {}
 
 /// Bits are read by any table in one way: at most one code is taken, which has at least one bit; a

@@ -9,7 +9,7 @@ use Rattle.fax_page.specs.declared.Coding.{Coding}
 use Rattle.fax_page.specs.declared.Coding.TheVariants.{Mh, Mr, Mmr}
 use Rattle.fax_page.specs.declared.StripFault.{StripFault}
 use Rattle.fax_page.specs.Lines.{IsEndOfLine}
-use Rattle.fax_page.specs.CodedStrip.{end_of_block}
+use Rattle.fax_page.specs.CodedStrip.{end_bits}
 use Rattle.fax_page.specs.Strip.{IsReturnEol, AreReturnEols, IsEndMark, HasEndMark, IsBehindEnd}
 use Rattle.fax_page.specs.code.Starts.{HasEol, HasNoEol}
 use Rattle.fax_page.specs.code.Notes.{AreEolsTaken, IsBehind, TakesReturnEol, AreNotesBehind}
@@ -189,7 +189,7 @@ eols_end Mr b found either behind = behind
 eols_end Mmr b found either behind = absurd (not_mmr Mmr either refl)
 
 -- and two EOLs, as a number, that of MMR
-pub block_bits : code_bits 24 4097 ≡ end_of_block
+pub block_bits : code_bits 24 4097 ≡ end_bits Mmr
 unfolding code_bits
 block_bits = refl
 

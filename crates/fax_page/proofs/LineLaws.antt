@@ -9,9 +9,9 @@ use Rattle.fax_page.specs.declared.Dimension.TheVariants.{OneDimensional, TwoDim
 use Rattle.fax_page.specs.declared.StripForm.{StripForm}
 use Rattle.fax_page.specs.declared.StripFault.{StripFault}
 use Rattle.fax_page.specs.Lines.{BeginsBelowEleven, IsStart, IsRowIn, IsRowFaultIn, IsNoFirstCode}
-use Rattle.fax_page.specs.Lines.{IsStopInCodes, strip_fault}
+use Rattle.fax_page.specs.Lines.{IsStopInCodes, strip_fault, IsLine, IsCause}
 use Rattle.fax_page.specs.code.Starts.{IsFirstCodeFault}
-use Rattle.fax_page.specs.laws.Strips.{ReadsLinesOneWay, IsOneLine, IsLineOrCause, IsNoCauseOfLine, IsOneCause}
+use Rattle.fax_page.specs.laws.Strips.{ReadsLinesOneWay}
 use Rattle.fax_page.proofs.StartLaws.{one_start, start_or_fault, start_has_no_fault, one_start_fault, first_code_or_fault}
 use Rattle.fax_page.proofs.StartLaws.{first_code_has_no_fault, one_first_code_fault}
 
@@ -49,13 +49,17 @@ module _ (rows : (width : ℕ) → ReadsRowsOneWay width) (rows_over : (referenc
   one_fault OneDimensional width reference = (rows width).one_fault
   one_fault TwoDimensional width reference = (rows_over reference).one_fault
 
-  one_line : (form : StripForm) (i : ℕ) (reference : List Colour) → IsOneLine form i reference
+  one_line : (form : StripForm) (i : ℕ) (reference : List Colour) (b : List Bool) (row another : List Colour)
+      (rest remaining : List Bool) → IsLine form i reference b row rest → IsLine form i reference b another remaining
+      → (row ≡ another) × (rest ≡ remaining)
   one_line form i reference b row another rest remaining first second =
       one_row first.dimension form.width reference first.codes row another rest remaining first.coded
       (same_codes form i b first.dimension second.dimension first.codes second.codes first.begin.start second.begin.start
       (λ dimension codes. IsRowIn dimension form.width reference codes another remaining) second.coded)
 
-  line_or_cause : (form : StripForm) (i : ℕ) (reference : List Colour) → IsLineOrCause form i reference
+  line_or_cause : (form : StripForm) (i : ℕ) (reference : List Colour) (b : List Bool)
+      → ((row : List Colour) × (rest : List Bool) × IsLine form i reference b row rest)
+      ⊎ ((fault : StripFault) × IsCause form i reference b fault)
   line_or_cause form i reference b =
       elim (start_or_fault form.coding i b) [
         | inr fault ↦ inr (fault.0, inl fault.1)
@@ -90,7 +94,8 @@ module _ (rows : (width : ℕ) → ReadsRowsOneWay width) (rows_over : (referenc
         ]
       ]
 
-  line_has_no_cause : (form : StripForm) (i : ℕ) (reference : List Colour) → IsNoCauseOfLine form i reference
+  line_has_no_cause : (form : StripForm) (i : ℕ) (reference : List Colour) (b : List Bool) (row : List Colour) (rest : List Bool)
+      (fault : StripFault) → IsLine form i reference b row rest → IsCause form i reference b fault → ⊥
   line_has_no_cause form i reference b row rest fault line (inl stop) =
       start_has_no_fault form.coding i b line.dimension line.codes fault line.begin.start stop
   line_has_no_cause form i reference b row rest fault line (inr (inl none)) =
@@ -111,7 +116,8 @@ module _ (rows : (width : ℕ) → ReadsRowsOneWay width) (rows_over : (referenc
       (λ dimension codes. BeginsBelowEleven codes) stop.begin.first_code)
       none.at_first_code
 
-  one_cause : (form : StripForm) (i : ℕ) (reference : List Colour) → IsOneCause form i reference
+  one_cause : (form : StripForm) (i : ℕ) (reference : List Colour) (b : List Bool) (fault another : StripFault)
+      → IsCause form i reference b fault → IsCause form i reference b another → fault ≡ another
   one_cause form i reference b fault another (inl stop) (inl other) = one_start_fault form.coding i b fault another stop other
   one_cause form i reference b fault another (inl stop) (inr (inl none)) =
       absurd (start_has_no_fault form.coding i b none.dimension none.codes fault none.start stop)
@@ -139,8 +145,8 @@ module _ (rows : (width : ℕ) → ReadsRowsOneWay width) (rows_over : (referenc
   -- a row of a strip is read in one way
   pub line_reads_one_way : (form : StripForm) (i : ℕ) (reference : List Colour) → ReadsLinesOneWay form i reference
   line_reads_one_way form i reference = record {
-    one_line = one_line form i reference;
-    line_or_cause = line_or_cause form i reference;
-    line_has_no_cause = line_has_no_cause form i reference;
-    one_cause = one_cause form i reference;
+    one_answer = one_line form i reference;
+    answer_or_fault = line_or_cause form i reference;
+    answer_has_no_fault = line_has_no_cause form i reference;
+    one_fault = one_cause form i reference;
   }

@@ -69,7 +69,7 @@ module _ (reads : (form : StripForm) (i : ℕ) (reference : List Colour) → Rea
       (other : IsLine form i reference b row remaining) → IsSameLine form i reference row b rest remaining line other
   same_line form i reference row b rest remaining line other =
       let start = one_start form.coding i b line.dimension other.dimension line.codes other.codes line.begin.start other.begin.start in
-      let behind = ((reads form i reference).one_line b row row rest remaining line other).1 in
+      let behind = ((reads form i reference).one_answer b row row rest remaining line other).1 in
       record {
         same_behind = behind;
         chosen = λ is.

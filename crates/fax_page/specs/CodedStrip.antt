@@ -12,10 +12,6 @@ use Rattle.fax_page.specs.Lines.{StripForm, tag_bit, white_row}
 abbrev pub end_of_line : List Bool
 end_of_line = replicate 11 false ++ true ∷ []
 
--- the end of a facsimile block: two EOLs (T.6, End-of-facsimile block)
-abbrev pub end_of_block : List Bool
-end_of_block = end_of_line ++ end_of_line
-
 -- how row i of a strip is written: in MR one-dimensional exactly where i is a multiple of k
 -- (T.4, section 4.2.1.1; T.6, section 2.2.1)
 abbrev pub written_dimension : Coding → ℕ → ℕ → Dimension
@@ -61,7 +57,7 @@ coded_lines form k before i reference (row ∷ rows) =
 -- what is written after the last row: the end of the facsimile block in MMR (T.6, End-of-facsimile
 -- block), and nothing in MH and MR
 abbrev pub end_bits : Coding → List Bool
-end_bits Mmr = end_of_block
+end_bits Mmr = end_of_line ++ end_of_line
 end_bits _ = []
 
 -- the bits of a strip as it is written (T.4, section 4.2.1.1; T.6, section 2.2.1)

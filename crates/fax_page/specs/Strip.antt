@@ -4,9 +4,9 @@ use Rattle.std.specs.Prelude.{◌≡◌, ◌≢◌, ℕ, zero, suc, ◌+◌, ◌
 use Rattle.std.specs.Prelude.{◌∷◌, ◌++◌, Option, Some, None, IsTrue}
 use Rattle.std.specs.List.{Contains}
 use Rattle.fax_bits.specs.declared.Colour.{Colour}
-use Rattle.fax_page.specs.Lines.{Coding, Mh, Mr, Mmr, OneDimensional, StripForm, StripFault, tag_bit}
-use Rattle.fax_page.specs.Lines.{IsCause, IsEndOfLine, IsLine, white_row}
-use Rattle.fax_page.specs.CodedStrip.{end_of_block, row_bits}
+use Rattle.fax_page.specs.Lines.{Coding, Mh, Mr, Mmr, OneDimensional, StripForm, StripFault}
+use Rattle.fax_page.specs.Lines.{IsCause, IsEndOfLine, IsLine, tag_bit, white_row}
+use Rattle.fax_page.specs.CodedStrip.{end_bits, row_bits}
 use Rattle.fax_page.specs.declared.notes.StripNotes.{StripNotes}
 
 -- a strip ends before row i: it has all its rows, or the cause is in the way of that row
@@ -45,7 +45,7 @@ AreReturnEols coding (suc n) b rest =
 -- the bits begin with an end mark: in MH and MR a return to control, six EOLs (T.4, section 4.1.4),
 -- in MMR the end of a facsimile block (T.6, End-of-facsimile block)
 abbrev pub IsEndMark : Coding → List Bool → List Bool → Type 0
-IsEndMark Mmr b rest = b ≡ end_of_block ++ rest
+IsEndMark Mmr b rest = b ≡ end_bits Mmr ++ rest
 IsEndMark coding b rest = AreReturnEols coding 6 b rest
 
 abbrev pub HasEndMark : Coding → List Bool → Type 0

@@ -246,8 +246,9 @@ module _ (runs_read : (colour : Colour) → ReadsOneWay (run_table colour)) (mod
       ]
 
   -- a step before them
-  step_before : (reference : List Colour) (old : Position) (b : List Bool) (new : Position) (rest : List Bool) → (old.a0 ≢ Some (length reference))
-      → IsStep reference old b new rest → IsEndOrFault reference new rest → IsEndOrFault reference old b
+  step_before : (reference : List Colour) (old : Position) (b : List Bool) (new : Position) (rest : List Bool)
+      → (old.a0 ≢ Some (length reference)) → IsStep reference old b new rest → IsEndOrFault reference new rest
+      → IsEndOrFault reference old b
   step_before reference old b new rest unfinished step (inl end) =
       inl record {
         positions = new ∷ end.positions;

@@ -18,10 +18,9 @@ alternating_bits colour (n ∷ runs) = run_bits colour n ++ alternating_bits (ot
 abbrev pub one_dimensional_bits : List Colour → List Bool
 one_dimensional_bits row = alternating_bits White (runs_of row)
 
--- the step that is written from a0: its bits, and where it puts a0. It is pass mode where b2 is left
--- of a1, else vertical mode where a1 and b1 differ by at most 3, else horizontal mode with the runs
--- a0a1 and a1a2; just before the first pel a0 is white (T.4, sections 4.2.1.3.1, 4.2.1.3.2 and
--- 4.2.1.3.4)
+-- the step that is written from a0: its bits, and where it puts a0. Pass mode where b2 is left of
+-- a1, else vertical mode where a1 and b1 differ by at most 3, else horizontal mode with the runs
+-- a0a1 and a1a2; just before the first pel a0 is white (T.4, sections 4.2.1.3.1 to 4.2.1.3.4)
 abbrev pub chosen_step : List Colour → List Colour → Option ℕ → List Bool × ℕ
 chosen_step reference row a0 =
     let colour : Colour = elim a0 [ None ↦ White | Some a ↦ pel row a ] in

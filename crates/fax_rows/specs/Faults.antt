@@ -1,8 +1,9 @@
 -- Where the codes of a row stop, and why.
 -- A definition without a citation is this project's profile.
-use Rattle.std.specs.Prelude.{◌≡◌, ◌≢◌, ℕ, ◌+◌, ◌<◌, ◌≤◌, ◌⊎◌, Bool, List, [], ◌∷◌, map, sum, length, Some}
-use Rattle.fax_rows.specs.Rows.{Colour, White, ModeCode, AreRuns, AreSteps, IsInRow}
-use Rattle.fax_rows.specs.Rows.{Position, beginning, first_pel, other}
+use Rattle.std.specs.Prelude.{◌≡◌, ◌≢◌, ℕ, ◌+◌, ◌<◌, ◌≤◌, ◌⊎◌, Bool, List, [], ◌∷◌, map, sum}
+use Rattle.std.specs.Prelude.{length, Some}
+use Rattle.fax_rows.specs.Rows.{Colour, White, ModeCode, AreRuns, AreSteps, IsInRow, Position}
+use Rattle.fax_rows.specs.Rows.{beginning, first_pel, other}
 use Rattle.fax_bits.specs.declared.codes.CodeEntry.{CodeEntry}
 use Rattle.fax_bits.specs.declared.codes.CodeFault.{CodeFault}
 use Rattle.fax_bits.specs.declared.codes.CodeFault.TheVariants as code_fault

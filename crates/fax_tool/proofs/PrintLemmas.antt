@@ -10,7 +10,7 @@ use Rattle.fax_walk.specs.declared.begun.Begun.TheVariants.{At}
 use Rattle.fax_walk.specs.declared.cursor.Cursor.{Cursor}
 use Rattle.fax_walk.specs.declared.end.End.{End}
 use Rattle.fax_walk.specs.views.InOrder.{IsNumber, EndsAfter}
-use Rattle.fax_walk.specs.laws.InOrder.{IsOne}
+use Rattle.fax_bits.specs.laws.Codes.{IsOne}
 use Rattle.fax_walk.specs.Rows.{begins_at}
 use Rattle.fax_tool.specs.declared.refusal.Refusal.{Refusal}
 use Rattle.fax_tool.specs.Run.{Counts, IsTextOfFirst}

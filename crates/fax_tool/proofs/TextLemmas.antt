@@ -9,7 +9,7 @@ use Rattle.std.specs.Io.KnownBytes.{Appends}
 use Rattle.fax_walk.specs.declared.begun.Begun.{Begun}
 use Rattle.fax_walk.specs.declared.end.End.{End}
 use Rattle.fax_walk.specs.declared.end.End.TheVariants.{Proper, Fault, Outside}
-use Rattle.fax_walk.specs.laws.InOrder.{IsOne}
+use Rattle.fax_bits.specs.laws.Codes.{IsOne}
 use Rattle.fax_tool.specs.declared.refusal.Refusal.{Refusal}
 use Rattle.fax_tool.specs.Run.{Counts, IsTextOfFirst, IsTextOfLines}
 use Rattle.fax_tool.specs.views.Streams.{output_after}

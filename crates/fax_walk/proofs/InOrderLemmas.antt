@@ -5,7 +5,8 @@ use Rattle.std.proofs.lemmas.List.{take-append-drop}
 use Rattle.std.specs.Prelude.{slice_get}
 use Rattle.fax_walk.specs.declared.end.End.{End}
 use Rattle.fax_walk.specs.Pages.{AreFrom, AreBegun}
-use Rattle.fax_walk.specs.laws.InOrder.{LeadTo, IsOne}
+use Rattle.fax_walk.specs.laws.InOrder.{LeadTo}
+use Rattle.fax_bits.specs.laws.Codes.{IsOne}
 
 -- there is one answer, and no other
 pub record IsOneAnswer {A : Type 0} (holds : A → Type 0) : Type 0 where

@@ -7,7 +7,8 @@ use Rattle.fax_walk.specs.declared.begun.Begun.TheVariants.{At, Inside}
 use Rattle.fax_walk.specs.declared.cursor.Cursor.{Cursor}
 use Rattle.fax_walk.specs.declared.end.End.{End}
 use Rattle.fax_walk.specs.Cursors.{LongPlace}
-use Rattle.fax_walk.specs.laws.InOrder.{IsOne, IsTold, IsLeftOf}
+use Rattle.fax_walk.specs.laws.InOrder.{IsTold, IsLeftOf}
+use Rattle.fax_bits.specs.laws.Codes.{IsOne}
 use Rattle.fax_walk.specs.views.InOrder.{IsNumber, EndsAfter, HasToldNoOther}
 use Rattle.fax_walk.specs.views.Pages.{PagesView}
 use Rattle.fax_walk.specs.laws.Forms.{AreFormsLeft}

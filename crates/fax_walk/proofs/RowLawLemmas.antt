@@ -88,7 +88,7 @@ module _ (by_place : AreBitsByPlace) (lines_read : LinesAreRead) where
     one_item : (item another : Item) → IsItem form bytes at item → IsItem form bytes at another → another ≡ item
     one_item item another is is_too =
         let same =
-        (lines_read strip i reference).one_line b (exchanged form another.pels) (exchanged form item.pels) _ _ is_too.line is.line in
+        (lines_read strip i reference).one_answer b (exchanged form another.pels) (exchanged form item.pels) _ _ is_too.line is.line in
         let pels : another.pels ≡ item.pels =
         sym (exchanged_twice form another.pels) ∙ ap (exchanged form) same.0 ∙ exchanged_twice form item.pels in
         let before : another.bits ≡ item.bits = one_place by_place form.order bytes another.bits item.bits is_too.within is.within same.1 in
@@ -111,7 +111,7 @@ module _ (by_place : AreBitsByPlace) (lines_read : LinesAreRead) where
         only_item : (item : Item) → IsItem form bytes at item → (other : Result (Item × Place) End) → IsInStrip form at (Some bytes) other
             → other ≡ Ok (item, place_after form item)
         only_item item is (Err end) (fault, stop, end_is) =
-            absurd ((lines_read strip i reference).line_has_no_cause b _ _ fault is.line stop)
+            absurd ((lines_read strip i reference).answer_has_no_fault b _ _ fault is.line stop)
         only_item item is (Ok (another, to)) (is_too, to_is) =
             let same = one_item item another is is_too in
             rw (to_is, same) refl
@@ -121,13 +121,13 @@ module _ (by_place : AreBitsByPlace) (lines_read : LinesAreRead) where
         only_stop : (other : Result (Item × Place) End) → IsInStrip form at (Some bytes) other
             → other ≡ Err (Fault at.page at.row (Strip fault))
         only_stop (Err end) (another, stop_too, end_is) =
-            let same = (lines_read strip i reference).one_cause b another fault stop_too stop in
+            let same = (lines_read strip i reference).one_fault b another fault stop_too stop in
             ap (λ (e : End). Err e) (end_is ∙ ap (λ (f : StripFault). Fault at.page at.row (Strip f)) same)
         only_stop (Ok (another, to)) (is_too, to_is) =
-            absurd ((lines_read strip i reference).line_has_no_cause b _ _ fault is_too.line stop)
+            absurd ((lines_read strip i reference).answer_has_no_fault b _ _ fault is_too.line stop)
 
     in_bytes : IsOneAnswer (IsInStrip form at (Some bytes))
-    in_bytes = by_line ((lines_read strip i reference).line_or_cause b)
+    in_bytes = by_line ((lines_read strip i reference).answer_or_fault b)
 
   pub one_in_strip : (form : PageForm) (at : Place) (found : Option (List ℕ)) → IsOneAnswer (IsInStrip form at found)
   one_in_strip form at None =

@@ -59,12 +59,12 @@ pub record PacksOneWay : Type 0 where
   pub padded : PackedBitsArePadded
   pub only : PaddedBytesArePacked
 
--- at most one code of the table is taken, and one rest follows it (T.4, tables 2, 3a, 3b and 4)
-abbrev pub TakesOne : {M : Type 0} → List (CodeEntry M) → Type 0
-TakesOne {M} table =
-    (b : List Bool) (meaning other : M) (rest remaining : List Bool)
-    → Takes table b meaning rest → Takes table b other remaining → (meaning ≡ other)
-    × (rest ≡ remaining)
+-- a list begins with at most one answer, and one rest follows it
+abbrev pub HasOneAnswer : {B A : Type 0} → (List B → A → List B → Type 0) → Type 0
+HasOneAnswer {B} {A} IsAnswer =
+    (b : List B) (answer another : A) (rest remaining : List B)
+    → IsAnswer b answer rest → IsAnswer b another remaining
+    → (answer ≡ another) × (rest ≡ remaining)
 
 -- a code that is taken has at least one bit (T.4, tables 2, 3a, 3b and 4)
 abbrev pub TakesBits : {M : Type 0} → List (CodeEntry M) → Type 0
@@ -76,9 +76,7 @@ TakesBits {M} table =
 -- fault, never both
 pub record IsReadInOneWay {A F : Type 0} (IsAnswer : List Bool → A → List Bool → Type 0)
     (IsFault : List Bool → F → Type 0) : Type 0 where
-  pub one_answer : (b : List Bool) (answer another : A) (rest remaining : List Bool)
-      → IsAnswer b answer rest → IsAnswer b another remaining
-      → (answer ≡ another) × (rest ≡ remaining)
+  pub one_answer : HasOneAnswer IsAnswer
   pub answer_or_fault : (b : List Bool)
       → ((answer : A) × (rest : List Bool) × IsAnswer b answer rest)
       ⊎ ((fault : F) × IsFault b fault)
@@ -86,6 +84,13 @@ pub record IsReadInOneWay {A F : Type 0} (IsAnswer : List Bool → A → List Bo
       → IsAnswer b answer rest → IsFault b fault → ⊥
   pub one_fault : (b : List Bool) (fault another : F)
       → IsFault b fault → IsFault b another → fault ≡ another
+
+-- there is one list of which this holds, with one end
+pub record IsOne {A E : Type 0} (holds : List A → E → Type 0) : Type 0 where
+  pub items : List A
+  pub end : E
+  pub is : holds items end
+  pub one : (others : List A) (other : E) → holds others other → (others ≡ items) × (other ≡ end)
 
 -- bits are read by a table in one way, and each code takes bits (T.4, tables 2, 3a, 3b and 4)
 pub record ReadsOneWay {M : Type 0} (table : List (CodeEntry M)) : Type 0 where

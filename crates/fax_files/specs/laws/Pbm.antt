@@ -2,6 +2,7 @@
 -- A definition without a citation is this project's profile.
 use Rattle.std.specs.Prelude.{◌≡◌, ℕ, List, [], ◌∷◌, length, Option, None, IsTrue}
 use Rattle.fax_bits.specs.declared.Colour.{Colour}
+use Rattle.fax_bits.specs.laws.Codes.{HasOneAnswer}
 use Rattle.fax_files.specs.declared.pbm.PbmFault.{PbmFault}
 use Rattle.fax_files.specs.Pbm.{Image, IsImage, AreImages, is_within_limits, pbm_of}
 
@@ -34,6 +35,4 @@ ImagesAreReadInOneWay =
 -- bytes begin with at most one image, and one rest follows it
 -- (the netpbm format, P4, in this project's profile)
 abbrev pub ImagesBeginInOneWay : Type 0
-ImagesBeginInOneWay =
-    (bytes : List ℕ) (image other : Image) (rest others : List ℕ)
-    → IsImage bytes image rest → IsImage bytes other others → (image ≡ other) × (rest ≡ others)
+ImagesBeginInOneWay = HasOneAnswer IsImage

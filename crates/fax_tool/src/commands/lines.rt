@@ -1,6 +1,6 @@
 //! What is printed line by line: the rows of a file, or its pages.
 ghost use Rattle.std.specs.Prelude.{◌≡◌, ◌<◌, ◌↔◌, ℕ, List, IfOk, None};
-ghost use Rattle.fax_walk.specs.laws.InOrder.{IsOne};
+ghost use Rattle.fax_bits.specs.laws.Codes.{IsOne};
 ghost use Rattle.fax_walk.specs.views.Walk.{begins_inside};
 ghost use Rattle.fax_walk.specs.Rows.{begins_at};
 ghost use Rattle.fax_walk.specs.declared.begun.Begun.{Begun};

@@ -23,10 +23,3 @@ pub record IsLeftOf {A : Type 0} (tail : List A → End → Type 0) (given : ℕ
   pub within : given ≤ length all
   pub rest : items ≡ drop given all
   pub is_told : IsTold told items end
-
--- there is one list of which this holds, with one end
-pub record IsOne {A : Type 0} (holds : List A → End → Type 0) : Type 0 where
-  pub items : List A
-  pub end : End
-  pub is : holds items end
-  pub one : (others : List A) (other : End) → holds others other → (others ≡ items) × (other ≡ end)

@@ -13,7 +13,8 @@ use Rattle.fax_walk.specs.Converted.{AreForms, AreItems}
 use Rattle.fax_walk.specs.views.Pages.{PagesView, HandsOutPage, PagesHaveEnded}
 use Rattle.fax_walk.specs.laws.Forms.{AreFormsLeft}
 use Rattle.fax_walk.specs.views.InOrder.{EndsAfter}
-use Rattle.fax_walk.specs.laws.InOrder.{LeadTo, IsOne}
+use Rattle.fax_walk.specs.laws.InOrder.{LeadTo}
+use Rattle.fax_bits.specs.laws.Codes.{IsOne}
 use Rattle.fax_walk.specs.views.Walk.{WalkView, EndsBefore, IsTailOf, IsItemNumber, IsCursorOf}
 use Rattle.fax_walk.specs.laws.Left.{IsLeft}
 use Rattle.fax_walk.specs.views.Walk.{IsLongOf}

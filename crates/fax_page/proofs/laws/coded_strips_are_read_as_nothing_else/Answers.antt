@@ -1,9 +1,11 @@
-use Rattle.std.proofs.Common.{None, sym}
+use Rattle.std.proofs.Common.{None, sym, ◌∙◌}
+use Rattle.fax_bits.specs.Bits.{bits}
+use Rattle.fax_page.specs.CodedStrip.{coded_strip}
 use Rattle.fax_page.proofs.laws.coded_strips_are_read_as_nothing_else.Goals as goal
 
 pub returns : goal.returns
 returns c = λ form k rows others end limits fit strip.
-    let same =
-    (c.strips_are_read_in_one_way.ensures form).one_reading _ rows others None end
-    (c.coded_strips_are_read_back.ensures form k rows limits fit) strip in
-    (same.0, sym same.1)
+    let found = c.strips_are_read_in_one_way.ensures form (bits form.order (coded_strip form k rows)) in
+    let written = found.one rows None (c.coded_strips_are_read_back.ensures form k rows limits fit) in
+    let same = found.one others end strip in
+    (written.0 ∙ sym same.0, same.1 ∙ sym written.1)

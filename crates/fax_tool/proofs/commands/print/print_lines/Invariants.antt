@@ -1,5 +1,5 @@
 use Rattle.std.proofs.Common.{◌≡◌}
-use Rattle.fax_walk.specs.laws.InOrder.{IsOne}
+use Rattle.fax_bits.specs.laws.Codes.{IsOne}
 use Rattle.fax_tool.specs.code.Transfers.{counted}
 use Rattle.fax_tool.proofs.PrintLemmas.{PrintsSome}
 use Rattle.fax_tool.proofs.commands.print.print_lines.Given as goal
