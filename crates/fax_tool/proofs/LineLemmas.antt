@@ -27,8 +27,8 @@ use Rattle.fax_walk.specs.views.Pages.{PagesView, HandsOutPage, IsCursorOf as Is
 use Rattle.fax_walk.specs.laws.Tails.{BeginningsHaveOneTail, CursorsHaveOneFormTail, CursorsNameOnePage}
 use Rattle.fax_walk.specs.Pages.{FilePage, FormItem, IsFormTail, IsPageAt}
 use Rattle.fax_walk.specs.Rows.{Item, Place, IsInStrip, IsRow, IsTailFrom, begins_at, cursor_after, exchanged, first_at, long_after}
-use Rattle.fax_walk.specs.Rows.{long_at}
-use Rattle.fax_walk.specs.Rows.{row_in_strip, strip_at}
+use Rattle.fax_walk.specs.code.Places.{long_at}
+use Rattle.fax_walk.specs.code.Places.{row_in_strip, strip_at}
 use Rattle.fax_tool.specs.Run.{AreRowLines, ArePageLines, IsRowLine}
 use Rattle.fax_tool.specs.Text.{Line, begun_at, line_of_page, line_of_row, next_after, page_line_of, row_line, row_line_of}
 use Rattle.fax_tool.specs.code.Printing.{IsLinePut, IsNextAfter, end_of}
@@ -105,12 +105,12 @@ begins_after form item = after_tests form item (nat_lt (item.row + 1) form.rows)
 
 module _ (file : List ℕ) where
   row_has_line : (at : Place) (item : Item) (to : Place) → IsRow file at (Ok (item, to)) → (line : Line) × IsRowLine file item line
-  row_has_line at item to (Err end, page, e) = absurd cc
-  row_has_line at item to (Ok here, page, is) = in_bytes (strip_bytes here.endian file here.offset (strip_at here.form at.row)) is
+  row_has_line at item to (inl (end, page, e)) = absurd cc
+  row_has_line at item to (inr (here, page, is)) = in_bytes (strip_bytes here.endian file here.offset (strip_at here.form at.row)) is
     where
       in_bytes : (found : Option (List ℕ)) → IsInStrip here.form at found (Ok (item, to)) → (line : Line) × IsRowLine file item line
       in_bytes None e = absurd cc
-      in_bytes (Some bytes) (read, to_is) = (line_of_row here.form item, (here, rw (read.same_page, read.same_row) page, refl))
+      in_bytes (Some bytes) read = (line_of_row here.form item, (here, rw (read.0, read.1) page, refl))
 
   lines_from : (at : Place) (items : List Item) (end : End) → AreFrom (IsRow file) at items end
       → (lines : List Line) × AllZip (IsRowLine file) items lines

@@ -3,7 +3,7 @@
 use Rattle.std.specs.Prelude.{◌≡◌, ◌⊎◌, ℕ, List, [], ◌++◌, flat_map, Option, Some, None, codes}
 use Rattle.std.specs.Prelude.{decimal}
 use Rattle.fax_walk.specs.Pages.{Cause}
-use Rattle.fax_walk.specs.Report.{PbmFault, IsReport, note_name, note_number}
+use Rattle.fax_walk.specs.Report.{PbmFault, IsReport, number_and_name}
 use Rattle.fax_files.specs.Pbm.{pbm_fault_name}
 use Rattle.fax_walk.specs.declared.checking.Note.{Note}
 use Rattle.fax_walk.specs.declared.checking.Report.{Report}
@@ -25,7 +25,7 @@ and_strip (Some strip) = codes " strip" ++ and_number strip
 unfoldable pub note_line : Note → List ℕ
 note_line note =
     codes "note page" ++ and_number note.page ++ and_strip note.strip ++ codes ": N"
-    ++ decimal (note_number note.kind) ++ codes " " ++ note_name note.kind ++ line_end
+    ++ decimal (number_and_name note.kind).0 ++ codes " " ++ (number_and_name note.kind).1 ++ line_end
 
 -- `pages P rows R`: how many pages were read wholly, and how many rows
 abbrev pub counts_line : ℕ → ℕ → List ℕ

@@ -4,7 +4,7 @@ use Rattle.std.specs.Prelude.{ℕ, Bool, true, false, nat_le, if◌then◌else�
 use Rattle.std.specs.Prelude.{flat_map, length, take, Option, Some, None, codes, decimal}
 use Rattle.fax_rows.specs.Rows.{runs_of}
 use Rattle.fax_files.specs.Page.{Coding, Mh, Mr, Mmr, fill_order_of}
-use Rattle.fax_walk.specs.Pages.{Cause, PageForm, FormItem, cursor_after_page}
+use Rattle.fax_walk.specs.Pages.{Cause, PageForm, FormItem}
 use Rattle.fax_files.specs.FaultNames.{fault_name, fault_tag}
 use Rattle.fax_walk.specs.declared.end.End.TheVariants.{Proper, Fault, Outside}
 use Rattle.fax_walk.specs.Cursors.{LongPlace, cursor_text, long_cursor_text}
@@ -67,7 +67,7 @@ line_of_row form item =
 -- the line of a page
 abbrev pub line_of_page : FormItem → Line
 line_of_page item =
-    record { text = page_line_of item.page item.form; next = At (cursor_after_page item) }
+    record { text = page_line_of item.page item.form; next = At (record { page = item.page + 1; row = 0 }) }
 
 -- the texts of these lines
 abbrev pub texts_of : List Line → List ℕ

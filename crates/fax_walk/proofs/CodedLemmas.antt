@@ -22,9 +22,10 @@ use Rattle.fax_files.specs.Pbm.{is_within_limits}
 use Rattle.fax_files.specs.laws.Pbm.{AreOfWidth}
 use Rattle.fax_files.specs.laws.Files.{IsWritable, AreWritable, HoldStripRows}
 use Rattle.fax_walk.specs.declared.options.Options.{Options}
-use Rattle.fax_walk.specs.Converted.{SourcePage, strips_of, written_form, coded_strips, written_page}
+use Rattle.fax_walk.specs.Converted.{SourcePage, written_page}
+use Rattle.fax_walk.specs.code.OpenStrips.{strips_of, coded_strips}
 use Rattle.fax_walk.specs.laws.Written.{HoldsRows, IsWritableSource, written_pages, WrittenFilesAreWalked, CodedFilesAreWalked}
-use Rattle.fax_walk.proofs.OpenStripsLemmas.{enough}
+use Rattle.fax_walk.proofs.OpenStripsLemmas.{all_coded, enough}
 
 -- strips of enough rows are all rows
 rows_joined : (in_strip n : ℕ) (rows : List (List Colour)) → length rows ≤ n * in_strip → rows ≡ joined (strips_of in_strip n rows)
@@ -94,7 +95,7 @@ module _ (law : CodedStripsAreRead) (options : Options) (coding : Coding) (some_
     (has_eols : options.aligned ≡ true → coding ≢ Mmr) where
   module _ (source : SourcePage) (w : IsWritableSource source) where
     abbrev form : PageForm
-    form = written_form options coding source
+    form = (written_page options coding source).form
 
     form_limits : IsPageForm form
     form_limits =
@@ -114,18 +115,22 @@ module _ (law : CodedStripsAreRead) (options : Options) (coding : Coding) (some_
           aligned = has_eols;
         }
 
+    coded : (written_page options coding source).strips ≡ coded_strips form options.k 0 (strips_of form.rows_per_strip form.strips source.image.rows)
+    coded = all_coded form options.k source.image.rows
+
     page_writable : IsWritable (written_page options coding source)
     page_writable = record {
       limits = form_limits;
       exchanged = refl;
-      strips = strips_count form options.k 0 form.strips source.image.rows;
+      strips = rw coded (strips_count form options.k 0 form.strips source.image.rows);
     }
 
     page_holds : HoldsRows (written_page options coding source) source.image.rows
     page_holds = (
       strips_of form.rows_per_strip form.strips source.image.rows,
-      holds_from law form form_limits options.k 0 form.strips source.image.rows (omega arith) (omega arith)
-          (all_wide source.image.width source.image.rows w.image.rows),
+      rw coded
+          (holds_from law form form_limits options.k 0 form.strips source.image.rows (omega arith) (omega arith)
+          (all_wide source.image.width source.image.rows w.image.rows)),
       rows_joined form.rows_per_strip form.strips source.image.rows (enough form form_limits),
     )
 

@@ -15,7 +15,8 @@ use Rattle.fax_files.specs.views.Tiff.{TiffDirectory, directory_of, form_of}
 use Rattle.fax_walk.specs.declared.cursor.Cursor.{Cursor}
 use Rattle.fax_walk.specs.declared.end.End.{End}
 use Rattle.fax_walk.specs.declared.end.End.TheVariants.{Proper, Fault, Outside}
-use Rattle.fax_walk.specs.Pages.{IsPageAt, end_past_chain, page_or_end}
+use Rattle.fax_walk.specs.Pages.{IsPageAt}
+use Rattle.fax_walk.specs.code.Opening.{end_past_chain, page_or_end}
 use Rattle.fax_walk.specs.code.Opening.{EndsAt, IsChainBefore, IsFilePage, IsNamed, IsNoPage, IsPageAnswer, IsPageDue, PageDue, page_with}
 use Rattle.fax_walk.proofs.OpeningLemmas.{due_some, due_none, due_fault}
 use Rattle.fax_walk.proofs.PageLawLemmas.{page_here, proper_end}
@@ -43,7 +44,7 @@ outside_row pages at some = by_test (at.page == pages)
 
 pub header_refused : (file : List ℕ) (at : Cursor) (fault : FileFault) → header file ≡ Err fault
     → IsPageAt file at (Err (Fault 0 0 (File fault)))
-header_refused file at fault refused = rw refused refl
+header_refused file at fault refused = rw (refused, IsPageAt) refl
 
 -- a directory stands there
 pub goes_on : (file : List ℕ) (number : ℕ) (chain new : ChainState) (answer : Result (Option TiffDirectory) FileFault)

@@ -13,7 +13,9 @@ use Rattle.fax_walk.specs.declared.opening.OpenFault.{OpenFault}
 use Rattle.fax_walk.specs.declared.opening.OpenFault.TheVariants.{Memory, Ended}
 use Rattle.fax_walk.specs.Cursors.{LongPlace}
 use Rattle.fax_walk.specs.views.Walk.{EndsBefore}
-use Rattle.fax_walk.specs.Rows.{Begins, IsInnerOn, IsRow, Item, Place, begins_at, first_at, inner_at, row_in_strip, strip_at}
+use Rattle.fax_walk.specs.Rows.{IsInnerOn, IsRow, Item, Place, begins_at, first_at, inner_at}
+use Rattle.fax_walk.specs.code.Places.{row_in_strip, strip_at}
+use Rattle.fax_walk.specs.code.Places.{Begins}
 use Rattle.fax_walk.specs.code.Opening.{EndsAt, IsFilePage, IsNamed, PageDue, page_with}
 use Rattle.fax_walk.specs.code.Stages.{IsNoInner, IsNoStrip, IsOpenedAt, IsRefusal, PageState}
 use Rattle.fax_walk.specs.code.Walk.{HasNoRows, IsOpenedFirst}
@@ -48,11 +50,11 @@ no_row file begun end at n begins stop before = record {
 
 module _ (file : List ℕ) (at : Cursor) where
   ends_at : (end : End) → EndsAt file at end → Begins file (At at) (Err end)
-  ends_at end (inl none) = (Err end, none, refl)
+  ends_at end (inl none) = inl (end, none, refl)
   ends_at end (inr (here, page, above, end_is)) =
       let below : nat_lt at.row here.form.rows ≡ false = grind (arith, nat_tests, above) in
       let last : (at.row == here.form.rows) ≡ false = grind (arith, nat_tests, above) in
-      (Ok here, page, rw (below, last, end_is) refl)
+      inr (here, page, rw (below, last, end_is) refl)
 
   pub no_page : (end : End) → EndsAt file at end → HasNoRows file (At at) end
   no_page end ends = no_beginning file (At at) end (ends_at end ends)
@@ -64,7 +66,7 @@ module _ (file : List ℕ) (at : Cursor) where
     begins_on : at.row < due.form.rows → Begins file (At at) (Ok (here at.row, row_in_strip due.form at.row))
     begins_on below =
         let test : nat_lt at.row due.form.rows ≡ true = grind (arith, nat_tests, below) in
-        (Ok (page_with due.directory due.form), named.3, rw (test, named.1) refl)
+        inr (page_with due.directory due.form, named.3, rw (test, named.1) refl)
 
     pub opened_on : at.row < due.form.rows → (result : Result PageState OpenFault)
         → IfOk result (IsOpenedAt due.directory.file (here at.row) (row_in_strip due.form at.row) 0)
@@ -97,7 +99,7 @@ module _ (file : List ℕ) (at : Cursor) where
           let within = named.2 in
           let below : nat_lt at.row due.form.rows ≡ false = grind (arith, nat_tests, past) in
           let last : (at.row == due.form.rows) ≡ true = grind (arith, nat_tests, past, within) in
-          (Ok (page_with due.directory due.form), named.3, rw (below, last, its.after.given, named.1) refl)
+          inr (page_with due.directory due.form, named.3, rw (below, last, its.after.given, named.1) refl)
 
       its_file : due.chain.tiff.file ≡ file
       its_file = its.after.file_is ∙ named.0
@@ -122,9 +124,9 @@ module _ (file : List ℕ) (at : Cursor) where
 
 module _ (file : List ℕ) (place : LongPlace) where
   ends_inside : (end : End) → EndsAt file place.at end → Begins file (Inside place) (Err end)
-  ends_inside end (inl none) = (Err end, none, refl)
+  ends_inside end (inl none) = inl (end, none, refl)
   ends_inside end (inr (here, page, above, end_is)) =
-      (Ok here, page, inr (λ inner. let row = inner.row in omega (arith, above, row), rw end_is refl))
+      inr (here, page, inr (λ inner. let row = inner.row in omega (arith, above, row), rw end_is refl))
 
   pub no_page_inside : (end : End) → EndsAt file place.at end → HasNoRows file (Inside place) end
   no_page_inside end ends = no_beginning file (Inside place) end (ends_inside end ends)
@@ -132,7 +134,7 @@ module _ (file : List ℕ) (place : LongPlace) where
   module _ (due : PageDue) (named : IsNamed file place.at (Some due)) where
     begins_inside : IsInnerOn due.directory.file (page_with due.directory due.form) place → Begins file (Inside place)
         (Ok (inner_at place, 0))
-    begins_inside inner = (Ok (page_with due.directory due.form), named.3, inl (rw (named.0) at inner, refl))
+    begins_inside inner = inr (page_with due.directory due.form, named.3, inl (rw (named.0) at inner, refl))
 
     pub opened_inside : (result : Result PageState OpenFault) → IfOk result (IsOpenedAt due.directory.file (inner_at place) 0 0)
         → OnOk result (IsInnerOn due.directory.file (page_with due.directory due.form) place) → IfOk result
@@ -153,4 +155,4 @@ module _ (file : List ℕ) (place : LongPlace) where
         no_row file (Inside place) end (inner_at place) 0 (begins_inside inner) (rw (named.0) at stop) (inl refl)
     refused_inside (Err (Ended end)) (inr (not, end_is)) =
         no_beginning file (Inside place) end
-        (Ok (page_with due.directory due.form), named.3, inr (λ inner. not (rw (sym named.0) at inner), rw end_is refl))
+        (inr (page_with due.directory due.form, named.3, inr (λ inner. not (rw (sym named.0) at inner), rw end_is refl)))

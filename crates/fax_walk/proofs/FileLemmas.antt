@@ -28,19 +28,22 @@ use Rattle.fax_walk.specs.declared.output.Output.{Output}
 use Rattle.fax_walk.specs.Cursors.{start}
 use Rattle.fax_walk.specs.laws.InOrder.{LeadTo}
 use Rattle.fax_walk.specs.views.InOrder.{EndsAfter}
-use Rattle.fax_walk.specs.Pages.{FormItem, FilePage, IsPageAt, IsPageUnder, page_over, IsForm}
-use Rattle.fax_walk.specs.Pages.{IsFormTail, page_or_end, end_past_chain}
-use Rattle.fax_walk.specs.Converted.{AreForms, AreItems, IsTiff, IsTooLarge, target_bytes}
-use Rattle.fax_walk.specs.Converted.{IsConverted, IsNotConverted, IsSource, SourcePage, page_of_form}
+use Rattle.fax_walk.specs.Pages.{FormItem, FilePage, IsPageAt, IsForm}
+use Rattle.fax_walk.specs.code.Opening.{page_over}
+use Rattle.fax_walk.specs.code.Opening.{IsPageUnder}
+use Rattle.fax_walk.specs.Pages.{IsFormTail}
+use Rattle.fax_walk.specs.code.Opening.{page_or_end, end_past_chain}
+use Rattle.fax_walk.specs.Converted.{IsTiff, IsTooLarge, target_bytes}
+use Rattle.fax_walk.specs.Converted.{IsConverted, IsNotConverted, IsSource, SourcePage}
 use Rattle.fax_walk.specs.Converted.{pages_of}
 use Rattle.fax_walk.specs.Rows.{Item, Place, first_at, IsRow}
-use Rattle.fax_walk.specs.laws.Tails.{FilesHaveOneForms, FormTailOfStart}
+use Rattle.fax_walk.specs.laws.Tails.{AreForms, AreItems, FilesHaveOneForms, FormTailOfStart}
 use Rattle.fax_walk.specs.views.Pages.{PagesView, HandsOutPage, PagesHaveEnded, IsNextPage, pages_start}
 use Rattle.fax_walk.specs.views.Walk.{WalkView, walk_start}
 use Rattle.fax_walk.specs.code.Output.{Progress, with_source_page, page_of, form_sheet, IsWrittenTo, IsBeginning, IsWhole}
 use Rattle.fax_walk.specs.code.Sources.{AreWholePages, IsBeforePage, ConvertsRows, EndsWith, IsPageCount, ArePagesWritten, source_fault}
 use Rattle.fax_walk.specs.code.Sources.{pels_of}
-use Rattle.fax_walk.specs.code.Sources.{HasRows}
+use Rattle.fax_walk.specs.code.Sources.{HasRows, page_of_form}
 use Rattle.fax_walk.proofs.InOrderLemmas.{leads_on, leads_both, ended_at}
 use Rattle.fax_walk.proofs.NumberLemmas.{next_led, end_led}
 use Rattle.fax_walk.proofs.PageLawLemmas.{one_form}
@@ -163,8 +166,8 @@ some_under file (Ok head) is (offsets, fault, chain, e) = some_offsets head file
 
 -- a place of a page that is not there has this end, and so has the form due there
 not_there : (file : List ℕ) (k : ℕ) (end : End) → IsForm file k (Err end) → IsPageAt file (record { page = k; row = 0 }) (Err end)
-not_there file k end (Err none, page, e) = let same : none ≡ end = cc in rw same at page
-not_there file k end (Ok here, page, e) = absurd cc
+not_there file k end (inl (none, page, e)) = let same : none ≡ end = cc in rw same at page
+not_there file k end (inr (here, page, e)) = absurd cc
 
 -- a file without a page has a fault
 some_pages : (file : List ℕ) (forms : List FormItem) → AreForms file forms Proper → 1 ≤ length forms
@@ -197,8 +200,8 @@ module _ (file : List ℕ) where
           rw (first.0, ← second.0) (over (slice_get offsets' p) here offsets' fault' refl (rw heads at is'))
 
       inside : IsForm file p (Ok (item, later)) → later ≤ length offsets
-      inside (Err none, page, e) = absurd cc
-      inside (Ok here, page, e) =
+      inside (inl (none, page, e)) = absurd cc
+      inside (inr (here, page, e)) =
           let next : later ≡ p + 1 = ap to_of e in
           omega (arith, next, under (header file) here refl page)
         where
@@ -318,10 +321,10 @@ module _ (laws : SourceLaws) (file : List ℕ) (options : Options) (total count 
     due_page = found form_due.1
       where
         found : IsForm file pages.given (Ok (item, form_due.0)) → IsDuePage
-        found (Err none, page, e) = absurd cc
-        found (Ok here, page, e) =
+        found (inl (none, page, e)) = absurd cc
+        found (inr (here, page, e)) =
             let this : record { page = pages.given; form = here.form } ≡ item = sym (ap item_of e) in
-            record { here = here; page = page; form_is = ap (λ (i : FormItem). i.form) this; step = (Ok here, page, rw this refl) }
+            record { here = here; page = page; form_is = ap (λ (i : FormItem). i.form) this; step = (inr (here, page, rw this refl)) }
           where
             item_of : Result (FormItem × ℕ) End → FormItem
             item_of (Ok step) = step.0
@@ -397,7 +400,7 @@ module _ (laws : SourceLaws) (file : List ℕ) (options : Options) (total count 
   pub rows_refused : IsTiff file → (fault : ConvertFault) → EndsWith walk.file fault → IsNotConverted file options fault
   rows_refused tiff fault ends =
       subst (IsNotConverted file options) (sym ends.fault_is)
-      (inr (inr (tiff, ends.items, ends.page, ends.row, ends.cause, rw so_far.walk_from.0 at ends.are, refl)))
+      (tiff, ends.items, rw so_far.walk_from.0 at ends.are)
 
   module _ (end : End) (ended : EndsAfter (IsFormTail pages.file pages.begun) pages.given end) where
     form_end : IsForm file pages.given (Err end)
@@ -413,7 +416,7 @@ module _ (laws : SourceLaws) (file : List ℕ) (options : Options) (total count 
 
     items_end : AreItems file so_far.items end
     items_end =
-        ended_at (IsRow file) (first_at 0 0) (first_at pages.given 0) so_far.items end so_far.lead_items (Err end, end_page, refl)
+        ended_at (IsRow file) (first_at 0 0) (first_at pages.given 0) so_far.items end so_far.lead_items (inl (end, end_page, refl))
 
   pub not_outside : (new : PagesView) (fault : WalkFault) → IsNextPage pages (Err fault) new → fault ≢ CursorOutside
   not_outside new NoMemory ended = absurd ended
@@ -426,7 +429,7 @@ module _ (laws : SourceLaws) (file : List ℕ) (options : Options) (total count 
   told new NoMemory answer tiff ended is not_memory = absurd ended
   told new (AtRow p r cause) answer tiff ended is not_memory =
       subst (IsNotConverted file options) (sym is)
-      (inr (inr (tiff, so_far.items, p, r, cause, items_end (Fault p r cause) ended.ends, refl)))
+      (tiff, so_far.items, items_end (Fault p r cause) ended.ends)
   told new CursorOutside answer tiff ended is not_memory = absurd (not_memory is)
 
   module _ (tiff : IsTiff file) (new : PagesView) (ended : PagesHaveEnded pages Proper new) where

@@ -13,10 +13,10 @@ use Rattle.fax_files.specs.laws.Pbm.{AreOfWidth, ImagesAreReadInOneWay, ImagesBe
 use Rattle.fax_walk.specs.declared.options.Options.{Options}
 use Rattle.fax_walk.specs.declared.output.Output.{Output}
 use Rattle.fax_walk.specs.declared.output.Output.TheVariants.{TooLarge}
-use Rattle.fax_walk.specs.Converted.{SourcePage, page_of_image}
+use Rattle.fax_walk.specs.Converted.{SourcePage}
 use Rattle.fax_walk.specs.code.Conversion.{IsImageCount}
 use Rattle.fax_walk.specs.code.Output.{Progress, IsWrittenTo, IsBeginning}
-use Rattle.fax_walk.specs.code.Sources.{PutsImage, AreImagesWritten}
+use Rattle.fax_walk.specs.code.Sources.{page_of_image, PutsImage, AreImagesWritten}
 
 pub raster_count : (width n : ℕ) (bytes : List ℕ) → length (raster_rows width n bytes) ≡ n
 raster_count width zero bytes = refl

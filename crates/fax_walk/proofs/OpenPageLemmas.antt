@@ -27,9 +27,10 @@ use Rattle.fax_walk.specs.declared.end.End.TheVariants.{Fault, Outside}
 use Rattle.fax_walk.specs.declared.opening.OpenFault.{OpenFault}
 use Rattle.fax_walk.specs.declared.opening.OpenFault.TheVariants.{Memory, Ended}
 use Rattle.fax_walk.specs.Cursors.{LongPlace}
-use Rattle.fax_walk.specs.Rows.{Inner, Item, Place, IsRow, bits_before, exchanged, first_at}
-use Rattle.fax_walk.specs.Rows.{place_after, reference_of, IsInner, IsInnerOn, inner_at, long_at}
-use Rattle.fax_walk.specs.Rows.{row_in_strip, strip_at}
+use Rattle.fax_walk.specs.Rows.{Inner, Item, Place, IsRow, before, exchanged, first_at}
+use Rattle.fax_walk.specs.Rows.{place_after, IsInnerOn, inner_at}
+use Rattle.fax_walk.specs.code.Places.{IsInner, long_at}
+use Rattle.fax_walk.specs.code.Places.{row_in_strip, strip_at}
 use Rattle.fax_walk.specs.code.Places.{place_on}
 use Rattle.fax_walk.specs.Pages.{IsPageAt}
 use Rattle.fax_walk.specs.laws.InOrder.{LeadTo}
@@ -94,8 +95,8 @@ at_end form p r inner last =
 pub record IsInnerOf (page : PageState) : Type 0 where
   pub inner : Option Inner
   pub place_is : place_of page ≡ record { page = page.page; row = row_of page; inner = inner }
-  pub bits_are : bits_before inner ≡ page.strip.place
-  pub reference_is : reference_of page.form.width inner ≡ page.strip.reference
+  pub bits_are : (before page.form.width inner).bits ≡ page.strip.place
+  pub reference_is : (before page.form.width inner).reference ≡ page.strip.reference
 
 module _ (page : PageState) (limits : IsPageForm page.form) (strip_is : IsStripOf page.form page.directory page.number page.strip) where
   abbrev n : ℕ
@@ -146,19 +147,17 @@ module _ (page : PageState) (limits : IsPageForm page.form) (strip_is : IsStripO
         line = rw (reads.same_form, reads.same_bytes, strip_is.form_is) at reads.line
 
         pub row_read : IsRow page.directory.file (place_of page) (Ok (item, place_after page.form item))
-        row_read = rw stands.place_is (
-          Ok (page_with page.directory page.form),
+        row_read = rw stands.place_is (inr (
+          page_with page.directory page.form,
           its.here (row_of page),
           rw (numbers.0, strip_is.bytes_are) (
-            record {
-              same_page = refl;
-              same_row = refl;
-              within = rw reads.same_bytes at within;
-              line = rw (numbers.0, numbers.1, stands.bits_are, stands.reference_is, twice) line;
-            },
+            refl,
+            refl,
+            rw reads.same_bytes at within,
+            rw (numbers.0, numbers.1, stands.bits_are, stands.reference_is, twice) line,
             refl,
           ),
-        )
+        ))
 
         pub place_next : place_on page.form page.page (page.number * n + strip.row)
             (record { bits = strip.place; reference = strip.reference })
@@ -170,15 +169,15 @@ module _ (page : PageState) (limits : IsPageForm page.form) (strip_is : IsStripO
       -- it is not there
       pub row_fault : (fault : StripFault) (strip : StripState) → MeetsFault page.strip fault strip
           → IsRow page.directory.file (place_of page) (Err (Fault page.page (row_of page) (Strip fault)))
-      row_fault fault strip meets = rw stands.place_is (
-        Ok (page_with page.directory page.form),
+      row_fault fault strip meets = rw stands.place_is (inr (
+        page_with page.directory page.form,
         its.here (row_of page),
         rw (numbers.0, strip_is.bytes_are) (
           fault,
           rw (numbers.0, numbers.1, stands.bits_are, stands.reference_is) (rw strip_is.form_is at meets.cause),
           refl,
         ),
-      )
+      ))
 
   -- the strip is read to its end, and the page goes on
   module _ (all_read : page.strip.row ≡ page.strip.form.rows) (due : row_of page < page.form.rows) where
@@ -193,11 +192,11 @@ module _ (page : PageState) (limits : IsPageForm page.form) (strip_is : IsStripO
 
     pub strip_outside : IsFilePage page.page page.chain page.directory page.form → bytes_of page.directory (page.number + 1) ≡ None
         → IsRow page.directory.file (place_of page) (Err (Fault page.page (row_of page) (File StripOutside)))
-    strip_outside its outside = rw first_there (
-      Ok (page_with page.directory page.form),
+    strip_outside its outside = rw first_there (inr (
+      page_with page.directory page.form,
       its.here (row_of page),
       rw (next_numbers.0, outside, next_numbers.0) (rw next_row refl),
-    )
+    ))
 
     pub next_row_is : (strip : StripState) → strip.row ≡ 0 → (page.number + 1) * n + strip.row ≡ row_of page
     next_row_is strip none = omega (arith, none, next_row)
@@ -371,8 +370,8 @@ module _ (due : PageDue) (first : ℕ) (its : IsFilePage due.page due.chain due.
 
   pub refused_strip : bytes_of due.directory number ≡ None → IsNoStrip due first (Fault due.page begins (File StripOutside))
   refused_strip outside = record {
-    stop = (
-      Ok (page_with due.directory due.form),
+    stop = inr (
+      page_with due.directory due.form,
       its.here begins,
       rw (begin_numbers.0, outside, begin_numbers.0) refl,
     );
@@ -431,7 +430,7 @@ pub inner_is : (width : ℕ) (bytes : List ℕ) (place : LongPlace) (reference :
     → length reference ≡ width → runs_of reference ≡ place.runs → IsInner width bytes place × (reference ≡ pels_of White place.runs)
 inner_is width bytes place reference within width_is runs =
     let pels : pels_of White place.runs ≡ reference = ap (pels_of White) (sym runs) ∙ pels_behind White 0 reference in
-    (record { within = within; width_is = rw pels width_is; runs = rw pels runs }, sym pels)
+    ((within, rw pels width_is, rw pels runs), sym pels)
 
 -- a place inside a strip of a page that is due
 module _ (due : PageDue) (place : LongPlace) (its : IsFilePage due.page due.chain due.directory due.form)
@@ -449,7 +448,7 @@ module _ (due : PageDue) (place : LongPlace) (its : IsFilePage due.page due.chai
       → IsNoInner due place (Fault due.page (its_number * due.form.rows_per_strip) (File StripOutside))
   no_strip outside = inl (
     record { row = below; not_first = some; fits = rw outside tt },
-    (Ok (page_with due.directory due.form), its_here, rw outside (rw same_page refl)),
+    inr (page_with due.directory due.form, its_here, rw outside (rw same_page refl)),
   )
 
   module _ (bytes : List ℕ) (there : bytes_of due.directory its_number ≡ Some bytes) where

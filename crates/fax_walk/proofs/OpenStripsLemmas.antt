@@ -1,6 +1,7 @@
 -- Rows that are put on a page, strip by strip.
 use Rattle.std.proofs.Common.{◌≡◌, ℕ, zero, suc, ◌+◌, ◌*◌, ◌<◌, ◌≤◌, inl, inr, min, List, [], ◌∷◌, ◌++◌, length, take, drop, Option, Some}
-use Rattle.std.proofs.Common.{None, Vec, refl, sym, ap, ◌∙◌, subst, arith, length-drop}
+use Rattle.std.specs.List.{range_with_len}
+use Rattle.std.proofs.Common.{map, None, Vec, refl, sym, ap, ◌∙◌, subst, arith, length-drop}
 use Rattle.std.specs.declared.alloc.Global.{Global}
 use Rattle.std.proofs.lemmas.List.{take-append-le, drop-append-le, drop-drop, drop_all, take_all, length_push}
 use Rattle.std.proofs.Math.Nat.{mul-le-mul_left}
@@ -15,8 +16,7 @@ use Rattle.fax_files.specs.views.Page.{IsPageForm}
 use Rattle.fax_files.specs.Page.{strip_form}
 use Rattle.fax_files.specs.views.Writing.{contents}
 use Rattle.fax_walk.specs.declared.open_strips.OpenStrips.{OpenStrips}
-use Rattle.fax_walk.specs.Converted.{strips_of, coded_strips}
-use Rattle.fax_walk.specs.code.OpenStrips.{AreInStrip, HasPutRows}
+use Rattle.fax_walk.specs.code.OpenStrips.{strips_of, coded_strips, AreInStrip, HasPutRows}
 
 -- rows after n strips do not change them
 pub strips_more : (in_strip n : ℕ) (rows more : List (List Colour)) → n * in_strip ≤ length rows
@@ -60,6 +60,27 @@ coded_next form k s (first ∷ strips) rows =
     ap (λ (l : List (List ℕ)). coded_strip (strip_form form s) k first ∷ l)
     (coded_next form k (s + 1) strips rows
     ∙ ap (λ (i : ℕ). coded_strips form k (s + 1) strips ++ coded_strip (strip_form form i) k rows ∷ []) there)
+
+-- the strips of a page, each by its number, are these
+coded_from : (form : PageForm) (k in_strip s n : ℕ) (rows : List (List Colour))
+    → map (λ i. coded_strip (strip_form form i) k (take in_strip (drop (i * in_strip) rows))) (range_with_len s n)
+    ≡ coded_strips form k s (strips_of in_strip n (drop (s * in_strip) rows))
+coded_from form k in_strip s zero rows = refl
+coded_from form k in_strip s (suc n) rows =
+    let place : s * in_strip + in_strip ≡ (s + 1) * in_strip = omega arith in
+    let rest = drop-drop in_strip (s * in_strip) rows ∙ ap (λ (i : ℕ). drop i rows) place in
+    ap (λ (l : List (List ℕ)). coded_strip (strip_form form s) k (take in_strip (drop (s * in_strip) rows)) ∷ l)
+    (coded_from form k in_strip (s + 1) n rows
+    ∙ ap (λ (l : List (List Colour)). coded_strips form k (s + 1) (strips_of in_strip n l)) (sym rest))
+
+pub all_coded : (form : PageForm) (k : ℕ) (rows : List (List Colour))
+    → map (λ s. coded_strip (strip_form form s) k (take form.rows_per_strip (drop (s * form.rows_per_strip) rows)))
+    (range_with_len 0 form.strips)
+    ≡ coded_strips form k 0 (strips_of form.rows_per_strip form.strips rows)
+all_coded form k rows =
+    let none : 0 * form.rows_per_strip ≡ 0 = omega arith in
+    coded_from form k form.rows_per_strip 0 form.strips rows
+    ∙ ap (λ (i : ℕ). coded_strips form k 0 (strips_of form.rows_per_strip form.strips (drop i rows))) none
 
 contents_next : (strips : List (Vec ℕ Global)) (bytes : Vec ℕ Global)
     → contents (strips ++ bytes ∷ []) ≡ contents strips ++ bytes.items ∷ []

@@ -31,9 +31,10 @@ use Rattle.fax_walk.specs.declared.options.Target.{Target}
 use Rattle.fax_walk.specs.declared.options.Target.TheVariants.{Pbm, Mh as ToMh, Mr as ToMr, Mmr as ToMmr}
 use Rattle.fax_walk.specs.declared.open_strips.OpenStrips.{OpenStrips}
 use Rattle.fax_walk.specs.declared.sheet.Sheet.{Sheet}
-use Rattle.fax_walk.specs.Converted.{SourcePage, strips_of, coded_strips, written_page, target_bytes, IsTooLarge}
-use Rattle.fax_walk.specs.code.OpenStrips.{HasPutRows, AreInStrip}
+use Rattle.fax_walk.specs.Converted.{SourcePage, written_page, target_bytes, IsTooLarge}
+use Rattle.fax_walk.specs.code.OpenStrips.{strips_of, coded_strips, HasPutRows, AreInStrip}
 use Rattle.fax_walk.specs.code.Output.{Progress, Part, no_rows, with_row, page_of, behind, nothing_written, sheet_form, coding_of}
+use Rattle.fax_walk.proofs.OpenStripsLemmas.{all_coded}
 use Rattle.fax_walk.specs.code.Output.{StaysTooLarge, HasImages, HasPages, HasRowsOnPage, HasImageRows, BecomesTooLarge}
 
 -- what follows where a call was done
@@ -268,6 +269,7 @@ module _ (part : Part) (coding : Coding) (writer : Writing) (page : OpenStrips) 
       ∙ ap (λ (n : ℕ). coded_strips as_put options.k 0 (strips_of as_put.rows_per_strip n part.rows))
       (all_strips as_put options.k part.rows page has.2 all)
       ∙ ap (λ (f : PageForm). coded_strips f options.k 0 (strips_of f.rows_per_strip f.strips part.rows)) same_form
+      ∙ sym (all_coded (written source).form options.k part.rows)
 
   with_source : with_page writer.written writer.total writer.added page.form (contents page.done.items)
       ≡ with_pages empty_file total 0 (map written pages)

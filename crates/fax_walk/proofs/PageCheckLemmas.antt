@@ -1,23 +1,25 @@
 -- The pages of a file that is checked.
 use Rattle.std.proofs.Common.{◌≡◌, ℕ, ◌+◌, ◌*◌, ◌≤◌, List, [], ◌∷◌, ◌++◌, length, Option, Some, None, Ok, Err, refl, sym, ap, ◌∙◌}
 use Rattle.std.proofs.Common.{arith, append_assoc, append-nil, true, false, inl, inr, ◌<◌}
-use Rattle.std.specs.Prelude.{slice_get, ◌==◌}
+use Rattle.std.specs.Prelude.{slice_get, ◌==◌, not}
 use Rattle.std.proofs.lemmas.Bool.{cases_lt}
 use Rattle.std.proofs.lemmas.Bool.Decides.{nat_tests}
 use Rattle.fax_files.specs.declared.FileFault.{FileFault}
 use Rattle.fax_files.specs.declared.Cause.{Cause}
 use Rattle.fax_files.specs.declared.Cause.TheVariants.{File}
 use Rattle.fax_files.specs.declared.PageForm.{PageForm}
-use Rattle.fax_files.specs.Directory.{IsChain, header}
+use Rattle.fax_files.specs.Directory.{IsChain, ascend, entries, header}
 use Rattle.fax_files.specs.laws.Files.{IsWholeForm}
 use Rattle.fax_files.specs.views.Tiff.{TiffFile, TiffDirectory, directory_of, form_of}
 use Rattle.fax_walk.specs.declared.checking.Note.{Note}
+use Rattle.fax_walk.specs.declared.checking.NoteKind.TheVariants.{EntriesOutOfOrder}
 use Rattle.fax_walk.specs.declared.checking.PageRead.{PageRead}
 use Rattle.fax_walk.specs.declared.checking.Report.{Report}
 use Rattle.fax_walk.specs.declared.end.End.{End}
 use Rattle.fax_walk.specs.declared.end.End.TheVariants.{Proper, Fault}
-use Rattle.fax_walk.specs.Pages.{IsPageAt, end_past_chain}
-use Rattle.fax_walk.specs.Report.{note_on_entries, IsReportedEnd, IsReport, strip_of}
+use Rattle.fax_walk.specs.Pages.{IsPageAt}
+use Rattle.fax_walk.specs.code.Opening.{end_past_chain}
+use Rattle.fax_walk.specs.Report.{note_if, IsReportedEnd, IsReport}
 use Rattle.fax_walk.specs.code.Check.{before_page, before_strip, HasChecked, IsCheckedTo, IsDirectoryOfPage, IsRestChecked, IsReadFrom}
 use Rattle.fax_walk.specs.code.Check.{ArePagesChecked}
 use Rattle.fax_walk.proofs.CheckLemmas.{nothing_checked, checked_on, checked_to, ends_at}
@@ -26,7 +28,7 @@ use Rattle.fax_walk.proofs.PageLawLemmas.{page_here}
 -- page p of a file ends the chain there
 ends_at_page : (file : List ℕ) (p : ℕ) (end : End) → IsPageAt file (record { page = p; row = 0 }) (Err end)
     → IsCheckedTo file (before_page p) [] 0 end
-ends_at_page file p end at = ends_at file (before_page p) end (Err end, at, refl) (Err end, at, refl)
+ends_at_page file p end at = ends_at file (before_page p) end (inl (end, at, refl)) (inl (end, at, refl))
 
 -- a page whose fields are refused
 pub refused_page : (directory : TiffDirectory) (p : ℕ) (old new : List Note) (fault : FileFault) → IsDirectoryOfPage directory p
@@ -43,7 +45,7 @@ refused_page directory p old new fault here same refused = record {
 module _ (directory : TiffDirectory) (form : PageForm) (p : ℕ) (some : IsWholeForm form) (form_is : form_of directory ≡ Ok form)
     (here : IsDirectoryOfPage directory p) where
   abbrev on_entries : List Note
-  on_entries = note_on_entries directory.endian directory.file directory.offset p
+  on_entries = note_if (not (ascend (entries directory.endian directory.file directory.offset))) p None EntriesOutOfOrder
 
   some_strip : 0 < form.strips
   some_strip = elim (cases_lt 0 form.strips) [
@@ -60,7 +62,7 @@ module _ (directory : TiffDirectory) (form : PageForm) (p : ℕ) (some : IsWhole
       let zero : 0 * form.rows_per_strip ≡ 0 = omega arith in
       rw (test, zero) (record {
         found = on_entries ∷ [];
-        lead = (strip_of p 0, (Ok _, rw form_is at (here 0), refl), refl);
+        lead = ((p, Some 0), (inr (_, rw form_is at (here 0), refl)), refl);
         notes_are = sym (append-nil on_entries);
         items = [];
         lead_rows = refl;
@@ -111,7 +113,9 @@ reported file report notes rows end is notes_are rows_are end_is = record {
   read = is.are_rows;
   rows_are = rows_are ∙ is.count;
   end_is = end_is;
-  notes_are = record { found = is.found; are = is.are; notes_are = notes_are ∙ is.notes_are };
+  notes = is.found;
+  noted = is.are;
+  notes_are = notes_are ∙ is.notes_are;
 }
 
 -- after the last page
@@ -139,7 +143,7 @@ pub header_report : (file : List ℕ) (met : FileFault) (report : Report) → he
     → report.pages ≡ 0
     → report.rows ≡ 0 → report.fault ≡ Some (record { page = 0; row = 0 }, File met) → IsReport file report
 header_report file met report bad none pages rows fault_is =
-    reported file report [] 0 (Fault 0 0 (File met)) (ends_at_page file 0 (Fault 0 0 (File met)) (rw bad refl)) none rows (pages, fault_is)
+    reported file report [] 0 (Fault 0 0 (File met)) (ends_at_page file 0 (Fault 0 0 (File met)) (rw (bad, IsPageAt) refl)) none rows (pages, fault_is)
 
 -- what a file's chain has at a number
 module _ (tiff : TiffFile) (offsets : List ℕ) (fault : Option FileFault) (good : header tiff.file ≡ Ok tiff.head)

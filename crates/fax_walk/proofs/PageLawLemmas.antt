@@ -1,5 +1,5 @@
 -- What is asked of a file's pages has one answer, and so have its forms.
-use Rattle.std.proofs.Common.{◌≡◌, ℕ, zero, suc, ◌+◌, List, [], ◌∷◌, length, drop, Option, Some, None, Result, Ok, Err, refl, sym, ap, ◌∙◌}
+use Rattle.std.proofs.Common.{inl, inr, ◌≡◌, ℕ, zero, suc, ◌+◌, List, [], ◌∷◌, length, drop, Option, Some, None, Result, Ok, Err, refl, sym, ap, ◌∙◌}
 use Rattle.std.proofs.Common.{subst, arith, true}
 use Rattle.std.specs.Prelude.{slice_get, ◌==◌}
 use Rattle.std.proofs.lemmas.Bool.Decides.{nat_tests}
@@ -12,9 +12,12 @@ use Rattle.fax_files.specs.laws.Files.{FilesHaveOneChain}
 use Rattle.fax_walk.specs.declared.cursor.Cursor.{Cursor}
 use Rattle.fax_walk.specs.declared.end.End.{End}
 use Rattle.fax_walk.specs.declared.end.End.TheVariants.{Fault, Proper}
-use Rattle.fax_walk.specs.Pages.{AreFrom, AreBegun, FormItem, FilePage, page_over, IsPageUnder}
-use Rattle.fax_walk.specs.Pages.{IsPageAt, IsAsked, IsOnPage, IsForm, first_form, IsFormTail}
-use Rattle.fax_walk.specs.Pages.{end_past_chain, page_or_end}
+use Rattle.fax_walk.specs.Pages.{AreFrom, AreBegun, FormItem, FilePage}
+use Rattle.fax_walk.specs.code.Opening.{page_over}
+use Rattle.fax_walk.specs.code.Opening.{IsPageUnder}
+use Rattle.fax_walk.specs.Pages.{IsPageAt, IsOnPage, IsForm, IsFormTail}
+use Rattle.fax_walk.specs.code.Pages.{first_form}
+use Rattle.fax_walk.specs.code.Opening.{end_past_chain, page_or_end}
 use Rattle.fax_walk.specs.laws.Tails.{FilesHaveOneForms, CursorsHaveOneFormTail, FormTailOfPage, FormTailOfStart, FormsStandByNumber}
 use Rattle.fax_walk.specs.laws.Tails.{FormTailsGoOn}
 use Rattle.fax_walk.proofs.InOrderLemmas.{IsOneAnswer, IsListed, same_answer, same_step, one_list, one_begun, split_at_number}
@@ -67,22 +70,31 @@ module _ (chains : FilesHaveOneChain) (file : List ℕ) where
   pub one_page : (at : Cursor) → IsOneAnswer (IsPageAt file at)
   one_page at = let only = page_under at (header file) in record { it = only.it; is = only.is; one = only.one }
 
-  asked_one : {A : Type 0} (asked : FilePage → Result A End → Type 0) → ((here : FilePage) → IsOneAnswer (asked here))
-      → (found : Result FilePage End) → IsOneAnswer (IsAsked asked found)
-  asked_one asked answers (Err end) = record { it = Err end; is = refl; one = λ other same. same }
-  asked_one asked answers (Ok here) = let only = answers here in record { it = only.it; is = only.is; one = only.one }
+  asked_one : {A : Type 0} (at : Cursor) (asked : FilePage → Result A End → Type 0) → ((here : FilePage) → IsOneAnswer (asked here))
+      → (found : Result FilePage End) → IsPageAt file at found
+      → ((other : Result FilePage End) → IsPageAt file at other → other ≡ found) → IsOneAnswer (IsOnPage file at asked)
+  asked_one {A} at asked answers (Err end) is only = record { it = Err end; is = inl (end, is, refl); one = one }
+    where
+      one : (other : Result A End) → IsOnPage file at asked other → other ≡ Err end
+      one other (inl (its, page, e)) =
+          let err : ◌≡◌ {A = Result FilePage End} (Err its) (Err end) = only (Err its) page in
+          let same : its ≡ end = cc in e ∙ ap (λ (x : End). Err x) same
+      one other (inr (here, page, e)) =
+          let none : ◌≡◌ {A = Result FilePage End} (Ok here) (Err end) = only (Ok here) page in absurd cc
+  asked_one {A} at asked answers (Ok here) is only =
+      record { it = (answers here).it; is = inr (here, is, (answers here).is); one = one }
+    where
+      one : (other : Result A End) → IsOnPage file at asked other → other ≡ (answers here).it
+      one other (inl (its, page, e)) =
+          let none : ◌≡◌ {A = Result FilePage End} (Err its) (Ok here) = only (Err its) page in absurd cc
+      one other (inr (there, page, e)) =
+          let ok : ◌≡◌ {A = Result FilePage End} (Ok there) (Ok here) = only (Ok there) page in
+          let same : there ≡ here = cc in (answers here).one other (subst (λ (h : FilePage). asked h other) same e)
 
   -- what has one answer on each page has one on the page that a cursor names
   pub one_on_page : {A : Type 0} (at : Cursor) (asked : FilePage → Result A End → Type 0) → ((here : FilePage) → IsOneAnswer (asked here))
       → IsOneAnswer (IsOnPage file at asked)
-  one_on_page at asked answers =
-      let found = one_page at in
-      let only = asked_one asked answers found.it in
-      record {
-        it = only.it;
-        is = (found.it, found.is, only.is);
-        one = λ other is. only.one other (subst (λ (f : Result FilePage End). IsAsked asked f other) (found.one is.0 is.1) is.2);
-      }
+  one_on_page at asked answers = let found = one_page at in asked_one at asked answers found.it found.is found.one
 
   pub one_form : (p : ℕ) → IsOneAnswer (IsForm file p)
   one_form p = one_on_page (record { page = p; row = 0 }) _ (λ here. only_it (Ok (record { page = p; form = here.form }, p + 1)))
@@ -98,24 +110,24 @@ module _ (chains : FilesHaveOneChain) (file : List ℕ) where
       → (forms : List FormItem) (end : End)
       → AreFrom (IsForm file) p forms end → FormsAt file p found forms end
   forms_at p (Err none) is [] end step =
-      let same = same_answer (one_form chains file p) (Err end) (Err none) step (Err none, is, refl) in
+      let same = same_answer (one_form chains file p) (Err end) (Err none) step (inl (none, is, refl)) in
       (refl, cc)
   forms_at p (Err none) is (x ∷ forms) end (to, step, rest) =
-      let same = same_answer (one_form chains file p) (Ok (x, to)) (Err none) step (Err none, is, refl) in
+      let same = same_answer (one_form chains file p) (Ok (x, to)) (Err none) step (inl (none, is, refl)) in
       absurd cc
   forms_at p (Ok here) is [] end step =
       let same =
-      same_answer (one_form chains file p) (Err end) (Ok (record { page = p; form = here.form }, p + 1)) step (Ok here, is, refl) in
+      same_answer (one_form chains file p) (Err end) (Ok (record { page = p; form = here.form }, p + 1)) step (inr (here, is, refl)) in
       absurd cc
   forms_at p (Ok here) is (x ∷ forms) end (to, step, rest) =
-      let same = same_step (one_form chains file p) x (record { page = p; form = here.form }) to (p + 1) step (Ok here, is, refl) in
+      let same = same_step (one_form chains file p) x (record { page = p; form = here.form }) to (p + 1) step (inr (here, is, refl)) in
       (forms, ap (λ (i : FormItem). i ∷ forms) same.0, subst (λ (n : ℕ). AreFrom (IsForm file) n forms end) same.1 rest)
 
 -- the pages after a directory that stands in the chain
 module _ (file : List ℕ) (head : Header) (is_head : header file ≡ Ok head) (offsets : List ℕ) (fault : Option FileFault)
     (chain : IsChain head file offsets fault) where
   pub page_here : (at : Cursor) → IsPageAt file at (page_over head.endian file offsets fault at (slice_get offsets at.page))
-  page_here at = rw is_head (offsets, fault, chain, refl)
+  page_here at = rw (is_head, IsPageAt) (offsets, fault, chain, refl)
 
   pub no_page : (at : Cursor) → drop at.page offsets ≡ [] → IsPageAt file at (Err (end_past_chain (length offsets) fault at))
   no_page at e = rw (get_none at.page offsets e) at (page_here at)
@@ -127,11 +139,11 @@ module _ (file : List ℕ) (head : Header) (is_head : header file ≡ Ok head) (
   form_first : (p q : ℕ) → IsPageAt file (record { page = p; row = 0 }) (page_or_end head.endian q p (page head.endian file q))
       → IsListed (IsForm file) (p + 1) → (answer : Result PageForm FileFault) → page head.endian file q ≡ answer → IsListed (IsForm file) p
   form_first p q here more (Err refused) is =
-      record { items = []; end = Fault p 0 (File refused); is = (Err (Fault p 0 (File refused)), rw is at here, refl) }
+      record { items = []; end = Fault p 0 (File refused); is = (inl (Fault p 0 (File refused), rw is at here, refl)) }
   form_first p q here more (Ok form) is = record {
     items = record { page = p; form = form } ∷ more.items;
     end = more.end;
-    is = (p + 1, (Ok (record { endian = head.endian; offset = q; form = form }), rw is at here, refl), more.is);
+    is = (p + 1, (inr (record { endian = head.endian; offset = q; form = form }, rw is at here, refl)), more.is);
   }
 
   -- from each page on there are forms, up to the chain's end
@@ -139,7 +151,7 @@ module _ (file : List ℕ) (head : Header) (is_head : header file ≡ Ok head) (
   forms_after [] p e =
       let at : Cursor = record { page = p; row = 0 } in
       let none = end_past_chain (length offsets) fault at in
-      record { items = []; end = none; is = (Err none, no_page at e, refl) }
+      record { items = []; end = none; is = (inl (none, no_page at e, refl)) }
   forms_after (q ∷ later) p e =
       form_first p q (some_page (record { page = p; row = 0 }) q later e) (forms_after later (p + 1) (next_dropped p offsets q later e))
       (page head.endian file q) refl
@@ -147,7 +159,7 @@ module _ (file : List ℕ) (head : Header) (is_head : header file ≡ Ok head) (
 module _ (chains : FilesHaveOneChain) (file : List ℕ) where
   forms_listed : (p : ℕ) (answer : Result Header FileFault) → header file ≡ answer → IsListed (IsForm file) p
   forms_listed p (Err fault) e =
-      record { items = []; end = Fault 0 0 (File fault); is = (Err (Fault 0 0 (File fault)), rw e refl, refl) }
+      record { items = []; end = Fault 0 0 (File fault); is = (inl (Fault 0 0 (File fault), rw (e, IsPageAt) refl, refl)) }
   forms_listed p (Ok head) e =
       let chain = chains head file in
       forms_after file head e chain.offsets chain.end chain.is (drop p chain.offsets) p refl
@@ -170,25 +182,25 @@ one_form_tail chains file at =
 module _ (file : List ℕ) where
   to_forms : (p : ℕ) (forms : List FormItem) (end : End) → IsFormTail file (record { page = p; row = 0 }) forms end
       → AreFrom (IsForm file) p forms end
-  to_forms p forms end (begin, (Err none, page, e), are) =
+  to_forms p forms end (begin, (inl (none, page, e)), are) =
       let both : (forms ≡ []) × (end ≡ none) = subst (λ (b : Result (ℕ × ℕ) End). AreBegun (IsForm file) b forms end) e are in
-      rw (both.0, both.1) (Err none, page, refl)
-  to_forms p forms end (begin, (Ok here, page, e), are) =
+      rw (both.0, both.1) (inl (none, page, refl))
+  to_forms p forms end (begin, (inr (here, page, e)), are) =
       let there : AreBegun (IsForm file) (Ok (p, 0)) forms end =
       subst (λ (b : Result (ℕ × ℕ) End). AreBegun (IsForm file) b forms end) e are in
       subst (λ (l : List FormItem). AreFrom (IsForm file) p l end) (sym there.2) there.1
 
   of_forms : (p : ℕ) (forms : List FormItem) (end : End) → AreFrom (IsForm file) p forms end
       → IsFormTail file (record { page = p; row = 0 }) forms end
-  of_forms p [] end (Err none, page, e) = let same : end ≡ none = cc in (Err none, (Err none, page, refl), (refl, same))
-  of_forms p [] end (Ok here, page, e) = absurd cc
-  of_forms p (x ∷ forms) end (to, (Err none, page, e), rest) = absurd cc
-  of_forms p (x ∷ forms) end (to, (Ok here, page, e), rest) =
-      (Ok (p, 0), (Ok here, page, refl), (x ∷ forms, (to, (Ok here, page, e), rest), refl))
+  of_forms p [] end (inl (none, page, e)) = let same : end ≡ none = cc in (Err none, (inl (none, page, refl)), (refl, same))
+  of_forms p [] end (inr (here, page, e)) = absurd cc
+  of_forms p (x ∷ forms) end (to, (inl (none, page, e)), rest) = absurd cc
+  of_forms p (x ∷ forms) end (to, (inr (here, page, e)), rest) =
+      (Ok (p, 0), (inr (here, page, refl)), (x ∷ forms, (to, (inr (here, page, e)), rest), refl))
 
   form_step : (p : ℕ) (item : FormItem) (to : ℕ) → IsForm file p (Ok (item, to)) → to ≡ item.page + 1
-  form_step p item to (Err none, page, e) = absurd cc
-  form_step p item to (Ok here, page, e) = ap to_of e ∙ ap (λ (i : FormItem). i.page + 1) (sym (ap item_of e))
+  form_step p item to (inl (none, page, e)) = absurd cc
+  form_step p item to (inr (here, page, e)) = ap to_of e ∙ ap (λ (i : FormItem). i.page + 1) (sym (ap item_of e))
     where
       to_of : Result (FormItem × ℕ) End → ℕ
       to_of (Ok step) = step.1
@@ -200,8 +212,8 @@ module _ (file : List ℕ) where
 
 module _ (file : List ℕ) where
   form_page : (p : ℕ) (item : FormItem) (to : ℕ) → IsForm file p (Ok (item, to)) → (item.page ≡ p) × (to ≡ p + 1)
-  form_page p item to (Err none, page, e) = absurd cc
-  form_page p item to (Ok here, page, e) = (ap (λ (i : FormItem). i.page) (ap item_of e), ap to_of e)
+  form_page p item to (inl (none, page, e)) = absurd cc
+  form_page p item to (inr (here, page, e)) = (ap (λ (i : FormItem). i.page) (ap item_of e), ap to_of e)
     where
       to_of : Result (FormItem × ℕ) End → ℕ
       to_of (Ok step) = step.1

@@ -69,8 +69,8 @@ module _ (by_place : AreBitsByPlace) (file : List ℕ) (endian : Endian) (q : �
   strips_from [] s below (inl (s_is, none)) = absurd (omega (arith, below, whole.enough, ap (λ (m : ℕ). m * n) s_is))
   strips_from [] s below (inr (due, outside, cause_is)) = absurd cc
   strips_from (rows ∷ strips) s below (due, bytes, stop, there, strip, inr (fault, some, none, cause_is)) = absurd cc
-  strips_from (rows ∷ strips) s below (due, bytes, Some fault, there, strip, inl (none, rest)) = absurd cc
-  strips_from (rows ∷ strips) s below (due, bytes, None, there, strip, inl (none, rest)) =
+  strips_from (rows ∷ strips) s below (due, bytes, Some fault, there, strip, (inl (none, rest))) = absurd cc
+  strips_from (rows ∷ strips) s below (due, bytes, None, there, strip, (inl (none, rest))) =
       let count = strip_count (strip_form form s) _ rows None strip in
       let first = strip_rows by_place file endian q form p page whole s below bytes there rows None strip in
       elim (cases_lt (s + 1) form.strips) [

@@ -28,21 +28,21 @@ use Rattle.fax_walk.proofs.InOrderLemmas.{joined, leads_on}
 -- a page of a file is the form of its number
 pub form_here : (p : ℕ) (chain : ChainState) (directory : TiffDirectory) (form : PageForm) → IsFilePage p chain directory form
     → IsForm directory.file p (Ok (record { page = p; form = form }, p + 1))
-form_here p chain directory form its = (Ok (page_with directory form), its.here 0, refl)
+form_here p chain directory form its = inr (page_with directory form, its.here 0, refl)
 
 module _ (file : List ℕ) (at : Cursor) (due : PageDue) (named : IsNamed file at (Some due)) where
   -- a reader from a page's first row begins with that page
   pub begins_here : at.row ≡ 0 → IsFirstDue file at due
   begins_here first =
       let test : (at.row == 0) ≡ true = grind (arith, nat_tests, first) in
-      record { begins = (Ok (page_with due.directory due.form), named.3, rw (test, named.1) refl); file_is = named.0 }
+      record { begins = (inr (page_with due.directory due.form, named.3, rw (test, named.1) refl)); file_is = named.0 }
 
   begins_next : 0 < at.row → AreFormsBegun file at (Ok (at.page + 1, 0))
   begins_next some =
       let within = named.2 in
       let later : (at.row == 0) ≡ false = grind (arith, nat_tests, some) in
       let near : nat_le at.row due.form.rows ≡ true = grind (arith, nat_tests, within) in
-      (Ok (page_with due.directory due.form), named.3, rw (later, near) refl)
+      inr (page_with due.directory due.form, named.3, rw (later, near) refl)
 
 module _ (file : List ℕ) (at : Cursor) (due : PageDue) (named : IsNamed file at (Some due))
     (its : IsFilePage due.page due.chain due.directory due.form) where
@@ -67,11 +67,11 @@ module _ (file : List ℕ) (at : Cursor) (due : PageDue) (named : IsNamed file a
 
 -- from a cursor on there are no pages
 pub no_forms : (file : List ℕ) (at : Cursor) (end : End) → EndsAt file at end → IsFormTail file at [] end
-no_forms file at end (inl none) = (Err end, (Err end, none, refl), (refl, refl))
+no_forms file at end (inl none) = (Err end, (inl (end, none, refl)), (refl, refl))
 no_forms file at end (inr (here, page, above, end_is)) =
     let later : (at.row == 0) ≡ false = grind (arith, nat_tests, above) in
     let far : nat_le at.row here.form.rows ≡ false = grind (arith, nat_tests, above) in
-    (Err end, (Ok here, page, rw (later, far, end_is) refl), (refl, refl))
+    (Err end, (inr (here, page, rw (later, far, end_is) refl)), (refl, refl))
 
 no_other : (told : Option End) (end : End) → told ≡ None → HasToldNoOther told end
 no_other None end e = tt
@@ -94,6 +94,19 @@ pub ends_later : (file : List ℕ) (begun : Cursor) (given : ℕ) (told : Option
 ends_later file begun given told chain (Ok due) untold sound after = after
 ends_later file begun given told chain (Err end) untold sound after =
     (ended_after file begun given chain.given end sound.0 (rw (sound.1.file_is) at after), no_other told end untold)
+
+-- the pages end before the first one
+pub ends_first : (file : List ℕ) (begun : Cursor) (given : ℕ) (told : Option End) (result : Result PageDue End) → told ≡ None → given ≡ 0
+    → IfErr result (IsFormTail file begun [])
+    → IfErr result (EndsNow (record { file = file; begun = begun; given = given; told = told }))
+ends_first file begun given told (Ok due) untold none tail = tail
+ends_first file begun given told (Err end) untold none tail = (([], tail, sym none), no_other told end untold)
+
+-- the pages have ended
+pub ends_again : (file : List ℕ) (begun : Cursor) (given : ℕ) (told : Option End) (end : End) → told ≡ Some end
+    → EndsAfter (IsFormTail file begun) given end
+    → EndsNow (record { file = file; begun = begun; given = given; told = told }) end
+ends_again file begun given told end is after = (after, rw is refl)
 
 number_of : (front : List FormItem) (item : FormItem) (more : List FormItem) (n : ℕ) → length front ≡ n
     → slice_get (front ++ item ∷ more) n ≡ Some item

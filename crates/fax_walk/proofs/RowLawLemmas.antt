@@ -27,9 +27,12 @@ use Rattle.fax_walk.specs.declared.end.End.{End}
 use Rattle.fax_walk.specs.declared.end.End.TheVariants.{Fault, Outside}
 use Rattle.fax_walk.specs.Cursors.{LongPlace}
 use Rattle.fax_walk.specs.Pages.{AreBegun, FilePage, IsPageAt}
-use Rattle.fax_walk.specs.Rows.{Item, Inner, Place, first_at, strip_at, row_in_strip, exchanged}
-use Rattle.fax_walk.specs.Rows.{bits_before, reference_of, place_after, IsItem, IsInStrip, IsRow}
-use Rattle.fax_walk.specs.Rows.{first_row, FitsStrip, IsInnerOn, inner_at, BeginsOn, begins_at}
+use Rattle.fax_walk.specs.Rows.{Item, Inner, Place, first_at, exchanged}
+use Rattle.fax_walk.specs.code.Places.{strip_at, row_in_strip}
+use Rattle.fax_walk.specs.Rows.{before, place_after, IsInStrip, IsRow}
+use Rattle.fax_walk.specs.code.Places.{IsItem}
+use Rattle.fax_walk.specs.Rows.{IsInnerOn, inner_at, BeginsOn, begins_at}
+use Rattle.fax_walk.specs.code.Places.{first_row, FitsStrip}
 use Rattle.fax_walk.specs.code.Places.{cursor_at}
 use Rattle.fax_walk.specs.laws.Tails.{BeginningsHaveOneTail}
 use Rattle.fax_walk.proofs.InOrderLemmas.{IsOneAnswer, IsListed, one_begun}
@@ -77,44 +80,40 @@ module _ (by_place : AreBitsByPlace) (lines_read : LinesAreRead) where
     i = row_in_strip form at.row
 
     abbrev reference : List Colour
-    reference = reference_of form.width at.inner
+    reference = (before form.width at.inner).reference
 
     abbrev all : List Bool
     all = bits form.order bytes
 
     abbrev b : List Bool
-    b = drop (bits_before at.inner) all
+    b = drop (before form.width at.inner).bits all
 
     one_item : (item another : Item) → IsItem form bytes at item → IsItem form bytes at another → another ≡ item
     one_item item another is is_too =
         let same =
-        (lines_read strip i reference).one_answer b (exchanged form another.pels) (exchanged form item.pels) _ _ is_too.line is.line in
+        (lines_read strip i reference).one_answer b (exchanged form another.pels) (exchanged form item.pels) _ _ is_too.3 is.3 in
         let pels : another.pels ≡ item.pels =
         sym (exchanged_twice form another.pels) ∙ ap (exchanged form) same.0 ∙ exchanged_twice form item.pels in
-        let before : another.bits ≡ item.bits = one_place by_place form.order bytes another.bits item.bits is_too.within is.within same.1 in
-        same_items another item (is_too.same_page ∙ sym is.same_page) (is_too.same_row ∙ sym is.same_row) pels before
+        let place : another.bits ≡ item.bits = one_place by_place form.order bytes another.bits item.bits is_too.2 is.2 same.1 in
+        same_items another item (is_too.0 ∙ sym is.0) (is_too.1 ∙ sym is.1) pels place
 
     by_line : ((row : List Colour) × (rest : List Bool) × IsLine strip i reference b row rest)
         ⊎ ((fault : StripFault) × IsCause strip i reference b fault)
         → IsOneAnswer (IsInStrip form at (Some bytes))
     by_line (inl (row, rest, line)) =
-        let from = rest_at strip i reference all (bits_before at.inner) row rest line in
+        let from = rest_at strip i reference all (before form.width at.inner).bits row rest line in
         let item : Item = record { page = at.page; row = at.row; pels = exchanged form row; bits = from.0 } in
-        let is : IsItem form bytes at item = record {
-          same_page = refl;
-          same_row = refl;
-          within = omega (arith, from.1, by_place.count form.order bytes);
-          line = rw (from.2, exchanged_twice form row) line;
-        } in
-        record { it = Ok (item, place_after form item); is = (is, refl); one = only_item item is }
+        let is : IsItem form bytes at item =
+        (refl, refl, omega (arith, from.1, by_place.count form.order bytes), rw (from.2, exchanged_twice form row) line) in
+        record { it = Ok (item, place_after form item); is = (is.0, is.1, is.2, is.3, refl); one = only_item item is }
       where
         only_item : (item : Item) → IsItem form bytes at item → (other : Result (Item × Place) End) → IsInStrip form at (Some bytes) other
             → other ≡ Ok (item, place_after form item)
         only_item item is (Err end) (fault, stop, end_is) =
-            absurd ((lines_read strip i reference).answer_has_no_fault b _ _ fault is.line stop)
-        only_item item is (Ok (another, to)) (is_too, to_is) =
-            let same = one_item item another is is_too in
-            rw (to_is, same) refl
+            absurd ((lines_read strip i reference).answer_has_no_fault b _ _ fault is.3 stop)
+        only_item item is (Ok (another, to)) is_too =
+            let same = one_item item another is (is_too.0, is_too.1, is_too.2, is_too.3) in
+            rw (is_too.4, same) refl
     by_line (inr (fault, stop)) =
         record { it = Err (Fault at.page at.row (Strip fault)); is = (fault, stop, refl); one = only_stop }
       where
@@ -123,8 +122,8 @@ module _ (by_place : AreBitsByPlace) (lines_read : LinesAreRead) where
         only_stop (Err end) (another, stop_too, end_is) =
             let same = (lines_read strip i reference).one_fault b another fault stop_too stop in
             ap (λ (e : End). Err e) (end_is ∙ ap (λ (f : StripFault). Fault at.page at.row (Strip f)) same)
-        only_stop (Ok (another, to)) (is_too, to_is) =
-            absurd ((lines_read strip i reference).answer_has_no_fault b _ _ fault is_too.line stop)
+        only_stop (Ok (another, to)) is_too =
+            absurd ((lines_read strip i reference).answer_has_no_fault b _ _ fault is_too.3 stop)
 
     in_bytes : IsOneAnswer (IsInStrip form at (Some bytes))
     in_bytes = by_line ((lines_read strip i reference).answer_or_fault b)
@@ -148,7 +147,7 @@ module _ (by_place : AreBitsByPlace) (lines_read : LinesAreRead) where
 pub step_of : (form : PageForm) (at : Place) (found : Option (List ℕ)) (item : Item) (to : Place) → IsInStrip form at found (Ok (item, to))
     → (item.page ≡ at.page) × (item.row ≡ at.row) × (to ≡ place_after form item)
 step_of form at None item to is = absurd cc
-step_of form at (Some bytes) item to (is, to_is) = (is.same_page, is.same_row, to_is)
+step_of form at (Some bytes) item to is = (is.0, is.1, is.4)
 
 -- the place inside its strip after an item
 abbrev pub inner_after : PageForm → Item → Place
@@ -201,11 +200,11 @@ module _ (by_place : AreBitsByPlace) (lines_read : LinesAreRead) (file : List �
     listed_row : (answer : Result (Item × Place) End) → in_strip q form at answer
         → ((inner : Option Inner) → at.row + 1 < form.rows → Listed (record { page = at.page; row = at.row + 1; inner = inner }))
         → Listed (first_at (at.page + 1) 0) → Listed at
-    listed_row (Err end) is next more = record { items = []; end = end; is = (_, here, is) }
+    listed_row (Err end) is next more = record { items = []; end = end; is = inr (_, here, is) }
     listed_row (Ok (item, to)) is next more =
         let step = step_of form at _ item to is in
         let rest : Listed to = rw step.2 (row_after item step.0 step.1 next more) in
-        record { items = item ∷ rest.items; end = rest.end; is = (to, (_, here, is), rest.is) }
+        record { items = item ∷ rest.items; end = rest.end; is = (to, inr (_, here, is), rest.is) }
 
   rows_on : (fuel q : ℕ) (form : PageForm) (later : List ℕ) (at : Place) → drop at.page offsets ≡ q ∷ later
       → page head.endian file q ≡ Ok form
@@ -226,12 +225,12 @@ module _ (by_place : AreBitsByPlace) (lines_read : LinesAreRead) (file : List �
       → Listed (first_at (at.page + 1) 0) → Listed at
   on_page q later at e (Err refused) is more =
       let here = rw is at (some_page file head is_head offsets fault chain (cursor_at at) q later e) in
-      record { items = []; end = Fault at.page 0 (File refused); is = (_, here, refl) }
+      record { items = []; end = Fault at.page 0 (File refused); is = inl (_, here, refl) }
   on_page q later at e (Ok form) is more = rows_on form.rows q form later at e is (omega arith) more
 
   -- from each place on there are items, up to an end
   pub rows_from : (later : List ℕ) (at : Place) → drop at.page offsets ≡ later → Listed at
-  rows_from [] at e = record { items = []; end = _; is = (_, no_page file head is_head offsets fault chain (cursor_at at) e, refl) }
+  rows_from [] at e = record { items = []; end = _; is = inl (_, no_page file head is_head offsets fault chain (cursor_at at) e, refl) }
   rows_from (q ∷ later) at e =
       on_page q later at e (page head.endian file q) refl (rows_from later (first_at (at.page + 1) 0)
       (next_dropped at.page offsets q later e))
@@ -260,13 +259,13 @@ same_list (x ∷ xs) (y ∷ ys) = elim (same_number x y) [
 fits : (width : ℕ) (found : Option (List ℕ)) (place : LongPlace) → FitsStrip width found place ⊎ (FitsStrip width found place → ⊥)
 fits width None place = inl tt
 fits width (Some bytes) place = elim (cases_lt (8 * length bytes) place.bits) [
-  | inl far ↦ inr (λ is. omega (arith, far, is.within))
+  | inl far ↦ inr (λ is. omega (arith, far, is.0))
   | inr within ↦ elim (same_list (runs_of (pels_of White place.runs)) place.runs) [
     | inl runs ↦ elim (same_number (length (pels_of White place.runs)) width) [
-      | inl count ↦ inl (record { within = within; width_is = count; runs = runs })
-      | inr not ↦ inr (λ is. not is.width_is)
+      | inl count ↦ inl (within, count, runs)
+      | inr not ↦ inr (λ is. not is.1)
     ]
-    | inr not ↦ inr (λ is. not is.runs)
+    | inr not ↦ inr (λ is. not is.2)
   ]
 ]
 
@@ -302,7 +301,7 @@ module _ (file : List ℕ) (here : FilePage) where
 
 module _ (by_place : AreBitsByPlace) (lines_read : LinesAreRead) (chains : FilesHaveOneChain) (file : List ℕ) where
   pub rows_listed : (at : Place) (answer : Result Header FileFault) → header file ≡ answer → IsListed (IsRow file) at
-  rows_listed at (Err fault) e = record { items = []; end = Fault 0 0 (File fault); is = (Err (Fault 0 0 (File fault)), rw e refl, refl) }
+  rows_listed at (Err fault) e = record { items = []; end = Fault 0 0 (File fault); is = (inl (Fault 0 0 (File fault), rw (e, IsPageAt) refl, refl)) }
   rows_listed at (Ok head) e =
       let chain = chains head file in
       rows_from by_place lines_read file head e chain.offsets chain.end chain.is (drop at.page chain.offsets) at refl

@@ -14,7 +14,9 @@ use Rattle.fax_files.specs.Directory.{IsChain, Header, header}
 use Rattle.fax_files.specs.laws.Files.{FilesHaveOneChain, FormsAreWhole}
 use Rattle.fax_walk.specs.declared.cursor.Cursor.{Cursor}
 use Rattle.fax_walk.specs.Cursors.{IsLongCursor}
-use Rattle.fax_walk.specs.Pages.{FilePage, IsPageAt, IsPageUnder, page_over}
+use Rattle.fax_walk.specs.Pages.{FilePage, IsPageAt}
+use Rattle.fax_walk.specs.code.Opening.{page_over}
+use Rattle.fax_walk.specs.code.Opening.{IsPageUnder}
 use Rattle.fax_walk.specs.Rows.{exchanged}
 use Rattle.fax_walk.specs.laws.Cursors.{CursorsAreShort, PlacesAreShort}
 use Rattle.fax_walk.proofs.TailLawLemmas.{facts, here_from, inner, long_of, pels_are, read, split_at_number}
@@ -68,8 +70,8 @@ cursors_are_short forms chains file begun all end n item short reached tail ther
     let whole = whole_page file forms (record { page = split.at.page; row = split.at.row }) row.here row.page in
     let few = page_few chains file (record { page = split.at.page; row = split.at.row }) row.here row.page in
     record {
-      page = omega (arith, few, short, row.is.same_page);
-      row = omega (arith, from.row, whole.rows, row.is.same_row);
+      page = omega (arith, few, short, row.is.0);
+      row = omega (arith, from.row, whole.rows, row.is.1);
     }
 
 pub places_are_short : FormsAreWhole → FilesHaveOneChain → PlacesAreShort
@@ -82,12 +84,12 @@ places_are_short forms chains file begun all end n item here place short tail th
     let few = page_few chains file (record { page = split.at.page; row = split.at.row }) row.here row.page in
     let wide : length (exchanged row.here.form item.pels) ≡ row.here.form.width =
     ap (λ (l : List Colour). length l) (sym (pels_are forms chains file begun item after end split here page place long))
-    ∙ (inner forms chains file begun item after end split here page place long).width_is in
+    ∙ (inner forms chains file begun item after end split here page place long).1 in
     let runs : All (λ run. run < 2 ^ 32) (runs_of (exchanged row.here.form item.pels)) =
     runs_short White 0 (2 ^ 32) (exchanged row.here.form item.pels) (omega (arith, wide, whole.width)) in
     let bits : item.bits < 2 ^ 32 = by_test fact.bits in
     let found : IsLongCursor (long_of forms chains file row.here.form item) = record {
-      cursor = record { page = omega (arith, few, short, row.is.same_page); row = omega (arith, fact.within, whole.rows) };
+      cursor = record { page = omega (arith, few, short, row.is.0); row = omega (arith, fact.within, whole.rows) };
       bits = bits;
       runs = runs;
       some = some_run White 0 (exchanged row.here.form item.pels);

@@ -17,8 +17,10 @@ use Rattle.fax_files.specs.laws.Files.{IsWholeForm}
 use Rattle.fax_walk.specs.declared.end.End.{End}
 use Rattle.fax_walk.specs.declared.end.End.TheVariants.{Fault}
 use Rattle.fax_walk.specs.Pages.{IsPageAt}
-use Rattle.fax_walk.specs.Rows.{Item, Inner, Place, first_at, strip_at, exchanged, reference_of, place_after}
-use Rattle.fax_walk.specs.Rows.{IsItem, IsInStrip, IsRow}
+use Rattle.fax_walk.specs.Rows.{Item, Inner, Place, first_at, exchanged, before, place_after}
+use Rattle.fax_walk.specs.code.Places.{strip_at}
+use Rattle.fax_walk.specs.Rows.{IsInStrip, IsRow}
+use Rattle.fax_walk.specs.code.Places.{IsItem}
 use Rattle.fax_walk.specs.code.Sources.{HasRows}
 use Rattle.fax_walk.proofs.RowLawLemmas.{LinesAreRead, one_in_strip, cases_after}
 use Rattle.fax_walk.proofs.WidthLemmas.{row_in}
@@ -40,7 +42,7 @@ module _ (by_place : AreBitsByPlace) (lines_read : LinesAreRead) (file : List �
 
   -- a place whose reference is as wide as the page
   abbrev IsWide : Option Inner → Type 0
-  IsWide inner = length (reference_of form.width inner) ≡ form.width
+  IsWide inner = length (before form.width inner).reference ≡ form.width
 
   first_wide : IsWide None
   first_wide = length-replicate form.width White
@@ -77,7 +79,7 @@ module _ (by_place : AreBitsByPlace) (lines_read : LinesAreRead) (file : List �
   item_wide : (r : ℕ) (inner : Option Inner) (bytes : List ℕ) (item : Item) → IsWide inner → IsItem form bytes (place_at r inner) item
       → length (exchanged form item.pels) ≡ form.width
   item_wide r inner bytes item wide is =
-      row_in is.line.dimension form.width (reference_of form.width inner) is.line.codes (exchanged form item.pels) _ wide is.line.coded
+      row_in is.3.dimension form.width (before form.width inner).reference is.3.codes (exchanged form item.pels) _ wide is.3.coded
 
   module _ (rows r : ℕ) (count : r + (rows + 1) ≡ form.rows)
       (next : (inner : Option Inner) → IsWide inner → 0 < rows → Rows (place_at (r + 1) inner) rows) where
@@ -103,10 +105,10 @@ module _ (by_place : AreBitsByPlace) (lines_read : LinesAreRead) (file : List �
         stops r (rows + 1) inner _ (File StripOutside) (omega arith) (rw same at row)
     by_found inner wide (Some bytes) (Err end) (fault, stop, end_is) row =
         stops r (rows + 1) inner r (Strip fault) (omega arith) (rw end_is at row)
-    by_found inner wide (Some bytes) (Ok (item, to)) (is, to_is) row =
-        let item_is = item_wide r inner bytes item wide is in
+    by_found inner wide (Some bytes) (Ok (item, to)) is row =
+        let item_is = item_wide r inner bytes item wide (is.0, is.1, is.2, is.3) in
         one_more r rows inner item to (sym (exchanged_length form item.pels) ∙ item_is) row
-        (rw to_is (after item is.same_page is.same_row item_is))
+        (rw is.4 (after item is.0 is.1 item_is))
 
   -- from a place on
   pub rows_on : (rows r : ℕ) (inner : Option Inner) → r + rows ≡ form.rows → IsWide inner → 0 < rows → Rows (place_at r inner) rows
@@ -116,7 +118,7 @@ module _ (by_place : AreBitsByPlace) (lines_read : LinesAreRead) (file : List �
       let n : suc rows ≡ rows + 1 = omega arith in
       rw n
       (by_found rows r (omega (arith, count)) (λ later later_wide more. rows_on rows (r + 1) later (omega (arith, count)) later_wide more)
-      inner wide (strip_bytes endian file q (strip_at form r)) only.it only.is (Ok _, page r, only.is))
+      inner wide (strip_bytes endian file q (strip_at form r)) only.it only.is (inr (_, page r, only.is)))
 
   -- all rows of the page
   pub page_rows : IsWholeForm form → Rows (first_at p 0) form.rows

@@ -4,7 +4,7 @@ use Rattle.std.proofs.Common.{sym, ap, ◌∙◌}
 use Rattle.std.proofs.Common.{subst, arith, append_assoc, append-nil, inl, inr}
 use Rattle.std.proofs.lemmas.Bool.{cases_lt}
 use Rattle.std.proofs.lemmas.Bool.Decides.{nat_tests}
-use Rattle.std.specs.Prelude.{nat_lt, ◌==◌}
+use Rattle.std.specs.Prelude.{nat_lt, ◌==◌, if◌then◌else◌, Option}
 use Rattle.fax_bits.specs.declared.Colour.{Colour}
 use Rattle.fax_bits.specs.Bits.{bits}
 use Rattle.fax_bits.specs.laws.Codes.{AreBitsByPlace}
@@ -30,7 +30,7 @@ use Rattle.fax_walk.specs.declared.end.End.TheVariants.{Fault}
 use Rattle.fax_walk.specs.laws.InOrder.{LeadTo}
 use Rattle.fax_walk.specs.Pages.{IsPageAt}
 use Rattle.fax_walk.specs.Rows.{Place, first_at, IsRow}
-use Rattle.fax_walk.specs.Report.{Checked, strip_of, after_strip, notes_on_strip, IsStripNoted, IsNoted}
+use Rattle.fax_walk.specs.Report.{Checked, notes_on_strip, IsStripNoted, IsNoted}
 use Rattle.fax_walk.specs.code.Check.{before_page, before_strip, HasChecked, IsCheckedTo, IsDirectoryOfPage}
 use Rattle.fax_walk.specs.code.Check.{AreStripsChecked, IsRestChecked, IsRowInside, IsReadTo}
 use Rattle.fax_walk.specs.code.Stages.{most_rows}
@@ -56,7 +56,7 @@ module _ (by_place : AreBitsByPlace) (directory : TiffDirectory) (form : PageFor
   Checks s old new = AreStripsChecked directory form p s old new
 
   -- before a strip that the page has
-  at_strip : (s : ℕ) → s < form.strips → before_strip form p s ≡ record { next = strip_of p s; row = first_at p (s * n) }
+  at_strip : (s : ℕ) → s < form.strips → before_strip form p s ≡ record { next = (p, Some s); row = first_at p (s * n) }
   at_strip s due = let test : (s == form.strips) ≡ false = grind (arith, nat_tests, due) in rw test refl
 
   -- before the page's first strip
@@ -69,8 +69,8 @@ module _ (by_place : AreBitsByPlace) (directory : TiffDirectory) (form : PageFor
 
   -- what is found on a strip
   noted_on : (s : ℕ) (answer : Result (List Note × Checked) End)
-      → IsStripNoted form p s (bytes_of directory s) answer → IsNoted file (strip_of p s) answer
-  noted_on s answer is = (Ok _, page 0, is)
+      → IsStripNoted form p s (bytes_of directory s) answer → IsNoted file ((p, Some s)) answer
+  noted_on s answer is = inr (_, page 0, is)
 
   -- the rows of a strip that is whole lead to the next one
   next_row : (s : ℕ) (count : ℕ) → s < form.strips → count ≡ (strip_form form s).rows
@@ -103,7 +103,7 @@ module _ (by_place : AreBitsByPlace) (directory : TiffDirectory) (form : PageFor
       rw (at_strip s due) (record {
         found = notes_on_strip p s found ∷ [];
         lead = (
-          after_strip form p s,
+          (if s + 1 == form.strips then (p + 1, None) else (p, Some (s + 1))),
           noted_on s _ (rw there (rows, found, is, refl, refl)),
           refl,
         );
@@ -178,7 +178,7 @@ module _ (by_place : AreBitsByPlace) (directory : TiffDirectory) (form : PageFor
       let row : IsRow file (first_at p (s * n)) (Err end) =
       row_at by_place file directory.endian directory.offset form p page whole (s * n) None None (Err end) (rw number.0 none)
       (rw number.0 refl) in
-      let ends = ends_at file (record { next = strip_of p s; row = first_at p (s * n) }) end (noted_on s (Err end) (rw none refl)) row in
+      let ends = ends_at file (record { next = (p, Some s); row = first_at p (s * n) }) end (noted_on s (Err end) (rw none refl)) row in
       rw zero at
       (fault_after few s 0 (File StripOutside) old new due (omega (arith, whole.needed s due)) so_far (rw (at_strip s due, zero) ends))
 

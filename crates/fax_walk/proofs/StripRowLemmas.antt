@@ -22,8 +22,10 @@ use Rattle.fax_walk.specs.declared.end.End.{End}
 use Rattle.fax_walk.specs.declared.end.End.TheVariants.{Fault}
 use Rattle.fax_walk.specs.laws.InOrder.{LeadTo}
 use Rattle.fax_walk.specs.Pages.{IsPageAt}
-use Rattle.fax_walk.specs.Rows.{Item, Inner, Place, first_at, strip_at, row_in_strip, exchanged, bits_before, reference_of, place_after}
-use Rattle.fax_walk.specs.Rows.{IsItem, IsInStrip, IsRow}
+use Rattle.fax_walk.specs.Rows.{Item, Inner, Place, first_at, exchanged, before, place_after}
+use Rattle.fax_walk.specs.code.Places.{strip_at, row_in_strip}
+use Rattle.fax_walk.specs.Rows.{IsInStrip, IsRow}
+use Rattle.fax_walk.specs.code.Places.{IsItem}
 use Rattle.fax_walk.specs.laws.Written.{WalkedRow, walked, numbered}
 use Rattle.fax_walk.proofs.RestLemmas.{rest_at}
 use Rattle.fax_walk.proofs.RowLawLemmas.{exchanged_twice, cases_after}
@@ -79,7 +81,7 @@ module _ (by_place : AreBitsByPlace) (file : List ℕ) (endian : Endian) (q : �
   pub row_at : (r : ℕ) (inner : Option Inner) (found : Option (List ℕ)) (answer : Result (Item × Place) End)
       → strip_bytes endian file q (strip_at form r) ≡ found → IsInStrip form (place_at r inner) found answer
       → IsRow file (place_at r inner) answer
-  row_at r inner found answer e is = (Ok _, page r, subst (λ (o : Option (List ℕ)). IsInStrip form (place_at r inner) o answer) (sym e) is)
+  row_at r inner found answer e is = inr (_, page r, subst (λ (o : Option (List ℕ)). IsInStrip form (place_at r inner) o answer) (sym e) is)
 
   -- the rows of a strip lead to the next one, or to the row that is not there
   abbrev pub Reaches : Option StripFault → ℕ → Place → Type 0
@@ -126,7 +128,7 @@ module _ (by_place : AreBitsByPlace) (file : List ℕ) (endian : Endian) (q : �
     -- the rows from a place inside the strip on
     pub lines_from : (inner : Option Inner) (r i : ℕ) (own : List (List Colour)) (stop : Option StripFault) (left : List Bool)
         → r ≡ s * n + i → i < strip.rows
-        → AreLines strip i (reference_of form.width inner) (drop (bits_before inner) all) own stop left
+        → AreLines strip i (before form.width inner).reference (drop (before form.width inner).bits all) own stop left
         → AreRead file (place_at r inner) r (shown form own) (Reaches stop (r + length own))
     lines_from inner r i [] None left r_is within lines = absurd (omega (arith, within, lines.1))
     lines_from inner r i [] (Some fault) left r_is within lines =
@@ -138,17 +140,17 @@ module _ (by_place : AreBitsByPlace) (file : List ℕ) (endian : Endian) (q : �
         (rw none (row_at r inner (Some bytes) (Err (Fault p r (Strip fault))) (rw number.0 bytes_are) is))
     lines_from inner r i (row ∷ rows) stop left r_is within (rest, due, line, more) =
         let number = numbers r i r_is within in
-        let from = rest_at strip i (reference_of form.width inner) all (bits_before inner) row rest line in
+        let from = rest_at strip i (before form.width inner).reference all (before form.width inner).bits row rest line in
         let item : Item = record { page = p; row = r; pels = exchanged form row; bits = from.0 } in
-        let is : IsItem form bytes (place_at r inner) item = record {
-          same_page = refl;
-          same_row = refl;
-          within = omega (arith, from.1, by_place.count form.order bytes);
-          line = rw (number.0, number.1, from.2, exchanged_twice form row) line;
-        } in
+        let is : IsItem form bytes (place_at r inner) item = (
+          refl,
+          refl,
+          omega (arith, from.1, by_place.count form.order bytes),
+          rw (number.0, number.1, from.2, exchanged_twice form row) line,
+        ) in
         let count : r + length (row ∷ rows) ≡ r + 1 + length rows = omega arith in
         let step : IsRow file (place_at r inner) (Ok (item, place_after form item)) =
-        row_at r inner (Some bytes) (Ok (item, place_after form item)) (rw number.0 bytes_are) (is, refl) in
+        row_at r inner (Some bytes) (Ok (item, place_after form item)) (rw number.0 bytes_are) (is.0, is.1, is.2, is.3, refl) in
         elim (cases_lt (i + 1) strip.rows) [
           | inl less ↦
               let next = numbers (r + 1) (i + 1) (omega (arith, r_is)) less in

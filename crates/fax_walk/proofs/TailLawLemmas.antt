@@ -25,18 +25,22 @@ use Rattle.fax_walk.specs.declared.cursor.Cursor.{Cursor}
 use Rattle.fax_walk.specs.declared.end.End.{End}
 use Rattle.fax_walk.specs.declared.end.End.TheVariants.{Fault, Outside, Proper}
 use Rattle.fax_walk.specs.Cursors.{start, LongPlace}
-use Rattle.fax_walk.specs.Pages.{AreFrom, AreBegun, FilePage, IsPageUnder, IsPageAt, end_past_chain}
-use Rattle.fax_walk.specs.Pages.{page_over, page_or_end}
+use Rattle.fax_walk.specs.Pages.{AreFrom, AreBegun, FilePage, IsPageAt}
+use Rattle.fax_walk.specs.code.Opening.{IsPageUnder, end_past_chain}
+use Rattle.fax_walk.specs.code.Opening.{page_over}
+use Rattle.fax_walk.specs.code.Opening.{page_or_end}
 use Rattle.fax_walk.specs.laws.InOrder.{LeadTo}
 use Rattle.fax_walk.specs.views.Walk.{EndsBefore}
-use Rattle.fax_walk.specs.Converted.{AreItems}
-use Rattle.fax_walk.specs.Rows.{IsInnerOn, Item, Inner, Place, first_at, strip_at, row_in_strip}
-use Rattle.fax_walk.specs.Rows.{exchanged, reference_of, place_after, IsItem, IsInStrip, IsRow}
-use Rattle.fax_walk.specs.Rows.{first_row, IsInner, FitsStrip, inner_at, Begins, IsTailFrom}
+use Rattle.fax_walk.specs.Rows.{IsInnerOn, Item, Inner, Place, first_at}
+use Rattle.fax_walk.specs.code.Places.{strip_at, row_in_strip}
+use Rattle.fax_walk.specs.Rows.{exchanged, before, place_after, IsInStrip, IsRow}
+use Rattle.fax_walk.specs.code.Places.{IsItem}
+use Rattle.fax_walk.specs.Rows.{inner_at, IsTailFrom}
+use Rattle.fax_walk.specs.code.Places.{first_row, long_at, IsInner, FitsStrip, Begins}
 use Rattle.fax_walk.specs.Rows.{cursor_after, long_after}
 use Rattle.fax_walk.specs.code.Places.{cursor_at}
 use Rattle.fax_walk.specs.laws.Tails.{FilesHaveOneItems, ItemsStandByPlace, TailsEndAfter, TailOfStart, IsReachedPlace, TailsGoOn}
-use Rattle.fax_walk.specs.laws.Tails.{LongTailsGoOn, PlacesAreReached, IsReached}
+use Rattle.fax_walk.specs.laws.Tails.{AreItems, LongTailsGoOn, PlacesAreReached, IsReached}
 use Rattle.fax_walk.proofs.InOrderLemmas.{one_from, one_led, one_list, same_answer, same_step, leads_on, joined, kept}
 use Rattle.fax_walk.proofs.InOrderLemmas.{split_at_number as item_split}
 use Rattle.fax_walk.proofs.PageLawLemmas.{one_page}
@@ -88,12 +92,12 @@ module _ (file : List ℕ) where
       → strip_bytes here.endian file here.offset (strip_at here.form at.row) ≡ found → IsInStrip here.form at found (Ok (item, to))
       → IsRead at item to
   in_bytes at item to here page None e is = absurd cc
-  in_bytes at item to here page (Some bytes) e (is, to_is) =
-      record { here = here; page = page; bytes = bytes; bytes_are = e; is = is; to_is = to_is }
+  in_bytes at item to here page (Some bytes) e is =
+      record { here = here; page = page; bytes = bytes; bytes_are = e; is = (is.0, is.1, is.2, is.3); to_is = is.4 }
 
   pub read_at : (at : Place) (item : Item) (to : Place) → IsRow file at (Ok (item, to)) → IsRead at item to
-  read_at at item to (Err end, page, e) = absurd cc
-  read_at at item to (Ok here, page, is) =
+  read_at at item to (inl (end, page, e)) = absurd cc
+  read_at at item to (inr (here, page, is)) =
       in_bytes at item to here page (strip_bytes here.endian file here.offset (strip_at here.form at.row)) refl is
 
   -- a page is the same for each of its rows
@@ -186,7 +190,7 @@ module _ (forms : FormsAreWhole) (chains : FilesHaveOneChain) (file : List ℕ) 
     form = read.here.form
 
     this_page : (r : ℕ) → IsPageAt file (record { page = item.page; row = r }) (Ok read.here)
-    this_page r = subst (λ (p : ℕ). IsPageAt file (record { page = p; row = r }) (Ok read.here)) (sym read.is.same_page)
+    this_page r = subst (λ (p : ℕ). IsPageAt file (record { page = p; row = r }) (Ok read.here)) (sym read.is.0)
         (any_row file (cursor_at at) r read.here read.page)
 
     only_here : (r : ℕ) (here : FilePage) → IsPageAt file (record { page = item.page; row = r }) (Ok here) → read.here ≡ here
@@ -197,8 +201,8 @@ module _ (forms : FormsAreWhole) (chains : FilesHaveOneChain) (file : List ℕ) 
     same_strip inside =
         let some = (whole_page file forms (cursor_at at) read.here read.page).some_in_strip in
         let next = next_row form.rows_per_strip item.row some inside in (
-          next.0 ∙ ap (λ (r : ℕ). r / form.rows_per_strip) read.is.same_row,
-          next.1 ∙ ap (λ (r : ℕ). r % form.rows_per_strip + 1) read.is.same_row,
+          next.0 ∙ ap (λ (r : ℕ). r / form.rows_per_strip) read.is.1,
+          next.1 ∙ ap (λ (r : ℕ). r % form.rows_per_strip + 1) read.is.1,
         )
 
     inner_from : IsFromStrip at read.here → IsRow file at (Ok (item, to)) → to ≡ inner_after form item → item.row + 1 < form.rows
@@ -208,7 +212,7 @@ module _ (forms : FormsAreWhole) (chains : FilesHaveOneChain) (file : List ℕ) 
         let lead : LeadTo (IsRow file) (strip_of read.here at.page at.row) (from.rows ++ item ∷ []) to =
         leads_on (IsRow file) (strip_of read.here at.page at.row) at from.rows item to from.lead step in
         let strip : strip_of read.here at.page at.row ≡ strip_of read.here item.page (item.row + 1) =
-        ap (λ (p : ℕ). strip_of read.here p at.row) (sym read.is.same_page)
+        ap (λ (p : ℕ). strip_of read.here p at.row) (sym read.is.0)
         ∙ ap (λ (s : ℕ). first_at item.page (s * form.rows_per_strip)) (sym next.0) in
         record {
           rows = from.rows ++ item ∷ [];
@@ -265,10 +269,10 @@ module _ (forms : FormsAreWhole) (chains : FilesHaveOneChain) (file : List ℕ) 
       by_test false below false e = absurd cc
 
   begins_from : (begun : Begun) → IsReached file begun → (from : Place) (k : ℕ) → Begins file begun (Ok (from, k)) → FromStrip from
-  begins_from begun reached from k (Err end, page, e) = absurd cc
-  begins_from (At at) reached from k (Ok here, page, e) = begins_first at here page from k e
-  begins_from (Inside place) reached from k (Ok here, page, inr (not, e)) = absurd cc
-  begins_from (Inside place) reached from k (Ok here, page, inl (is, e)) = subst FromStrip (sym (ap place_of e)) (λ there page'.
+  begins_from begun reached from k (inl (end, page, e)) = absurd cc
+  begins_from (At at) reached from k (inr (here, page, e)) = begins_first at here page from k e
+  begins_from (Inside place) reached from k (inr (here, page, inr (not, e))) = absurd cc
+  begins_from (Inside place) reached from k (inr (here, page, inl (is, e))) = subst FromStrip (sym (ap place_of e)) (λ there page'.
       let same = same_page file chains place.at reached.here there reached.page page' in
       let here_too = same_page file chains place.at here there page page' in
       subst (λ (h : FilePage). IsFromStrip (inner_at place) h) same record {
@@ -310,7 +314,7 @@ module _ (forms : FormsAreWhole) (chains : FilesHaveOneChain) (file : List ℕ) 
         let next : IsFromStrip at read.here = subst FromStrip is next_from read.here page_of in
         let rest : AreFrom (IsRow file) at after end = subst (λ (t : Place). AreFrom (IsRow file) t after end) is split.rest in (
           Ok (strip_of read.here item.page (item.row + 1), row_in_strip on_form (item.row + 1)),
-          (Ok read.here, page_of, rw test refl),
+          inr (read.here, page_of, rw test refl),
           (
             next.rows ++ after,
             joined (IsRow file) (strip_of read.here item.page (item.row + 1)) at next.rows after end next.lead rest,
@@ -321,12 +325,12 @@ module _ (forms : FormsAreWhole) (chains : FilesHaveOneChain) (file : List ℕ) 
     on_next : on_form.rows ≤ item.row + 1 → split.to ≡ first_at (item.page + 1) 0 → IsTailFrom file (At (cursor_after item)) after end
     on_next last is =
         let below = (here_from read.here read.page).row in
-        let row_is = read.is.same_row in
+        let row_is = read.is.1 in
         let whole : item.row + 1 ≡ on_form.rows = omega (arith, last, below, row_is) in
         let test : nat_lt (item.row + 1) on_form.rows ≡ false = grind (arith, nat_tests, last) in
         let end_test : ((item.row + 1) == on_form.rows) ≡ true = grind (arith, nat_tests, whole) in (
           Ok (first_at (item.page + 1) 0, 0),
-          (Ok read.here, page_of, rw (test, end_test) refl),
+          inr (read.here, page_of, rw (test, end_test) refl),
           (after, subst (λ (t : Place). AreFrom (IsRow file) t after end) is split.rest, refl),
         )
 
@@ -343,7 +347,7 @@ module _ (forms : FormsAreWhole) (chains : FilesHaveOneChain) (file : List ℕ) 
   Wide at =
       (here : FilePage) → IsPageAt file (cursor_at at) (Ok here) → (bytes : List ℕ)
       → strip_bytes here.endian file here.offset (strip_at here.form at.row) ≡ Some bytes
-      → length (reference_of here.form.width at.inner) ≡ here.form.width
+      → length (before here.form.width at.inner).reference ≡ here.form.width
 
   wide_first : (p r : ℕ) → Wide (first_at p r)
   wide_first p r here page bytes there = length-replicate here.form.width White
@@ -351,8 +355,8 @@ module _ (forms : FormsAreWhole) (chains : FilesHaveOneChain) (file : List ℕ) 
   row_wide : (at : Place) (item : Item) (to : Place) → Wide at → (read : IsRead file at item to)
       → length (exchanged read.here.form item.pels) ≡ read.here.form.width
   row_wide at item to wide read =
-      let line = read.is.line in
-      row_in line.dimension read.here.form.width (reference_of read.here.form.width at.inner) line.codes
+      let line = read.is.3 in
+      row_in line.dimension read.here.form.width (before read.here.form.width at.inner).reference line.codes
       (exchanged read.here.form item.pels) _
       (wide read.here read.page read.bytes read.bytes_are) line.coded
 
@@ -387,17 +391,17 @@ module _ (forms : FormsAreWhole) (chains : FilesHaveOneChain) (file : List ℕ) 
       by_test false false e = absurd cc
 
   begins_wide : (begun : Begun) (from : Place) (k : ℕ) → Begins file begun (Ok (from, k)) → Wide from
-  begins_wide begun from k (Err end, page, e) = absurd cc
-  begins_wide (At at) from k (Ok here, page, e) =
+  begins_wide begun from k (inl (end, page, e)) = absurd cc
+  begins_wide (At at) from k (inr (here, page, e)) =
       let first = some_first at here.form from k e in
       subst Wide (sym first.2) (wide_first first.0 first.1)
-  begins_wide (Inside place) from k (Ok here, page, inr (not, e)) = absurd cc
-  begins_wide (Inside place) from k (Ok here, page, inl (is, e)) = subst Wide (sym (ap place_of e)) (λ there page' bytes bytes_are.
+  begins_wide (Inside place) from k (inr (here, page, inr (not, e))) = absurd cc
+  begins_wide (Inside place) from k (inr (here, page, inl (is, e))) = subst Wide (sym (ap place_of e)) (λ there page' bytes bytes_are.
       let same = same_page file chains place.at here there page page' in
       let is_there = subst (λ (h : FilePage). IsInnerOn file h place) same is in
       let inner : IsInner there.form.width bytes place =
       subst (λ (o : Option (List ℕ)). FitsStrip there.form.width o place) bytes_are is_there.fits in
-      inner.width_is)
+      inner.1)
     where
       place_of : Result (Place × ℕ) End → Place
       place_of (Ok begin) = begin.0
@@ -420,13 +424,15 @@ module _ (forms : FormsAreWhole) (chains : FilesHaveOneChain) (file : List ℕ) 
     pub bits : nat_le item.bits 4294967295 ≡ true
 
   long_facts : (form : PageForm) (item : Item) (place : LongPlace) → long_after form item ≡ Some place → IsLong form item place
-  long_facts form item place e = elim (cases_after form item) [
-    | inl (last, is) ↦ absurd (no_place (rw is at e))
-    | inr (inl (within, first, is)) ↦ absurd (no_place (rw is at e))
-    | inr (inr (within, inside, is)) ↦
-        let some = some_if (nat_le item.bits 4294967295) (long_of form item) place (rw is at e) in
-        record { within = within; inside = inside; after = is; is = some.0; bits = some.1 }
-  ]
+  long_facts form item place e =
+      let long : (let after = place_after form item in long_at after.page after.row after.inner) ≡ Some place = e in
+      elim (cases_after form item) [
+        | inl (last, is) ↦ absurd (no_place (rw is at long))
+        | inr (inl (within, first, is)) ↦ absurd (no_place (rw is at long))
+        | inr (inr (within, inside, is)) ↦
+            let some = some_if (nat_le item.bits 4294967295) (long_of form item) place (rw is at long) in
+            record { within = within; inside = inside; after = is; is = some.0; bits = some.1 }
+      ]
     where
       no_place : ◌≡◌ {A = Option LongPlace} None (Some place) → ⊥
       no_place none = cc
@@ -459,11 +465,11 @@ module _ (forms : FormsAreWhole) (chains : FilesHaveOneChain) (file : List ℕ) 
     }) (sym pels_are)
 
     pub inner : IsInner its.width this.bytes (long_of its item)
-    inner = record {
-      within = this.is.within;
-      width_is = ap (λ (l : List Colour). length l) pels_are ∙ row_wide split.at item split.to wide_here this;
-      runs = ap runs_of pels_are;
-    }
+    inner = (
+      this.is.2,
+      ap (λ (l : List Colour). length l) pels_are ∙ row_wide split.at item split.to wide_here this,
+      ap runs_of pels_are,
+    )
       where
         wide_here : Wide split.at
         wide_here = kept (IsRow file) Wide keeps_wide split.from split.at split.front split.lead
@@ -483,7 +489,7 @@ module _ (forms : FormsAreWhole) (chains : FilesHaveOneChain) (file : List ℕ) 
     long_tail : IsTailFrom file (Inside place) after end
     long_tail = subst (λ (l : LongPlace). IsTailFrom file (Inside l) after end) facts.is (
       Ok (inner_at (long_of its item), 0),
-      (Ok this.here, page_here, inl (is_inner, refl)),
+      inr (this.here, page_here, inl (is_inner, refl)),
       (after, subst (λ (t : Place). AreFrom (IsRow file) t after end) to_is split.rest, refl),
     )
 
@@ -516,10 +522,10 @@ places_are_reached forms chains file begun all end n item here place reached tai
 
 module _ (by_place : AreBitsByPlace) (lines_read : LinesAreRead) (chains : FilesHaveOneChain) (forms : FormsAreWhole) (file : List ℕ) where
   from_start : (items : List Item) (end : End) → IsTailFrom file (At start) items end → AreItems file items end
-  from_start items end (begin, (Err none, page, e), are) =
+  from_start items end (begin, (inl (none, page, e)), are) =
       let both : (items ≡ []) × (end ≡ none) = subst (λ (b : Result (Place × ℕ) End). AreBegun (IsRow file) b items end) e are in
-      rw (both.0, both.1) (Err none, page, refl)
-  from_start items end (begin, (Ok here, page, e), are) =
+      rw (both.0, both.1) (inl (none, page, refl))
+  from_start items end (begin, (inr (here, page, e)), are) =
       let whole = whole_page file forms start here page in
       let some = whole.some_in_strip in
       let rows = whole.some_rows in
@@ -551,8 +557,8 @@ module _ (by_place : AreBitsByPlace) (lines_read : LinesAreRead) (chains : Files
   same_items begun other item its after more end another reached reached' one two pages rows =
       let read = read_at file one.at item one.to one.step in
       let read' = read_at file two.at its two.to two.step in
-      let at_page : two.at.page ≡ one.at.page = sym read'.is.same_page ∙ sym pages ∙ read.is.same_page in
-      let at_row : two.at.row ≡ one.at.row = sym read'.is.same_row ∙ sym rows ∙ read.is.same_row in
+      let at_page : two.at.page ≡ one.at.page = sym read'.is.0 ∙ sym pages ∙ read.is.0 in
+      let at_row : two.at.row ≡ one.at.row = sym read'.is.1 ∙ sym rows ∙ read.is.1 in
       let page' : IsPageAt file (cursor_at one.at) (Ok read'.here) =
       subst (λ (p : ℕ). IsPageAt file (record { page = p; row = one.at.row }) (Ok read'.here)) at_page
       (subst (λ (r : ℕ). IsPageAt file (record { page = two.at.page; row = r }) (Ok read'.here)) at_row read'.page) in
@@ -597,9 +603,9 @@ module _ (chains : FilesHaveOneChain) (file : List ℕ) where
       → (strip_bytes here.endian file here.offset (strip_at here.form at.row) ≡ None
       → at.row ≡ strip_at here.form at.row * here.form.rows_per_strip)
       → EndsBefore end (cursor_at at) → ⊥
-  ends_on at here page end (Err none, page', is) first before =
+  ends_on at here page end (inl (none, page', is)) first before =
       let same = same_answer (one_page chains file (cursor_at at)) (Err none) (Ok here) page' page in absurd cc
-  ends_on at here page end (Ok there, page', is) first before =
+  ends_on at here page end (inr (there, page', is)) first before =
       let same = same_answer (one_page chains file (cursor_at at)) (Ok there) (Ok here) page' page in
       let is_here : there ≡ here = cc in
       let stop = rw is_here at is in
@@ -656,10 +662,10 @@ module _ (chains : FilesHaveOneChain) (file : List ℕ) where
 
   ends_next : (p r : ℕ) (here : FilePage) → IsPageAt file (record { page = p; row = r }) (Ok here) → (end : End)
       → IsRow file (first_at (p + 1) 0) (Err end) → (at : Cursor) → at.page ≡ p → EndsBefore end at → ⊥
-  ends_next p r here page end (Err none, page', is) at same before =
+  ends_next p r here page end (inl (none, page', is)) at same before =
       let end_is : end ≡ none = cc in
       next_under p r here (header file) none page page' at same (rw end_is at before)
-  ends_next p r here page end (Ok there, page', is) at same before =
+  ends_next p r here page end (inr (there, page', is)) at same before =
       in_page there.form (first_at (p + 1) 0) (strip_bytes there.endian file there.offset (strip_at there.form 0)) end at is
       (omega (arith, same)) before
 
@@ -671,7 +677,7 @@ module _ (chains : FilesHaveOneChain) (file : List ℕ) where
     its_form = end_read.here.form
 
     page_there : (r : ℕ) → IsPageAt file (record { page = item.page; row = r }) (Ok end_read.here)
-    page_there r = subst (λ (p : ℕ). IsPageAt file (record { page = p; row = r }) (Ok end_read.here)) (sym end_read.is.same_page)
+    page_there r = subst (λ (p : ℕ). IsPageAt file (record { page = p; row = r }) (Ok end_read.here)) (sym end_read.is.0)
         (any_row file (cursor_at split.at) r end_read.here end_read.page)
 
     stop_at : (to : Place) → place_after its_form item ≡ to → IsRow file to (Err end)

@@ -22,7 +22,8 @@ use Rattle.fax_walk.specs.Cursors.{LongPlace}
 use Rattle.fax_walk.specs.views.Walk.{AreRead, EndsBefore, EntersPage, HasEndedAs, HandsOut, IsCursorOf, IsItemNumber, IsLongOf, IsNext}
 use Rattle.fax_walk.specs.laws.Left.{IsLeft}
 use Rattle.fax_walk.specs.views.Walk.{WalkView}
-use Rattle.fax_walk.specs.Rows.{IsRow, IsTailFrom, Item, Place, begins_at, first_at, long_at, place_after}
+use Rattle.fax_walk.specs.Rows.{IsRow, IsTailFrom, Item, Place, begins_at, first_at, place_after}
+use Rattle.fax_walk.specs.code.Places.{long_at}
 use Rattle.fax_walk.specs.laws.Tails.{BeginningsHaveOneTail}
 use Rattle.fax_walk.specs.code.Opening.{page_with}
 use Rattle.fax_walk.specs.code.Stages.{GivesNone, GivesRow, IsOpen, IsOpenedAt, PageState, place_of, row_of, skipped}

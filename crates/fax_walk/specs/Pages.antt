@@ -1,7 +1,7 @@
 -- What is handed out in order; and the pages of a file, and their forms (TIFF 6.0, section 2).
 -- A definition without a citation is this project's profile.
 use Rattle.std.specs.Prelude.{◌≡◌, ℕ, ◌+◌, ◌==◌, ◌&&◌, if◌then◌else◌, nat_le, List, [], ◌∷◌, length}
-use Rattle.std.specs.Prelude.{drop, Option, Some, None, Result, Ok, Err, slice_get}
+use Rattle.std.specs.Prelude.{◌⊎◌, drop, Option, Some, None, Result, Ok, Err, slice_get}
 use Rattle.fax_files.specs.declared.FileFault.{FileFault}
 use Rattle.fax_files.specs.declared.Endian.{Endian}
 use Rattle.fax_files.specs.Directory.{Header, IsChain, header}
@@ -33,45 +33,32 @@ pub record FilePage : Type 0 where
   pub offset : ℕ
   pub form : PageForm
 
--- how a chain ends for a cursor that names none of its pages: with its fault, or properly for the
--- page after the last, or outside
-abbrev pub end_past_chain : ℕ → Option FileFault → Cursor → End
-end_past_chain pages (Some fault) at = Fault pages 0 (File fault)
-end_past_chain pages None at = if (at.page == pages) && (at.row == 0) then Proper else Outside
-
--- the page with the answer that its fields give, or the end there
-abbrev pub page_or_end : Endian → ℕ → ℕ → Result PageForm FileFault → Result FilePage End
-page_or_end endian q p (Err refused) = Err (Fault p 0 (File refused))
-page_or_end endian q p (Ok form) = Ok (record { endian = endian; offset = q; form = form })
-
--- the page at offset q, where the cursor names one of these directories, else how the chain ends
-abbrev pub page_over : Endian → List ℕ → List ℕ → Option FileFault → Cursor → Option ℕ
-    → Result FilePage End
-page_over endian file offsets fault at None = Err (end_past_chain (length offsets) fault at)
-page_over endian file offsets fault at (Some q) = page_or_end endian q at.page (page endian file q)
-
--- the same with the answer that the file's header gives
-abbrev pub IsPageUnder : List ℕ → Cursor → Result Header FileFault → Result FilePage End → Type 0
-IsPageUnder file at (Err fault) found = found ≡ Err (Fault 0 0 (File fault))
-IsPageUnder file at (Ok head) found =
-    (offsets : List ℕ) × (fault : Option FileFault) × IsChain head file offsets fault
-    × (found ≡ page_over head.endian file offsets fault at (slice_get offsets at.page))
-
--- a file's page that a cursor names, or the end there
+-- a file's page that a cursor names, or the end there: the fault of the header, of the page's fields
+-- or of the chain, a proper end for the page after the last one, or outside
 abbrev pub IsPageAt : List ℕ → Cursor → Result FilePage End → Type 0
-IsPageAt file at found = IsPageUnder file at (header file) found
+IsPageAt file at found =
+    elim (header file) [
+      | Err fault ↦ found ≡ Err (Fault 0 0 (File fault))
+      | Ok head ↦
+          (offsets : List ℕ) × (fault : Option FileFault) × IsChain head file offsets fault
+          × (found ≡ elim (slice_get offsets at.page) [
+            | Some q ↦ elim (page head.endian file q) [
+              | Err refused ↦ Err (Fault at.page 0 (File refused))
+              | Ok form ↦ Ok (record { endian = head.endian; offset = q; form = form })
+            ]
+            | None ↦ Err (elim fault [
+              | Some fault ↦ Fault (length offsets) 0 (File fault)
+              | None ↦ if (at.page == length offsets) && (at.row == 0) then Proper else Outside
+            ])
+          ])
+    ]
 
--- what is asked of a page, where there is one, and else the end
-abbrev pub IsAsked : {A : Type 0} → (FilePage → Result A End → Type 0) → Result FilePage End
-    → Result A End → Type 0
-IsAsked asked (Err end) answer = answer ≡ Err end
-IsAsked asked (Ok here) answer = asked here answer
-
--- what is asked of the page that a cursor names
+-- what is asked of the page that a cursor names, or the end where there is none
 abbrev pub IsOnPage : {A : Type 0} → List ℕ → Cursor → (FilePage → Result A End → Type 0)
     → Result A End → Type 0
 IsOnPage file at asked answer =
-    (found : Result FilePage End) × IsPageAt file at found × IsAsked asked found answer
+    ((end : End) × IsPageAt file at (Err end) × (answer ≡ Err end))
+    ⊎ ((here : FilePage) × IsPageAt file at (Ok here) × asked here answer)
 
 -- the form of a page with its number, from 0
 pub record FormItem : Type 0 where
@@ -84,20 +71,11 @@ IsForm file p =
     IsOnPage file (record { page = p; row = 0 }) (λ here answer. answer
     ≡ Ok (record { page = p; form = here.form }, p + 1))
 
--- the page that a reader of pages begins with: the one that the cursor names at row 0, else the one
--- after it
-abbrev pub first_form : Cursor → PageForm → Result (ℕ × ℕ) End
-first_form at form =
-    if at.row == 0 then Ok (at.page, 0)
-    else (if nat_le at.row form.rows then Ok (at.page + 1, 0) else Err Outside)
-
--- what a reader of pages from a cursor hands out
+-- what a reader of pages from a cursor hands out: it begins with the page that the cursor names at
+-- row 0, else with the one after it
 abbrev pub IsFormTail : List ℕ → Cursor → List FormItem → End → Type 0
 IsFormTail file at forms end =
     (begin : Result (ℕ × ℕ) End)
-    × IsOnPage file at (λ here begin. begin ≡ first_form at here.form) begin
+    × IsOnPage file at (λ here begin. begin ≡ (if at.row == 0 then Ok (at.page, 0)
+    else (if nat_le at.row here.form.rows then Ok (at.page + 1, 0) else Err Outside))) begin
     × AreBegun (IsForm file) begin forms end
-
--- the cursor after a page
-abbrev pub cursor_after_page : FormItem → Cursor
-cursor_after_page item = record { page = item.page + 1; row = 0 }

@@ -31,11 +31,11 @@ pub enum NoteKind {
 }
 
 impl NoteKind {
-    ghost use Rattle.fax_walk.specs.Report.{note_name, note_number};
+    ghost use Rattle.fax_walk.specs.Report.{number_and_name};
 
     /// The note's name.
     pub fn name(self) -> &'static str
-        ensures { result.now ≡ note_name self }
+        ensures { result.now ≡ (number_and_name self).1 }
     {
         match self {
             NoteKind::NoEndOfBlock => "NoEndOfBlock",
@@ -48,7 +48,7 @@ impl NoteKind {
 
     /// The note's number, 1 to 5.
     pub fn number(self) -> u8
-        ensures { result ≡ note_number self }
+        ensures { result ≡ (number_and_name self).0 }
     {
         match self {
             NoteKind::NoEndOfBlock => 1,

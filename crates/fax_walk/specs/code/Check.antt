@@ -11,10 +11,11 @@ use Rattle.fax_walk.specs.declared.checking.Note.{Note}
 use Rattle.fax_walk.specs.declared.checking.PageRead.{PageRead}
 use Rattle.fax_walk.specs.declared.end.End.{End}
 use Rattle.fax_walk.specs.declared.end.End.TheVariants.{Fault}
-use Rattle.fax_walk.specs.Pages.{AreFrom, IsPageAt, page_or_end}
+use Rattle.fax_walk.specs.Pages.{AreFrom, IsPageAt}
+use Rattle.fax_walk.specs.code.Opening.{page_or_end}
 use Rattle.fax_walk.specs.laws.InOrder.{LeadTo}
 use Rattle.fax_walk.specs.Rows.{Item, Place, first_at, IsRow}
-use Rattle.fax_walk.specs.Report.{Checked, directory_at, strip_of, IsNoted}
+use Rattle.fax_walk.specs.Report.{Checked, IsNoted}
 use Rattle.fax_walk.specs.code.Stages.{most_rows}
 
 -- how far a file is checked: what is checked next, and the row that is due
@@ -24,12 +25,12 @@ pub record CheckPlace : Type 0 where
 
 -- before page p
 abbrev pub before_page : ℕ → CheckPlace
-before_page p = record { next = directory_at p; row = first_at p 0 }
+before_page p = record { next = (p, None); row = first_at p 0 }
 
 -- before strip s of page p; after the page's last strip before the next page
 abbrev pub before_strip : PageForm → ℕ → ℕ → CheckPlace
 before_strip form p s = record {
-  next = if s == form.strips then directory_at (p + 1) else strip_of p s;
+  next = if s == form.strips then (p + 1, None) else (p, Some s);
   row = if s == form.strips then first_at (p + 1) 0 else first_at p (s * form.rows_per_strip);
 }
 

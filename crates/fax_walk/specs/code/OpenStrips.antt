@@ -1,7 +1,8 @@
 -- The strips of a page that is being written.
 use Rattle.std.specs.Prelude.{◌≡◌, ℕ, ◌*◌, ◌<◌, ◌≤◌, min, List, [], ◌∷◌, ◌++◌, length, drop, Option}
-use Rattle.std.specs.Prelude.{Some, None}
+use Rattle.std.specs.Prelude.{Some, None, zero, suc, ◌+◌, take}
 use Rattle.fax_bits.specs.declared.Colour.{Colour}
+use Rattle.fax_page.specs.CodedStrip.{coded_strip}
 use Rattle.fax_page.specs.views.Writer.{WriterState}
 use Rattle.fax_page.specs.laws.Writer.{HasPut}
 use Rattle.fax_files.specs.declared.PageForm.{PageForm}
@@ -9,7 +10,18 @@ use Rattle.fax_files.specs.views.Page.{IsPageForm}
 use Rattle.fax_files.specs.Page.{strip_form}
 use Rattle.fax_files.specs.views.Writing.{contents}
 use Rattle.fax_walk.specs.declared.open_strips.OpenStrips.{OpenStrips}
-use Rattle.fax_walk.specs.Converted.{strips_of, coded_strips}
+
+-- the rows of n strips of this many rows, the last one perhaps of fewer
+abbrev pub strips_of : ℕ → ℕ → List (List Colour) → List (List (List Colour))
+strips_of rows_per_strip zero rows = []
+strips_of rows_per_strip (suc n) rows =
+    take rows_per_strip rows ∷ strips_of rows_per_strip n (drop rows_per_strip rows)
+
+-- these strips of a page, from strip s on, as they are written
+abbrev pub coded_strips : PageForm → ℕ → ℕ → List (List (List Colour)) → List (List ℕ)
+coded_strips form k s [] = []
+coded_strips form k s (rows ∷ strips) =
+    coded_strip (strip_form form s) k rows ∷ coded_strips form k (s + 1) strips
 
 -- a strip is open, and these rows of it were put, but not all
 pub record IsOpenStrip (form : PageForm) (k n : ℕ) (rows : List (List Colour))

@@ -1,16 +1,53 @@
 -- Pages as they become due.
 use Rattle.std.specs.Prelude.{◌≡◌, ℕ, ◌+◌, ◌<◌, ◌≤◌, ◌⊎◌, List, length, Option, Some, None, Result}
-use Rattle.std.specs.Prelude.{Ok, Err}
+use Rattle.std.specs.Prelude.{Ok, Err, ◌==◌, ◌&&◌, if◌then◌else◌, slice_get}
 use Rattle.fax_files.specs.declared.FileFault.{FileFault}
 use Rattle.fax_files.specs.declared.PageForm.{PageForm}
-use Rattle.fax_files.specs.Directory.{header, IsChain}
+use Rattle.fax_files.specs.declared.Endian.{Endian}
+use Rattle.fax_files.specs.Directory.{Header, header, IsChain}
+use Rattle.fax_files.specs.Page.{page}
 use Rattle.fax_files.specs.views.Page.{IsPageForm}
 use Rattle.fax_files.specs.views.Chain.{ChainState}
 use Rattle.fax_files.specs.views.Tiff.{TiffDirectory, form_of}
 use Rattle.fax_walk.specs.declared.cursor.Cursor.{Cursor}
 use Rattle.fax_walk.specs.declared.end.End.{End}
-use Rattle.fax_walk.specs.declared.end.End.TheVariants.{Proper, Outside}
-use Rattle.fax_walk.specs.Pages.{FilePage, IsPageAt}
+use Rattle.fax_walk.specs.declared.end.End.TheVariants.{Proper, Fault, Outside}
+use Rattle.fax_walk.specs.Pages.{File, FilePage, IsPageAt}
+
+-- how a chain ends for a cursor that names none of its pages
+abbrev pub end_past_chain : ℕ → Option FileFault → Cursor → End
+end_past_chain pages fault at =
+    elim fault [
+      | Some fault ↦ Fault pages 0 (File fault)
+      | None ↦ if (at.page == pages) && (at.row == 0) then Proper else Outside
+    ]
+
+-- the page with the answer that its fields give, or the end there
+abbrev pub page_or_end : Endian → ℕ → ℕ → Result PageForm FileFault → Result FilePage End
+page_or_end endian q p answer =
+    elim answer [
+      | Err refused ↦ Err (Fault p 0 (File refused))
+      | Ok form ↦ Ok (record { endian = endian; offset = q; form = form })
+    ]
+
+-- the page at offset q, where the cursor names one of these directories, else how the chain ends
+abbrev pub page_over : Endian → List ℕ → List ℕ → Option FileFault → Cursor → Option ℕ
+    → Result FilePage End
+page_over endian file offsets fault at found =
+    elim found [
+      | Some q ↦ page_or_end endian q at.page (page endian file q)
+      | None ↦ Err (end_past_chain (length offsets) fault at)
+    ]
+
+-- a file's page that a cursor names, or the end there, with the answer that the header gives
+abbrev pub IsPageUnder : List ℕ → Cursor → Result Header FileFault → Result FilePage End → Type 0
+IsPageUnder file at answer found =
+    elim answer [
+      | Err fault ↦ found ≡ Err (Fault 0 0 (File fault))
+      | Ok head ↦
+          (offsets : List ℕ) × (fault : Option FileFault) × IsChain head file offsets fault
+          × (found ≡ page_over head.endian file offsets fault at (slice_get offsets at.page))
+    ]
 
 -- a page that is due: its number, the chain after its directory, its directory and its form
 pub record PageDue : Type 0 where

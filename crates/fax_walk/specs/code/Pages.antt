@@ -1,5 +1,8 @@
 -- How far a reader of a file's pages has come.
-use Rattle.std.specs.Prelude.{◌≡◌, ℕ, ◌≤◌, List, length, Option, Some, None, Result, Ok}
+use Rattle.std.specs.Prelude.{◌≡◌, ℕ, ◌≤◌, ◌+◌, ◌==◌, nat_le, if◌then◌else◌, List, length, Option}
+use Rattle.std.specs.Prelude.{Some, None, Result, Ok, Err}
+use Rattle.fax_files.specs.declared.PageForm.{PageForm}
+use Rattle.fax_walk.specs.declared.end.End.TheVariants.{Outside}
 use Rattle.fax_files.specs.views.Chain.{ChainState}
 use Rattle.fax_walk.specs.declared.cursor.Cursor.{Cursor}
 use Rattle.fax_walk.specs.declared.end.End.{End}
@@ -7,9 +10,15 @@ use Rattle.fax_walk.specs.declared.pages.PagesStage.{PagesStage}
 use Rattle.fax_walk.specs.declared.pages.PagesStage.TheVariants.{Before, After, Ended}
 use Rattle.fax_walk.specs.laws.InOrder.{LeadTo}
 use Rattle.fax_walk.specs.views.InOrder.{EndsAfter, HasToldNoOther}
-use Rattle.fax_walk.specs.Pages.{FormItem, IsForm, IsFormTail, IsOnPage, first_form}
+use Rattle.fax_walk.specs.Pages.{FormItem, IsForm, IsFormTail, IsOnPage}
 use Rattle.fax_walk.specs.views.Pages.{PagesView, IsCursorOf, IsTailOf}
 use Rattle.fax_walk.specs.code.Opening.{PageDue, IsChainBefore}
+
+-- the page that a reader of pages begins with
+abbrev pub first_form : Cursor → PageForm → Result (ℕ × ℕ) End
+first_form at form =
+    if at.row == 0 then Ok (at.page, 0)
+    else (if nat_le at.row form.rows then Ok (at.page + 1, 0) else Err Outside)
 
 -- where a reader of pages begins that has this cursor
 abbrev pub AreFormsBegun : List ℕ → Cursor → Result (ℕ × ℕ) End → Type 0

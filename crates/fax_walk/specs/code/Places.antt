@@ -1,13 +1,30 @@
 -- Places of rows.
 -- A definition without a citation is this project's profile.
-use Rattle.std.specs.Prelude.{ℕ, ◌+◌, ◌==◌, nat_lt, if◌then◌else◌, Some}
+use Rattle.std.specs.Prelude.{◌≡◌, ℕ, ◌+◌, ◌*◌, ◌/◌, ◌%◌, ◌≤◌, ◌==◌, nat_lt, nat_le, if◌then◌else◌, List, length}
+use Rattle.std.specs.Prelude.{drop, Option, Some, None, Result, Ok, Err, IfSome}
+use Rattle.fax_bits.specs.Bits.{bits}
+use Rattle.fax_rows.specs.Rows.{White, pels_of, runs_of}
 use Rattle.fax_files.specs.declared.PageForm.{PageForm}
+use Rattle.fax_files.specs.Page.{strip_form}
+use Rattle.fax_page.specs.Lines.{IsLine}
+use Rattle.fax_walk.specs.declared.begun.Begun.{Begun}
 use Rattle.fax_walk.specs.declared.cursor.Cursor.{Cursor}
-use Rattle.fax_walk.specs.Rows.{Inner, Place, first_at, row_in_strip}
+use Rattle.fax_walk.specs.declared.end.End.{End}
+use Rattle.fax_walk.specs.declared.end.End.TheVariants.{Outside}
+use Rattle.fax_walk.specs.Cursors.{LongPlace}
+use Rattle.fax_walk.specs.Pages.{IsOnPage}
+use Rattle.fax_walk.specs.Rows.{BeginsOn, Inner, Item, Place, before, begins_at, exchanged, first_at}
 
 -- the cursor of a place
 abbrev pub cursor_at : Place → Cursor
 cursor_at at = record { page = at.page; row = at.row }
+
+-- the number of the strip that holds row r, and the row's number in it (TIFF 6.0, RowsPerStrip)
+abbrev pub strip_at : PageForm → ℕ → ℕ
+strip_at form r = r / form.rows_per_strip
+
+abbrev pub row_in_strip : PageForm → ℕ → ℕ
+row_in_strip form r = r % form.rows_per_strip
 
 -- the place of row r of a page: inside its strip, at a strip's first row, or on the page after
 abbrev pub place_on : PageForm → ℕ → ℕ → Inner → Place
@@ -16,3 +33,43 @@ place_on form p r inner =
     then (if row_in_strip form r == 0 then first_at p r
     else record { page = p; row = r; inner = Some inner })
     else first_at (p + 1) 0
+
+-- the row at a place, in these bytes of its strip
+abbrev pub IsItem : PageForm → List ℕ → Place → Item → Type 0
+IsItem form bytes at item =
+    (item.page ≡ at.page) × (item.row ≡ at.row) × (item.bits ≤ 8 * length bytes)
+    × IsLine (strip_form form (strip_at form at.row)) (row_in_strip form at.row)
+    (before form.width at.inner).reference
+    (drop (before form.width at.inner).bits (bits form.order bytes)) (exchanged form item.pels)
+    (drop item.bits (bits form.order bytes))
+
+-- where a walk from a cursor begins, and how many rows it reads before the cursor's
+abbrev pub first_row : Cursor → PageForm → Result (Place × ℕ) End
+first_row at form =
+    let strip = first_at at.page (strip_at form at.row * form.rows_per_strip) in
+    if nat_lt at.row form.rows then Ok (strip, row_in_strip form at.row)
+    else (if at.row == form.rows then Ok (first_at (at.page + 1) 0, 0) else Err Outside)
+
+-- a place inside a strip has the longest runs of a row of the width, as coded, and its bits
+abbrev pub IsInner : ℕ → List ℕ → LongPlace → Type 0
+IsInner width bytes place =
+    (place.bits ≤ 8 * length bytes) × (length (pels_of White place.runs) ≡ width)
+    × (runs_of (pels_of White place.runs) ≡ place.runs)
+
+-- the same, where the file has the strip
+abbrev pub FitsStrip : ℕ → Option (List ℕ) → LongPlace → Type 0
+FitsStrip width found place = IfSome found (λ bytes. IsInner width bytes place)
+
+-- where a walk begins in a file
+abbrev pub Begins : List ℕ → Begun → Result (Place × ℕ) End → Type 0
+Begins file begun = IsOnPage file (begins_at begun) (BeginsOn file begun)
+
+-- the place inside a strip at a place, as a long cursor names it, if its bits have 32 bits
+abbrev pub long_at : ℕ → ℕ → Option Inner → Option LongPlace
+long_at p r None = None
+long_at p r (Some inner) =
+    if nat_le inner.bits 4294967295 then (Some (record {
+      at = record { page = p; row = r };
+      bits = inner.bits;
+      runs = runs_of inner.reference;
+    })) else None

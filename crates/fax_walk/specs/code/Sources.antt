@@ -2,6 +2,8 @@
 use Rattle.std.specs.Prelude.{◌≡◌, ℕ, ◌+◌, ◌<◌, ◌⊎◌, List, [], ◌∷◌, ◌++◌, length, map, None, Err}
 use Rattle.fax_bits.specs.declared.Colour.{Colour}
 use Rattle.fax_files.specs.declared.Cause.{Cause}
+use Rattle.fax_files.specs.declared.PageForm.{PageForm}
+use Rattle.fax_files.specs.Page.{usual_resolution}
 use Rattle.fax_files.specs.Pbm.{Image, AreImages, raster_rows}
 use Rattle.fax_files.specs.laws.Pbm.{AreOfWidth}
 use Rattle.fax_walk.specs.declared.begun.Begun.TheVariants.{At}
@@ -19,7 +21,8 @@ use Rattle.fax_walk.specs.Cursors.{start}
 use Rattle.fax_walk.specs.laws.InOrder.{LeadTo}
 use Rattle.fax_walk.specs.views.InOrder.{EndsAfter}
 use Rattle.fax_walk.specs.Pages.{FormItem, IsForm}
-use Rattle.fax_walk.specs.Converted.{AreForms, AreItems, SourcePage, page_of_image, page_of_form}
+use Rattle.fax_walk.specs.Converted.{SourcePage}
+use Rattle.fax_walk.specs.laws.Tails.{AreForms, AreItems}
 use Rattle.fax_walk.specs.Rows.{Item, Place, first_at, IsRow}
 use Rattle.fax_walk.specs.views.Walk.{WalkView}
 use Rattle.fax_walk.specs.views.Pages.{PagesView}
@@ -45,6 +48,17 @@ PutsRows old sheet rows new =
 abbrev pub PutsImage : Output → ℕ → ℕ → List ℕ → Output → Type 0
 PutsImage old width height raster new =
     PutsRows old (image_sheet width height) (raster_rows width height raster) new
+
+-- the page of an image, which has no resolution of its own
+abbrev pub page_of_image : Image → SourcePage
+page_of_image image = record { image = image; resolution = usual_resolution }
+
+-- a page of a TIFF file, which keeps its resolution, with the rows that it shows
+abbrev pub page_of_form : PageForm → List (List Colour) → SourcePage
+page_of_form form rows = record {
+  image = record { width = form.width; rows = rows };
+  resolution = record { x = form.x; y = form.y; unit = form.unit };
+}
 
 -- the images are written that were read, and the ones that are left are those after them
 pub record AreImagesWritten (bytes left : List ℕ) (options : Options) (total count : ℕ)

@@ -22,8 +22,10 @@ use Rattle.fax_walk.specs.declared.opening.OpenFault.TheVariants.{Memory, Ended}
 use Rattle.fax_walk.specs.Cursors.{LongPlace}
 use Rattle.fax_walk.specs.laws.InOrder.{LeadTo}
 use Rattle.fax_walk.specs.Pages.{IsPageAt}
-use Rattle.fax_walk.specs.Rows.{Item, Place, IsInner, IsInnerOn, IsRow, place_after, first_at}
-use Rattle.fax_walk.specs.Rows.{inner_at, strip_at}
+use Rattle.fax_walk.specs.Rows.{Item, Place, IsInnerOn, IsRow, place_after, first_at}
+use Rattle.fax_walk.specs.code.Places.{IsInner}
+use Rattle.fax_walk.specs.Rows.{inner_at}
+use Rattle.fax_walk.specs.code.Places.{strip_at}
 use Rattle.fax_walk.specs.code.Places.{place_on}
 use Rattle.fax_walk.specs.code.Opening.{IsFilePage, PageDue, page_with}
 

@@ -12,7 +12,8 @@ use Rattle.fax_walk.specs.declared.opening.OpenFault.{OpenFault}
 use Rattle.fax_walk.specs.declared.opening.OpenFault.TheVariants.{Memory as NoMemory, Ended}
 use Rattle.fax_walk.specs.laws.InOrder.{LeadTo}
 use Rattle.fax_walk.specs.Pages.{FilePage, IsPageAt}
-use Rattle.fax_walk.specs.Rows.{Item, Place, Begins, IsRow, IsTailFrom, begins_at, cursor_after}
+use Rattle.fax_walk.specs.Rows.{Item, Place, IsRow, IsTailFrom, begins_at, cursor_after}
+use Rattle.fax_walk.specs.code.Places.{Begins}
 use Rattle.fax_walk.specs.Rows.{place_after}
 use Rattle.fax_walk.specs.views.Walk.{WalkView, IsItemNumber, EntersPage, HasEndedAs, AreRead}
 use Rattle.fax_walk.specs.views.Walk.{EndsBefore}

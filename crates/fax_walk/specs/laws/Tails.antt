@@ -1,6 +1,6 @@
 -- Laws of what the pages of a file hand out, which the functions of the module `laws` prove.
 -- A definition without a citation is this project's profile.
-use Rattle.std.specs.Prelude.{◌≡◌, ◌↔◌, ℕ, ◌+◌, ◌*◌, ◌<◌, List, [], ◌∷◌, length, drop, Some}
+use Rattle.std.specs.Prelude.{◌/◌, ◌%◌, ◌≡◌, ◌↔◌, ℕ, ◌+◌, ◌*◌, ◌<◌, List, [], ◌∷◌, length, drop, Some}
 use Rattle.std.specs.Prelude.{None, Ok, slice_get, ⊤}
 use Rattle.fax_walk.specs.declared.begun.Begun.{Begun}
 use Rattle.fax_walk.specs.declared.begun.Begun.TheVariants.{At, Inside}
@@ -8,8 +8,7 @@ use Rattle.fax_walk.specs.declared.cursor.Cursor.{Cursor}
 use Rattle.fax_walk.specs.declared.end.End.{End}
 use Rattle.fax_walk.specs.Cursors.{start, LongPlace}
 use Rattle.fax_walk.specs.Pages.{FormItem, IsForm, IsFormTail, FilePage, IsPageAt}
-use Rattle.fax_walk.specs.Pages.{cursor_after_page, AreFrom}
-use Rattle.fax_walk.specs.Converted.{AreForms, AreItems}
+use Rattle.fax_walk.specs.Pages.{AreFrom}
 use Rattle.fax_walk.specs.views.Pages.{PagesView, HandsOutPage, PagesHaveEnded}
 use Rattle.fax_walk.specs.laws.Forms.{AreFormsLeft}
 use Rattle.fax_walk.specs.views.InOrder.{EndsAfter}
@@ -18,8 +17,15 @@ use Rattle.fax_bits.specs.laws.Codes.{IsOne}
 use Rattle.fax_walk.specs.views.Walk.{WalkView, EndsBefore, IsTailOf, IsItemNumber, IsCursorOf}
 use Rattle.fax_walk.specs.laws.Left.{IsLeft}
 use Rattle.fax_walk.specs.views.Walk.{IsLongOf}
-use Rattle.fax_walk.specs.Rows.{Item, first_at, strip_at, row_in_strip, inner_at, IsRow, IsTailFrom}
+use Rattle.fax_walk.specs.Rows.{Item, first_at, inner_at, IsRow, IsTailFrom}
 use Rattle.fax_walk.specs.Rows.{cursor_after, long_after}
+
+-- the forms of a file's pages, and its rows, each with their end
+abbrev pub AreForms : List ℕ → List FormItem → End → Type 0
+AreForms file forms end = AreFrom (IsForm file) 0 forms end
+
+abbrev pub AreItems : List ℕ → List Item → End → Type 0
+AreItems file items end = AreFrom (IsRow file) (first_at 0 0) items end
 
 -- whatever a walk begins with has a tail and an end, and one only
 abbrev pub BeginningsHaveOneTail : Type 0
@@ -42,8 +48,8 @@ pub record IsReachedPlace (file : List ℕ) (place : LongPlace) : Type 0 where
   pub page : IsPageAt file place.at (Ok here)
   pub rows : List Item
   pub lead : LeadTo (IsRow file) (first_at place.at.page
-      (strip_at here.form place.at.row * here.form.rows_per_strip)) rows (inner_at place)
-  pub count : length rows ≡ row_in_strip here.form place.at.row
+      (place.at.row / here.form.rows_per_strip * here.form.rows_per_strip)) rows (inner_at place)
+  pub count : length rows ≡ place.at.row % here.form.rows_per_strip
 
 -- any cursor, or a place inside a strip to which its strip's rows lead
 abbrev pub IsReached : List ℕ → Begun → Type 0
@@ -130,7 +136,7 @@ abbrev pub FormTailsGoOn : Type 0
 FormTailsGoOn =
     (file : List ℕ) (at : Cursor) (all : List FormItem) (end : End) (n : ℕ) (item : FormItem)
     → IsFormTail file at all end → slice_get all n ≡ Some item
-    → IsFormTail file (cursor_after_page item) (drop (n + 1) all) end
+    → IsFormTail file (record { page = item.page + 1; row = 0 }) (drop (n + 1) all) end
 
 -- what a walk still hands out is one list with one end
 abbrev pub LeftIsOne : Type 0

@@ -15,7 +15,8 @@ use Rattle.fax_files.specs.Directory.{max_file}
 use Rattle.fax_files.specs.laws.Files.{HoldStripRows, AreWritable}
 use Rattle.fax_walk.specs.declared.end.End.TheVariants.{Proper}
 use Rattle.fax_walk.specs.declared.options.Options.{Options}
-use Rattle.fax_walk.specs.Converted.{SourcePage, written_page, AreForms, AreItems}
+use Rattle.fax_walk.specs.Converted.{SourcePage, written_page}
+use Rattle.fax_walk.specs.laws.Tails.{AreForms, AreItems}
 use Rattle.fax_walk.specs.Pages.{FormItem}
 use Rattle.fax_walk.specs.Rows.{Item}
 

@@ -9,7 +9,7 @@ use Rattle.fax_walk.specs.declared.end.WalkFault.{WalkFault}
 use Rattle.fax_walk.specs.declared.end.WalkFault.TheVariants.{Memory, AtRow, CursorOutside}
 use Rattle.fax_walk.specs.Cursors.{start}
 use Rattle.fax_walk.specs.views.InOrder.{IsNumber, EndsAfter, HasToldNoOther}
-use Rattle.fax_walk.specs.Pages.{FormItem, IsFormTail, cursor_after_page}
+use Rattle.fax_walk.specs.Pages.{FormItem, IsFormTail}
 
 -- a reader of pages: its file, the cursor that it began with, how many pages it handed out, and how
 -- the pages ended, once it told that
@@ -59,4 +59,4 @@ abbrev pub IsCursorOf : PagesView → Cursor → Type 0
 IsCursorOf pages at =
     ((pages.given ≡ 0) × (at ≡ pages.begun))
     ⊎ ((before : ℕ) × (item : FormItem) × (pages.given ≡ before + 1)
-    × IsNumber (IsTailOf pages) before item × (at ≡ cursor_after_page item))
+    × IsNumber (IsTailOf pages) before item × (at ≡ record { page = item.page + 1; row = 0 }))

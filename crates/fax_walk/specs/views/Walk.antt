@@ -13,9 +13,9 @@ use Rattle.fax_walk.specs.declared.end.WalkFault.TheVariants.{Memory, AtRow, Cur
 use Rattle.fax_walk.specs.declared.walk.Place.{Place}
 use Rattle.fax_walk.specs.Cursors.{start, LongPlace}
 use Rattle.fax_walk.specs.views.InOrder.{IsNumber, EndsAfter, HasToldNoOther}
-use Rattle.fax_walk.specs.Pages.{FilePage, IsPageAt}
+use Rattle.fax_walk.specs.Pages.{FilePage, IsOnPage, IsPageAt}
 use Rattle.fax_walk.specs.Rows as Rows
-use Rattle.fax_walk.specs.Rows.{Begins, Item, IsTailFrom, begins_at, cursor_after, long_after}
+use Rattle.fax_walk.specs.Rows.{BeginsOn, Item, IsTailFrom, begins_at, cursor_after, long_after}
 
 -- a walk: its file, what it began with, how many rows it handed out, and how the rows ended, once
 -- it told that
@@ -117,7 +117,7 @@ EndsBefore (Fault page row cause) at = (page ≡ at.page) × (row < at.row)
 -- but where one of these cannot be read
 pub record AreRead (walk : WalkView) (read : ℕ) : Type 0 where
   pub begin : Result (Rows.Place × ℕ) End
-  pub begins : Begins walk.file walk.begun begin
+  pub begins : IsOnPage walk.file (begins_at walk.begun) (BeginsOn walk.file walk.begun) begin
   pub most : read ≤ walk.given + dropped begin
   pub all : 0 < walk.given → read ≡ walk.given + dropped begin
   pub told : (end : End) → walk.told ≡ Some end

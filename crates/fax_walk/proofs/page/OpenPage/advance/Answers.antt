@@ -1,4 +1,5 @@
 use Rattle.std.proofs.Common.{sym, arith}
+use Rattle.std.proofs.lemmas.Result.{err_from_is_err_and}
 use Rattle.fax_walk.specs.code.Stages.{row_shown}
 use Rattle.fax_walk.proofs.OpenPageLemmas.{fault_stops, reads_kept, stops_kept, state}
 use Rattle.fax_walk.proofs.page.OpenPage.advance.Goals as goal
@@ -27,3 +28,13 @@ returns-in-Err-clause-err c =
     (rw (← c.self.invariant.row_is) at
     (fault_stops page c.advance.new.self c.in-Err.fault is_open c.self.invariant.limits c.self.invariant.strip_is
     c.self.invariant.its c.in-Err.ensures))
+
+pub returns-in_err-next_strip-in-Ok-false-clause-err : goal.returns-in_err-next_strip-in-Ok-false-clause-err
+returns-in_err-next_strip-in-Ok-false-clause-err c =
+    let p = err_from_is_err_and c.from_residual.result c.from_residual.ensures.1 in
+    let keeps = rw (sym c.self.view_is) at c.strips.invariant.keeps in
+    let same = rw c.in-Ok-false.field-0-test at c.in-Ok-false.ensures in
+    let stops = c.in_err-next_strip-in-Ok-false.ensures.err in
+    let q = c.self.inside in
+    let page = state q.page q.chain q.strips.directory q.form q.first q.number q.strip (row_shown q.strip q.exchanged) q.read in
+    rw (p.1, p.2) (stops_kept _ page keeps _ (rw same.unchanged at stops))
