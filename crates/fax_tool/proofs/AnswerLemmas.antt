@@ -3,7 +3,8 @@ use Rattle.std.proofs.Common.{◌≡◌, ◌∙◌, ap, codes, inl, inr, refl, s
 use Rattle.std.specs.Prelude.{IfSome, false}
 use Rattle.std.specs.Str.{bytes_eq}
 use Rattle.std.proofs.lemmas.Slice.Eq.{bytes_eq-Decides}
-use Rattle.fax_tool.specs.Grammar.{Text, Use, read, text_in}
+use Rattle.fax_tool.specs.Grammar.{AreOfCommand, Text, Use, text_in}
+use Rattle.fax_tool.proofs.SpellLemmas.{command_is_read}
 use Rattle.fax_walk.specs.Cursors.{IsCursor, IsLongCursor, LongPlace}
 use Rattle.fax_walk.specs.declared.options.Options.{Options}
 use Rattle.fax_walk.specs.declared.options.Target.TheVariants.{Mmr, Pbm}
@@ -20,10 +21,11 @@ use Rattle.fax_tool.specs.declared.words.WordsFault.TheVariants.{NotACursor, Usa
 one_name : (name a b : Text) → name ≡ a → name ≡ b → bytes_eq a b ≡ false → ⊥
 one_name name a b left right differ = true≢false (sym ((bytes_eq-Decides a b).1 (sym left ∙ right)) ∙ differ)
 
-same_uses : (words : List Text) (a b : Text) (xs ys : List Use) → read words ≡ Some (a, xs) → read words ≡ Some (b, ys)
+same_uses : (words : List Text) (a b : Text) (xs ys : List Use) → AreOfCommand words a xs → AreOfCommand words b ys
     → ◌≡◌ {A = Text × List Use} (a, xs) (b, ys)
 same_uses words a b xs ys left right =
-    let both : ◌≡◌ {A = Option (Text × List Use)} (Some (a, xs)) (Some (b, ys)) = sym left ∙ right in cc
+    let both : ◌≡◌ {A = Option (Text × List Use)} (Some (a, xs)) (Some (b, ys)) =
+    sym (command_is_read words a xs left) ∙ command_is_read words b ys right in cc
 
 -- options have a target, and one with EOLs where these are aligned
 no_options : (given : Given) (options : Options) → AreOptions given options → HasNoTarget given → ⊥
@@ -45,14 +47,14 @@ command_or_usage name given (Convert options) is convert none = no_options given
 command_or_usage name given Check is convert none = one_name name (codes "check") (codes "convert") is convert refl
 
 job_or_usage : (words : List Text) (job : Job) → IsJob words job → IsFault words Usage → ⊥
-job_or_usage words job is (inl none) = let named = sym none ∙ is.named in cc
+job_or_usage words job is (inl none) = none is.name is.uses is.named
 job_or_usage words job is (inr refused) =
     let same = same_uses words refused.name is.name refused.uses is.uses refused.named is.named in
     let command = subst (λ (c : Text × List Use). (c.0 ≡ codes "convert") × HasNoTarget (text_in c.1)) same refused.command in
     command_or_usage is.name (text_in is.uses) job.command is.command command.0 command.1
 
 usage_or_no_cursor : (words : List Text) → IsFault words Usage → IsFault words NotACursor → ⊥
-usage_or_no_cursor words (inl none) no_cursor = let named = sym none ∙ no_cursor.named in cc
+usage_or_no_cursor words (inl none) no_cursor = none no_cursor.name no_cursor.uses no_cursor.named
 usage_or_no_cursor words (inr refused) no_cursor =
     let same = same_uses words refused.name no_cursor.name refused.uses no_cursor.uses refused.named no_cursor.named in
     let convert : no_cursor.name ≡ codes "convert" = sym (ap (λ (c : Text × List Use). c.0) same) ∙ refused.command.0 in

@@ -20,7 +20,8 @@ use Rattle.clap.specs.declared.builder.value_parser.ValueParser.TheVariants as p
 use Rattle.clap.specs.declared.parser.matches.Found.{Found}
 use Rattle.clap.proofs.ValueTestLemmas.{accepts-Accepts}
 use Rattle.clap.proofs.WalkLemmas.{one_text-rows}
-use Rattle.fax_tool.specs.code.Entries.{HasFlag, HasNumber, IsNumberText, given_by}
+use Rattle.fax_tool.specs.code.Entries.{HasFlag, HasNumber, given_by}
+use Rattle.fax_tool.specs.Grammar.{IsNumberText}
 use Rattle.fax_tool.specs.Job.{is_set, number_in}
 use Rattle.fax_tool.proofs.EntryLemmas.{ArePassed, entry_passed, entry_read}
 

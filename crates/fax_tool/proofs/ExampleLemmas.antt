@@ -1,54 +1,102 @@
 -- The examples of words, computed.
-use Rattle.std.proofs.Common.{refl}
-use Rattle.std.specs.Str.{chars}
-use Rattle.fax_tool.specs.laws.Examples.{AreNotTaken, AreRead}
+use Rattle.std.proofs.Common.{◌≡◌, ◌<◌, arith, codes, refl, Bool, true, List, [], ◌∷◌, Option, Some, None, ℕ}
+use Rattle.std.specs.Prelude.{nat_lt, option_map}
+use Rattle.std.specs.List.{All, list_all}
+use Rattle.std.specs.Str.{IsUtf8, chars}
+use Rattle.std.proofs.lemmas.List.Elements.{All-cons, All-nil}
+use Rattle.std.proofs.lemmas.Bool.Decides.{nat_tests}
+use Rattle.std.proofs.lemmas.Str.{IsUtf8-from_ascii}
+use Rattle.std.proofs.lemmas.Str.Ascii.{IsAscii-from_all}
+use Rattle.fax_tool.specs.Grammar.{Text, Use, text_in}
+use Rattle.fax_tool.specs.Job.{Given}
+use Rattle.fax_tool.specs.code.Scan.{read}
+use Rattle.fax_tool.specs.laws.Examples.{AreNotTaken, AreRead, Gives, GivesNothing, words_of}
+use Rattle.fax_tool.proofs.GrammarLemmas.{both_parts}
+use Rattle.fax_tool.proofs.ShapeLemmas.{read_is_of_command}
+use Rattle.fax_tool.proofs.SpellLemmas.{unread_is_no_command}
+
+-- each byte is ASCII
+abbrev is_ascii : Text → Bool
+is_ascii = list_all (λ b. nat_lt b 128)
+
+ascii_bytes : (word : Text) → is_ascii word ≡ true → All (λ b. b < 128) word
+ascii_bytes [] ascii = All-nil (λ b. b < 128)
+ascii_bytes (b ∷ bs) ascii =
+    let of = both_parts (nat_lt b 128) (is_ascii bs) ascii in
+    let test = of.0 in
+    All-cons (λ b. b < 128) b bs (grind (arith, nat_tests)) (ascii_bytes bs of.1)
+
+all_utf8 : (words : List Text) → list_all is_ascii words ≡ true → All IsUtf8 words
+all_utf8 [] ascii = All-nil IsUtf8
+all_utf8 (word ∷ words) ascii =
+    let of = both_parts (is_ascii word) (list_all is_ascii words) ascii in
+    All-cons IsUtf8 word words (IsUtf8-from_ascii word (IsAscii-from_all word (ascii_bytes word of.0))) (all_utf8 words of.1)
+
+-- what is read of a line is what it gives
+gives : {A : Type 0} (line : List ℕ) (view : Given → A) (value : A) → list_all is_ascii (words_of line) ≡ true
+    → option_map (λ c. view (text_in c.1)) (read (words_of line)) ≡ Some value → Gives line view value
+gives {A} line view value ascii is = go (read (words_of line)) refl is
+  where
+    go : (o : Option (Text × List Use)) → read (words_of line) ≡ o → option_map (λ c. view (text_in c.1)) o ≡ Some value
+        → Gives line view value
+    go None reads is = cc
+    go (Some c) reads is =
+        record {
+          name = c.0;
+          uses = c.1;
+          are = read_is_of_command (words_of line) c.0 c.1 (all_utf8 (words_of line) ascii) reads;
+          gives = cc;
+        }
+
+nothing : (line : List ℕ) → read (words_of line) ≡ None → GivesNothing line
+nothing line is = unread_is_no_command (words_of line) is
 
 pub are_read : AreRead
 unfolding chars
 are_read = record {
-  cursor = refl;
-  cursor_joined = refl;
-  cursor_hyphen = refl;
-  cursor_empty = refl;
-  max = refl;
-  max_joined = refl;
-  max_plus = refl;
-  long = refl;
-  not_long = refl;
-  mh = refl;
-  mh_attached = refl;
-  mh_joined = refl;
-  order = refl;
-  order_joined = refl;
-  k = refl;
-  k_joined = refl;
-  strip = refl;
-  strip_joined = refl;
-  align = refl;
-  file = refl;
-  file_first = refl;
-  file_after = refl;
-  file_hyphen = refl;
-  no_file = refl;
+  cursor = gives _ _ _ refl refl;
+  cursor_joined = gives _ _ _ refl refl;
+  cursor_hyphen = gives _ _ _ refl refl;
+  cursor_empty = gives _ _ _ refl refl;
+  max = gives _ _ _ refl refl;
+  max_joined = gives _ _ _ refl refl;
+  max_plus = gives _ _ _ refl refl;
+  long = gives _ _ _ refl refl;
+  not_long = gives _ _ _ refl refl;
+  mh = gives _ _ _ refl refl;
+  mh_attached = gives _ _ _ refl refl;
+  mh_joined = gives _ _ _ refl refl;
+  order = gives _ _ _ refl refl;
+  order_joined = gives _ _ _ refl refl;
+  k = gives _ _ _ refl refl;
+  k_joined = gives _ _ _ refl refl;
+  strip = gives _ _ _ refl refl;
+  strip_joined = gives _ _ _ refl refl;
+  align = gives _ _ _ refl refl;
+  file = gives _ _ _ refl refl;
+  file_first = gives _ _ _ refl refl;
+  file_after = gives _ _ _ refl refl;
+  file_hyphen = gives _ _ _ refl refl;
+  no_file = gives _ _ _ refl refl;
 }
 
 pub are_not_taken : AreNotTaken
 unfolding chars
 are_not_taken = record {
-  none = refl;
-  name = refl;
-  help = refl;
-  help_of_rows = refl;
-  command_after = refl;
-  one_file = refl;
-  no_value = refl;
-  value = refl;
-  once = refl;
-  zero = refl;
-  too_many = refl;
-  k = refl;
-  order = refl;
-  long = refl;
-  flag_value = refl;
-  no_target = refl;
+  none = unread_is_no_command (codes "faxpages" ∷ []) refl;
+  name = nothing (codes "row") refl;
+  help = nothing (codes "--help") refl;
+  help_of_rows = nothing (codes "rows --help") refl;
+  command_after = nothing (codes "-- list") refl;
+  one_file = nothing (codes "list a b") refl;
+  no_value = nothing (codes "list --max") refl;
+  value = nothing (codes "list --cursor --max=3") refl;
+  once = nothing (codes "list --cursor=a --cursor=a") refl;
+  zero = nothing (codes "list --max=0") refl;
+  too_many = nothing (codes "rows --max=4294967296") refl;
+  k = nothing (codes "convert -omr --k=1000001") refl;
+  order = nothing (codes "convert -omr --order=3") refl;
+  long = nothing (codes "list --long") refl;
+  flag_value = nothing (codes "rows --long=true") refl;
+  no_target = gives _ _ _ refl refl;
 }

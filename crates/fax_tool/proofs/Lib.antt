@@ -16,6 +16,7 @@ mod ReadLemmas
 mod AgreeLemmas
 mod SpellLemmas
 mod ShapeLemmas
+mod GrammarLemmas
 mod AnswerLemmas
 pub mod LineLemmas
 pub mod StopLemmas

@@ -15,7 +15,8 @@ use Rattle.clap.specs.Faults.{check_fault, defaults_fault, entered_fault, fault_
 use Rattle.clap.proofs.FaultLemmas.{stopped_fault}
 use Rattle.clap.proofs.OnLiterals.{clap_on_literals}
 use Rattle.fax_tool.specs.code.CommandLine.{faxpages_app}
-use Rattle.fax_tool.specs.Grammar.{Item, Use, commands, is_used, name_of, read, text_in, uses_of}
+use Rattle.fax_tool.specs.Grammar.{Item, Use, commands, name_of, text_in}
+use Rattle.fax_tool.specs.code.Scan.{is_used, read, uses_of}
 use Rattle.fax_tool.proofs.RuleLemmas.{rules_of}
 use Rattle.fax_tool.proofs.UseLemmas.{guard}
 use Rattle.fax_tool.proofs.ViewLemmas.{View, as_end, as_long, as_plain, as_short, view}

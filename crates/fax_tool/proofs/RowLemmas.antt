@@ -13,8 +13,9 @@ use Rattle.clap.specs.Facts.{explicit_source}
 use Rattle.clap.specs.Faults.{check_fault, default_fault, defaults_fault, level_fault, settle_fault, walk_fault}
 use Rattle.clap.specs.declared.error.kind.ErrorKind.TheVariants.{MissingRequiredArgument}
 use Rattle.clap.specs.declared.parser.matches.ValueSource.TheVariants.{DefaultValue}
-use Rattle.fax_tool.specs.Grammar.{Item, Use, are_apart, checked, file, flag, is_taken, is_used, letter, name_of, number, text, text_in}
-use Rattle.fax_tool.specs.Grammar.{uses_from, uses_of}
+use Rattle.fax_tool.specs.Grammar.{Item, Use, file, flag, letter, name_of, number, text, text_in}
+use Rattle.fax_tool.specs.code.Scan.{are_apart, checked, is_taken, is_used}
+use Rattle.fax_tool.specs.code.Scan.{uses_from, uses_of}
 use Rattle.fax_tool.proofs.RuleLemmas.{rule_of, rules_of}
 use Rattle.fax_tool.proofs.UseLemmas.{at_end, guard, guard_twice, row_of}
 use Rattle.fax_tool.proofs.TurnLemmas.{IsOf, leaf, run, stand}

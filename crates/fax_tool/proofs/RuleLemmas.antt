@@ -8,7 +8,8 @@ use Rattle.clap.specs.Walk.{has_long as rule_has_long, has_short}
 use Rattle.clap.specs.Simple.{Shape, built, filled, new_shape, with_index}
 use Rattle.std.specs.List.{slice_index_or}
 use Rattle.fax_tool.specs.code.CommandLine.{faxpages_app, file_rule, flag_rule, number_rule, text_rule}
-use Rattle.fax_tool.specs.Grammar.{Item, Text, commands, file, flag, has_letter, has_long, letter, number, text}
+use Rattle.fax_tool.specs.Grammar.{Item, Text, commands, file, flag, letter, number, text}
+use Rattle.fax_tool.specs.code.Scan.{has_letter, has_long}
 use Rattle.clap.proofs.OnLiterals.{clap_on_literals}
 use Rattle.clap.specs.Simple.{new_rule}
 

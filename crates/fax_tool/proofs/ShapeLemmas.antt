@@ -1,9 +1,9 @@
--- What a text that is read looks like.
-use Rattle.std.proofs.Common.{◌≡◌, ◌∙◌, ◌<◌, ◌==◌, ◌++◌, ap, append_assoc, arith, cond, codes, inl, inr, lit<, refl, sym, subst}
+-- Words of UTF-8 that are scanned are those of a command.
+use Rattle.std.proofs.Common.{◌≡◌, ◌∙◌, ◌<◌, ◌==◌, ◌&&◌, ◌++◌, ap, append_assoc, arith, cond, codes, inl, inr, lit<, refl, sym, subst}
 use Rattle.std.proofs.Common.{Bool, true, false, ℕ, suc, drop}
 use Rattle.std.proofs.Common.{List, [], ◌∷◌, Option, Some, None}
 use Rattle.std.specs.Prelude.{find, option_and_then, option_map, slice_get}
-use Rattle.std.specs.List.{All, Contains, before_first, position_or_len, slice_index_or}
+use Rattle.std.specs.List.{All, Contains, before_first, list_all, position_or_len, slice_index_or}
 use Rattle.std.specs.Option.{option_map_or}
 use Rattle.std.specs.Str.{IsUtf8, bytes_eq, chars}
 use Rattle.std.proofs.lemmas.Bool.Decides.{nat_tests}
@@ -12,10 +12,10 @@ use Rattle.std.proofs.lemmas.List.Elements.{All-contains, All-from_recursion, Al
 use Rattle.std.proofs.lemmas.Str.{IsUtf8-past_char, byte_from_char, encode_ascii, encodes-chars}
 use Rattle.std.specs.Str.{encode_utf8_all}
 use Rattle.std.proofs.Math.Numerals.{add-one, one-add}
-use Rattle.fax_tool.specs.Grammar.{Item, Text, Use, Word, attached, commands, ends, file, file_after, first_char, flag, has_letter}
-use Rattle.fax_tool.specs.Grammar.{has_long, is_plain, joined, letter}
-use Rattle.fax_tool.specs.Grammar.{number, option_word, says, text, unknown, use_of, uses_from, waits, with_word, word_of}
-use Rattle.fax_tool.specs.laws.Spelling.{AreSpelled, ReadTextsAreSpelled, IsShort, IsSpelled, IsWord}
+use Rattle.fax_tool.specs.Grammar.{AreOfCommand, AreSpelled, IsPlain, IsSpelled, Item, Text, Use, commands, file, flag, letter, number, text}
+use Rattle.fax_tool.specs.code.Scan.{Word, are_apart, attached, checked, ends, file_after, first_char, has_letter, has_long, is_plain}
+use Rattle.fax_tool.specs.code.Scan.{is_taken, joined, read, takes, uses_of, option_word, says, unknown, use_of, uses_from, waits, with_word, word_of}
+use Rattle.fax_tool.proofs.GrammarLemmas.{both_parts, other_first, scanned_apart, scanned_number, scanned_plain}
 use Rattle.clap.specs.Lexer.{long_of, long_of_rest, name_and_value, short_of, short_of_rest, strip_byte}
 use Rattle.fax_tool.proofs.ViewLemmas.{View, as_end, as_long, as_plain, as_short, hyphens, view}
 
@@ -115,9 +115,9 @@ contains_found test (first ∷ items) item is = go (test first) refl is (contain
         ((suc of.0.0, omega arith, of.0.2), of.1)
 
 abbrev SpelledAs : List Item → Word → Text → Type 0
-SpelledAs items (says u) word = Contains items u.item × IsSpelled u.item u.value (word ∷ [])
+SpelledAs items (says u) word = is_taken u ≡ true → Contains items u.item × IsSpelled u.item u.value (word ∷ [])
 SpelledAs items (waits item) word =
-    Contains items item × ((value : Text) → is_plain value ≡ true → IsSpelled item value (word ∷ value ∷ []))
+    (value : Text) → IsPlain value → takes item value ≡ true → Contains items item × IsSpelled item value (word ∷ value ∷ [])
 SpelledAs items ends word = word ≡ hyphens
 SpelledAs items unknown word = Unit {0}
 
@@ -130,8 +130,8 @@ IsAsciiLetter (letter x) = x < 128
 IsAsciiLetter item = Unit {0}
 
 module _ (items : List Item) where
-  joined_word : (n own word t : Text) → bytes_eq n own ≡ true → word ≡ 45 ∷ 45 ∷ own ++ 61 ∷ t → IsWord
-      (codes "--" ++ n ++ codes "=" ++ t) (word ∷ [])
+  joined_word : (n own word t : Text) → bytes_eq n own ≡ true → word ≡ 45 ∷ 45 ∷ own ++ 61 ∷ t
+      → word ∷ [] ≡ (codes "--" ++ n ++ codes "=" ++ t) ∷ []
   joined_word n own word t named shape =
       ap (λ w. w ∷ []) (shape ∙ (ap (λ own. 45 ∷ 45 ∷ own ++ 61 ∷ t) (sym (named_text n own named)) ∙ sym
       (append_assoc (45 ∷ 45 ∷ n) (61 ∷ []) t)))
@@ -142,29 +142,33 @@ module _ (items : List Item) where
 
   long_as : (item : Item) (own : Text) (v : Option Text) (word : Text) → Contains items item → has_long own item ≡ true
       → word ≡ 45 ∷ 45 ∷ own ++ with_equals v → SpelledAs items (option_word v item) word
-  long_as (text n) own (Some t) word among named shape = (among, inl (joined_word n own word t named shape))
-  long_as (number n most) own (Some t) word among named shape = (among, inl (joined_word n own word t named shape))
+  long_as (text n) own (Some t) word among named shape = λ taken. (among, inl (joined_word n own word t named shape))
+  long_as (number n most) own (Some t) word among named shape =
+      λ taken. (among, (inl (joined_word n own word t named shape), scanned_number most t taken))
   long_as (flag n) own (Some t) word among named shape = tt
   long_as (text n) own None word among named shape =
-      (among, λ value plain. inr (ap (λ w. w ∷ value ∷ []) (bare_word n own word named shape), plain))
+      λ value plain taken. (among, inr (ap (λ w. w ∷ value ∷ []) (bare_word n own word named shape), plain))
   long_as (number n most) own None word among named shape =
-      (among, λ value plain. inr (ap (λ w. w ∷ value ∷ []) (bare_word n own word named shape), plain))
-  long_as (flag n) own None word among named shape = (among, (ap (λ w. w ∷ []) (bare_word n own word named shape), refl))
+      λ value plain taken.
+      (among, (inr (ap (λ w. w ∷ value ∷ []) (bare_word n own word named shape), plain), scanned_number most value taken))
+  long_as (flag n) own None word among named shape =
+      λ taken. (among, (ap (λ w. w ∷ []) (bare_word n own word named shape), refl))
   long_as (letter x) own v word among named shape = cc
   long_as file own v word among named shape = cc
 
   short_as : (item : Item) (x : ℕ) (bs word : Text) → Contains items item → has_letter x item ≡ true → word ≡ 45 ∷ x ∷ bs
       → SpelledAs items (option_word (attached bs) item) word
   short_as (letter l) x [] word among named shape =
-      (among, λ value plain. inr (inr (ap (λ w. w ∷ value ∷ []) (shape ∙ ap (λ x. 45 ∷ x ∷ []) (sym (is_byte l x named))), plain)))
-  short_as (letter l) x (c ∷ cs) word among named shape = (among, go (c == 61) refl)
+      λ value plain taken.
+      (among, inl (inr (ap (λ w. w ∷ value ∷ []) (shape ∙ ap (λ x. 45 ∷ x ∷ []) (sym (is_byte l x named))), plain)))
+  short_as (letter l) x (c ∷ cs) word among named shape = λ taken. (among, go (c == 61) refl)
     where
       whole : word ∷ [] ≡ (45 ∷ l ∷ c ∷ cs) ∷ []
       whole = ap (λ w. w ∷ []) (shape ∙ ap (λ x. 45 ∷ x ∷ c ∷ cs) (sym (is_byte l x named)))
 
-      go : (t : Bool) → (c == 61) ≡ t → IsShort l (cond t cs (c ∷ cs)) (word ∷ [])
-      go true same = inl (whole ∙ ap (λ c. (45 ∷ l ∷ c ∷ cs) ∷ []) (is_byte c 61 same))
-      go false other = inr (inl (whole, rw other refl))
+      go : (t : Bool) → (c == 61) ≡ t → IsSpelled (letter l) (cond t cs (c ∷ cs)) (word ∷ [])
+      go true same = inl (inl (whole ∙ ap (λ c. (45 ∷ l ∷ c ∷ cs) ∷ []) (is_byte c 61 same)))
+      go false other = inr (whole, (λ none. cc), other_first c cs other)
   short_as (text n) x bs word among named shape = cc
   short_as (number n most) x bs word among named shape = cc
   short_as (flag n) x bs word among named shape = cc
@@ -204,15 +208,17 @@ module _ (items : List Item) where
             let same = first_byte b bs x (subst IsUtf8 shape utf8) char (letter_at item of.0 of.1) in
             short_as item x bs word of.0 of.1 (shape ∙ ap (λ b. 45 ∷ b ∷ bs) same)
     spelled_as word utf8 (as_plain no_end no_long form says_is plain) =
-        subst (λ W. SpelledAs items W word) (sym (says_is items)) (has_file, (refl, plain))
+        subst (λ W. SpelledAs items W word) (sym (says_is items)) (λ taken. (has_file, (refl, scanned_plain word utf8 plain)))
 
     abbrev IdleSpelled : List Text → Type 0
-    IdleSpelled words = (uses : List Use) → All IsUtf8 words → uses_from items None words ≡ Some uses → AreSpelled items uses words
+    IdleSpelled words = (uses : List Use) → All IsUtf8 words → uses_from items None words ≡ Some uses → list_all is_taken uses ≡ true
+        → AreSpelled items uses words
 
     -- the first word is the text that was waited for
     abbrev WaitsSpelled : List Text → Type 0
     WaitsSpelled words = (item : Item) (uses : List Use) → All IsUtf8 words → uses_from items (Some item) words ≡ Some uses
-        → (value : Text) × (others : List Text) × (us : List Use) × (words ≡ value ∷ others) × (is_plain value ≡ true)
+        → list_all is_taken uses ≡ true
+        → (value : Text) × (others : List Text) × (us : List Use) × (words ≡ value ∷ others) × IsPlain value × (takes item value ≡ true)
         × (uses ≡ use_of item value ∷ us) × AreSpelled items us others
 
     after_end : (words : List Text) (uses : List Use) → file_after words ≡ Some uses → AreSpelled items uses (hyphens ∷ words)
@@ -228,46 +234,62 @@ module _ (items : List Item) where
     then_uses u None uses is = cc
     then_uses u (Some us) uses is = (us, refl, (let same : u ∷ us ≡ uses = cc in sym same))
 
+    -- of the first use and those after it each is taken
+    taken_parts : (u : Use) (us uses : List Use) → uses ≡ u ∷ us → list_all is_taken uses ≡ true
+        → (is_taken u ≡ true) × (list_all is_taken us ≡ true)
+    taken_parts u us uses is taken =
+        both_parts (is_taken u) (list_all is_taken us) (subst (λ uses. list_all is_taken uses ≡ true) is taken)
+
     idle_from : (word : Text) (words : List Text) (W : Word) → SpelledAs items W word → IdleSpelled words → WaitsSpelled words
         → All IsUtf8 words → (uses : List Use) → with_word W words (λ waiting. uses_from items waiting words) ≡ Some uses
-        → AreSpelled items uses (word ∷ words)
-    idle_from word words (says u) is idles waiting utf8 uses reads =
+        → list_all is_taken uses ≡ true → AreSpelled items uses (word ∷ words)
+    idle_from word words (says u) is idles waiting utf8 uses reads taken =
         let of = then_uses u (uses_from items None words) uses reads in
+        let parts = taken_parts u of.0 uses of.2 taken in
+        let first = is parts.0 in
         subst (λ uses. AreSpelled items uses (word ∷ words)) (sym of.2)
-        (inl (word ∷ [], words, refl, is.0, is.1, idles of.0 utf8 of.1))
-    idle_from word words (waits item) is idles waiting utf8 uses reads =
-        let of = waiting item uses utf8 reads in
+        (inl (word ∷ [], words, refl, first.0, first.1, idles of.0 utf8 of.1 parts.1))
+    idle_from word words (waits item) is idles waiting utf8 uses reads taken =
+        let of = waiting item uses utf8 reads taken in
+        let own = is of.0 of.4 of.5 in
         let first : AreSpelled items (use_of item of.0 ∷ of.2) (word ∷ of.0 ∷ of.1) =
-        inl (word ∷ of.0 ∷ [], of.1, refl, is.0, is.1 of.0 of.4, of.6) in
+        inl (word ∷ of.0 ∷ [], of.1, refl, own.0, own.1, of.7) in
         subst (λ words. AreSpelled items uses (word ∷ words)) (sym of.3)
-        (subst (λ uses. AreSpelled items uses (word ∷ of.0 ∷ of.1)) (sym of.5) first)
-    idle_from word words ends is idles waiting utf8 uses reads =
+        (subst (λ uses. AreSpelled items uses (word ∷ of.0 ∷ of.1)) (sym of.6) first)
+    idle_from word words ends is idles waiting utf8 uses reads taken =
         subst (λ word. AreSpelled items uses (word ∷ words)) (sym is) (after_end words uses reads)
-    idle_from word words unknown is idles waiting utf8 uses reads = cc
+    idle_from word words unknown is idles waiting utf8 uses reads taken = cc
 
     waits_from : (word : Text) (words : List Text) → IdleSpelled words → WaitsSpelled (word ∷ words)
-    waits_from word words idles item uses utf8 reads = go (is_plain word) refl reads
+    waits_from word words idles item uses utf8 reads taken = go (is_plain word) refl reads
       where
         go : (b : Bool) → is_plain word ≡ b → cond b (option_map (λ us. use_of item word ∷ us) (uses_from items None words)) None ≡ Some
             uses
-            → (value : Text) × (others : List Text) × (us : List Use) × (word ∷ words ≡ value ∷ others) × (is_plain value ≡ true)
-            × (uses ≡ use_of item value ∷ us) × AreSpelled items us others
+            → (value : Text) × (others : List Text) × (us : List Use) × (word ∷ words ≡ value ∷ others) × IsPlain value
+            × (takes item value ≡ true) × (uses ≡ use_of item value ∷ us) × AreSpelled items us others
         go true plain reads =
             let of = then_uses (use_of item word) (uses_from items None words) uses reads in
-            (word, words, of.0, refl, plain, of.2, idles of.0 (All-tail IsUtf8 word words utf8) of.1)
+            let parts = taken_parts (use_of item word) of.0 uses of.2 taken in (
+              word,
+              words,
+              of.0,
+              refl,
+              scanned_plain word (All-head IsUtf8 word words utf8) plain,
+              parts.0,
+              of.2,
+              idles of.0 (All-tail IsUtf8 word words utf8) of.1 parts.1,
+            )
         go false other reads = cc
 
     all_spelled : (words : List Text) → IdleSpelled words × WaitsSpelled words
     all_spelled [] = (
-      λ uses utf8 is. (let none : uses ≡ [] = cc in subst (λ uses. AreSpelled items uses []) (sym none) (inl refl)),
-      λ
-          item uses utf8 is. cc,
+      λ uses utf8 is taken. (let none : uses ≡ [] = cc in subst (λ uses. AreSpelled items uses []) (sym none) (inl refl)),
+      λ item uses utf8 is taken. cc,
     )
     all_spelled (word ∷ words) =
         let others = all_spelled words in (
-          λ uses utf8 is. idle_from word words (word_of items word) (spelled_as word (All-head IsUtf8 word words utf8) (view word))
-              others.0 others.1
-              (All-tail IsUtf8 word words utf8) uses is,
+          λ uses utf8 is taken. idle_from word words (word_of items word) (spelled_as word (All-head IsUtf8 word words utf8) (view word))
+              others.0 others.1 (All-tail IsUtf8 word words utf8) uses is taken,
           waits_from word words others.0,
         )
 
@@ -276,7 +298,7 @@ items_at i = (slice_index_or commands i ([], [])).1
 
 abbrev IsSpelledOf : List Item → Type 0
 IsSpelledOf items = (uses : List Use) (words : List Text) → All IsUtf8 words → uses_from items None words ≡ Some uses
-    → AreSpelled items uses words
+    → list_all is_taken uses ≡ true → AreSpelled items uses words
 
 -- the letters of a command are ASCII
 abbrev AsciiLetters : List Item → Type 0
@@ -286,9 +308,9 @@ ascii_items : (items : List Item) → All (λ item. IsAsciiLetter item) items �
 ascii_items items are x among = All-contains IsAsciiLetter items (letter x) are among
 
 spelled_of : (items : List Item) → Contains items file → All (λ item. IsAsciiLetter item) items → IsSpelledOf items
-spelled_of items has_file are uses words utf8 is = (all_spelled items has_file (ascii_items items are) words).0 uses utf8 is
+spelled_of items has_file are uses words utf8 is taken = (all_spelled items has_file (ascii_items items are) words).0 uses utf8 is taken
 
-pub read_texts_are_spelled : ReadTextsAreSpelled
+read_texts_are_spelled : All (λ command. IsSpelledOf command.1) commands
 read_texts_are_spelled = All-from_recursion (λ command. IsSpelledOf command.1) commands (
   spelled_of (items_at 0) (2, lit< tt, refl) (All-from_recursion IsAsciiLetter (items_at 0) (tt, (tt, (tt, tt)))),
   (
@@ -300,3 +322,66 @@ read_texts_are_spelled = All-from_recursion (λ command. IsSpelledOf command.1) 
     ),
   ),
 )
+
+-- a command that is found by a name is among them, and has this name
+named_command : (name : Text) (all : List (Text × List Item)) (command : Text × List Item)
+    → find (λ c. bytes_eq c.0 name) all ≡ Some command → Contains all command × (command.0 ≡ name)
+named_command name [] command is = cc
+named_command name (first ∷ others) command is = go (bytes_eq first.0 name) refl is (named_command name others command)
+  where
+    go : (t : Bool) → bytes_eq first.0 name ≡ t → cond t (Some first) (find (λ c. bytes_eq c.0 name) others) ≡ Some command
+        → (find (λ c. bytes_eq c.0 name) others ≡ Some command → Contains others command × (command.0 ≡ name))
+        → Contains (first ∷ others) command × (command.0 ≡ name)
+    go true here is later =
+        let same : first ≡ command = cc in
+        ((0, omega arith, same), sym (ap (λ (c : Text × List Item). c.0) same) ∙ named_text first.0 name here)
+    go false here is later =
+        let of = later is in
+        let low = of.0.1 in
+        ((suc of.0.0, omega arith, of.0.2), of.1)
+
+-- words of UTF-8 that are read are those of a command
+pub read_is_of_command : (words : List Text) (name : Text) (uses : List Use) → All IsUtf8 words → read words ≡ Some (name, uses)
+    → AreOfCommand words name uses
+read_is_of_command [] name uses utf8 is = cc
+read_is_of_command (program ∷ []) name uses utf8 is = cc
+read_is_of_command (program ∷ word ∷ words) name uses utf8 is =
+    found (find (λ c. bytes_eq c.0 word) commands) refl is
+  where
+    scanned : (command : Text × List Item) → Contains commands command → command.0 ≡ word → (o : Option (List Use))
+        → uses_from command.1 None words ≡ o
+        → option_map {U = Text × List Use} (λ uses. (command.0, uses)) (option_and_then checked o) ≡ Some (name, uses)
+        → AreOfCommand (program ∷ word ∷ words) name uses
+    scanned command among named None scan is = cc
+    scanned command among named (Some us) scan is =
+        go (are_apart [] us && list_all is_taken us) refl is
+      where
+        go : (b : Bool) → (are_apart [] us && list_all is_taken us) ≡ b
+            → option_map {U = Text × List Use} (λ uses. (command.0, uses)) (cond b (Some us) None) ≡ Some (name, uses)
+            → AreOfCommand (program ∷ word ∷ words) name uses
+        go false test is = cc
+        go true test is =
+            let both = both_parts (are_apart [] us) (list_all is_taken us) test in
+            let pair : ◌≡◌ {A = Text × List Use} (command.0, us) (name, uses) = cc in
+            let name_is : command.0 ≡ name = ap (λ (c : Text × List Use). c.0) pair in
+            let uses_are : us ≡ uses = ap (λ (c : Text × List Use). c.1) pair in
+            let texts = All-tail IsUtf8 word words (All-tail IsUtf8 program (word ∷ words) utf8) in
+            let written = All-contains (λ command. IsSpelledOf command.1) commands command read_texts_are_spelled among us words texts
+            scan both.1 in
+            record {
+              program = program;
+              items = command.1;
+              others = words;
+              are = ap (λ name. program ∷ name ∷ words) (sym named ∙ name_is);
+              known = subst (λ (name : Text). Contains commands (name, command.1)) name_is among;
+              written = subst (λ uses. AreSpelled command.1 uses words) uses_are written;
+              once = scanned_apart uses (subst (λ uses. are_apart [] uses ≡ true) uses_are both.0);
+            }
+
+    found : (o : Option (Text × List Item)) → find (λ c. bytes_eq c.0 word) commands ≡ o
+        → option_and_then (λ c. option_map {U = Text × List Use} (λ uses. (c.0, uses)) (uses_of c.1 words)) o ≡ Some (name, uses)
+        → AreOfCommand (program ∷ word ∷ words) name uses
+    found None at is = cc
+    found (Some command) at is =
+        let of = named_command word commands command at in
+        scanned command of.0 of.1 (uses_from command.1 None words) refl is

@@ -1,12 +1,14 @@
--- What is written as the uses say is read as these uses.
+-- The words of a command are scanned as its uses.
 use Rattle.std.proofs.Common.{◌≡◌, ◌∙◌, ◌++◌, ap, codes, inl, inr, refl, sym, true, ℕ}
 use Rattle.std.proofs.Common.{List, [], ◌∷◌, Some, None}
-use Rattle.std.specs.List.{AllByRecursion, Contains, slice_index_or}
+use Rattle.std.specs.Prelude.{option_map}
+use Rattle.std.specs.List.{All, AllByRecursion, Contains, list_all, slice_index_or}
 use Rattle.std.specs.Str.{chars}
 use Rattle.std.proofs.lemmas.List.Elements.{All-contains, All-from_recursion}
-use Rattle.fax_tool.specs.Grammar.{Item, Text, Use, attached, commands, file, flag, is_plain, letter, number}
-use Rattle.fax_tool.specs.Grammar.{option_word, says, text, use_of, uses_from, waits, word_of}
-use Rattle.fax_tool.specs.laws.Spelling.{AreSpelled, IsPair, IsSpelled, SpelledWordsAreRead}
+use Rattle.fax_tool.specs.Grammar.{AreOfCommand, AreOfNoCommand, AreSpelled, IsPlain, IsSpelled, Item, Text, Use, commands, file, flag}
+use Rattle.fax_tool.specs.Grammar.{letter, number, text}
+use Rattle.fax_tool.specs.code.Scan.{attached, is_plain, is_taken, option_word, read, says, takes, use_of, uses_from, uses_of, waits, word_of}
+use Rattle.fax_tool.proofs.GrammarLemmas.{apart_scanned, attached_scanned, number_scanned, plain_scanned}
 use Rattle.fax_tool.proofs.ViewLemmas.{View, as_end, as_long, as_plain, as_short, view}
 
 -- what one word of an item says
@@ -41,9 +43,9 @@ module _ (items : List Item) (each : (item : Item) → Contains items item → I
 
   -- a word that waits for the next one
   two_words : (item : Item) (name value : Text) (us : List Use) (own others words : List Text) → words ≡ own ++ others
-      → IsPair name value own → word_of items name ≡ waits item → uses_from items None others ≡ Some us
+      → (own ≡ name ∷ value ∷ []) × IsPlain value → word_of items name ≡ waits item → uses_from items None others ≡ Some us
       → uses_from items None words ≡ Some (use_of item value ∷ us)
-  two_words item name value us own others words split is waits_is more = rw (split, is.0, waits_is, is.1, more) refl
+  two_words item name value us own others words split is waits_is more = rw (split, is.0, waits_is, plain_scanned value is.1, more) refl
 
   spelled_use : (item : Item) (value : Text) (us : List Use) (own others words : List Text) → words ≡ own ++ others → IsRead items item
       → IsSpelled item value own → uses_from items None others ≡ Some us → uses_from items None words ≡ Some (use_of item value ∷ us)
@@ -51,20 +53,20 @@ module _ (items : List Item) (each : (item : Item) → Contains items item → I
       one_word _ (use_of (text name) value) us own others words split is (reads.0 value) more
   spelled_use (text name) value us own others words split reads (inr is) more =
       two_words (text name) _ value us own others words split is reads.1 more
-  spelled_use (number name most) value us own others words split reads (inl is) more =
+  spelled_use (number name most) value us own others words split reads (inl is, digits) more =
       one_word _ (use_of (number name most) value) us own others words split is (reads.0 value) more
-  spelled_use (number name most) value us own others words split reads (inr is) more =
+  spelled_use (number name most) value us own others words split reads (inr is, digits) more =
       two_words (number name most) _ value us own others words split is reads.1 more
-  spelled_use (letter x) value us own others words split reads (inl is) more =
+  spelled_use (letter x) value us own others words split reads (inl (inl is)) more =
       one_word _ (use_of (letter x) value) us own others words split is (reads.0 value) more
-  spelled_use (letter x) value us own others words split reads (inr (inl is)) more =
-      one_word _ (use_of (letter x) value) us own others words split is.0 (reads.1 value is.1) more
-  spelled_use (letter x) value us own others words split reads (inr (inr is)) more =
+  spelled_use (letter x) value us own others words split reads (inl (inr is)) more =
       two_words (letter x) _ value us own others words split is reads.2 more
+  spelled_use (letter x) value us own others words split reads (inr is) more =
+      one_word _ (use_of (letter x) value) us own others words split is.0 (reads.1 value (attached_scanned value is.1 is.2)) more
   spelled_use (flag name) value us own others words split reads is more =
       one_word _ (use_of (flag name) value) us own others words split is.0 (reads ∙ ap (λ v. says (use_of (flag name) v)) (sym is.1)) more
   spelled_use file value us own others words split reads is more =
-      one_word value (use_of file value) us own others words split is.0 (plain_read items value is.1) more
+      one_word value (use_of file value) us own others words split is.0 (plain_read items value (plain_scanned value is.1)) more
 
   spelled : (uses : List Use) (words : List Text) → AreSpelled items uses words → uses_from items None words ≡ Some uses
   unfolding chars
@@ -120,6 +122,41 @@ check_read : IsReadOf (items_at 3)
 unfolding chars
 check_read = spelled (items_at 3) (each_read (items_at 3) (tt, tt))
 
-pub spelled_words_are_read : SpelledWordsAreRead
+spelled_words_are_read : All (λ command. IsReadOf command.1) commands
 spelled_words_are_read =
     All-from_recursion (λ command. IsReadOf command.1) commands (list_read, (rows_read, (convert_read, (check_read, tt))))
+
+-- and each text is one that its item takes
+use_taken : (item : Item) (value : Text) (own : List Text) → IsSpelled item value own → takes item value ≡ true
+use_taken (text name) value own is = refl
+use_taken (number name most) value own is = number_scanned most value is.1
+use_taken (letter x) value own is = refl
+use_taken (flag name) value own is = refl
+use_taken file value own is = refl
+
+uses_taken : (items : List Item) (uses : List Use) (words : List Text) → AreSpelled items uses words → list_all is_taken uses ≡ true
+uses_taken items [] words is = refl
+uses_taken items (u ∷ us) words (inl (own, others, split, among, is, more)) =
+    rw (use_taken u.item u.value own is, uses_taken items us others more) refl
+uses_taken items (u ∷ us) words (inr (as_file, none, is)) = rw (as_file, none) refl
+
+-- a command's items are found by its name
+abbrev IsNamed : Text × List Item → Type 0
+IsNamed command = (program : Text) (words : List Text) → read (program ∷ command.0 ∷ words)
+    ≡ option_map {U = Text × List Use} (λ uses. (command.0, uses)) (uses_of command.1 words)
+
+all_named : All IsNamed commands
+all_named = All-from_recursion IsNamed commands
+    ((λ program words. refl), ((λ program words. refl), ((λ program words. refl), ((λ program words. refl), tt))))
+
+-- the words of a command are read as its uses
+pub command_is_read : (words : List Text) (name : Text) (uses : List Use) → AreOfCommand words name uses → read words ≡ Some (name, uses)
+command_is_read words name uses is =
+    let named = All-contains IsNamed commands (name, is.items) all_named is.known is.program is.others in
+    let scans = All-contains (λ command. IsReadOf command.1) commands (name, is.items) spelled_words_are_read is.known uses is.others
+    is.written in
+    rw (is.are, named, scans, apart_scanned uses is.once, uses_taken is.items uses is.others is.written) refl
+
+-- and words that are not read are those of no command
+pub unread_is_no_command : (words : List Text) → read words ≡ None → AreOfNoCommand words
+unread_is_no_command words none name uses is = let read_is = sym none ∙ command_is_read words name uses is in cc

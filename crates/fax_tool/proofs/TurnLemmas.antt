@@ -16,8 +16,10 @@ use Rattle.clap.specs.Walk.{idle, option, settled, used, used_by_id, walked, don
 use Rattle.clap.specs.Walk.{long_met, bundle_met}
 use Rattle.clap.specs.Faults.{settle_fault, short_fault, step_fault, word_fault, turn_fault, use_fault, walk_fault, long_fault}
 use Rattle.clap.specs.Faults.{react_fault, flags_fault}
-use Rattle.fax_tool.specs.Grammar.{Item, Use, Word, attached, ends, says, unknown, waits, file, flag, has_letter, has_long, letter}
-use Rattle.fax_tool.specs.Grammar.{letter_word, name_of, number, option_word, text, use_of}
+use Rattle.fax_tool.specs.Grammar.{Item, Use, file, flag, letter}
+use Rattle.fax_tool.specs.code.Scan.{Word, attached, ends, says, unknown, waits, has_letter, has_long}
+use Rattle.fax_tool.specs.Grammar.{name_of, number, text}
+use Rattle.fax_tool.specs.code.Scan.{letter_word, option_word, use_of}
 use Rattle.fax_tool.proofs.RuleLemmas.{by_long, by_short, rule_of, rules_of}
 use Rattle.fax_tool.proofs.UseLemmas.{IsItem, enter, flag_used, guard, guard_twice, is_option, option_used}
 

@@ -15,7 +15,8 @@ use Rattle.clap.specs.declared.builder.value_parser.ValueParser.TheVariants as p
 use Rattle.clap.specs.declared.error.kind.ErrorKind.{ErrorKind}
 use Rattle.clap.specs.declared.error.kind.ErrorKind.TheVariants as kind
 use Rattle.clap.specs.declared.parser.matches.ValueSource.TheVariants.{CommandLine}
-use Rattle.fax_tool.specs.Grammar.{Item, Use, file, flag, is_number, is_taken, letter, name_of, number, text, use_of}
+use Rattle.fax_tool.specs.Grammar.{Item, Use, file, flag, letter, name_of, number, text}
+use Rattle.fax_tool.specs.code.Scan.{is_number, is_taken, use_of}
 use Rattle.fax_tool.proofs.RuleLemmas.{rule_of}
 
 -- what goes on where there is no fault

@@ -7,7 +7,8 @@ use Rattle.std.specs.Str.{bytes_eq, chars}
 use Rattle.std.proofs.lemmas.Bool.Decides.{nat_tests}
 use Rattle.clap.specs.Lexer.{long_of, name_and_value, short_of}
 use Rattle.clap.specs.Walk.{Text, attached_value}
-use Rattle.fax_tool.specs.Grammar.{Item, attached, ends, file, has_long, is_plain, letter_word, option_word, says, unknown, use_of, word_of}
+use Rattle.fax_tool.specs.Grammar.{Item, file}
+use Rattle.fax_tool.specs.code.Scan.{attached, ends, has_long, is_plain, letter_word, option_word, says, unknown, use_of, word_of}
 
 abbrev pub hyphens : Text
 hyphens = 45 ∷ 45 ∷ []

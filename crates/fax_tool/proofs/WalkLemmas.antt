@@ -10,8 +10,10 @@ use Rattle.clap.specs.Walk.{Held, attached_value, Row, Rule, Text, Waiting, afte
 use Rattle.clap.specs.Walk.{has_row, idle, option, settled, takes_values, walked}
 use Rattle.clap.specs.Walk.{bundle_met, reacted}
 use Rattle.clap.specs.Faults.{settle_fault, short_fault, word_fault, walk_fault, long_fault, option_fault, react_fault, flags_fault}
-use Rattle.fax_tool.specs.Grammar.{Item, Use, Word, attached, ends, says, unknown, waits, file, flag, has_letter, has_long, is_taken}
-use Rattle.fax_tool.specs.Grammar.{letter, letter_word, name_of, number, option_word, text, use_of}
+use Rattle.fax_tool.specs.Grammar.{Item, Use, file, flag}
+use Rattle.fax_tool.specs.code.Scan.{Word, attached, ends, says, unknown, waits, has_letter, has_long, is_taken}
+use Rattle.fax_tool.specs.Grammar.{letter, name_of, number, text}
+use Rattle.fax_tool.specs.code.Scan.{letter_word, option_word, use_of}
 use Rattle.fax_tool.proofs.RuleLemmas.{rule_of, rules_of}
 use Rattle.fax_tool.proofs.UseLemmas.{enter, guard, guard_twice, is_option}
 use Rattle.fax_tool.proofs.TurnLemmas.{IsOf, IsPending, and_then_at, and_then_none, goes, holding, leaf, long_turn, and_false, pend}
@@ -20,7 +22,7 @@ use Rattle.clap.specs.declared.error.kind.ErrorKind.TheVariants.{TooManyValues}
 use Rattle.fax_tool.proofs.TurnLemmas.{short_turn, stand, turn, unsettled}
 use Rattle.fax_tool.proofs.ViewLemmas.{View, as_end, as_long, as_plain, as_short, view}
 use Rattle.fax_tool.proofs.UseLemmas.{row_of}
-use Rattle.fax_tool.specs.Grammar.{file_after, uses_from, with_word, word_of}
+use Rattle.fax_tool.specs.code.Scan.{file_after, uses_from, with_word, word_of}
 use Rattle.clap.specs.Walk.{most_values, plain_word, is_pending, pushed, to_positional}
 use Rattle.clap.specs.Faults.{short_fault, positional_fault, stray_fault}
 

@@ -15,7 +15,7 @@ use Rattle.fax_walk.specs.declared.options.Target.{Target}
 use Rattle.fax_walk.specs.declared.options.Target.TheVariants.{Mh, Mmr, Mr, Pbm}
 use Rattle.fax_walk.specs.Cursors.{IsCursor, cursor_text, start, IsLongCursor, LongPlace}
 use Rattle.fax_walk.specs.Cursors.{long_cursor_text}
-use Rattle.fax_tool.specs.Grammar.{Text, Use, read, text_in}
+use Rattle.fax_tool.specs.Grammar.{AreOfCommand, AreOfNoCommand, Text, Use, text_in}
 use Rattle.fax_tool.specs.declared.words.Command.{Command}
 use Rattle.fax_tool.specs.declared.words.Command.TheVariants.{Check, Convert, List as Forms, Rows}
 use Rattle.fax_tool.specs.declared.words.Job.{Job}
@@ -96,7 +96,7 @@ IsCommand name given Check = name ≡ codes "check"
 pub record IsJob (words : List Text) (job : Job) : Type 0 where
   pub name : Text
   pub uses : List Use
-  pub named : read words ≡ Some (name, uses)
+  pub named : AreOfCommand words name uses
   pub command : IsCommand name (text_in uses) job.command
   pub file : option_map string_bytes job.file ≡ text_in uses (codes "FILE")
 
@@ -126,18 +126,18 @@ IsCommandFault name given Usage = (name ≡ codes "convert") × HasNoTarget give
 IsCommandFault name given NotACursor = HasNoCursor name given
 IsCommandFault name given Memory = Unit {0}
 
--- the words are read, and the command that they name is refused with this fault
-pub record IsRefused (words : List Text) (fault : WordsFault) : Type 0 where
+-- the words are those of a command, which is refused with this fault
+pub record IsRefusedCommand (words : List Text) (fault : WordsFault) : Type 0 where
   pub name : Text
   pub uses : List Use
-  pub named : read words ≡ Some (name, uses)
+  pub named : AreOfCommand words name uses
   pub command : IsCommandFault name (text_in uses) fault
 
--- the words give no job, but this fault: Usage also where they are not read, and so before any
--- other
+-- the words give no job, but this fault: Usage also where they are those of no command, and so
+-- before any other
 abbrev pub IsFault : List Text → WordsFault → Type 0
-IsFault words Usage = (read words ≡ None) ⊎ IsRefused words Usage
-IsFault words NotACursor = IsRefused words NotACursor
+IsFault words Usage = AreOfNoCommand words ⊎ IsRefusedCommand words Usage
+IsFault words NotACursor = IsRefusedCommand words NotACursor
 IsFault words Memory = Unit {0}
 
 -- the numbers of a command are in their ranges

@@ -1,5 +1,5 @@
--- What speaks of this code alone: its adapters and transfers, steps of printing, and how it reads
--- the entries of a command line.
+-- What speaks of this code alone: its adapters and transfers, steps of printing, how it scans
+-- words, and how it reads the entries of a command line.
 pub mod Adapters
 pub mod Transfers
 pub mod Printing
@@ -7,3 +7,4 @@ pub mod Outcome
 pub mod Caller
 pub mod Entries
 pub mod CommandLine
+pub mod Scan

@@ -7,7 +7,6 @@ ghost use Rattle.fax_tool.specs.laws.Words.{IsRefusedOfWords, SaysFault, WritesO
 ghost use Rattle.fax_tool.specs.laws.Words.{WordsHaveOneAnswer};
 ghost use Rattle.fax_tool.specs.laws.Runs as Laws;
 ghost use Rattle.fax_tool.specs.laws.Examples.{AreNotTaken, AreRead};
-ghost use Rattle.fax_tool.specs.laws.Spelling.{ReadTextsAreSpelled, SpelledWordsAreRead};
 
 use crate::run::run;
 use crate::streams::{Sink, Source};
@@ -73,16 +72,4 @@ pub fn words_have_one_answer()
 pub fn examples_of_words()
     ensures read { AreRead }
     ensures not_taken { AreNotTaken }
-{}
-
-/// The uses of options, flags and the file, in any order and each in any of its spellings, are read
-/// of the words that they make.
-pub fn spelled_words_are_read()
-    ensures { SpelledWordsAreRead }
-{}
-
-/// And nothing else is read, where the words are texts: so what a command's words say is what was
-/// written.
-pub fn read_texts_are_spelled()
-    ensures { ReadTextsAreSpelled }
 {}

@@ -2,6 +2,8 @@
 ghost use Rattle.std.specs.Prelude.{◌≡◌, ◌≢◌, ◌⊎◌, true, false, IfOk, IfSome, IfErr, OnErr};
 ghost use Rattle.std.specs.Prelude.{Some, None, codes, option_map};
 ghost use Rattle.std.specs.Io.KnownBytes.{Appends};
+ghost use Rattle.std.specs.List.{All};
+ghost use Rattle.std.specs.Str.{IsUtf8};
 ghost use Rattle.std.specs.String.{string_bytes};
 ghost use Rattle.clap.specs.Walk.{first_of, rule_of};
 ghost use Rattle.fax_walk.specs.declared.options.Target.TheVariants.{Mmr, Pbm};
@@ -414,6 +416,15 @@ fn command_of(alloc: Global, name: &str, matches: &ArgMatches) -> Result<Command
     }
 }
 
+/// Looks at each word, and so sees that it is UTF-8, as the grammar has it.
+fn see_texts(words: &[&str])
+    ensures { All IsUtf8 (texts words.now) }
+{
+    for word in words {
+        let _seen = word.as_bytes();
+    }
+}
+
 /// The job that the words name, the program's own name first.
 ///
 /// # Errors
@@ -426,6 +437,7 @@ pub fn parse_words(alloc: Global, words: &[&str]) -> Result<Job, WordsFault>
     ensures ranges { IfOk result (λ job. HasRanges job.command) }
     ensures fault { IfErr result (λ fault. IsFault (texts words.now) fault) }
 {
+    see_texts(words);
     let matches = command_line(alloc)?.try_get_matches_from(words)?;
     let Some((name, of_command)) = matches.subcommand() else {
         return Err(WordsFault::Usage);

@@ -1,15 +1,15 @@
 -- What a reader of the entries of a command line may rely on: it speaks of this code alone.
-use Rattle.std.specs.Prelude.{◌≡◌, ◌⊎◌, ◌||◌, ◌<◌, ◌≤◌, ℕ, true, false, List, Option, Some}
+use Rattle.std.specs.Prelude.{◌≡◌, ◌⊎◌, ◌||◌, ℕ, true, false, List, Option, Some}
 use Rattle.std.specs.Prelude.{None, codes}
 use Rattle.std.specs.Option.{ForSome}
 use Rattle.std.specs.Str.{bytes_eq}
-use Rattle.std.specs.Str.Parse.{IsNumeral, digits_value, without_leading_plus}
 use Rattle.clap.specs.Matches.{found_of}
 use Rattle.clap.specs.Simple.{App, app_of}
 use Rattle.clap.specs.Walk.{Row, Text, first_of, one_of, rows_of}
 use Rattle.clap.specs.declared.builder.command.Command.{Command}
 use Rattle.clap.specs.declared.builder.command.Command.TheViews.{out-Command}
 use Rattle.clap.specs.declared.parser.matches.ArgMatches.{ArgMatches}
+use Rattle.fax_tool.specs.Grammar.{IsNumberText}
 
 -- a parse reads the command as this one
 abbrev pub IsApp : Command → App → Type 0
@@ -22,12 +22,6 @@ entries_of m = rows_of (found_of m)
 -- the text that the entries give for a name
 abbrev pub given_by : List Row → Text → Option Text
 given_by entries name = first_of name entries
-
--- the text is a number from 1 up to the most, where a plus may stand first
-pub record IsNumberText (most : ℕ) (text : Text) : Type 0 where
-  pub digits : IsNumeral 10 (without_leading_plus text)
-  pub some : 0 < digits_value 10 (without_leading_plus text)
-  pub within : digits_value 10 (without_leading_plus text) ≤ most
 
 -- the entry of a name, where there is one, is such a number, and is read as it is written
 pub record HasNumber (name : Text) (most : ℕ) (entries : List Row) : Type 0 where

@@ -1,71 +1,73 @@
--- What some words give, and some that are not taken.
-use Rattle.std.specs.Prelude.{◌≡◌, ℕ, Bool, true, false, List, [], ◌∷◌, Option, Some, None, codes}
-use Rattle.std.specs.Prelude.{◌==◌, ◌++◌, option_and_then, option_map}
+-- What some words give, and some that are those of no command.
+use Rattle.std.specs.Prelude.{◌≡◌, ◌==◌, ℕ, true, false, List, [], ◌∷◌, ◌++◌, Option, Some, None}
+use Rattle.std.specs.Prelude.{codes}
 use Rattle.std.specs.List.{slice_split}
-use Rattle.fax_walk.specs.declared.options.Target.{Target}
 use Rattle.fax_walk.specs.declared.options.Target.TheVariants.{Mh}
-use Rattle.fax_tool.specs.Grammar.{Text, Use, read, text_in}
-use Rattle.fax_tool.specs.Job.{is_set, number_in, target_in}
+use Rattle.fax_tool.specs.Grammar.{AreOfCommand, AreOfNoCommand, Text, Use, text_in}
+use Rattle.fax_tool.specs.Job.{Given, is_set, number_in, target_in}
 
--- the command that the words of a line name, parted by single blanks (32), and the uses after it
-abbrev pub command : List ℕ → Option (Text × List Use)
-command line = read (slice_split (λ character. character == 32) (codes "faxpages " ++ line))
+-- the words of a line, which are parted by single blanks (32)
+abbrev pub words_of : List ℕ → List Text
+words_of line = slice_split (λ character. character == 32) (codes "faxpages " ++ line)
 
--- the text, the number, the flag and the target that they give
-abbrev pub text : Text → List ℕ → Option Text
-text name line = option_and_then (λ c. text_in c.1 name) (command line)
+-- they are those of a command, and this view of what is given after its name has this value
+pub record Gives {A : Type 0} (line : List ℕ) (view : Given → A) (value : A) : Type 0 where
+  pub name : Text
+  pub uses : List Use
+  pub are : AreOfCommand (words_of line) name uses
+  pub gives : view (text_in uses) ≡ value
 
-abbrev pub number : Text → List ℕ → Option ℕ
-number name line = option_and_then (λ c. number_in name (text_in c.1)) (command line)
+-- they are those of no command
+abbrev pub GivesNothing : List ℕ → Type 0
+GivesNothing line = AreOfNoCommand (words_of line)
 
-abbrev pub flag : Text → List ℕ → Option Bool
-flag name line = option_map (λ c. is_set name (text_in c.1)) (command line)
-
-abbrev pub target : List ℕ → Option Target
-target line = option_and_then (λ c. target_in (text_in c.1)) (command line)
+-- the text that is given for a name
+abbrev pub text : Text → Given → Option Text
+text name given = given name
 
 -- each option in each spelling
 pub record AreRead : Type 0 where
-  pub cursor : text (codes "cursor") (codes "list --cursor 1:2:3") ≡ Some (codes "1:2:3")
-  pub cursor_joined : text (codes "cursor") (codes "rows --cursor=1:2:3") ≡ Some (codes "1:2:3")
-  pub cursor_hyphen : text (codes "cursor") (codes "list --cursor -") ≡ Some (codes "-")
-  pub cursor_empty : text (codes "cursor") (codes "list --cursor=") ≡ Some []
-  pub max : number (codes "max") (codes "list --max 3") ≡ Some 3
-  pub max_joined : number (codes "max") (codes "rows --max=3") ≡ Some 3
-  pub max_plus : number (codes "max") (codes "list --max=+007") ≡ Some 7
-  pub long : flag (codes "long") (codes "rows --long") ≡ Some true
-  pub not_long : flag (codes "long") (codes "rows") ≡ Some false
-  pub mh : target (codes "convert -o mh") ≡ Some Mh
-  pub mh_attached : target (codes "convert -omh") ≡ Some Mh
-  pub mh_joined : target (codes "convert -o=mh") ≡ Some Mh
-  pub order : number (codes "order") (codes "convert -omh --order 2") ≡ Some 2
-  pub order_joined : number (codes "order") (codes "convert --order=2 -omh") ≡ Some 2
-  pub k : number (codes "k") (codes "convert -omr --k 8") ≡ Some 8
-  pub k_joined : number (codes "k") (codes "convert -omr --k=8") ≡ Some 8
-  pub strip : number (codes "strip") (codes "convert -omh --strip 64") ≡ Some 64
-  pub strip_joined : number (codes "strip") (codes "convert -omh --strip=64") ≡ Some 64
-  pub align : flag (codes "align") (codes "convert --align -omh") ≡ Some true
-  pub file : text (codes "FILE") (codes "check a.tif") ≡ Some (codes "a.tif")
-  pub file_first : text (codes "FILE") (codes "list a.tif --max 3") ≡ Some (codes "a.tif")
-  pub file_after : text (codes "FILE") (codes "rows -- -x") ≡ Some (codes "-x")
-  pub file_hyphen : text (codes "FILE") (codes "list -") ≡ Some (codes "-")
-  pub no_file : text (codes "FILE") (codes "list") ≡ None
+  pub cursor : Gives (codes "list --cursor 1:2:3") (text (codes "cursor")) (Some (codes "1:2:3"))
+  pub cursor_joined : Gives (codes "rows --cursor=1:2:3") (text (codes "cursor"))
+      (Some (codes "1:2:3"))
+  pub cursor_hyphen : Gives (codes "list --cursor -") (text (codes "cursor")) (Some (codes "-"))
+  pub cursor_empty : Gives (codes "list --cursor=") (text (codes "cursor")) (Some [])
+  pub max : Gives (codes "list --max 3") (number_in (codes "max")) (Some 3)
+  pub max_joined : Gives (codes "rows --max=3") (number_in (codes "max")) (Some 3)
+  pub max_plus : Gives (codes "list --max=+007") (number_in (codes "max")) (Some 7)
+  pub long : Gives (codes "rows --long") (is_set (codes "long")) true
+  pub not_long : Gives (codes "rows") (is_set (codes "long")) false
+  pub mh : Gives (codes "convert -o mh") target_in (Some Mh)
+  pub mh_attached : Gives (codes "convert -omh") target_in (Some Mh)
+  pub mh_joined : Gives (codes "convert -o=mh") target_in (Some Mh)
+  pub order : Gives (codes "convert -omh --order 2") (number_in (codes "order")) (Some 2)
+  pub order_joined : Gives (codes "convert --order=2 -omh") (number_in (codes "order")) (Some 2)
+  pub k : Gives (codes "convert -omr --k 8") (number_in (codes "k")) (Some 8)
+  pub k_joined : Gives (codes "convert -omr --k=8") (number_in (codes "k")) (Some 8)
+  pub strip : Gives (codes "convert -omh --strip 64") (number_in (codes "strip")) (Some 64)
+  pub strip_joined : Gives (codes "convert -omh --strip=64") (number_in (codes "strip")) (Some 64)
+  pub align : Gives (codes "convert --align -omh") (is_set (codes "align")) true
+  pub file : Gives (codes "check a.tif") (text (codes "FILE")) (Some (codes "a.tif"))
+  pub file_first : Gives (codes "list a.tif --max 3") (text (codes "FILE")) (Some (codes "a.tif"))
+  pub file_after : Gives (codes "rows -- -x") (text (codes "FILE")) (Some (codes "-x"))
+  pub file_hyphen : Gives (codes "list -") (text (codes "FILE")) (Some (codes "-"))
+  pub no_file : Gives (codes "list") (text (codes "FILE")) None
 
--- words that no command has
+-- words that no command has, and words without a target
 pub record AreNotTaken : Type 0 where
-  pub none : read (codes "faxpages" ∷ []) ≡ None
-  pub name : command (codes "row") ≡ None
-  pub help : command (codes "--help") ≡ None
-  pub help_of_rows : command (codes "rows --help") ≡ None
-  pub command_after : command (codes "-- list") ≡ None
-  pub one_file : command (codes "list a b") ≡ None
-  pub no_value : command (codes "list --max") ≡ None
-  pub value : command (codes "list --cursor --max=3") ≡ None
-  pub once : command (codes "list --cursor=a --cursor=a") ≡ None
-  pub zero : command (codes "list --max=0") ≡ None
-  pub too_many : command (codes "rows --max=4294967296") ≡ None
-  pub k : command (codes "convert -omr --k=1000001") ≡ None
-  pub order : command (codes "convert -omr --order=3") ≡ None
-  pub long : command (codes "list --long") ≡ None
-  pub flag_value : command (codes "rows --long=true") ≡ None
-  pub no_target : target (codes "convert a") ≡ None
+  pub none : AreOfNoCommand (codes "faxpages" ∷ [])
+  pub name : GivesNothing (codes "row")
+  pub help : GivesNothing (codes "--help")
+  pub help_of_rows : GivesNothing (codes "rows --help")
+  pub command_after : GivesNothing (codes "-- list")
+  pub one_file : GivesNothing (codes "list a b")
+  pub no_value : GivesNothing (codes "list --max")
+  pub value : GivesNothing (codes "list --cursor --max=3")
+  pub once : GivesNothing (codes "list --cursor=a --cursor=a")
+  pub zero : GivesNothing (codes "list --max=0")
+  pub too_many : GivesNothing (codes "rows --max=4294967296")
+  pub k : GivesNothing (codes "convert -omr --k=1000001")
+  pub order : GivesNothing (codes "convert -omr --order=3")
+  pub long : GivesNothing (codes "list --long")
+  pub flag_value : GivesNothing (codes "rows --long=true")
+  pub no_target : Gives (codes "convert a") target_in None

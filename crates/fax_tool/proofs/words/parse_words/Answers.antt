@@ -1,6 +1,8 @@
 use Rattle.std.proofs.Common.{◌≡◌, ◌∙◌, ap, inl, inr, refl, rules, subst, sym, List, [], Some}
 use Rattle.std.specs.Prelude.{◌≢◌, codes, option_and_then, Err, IfErr, Ok, Result}
+use Rattle.std.specs.List.{All}
 use Rattle.std.specs.Result.{IsErrAnd}
+use Rattle.std.specs.Str.{IsUtf8}
 use Rattle.clap.specs.Walk.{Row}
 use Rattle.clap.specs.Faults.{fault_of}
 use Rattle.clap.specs.Kinds.{HasKind, IsAmong, Kinds}
@@ -16,6 +18,8 @@ use Rattle.fax_tool.specs.declared.words.WordsFault.TheVariants.{Memory, NotACur
 use Rattle.fax_tool.proofs.AgreeLemmas.{command_agrees, fault_agrees}
 use Rattle.fax_tool.proofs.LevelLemmas.{taken_entries}
 use Rattle.fax_tool.proofs.ReadLemmas.{AreTaken, IsReadAs, command_of, read_as}
+use Rattle.fax_tool.proofs.ShapeLemmas.{read_is_of_command}
+use Rattle.fax_tool.proofs.SpellLemmas.{unread_is_no_command}
 use Rattle.fax_tool.proofs.words.parse_words.Goals as goal
 use Rattle.fax_tool.proofs.words.parse_words.Goals.{In-Some}
 
@@ -29,18 +33,24 @@ pub command_of-requires : goal.command_of-requires
 command_of-requires c =
     taken_entries (texts c.args.words.now) c.in-Some.name.now (entries_of c.in-Some.of_command.now) (taken c) (named c)
 
+-- the words are texts
+utf8 : (c : In-Some) → All IsUtf8 (texts c.args.words.now)
+utf8 c = search rules
+
 -- what the words are read as
 of_words : (c : In-Some) → IsReadAs (texts c.args.words.now) c.in-Some.name.now (entries_of c.in-Some.of_command.now)
 of_words c =
     (read_as (texts c.args.words.now)).0 c.in-Some.name.now (entries_of c.in-Some.of_command.now) (taken c) (named c)
 
-refused : (words : List Text) (name : Text) (entries : List Row) (fault : WordsFault) → IsReadAs words name entries
+refused : (words : List Text) (name : Text) (entries : List Row) (fault : WordsFault) → All IsUtf8 words → IsReadAs words name entries
     → IsCommandFault name (given_by entries) fault → IsFault words fault
-refused words name entries Usage of is =
-    inr (record { name = name; uses = of.0; named = of.1; command = fault_agrees entries of.0 of.2 name Usage is })
-refused words name entries NotACursor of is =
-    record { name = name; uses = of.0; named = of.1; command = fault_agrees entries of.0 of.2 name NotACursor is }
-refused words name entries Memory of is = tt
+refused words name entries Usage utf8 of is =
+    let named = read_is_of_command words name of.0 utf8 of.1 in
+    inr (record { name = name; uses = of.0; named = named; command = fault_agrees entries of.0 of.2 name Usage is })
+refused words name entries NotACursor utf8 of is =
+    let named = read_is_of_command words name of.0 utf8 of.1 in
+    record { name = name; uses = of.0; named = named; command = fault_agrees entries of.0 of.2 name NotACursor is }
+refused words name entries Memory utf8 of is = tt
 
 fault_up : {T : Type 0} (r : Result T WordsFault) (fault : WordsFault) (words : List Text) → IsErrAnd r (λ y. y ≡ fault)
     → IsFault words fault
@@ -53,7 +63,7 @@ returns-in_err-command_of-clause-fault c =
     let at = (goal.at.returns-in_err-command_of-clause-fault c).In-Some in
     let words = texts c.args.words.now in
     fault_up c.from_residual-in_err-command_of.result c.in_err-command_of.field-0.0 words c.from_residual-in_err-command_of.ensures.1
-    (refused words c.in-Some.name.now (entries_of c.in-Some.of_command.now) c.in_err-command_of.field-0.0 (of_words at)
+    (refused words c.in-Some.name.now (entries_of c.in-Some.of_command.now) c.in_err-command_of.field-0.0 (utf8 at) (of_words at)
     c.in_err-command_of.ensures.fault)
 
 pub returns-clause-job : goal.returns-clause-job
@@ -63,32 +73,38 @@ returns-clause-job c =
     record {
       name = c.in-Some.name.now;
       uses = of.0;
-      named = of.1;
+      named = read_is_of_command (texts c.args.words.now) c.in-Some.name.now of.0 (utf8 (goal.at.returns-clause-job c).In-Some) of.1;
       command = command_agrees entries of.0 of.2 c.in-Some.name.now c.in_ok-command_of.field-0 c.in_ok-command_of.ensures.command;
       file = c.in_ok-file_of.ensures ∙ of.2.name;
     }
 
 -- words that clap does not take
-unread : (words : List Text) → (AreTaken words → ⊥) → IsFault words Usage
-unread words untaken = elim ((read_as words).1 untaken) [
-  | inl none ↦ inl none
-  | inr of ↦ inr (record { name = codes "convert"; uses = of.0; named = of.1; command = (refl, inl (ap (option_and_then target_of) of.2)) })
+unread : (words : List Text) → All IsUtf8 words → (AreTaken words → ⊥) → IsFault words Usage
+unread words utf8 untaken = elim ((read_as words).1 untaken) [
+  | inl none ↦ inl (unread_is_no_command words none)
+  | inr of ↦ inr (record {
+    name = codes "convert";
+    uses = of.0;
+    named = read_is_of_command words (codes "convert") of.0 utf8 of.1;
+    command = (refl, inl (ap (option_and_then target_of) of.2));
+  })
 ]
 
-untaken_up : {T : Type 0} (r : Result T WordsFault) (words : List Text) (error : Error)
+untaken_up : {T : Type 0} (r : Result T WordsFault) (words : List Text) (error : Error) → All IsUtf8 words
     → IsErrAnd r (λ gives. (gives ≢ NotACursor) × (gives ≡ Usage → kind_of error ≢ OutOfMemory))
     → HasKind (fault_of faxpages_app words) error → IfErr r (IsFault words)
-untaken_up (Ok x) words error gives is = tt
-untaken_up (Err Usage) words error gives is = unread words (λ taken. none taken is)
+untaken_up (Ok x) words error utf8 gives is = tt
+untaken_up (Err Usage) words error utf8 gives is = unread words utf8 (λ taken. none taken is)
   where
     none : {kinds : Kinds} → kinds ≡ [] → HasKind kinds error → ⊥
     none empty (inl memory) = gives.1 refl memory
     none empty (inr among) = subst (IsAmong (kind_of error)) empty among
-untaken_up (Err NotACursor) words error gives is = absurd (gives.0 refl)
-untaken_up (Err Memory) words error gives is = tt
+untaken_up (Err NotACursor) words error utf8 gives is = absurd (gives.0 refl)
+untaken_up (Err Memory) words error utf8 gives is = tt
 
 pub returns-in_err-matches-clause-fault : goal.returns-in_err-matches-clause-fault
 returns-in_err-matches-clause-fault c =
     let words = texts c.args.words.now in
+    let texts_are : All IsUtf8 words = search rules in
     let kinds : HasKind (fault_of faxpages_app words) c.in_err-matches.field-0.0 = search rules in
-    untaken_up c.from_residual-in_err-matches.result words c.in_err-matches.field-0.0 c.from_residual-in_err-matches.ensures.1 kinds
+    untaken_up c.from_residual-in_err-matches.result words c.in_err-matches.field-0.0 texts_are c.from_residual-in_err-matches.ensures.1 kinds

@@ -1,0 +1,199 @@
+-- What the grammar says of one word, of numbers and of uses that differ, and what scanning computes of them.
+use Rattle.std.proofs.Common.{◌≡◌, ◌≢◌, ◌⊎◌, ◌<◌, ◌≤◌, ◌==◌, ◌&&◌, ◌||◌, ◌∙◌, ◌++◌, ap, arith, codes, inl, inr, lit<, refl, sym, subst}
+use Rattle.std.proofs.Common.{Bool, true, false, ℕ, zero, suc, List, [], ◌∷◌, Option, Some, None, is_some, length}
+use Rattle.std.specs.Prelude.{nat_le, nat_lt, not, slice_get}
+use Rattle.std.specs.Char.{digit_value}
+use Rattle.std.specs.List.{All, AllPairs, list_all, slice_index_or}
+use Rattle.std.specs.Str.{IsUtf8, bytes_eq, chars, encode_utf8_all}
+use Rattle.std.specs.Str.Parse.{AllDigits, digits_value, without_leading_plus}
+use Rattle.std.proofs.lemmas.Bool.Decides.{nat_tests}
+use Rattle.std.proofs.lemmas.List.Elements.{All-cons, All-head, All-nil, All-tail}
+use Rattle.std.proofs.lemmas.List.Folds.{list_any-append}
+use Rattle.std.proofs.lemmas.Slice.Eq.{bytes_eq-Decides}
+use Rattle.std.proofs.lemmas.Str.{IsUtf8-past_char, encode_ascii, encodes-chars}
+use Rattle.fax_tool.specs.Grammar.{IsNumberText, IsPlain, Text, Use, name_of}
+use Rattle.fax_tool.specs.code.Scan.{are_apart, attached, first_char, is_number, is_plain, is_used}
+
+-- ---- a word that is no option
+
+pub plain_scanned : (word : Text) → IsPlain word → is_plain word ≡ true
+unfolding chars
+plain_scanned [] plain = refl
+plain_scanned (x ∷ xs) plain = go (x == 45) refl plain
+  where
+    go : (b : Bool) → (x == 45) ≡ b → IsPlain (x ∷ xs) → is_plain (x ∷ xs) ≡ true
+    go true same (inl other) = let is : x ≡ 45 = grind (arith, nat_tests) in absurd (other (ap Some is))
+    go true same (inr alone) = subst (λ word. is_plain word ≡ true) (sym alone) refl
+    go false other plain = rw other refl
+
+-- the first character of a text of UTF-8 is missing only where there is no byte
+no_first : (b : ℕ) (bs : Text) → IsUtf8 (45 ∷ b ∷ bs) → first_char (b ∷ bs) ≢ None
+no_first b bs utf8 none =
+    let rest : IsUtf8 (b ∷ bs) = IsUtf8-past_char (45 ∷ b ∷ bs) (b ∷ bs) 45 utf8
+    (ap (λ l. l ++ b ∷ bs) (sym (encode_ascii 45 (lit< tt)))) in
+    go (chars (b ∷ bs)) none (encodes-chars (b ∷ bs) rest)
+  where
+    go : (cs : Text) → slice_get cs 0 ≡ None → encode_utf8_all cs ≡ b ∷ bs → ⊥
+    go [] none spells = cc
+    go (c ∷ cs) none spells = cc
+
+pub scanned_plain : (word : Text) → IsUtf8 word → is_plain word ≡ true → IsPlain word
+scanned_plain [] utf8 plain = inl (λ is. cc)
+scanned_plain (x ∷ xs) utf8 plain = go (x == 45) refl
+  where
+    more : (ys : Text) → x ≡ 45 → IsUtf8 (x ∷ ys) → is_plain (x ∷ ys) ≡ true → IsPlain (x ∷ ys)
+    more [] is utf8 plain = inr (ap (λ x. x ∷ []) is)
+    more (y ∷ ys) is utf8 plain =
+        let utf8 : IsUtf8 (45 ∷ y ∷ ys) = subst (λ x. IsUtf8 (x ∷ y ∷ ys)) is utf8 in
+        let plain : is_plain (45 ∷ y ∷ ys) ≡ true = subst (λ x. is_plain (x ∷ y ∷ ys) ≡ true) is plain in
+        absurd (no_first y ys utf8 (first (first_char (y ∷ ys)) plain))
+      where
+        first : (o : Option ℕ) → not (is_some o) ≡ true → o ≡ None
+        first None none = refl
+        first (Some c) none = cc
+
+    go : (b : Bool) → (x == 45) ≡ b → IsPlain (x ∷ xs)
+    go true same = let is : x ≡ 45 = grind (arith, nat_tests) in more xs is utf8 plain
+    go false other = inl (λ is.
+        let same : x ≡ 45 = cc in
+        let no : ⊥ = grind (arith, nat_tests) in no)
+
+-- ---- a text in the word of its letter
+
+pub attached_scanned : (value : Text) → value ≢ [] → slice_get value 0 ≢ Some 61 → attached value ≡ Some value
+attached_scanned [] some other = absurd (some refl)
+attached_scanned (b ∷ bs) some other = go (b == 61) refl
+  where
+    go : (t : Bool) → (b == 61) ≡ t → attached (b ∷ bs) ≡ Some (b ∷ bs)
+    go true same = let is : b ≡ 61 = grind (arith, nat_tests) in absurd (other (ap Some is))
+    go false differs = rw differs refl
+
+pub other_first : (b : ℕ) (bs : Text) → (b == 61) ≡ false → slice_get (b ∷ bs) 0 ≢ Some 61
+other_first b bs other is =
+    let same : b ≡ 61 = cc in
+    grind (arith, nat_tests)
+
+-- ---- both of two tests
+
+pub both_parts : (a b : Bool) → (a && b) ≡ true → (a ≡ true) × (b ≡ true)
+both_parts true b is = (refl, is)
+both_parts false b is = cc
+
+-- ---- numbers
+
+digits_scanned : (ds : Text) → AllDigits 10 ds → list_all (λ d. nat_lt (digit_value d) 10) ds ≡ true
+digits_scanned [] all = refl
+digits_scanned (d ∷ ds) all =
+    let low = all.0 in
+    let test : nat_lt (digit_value d) 10 ≡ true = grind (arith, nat_tests) in
+    rw (test, digits_scanned ds all.1) refl
+
+scanned_digits : (ds : Text) → list_all (λ d. nat_lt (digit_value d) 10) ds ≡ true → AllDigits 10 ds
+scanned_digits [] all = tt
+scanned_digits (d ∷ ds) all =
+    let of = both_parts (nat_lt (digit_value d) 10) (list_all (λ d. nat_lt (digit_value d) 10) ds) all in
+    let test = of.0 in
+    let low : digit_value d < 10 = grind (arith, nat_tests) in
+    (low, scanned_digits ds of.1)
+
+pub number_scanned : (most : ℕ) (value : Text) → IsNumberText most value → is_number most value ≡ true
+number_scanned most value is =
+    let some = is.digits.0 in
+    let low = is.some in
+    let high = is.within in
+    let one : nat_lt 0 (length (without_leading_plus value)) ≡ true = grind (arith, nat_tests) in
+    let above : nat_le 1 (digits_value 10 (without_leading_plus value)) ≡ true = grind (arith, nat_tests) in
+    let below : nat_le (digits_value 10 (without_leading_plus value)) most ≡ true = grind (arith, nat_tests) in
+    rw (one, digits_scanned (without_leading_plus value) is.digits.1, above, below) refl
+
+pub scanned_number : (most : ℕ) (value : Text) → is_number most value ≡ true → IsNumberText most value
+scanned_number most value is =
+    let digits = without_leading_plus value in
+    let of = both_parts (nat_lt 0 (length digits) && list_all (λ d. nat_lt (digit_value d) 10) digits) _ is in
+    let left = both_parts (nat_lt 0 (length digits)) _ of.0 in
+    let right = both_parts (nat_le 1 (digits_value 10 digits)) _ of.1 in
+    let one = left.0 in
+    let above = right.0 in
+    let below = right.1 in
+    record {
+      digits = (grind (arith, nat_tests), scanned_digits digits left.1);
+      some = grind (arith, nat_tests);
+      within = grind (arith, nat_tests);
+    }
+
+-- ---- uses of names that differ
+
+abbrev AreApart : List Use → Type 0
+AreApart = AllPairs (λ one other. name_of one.item ≢ name_of other.item)
+
+-- a use of no name that is used before
+abbrev IsNew : List Use → Use → Type 0
+IsNew before u = is_used (name_of u.item) before ≡ false
+
+used_more : (name : Text) (before : List Use) (u : Use) → is_used name (before ++ u ∷ []) ≡ (is_used name before || bytes_eq (name_of u.item) name)
+used_more name before u = list_any-append (λ given. bytes_eq (name_of given.item) name) before (u ∷ [])
+    ∙ ap (λ b. is_used name before || b) (last (bytes_eq (name_of u.item) name))
+  where
+    last : (b : Bool) → (b || false) ≡ b
+    last true = refl
+    last false = refl
+
+names_differ : (a b : Text) → a ≢ b → bytes_eq a b ≡ false
+names_differ a b differ = go (bytes_eq a b) refl
+  where
+    go : (t : Bool) → bytes_eq a b ≡ t → bytes_eq a b ≡ false
+    go true is = absurd (differ ((bytes_eq-Decides a b).0 is))
+    go false is = is
+
+new_after : (before : List Use) (one other : Use) → IsNew before other → name_of one.item ≢ name_of other.item
+    → IsNew (before ++ one ∷ []) other
+new_after before one other new differ =
+    used_more (name_of other.item) before one ∙ rw (new, names_differ (name_of one.item) (name_of other.item) differ) refl
+
+apart_from : (before uses : List Use) → All (IsNew before) uses → AreApart uses → are_apart before uses ≡ true
+apart_from before [] new apart = refl
+apart_from before (u ∷ us) new apart =
+    let others = apart_from (before ++ u ∷ []) us
+    (λ k d low. new_after before u (slice_index_or us k d) (All-tail (IsNew before) u us new k d low)
+    (apart 0 (suc k) d (omega arith) (omega arith)))
+    (λ i j d low high. apart (suc i) (suc j) d (omega arith) (omega arith)) in
+    rw (All-head (IsNew before) u us new, others) refl
+
+pub apart_scanned : (uses : List Use) → AreApart uses → are_apart [] uses ≡ true
+apart_scanned uses apart = apart_from [] uses (λ k d low. refl) apart
+
+new_and_other : (before : List Use) (one other : Use) → IsNew (before ++ one ∷ []) other
+    → IsNew before other × (name_of one.item ≢ name_of other.item)
+new_and_other before one other new =
+    go (is_used (name_of other.item) before) (bytes_eq (name_of one.item) (name_of other.item)) refl refl
+    (sym (used_more (name_of other.item) before one) ∙ new)
+  where
+    go : (a b : Bool) → is_used (name_of other.item) before ≡ a → bytes_eq (name_of one.item) (name_of other.item) ≡ b → (a || b) ≡ false
+        → IsNew before other × (name_of one.item ≢ name_of other.item)
+    go true b used is none = cc
+    go false true used is none = cc
+    go false false used is none =
+        (used, λ same. let no = sym is ∙ (bytes_eq-Decides (name_of one.item) (name_of other.item)).1 same in cc)
+
+apart_cons : (u : Use) (us : List Use) → All (λ other. name_of u.item ≢ name_of other.item) us → AreApart us → AreApart (u ∷ us)
+apart_cons u us differ apart zero zero d low high = omega arith
+apart_cons u us differ apart zero (suc j) d low high = differ j d (omega arith)
+apart_cons u us differ apart (suc i) zero d low high = omega arith
+apart_cons u us differ apart (suc i) (suc j) d low high = apart i j d (omega arith) (omega arith)
+
+from_apart : (before uses : List Use) → are_apart before uses ≡ true → All (IsNew before) uses × AreApart uses
+from_apart before [] is = (All-nil (IsNew before), λ i j d low high. omega arith)
+from_apart before (u ∷ us) is =
+    let of = both_parts (not (is_used (name_of u.item) before)) _ is in
+    let others = from_apart (before ++ u ∷ []) us of.1 in
+    let each = λ (k : ℕ) (d : Use) (low : k < length us). new_and_other before u (slice_index_or us k d) (others.0 k d low) in (
+      All-cons (IsNew before) u us (new (is_used (name_of u.item) before) of.0) (λ k d low. (each k d low).0),
+      apart_cons u us (λ k d low. (each k d low).1) others.1,
+    )
+  where
+    new : (b : Bool) → not b ≡ true → b ≡ false
+    new true is = cc
+    new false is = refl
+
+pub scanned_apart : (uses : List Use) → are_apart [] uses ≡ true → AreApart uses
+scanned_apart uses is = (from_apart [] uses is).1
