@@ -35,15 +35,7 @@ no_lines (Some limit) = omega arith
 -- the text of no line: where to go on
 of_none : (are : List Line → End → Type 0) (max : Option ℕ) (begun : Begun) → ((lines : List Line) × (end : End) × are lines end)
     → (text : List ℕ) → text ≡ next_line (At (begins_at begun)) → IsTextOfFirst are max begun text
-of_none are max begun all text is = record {
-  lines = all.0;
-  end = all.1;
-  is = all.2;
-  count = 0;
-  some = omega arith;
-  within = no_lines max;
-  output_is = is;
-}
+of_none are max begun all text is = (all.0, all.1, all.2, 0, omega arith, no_lines max, is)
 
 -- the input was not read
 pub unread : (text : List ℕ) (refusal : Refusal) (input : Input) (old : Option (List ℕ)) (counts : Counts) → refusal ≢ Memory

@@ -30,7 +30,7 @@ use Rattle.fax_walk.specs.Rows.{Item, Place, IsInStrip, IsRow, IsTailFrom, begin
 use Rattle.fax_walk.specs.code.Places.{long_at}
 use Rattle.fax_walk.specs.code.Places.{row_in_strip, strip_at}
 use Rattle.fax_tool.specs.Run.{AreRowLines, ArePageLines, IsRowLine}
-use Rattle.fax_tool.specs.Text.{Line, begun_at, line_of_page, line_of_row, next_after, page_line_of, row_line, row_line_of}
+use Rattle.fax_tool.specs.Text.{Line, begun_at, line_of_page, line_of_row, next_after, page_line_of, row_line_of}
 use Rattle.fax_tool.specs.code.Printing.{IsLinePut, IsNextAfter, end_of}
 
 -- the first elements of a list, with one more
@@ -240,7 +240,7 @@ pub row_put : (file : List ℕ) (begun : Begun) (given new_given : ℕ) (item : 
     → IsLinePut (AreRowLines file begun) given text (Ok None) new_given new_text
 row_put file begun given new_given item page row pels text new_text number page_is row_is pels_are more grown =
     let of = line_of file begun given item number in
-    let same : row_line_of page row (runs_of pels) ≡ row_line item = rw (page_is, row_is, pels_are) refl in (
+    let same : row_line_of page row (runs_of pels) ≡ row_line_of item.page item.row (runs_of item.pels) = rw (page_is, row_is, pels_are) refl in (
       of.line,
       of.number,
       more,

@@ -151,15 +151,15 @@ module _ (tail now : List Line → End → Type 0) (one : IsOne tail) (given : �
     next = next_line (named false (next_after begun (take given some.lines)))
 
     first_lines : IsTextOfFirst tail max begun (some.sent ++ (text ++ next))
-    first_lines = record {
-      lines = some.lines;
-      end = some.end;
-      is = some.is;
-      count = given;
-      some = some.within;
-      within = within_limit max left given some.limit;
-      output_is = sym (append_assoc some.sent text next) ∙ ap (λ xs. xs ++ next) (sym some.collected);
-    }
+    first_lines = (
+      some.lines,
+      some.end,
+      some.is,
+      given,
+      some.within,
+      within_limit max left given some.limit,
+      sym (append_assoc some.sent text next) ∙ ap (λ xs. xs ++ next) (sym some.collected),
+    )
 
     -- a write of collected text was refused
     pub stopped_for_write : (new_written : Option (List ℕ)) (counts : Counts) (refusal : Refusal)

@@ -1,5 +1,5 @@
 -- Runs that go on where the one before them was cut.
-use Rattle.std.proofs.Common.{◌≡◌, ℕ, zero, suc, List, [], ◌∷◌, ◌++◌, length}
+use Rattle.std.proofs.Common.{codes, ◌≡◌, ℕ, zero, suc, List, [], ◌∷◌, ◌++◌, length}
 use Rattle.std.proofs.Common.{take, drop, refl, ap, sym, ◌∙◌, subst, append_assoc, append-nil}
 use Rattle.std.proofs.Common.{true, false, Bool, take-append-drop, get_or, ◌≤◌, ◌^◌, arith}
 use Rattle.std.proofs.Math.Seq.{take-length}
@@ -18,11 +18,21 @@ use Rattle.fax_walk.specs.laws.Tails.{BeginningsHaveOneTail, CursorsNameOnePage,
 use Rattle.fax_walk.specs.Pages.{FilePage, IsPageAt}
 use Rattle.fax_walk.specs.Rows.{Item, IsTailFrom, cursor_after, long_after}
 use Rattle.fax_tool.specs.Run.{AreRowLines, IsRowLine}
-use Rattle.fax_tool.specs.Text.{Line, Printed, begun_at, begun_text, first_text, last_line, line_end, named, next_after, next_line, text_of}
-use Rattle.fax_tool.specs.Text.{texts_of, whole_text}
+use Rattle.fax_tool.specs.Text.{Line, Printed, begun_at, begun_text, named, next_after, next_line, text_of, end_text, ended_text}
+use Rattle.fax_tool.specs.Text.{texts_of}
 use Rattle.fax_tool.specs.laws.Runs.{AreAsOneRun, AreRunsOfRows, CutRunsAreReadOn, IsBegun, IsReadAfter, IsRunOfRows, MayBegin, RunsGoOn}
 use Rattle.fax_tool.specs.laws.Runs.{is_cut, up_to}
 use Rattle.fax_tool.proofs.LineLemmas.{begins_after, one_rows}
+
+-- all lines and their end; the first ones, and where to go on; the last line of an end
+abbrev whole_text : Bool → Begun → List Line → End → Printed
+whole_text long begun lines end = ended_text long begun lines (Some end)
+
+abbrev first_text : Bool → Begun → List Line → Printed
+first_text long begun lines = ended_text long begun lines None
+
+abbrev last_line : End → Begun → List ℕ
+last_line end next = (end_text (Some end) next).output
 
 texts_of-append : (xs ys : List Line) → texts_of (xs ++ ys) ≡ texts_of xs ++ texts_of ys
 texts_of-append [] ys = refl
@@ -86,8 +96,8 @@ as_one_after long begun xs ys end first others rows last cut first_is all =
           ∙ sym (append_assoc first (texts_of ys) (last_line end (named long (next_after begun (xs ++ ys)))))
           ∙ ap (λ (text : List ℕ). (text ++ texts_of ys) ++ last_line end (named long (next_after begun (xs ++ ys)))) first_is
           ∙ ap (λ (text : List ℕ). text ++ last_line end (named long (next_after begun (xs ++ ys)))) (sym (texts_of-append xs ys));
-      error = all.error;
-      status = all.status;
+      error = λ no. all.error no ∙ ap (λ (b : Begun). (end_text (Some end) b).error) next;
+      status = λ no. all.status no ∙ ap (λ (b : Begun). (end_text (Some end) b).status) next;
     }
 
 -- what a run begins with has one text
@@ -101,8 +111,8 @@ one_begun names (Inside place) (Inside other) is is_too e = ap Inside (names.pla
 same_text : (rows : List ℕ) (begun next : Begun) → rows ++ next_line begun ≡ rows ++ next_line next → begun_text begun ≡ begun_text next
 same_text rows begun next e =
     let line = append_cancel_left rows (next_line begun) (next_line next) e in
-    let rest : begun_text begun ++ line_end ≡ begun_text next ++ line_end = ap (λ (l : List ℕ). drop 5 l) line in
-    append_cancel_right (begun_text begun) (begun_text next) line_end rest
+    let rest : begun_text begun ++ codes "\n" ≡ begun_text next ++ codes "\n" = ap (λ (l : List ℕ). drop 5 l) line in
+    append_cancel_right (begun_text begun) (begun_text next) (codes "\n") rest
 
 same_last : (rows : List ℕ) (end : End) (begun next : Begun) → rows ++ last_line end begun ≡ rows ++ next_line next
     → begun_text begun ≡ begun_text next

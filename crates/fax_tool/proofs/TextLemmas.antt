@@ -13,25 +13,24 @@ use Rattle.fax_bits.specs.laws.Codes.{IsOne}
 use Rattle.fax_tool.specs.declared.refusal.Refusal.{Refusal}
 use Rattle.fax_tool.specs.Run.{Counts, IsTextOfFirst, IsTextOfLines}
 use Rattle.fax_tool.specs.views.Streams.{output_after}
-use Rattle.fax_tool.specs.Text.{Line, end_status, error_text, last_line, named, next_after, next_line, text_of, texts_of}
+use Rattle.fax_tool.specs.Text.{Line, end_text, named, next_after, next_line, text_of, texts_of}
 use Rattle.fax_tool.specs.code.Outcome.{StopsPrinting, WritesOutput, end_line, error_of, status_of}
 use Rattle.fax_tool.specs.code.Printing.{EndsWith, IsLastLine, IsNextAfter, IsNextLine, PrintsLines}
 use Rattle.fax_tool.proofs.StopLemmas.{NoText, stops_after, stops_more}
 
-error_is : (end : End) → error_text end ≡ error_of (end_line (Some end))
-error_is Proper = refl
-error_is (Fault page row cause) = refl
-error_is Outside = refl
+error_is : (end : End) (next : Begun) → (end_text (Some end) next).error ≡ error_of (end_line (Some end))
+error_is Proper next = refl
+error_is (Fault page row cause) next = refl
+error_is Outside next = refl
 
-status_is : (end : End) → end_status end ≡ status_of (end_line (Some end))
-status_is Proper = refl
-status_is (Fault page row cause) = refl
-status_is Outside = refl
+status_is : (end : End) (next : Begun) → (end_text (Some end) next).status ≡ status_of (end_line (Some end))
+status_is Proper next = refl
+status_is (Fault page row cause) next = refl
+status_is Outside next = refl
 
 -- what is printed after lines where printing ended so: at a limit where to go on
 abbrev ending_text : Option End → Begun → List ℕ
-ending_text None next = next_line next
-ending_text (Some end) next = last_line end next
+ending_text ending next = (end_text ending next).output
 
 -- the text of the lines, with its output, and the error line and status of its end
 record IsEndedText (lines : List Line) (end : End) (count : ℕ) (long : Bool) (max : Option ℕ) (begun : Begun) (ending : Option End) : Type 0
@@ -47,8 +46,8 @@ whole_ended : (lines : List Line) (end : End) (long : Bool) (max : Option ℕ) (
     → IsEndedText lines end (length lines) long max begun (Some end)
 whole_ended lines end long None begun few = record {
   output = rw take-length refl;
-  error = error_is end;
-  status = status_is end;
+  error = error_is end (named long (next_after begun lines));
+  status = status_is end (named long (next_after begun lines));
   within = tt;
   some = omega arith;
 }
@@ -56,8 +55,8 @@ whole_ended lines end long (Some limit) begun few =
     let no : nat_le limit (length lines) ≡ false = lt-leb limit (length lines) few in
     record {
       output = rw (no, take-length) refl;
-      error = rw no (error_is end);
-      status = rw no (status_is end);
+      error = rw no (error_is end (named long (next_after begun lines)));
+      status = rw no (status_is end (named long (next_after begun lines)));
       within = omega arith;
       some = omega arith;
     }
@@ -102,15 +101,15 @@ module _ (tail now : List Line → End → Type 0) (one : IsOne tail) (same : (a
   whole line is = ended.output ∙ ap (λ (l : List ℕ). texts ++ l) (sym (last_is line ending is))
 
   first : (line : List ℕ) → IsNextLine now now_begun count false line → IsTextOfFirst tail max begun (texts ++ line)
-  first line is = record {
-    lines = prints.lines;
-    end = prints.end;
-    is = prints.is;
-    count = count;
-    some = ended.some;
-    within = ended.within;
-    output_is = ap (λ (l : List ℕ). texts ++ l) (next_line_is line false is);
-  }
+  first line is = (
+    prints.lines,
+    prints.end,
+    prints.is,
+    count,
+    ended.some,
+    ended.within,
+    ap (λ (l : List ℕ). texts ++ l) (next_line_is line false is),
+  )
 
   -- the lines and the last line are printed
   pub all_printed : (new_written : Option (List ℕ)) (counts : Counts) (line : List ℕ) → IsLastLine now now_begun count long ending line

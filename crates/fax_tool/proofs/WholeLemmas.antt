@@ -3,8 +3,6 @@ use Rattle.std.proofs.Common.{◌≡◌, ◌≢◌, ℕ, List, [], inl, inr, ref
 use Rattle.std.specs.Prelude.{Option, Some, None, IfSome}
 use Rattle.std.specs.Io.KnownBytes.{Appends}
 use Rattle.std.proofs.KnownBytes.{Appends-nil}
-use Rattle.fax_files.specs.declared.Cause.{Cause}
-use Rattle.fax_walk.specs.declared.walk.Place.{Place}
 use Rattle.fax_walk.specs.Converted.{IsConverted, IsNotConverted}
 use Rattle.fax_walk.specs.Report.{IsReport}
 use Rattle.fax_walk.specs.declared.checking.Report.{Report}
@@ -17,7 +15,6 @@ use Rattle.fax_tool.specs.Run.{Counts, HasWorked, IsRead, IsTextOf}
 use Rattle.fax_tool.specs.views.Streams.{input_after, output_after}
 use Rattle.fax_tool.specs.Text.{Printed}
 use Rattle.fax_tool.specs.ReportText.{convert_fault_line, report_output, report_text}
-use Rattle.fax_tool.specs.ReportText.{printed_report}
 use Rattle.fax_tool.specs.code.Outcome.{IsDone, IsLineOf, IsStopped, WritesOutput, error_of, status_of}
 use Rattle.fax_tool.specs.code.Transfers.{IsGivenInPart}
 use Rattle.fax_tool.proofs.CommandLemmas.{text_stopped}
@@ -65,12 +62,8 @@ module _ (bytes : Option (List ℕ)) (file : List ℕ) (same : IfSome bytes (λ 
     });
   }
 
-report_output_of : (text : List ℕ) (fault : Option (Place × Cause)) → (printed_report text fault).output ≡ text
-report_output_of text None = refl
-report_output_of text (Some fault) = refl
-
 report_output_is : (report : Report) → (report_text report).output ≡ report_output report
-report_output_is report = report_output_of (report_output report) report.fault
+report_output_is report = refl
 
 module _ (bytes : Option (List ℕ)) (file : List ℕ) (same : IfSome bytes (λ b. file ≡ b)) (taken : ℕ) (counts : Counts)
     (read : IsRead (input_after bytes taken counts)) (old new : Option (List ℕ)) (given : Counts) (report : Report)

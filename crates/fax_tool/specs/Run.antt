@@ -1,11 +1,11 @@
 -- What a run leaves on its streams.
 -- A definition without a citation is this project's profile.
 use Rattle.std.specs.Prelude.{◌≡◌, ℕ, ◌<◌, ◌≤◌, ◌⊎◌, Bool, false, List, [], ◌++◌, length, map, take}
-use Rattle.std.specs.Prelude.{Option, IfSome, Ok, codes}
+use Rattle.std.specs.Prelude.{Option, None, IfSome, Ok, codes, ⊤}
 use Rattle.std.specs.Io.KnownBytes.{Appends}
 use Rattle.std.specs.List.{AllZip}
 use Rattle.fax_files.specs.Directory.{max_file}
-use Rattle.fax_tool.specs.Text.{Begun, At, Cursor, End, Line, Printed, begun_at, first_text}
+use Rattle.fax_tool.specs.Text.{Begun, At, Cursor, End, Line, Printed, begun_at, ended_text}
 use Rattle.fax_tool.specs.Text.{line_of_page, line_of_row, text_of}
 use Rattle.fax_walk.specs.Pages.{FilePage, FormItem, IsFormTail, IsPageAt}
 use Rattle.fax_walk.specs.Rows.{Item, IsTailFrom}
@@ -46,12 +46,9 @@ HasFailed counts = (most_interrupted < counts.interrupted) ⊎ (0 < counts.faile
 abbrev pub HasWorked : Counts → Type 0
 HasWorked counts = (counts.interrupted ≤ most_interrupted) × (counts.failed ≡ 0)
 
--- the input worked, and is not too long; or it failed, or is too long
+-- the input worked, and is not too long
 abbrev pub IsRead : Input → Type 0
 IsRead input = HasWorked input.counts × (input.taken ≤ max_file)
-
-abbrev pub IsUnread : Input → Type 0
-IsUnread input = HasFailed input.counts ⊎ (max_file < input.taken)
 
 -- the line of a refusal that is no fault of the input
 abbrev pub refusal_line : Refusal → List ℕ
@@ -62,7 +59,8 @@ refusal_line Write = codes "fault: Write\n"
 -- a refusal is answered for its reason alone
 abbrev pub HasReason : Refusal → Input → Output → Type 0
 HasReason Memory input output = IsRead input × HasWorked output.counts
-HasReason Read input output = IsUnread input × HasWorked output.counts
+HasReason Read input output =
+    (HasFailed input.counts ⊎ (max_file < input.taken)) × HasWorked output.counts
 HasReason Write input output = IsRead input × HasFailed output.counts
 
 -- the line of a row of a file: it names what follows the row by the form of the row's page
@@ -93,15 +91,11 @@ IsTextOfLines are long max begun printed =
 
 -- what is written of such lines where memory is refused: the first of them, up to a limit at most,
 -- and where to go on
-pub record IsTextOfFirst (are : List Line → End → Type 0) (max : Option ℕ) (begun : Begun)
-    (output : List ℕ) : Type 0 where
-  pub lines : List Line
-  pub end : End
-  pub is : are lines end
-  pub count : ℕ
-  pub some : count ≤ length lines
-  pub within : IfSome max (λ limit. count ≤ limit)
-  pub output_is : output ≡ (first_text false begun (take count lines)).output
+abbrev pub IsTextOfFirst : (List Line → End → Type 0) → Option ℕ → Begun → List ℕ → Type 0
+IsTextOfFirst are max begun output =
+    (lines : List Line) × (end : End) × are lines end × (count : ℕ) × (count ≤ length lines)
+    × IfSome max (λ limit. count ≤ limit)
+    × (output ≡ (ended_text false begun (take count lines) None).output)
 
 -- what the rows of a part begin with
 abbrev pub begun_of : Part → Begun
@@ -140,29 +134,19 @@ LeavesText is after_memory refusal output =
     (text : List ℕ) × IsTextLeft is after_memory refusal text
     × Appends output.before output.after text
 
--- the text is appended, and the status is its own
-pub record AppendsText (text : Printed) (output error : Output) (status : ℕ) : Type 0 where
-  pub output_is : Appends output.before output.after text.output
-  pub error_is : Appends error.before error.after text.error
-  pub status_is : status ≡ text.status
-
--- a run that was not refused: its streams worked, and it wrote the text of its command
-pub record WritesText (command : Command) (input : Input) (output error : Output)
-    (status : ℕ) : Type 0 where
+-- a run that was not refused: it wrote the output of its command's text, and this is so of it
+pub record WritesOutputOf (command : Command) (input : Input) (output : Output)
+    (is_said : Printed → Type 0) : Type 0 where
   pub read : IsRead input
   pub written : HasWorked output.counts
-  pub said : HasWorked error.counts
   pub text : IfSome input.bytes (λ file. (printed : Printed) × IsTextOf command file printed
-      × AppendsText printed output error status)
+      × Appends output.before output.after printed.output × is_said printed)
 
--- a run whose error stream failed alone: it has written its output
-pub record WritesOutputAlone (command : Command) (input : Input)
-    (output error : Output) : Type 0 where
-  pub read : IsRead input
-  pub written : HasWorked output.counts
-  pub unsaid : HasFailed error.counts
-  pub text : IfSome input.bytes (λ file. (printed : Printed) × IsTextOf command file printed
-      × Appends output.before output.after printed.output)
+-- and its error stream worked too: it wrote the text's error line, and the status is the text's
+abbrev pub WritesText : Command → Input → Output → Output → ℕ → Type 0
+WritesText command input output error status = HasWorked error.counts
+    × WritesOutputOf command input output (λ printed.
+    Appends error.before error.after printed.error × (status ≡ printed.status))
 
 -- a run that was refused, for a reason: it left what it has to, and said why, or could not say it
 pub record SaysRefusal (command : Command) (refusal : Refusal) (input : Input)
@@ -172,8 +156,8 @@ pub record SaysRefusal (command : Command) (refusal : Refusal) (input : Input)
       (IsTextAfterMemory command file) refusal output)
   pub said : HasFailed error.counts ⊎ Appends error.before error.after (refusal_line refusal)
 
--- a run with status 3: its error stream failed, or it was refused
+-- a run with status 3: its error stream failed alone, or it was refused
 abbrev pub IsRefused : Command → Input → Output → Output → Type 0
 IsRefused command input output error =
-    WritesOutputAlone command input output error
+    (HasFailed error.counts × WritesOutputOf command input output (λ printed. ⊤))
     ⊎ ((refusal : Refusal) × SaysRefusal command refusal input output error)

@@ -1,18 +1,19 @@
 -- How a command ended.
 use Rattle.std.specs.Prelude.{◌≡◌, ◌≢◌, ℕ, ◌⊎◌, List, [], Option, Some, None, IfSome, Result, Ok}
-use Rattle.std.specs.Prelude.{Err}
+use Rattle.std.specs.Prelude.{Err, ◌<◌, codes}
 use Rattle.std.specs.Io.KnownBytes.{Appends}
 use Rattle.fax_walk.specs.declared.end.End.{End}
 use Rattle.fax_walk.specs.declared.end.End.TheVariants.{Proper, Fault, Outside}
 use Rattle.fax_walk.specs.declared.options.ConvertFault.{ConvertFault}
 use Rattle.fax_walk.specs.declared.options.ConvertFault.TheVariants.{Memory as NoRoom}
+use Rattle.fax_files.specs.Directory.{max_file}
 use Rattle.fax_tool.specs.declared.refusal.Refusal.{Refusal}
 use Rattle.fax_tool.specs.declared.refusal.Refusal.TheVariants.{Memory, Read, Write}
 use Rattle.fax_tool.specs.declared.words.Command.{Command}
-use Rattle.fax_tool.specs.Text.{Printed, error_text}
+use Rattle.fax_tool.specs.Text.{Printed, fault_line}
 use Rattle.fax_tool.specs.ReportText.{convert_fault_line}
 use Rattle.fax_tool.specs.Run.{Counts, Input, Output, HasFailed, HasReason, HasWorked, IsRead}
-use Rattle.fax_tool.specs.Run.{IsTextAfterMemory, IsTextOf, IsUnread, LeavesText, refusal_line}
+use Rattle.fax_tool.specs.Run.{IsTextAfterMemory, IsTextOf, LeavesText, refusal_line}
 
 -- this is the line of the fault for which a file is not converted
 abbrev pub IsLineOf : ConvertFault → List ℕ → Type 0
@@ -22,8 +23,8 @@ IsLineOf fault line = (fault ≢ NoRoom) × (line ≡ convert_fault_line fault)
 abbrev pub end_line : Option End → Option (List ℕ)
 end_line None = None
 end_line (Some Proper) = None
-end_line (Some (Fault page row cause)) = Some (error_text (Fault page row cause))
-end_line (Some Outside) = Some (error_text Outside)
+end_line (Some (Fault page row cause)) = Some (fault_line page row cause)
+end_line (Some Outside) = Some (codes "fault cursor: CursorOutside\n")
 
 -- what is said of a line, if there is one
 abbrev pub error_of : Option (List ℕ) → List ℕ
@@ -57,6 +58,10 @@ pub record IsStopped (command : Command) (refusal : Refusal) (input : Input)
   pub reason : HasReason refusal input output
   pub leaves : IfSome input.bytes (λ file. LeavesText (IsTextOf command file)
       (IsTextAfterMemory command file) refusal output)
+
+-- the input failed, or is too long
+abbrev pub IsUnread : Input → Type 0
+IsUnread input = HasFailed input.counts ⊎ (max_file < input.taken)
 
 -- reading was refused for this reason
 abbrev pub HasReadReason : Refusal → Input → Type 0

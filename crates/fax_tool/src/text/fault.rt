@@ -1,7 +1,8 @@
 //! The error lines of faults of the input.
 ghost use Rattle.std.specs.Prelude.{◌≡◌, ◌≤◌, IfOk, length};
 ghost use Rattle.fax_tool.specs.Text.{fault_line};
-ghost use Rattle.fax_tool.specs.ReportText.{image_fault_line};
+ghost use Rattle.fax_tool.specs.ReportText.{convert_fault_line};
+ghost use Rattle.fax_walk.specs.declared.options.ConvertFault.TheVariants.{Pbm};
 ghost use Rattle.fax_tool.specs.code.Outcome as Spec;
 
 use crate::text::push_number;
@@ -50,7 +51,7 @@ pub fn row_fault_line(page: u32, row: u32, cause: Cause) -> ErrorLine
 
 /// The line of a fault of an image: `fault image I` and the fault's name.
 fn image_line(image: u64, fault: PbmFault) -> ErrorLine
-    ensures { result ≡ image_fault_line image fault }
+    ensures { result ≡ convert_fault_line (Pbm image fault) }
 {
     let mut text = ArrayString::new();
     text.push_str("fault image");

@@ -13,10 +13,10 @@ printed_of : (command : Command) (file bytes old output output' old_error error 
     → bytes ≡ file → old ≡ [] → old_error ≡ [] → output' ≡ output → error' ≡ error → IsPrinted command file output' error' status
 printed_of command file bytes old output output' old_error error error' taken status counts given said writes is empty empty_error output_is
     error_is =
-    let wrote = writes.text.2 in
-    let text : output' ≡ writes.text.0.output = output_is ∙ (rw empty at wrote.output_is) in
-    let line : error' ≡ writes.text.0.error = error_is ∙ (rw empty_error at wrote.error_is) in
-    rw (text, line, wrote.status_is, ← is) writes.text.1
+    let wrote = writes.1.text in
+    let text : output' ≡ wrote.0.output = output_is ∙ (rw empty at wrote.2) in
+    let line : error' ≡ wrote.0.error = error_is ∙ (rw empty_error at wrote.3.0) in
+    rw (text, line, wrote.3.1, ← is) wrote.1
 
 pub returns : goal.returns
 returns c done =
