@@ -4,7 +4,7 @@ use Rattle.std.specs.Prelude.{IfSome, false}
 use Rattle.std.specs.Str.{bytes_eq}
 use Rattle.std.proofs.lemmas.Slice.Eq.{bytes_eq-Decides}
 use Rattle.fax_tool.specs.Grammar.{Text, Use, read, text_in}
-use Rattle.fax_walk.specs.Cursors.{IsCursor, IsLongCursor, LongPlace}
+use Rattle.fax_walk.specs.Pages.{IsCursor, IsLongCursor, LongPlace}
 use Rattle.fax_walk.specs.declared.options.Options.{Options}
 use Rattle.fax_walk.specs.declared.options.Target.TheVariants.{Mmr, Pbm}
 use Rattle.fax_tool.specs.Job.{AreOptions, BeginsAt, BeginsInside, HasNoCursor, HasNoTarget, IsCommand, IsFault, IsJob, IsNoCursor}

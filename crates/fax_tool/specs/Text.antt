@@ -1,14 +1,14 @@
 -- The text of `rows` and `list`.
 -- A definition without a citation is this project's profile.
 use Rattle.std.specs.Prelude.{ℕ, Bool, true, false, nat_le, if◌then◌else◌, List, [], ◌∷◌, ◌++◌}
-use Rattle.std.specs.Prelude.{flat_map, length, take, Option, Some, None, codes, decimal}
+use Rattle.std.specs.Prelude.{◌+◌, flat_map, length, take, Option, Some, None, codes, decimal}
 use Rattle.fax_rows.specs.Rows.{runs_of}
 use Rattle.fax_files.specs.Page.{Coding, Mh, Mr, Mmr, fill_order_of}
 use Rattle.fax_walk.specs.Pages.{Cause, PageForm, FormItem}
 use Rattle.fax_files.specs.FaultNames.{fault_name, fault_tag}
 use Rattle.fax_walk.specs.declared.end.End.TheVariants.{Proper, Fault, Outside}
-use Rattle.fax_walk.specs.Cursors.{LongPlace, cursor_text, long_cursor_text}
-use Rattle.fax_walk.specs.Rows.{Item, begins_at, cursor_after, long_after}
+use Rattle.fax_walk.specs.Pages.{LongPlace, cursor_text, long_cursor_text}
+use Rattle.fax_walk.specs.Rows.{RowItem, begins_at, cursor_after, long_after}
 pub use Rattle.fax_walk.specs.declared.end.End.{End}
 pub use Rattle.fax_walk.specs.declared.begun.Begun.{Begun}
 pub use Rattle.fax_walk.specs.declared.begun.Begun.TheVariants.{At, Inside}
@@ -27,7 +27,7 @@ row_line_of page row runs =
     codes "row" ++ and_number page ++ and_number row ++ flat_map and_number runs ++ line_end
 
 -- the line of a row
-abbrev pub row_line : Item → List ℕ
+abbrev pub row_line : RowItem → List ℕ
 row_line item = row_line_of item.page item.row (runs_of item.pels)
 
 -- a blank and the name of a coding
@@ -60,7 +60,7 @@ pub record Line : Type 0 where
   pub next : Begun
 
 -- the line of a row of a page of this form
-abbrev pub line_of_row : PageForm → Item → Line
+abbrev pub line_of_row : PageForm → RowItem → Line
 line_of_row form item =
     record { text = row_line item; next = begun_at (long_after form item) (cursor_after item) }
 
