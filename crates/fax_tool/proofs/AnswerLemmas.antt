@@ -5,7 +5,7 @@ use Rattle.std.specs.Str.{bytes_eq}
 use Rattle.std.proofs.lemmas.Slice.Eq.{bytes_eq-Decides}
 use Rattle.fax_tool.specs.Grammar.{AreOfCommand, Text, Use, text_in}
 use Rattle.fax_tool.proofs.SpellLemmas.{command_is_read}
-use Rattle.fax_walk.specs.Cursors.{IsCursor, IsLongCursor, LongPlace}
+use Rattle.fax_walk.specs.Pages.{IsCursor, IsLongCursor, LongPlace}
 use Rattle.fax_walk.specs.declared.options.Options.{Options}
 use Rattle.fax_walk.specs.declared.options.Target.TheVariants.{Mmr, Pbm}
 use Rattle.fax_tool.specs.Job.{AreOptions, BeginsAt, BeginsInside, HasNoCursor, HasNoTarget, IsCommand, IsFault, IsJob, IsNoCursor}

@@ -13,8 +13,8 @@ use Rattle.fax_tool.specs.Text.{Cursor}
 use Rattle.fax_walk.specs.declared.options.Options.{Options}
 use Rattle.fax_walk.specs.declared.options.Target.{Target}
 use Rattle.fax_walk.specs.declared.options.Target.TheVariants.{Mh, Mmr, Mr, Pbm}
-use Rattle.fax_walk.specs.Cursors.{IsCursor, cursor_text, start, IsLongCursor, LongPlace}
-use Rattle.fax_walk.specs.Cursors.{long_cursor_text}
+use Rattle.fax_walk.specs.Pages.{IsCursor, cursor_text, start, IsLongCursor, LongPlace}
+use Rattle.fax_walk.specs.Pages.{long_cursor_text}
 use Rattle.fax_tool.specs.Grammar.{AreOfCommand, AreOfNoCommand, Text, Use, text_in}
 use Rattle.fax_tool.specs.declared.words.Command.{Command}
 use Rattle.fax_tool.specs.declared.words.Command.TheVariants.{Check, Convert, List as Forms, Rows}

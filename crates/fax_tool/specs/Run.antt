@@ -8,7 +8,7 @@ use Rattle.fax_files.specs.Directory.{max_file}
 use Rattle.fax_tool.specs.Text.{Begun, At, Cursor, End, Line, Printed, begun_at, ended_text}
 use Rattle.fax_tool.specs.Text.{line_of_page, line_of_row, text_of}
 use Rattle.fax_walk.specs.Pages.{FilePage, FormItem, IsFormTail, IsPageAt}
-use Rattle.fax_walk.specs.Rows.{Item, IsTailFrom}
+use Rattle.fax_walk.specs.Rows.{RowItem, IsTailFrom}
 use Rattle.fax_tool.specs.declared.refusal.Refusal.{Refusal}
 use Rattle.fax_tool.specs.declared.refusal.Refusal.TheVariants.{Memory, Read, Write}
 use Rattle.fax_tool.specs.declared.words.Command.{Command}
@@ -64,7 +64,7 @@ HasReason Read input output =
 HasReason Write input output = IsRead input × HasFailed output.counts
 
 -- the line of a row of a file: it names what follows the row by the form of the row's page
-abbrev pub IsRowLine : List ℕ → Item → Line → Type 0
+abbrev pub IsRowLine : List ℕ → RowItem → Line → Type 0
 IsRowLine file item line =
     (here : FilePage) × IsPageAt file (record { page = item.page; row = item.row }) (Ok here)
     × (line ≡ line_of_row here.form item)
@@ -72,7 +72,7 @@ IsRowLine file item line =
 -- these lines and this end are what a walk hands out that begins so: the lines of its rows
 pub record AreRowLines (file : List ℕ) (begun : Begun) (lines : List Line)
     (end : End) : Type 0 where
-  pub items : List Item
+  pub items : List RowItem
   pub tail : IsTailFrom file begun items end
   pub lines_are : AllZip (IsRowLine file) items lines
 

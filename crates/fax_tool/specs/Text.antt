@@ -1,15 +1,15 @@
 -- The text of `rows` and `list`.
 -- A definition without a citation is this project's profile.
 use Rattle.std.specs.Prelude.{ℕ, Bool, true, false, nat_le, if◌then◌else◌, List, [], ◌∷◌, ◌++◌}
-use Rattle.std.specs.Prelude.{flat_map, length, take, Option, Some, None, codes, decimal}
+use Rattle.std.specs.Prelude.{◌+◌, flat_map, length, take, Option, Some, None, codes, decimal}
 use Rattle.std.specs.Option.{option_map_or}
 use Rattle.fax_rows.specs.Rows.{runs_of}
 use Rattle.fax_files.specs.Page.{Coding, Mh, Mr, Mmr, fill_order_of}
 use Rattle.fax_walk.specs.Pages.{Cause, PageForm, FormItem}
 use Rattle.fax_files.specs.FaultNames.{fault_name, fault_tag}
 use Rattle.fax_walk.specs.declared.end.End.TheVariants.{Proper, Fault, Outside}
-use Rattle.fax_walk.specs.Cursors.{LongPlace, cursor_text, long_cursor_text}
-use Rattle.fax_walk.specs.Rows.{Item, begins_at, cursor_after, long_after}
+use Rattle.fax_walk.specs.Pages.{LongPlace, cursor_text, long_cursor_text}
+use Rattle.fax_walk.specs.Rows.{RowItem, begins_at, cursor_after, long_after}
 pub use Rattle.fax_walk.specs.declared.end.End.{End}
 pub use Rattle.fax_walk.specs.declared.begun.Begun.{Begun}
 pub use Rattle.fax_walk.specs.declared.begun.Begun.TheVariants.{At, Inside}
@@ -54,7 +54,7 @@ pub record Line : Type 0 where
   pub next : Begun
 
 -- the line of a row of a page of this form
-abbrev pub line_of_row : PageForm → Item → Line
+abbrev pub line_of_row : PageForm → RowItem → Line
 line_of_row form item = record {
   text = row_line_of item.page item.row (runs_of item.pels);
   next = begun_at (long_after form item) (cursor_after item);

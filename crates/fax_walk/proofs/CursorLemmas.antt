@@ -8,7 +8,7 @@ use Rattle.std.proofs.lemmas.Fmt.{digits_decimal}
 use Rattle.std.proofs.lemmas.Str.Parse.{IsNumeralModel, numerals_by_value, tells_digits, not_in_digits}
 use Rattle.std.proofs.lemmas.Str.Pattern.{IsSplitOnceResult, split_after}
 use Rattle.fax_walk.specs.declared.cursor.Cursor.{Cursor}
-use Rattle.fax_walk.specs.Cursors.{cursor_text, IsCursor}
+use Rattle.fax_walk.specs.Pages.{cursor_text, IsCursor}
 
 -- what holds in any case holds where there is an error
 pub held_on_err : {T E : Type 0} (r : Result T E) (P : Type 0) → P → OnErr r P

@@ -11,16 +11,16 @@ use Rattle.fax_walk.specs.declared.cursor.Cursor.{Cursor}
 use Rattle.fax_walk.specs.declared.end.End.{End}
 use Rattle.fax_walk.specs.declared.opening.OpenFault.{OpenFault}
 use Rattle.fax_walk.specs.declared.opening.OpenFault.TheVariants.{Memory, Ended}
-use Rattle.fax_walk.specs.Cursors.{LongPlace}
+use Rattle.fax_walk.specs.Pages.{LongPlace}
 use Rattle.fax_walk.specs.views.Walk.{EndsBefore}
-use Rattle.fax_walk.specs.Rows.{IsInnerOn, IsRow, Item, Place, begins_at, first_at, inner_at}
+use Rattle.fax_walk.specs.Rows.{IsInnerOn, IsRow, RowItem, RowPlace, begins_at, first_at, inner_at}
 use Rattle.fax_walk.specs.code.Places.{row_in_strip, strip_at}
 use Rattle.fax_walk.specs.code.Places.{Begins}
 use Rattle.fax_walk.specs.code.Opening.{EndsAt, IsFilePage, IsNamed, PageDue, page_with}
 use Rattle.fax_walk.specs.code.Stages.{IsNoInner, IsNoStrip, IsOpenedAt, IsRefusal, PageState}
 use Rattle.fax_walk.specs.code.Walk.{HasNoRows, IsOpenedFirst}
 
-none_dropped : (n : ℕ) → drop n (let items : List Item = [] in items) ≡ []
+none_dropped : (n : ℕ) → drop n (let items : List RowItem = [] in items) ≡ []
 none_dropped zero = refl
 none_dropped (suc n) = refl
 
@@ -32,7 +32,7 @@ no_beginning file begun end begins = record {
 }
 
 -- a walk whose first place has no row
-no_row : (file : List ℕ) (begun : Begun) (end : End) (at : Place) (n : ℕ) → Begins file begun (Ok (at, n)) → IsRow file at (Err end)
+no_row : (file : List ℕ) (begun : Begun) (end : End) (at : RowPlace) (n : ℕ) → Begins file begun (Ok (at, n)) → IsRow file at (Err end)
     → (n ≡ 0) ⊎ EndsBefore end (begins_at begun) → HasNoRows file begun end
 no_row file begun end at n begins stop before = record {
   tail = (Ok (at, n), begins, ([], stop, sym (none_dropped n)));
@@ -60,7 +60,7 @@ module _ (file : List ℕ) (at : Cursor) where
   no_page end ends = no_beginning file (At at) end (ends_at end ends)
 
   module _ (due : PageDue) (named : IsNamed file at (Some due)) where
-    abbrev here : ℕ → Place
+    abbrev here : ℕ → RowPlace
     here r = first_at due.page (strip_at due.form r * due.form.rows_per_strip)
 
     begins_on : at.row < due.form.rows → Begins file (At at) (Ok (here at.row, row_in_strip due.form at.row))

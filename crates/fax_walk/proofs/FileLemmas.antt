@@ -25,7 +25,7 @@ use Rattle.fax_walk.specs.declared.options.Options.{Options}
 use Rattle.fax_walk.specs.declared.options.ConvertFault.{ConvertFault}
 use Rattle.fax_walk.specs.declared.options.ConvertFault.TheVariants.{OutputTooLarge, Memory}
 use Rattle.fax_walk.specs.declared.output.Output.{Output}
-use Rattle.fax_walk.specs.Cursors.{start}
+use Rattle.fax_walk.specs.Pages.{start}
 use Rattle.fax_walk.specs.laws.InOrder.{LeadTo}
 use Rattle.fax_walk.specs.views.InOrder.{EndsAfter}
 use Rattle.fax_walk.specs.Pages.{FormItem, FilePage, IsPageAt, IsForm}
@@ -36,7 +36,7 @@ use Rattle.fax_walk.specs.code.Opening.{page_or_end, end_past_chain}
 use Rattle.fax_walk.specs.Converted.{IsTiff, IsTooLarge, target_bytes}
 use Rattle.fax_walk.specs.Converted.{IsConverted, IsNotConverted, IsSource, SourcePage}
 use Rattle.fax_walk.specs.Converted.{pages_of}
-use Rattle.fax_walk.specs.Rows.{Item, Place, first_at, IsRow}
+use Rattle.fax_walk.specs.Rows.{RowItem, RowPlace, first_at, IsRow}
 use Rattle.fax_walk.specs.laws.Tails.{AreForms, AreItems, FilesHaveOneForms, FormTailOfStart}
 use Rattle.fax_walk.specs.views.Pages.{PagesView, HandsOutPage, PagesHaveEnded, IsNextPage, pages_start}
 use Rattle.fax_walk.specs.views.Walk.{WalkView, walk_start}
@@ -103,14 +103,14 @@ no_stop false true end proper is = absurd cc
 no_stop false false end proper is = absurd cc
 
 -- a whole page more
-pub pages_grow : (forms : List FormItem) (items : List Item) (pages : List SourcePage) (one : FormItem) (own : List Item)
+pub pages_grow : (forms : List FormItem) (items : List RowItem) (pages : List SourcePage) (one : FormItem) (own : List RowItem)
     → AreWholePages forms items pages → length own ≡ one.form.rows
     → AreWholePages (forms ++ one ∷ []) (items ++ own) (pages ++ page_of_form one.form (map (λ item. item.pels) own) ∷ [])
 pages_grow [] items pages one own whole count = (
   own,
   [],
   [],
-  ap (λ (l : List Item). l ++ own) whole.0 ∙ sym (append-nil own),
+  ap (λ (l : List RowItem). l ++ own) whole.0 ∙ sym (append-nil own),
   count,
   ap (λ (l : List SourcePage). l ++ page_of_form one.form (map (λ item. item.pels) own) ∷ []) whole.1,
   (refl, refl),
@@ -119,27 +119,27 @@ pages_grow (form ∷ forms) items pages one own (first, others, later, items_are
   first,
   others ++ own,
   later ++ page_of_form one.form (map (λ item. item.pels) own) ∷ [],
-  ap (λ (l : List Item). l ++ own) items_are ∙ append_assoc first others own,
+  ap (λ (l : List RowItem). l ++ own) items_are ∙ append_assoc first others own,
   all,
   ap (λ (l : List SourcePage). l ++ page_of_form one.form (map (λ item. item.pels) own) ∷ []) pages_are,
   pages_grow forms others later one own rest count,
 )
 
-pub pages_count : (forms : List FormItem) (items : List Item) (pages : List SourcePage) → AreWholePages forms items pages
+pub pages_count : (forms : List FormItem) (items : List RowItem) (pages : List SourcePage) → AreWholePages forms items pages
     → length pages ≡ length forms
 pages_count [] items pages whole = ap length whole.1
 pages_count (one ∷ forms) items pages (own, others, later, items_are, count, pages_are, rest) =
     ap length pages_are ∙ ap suc (pages_count forms others later rest)
 
 -- whole pages are the pages of their forms and items
-pub pages_are : (forms : List FormItem) (items : List Item) (pages : List SourcePage) → AreWholePages forms items pages
+pub pages_are : (forms : List FormItem) (items : List RowItem) (pages : List SourcePage) → AreWholePages forms items pages
     → pages ≡ pages_of forms items
 pages_are [] items pages whole = whole.1
 pages_are (one ∷ forms) items pages (own, others, later, items_are, count, is, rest) =
     let first : take one.form.rows items ≡ own = ap (take one.form.rows) items_are ∙ take_at own others one.form.rows count in
     let second : drop one.form.rows items ≡ others = ap (drop one.form.rows) items_are ∙ drop_at own others one.form.rows count in
     is
-    ∙ ap (λ (l : List Item). page_of_form one.form (map (λ item. item.pels) l) ∷ later) (sym first)
+    ∙ ap (λ (l : List RowItem). page_of_form one.form (map (λ item. item.pels) l) ∷ later) (sym first)
     ∙ ap (λ (l : List SourcePage). page_of_form one.form (map (λ item. item.pels) (take one.form.rows items)) ∷ l)
     (pages_are forms others later rest ∙ ap (pages_of forms) (sym second))
 
@@ -372,8 +372,8 @@ module _ (laws : SourceLaws) (file : List ℕ) (options : Options) (total count 
         let from_there : LeadTo (IsRow file) before_page.at own before_page.page.to =
         subst (λ (f : List ℕ). LeadTo (IsRow f) before_page.at own before_page.page.to) so_far.walk_from.0 before_page.page.lead in
         let own_lead : LeadTo (IsRow file) (first_at pages.given 0) own (first_at (pages.given + 1) 0) =
-        subst (λ (a : Place). LeadTo (IsRow file) a own (first_at (pages.given + 1) 0)) its_ends.0
-        (subst (λ (a : Place). LeadTo (IsRow file) before_page.at own a) last from_there) in
+        subst (λ (a : RowPlace). LeadTo (IsRow file) a own (first_at (pages.given + 1) 0)) its_ends.0
+        (subst (λ (a : RowPlace). LeadTo (IsRow file) before_page.at own a) last from_there) in
         record {
           forms = so_far.forms ++ item ∷ [];
           lead_forms =

@@ -6,14 +6,14 @@ use Rattle.fax_walk.specs.declared.begun.Begun.{Begun}
 use Rattle.fax_walk.specs.declared.begun.Begun.TheVariants.{At, Inside}
 use Rattle.fax_walk.specs.declared.cursor.Cursor.{Cursor}
 use Rattle.fax_walk.specs.declared.end.End.{End}
-use Rattle.fax_walk.specs.Cursors.{LongPlace}
+use Rattle.fax_walk.specs.Pages.{LongPlace}
 use Rattle.fax_walk.specs.laws.InOrder.{IsTold, IsLeftOf}
 use Rattle.fax_bits.specs.laws.Codes.{IsOne}
 use Rattle.fax_walk.specs.views.InOrder.{IsNumber, EndsAfter, HasToldNoOther}
 use Rattle.fax_walk.specs.views.Pages.{PagesView}
 use Rattle.fax_walk.specs.laws.Forms.{AreFormsLeft}
 use Rattle.fax_walk.specs.views.Pages as OfPages
-use Rattle.fax_walk.specs.Rows.{Item, IsTailFrom, cursor_after}
+use Rattle.fax_walk.specs.Rows.{RowItem, IsTailFrom, cursor_after}
 use Rattle.fax_walk.specs.views.Walk.{IsTailOf, begins_inside}
 use Rattle.fax_walk.specs.laws.Tails.{BeginningsHaveOneTail, CursorsHaveOneFormTail, FormsLeftGoOn, FormsLeftEnd, TailsGoOn, LongTailsGoOn}
 use Rattle.fax_walk.specs.laws.Tails.{LeftIsNumber, LeftIsOne, LeftGoesOn, LeftEnds, LeftIsTail, LeftIsLongTail}
@@ -94,7 +94,7 @@ pub left_is_number : LeftIsNumber
 left_is_number walk item items end left =
     let none : walk.given + 0 ≡ walk.given = omega arith in
     let there : slice_get left.all (walk.given + 0) ≡ Some item =
-    sym (get_dropped walk.given 0 left.all) ∙ ap (λ (l : List Item). slice_get l 0) (sym left.rest) in
+    sym (get_dropped walk.given 0 left.all) ∙ ap (λ (l : List RowItem). slice_get l 0) (sym left.rest) in
     (left.all, end, left.is, rw none at there)
 
 module _ (tails : BeginningsHaveOneTail) where
@@ -120,9 +120,9 @@ module _ (tails : BeginningsHaveOneTail) where
       let tail = go_on walk.file walk.begun left.all end before item reached left.is there in
       let rest : drop (before + 1) left.all ≡ items = ap (λ (n : ℕ). drop n left.all) (sym count) ∙ sym left.rest in
       subst (λ (c : Cursor). IsTailFrom walk.file (At c) items end) (sym at_is)
-      (subst (λ (l : List Item). IsTailFrom walk.file (At (cursor_after item)) l end) rest tail)
+      (subst (λ (l : List RowItem). IsTailFrom walk.file (At (cursor_after item)) l end) rest tail)
 
-  from_inside : (file : List ℕ) (begun : Begun) (place : LongPlace) (items : List Item) (end : End) → Some place ≡ begins_inside begun
+  from_inside : (file : List ℕ) (begun : Begun) (place : LongPlace) (items : List RowItem) (end : End) → Some place ≡ begins_inside begun
       → IsTailFrom file begun items end → IsTailFrom file (Inside place) items end
   from_inside file (At at) place items end e tail = absurd cc
   from_inside file (Inside other) place items end e tail =
@@ -132,10 +132,10 @@ module _ (tails : BeginningsHaveOneTail) where
   pub left_is_long_tail : LongTailsGoOn → LeftIsLongTail
   left_is_long_tail go_on walk items end place left (inl (none, place_is)) =
       let all : left.all ≡ items = sym (left.rest ∙ ap (λ (n : ℕ). drop n left.all) none) in
-      from_inside walk.file walk.begun place items end place_is (subst (λ (l : List Item). IsTailFrom walk.file walk.begun l end) all
+      from_inside walk.file walk.begun place items end place_is (subst (λ (l : List RowItem). IsTailFrom walk.file walk.begun l end) all
       left.is)
   left_is_long_tail go_on walk items end place left (inr (before, item, here, count, number, page, place_is)) =
       let there = number_in (IsTailOf walk) (tails walk.file walk.begun) left.all end before item left.is number in
       let tail = go_on walk.file walk.begun left.all end before item here place left.is there page (sym place_is) in
       let rest : drop (before + 1) left.all ≡ items = ap (λ (n : ℕ). drop n left.all) (sym count) ∙ sym left.rest in
-      subst (λ (l : List Item). IsTailFrom walk.file (Inside place) l end) rest tail
+      subst (λ (l : List RowItem). IsTailFrom walk.file (Inside place) l end) rest tail

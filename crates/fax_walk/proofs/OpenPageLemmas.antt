@@ -26,8 +26,8 @@ use Rattle.fax_walk.specs.declared.end.End.{End}
 use Rattle.fax_walk.specs.declared.end.End.TheVariants.{Fault, Outside}
 use Rattle.fax_walk.specs.declared.opening.OpenFault.{OpenFault}
 use Rattle.fax_walk.specs.declared.opening.OpenFault.TheVariants.{Memory, Ended}
-use Rattle.fax_walk.specs.Cursors.{LongPlace}
-use Rattle.fax_walk.specs.Rows.{Inner, Item, Place, IsRow, before, exchanged, first_at}
+use Rattle.fax_walk.specs.Pages.{LongPlace}
+use Rattle.fax_walk.specs.Rows.{Inner, RowItem, RowPlace, IsRow, before, exchanged, first_at}
 use Rattle.fax_walk.specs.Rows.{place_after, IsInnerOn, inner_at}
 use Rattle.fax_walk.specs.code.Places.{IsInner, long_at}
 use Rattle.fax_walk.specs.code.Places.{row_in_strip, strip_at}
@@ -135,7 +135,7 @@ module _ (page : PageState) (limits : IsPageForm page.form) (strip_is : IsStripO
       module _ (strip : StripState) (pels : List Colour) (reads : ReadsRow page.strip strip)
           (pels_are : pels ≡ exchanged page.form strip.reference)
           (within : strip.place ≤ 8 * length strip.bytes) where
-        abbrev item : Item
+        abbrev item : RowItem
         item = record { page = page.page; row = row_of page; pels = pels; bits = strip.place }
 
         twice : exchanged page.form pels ≡ strip.reference
@@ -259,19 +259,19 @@ module _ (old page : PageState) (keeps : KeepsPlace old page) where
       let new : PageState = record page { strip = strip; shown = shown; read = page.read + 1 } in
       let due = reads.due in
       let same = keeps.same in
-      let item : Item = record { page = page.page; row = row_of page; pels = shown; bits = strip.place } in
-      let its_item : Item = item_of old (row_of old) new in
+      let item : RowItem = record { page = page.page; row = row_of page; pels = shown; bits = strip.place } in
+      let its_item : RowItem = item_of old (row_of old) new in
       let item_is : item ≡ its_item = rw (same.page, keeps.row) refl in
       let step = row_read page limits strip_is due its strip shown reads shown_is within in
       let after = place_next page limits strip_is due its strip shown reads shown_is within in
       let read : IsRow page.directory.file (place_of page) (Ok (its_item, place_of new)) =
-      subst (λ (i : Item). IsRow page.directory.file (place_of page) (Ok (i, place_of new))) item_is
-      (subst (λ (t : Place). IsRow page.directory.file (place_of page) (Ok (item, t))) (sym after) step) in
+      subst (λ (i : RowItem). IsRow page.directory.file (place_of page) (Ok (i, place_of new))) item_is
+      (subst (λ (t : RowPlace). IsRow page.directory.file (place_of page) (Ok (item, t))) (sym after) step) in
       record {
         same = record { page = same.page; form = same.form; first = same.first; directory = same.directory };
         still_open = record { no_fault = reads.still_no_fault; first = rw (same.first, same.form) is_open.first };
         step = subst (λ (d : TiffDirectory). IsRow d.file (place_of old) (Ok (its_item, place_of new))) same.directory
-            (subst (λ (t : Place). IsRow page.directory.file t (Ok (its_item, place_of new))) keeps.place read);
+            (subst (λ (t : RowPlace). IsRow page.directory.file t (Ok (its_item, place_of new))) keeps.place read);
         next_row = omega (arith, reads.next_row, keeps.row);
         one_more = omega (arith, keeps.read);
         after = after ∙ ap (λ (f : PageForm). place_after f item) same.form ∙ ap (place_after old.form) item_is;
@@ -301,8 +301,8 @@ none_skipped page = record {
   few = omega arith;
 }
 
-module _ (old now new : PageState) (items : List Item) (skips : HasSkipped old now items) (reads : ReadsPageRow now new) where
-  abbrev its_item : Item
+module _ (old now new : PageState) (items : List RowItem) (skips : HasSkipped old now items) (reads : ReadsPageRow now new) where
+  abbrev its_item : RowItem
   its_item = item_of now (row_of now) new
 
   same_on : IsSamePage old new
@@ -423,7 +423,7 @@ pub refused_after : (file : List ℕ) (due : PageDue) (p : ℕ) (result : Result
 refused_after file due p (Ok page) page_is file_is refused = refused
 refused_after file due p (Err Memory) page_is file_is refused = tt
 refused_after file due p (Err (Ended end)) page_is file_is refused =
-    rw file_is at (subst (λ (t : Place). IsRow due.directory.file t (Err end)) (page_first due p page_is) refused.stop)
+    rw file_is at (subst (λ (t : RowPlace). IsRow due.directory.file t (Err end)) (page_first due p page_is) refused.stop)
 
 -- runs that are those of a row are a place's
 pub inner_is : (width : ℕ) (bytes : List ℕ) (place : LongPlace) (reference : List Colour) → place.bits ≤ 8 * length bytes

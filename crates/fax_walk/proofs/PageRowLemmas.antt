@@ -14,7 +14,7 @@ use Rattle.fax_files.specs.Page.{strip_form}
 use Rattle.fax_files.specs.laws.Files.{IsWholeForm}
 use Rattle.fax_walk.specs.laws.InOrder.{LeadTo}
 use Rattle.fax_walk.specs.Pages.{IsPageAt}
-use Rattle.fax_walk.specs.Rows.{Place, first_at, IsRow}
+use Rattle.fax_walk.specs.Rows.{RowPlace, first_at, IsRow}
 use Rattle.fax_walk.specs.laws.Written.{WalkedRow, walked, numbered}
 use Rattle.fax_walk.proofs.InOrderLemmas.{leads_both}
 use Rattle.fax_walk.proofs.StripPlaceLemmas.{shown_length, strip_count}
@@ -40,7 +40,7 @@ numbered_both p r (row ∷ rows) more =
     rw n (ap (λ (l : List WalkedRow). record { page = p; row = r; pels = row } ∷ l) (numbered_both p (r + 1) rows more))
 
 -- rows that lead to a place of the page, and those after them
-read_both : (file : List ℕ) (at middle : Place) (r : ℕ) (rows more : List (List Colour)) (reached : Place → Type 0)
+read_both : (file : List ℕ) (at middle : RowPlace) (r : ℕ) (rows more : List (List Colour)) (reached : RowPlace → Type 0)
     → middle.page ≡ at.page → AreRead file at r rows (λ to. to ≡ middle) → AreRead file middle (r + length rows) more reached
     → AreRead file at r (rows ++ more) reached
 read_both file at middle r rows more reached same_page first second = record {
@@ -53,7 +53,7 @@ read_both file at middle r rows more reached same_page first second = record {
   to = second.to;
   lead =
       leads_both (IsRow file) at middle first.items second.items second.to
-      (subst (λ (a : Place). LeadTo (IsRow file) at first.items a) first.there first.lead) second.lead;
+      (subst (λ (a : RowPlace). LeadTo (IsRow file) at first.items a) first.there first.lead) second.lead;
   there = second.there;
 }
 

@@ -25,9 +25,9 @@ use Rattle.fax_walk.specs.declared.begun.Begun.{Begun}
 use Rattle.fax_walk.specs.declared.begun.Begun.TheVariants.{At, Inside}
 use Rattle.fax_walk.specs.declared.end.End.{End}
 use Rattle.fax_walk.specs.declared.end.End.TheVariants.{Fault, Outside}
-use Rattle.fax_walk.specs.Cursors.{LongPlace}
+use Rattle.fax_walk.specs.Pages.{LongPlace}
 use Rattle.fax_walk.specs.Pages.{AreBegun, FilePage, IsPageAt}
-use Rattle.fax_walk.specs.Rows.{Item, Inner, Place, first_at, exchanged}
+use Rattle.fax_walk.specs.Rows.{RowItem, Inner, RowPlace, first_at, exchanged}
 use Rattle.fax_walk.specs.code.Places.{strip_at, row_in_strip}
 use Rattle.fax_walk.specs.Rows.{before, place_after, IsInStrip, IsRow}
 use Rattle.fax_walk.specs.code.Places.{IsItem}
@@ -56,7 +56,7 @@ by_exchange false row = refl
 pub exchanged_twice : (form : PageForm) (row : List Colour) → exchanged form (exchanged form row) ≡ row
 exchanged_twice form row = by_exchange form.exchanged row
 
-same_items : (item another : Item) → item.page ≡ another.page → item.row ≡ another.row → item.pels ≡ another.pels → item.bits ≡ another.bits
+same_items : (item another : RowItem) → item.page ≡ another.page → item.row ≡ another.row → item.pels ≡ another.pels → item.bits ≡ another.bits
     → item ≡ another
 same_items item another pages rows pels bits =
     ap (λ (p : ℕ). record item { page = p }) pages ∙ ap (λ (r : ℕ). record item { page = another.page; row = r }) rows
@@ -72,7 +72,7 @@ one_place by_place order bytes n m within within' same =
     omega (arith, left, length-drop n all, length-drop m all, by_place.count order bytes, within, within')
 
 module _ (by_place : AreBitsByPlace) (lines_read : LinesAreRead) where
-  module _ (form : PageForm) (at : Place) (bytes : List ℕ) where
+  module _ (form : PageForm) (at : RowPlace) (bytes : List ℕ) where
     abbrev strip : StripForm
     strip = strip_form form (strip_at form at.row)
 
@@ -88,7 +88,7 @@ module _ (by_place : AreBitsByPlace) (lines_read : LinesAreRead) where
     abbrev b : List Bool
     b = drop (before form.width at.inner).bits all
 
-    one_item : (item another : Item) → IsItem form bytes at item → IsItem form bytes at another → another ≡ item
+    one_item : (item another : RowItem) → IsItem form bytes at item → IsItem form bytes at another → another ≡ item
     one_item item another is is_too =
         let same =
         (lines_read strip i reference).one_answer b (exchanged form another.pels) (exchanged form item.pels) _ _ is_too.3 is.3 in
@@ -102,12 +102,12 @@ module _ (by_place : AreBitsByPlace) (lines_read : LinesAreRead) where
         → IsOneAnswer (IsInStrip form at (Some bytes))
     by_line (inl (row, rest, line)) =
         let from = rest_at strip i reference all (before form.width at.inner).bits row rest line in
-        let item : Item = record { page = at.page; row = at.row; pels = exchanged form row; bits = from.0 } in
+        let item : RowItem = record { page = at.page; row = at.row; pels = exchanged form row; bits = from.0 } in
         let is : IsItem form bytes at item =
         (refl, refl, omega (arith, from.1, by_place.count form.order bytes), rw (from.2, exchanged_twice form row) line) in
         record { it = Ok (item, place_after form item); is = (is.0, is.1, is.2, is.3, refl); one = only_item item is }
       where
-        only_item : (item : Item) → IsItem form bytes at item → (other : Result (Item × Place) End) → IsInStrip form at (Some bytes) other
+        only_item : (item : RowItem) → IsItem form bytes at item → (other : Result (RowItem × RowPlace) End) → IsInStrip form at (Some bytes) other
             → other ≡ Ok (item, place_after form item)
         only_item item is (Err end) (fault, stop, end_is) =
             absurd ((lines_read strip i reference).answer_has_no_fault b _ _ fault is.3 stop)
@@ -117,7 +117,7 @@ module _ (by_place : AreBitsByPlace) (lines_read : LinesAreRead) where
     by_line (inr (fault, stop)) =
         record { it = Err (Fault at.page at.row (Strip fault)); is = (fault, stop, refl); one = only_stop }
       where
-        only_stop : (other : Result (Item × Place) End) → IsInStrip form at (Some bytes) other
+        only_stop : (other : Result (RowItem × RowPlace) End) → IsInStrip form at (Some bytes) other
             → other ≡ Err (Fault at.page at.row (Strip fault))
         only_stop (Err end) (another, stop_too, end_is) =
             let same = (lines_read strip i reference).one_fault b another fault stop_too stop in
@@ -128,7 +128,7 @@ module _ (by_place : AreBitsByPlace) (lines_read : LinesAreRead) where
     in_bytes : IsOneAnswer (IsInStrip form at (Some bytes))
     in_bytes = by_line ((lines_read strip i reference).answer_or_fault b)
 
-  pub one_in_strip : (form : PageForm) (at : Place) (found : Option (List ℕ)) → IsOneAnswer (IsInStrip form at found)
+  pub one_in_strip : (form : PageForm) (at : RowPlace) (found : Option (List ℕ)) → IsOneAnswer (IsInStrip form at found)
   one_in_strip form at None =
       record {
         it = Err (Fault at.page (strip_at form at.row * form.rows_per_strip) (File StripOutside));
@@ -139,23 +139,23 @@ module _ (by_place : AreBitsByPlace) (lines_read : LinesAreRead) where
   one_in_strip form at (Some bytes) = let only = in_bytes form at bytes in record { it = only.it; is = only.is; one = only.one }
 
   module _ (chains : FilesHaveOneChain) (file : List ℕ) where
-    pub one_row : (at : Place) → IsOneAnswer (IsRow file at)
+    pub one_row : (at : RowPlace) → IsOneAnswer (IsRow file at)
     one_row at = one_on_page chains file (cursor_at at) _ (λ here. one_in_strip here.form at
         (strip_bytes here.endian file here.offset (strip_at here.form at.row)))
 
 -- what the row at a place is, and what is after it
-pub step_of : (form : PageForm) (at : Place) (found : Option (List ℕ)) (item : Item) (to : Place) → IsInStrip form at found (Ok (item, to))
+pub step_of : (form : PageForm) (at : RowPlace) (found : Option (List ℕ)) (item : RowItem) (to : RowPlace) → IsInStrip form at found (Ok (item, to))
     → (item.page ≡ at.page) × (item.row ≡ at.row) × (to ≡ place_after form item)
 step_of form at None item to is = absurd cc
 step_of form at (Some bytes) item to is = (is.0, is.1, is.4)
 
 -- the place inside its strip after an item
-abbrev pub inner_after : PageForm → Item → Place
+abbrev pub inner_after : PageForm → RowItem → RowPlace
 inner_after form item =
     record { page = item.page; row = item.row + 1; inner = Some (record { bits = item.bits; reference = exchanged form item.pels }) }
 
 -- after an item: on the page after, at the page's next strip, or inside its strip
-pub cases_after : (form : PageForm) (item : Item)
+pub cases_after : (form : PageForm) (item : RowItem)
     → ((form.rows ≤ item.row + 1) × (place_after form item ≡ first_at (item.page + 1) 0))
     ⊎ ((item.row + 1 < form.rows) × (row_in_strip form (item.row + 1) ≡ 0) × (place_after form item ≡ first_at item.page (item.row + 1)))
     ⊎ ((item.row + 1 < form.rows) × (0 < row_in_strip form (item.row + 1)) × (place_after form item ≡ inner_after form item))
@@ -178,15 +178,15 @@ cases_after form item = elim (cases_lt (item.row + 1) form.rows) [
 
 module _ (by_place : AreBitsByPlace) (lines_read : LinesAreRead) (file : List ℕ) (head : Header) (is_head : header file ≡ Ok head)
     (offsets : List ℕ) (fault : Option FileFault) (chain : IsChain head file offsets fault) where
-  abbrev Listed : Place → Type 0
+  abbrev Listed : RowPlace → Type 0
   Listed at = IsListed (IsRow file) at
 
-  abbrev in_strip : ℕ → PageForm → Place → Result (Item × Place) End → Type 0
+  abbrev in_strip : ℕ → PageForm → RowPlace → Result (RowItem × RowPlace) End → Type 0
   in_strip q form at = IsInStrip form at (strip_bytes head.endian file q (strip_at form at.row))
 
-  module _ (q : ℕ) (form : PageForm) (at : Place) (here : IsPageAt file (cursor_at at)
+  module _ (q : ℕ) (form : PageForm) (at : RowPlace) (here : IsPageAt file (cursor_at at)
       (Ok (record { endian = head.endian; offset = q; form = form }))) where
-    row_after : (item : Item) → item.page ≡ at.page → item.row ≡ at.row
+    row_after : (item : RowItem) → item.page ≡ at.page → item.row ≡ at.row
         → ((inner : Option Inner) → at.row + 1 < form.rows → Listed (record { page = at.page; row = at.row + 1; inner = inner }))
         → Listed (first_at (at.page + 1) 0) → Listed (place_after form item)
     row_after item same_page same_row next more = elim (cases_after form item) [
@@ -197,7 +197,7 @@ module _ (by_place : AreBitsByPlace) (lines_read : LinesAreRead) (file : List �
           (omega (arith, less, same_row)))
     ]
 
-    listed_row : (answer : Result (Item × Place) End) → in_strip q form at answer
+    listed_row : (answer : Result (RowItem × RowPlace) End) → in_strip q form at answer
         → ((inner : Option Inner) → at.row + 1 < form.rows → Listed (record { page = at.page; row = at.row + 1; inner = inner }))
         → Listed (first_at (at.page + 1) 0) → Listed at
     listed_row (Err end) is next more = record { items = []; end = end; is = inr (_, here, is) }
@@ -206,7 +206,7 @@ module _ (by_place : AreBitsByPlace) (lines_read : LinesAreRead) (file : List �
         let rest : Listed to = rw step.2 (row_after item step.0 step.1 next more) in
         record { items = item ∷ rest.items; end = rest.end; is = (to, inr (_, here, is), rest.is) }
 
-  rows_on : (fuel q : ℕ) (form : PageForm) (later : List ℕ) (at : Place) → drop at.page offsets ≡ q ∷ later
+  rows_on : (fuel q : ℕ) (form : PageForm) (later : List ℕ) (at : RowPlace) → drop at.page offsets ≡ q ∷ later
       → page head.endian file q ≡ Ok form
       → form.rows ≤ at.row + fuel → Listed (first_at (at.page + 1) 0) → Listed at
   rows_on zero q form later at e is enough more =
@@ -220,7 +220,7 @@ module _ (by_place : AreBitsByPlace) (lines_read : LinesAreRead) (file : List �
       (λ inner less. rows_on fuel q form later (record { page = at.page; row = at.row + 1; inner = inner }) e is (omega (arith, enough))
       more) more
 
-  on_page : (q : ℕ) (later : List ℕ) (at : Place) → drop at.page offsets ≡ q ∷ later → (answer : Result PageForm FileFault)
+  on_page : (q : ℕ) (later : List ℕ) (at : RowPlace) → drop at.page offsets ≡ q ∷ later → (answer : Result PageForm FileFault)
       → page head.endian file q ≡ answer
       → Listed (first_at (at.page + 1) 0) → Listed at
   on_page q later at e (Err refused) is more =
@@ -229,7 +229,7 @@ module _ (by_place : AreBitsByPlace) (lines_read : LinesAreRead) (file : List �
   on_page q later at e (Ok form) is more = rows_on form.rows q form later at e is (omega arith) more
 
   -- from each place on there are items, up to an end
-  pub rows_from : (later : List ℕ) (at : Place) → drop at.page offsets ≡ later → Listed at
+  pub rows_from : (later : List ℕ) (at : RowPlace) → drop at.page offsets ≡ later → Listed at
   rows_from [] at e = record { items = []; end = _; is = inl (_, no_page file head is_head offsets fault chain (cursor_at at) e, refl) }
   rows_from (q ∷ later) at e =
       on_page q later at e (page head.endian file q) refl (rows_from later (first_at (at.page + 1) 0)
@@ -286,12 +286,12 @@ module _ (file : List ℕ) (here : FilePage) where
       → IsOneAnswer (BeginsOn file (Inside place) here)
   by_inner place (inl is) = record { it = Ok (inner_at place, 0); is = inl (is, refl); one = only }
     where
-      only : (other : Result (Place × ℕ) End) → BeginsOn file (Inside place) here other → other ≡ Ok (inner_at place, 0)
+      only : (other : Result (RowPlace × ℕ) End) → BeginsOn file (Inside place) here other → other ≡ Ok (inner_at place, 0)
       only other (inl (is_too, e)) = e
       only other (inr (not, e)) = absurd (not is)
   by_inner place (inr not) = record { it = Err Outside; is = inr (not, refl); one = only }
     where
-      only : (other : Result (Place × ℕ) End) → BeginsOn file (Inside place) here other → other ≡ Err Outside
+      only : (other : Result (RowPlace × ℕ) End) → BeginsOn file (Inside place) here other → other ≡ Err Outside
       only other (inl (is, e)) = absurd (not is)
       only other (inr (not_too, e)) = e
 
@@ -300,7 +300,7 @@ module _ (file : List ℕ) (here : FilePage) where
   one_beginning (Inside place) = let only = by_inner place (inner_or_not place) in record { it = only.it; is = only.is; one = only.one }
 
 module _ (by_place : AreBitsByPlace) (lines_read : LinesAreRead) (chains : FilesHaveOneChain) (file : List ℕ) where
-  pub rows_listed : (at : Place) (answer : Result Header FileFault) → header file ≡ answer → IsListed (IsRow file) at
+  pub rows_listed : (at : RowPlace) (answer : Result Header FileFault) → header file ≡ answer → IsListed (IsRow file) at
   rows_listed at (Err fault) e = record { items = []; end = Fault 0 0 (File fault); is = (inl (Fault 0 0 (File fault), rw (e, IsPageAt) refl, refl)) }
   rows_listed at (Ok head) e =
       let chain = chains head file in
@@ -316,5 +316,5 @@ one_tail_from by_place lines_read chains file begun =
       end = all.end;
       is = (begin.it, begin.is, all.is);
       one = λ others other is.
-          all.one others other (subst (λ (b : Result (Place × ℕ) End). AreBegun (IsRow file) b others other) (begin.one is.0 is.1) is.2);
+          all.one others other (subst (λ (b : Result (RowPlace × ℕ) End). AreBegun (IsRow file) b others other) (begin.one is.0 is.1) is.2);
     }

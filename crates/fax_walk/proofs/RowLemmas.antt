@@ -14,15 +14,15 @@ use Rattle.fax_walk.specs.declared.options.ConvertFault.{ConvertFault}
 use Rattle.fax_walk.specs.declared.options.ConvertFault.TheVariants.{Memory}
 use Rattle.fax_walk.specs.declared.end.WalkFault.{WalkFault}
 use Rattle.fax_walk.specs.declared.end.WalkFault.TheVariants.{Memory as NoMemory, AtRow, CursorOutside}
-use Rattle.fax_walk.specs.declared.walk.Place.{Place as RowPlace}
+use Rattle.fax_walk.specs.declared.walk.Place.{Place}
 use Rattle.fax_walk.specs.declared.output.Output.{Output}
 use Rattle.fax_walk.specs.declared.sheet.Sheet.{Sheet}
-use Rattle.fax_walk.specs.Cursors.{start}
+use Rattle.fax_walk.specs.Pages.{start}
 use Rattle.fax_walk.specs.views.InOrder.{EndsAfter}
 use Rattle.fax_walk.specs.laws.InOrder.{LeadTo}
 use Rattle.fax_walk.specs.views.Walk.{IsItemNumber}
 use Rattle.fax_walk.specs.laws.Tails.{TailOfStart}
-use Rattle.fax_walk.specs.Rows.{Item, Place, first_at, IsRow, IsTailFrom}
+use Rattle.fax_walk.specs.Rows.{RowItem, RowPlace, first_at, IsRow, IsTailFrom}
 use Rattle.fax_walk.specs.views.Walk.{WalkView, IsNext}
 use Rattle.fax_walk.specs.code.Output.{IsPartWritten, PutsRow}
 use Rattle.fax_walk.specs.code.Sources.{part_of, PutsRows, pels_of, IsFaultAt, IsBeforePage, EndsWith, source_fault}
@@ -38,19 +38,19 @@ pub record HasConverted (walk : WalkView) (output : Output) (sheet : Sheet) (cou
   pub within : count ≤ length due.page.own
   pub put : PutsRows output sheet (take count (pels_of due.page.own)) new_output
 
-take_pels : (n : ℕ) (items : List Item) → take n (pels_of items) ≡ pels_of (take n items)
+take_pels : (n : ℕ) (items : List RowItem) → take n (pels_of items) ≡ pels_of (take n items)
 take_pels zero items = refl
 take_pels (suc n) [] = refl
 take_pels (suc n) (x ∷ items) = ap (λ (l : List (List Colour)). x.pels ∷ l) (take_pels n items)
 
-wide_at : (width n : ℕ) (items : List Item) (item : Item) → AreOfWidth width (pels_of items) → take (n + 1) items ≡ take n items ++ item ∷
+wide_at : (width n : ℕ) (items : List RowItem) (item : RowItem) → AreOfWidth width (pels_of items) → take (n + 1) items ≡ take n items ++ item ∷
     []
     → length item.pels ≡ width
 wide_at width n [] item wide one =
-    let m = ap (λ (l : List Item). length l) one in
-    let nothing : List Item = [] in
+    let m = ap (λ (l : List RowItem). length l) one in
+    let nothing : List RowItem = [] in
     absurd (omega (arith, m, length-append (take n nothing) (item ∷ []), length-take (n + 1) nothing))
-wide_at width zero (x ∷ items) item wide one = let same : x ≡ item = cc in sym (ap (λ (i : Item). length i.pels) same) ∙ wide.0
+wide_at width zero (x ∷ items) item wide one = let same : x ≡ item = cc in sym (ap (λ (i : RowItem). length i.pels) same) ∙ wide.0
 wide_at width (suc n) (x ∷ items) item wide one =
     let m : suc n + 1 ≡ suc (n + 1) = omega arith in
     let one' : x ∷ take (n + 1) items ≡ x ∷ (take n items ++ item ∷ []) = rw m at one in
@@ -59,14 +59,14 @@ wide_at width (suc n) (x ∷ items) item wide one =
 
 -- a walk has handed out this row, item number `given`
 pub record GivesRow (old new : WalkView) (row : List Colour) : Type 0 where
-  pub item : Item
+  pub item : RowItem
   pub number : IsItemNumber old.file old.begun old.given item
   pub pels : item.pels ≡ row
   pub same_file : new.file ≡ old.file
   pub same_begun : new.begun ≡ old.begun
   pub given : new.given ≡ old.given + 1
 
-pub row_given : (old new : WalkView) (found : RowPlace × Bor (List Colour)) → IsNext old (Ok (Some found)) new → GivesRow old new
+pub row_given : (old new : WalkView) (found : Place × Bor (List Colour)) → IsNext old (Ok (Some found)) new → GivesRow old new
     found.1.now
 row_given old new found next = record {
   item = next.0;
@@ -77,10 +77,10 @@ row_given old new found next = record {
   given = ap (λ (w : WalkView). w.given) next.1.new_is;
 }
 
-module _ (tail : TailOfStart) (answers : (file : List ℕ) (at : Place) → IsOneAnswer (IsRow file at)) (walk : WalkView) (output : Output)
+module _ (tail : TailOfStart) (answers : (file : List ℕ) (at : RowPlace) → IsOneAnswer (IsRow file at)) (walk : WalkView) (output : Output)
     (sheet : Sheet) (count : ℕ) (old : WalkView) (middle : Output) (due : IsBeforePage walk sheet.width sheet.rows)
     (so_far : HasConverted walk output sheet count old middle due) (some : count < sheet.rows) where
-  abbrev own : List Item
+  abbrev own : List RowItem
   own = due.page.own
 
   -- the row that is due on the page, or the fault there
@@ -97,25 +97,25 @@ module _ (tail : TailOfStart) (answers : (file : List ℕ) (at : Place) → IsOn
   ]
 
   -- all rows that were read before lead to a place
-  led : (to : Place) (front : List Item) → LeadTo (IsRow walk.file) due.at front to → LeadTo (IsRow walk.file) (first_at 0 0)
+  led : (to : RowPlace) (front : List RowItem) → LeadTo (IsRow walk.file) due.at front to → LeadTo (IsRow walk.file) (first_at 0 0)
       (due.before ++ front) to
   led to front lead = leads_both (IsRow walk.file) (first_at 0 0) due.at due.before front to due.lead lead
 
-  given_at : (front : List Item) → length front ≡ count → old.given ≡ length (due.before ++ front)
+  given_at : (front : List RowItem) → length front ≡ count → old.given ≡ length (due.before ++ front)
   given_at front all = omega (arith, so_far.given, due.given, all, length-append due.before front)
 
-  from_file : (items : List Item) (end : End) → IsTailFrom old.file old.begun items end → IsTailFrom walk.file (At start) items end
+  from_file : (items : List RowItem) (end : End) → IsTailFrom old.file old.begun items end → IsTailFrom walk.file (At start) items end
   from_file items end is = rw (so_far.same_file, so_far.same_begun ∙ due.from_start) at is
 
   -- item number `given` is what a place has to which so many items lead
-  next_at : (item : Item) → IsItemNumber old.file old.begun old.given item → (to : Place) (front : List Item)
-      → LeadTo (IsRow walk.file) due.at front to → length front ≡ count → (later : Place) × IsRow walk.file to (Ok (item, later))
+  next_at : (item : RowItem) → IsItemNumber old.file old.begun old.given item → (to : RowPlace) (front : List RowItem)
+      → LeadTo (IsRow walk.file) due.at front to → length front ≡ count → (later : RowPlace) × IsRow walk.file to (Ok (item, later))
   next_at item (all, end, is, number) to front lead all_read =
       let are = (tail walk.file all end).0 (from_file all end is) in
       next_led (IsRow walk.file) (answers walk.file) (first_at 0 0) to (due.before ++ front) all end item are (led to front lead)
       (rw (given_at front all_read) at number)
 
-  ends_at : (end : End) → EndsAfter (IsTailFrom old.file old.begun) old.given end → (to : Place) (front : List Item)
+  ends_at : (end : End) → EndsAfter (IsTailFrom old.file old.begun) old.given end → (to : RowPlace) (front : List RowItem)
       → LeadTo (IsRow walk.file) due.at front to → length front ≡ count → IsRow walk.file to (Err end)
   ends_at end (all, is, number) to front lead all_read =
       let are = (tail walk.file all end).0 (from_file all end is) in
@@ -126,13 +126,13 @@ module _ (tail : TailOfStart) (answers : (file : List ℕ) (at : Place) → IsOn
   count_taken within = omega (arith, length-take count own, within)
 
   -- the item that is handed out is the page's next
-  pub next_of : (item : Item) → IsItemNumber old.file old.begun old.given item
+  pub next_of : (item : RowItem) → IsItemNumber old.file old.begun old.given item
       → (count < length own) × (take (count + 1) own ≡ take count own ++ item ∷ [])
   next_of item number = elim there [
     | inl here ↦
         let is = next_at item number here.at (take count own) here.lead (count_taken so_far.within) in
         let same = same_step (answers walk.file here.at) here.item item here.later is.0 here.step is.1 in
-        (more here, subst (λ (i : Item). take (count + 1) own ≡ take count own ++ i ∷ []) same.0 here.one_more)
+        (more here, subst (λ (i : RowItem). take (count + 1) own ≡ take count own ++ i ∷ []) same.0 here.one_more)
     | inr (all, (p, r, cause, stop)) ↦
         let is = next_at item number due.page.to own due.page.lead (sym all) in
         let no = same_answer (answers walk.file due.page.to) _ _ is.1 stop in
@@ -141,11 +141,11 @@ module _ (tail : TailOfStart) (answers : (file : List ℕ) (at : Place) → IsOn
     where
       more : StandsAt (IsRow walk.file) due.at own count → count < length own
       more here =
-          let n = ap (λ (l : List Item). length l) here.one_more in
+          let n = ap (λ (l : List RowItem). length l) here.one_more in
           omega (arith, n, length-append (take count own) (here.item ∷ []), length-take count own, length-take (count + 1) own)
 
   -- the row is as wide as the page
-  pub next_wide : (item : Item) → IsItemNumber old.file old.begun old.given item → length item.pels ≡ sheet.width
+  pub next_wide : (item : RowItem) → IsItemNumber old.file old.begun old.given item → length item.pels ≡ sheet.width
   next_wide item number = wide_at sheet.width count own item due.page.wide (next_of item number).1
 
   abbrev pub rows : List (List Colour)
@@ -163,7 +163,7 @@ module _ (tail : TailOfStart) (answers : (file : List ℕ) (at : Place) → IsOn
       let puts : PutsRow middle item.pels new_output = rw gives.pels puts_row in
       let rows_are : rows ++ item.pels ∷ [] ≡ take (count + 1) (pels_of own) =
       ap (λ (l : List (List Colour)). l ++ item.pels ∷ []) (take_pels count own)
-      ∙ sym (map-append (λ (i : Item). i.pels) (take count own) (item ∷ [])) ∙ sym (ap pels_of next.1) ∙ sym (take_pels (count + 1) own) in
+      ∙ sym (map-append (λ (i : RowItem). i.pels) (take count own) (item ∷ [])) ∙ sym (ap pels_of next.1) ∙ sym (take_pels (count + 1) own) in
       record {
         same_file = gives.same_file ∙ so_far.same_file;
         same_begun = gives.same_begun ∙ so_far.same_begun;

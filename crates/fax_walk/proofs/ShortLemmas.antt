@@ -13,7 +13,7 @@ use Rattle.fax_files.specs.declared.FileFault.{FileFault}
 use Rattle.fax_files.specs.Directory.{IsChain, Header, header}
 use Rattle.fax_files.specs.laws.Files.{FilesHaveOneChain, FormsAreWhole}
 use Rattle.fax_walk.specs.declared.cursor.Cursor.{Cursor}
-use Rattle.fax_walk.specs.Cursors.{IsLongCursor}
+use Rattle.fax_walk.specs.Pages.{IsLongCursor}
 use Rattle.fax_walk.specs.Pages.{FilePage, IsPageAt}
 use Rattle.fax_walk.specs.code.Opening.{page_over}
 use Rattle.fax_walk.specs.code.Opening.{IsPageUnder}

@@ -17,7 +17,7 @@ use Rattle.fax_files.specs.laws.Files.{IsWholeForm}
 use Rattle.fax_walk.specs.declared.end.End.{End}
 use Rattle.fax_walk.specs.declared.end.End.TheVariants.{Fault}
 use Rattle.fax_walk.specs.Pages.{IsPageAt}
-use Rattle.fax_walk.specs.Rows.{Item, Inner, Place, first_at, exchanged, before, place_after}
+use Rattle.fax_walk.specs.Rows.{RowItem, Inner, RowPlace, first_at, exchanged, before, place_after}
 use Rattle.fax_walk.specs.code.Places.{strip_at}
 use Rattle.fax_walk.specs.Rows.{IsInStrip, IsRow}
 use Rattle.fax_walk.specs.code.Places.{IsItem}
@@ -34,10 +34,10 @@ exchanged_length form row = by_test form.exchanged
 
 module _ (by_place : AreBitsByPlace) (lines_read : LinesAreRead) (file : List ℕ) (endian : Endian) (q : ℕ) (form : PageForm) (p : ℕ)
     (page : (r : ℕ) → IsPageAt file (record { page = p; row = r }) (Ok (record { endian = endian; offset = q; form = form }))) where
-  abbrev place_at : ℕ → Option Inner → Place
+  abbrev place_at : ℕ → Option Inner → RowPlace
   place_at r inner = record { page = p; row = r; inner = inner }
 
-  abbrev Rows : Place → ℕ → Type 0
+  abbrev Rows : RowPlace → ℕ → Type 0
   Rows at rows = HasRows file at form.width rows (first_at (p + 1) 0)
 
   -- a place whose reference is as wide as the page
@@ -59,7 +59,7 @@ module _ (by_place : AreBitsByPlace) (lines_read : LinesAreRead) (file : List �
   }
 
   -- a row, and those after it
-  one_more : (r rows : ℕ) (inner : Option Inner) (item : Item) (to : Place) → length item.pels ≡ form.width
+  one_more : (r rows : ℕ) (inner : Option Inner) (item : RowItem) (to : RowPlace) → length item.pels ≡ form.width
       → IsRow file (place_at r inner) (Ok (item, to)) → Rows to rows → Rows (place_at r inner) (rows + 1)
   one_more r rows inner item to wide step rest = record {
     own = item ∷ rest.own;
@@ -76,14 +76,14 @@ module _ (by_place : AreBitsByPlace) (lines_read : LinesAreRead) (file : List �
   none_left : Rows (first_at (p + 1) 0) 0
   none_left = record { own = []; to = first_at (p + 1) 0; lead = refl; wide = tt; ends = inl (refl, refl) }
 
-  item_wide : (r : ℕ) (inner : Option Inner) (bytes : List ℕ) (item : Item) → IsWide inner → IsItem form bytes (place_at r inner) item
+  item_wide : (r : ℕ) (inner : Option Inner) (bytes : List ℕ) (item : RowItem) → IsWide inner → IsItem form bytes (place_at r inner) item
       → length (exchanged form item.pels) ≡ form.width
   item_wide r inner bytes item wide is =
       row_in is.3.dimension form.width (before form.width inner).reference is.3.codes (exchanged form item.pels) _ wide is.3.coded
 
   module _ (rows r : ℕ) (count : r + (rows + 1) ≡ form.rows)
       (next : (inner : Option Inner) → IsWide inner → 0 < rows → Rows (place_at (r + 1) inner) rows) where
-    after : (item : Item) → item.page ≡ p → item.row ≡ r → length (exchanged form item.pels) ≡ form.width → Rows (place_after form item)
+    after : (item : RowItem) → item.page ≡ p → item.row ≡ r → length (exchanged form item.pels) ≡ form.width → Rows (place_after form item)
         rows
     after item same_page same_row wide = elim (cases_after form item) [
       | inl (last, is) ↦
@@ -97,7 +97,7 @@ module _ (by_place : AreBitsByPlace) (lines_read : LinesAreRead) (file : List �
     ]
 
     -- by what the file has of the strip
-    by_found : (inner : Option Inner) → IsWide inner → (found : Option (List ℕ)) → (answer : Result (Item × Place) End)
+    by_found : (inner : Option Inner) → IsWide inner → (found : Option (List ℕ)) → (answer : Result (RowItem × RowPlace) End)
         → IsInStrip form (place_at r inner) found answer → IsRow file (place_at r inner) answer → Rows (place_at r inner) (rows + 1)
     by_found inner wide None (Ok (item, to)) is row = absurd cc
     by_found inner wide None (Err end) is row =

@@ -29,7 +29,7 @@ use Rattle.fax_walk.specs.declared.end.End.{End}
 use Rattle.fax_walk.specs.declared.end.End.TheVariants.{Fault}
 use Rattle.fax_walk.specs.laws.InOrder.{LeadTo}
 use Rattle.fax_walk.specs.Pages.{IsPageAt}
-use Rattle.fax_walk.specs.Rows.{Place, first_at, IsRow}
+use Rattle.fax_walk.specs.Rows.{RowPlace, first_at, IsRow}
 use Rattle.fax_walk.specs.Report.{Checked, notes_on_strip, IsStripNoted, IsNoted}
 use Rattle.fax_walk.specs.code.Check.{before_page, before_strip, HasChecked, IsCheckedTo, IsDirectoryOfPage}
 use Rattle.fax_walk.specs.code.Check.{AreStripsChecked, IsRestChecked, IsRowInside, IsReadTo}
@@ -109,7 +109,7 @@ module _ (by_place : AreBitsByPlace) (directory : TiffDirectory) (form : PageFor
         );
         notes_are = sym (append-nil (notes_on_strip p s found));
         items = read.items;
-        lead_rows = subst (λ (a : Place). LeadTo (IsRow file) (first_at p (s * n)) read.items a) to read.lead;
+        lead_rows = subst (λ (a : RowPlace). LeadTo (IsRow file) (first_at p (s * n)) read.items a) to read.lead;
         count = sym (walked_length file (first_at p (s * n)) (s * n) (shown form rows) _ read ∙ shown_length form rows);
       })
 

@@ -22,7 +22,7 @@ use Rattle.fax_walk.specs.declared.end.End.{End}
 use Rattle.fax_walk.specs.declared.end.End.TheVariants.{Fault}
 use Rattle.fax_walk.specs.laws.InOrder.{LeadTo}
 use Rattle.fax_walk.specs.Pages.{IsPageAt}
-use Rattle.fax_walk.specs.Rows.{Item, Inner, Place, first_at, exchanged, before, place_after}
+use Rattle.fax_walk.specs.Rows.{RowItem, Inner, RowPlace, first_at, exchanged, before, place_after}
 use Rattle.fax_walk.specs.code.Places.{strip_at, row_in_strip}
 use Rattle.fax_walk.specs.Rows.{IsInStrip, IsRow}
 use Rattle.fax_walk.specs.code.Places.{IsItem}
@@ -32,10 +32,10 @@ use Rattle.fax_walk.proofs.RowLawLemmas.{exchanged_twice, cases_after}
 use Rattle.fax_walk.proofs.StripPlaceLemmas.{in_strip, shown_none, shown_row}
 
 -- these rows are read from a place on, the first of them with this number, and what they lead to is so
-pub record AreRead (file : List ℕ) (at : Place) (r : ℕ) (rows : List (List Colour)) (reached : Place → Type 0) : Type 0 where
-  pub items : List Item
+pub record AreRead (file : List ℕ) (at : RowPlace) (r : ℕ) (rows : List (List Colour)) (reached : RowPlace → Type 0) : Type 0 where
+  pub items : List RowItem
   pub rows_are : map walked items ≡ numbered at.page r rows
-  pub to : Place
+  pub to : RowPlace
   pub lead : LeadTo (IsRow file) at items to
   pub there : reached to
 
@@ -43,13 +43,13 @@ numbered_length : (p r : ℕ) (rows : List (List Colour)) → length (numbered p
 numbered_length p r [] = refl
 numbered_length p r (row ∷ rows) = omega (arith, numbered_length p (r + 1) rows)
 
-pub walked_length : (file : List ℕ) (at : Place) (r : ℕ) (rows : List (List Colour)) (reached : Place → Type 0)
+pub walked_length : (file : List ℕ) (at : RowPlace) (r : ℕ) (rows : List (List Colour)) (reached : RowPlace → Type 0)
     (read : AreRead file at r rows reached) → length read.items ≡ length rows
 walked_length file at r rows reached read =
     sym (length-map read.items walked) ∙ ap (λ (l : List WalkedRow). length l) read.rows_are ∙ numbered_length at.page r rows
 
 -- one more row, before those that are read after it
-pub one_more : (file : List ℕ) (at : Place) (r : ℕ) (rows : List (List Colour)) (reached : Place → Type 0) (item : Item) (next : Place)
+pub one_more : (file : List ℕ) (at : RowPlace) (r : ℕ) (rows : List (List Colour)) (reached : RowPlace → Type 0) (item : RowItem) (next : RowPlace)
     → walked item ≡ record { page = at.page; row = r; pels = item.pels } → next.page ≡ at.page
     → IsRow file at (Ok (item, next))
     → AreRead file next (r + 1) rows reached → AreRead file at r (item.pels ∷ rows) reached
@@ -70,21 +70,21 @@ module _ (by_place : AreBitsByPlace) (file : List ℕ) (endian : Endian) (q : �
   abbrev n : ℕ
   n = form.rows_per_strip
 
-  abbrev place_at : ℕ → Option Inner → Place
+  abbrev place_at : ℕ → Option Inner → RowPlace
   place_at r inner = record { page = p; row = r; inner = inner }
 
   -- the place of a strip's first row, or of the next page's
-  abbrev pub place_of : ℕ → Place
+  abbrev pub place_of : ℕ → RowPlace
   place_of r = if nat_lt r form.rows then first_at p r else first_at (p + 1) 0
 
   -- what is at a place, by what the file has of its strip
-  pub row_at : (r : ℕ) (inner : Option Inner) (found : Option (List ℕ)) (answer : Result (Item × Place) End)
+  pub row_at : (r : ℕ) (inner : Option Inner) (found : Option (List ℕ)) (answer : Result (RowItem × RowPlace) End)
       → strip_bytes endian file q (strip_at form r) ≡ found → IsInStrip form (place_at r inner) found answer
       → IsRow file (place_at r inner) answer
   row_at r inner found answer e is = inr (_, page r, subst (λ (o : Option (List ℕ)). IsInStrip form (place_at r inner) o answer) (sym e) is)
 
   -- the rows of a strip lead to the next one, or to the row that is not there
-  abbrev pub Reaches : Option StripFault → ℕ → Place → Type 0
+  abbrev pub Reaches : Option StripFault → ℕ → RowPlace → Type 0
   Reaches None r to = to ≡ place_of r
   Reaches (Some fault) r to = IsRow file to (Err (Fault p r (Strip fault)))
 
@@ -99,7 +99,7 @@ module _ (by_place : AreBitsByPlace) (file : List ℕ) (endian : Endian) (q : �
     numbers r i r_is within = in_strip n s i r (omega (arith, within)) r_is
 
     -- after the strip's last row
-    after_strip : (item : Item) → item.page ≡ p → item.row + 1 ≡ s * n + strip.rows → place_after form item ≡ place_of (item.row + 1)
+    after_strip : (item : RowItem) → item.page ≡ p → item.row + 1 ≡ s * n + strip.rows → place_after form item ≡ place_of (item.row + 1)
     after_strip item page_is row_is = elim (cases_after form item) [
       | inl (last, is) ↦
           let test : nat_lt (item.row + 1) form.rows ≡ false = grind (arith, nat_tests, last) in
@@ -121,7 +121,7 @@ module _ (by_place : AreBitsByPlace) (file : List ℕ) (endian : Endian) (q : �
     ended i row b (next ∷ rows) stop left last lines = absurd (omega (arith, last, lines.1))
 
     -- no rows are read
-    stays : (at : Place) (r : ℕ) (reached : Place → Type 0) → reached at → AreRead file at r (shown form []) reached
+    stays : (at : RowPlace) (r : ℕ) (reached : RowPlace → Type 0) → reached at → AreRead file at r (shown form []) reached
     stays at r reached here =
         record { items = []; rows_are = rw (shown_none form) refl; to = at; lead = refl; there = here }
 
@@ -141,7 +141,7 @@ module _ (by_place : AreBitsByPlace) (file : List ℕ) (endian : Endian) (q : �
     lines_from inner r i (row ∷ rows) stop left r_is within (rest, due, line, more) =
         let number = numbers r i r_is within in
         let from = rest_at strip i (before form.width inner).reference all (before form.width inner).bits row rest line in
-        let item : Item = record { page = p; row = r; pels = exchanged form row; bits = from.0 } in
+        let item : RowItem = record { page = p; row = r; pels = exchanged form row; bits = from.0 } in
         let is : IsItem form bytes (place_at r inner) item = (
           refl,
           refl,
@@ -168,7 +168,7 @@ module _ (by_place : AreBitsByPlace) (file : List ℕ) (endian : Endian) (q : �
               rw (shown_row form row rows, count)
               (one_more file (place_at r inner) r (shown form rows) (Reaches stop (r + 1 + length rows)) item
               (place_at (r + 1) (Some (record { bits = from.0; reference = row }))) refl refl
-              (subst (λ (a : Place). IsRow file (place_at r inner) (Ok (item, a))) to step) later)
+              (subst (λ (a : RowPlace). IsRow file (place_at r inner) (Ok (item, a))) to step) later)
           | inr last ↦
               let none = ended (i + 1) row rest rows stop left last more in
               let to = after_strip item refl (omega (arith, r_is, last, due)) in
@@ -180,7 +180,7 @@ module _ (by_place : AreBitsByPlace) (file : List ℕ) (endian : Endian) (q : �
                 items = item ∷ [];
                 rows_are = refl;
                 to = place_of (r + 1);
-                lead = (place_of (r + 1), subst (λ (a : Place). IsRow file (place_at r inner) (Ok (item, a))) to step, refl);
+                lead = (place_of (r + 1), subst (λ (a : RowPlace). IsRow file (place_at r inner) (Ok (item, a))) to step, refl);
                 there = refl;
               })
         ]

@@ -24,14 +24,14 @@ use Rattle.fax_walk.specs.declared.begun.Begun.TheVariants.{At, Inside}
 use Rattle.fax_walk.specs.declared.cursor.Cursor.{Cursor}
 use Rattle.fax_walk.specs.declared.end.End.{End}
 use Rattle.fax_walk.specs.declared.end.End.TheVariants.{Fault, Outside, Proper}
-use Rattle.fax_walk.specs.Cursors.{start, LongPlace}
+use Rattle.fax_walk.specs.Pages.{start, LongPlace}
 use Rattle.fax_walk.specs.Pages.{AreFrom, AreBegun, FilePage, IsPageAt}
 use Rattle.fax_walk.specs.code.Opening.{IsPageUnder, end_past_chain}
 use Rattle.fax_walk.specs.code.Opening.{page_over}
 use Rattle.fax_walk.specs.code.Opening.{page_or_end}
 use Rattle.fax_walk.specs.laws.InOrder.{LeadTo}
 use Rattle.fax_walk.specs.views.Walk.{EndsBefore}
-use Rattle.fax_walk.specs.Rows.{IsInnerOn, Item, Inner, Place, first_at}
+use Rattle.fax_walk.specs.Rows.{IsInnerOn, RowItem, Inner, RowPlace, first_at}
 use Rattle.fax_walk.specs.code.Places.{strip_at, row_in_strip}
 use Rattle.fax_walk.specs.Rows.{exchanged, before, place_after, IsInStrip, IsRow}
 use Rattle.fax_walk.specs.code.Places.{IsItem}
@@ -51,18 +51,18 @@ use Rattle.fax_walk.proofs.WidthLemmas.{row_in}
 
 module _ (file : List ℕ) where
   -- an item, the place where it was read, and what is handed out after it
-  pub record IsSplit (begun : Begun) (item : Item) (after : List Item) (end : End) : Type 0 where
-    pub from : Place
+  pub record IsSplit (begun : Begun) (item : RowItem) (after : List RowItem) (end : End) : Type 0 where
+    pub from : RowPlace
     pub dropped : ℕ
     pub begins : Begins file begun (Ok (from, dropped))
-    pub front : List Item
-    pub at : Place
+    pub front : List RowItem
+    pub at : RowPlace
     pub lead : LeadTo (IsRow file) from front at
-    pub to : Place
+    pub to : RowPlace
     pub step : IsRow file at (Ok (item, to))
     pub rest : AreFrom (IsRow file) to after end
 
-  pub split_at_number : (begun : Begun) (all : List Item) (end : End) (n : ℕ) (item : Item) → IsTailFrom file begun all end
+  pub split_at_number : (begun : Begun) (all : List RowItem) (end : End) (n : ℕ) (item : RowItem) → IsTailFrom file begun all end
       → slice_get all n ≡ Some item
       → IsSplit begun item (drop (n + 1) all) end
   split_at_number begun all end n item (begin, begins, are) there =
@@ -70,7 +70,7 @@ module _ (file : List ℕ) where
       record {
         from = split.from;
         dropped = split.dropped;
-        begins = subst (λ (b : Result (Place × ℕ) End). Begins file begun b) split.begin_is begins;
+        begins = subst (λ (b : Result (RowPlace × ℕ) End). Begins file begun b) split.begin_is begins;
         front = split.front;
         at = split.at;
         lead = split.lead;
@@ -80,7 +80,7 @@ module _ (file : List ℕ) where
       }
 
   -- the row that was read, on its page and in its strip
-  pub record IsRead (at : Place) (item : Item) (to : Place) : Type 0 where
+  pub record IsRead (at : RowPlace) (item : RowItem) (to : RowPlace) : Type 0 where
     pub here : FilePage
     pub page : IsPageAt file (cursor_at at) (Ok here)
     pub bytes : List ℕ
@@ -88,14 +88,14 @@ module _ (file : List ℕ) where
     pub is : IsItem here.form bytes at item
     pub to_is : to ≡ place_after here.form item
 
-  in_bytes : (at : Place) (item : Item) (to : Place) (here : FilePage) → IsPageAt file (cursor_at at) (Ok here) → (found : Option (List ℕ))
+  in_bytes : (at : RowPlace) (item : RowItem) (to : RowPlace) (here : FilePage) → IsPageAt file (cursor_at at) (Ok here) → (found : Option (List ℕ))
       → strip_bytes here.endian file here.offset (strip_at here.form at.row) ≡ found → IsInStrip here.form at found (Ok (item, to))
       → IsRead at item to
   in_bytes at item to here page None e is = absurd cc
   in_bytes at item to here page (Some bytes) e is =
       record { here = here; page = page; bytes = bytes; bytes_are = e; is = (is.0, is.1, is.2, is.3); to_is = is.4 }
 
-  pub read_at : (at : Place) (item : Item) (to : Place) → IsRow file at (Ok (item, to)) → IsRead at item to
+  pub read_at : (at : RowPlace) (item : RowItem) (to : RowPlace) → IsRow file at (Ok (item, to)) → IsRead at item to
   read_at at item to (inl (end, page, e)) = absurd cc
   read_at at item to (inr (here, page, is)) =
       in_bytes at item to here page (strip_bytes here.endian file here.offset (strip_at here.form at.row)) refl is
@@ -158,17 +158,17 @@ strip_begin : (n r : ℕ) → r % n ≡ 0 → r ≡ r / n * n
 strip_begin n r first = let parts = div-add-mod r n in omega (arith, parts, first)
 
 module _ (forms : FormsAreWhole) (chains : FilesHaveOneChain) (file : List ℕ) where
-  abbrev pub strip_of : FilePage → ℕ → ℕ → Place
+  abbrev pub strip_of : FilePage → ℕ → ℕ → RowPlace
   strip_of here p r = first_at p (strip_at here.form r * here.form.rows_per_strip)
 
   -- rows of its strip lead to a place on a page
-  pub record IsFromStrip (at : Place) (here : FilePage) : Type 0 where
-    pub rows : List Item
+  pub record IsFromStrip (at : RowPlace) (here : FilePage) : Type 0 where
+    pub rows : List RowItem
     pub lead : LeadTo (IsRow file) (strip_of here at.page at.row) rows at
     pub count : length rows ≡ row_in_strip here.form at.row
     pub row : at.row < here.form.rows
 
-  abbrev pub FromStrip : Place → Type 0
+  abbrev pub FromStrip : RowPlace → Type 0
   FromStrip at = (here : FilePage) → IsPageAt file (cursor_at at) (Ok here) → IsFromStrip at here
 
   strip_first : (p r : ℕ) (here : FilePage) → row_in_strip here.form r ≡ 0 → r < here.form.rows → IsFromStrip (first_at p r) here
@@ -185,7 +185,7 @@ module _ (forms : FormsAreWhole) (chains : FilesHaveOneChain) (file : List ℕ) 
       let some = whole.some_in_strip in
       strip_first p 0 here (in_strip here.form.rows_per_strip 0 0 0 some (omega arith)).1 (omega (arith, whole.some_rows))
 
-  module _ (at : Place) (item : Item) (to : Place) (read : IsRead file at item to) where
+  module _ (at : RowPlace) (item : RowItem) (to : RowPlace) (read : IsRead file at item to) where
     abbrev form : PageForm
     form = read.here.form
 
@@ -216,8 +216,8 @@ module _ (forms : FormsAreWhole) (chains : FilesHaveOneChain) (file : List ℕ) 
         ∙ ap (λ (s : ℕ). first_at item.page (s * form.rows_per_strip)) (sym next.0) in
         record {
           rows = from.rows ++ item ∷ [];
-          lead = subst (λ (t : Place). LeadTo (IsRow file) (strip_of read.here item.page (item.row + 1)) (from.rows ++ item ∷ []) t) is
-              (subst (λ (s : Place). LeadTo (IsRow file) s (from.rows ++ item ∷ []) to) strip lead);
+          lead = subst (λ (t : RowPlace). LeadTo (IsRow file) (strip_of read.here item.page (item.row + 1)) (from.rows ++ item ∷ []) t) is
+              (subst (λ (s : RowPlace). LeadTo (IsRow file) s (from.rows ++ item ∷ []) to) strip lead);
           count = length-append from.rows (item ∷ []) ∙ omega (arith, from.count, next.1);
           row = within;
         }
@@ -235,7 +235,7 @@ module _ (forms : FormsAreWhole) (chains : FilesHaveOneChain) (file : List ℕ) 
           (inner_from (from read.here read.page) step (read.to_is ∙ is) within inside))
     ]
 
-  from_strip : (at : Place) (item : Item) (to : Place) → FromStrip at → IsRow file at (Ok (item, to)) → FromStrip to
+  from_strip : (at : RowPlace) (item : RowItem) (to : RowPlace) → FromStrip at → IsRow file at (Ok (item, to)) → FromStrip to
   from_strip at item to from step = keeps_from at item to (read_at file at item to step) from step
 
   first_in : (at : Cursor) (here : FilePage) → IsPageAt file at (Ok here) → at.row < here.form.rows
@@ -250,16 +250,16 @@ module _ (forms : FormsAreWhole) (chains : FilesHaveOneChain) (file : List ℕ) 
       subst (λ (h : FilePage). IsFromStrip (first_at at.page (s * n)) h) same
       (strip_first at.page (s * n) here first.1 (omega (arith, parts, below)))
 
-  begins_first : (at : Cursor) (here : FilePage) → IsPageAt file at (Ok here) → (from : Place) (k : ℕ)
+  begins_first : (at : Cursor) (here : FilePage) → IsPageAt file at (Ok here) → (from : RowPlace) (k : ℕ)
       → Ok (from, k) ≡ first_row at here.form → FromStrip from
   begins_first at here page from k e = by_test (nat_lt at.row here.form.rows) refl (at.row == here.form.rows) e
     where
-      place_of : Result (Place × ℕ) End → Place
+      place_of : Result (RowPlace × ℕ) End → RowPlace
       place_of (Ok begin) = begin.0
       place_of (Err end) = from
 
       by_test : (below : Bool) → nat_lt at.row here.form.rows ≡ below → (last : Bool)
-          → ◌≡◌ {A = Result (Place × ℕ) End} (Ok (from, k)) (if below then Ok (strip_of here at.page at.row, row_in_strip here.form at.row)
+          → ◌≡◌ {A = Result (RowPlace × ℕ) End} (Ok (from, k)) (if below then Ok (strip_of here at.page at.row, row_in_strip here.form at.row)
           else (if last then Ok (first_at (at.page + 1) 0, 0) else Err Outside))
           → FromStrip from
       by_test true below last e =
@@ -268,7 +268,7 @@ module _ (forms : FormsAreWhole) (chains : FilesHaveOneChain) (file : List ℕ) 
       by_test false below true e = subst FromStrip (sym (ap place_of e)) (page_first (at.page + 1))
       by_test false below false e = absurd cc
 
-  begins_from : (begun : Begun) → IsReached file begun → (from : Place) (k : ℕ) → Begins file begun (Ok (from, k)) → FromStrip from
+  begins_from : (begun : Begun) → IsReached file begun → (from : RowPlace) (k : ℕ) → Begins file begun (Ok (from, k)) → FromStrip from
   begins_from begun reached from k (inl (end, page, e)) = absurd cc
   begins_from (At at) reached from k (inr (here, page, e)) = begins_first at here page from k e
   begins_from (Inside place) reached from k (inr (here, page, inr (not, e))) = absurd cc
@@ -282,11 +282,11 @@ module _ (forms : FormsAreWhole) (chains : FilesHaveOneChain) (file : List ℕ) 
         row = subst (λ (h : FilePage). place.at.row < h.form.rows) (here_too ∙ sym same) is.row;
       })
     where
-      place_of : Result (Place × ℕ) End → Place
+      place_of : Result (RowPlace × ℕ) End → RowPlace
       place_of (Ok begin) = begin.0
       place_of (Err end) = from
 
-  module _ (begun : Begun) (reached : IsReached file begun) (item : Item) (after : List Item) (end : End)
+  module _ (begun : Begun) (reached : IsReached file begun) (item : RowItem) (after : List RowItem) (end : End)
       (split : IsSplit file begun item after end) where
     pub here_from : FromStrip split.at
     here_from = kept (IsRow file) FromStrip from_strip split.from split.at split.front split.lead
@@ -309,10 +309,10 @@ module _ (forms : FormsAreWhole) (chains : FilesHaveOneChain) (file : List ℕ) 
         → split.to ≡ record { page = item.page; row = item.row + 1; inner = inner }
         → IsTailFrom file (At (cursor_after item)) after end
     on_page inner within is =
-        let at : Place = record { page = item.page; row = item.row + 1; inner = inner } in
+        let at : RowPlace = record { page = item.page; row = item.row + 1; inner = inner } in
         let test : nat_lt (item.row + 1) on_form.rows ≡ true = grind (arith, nat_tests, within) in
         let next : IsFromStrip at read.here = subst FromStrip is next_from read.here page_of in
-        let rest : AreFrom (IsRow file) at after end = subst (λ (t : Place). AreFrom (IsRow file) t after end) is split.rest in (
+        let rest : AreFrom (IsRow file) at after end = subst (λ (t : RowPlace). AreFrom (IsRow file) t after end) is split.rest in (
           Ok (strip_of read.here item.page (item.row + 1), row_in_strip on_form (item.row + 1)),
           inr (read.here, page_of, rw test refl),
           (
@@ -331,7 +331,7 @@ module _ (forms : FormsAreWhole) (chains : FilesHaveOneChain) (file : List ℕ) 
         let end_test : ((item.row + 1) == on_form.rows) ≡ true = grind (arith, nat_tests, whole) in (
           Ok (first_at (item.page + 1) 0, 0),
           inr (read.here, page_of, rw (test, end_test) refl),
-          (after, subst (λ (t : Place). AreFrom (IsRow file) t after end) is split.rest, refl),
+          (after, subst (λ (t : RowPlace). AreFrom (IsRow file) t after end) is split.rest, refl),
         )
 
     tail_after : IsTailFrom file (At (cursor_after item)) after end
@@ -343,7 +343,7 @@ module _ (forms : FormsAreWhole) (chains : FilesHaveOneChain) (file : List ℕ) 
     ]
 
   -- the reference of a row that is read has the page's width
-  abbrev Wide : Place → Type 0
+  abbrev Wide : RowPlace → Type 0
   Wide at =
       (here : FilePage) → IsPageAt file (cursor_at at) (Ok here) → (bytes : List ℕ)
       → strip_bytes here.endian file here.offset (strip_at here.form at.row) ≡ Some bytes
@@ -352,7 +352,7 @@ module _ (forms : FormsAreWhole) (chains : FilesHaveOneChain) (file : List ℕ) 
   wide_first : (p r : ℕ) → Wide (first_at p r)
   wide_first p r here page bytes there = length-replicate here.form.width White
 
-  row_wide : (at : Place) (item : Item) (to : Place) → Wide at → (read : IsRead file at item to)
+  row_wide : (at : RowPlace) (item : RowItem) (to : RowPlace) → Wide at → (read : IsRead file at item to)
       → length (exchanged read.here.form item.pels) ≡ read.here.form.width
   row_wide at item to wide read =
       let line = read.is.3 in
@@ -360,7 +360,7 @@ module _ (forms : FormsAreWhole) (chains : FilesHaveOneChain) (file : List ℕ) 
       (exchanged read.here.form item.pels) _
       (wide read.here read.page read.bytes read.bytes_are) line.coded
 
-  keeps_wide : (at : Place) (item : Item) (to : Place) → Wide at → IsRow file at (Ok (item, to)) → Wide to
+  keeps_wide : (at : RowPlace) (item : RowItem) (to : RowPlace) → Wide at → IsRow file at (Ok (item, to)) → Wide to
   keeps_wide at item to wide step =
       let read = read_at file at item to step in
       elim (cases_after read.here.form item) [
@@ -373,16 +373,16 @@ module _ (forms : FormsAreWhole) (chains : FilesHaveOneChain) (file : List ℕ) 
             (row_wide at item to wide read))
       ]
 
-  some_first : (at : Cursor) (form : PageForm) (from : Place) (k : ℕ) → ◌≡◌ {A = Result (Place × ℕ) End} (Ok (from, k)) (first_row at form)
+  some_first : (at : Cursor) (form : PageForm) (from : RowPlace) (k : ℕ) → ◌≡◌ {A = Result (RowPlace × ℕ) End} (Ok (from, k)) (first_row at form)
       → (p r : ℕ) × (from ≡ first_at p r)
   some_first at form from k e = by_test (nat_lt at.row form.rows) (at.row == form.rows) e
     where
-      place_of : Result (Place × ℕ) End → Place
+      place_of : Result (RowPlace × ℕ) End → RowPlace
       place_of (Ok begin) = begin.0
       place_of (Err end) = from
 
       by_test : (below last : Bool)
-          → ◌≡◌ {A = Result (Place × ℕ) End} (Ok (from, k))
+          → ◌≡◌ {A = Result (RowPlace × ℕ) End} (Ok (from, k))
           (if below then Ok (first_at at.page (strip_at form at.row * form.rows_per_strip), row_in_strip form at.row)
           else (if last then Ok (first_at (at.page + 1) 0, 0) else Err Outside))
           → (p r : ℕ) × (from ≡ first_at p r)
@@ -390,7 +390,7 @@ module _ (forms : FormsAreWhole) (chains : FilesHaveOneChain) (file : List ℕ) 
       by_test false true e = (_, _, ap place_of e)
       by_test false false e = absurd cc
 
-  begins_wide : (begun : Begun) (from : Place) (k : ℕ) → Begins file begun (Ok (from, k)) → Wide from
+  begins_wide : (begun : Begun) (from : RowPlace) (k : ℕ) → Begins file begun (Ok (from, k)) → Wide from
   begins_wide begun from k (inl (end, page, e)) = absurd cc
   begins_wide (At at) from k (inr (here, page, e)) =
       let first = some_first at here.form from k e in
@@ -403,11 +403,11 @@ module _ (forms : FormsAreWhole) (chains : FilesHaveOneChain) (file : List ℕ) 
       subst (λ (o : Option (List ℕ)). FitsStrip there.form.width o place) bytes_are is_there.fits in
       inner.1)
     where
-      place_of : Result (Place × ℕ) End → Place
+      place_of : Result (RowPlace × ℕ) End → RowPlace
       place_of (Ok begin) = begin.0
       place_of (Err end) = from
 
-  abbrev pub long_of : PageForm → Item → LongPlace
+  abbrev pub long_of : PageForm → RowItem → LongPlace
   long_of form item =
       record { at = record { page = item.page; row = item.row + 1 }; bits = item.bits; runs = runs_of (exchanged form item.pels) }
 
@@ -416,14 +416,14 @@ module _ (forms : FormsAreWhole) (chains : FilesHaveOneChain) (file : List ℕ) 
   some_if false x place e = absurd cc
 
   -- a place inside a strip after an item
-  pub record IsLong (form : PageForm) (item : Item) (place : LongPlace) : Type 0 where
+  pub record IsLong (form : PageForm) (item : RowItem) (place : LongPlace) : Type 0 where
     pub within : item.row + 1 < form.rows
     pub inside : 0 < row_in_strip form (item.row + 1)
     pub after : place_after form item ≡ inner_after form item
     pub is : long_of form item ≡ place
     pub bits : nat_le item.bits 4294967295 ≡ true
 
-  long_facts : (form : PageForm) (item : Item) (place : LongPlace) → long_after form item ≡ Some place → IsLong form item place
+  long_facts : (form : PageForm) (item : RowItem) (place : LongPlace) → long_after form item ≡ Some place → IsLong form item place
   long_facts form item place e =
       let long : (let after = place_after form item in long_at after.page after.row after.inner) ≡ Some place = e in
       elim (cases_after form item) [
@@ -437,7 +437,7 @@ module _ (forms : FormsAreWhole) (chains : FilesHaveOneChain) (file : List ℕ) 
       no_place : ◌≡◌ {A = Option LongPlace} None (Some place) → ⊥
       no_place none = cc
 
-  module _ (begun : Begun) (item : Item) (after : List Item) (end : End) (split : IsSplit file begun item after end)
+  module _ (begun : Begun) (item : RowItem) (after : List RowItem) (end : End) (split : IsSplit file begun item after end)
       (here : FilePage) (page : IsPageAt file (record { page = item.page; row = item.row }) (Ok here)) (place : LongPlace)
       (long : long_after here.form item ≡ Some place) where
     abbrev pub this : IsRead file split.at item split.to
@@ -490,7 +490,7 @@ module _ (forms : FormsAreWhole) (chains : FilesHaveOneChain) (file : List ℕ) 
     long_tail = subst (λ (l : LongPlace). IsTailFrom file (Inside l) after end) facts.is (
       Ok (inner_at (long_of its item), 0),
       inr (this.here, page_here, inl (is_inner, refl)),
-      (after, subst (λ (t : Place). AreFrom (IsRow file) t after end) to_is split.rest, refl),
+      (after, subst (λ (t : RowPlace). AreFrom (IsRow file) t after end) to_is split.rest, refl),
     )
 
     reached_too : IsReached file begun → IsReachedPlace file place
@@ -521,9 +521,9 @@ places_are_reached forms chains file begun all end n item here place reached tai
     long reached
 
 module _ (by_place : AreBitsByPlace) (lines_read : LinesAreRead) (chains : FilesHaveOneChain) (forms : FormsAreWhole) (file : List ℕ) where
-  from_start : (items : List Item) (end : End) → IsTailFrom file (At start) items end → AreItems file items end
+  from_start : (items : List RowItem) (end : End) → IsTailFrom file (At start) items end → AreItems file items end
   from_start items end (begin, (inl (none, page, e)), are) =
-      let both : (items ≡ []) × (end ≡ none) = subst (λ (b : Result (Place × ℕ) End). AreBegun (IsRow file) b items end) e are in
+      let both : (items ≡ []) × (end ≡ none) = subst (λ (b : Result (RowPlace × ℕ) End). AreBegun (IsRow file) b items end) e are in
       rw (both.0, both.1) (inl (none, page, refl))
   from_start items end (begin, (inr (here, page, e)), are) =
       let whole = whole_page file forms start here page in
@@ -534,15 +534,15 @@ module _ (by_place : AreBitsByPlace) (lines_read : LinesAreRead) (chains : Files
       let nothing : 0 * here.form.rows_per_strip ≡ 0 = omega arith in
       let first : first_row start here.form ≡ Ok (first_at 0 0, 0) = rw (test, zero_is.0, zero_is.1, nothing) refl in
       let there : AreBegun (IsRow file) (Ok (first_at 0 0, 0)) items end =
-      subst (λ (b : Result (Place × ℕ) End). AreBegun (IsRow file) b items end) (e ∙ first) are in
-      subst (λ (l : List Item). AreFrom (IsRow file) (first_at 0 0) l end) (sym there.2) there.1
+      subst (λ (b : Result (RowPlace × ℕ) End). AreBegun (IsRow file) b items end) (e ∙ first) are in
+      subst (λ (l : List RowItem). AreFrom (IsRow file) (first_at 0 0) l end) (sym there.2) there.1
 
-  to_start : (items : List Item) (end : End) → AreItems file items end → IsTailFrom file (At start) items end
+  to_start : (items : List RowItem) (end : End) → AreItems file items end → IsTailFrom file (At start) items end
   to_start items end are =
       let one = one_tail_from by_place lines_read chains file (At start) in
       let same = one_from (IsRow file) (one_row by_place lines_read chains file) (first_at 0 0) one.items items one.end end
       (from_start one.items one.end one.is) are in
-      subst (λ (e : End). IsTailFrom file (At start) items e) same.1 (subst (λ (l : List Item). IsTailFrom file (At start) l one.end) same.0
+      subst (λ (e : End). IsTailFrom file (At start) items e) same.1 (subst (λ (l : List RowItem). IsTailFrom file (At start) l one.end) same.0
       one.is)
 
 pub tail_of_start : AreBitsByPlace → LinesAreRead → FilesHaveOneChain → FormsAreWhole → TailOfStart
@@ -550,7 +550,7 @@ tail_of_start by_place lines_read chains forms file items end =
     (from_start by_place lines_read chains forms file items end, to_start by_place lines_read chains forms file items end)
 
 module _ (by_place : AreBitsByPlace) (lines_read : LinesAreRead) (chains : FilesHaveOneChain) (forms : FormsAreWhole) (file : List ℕ) where
-  same_items : (begun other : Begun) (item its : Item) (after more : List Item) (end another : End) → IsReached file begun
+  same_items : (begun other : Begun) (item its : RowItem) (after more : List RowItem) (end another : End) → IsReached file begun
       → IsReached file other
       → (one : IsSplit file begun item after end) → (two : IsSplit file other its more another) → item.page ≡ its.page → item.row ≡ its.row
       → item ≡ its
@@ -575,7 +575,7 @@ module _ (by_place : AreBitsByPlace) (lines_read : LinesAreRead) (chains : Files
       let same_at = one_led (IsRow file) (one_row by_place lines_read chains file)
       (strip_of forms chains file read.here one.at.page one.at.row) from.rows from'.rows one.at two.at count from.lead lead in
       (same_step (one_row by_place lines_read chains file one.at) item its one.to two.to one.step
-      (subst (λ (t : Place). IsRow file t (Ok (its, two.to))) (sym same_at) two.step)).0
+      (subst (λ (t : RowPlace). IsRow file t (Ok (its, two.to))) (sym same_at) two.step)).0
 
 pub items_stand_by_place : AreBitsByPlace → LinesAreRead → FilesHaveOneChain → FormsAreWhole → ItemsStandByPlace
 items_stand_by_place by_place lines_read chains forms file begun other all others end another n m item its reached reached' tail tail' there
@@ -590,7 +590,7 @@ files_have_one_items by_place lines_read chains file =
     (rows_listed by_place lines_read chains file (first_at 0 0) (header file) refl)
 
 -- at a row of a page the rows end there, or at its strip's first row
-stops_at : (form : PageForm) (at : Place) (found : Option (List ℕ)) (end : End) → IsInStrip form at found (Err end)
+stops_at : (form : PageForm) (at : RowPlace) (found : Option (List ℕ)) (end : End) → IsInStrip form at found (Err end)
     → (found ≡ None → at.row ≡ strip_at form at.row * form.rows_per_strip) → EndsBefore end (cursor_at at) → ⊥
 stops_at form at None end stop first before =
     let is : end ≡ Fault at.page (strip_at form at.row * form.rows_per_strip) (File StripOutside) = cc in
@@ -599,7 +599,7 @@ stops_at form at None end stop first before =
 stops_at form at (Some bytes) end (fault, stop, end_is) first before = let ends = rw end_is at before in omega (arith, ends.1)
 
 module _ (chains : FilesHaveOneChain) (file : List ℕ) where
-  ends_on : (at : Place) (here : FilePage) → IsPageAt file (cursor_at at) (Ok here) → (end : End) → IsRow file at (Err end)
+  ends_on : (at : RowPlace) (here : FilePage) → IsPageAt file (cursor_at at) (Ok here) → (end : End) → IsRow file at (Err end)
       → (strip_bytes here.endian file here.offset (strip_at here.form at.row) ≡ None
       → at.row ≡ strip_at here.form at.row * here.form.rows_per_strip)
       → EndsBefore end (cursor_at at) → ⊥
@@ -650,7 +650,7 @@ module _ (chains : FilesHaveOneChain) (file : List ℕ) where
           fault_or_not fault' (length offsets') (omega (arith, within, counts)) end_is
       by_page (Some q) there is (Some q') next counts = on_next q' (page head.endian file q') next
 
-  in_page : (form : PageForm) (at : Place) (found : Option (List ℕ)) (end : End) (before : Cursor) → IsInStrip form at found (Err end)
+  in_page : (form : PageForm) (at : RowPlace) (found : Option (List ℕ)) (end : End) (before : Cursor) → IsInStrip form at found (Err end)
       → before.page < at.page → EndsBefore end before → ⊥
   in_page form at None end before stop less ends =
       let is : end ≡ Fault at.page (strip_at form at.row * form.rows_per_strip) (File StripOutside) = cc in
@@ -669,7 +669,7 @@ module _ (chains : FilesHaveOneChain) (file : List ℕ) where
       in_page there.form (first_at (p + 1) 0) (strip_bytes there.endian file there.offset (strip_at there.form 0)) end at is
       (omega (arith, same)) before
 
-  module _ (forms : FormsAreWhole) (begun : Begun) (item : Item) (end : End) (split : IsSplit file begun item [] end) where
+  module _ (forms : FormsAreWhole) (begun : Begun) (item : RowItem) (end : End) (split : IsSplit file begun item [] end) where
     abbrev end_read : IsRead file split.at item split.to
     end_read = read_at file split.at item split.to split.step
 
@@ -680,8 +680,8 @@ module _ (chains : FilesHaveOneChain) (file : List ℕ) where
     page_there r = subst (λ (p : ℕ). IsPageAt file (record { page = p; row = r }) (Ok end_read.here)) (sym end_read.is.0)
         (any_row file (cursor_at split.at) r end_read.here end_read.page)
 
-    stop_at : (to : Place) → place_after its_form item ≡ to → IsRow file to (Err end)
-    stop_at to is = subst (λ (t : Place). IsRow file t (Err end)) (end_read.to_is ∙ is) split.rest
+    stop_at : (to : RowPlace) → place_after its_form item ≡ to → IsRow file to (Err end)
+    stop_at to is = subst (λ (t : RowPlace). IsRow file t (Err end)) (end_read.to_is ∙ is) split.rest
 
     ends_after_item : EndsBefore end (cursor_after item) → ⊥
     ends_after_item before = elim (cases_after its_form item) [
@@ -703,4 +703,4 @@ pub tails_end_after : FormsAreWhole → FilesHaveOneChain → TailsEndAfter
 tails_end_after forms chains file begun all end n item tail there last before =
     let split = split_at_number file begun all end n item tail there in
     ends_after_item chains file forms begun item end
-    (subst (λ (l : List Item). IsSplit file begun item l end) (drop_all (n + 1) all (omega (arith, last))) split) before
+    (subst (λ (l : List RowItem). IsSplit file begun item l end) (drop_all (n + 1) all (omega (arith, last))) split) before

@@ -18,11 +18,11 @@ use Rattle.fax_walk.specs.declared.opening.OpenFault.TheVariants.{Memory, Ended}
 use Rattle.fax_walk.specs.Pages.{AreFrom, IsPageAt}
 use Rattle.fax_walk.specs.views.InOrder.{EndsAfter, HasToldNoOther}
 use Rattle.fax_walk.specs.laws.InOrder.{LeadTo, IsLeftOf}
-use Rattle.fax_walk.specs.Cursors.{LongPlace}
+use Rattle.fax_walk.specs.Pages.{LongPlace}
 use Rattle.fax_walk.specs.views.Walk.{AreRead, EndsBefore, EntersPage, HasEndedAs, HandsOut, IsCursorOf, IsItemNumber, IsLongOf, IsNext}
 use Rattle.fax_walk.specs.laws.Left.{IsLeft}
 use Rattle.fax_walk.specs.views.Walk.{WalkView}
-use Rattle.fax_walk.specs.Rows.{IsRow, IsTailFrom, Item, Place, begins_at, first_at, place_after}
+use Rattle.fax_walk.specs.Rows.{IsRow, IsTailFrom, RowItem, RowPlace, begins_at, first_at, place_after}
 use Rattle.fax_walk.specs.code.Places.{long_at}
 use Rattle.fax_walk.specs.laws.Tails.{BeginningsHaveOneTail}
 use Rattle.fax_walk.specs.code.Opening.{page_with}
@@ -79,12 +79,12 @@ module _ (file : List ℕ) (begun : Begun) (given : ℕ) (cursor : Cursor) where
             dropped = come.dropped;
             begins = come.begins;
             items = come.items;
-            lead = subst (λ (t : Place). LeadTo (IsRow file) come.first come.items t) (sym opened.place_is) come.lead;
+            lead = subst (λ (t : RowPlace). LeadTo (IsRow file) come.first come.items t) (sym opened.place_is) come.lead;
             count = come.count ∙ sym opened.read_is;
             total = omega (arith, come.total, none, opened.read_is, opened.skips);
             none_left = λ some. opened.skips;
           };
-          stands = subst (λ (t : Place). StandsAt file begun given cursor t) (sym opened.place_is) reads.stands;
+          stands = subst (λ (t : RowPlace). StandsAt file begun given cursor t) (sym opened.place_is) reads.stands;
           named = λ some. absurd (omega (arith, some, opened.skips));
         },
       )
@@ -112,8 +112,8 @@ module _ (file : List ℕ) (begun : Begun) (given : ℕ) (cursor : Cursor) where
       sym (at_end old.form old.page (row_of old) _ all) ∙ last.to_is in
       elim (cases_after last.here.form last.item) [
         | inl (past, is) ↦ omega (arith, past, within)
-        | inr (inl (less, first, is)) ↦ let rows = ap (λ (t : Place). t.row) (next ∙ is) in absurd (omega (arith, rows))
-        | inr (inr (less, inside, is)) ↦ let rows = ap (λ (t : Place). t.row) (next ∙ is) in absurd (omega (arith, rows))
+        | inr (inl (less, first, is)) ↦ let rows = ap (λ (t : RowPlace). t.row) (next ∙ is) in absurd (omega (arith, rows))
+        | inr (inr (less, inside, is)) ↦ let rows = ap (λ (t : RowPlace). t.row) (next ∙ is) in absurd (omega (arith, rows))
       ]
 
   pub enters : (old new : Option PageState) → IsEntered file begun old (Err Memory) new → GoesOnFrom file begun given cursor old
@@ -153,7 +153,7 @@ entered_open file begun (Some old) page (inr (all, opened)) is_open = (opened.is
 
 module _ (by_place : AreBitsByPlace) (lines_read : LinesAreRead) (chains : FilesHaveOneChain) (file : List ℕ) (begun : Begun) (given : ℕ)
     (cursor : Cursor) where
-  listed : (at : Place) → IsListed (IsRow file) at
+  listed : (at : RowPlace) → IsListed (IsRow file) at
   listed at = rows_listed by_place lines_read chains file at (header file) refl
 
   -- the next row that is handed out is read
@@ -161,7 +161,7 @@ module _ (by_place : AreBitsByPlace) (lines_read : LinesAreRead) (chains : Files
     abbrev come : HasCome file begun given old.read (skipped old) (place_of old)
     come = reads.come
 
-    abbrev all : List Item
+    abbrev all : List RowItem
     all = come.items ++ gives.items
 
     lead : LeadTo (IsRow file) come.first all (place_of new)
@@ -172,7 +172,7 @@ module _ (by_place : AreBitsByPlace) (lines_read : LinesAreRead) (chains : Files
     front_count = length-append come.items gives.front ∙ omega (arith, come.count, come.total, gives.count)
 
     all_is : all ≡ (come.items ++ gives.front) ++ gives.item ∷ []
-    all_is = ap (λ (l : List Item). come.items ++ l) gives.items_are ∙ sym (append_assoc come.items gives.front (gives.item ∷ []))
+    all_is = ap (λ (l : List RowItem). come.items ++ l) gives.items_are ∙ sym (append_assoc come.items gives.front (gives.item ∷ []))
 
     number : IsItemNumber file begun given gives.item
     number =
@@ -181,11 +181,11 @@ module _ (by_place : AreBitsByPlace) (lines_read : LinesAreRead) (chains : Files
         let is : AreFrom (IsRow file) come.first whole more.end =
         joined (IsRow file) come.first (place_of new) all more.items more.end lead more.is in
         let parts : whole ≡ (come.items ++ gives.front) ++ gives.item ∷ more.items =
-        ap (λ (l : List Item). l ++ more.items) all_is ∙ append_assoc (come.items ++ gives.front) (gives.item ∷ []) more.items in (
+        ap (λ (l : List RowItem). l ++ more.items) all_is ∙ append_assoc (come.items ++ gives.front) (gives.item ∷ []) more.items in (
           drop come.dropped whole,
           more.end,
           (Ok (come.first, come.dropped), come.begins, (whole, is, refl)),
-          ap (λ (l : List Item). slice_get (drop come.dropped l) given) parts
+          ap (λ (l : List RowItem). slice_get (drop come.dropped l) given) parts
               ∙ number_dropped come.dropped given (come.items ++ gives.front) gives.item more.items front_count,
         )
 
@@ -194,7 +194,7 @@ module _ (by_place : AreBitsByPlace) (lines_read : LinesAreRead) (chains : Files
 
     all_count : length all ≡ new.read
     all_count =
-        let one = ap (λ (l : List Item). length l) gives.items_are ∙ length-append gives.front (gives.item ∷ []) in
+        let one = ap (λ (l : List RowItem). length l) gives.items_are ∙ length-append gives.front (gives.item ∷ []) in
         length-append come.items gives.items ∙ omega (arith, come.count, one, gives.count, gives.read)
 
     module _ (after : Cursor) (after_is : after ≡ record { page = new.page; row = row_of new }) where
@@ -209,8 +209,8 @@ module _ (by_place : AreBitsByPlace) (lines_read : LinesAreRead) (chains : Files
             (Ok (page_with old.directory old.form))) reads.file_is gives.here;
         within = gives.within;
         cursor_is =
-            let rows : row_of new ≡ gives.item.row + 1 = gives.next_row ∙ ap (λ (i : Item). i.row + 1) (sym gives.item_is) in
-            let pages : new.page ≡ gives.item.page = gives.same.page ∙ ap (λ (i : Item). i.page) (sym gives.item_is) in
+            let rows : row_of new ≡ gives.item.row + 1 = gives.next_row ∙ ap (λ (i : RowItem). i.row + 1) (sym gives.item_is) in
+            let pages : new.page ≡ gives.item.page = gives.same.page ∙ ap (λ (i : RowItem). i.page) (sym gives.item_is) in
             after_is ∙ rw (rows, pages) refl;
         to_is = gives.after;
       }
@@ -238,7 +238,7 @@ module _ (by_place : AreBitsByPlace) (lines_read : LinesAreRead) (chains : Files
         ),
         record {
           last = last;
-          pels = ap (λ (i : Item). i.pels) gives.item_is;
+          pels = ap (λ (i : RowItem). i.pels) gives.item_is;
           few = omega (arith, come.total, gives.read, gives.few);
         },
       )
@@ -249,7 +249,7 @@ module _ (file : List ℕ) (begun : Begun) (given : ℕ) (cursor : Cursor) (old 
   abbrev come_so_far : HasCome file begun given old.read (skipped old) (place_of old)
   come_so_far = reads.come
 
-  abbrev items : List Item
+  abbrev items : List RowItem
   items = none.items
 
   left : skipped new + length items ≡ skipped old
@@ -259,7 +259,7 @@ module _ (file : List ℕ) (begun : Begun) (given : ℕ) (cursor : Cursor) (old 
   ended_lead = leads_both (IsRow file) come_so_far.first (place_of old) come_so_far.items items (place_of new) come_so_far.lead
       (subst (λ (f : List ℕ). LeadTo (IsRow f) (place_of old) items (place_of new)) reads.file_is none.skips.lead)
 
-  no_items : (is : List Item) → length is ≡ 0 → LeadTo (IsRow old.directory.file) (place_of old) is (place_of new) → place_of new ≡
+  no_items : (is : List RowItem) → length is ≡ 0 → LeadTo (IsRow old.directory.file) (place_of old) is (place_of new) → place_of new ≡
       place_of old
   no_items [] count lead = lead
   no_items (x ∷ is) count lead = absurd (omega (arith, count))
@@ -269,7 +269,7 @@ module _ (file : List ℕ) (begun : Begun) (given : ℕ) (cursor : Cursor) (old 
   still_stands (inr last) =
       let nothing = come_so_far.none_left (omega (arith, last.count)) in
       let same = no_items items (omega (arith, left, nothing)) none.skips.lead in
-      inr (subst (λ (t : Place). IsAfterItem file begun given cursor t) (sym same) last)
+      inr (subst (λ (t : RowPlace). IsAfterItem file begun given cursor t) (sym same) last)
 
   named_on : 0 < skipped new → (new.page ≡ (begins_at begun).page) × (new.first ≡ (begins_at begun).row)
   named_on some =
@@ -314,7 +314,7 @@ module _ (file : List ℕ) (begun : Begun) (given : ℕ) (cursor : Cursor) where
       let count = come.count in
       let total = come.total in
       let none_left = come.none_left in
-      let all = ap (λ (l : List Item). length l) (append-nil come.items) in (
+      let all = ap (λ (l : List RowItem). length l) (append-nil come.items) in (
         drop come.dropped (come.items ++ []),
         (Ok (come.first, come.dropped), come.begins, (come.items ++ [], is, refl)),
         length-drop come.dropped (come.items ++ []) ∙ (elim (cases_lt 0 given) [
@@ -323,7 +323,7 @@ module _ (file : List ℕ) (begun : Begun) (given : ℕ) (cursor : Cursor) where
         ]),
       )
 
-  ends_left : (tail : List Item → End → Type 0) (end : End) → EndsAfter tail given end → IsLeftOf tail given (Some end) [] end
+  ends_left : (tail : List RowItem → End → Type 0) (end : End) → EndsAfter tail given end → IsLeftOf tail given (Some end) [] end
   ends_left tail end (all, is, count) = record {
     all = all;
     is = is;
@@ -376,7 +376,7 @@ module _ (walk : WalkView) (cursor : Cursor) (page : Option PageState) where
           last.count,
           last.number,
           last.page,
-          place_is ∙ ap (λ (t : Place). long_at t.page t.row t.inner) to,
+          place_is ∙ ap (λ (t : RowPlace). long_at t.page t.row t.inner) to,
         )
   ]
 
@@ -441,7 +441,7 @@ module _ (walk : WalkView) (cursor : Cursor) (page : Option PageState) where
 
   -- what is left
   module _ (by_place : AreBitsByPlace) (lines_read : LinesAreRead) (chains : FilesHaveOneChain) (tails : BeginningsHaveOneTail) where
-    left_first : walk.given ≡ 0 → walk.told ≡ None → (items : List Item) × (end : End) × IsLeft walk items end
+    left_first : walk.given ≡ 0 → walk.told ≡ None → (items : List RowItem) × (end : End) × IsLeft walk items end
     left_first none untold =
         let one = tails file begun in (
           one.items,
@@ -456,7 +456,7 @@ module _ (walk : WalkView) (cursor : Cursor) (page : Option PageState) where
         )
 
     left_on : (at : PageState) → HasReadTo file begun walk.given cursor at → walk.told ≡ None
-        → (items : List Item) × (end : End) × IsLeft walk items end
+        → (items : List RowItem) × (end : End) × IsLeft walk items end
     left_on at reads untold =
         let come = reads.come in
         let more = rows_listed by_place lines_read chains file (place_of at) (header file) refl in
@@ -484,18 +484,18 @@ module _ (walk : WalkView) (cursor : Cursor) (page : Option PageState) where
         )
 
     left_told : (end : End) → HasEndedOn file begun walk.given cursor page end → walk.told ≡ Some end
-        → (items : List Item) × (end : End) × IsLeft walk items end
+        → (items : List RowItem) × (end : End) × IsLeft walk items end
     left_told end ends told =
         let tail = IsTailFrom file begun in
         ([], end, rw told (ends_left file begun walk.given cursor tail end (ends_after file begun walk.given cursor page end ends)))
 
     by_told : (told : Option End) → walk.told ≡ told → (on : Option PageState) → page ≡ on
-        → IsSound file begun walk.given cursor on told → (items : List Item) × (end : End) × IsLeft walk items end
+        → IsSound file begun walk.given cursor on told → (items : List RowItem) × (end : End) × IsLeft walk items end
     by_told None untold None none sound = left_first sound.0.0 untold
     by_told None untold (Some at) is sound = left_on at sound.0.1 untold
     by_told (Some end) told on is sound = left_told end (rw (← is) at sound) told
 
-    pub is_left : Sound walk.told → (items : List Item) × (end : End) × IsLeft walk items end
+    pub is_left : Sound walk.told → (items : List RowItem) × (end : End) × IsLeft walk items end
     is_left sound = by_told walk.told refl page refl sound
 
 -- where the next row is read
@@ -533,7 +533,7 @@ fault_answer old new CursorOutside ended = ended
 -- the row that a walk went to is lent with its place
 pub lent : (old walk : WalkView) (cursor : Cursor) (page : Option PageState) → IsAdvance old (Ok true) walk → (at : PageState)
     → page ≡ Some at → IsSound walk.file walk.begun walk.given cursor page walk.told → (row : List Colour) → row ≡ at.shown
-    → (item : Item) × HandsOut old item walk
+    → (item : RowItem) × HandsOut old item walk
     × ((item.page ≡ cursor.page) × (item.row ≡ cursor.row - 1) × (item.pels ≡ row))
 lent old walk cursor page (untold, few, new_is) at page_is sound row row_is =
     let none : walk.told ≡ None = ap (λ (w : WalkView). w.told) new_is ∙ untold in

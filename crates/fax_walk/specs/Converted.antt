@@ -16,7 +16,7 @@ use Rattle.fax_walk.specs.declared.options.Target.TheVariants as To
 use Rattle.fax_walk.specs.declared.options.ConvertFault.{ConvertFault}
 use Rattle.fax_walk.specs.declared.options.ConvertFault.TheVariants as Refused
 use Rattle.fax_walk.specs.Pages.{PageForm, Proper, Fault, AreFrom, FormItem, IsForm}
-use Rattle.fax_walk.specs.Rows.{IsRow, Item, first_at}
+use Rattle.fax_walk.specs.Rows.{IsRow, RowItem, first_at}
 
 -- a page to be converted: its image and its resolution
 pub record SourcePage : Type 0 where
@@ -32,10 +32,10 @@ abbrev pub IsTiff : List ℕ → Type 0
 IsTiff bytes = BeginsWith bytes (codes "II") ⊎ BeginsWith bytes (codes "MM")
 
 -- the pages of these forms, whose rows are these items in their order (TIFF 6.0, section 2)
-abbrev pub pages_of : List FormItem → List Item → List SourcePage
+abbrev pub pages_of : List FormItem → List RowItem → List SourcePage
 pages_of [] items = []
 pages_of (one ∷ forms) items =
-    let rows = map (λ (item : Item). item.pels) (take one.form.rows items) in
+    let rows = map (λ (item : RowItem). item.pels) (take one.form.rows items) in
     let image : Image = record { width = one.form.width; rows = rows } in
     let resolution : Resolution = record { x = one.form.x; y = one.form.y; unit = one.form.unit } in
     record { image = image; resolution = resolution } ∷ pages_of forms (drop one.form.rows items)
@@ -45,7 +45,7 @@ abbrev pub IsSource : List ℕ → List SourcePage → Type 0
 IsSource bytes pages =
     (IsPbm bytes × (images : List Image) × AreImages bytes images None
     × (pages ≡ map (λ image. record { image = image; resolution = usual_resolution }) images))
-    ⊎ (IsTiff bytes × (forms : List FormItem) × (items : List Item)
+    ⊎ (IsTiff bytes × (forms : List FormItem) × (items : List RowItem)
     × AreFrom (IsForm bytes) 0 forms Proper × AreFrom (IsRow bytes) (first_at 0 0) items Proper
     × (pages ≡ pages_of forms items))
 
@@ -98,7 +98,7 @@ IsNotConverted bytes options (Refused.Pbm image fault) =
     IsPbm bytes × (images : List Image) × AreImages bytes images (Some fault)
     × (image ≡ length images)
 IsNotConverted bytes options (Refused.Source p r cause) =
-    IsTiff bytes × (items : List Item)
+    IsTiff bytes × (items : List RowItem)
     × AreFrom (IsRow bytes) (first_at 0 0) items (Fault p r cause)
 IsNotConverted bytes options Refused.OutputTooLarge =
     (pages : List SourcePage) × IsSource bytes pages

@@ -18,7 +18,7 @@ use Rattle.fax_walk.specs.declared.checking.Report.{Report}
 use Rattle.fax_walk.specs.declared.walk.Place.{Place}
 use Rattle.fax_walk.specs.Pages.{Cause, File, Strip, PageForm, End, Proper, Fault, Outside, AreFrom}
 use Rattle.fax_walk.specs.Pages.{IsOnPage, IsPageAt}
-use Rattle.fax_walk.specs.Rows.{Item, IsRow, first_at}
+use Rattle.fax_walk.specs.Rows.{RowItem, IsRow, first_at}
 pub use Rattle.fax_files.specs.declared.pbm.PbmFault.{PbmFault}
 
 -- the number of a note, and its name
@@ -82,7 +82,7 @@ IsReportedEnd file Outside pages fault = ⊥
 -- what is reported of a file: its notes, how many pages are read wholly, how many rows are read
 -- before the fault, and the fault
 pub record IsReport (file : List ℕ) (report : Report) : Type 0 where
-  pub items : List Item
+  pub items : List RowItem
   pub end : End
   pub read : AreFrom (IsRow file) (first_at 0 0) items end
   pub rows_are : report.rows ≡ length items

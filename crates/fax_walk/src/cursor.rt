@@ -1,7 +1,7 @@
 //! Places in a file's rows.
 ghost use Rattle.std.specs.Prelude.{◌≡◌, ◌≢◌, ℕ, ◌++◌, ◌<◌, ◌^◌, IfOk, OnOk, OnErr, decimal};
 ghost use Rattle.std.specs.String.{string_bytes};
-ghost use Rattle.fax_walk.specs.Cursors.{cursor_text};
+ghost use Rattle.fax_walk.specs.Pages.{cursor_text};
 
 use arrayvec::ArrayString;
 use fax_bits::Memory;
@@ -41,7 +41,7 @@ pub(crate) fn number(digits: &str) -> Result<u32, NotACursor>
 }
 
 impl Cursor {
-    ghost use Rattle.fax_walk.specs.Cursors.{IsCursor};
+    ghost use Rattle.fax_walk.specs.Pages.{IsCursor};
     ghost use Rattle.fax_walk.specs.declared.cursor.Cursor.{Cursor};
 
     /// The cursor of a text `1:P:R`, in decimals without leading zeros up to 4,294,967,295.

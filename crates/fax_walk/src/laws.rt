@@ -6,7 +6,7 @@ ghost use Rattle.fax_walk.specs.laws.Cursors as CursorLaws;
 ghost use Rattle.fax_walk.specs.laws.Forms.{AreFormsLeft};
 ghost use Rattle.fax_walk.specs.laws.Tails as PageLaws;
 ghost use Rattle.fax_walk.specs.laws.Left.{IsLeft};
-ghost use Rattle.fax_walk.specs.Rows.{Item};
+ghost use Rattle.fax_walk.specs.Rows.{RowItem};
 ghost use Rattle.fax_walk.specs.laws.Written as WrittenLaws;
 ghost use Rattle.fax_walk.specs.declared.end.End.{End};
 
@@ -34,7 +34,7 @@ pub fn coded_files_are_walked()
 
 /// Each walk has rows that are due, and an end, also where it has handed out some.
 pub fn walks_have_items(walk: &Walk)
-    ensures { (items : List Item) × (end : End) × IsLeft walk.now items end }
+    ensures { (items : List RowItem) × (end : End) × IsLeft walk.now items end }
 {
     walk.has_items();
 }

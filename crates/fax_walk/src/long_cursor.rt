@@ -3,7 +3,7 @@ ghost use Rattle.std.specs.Prelude.{◌≡◌, ◌≢◌, ℕ, ◌++◌, ◌<◌
 ghost use Rattle.std.specs.Prelude.{IfOk, IfErr, OnOk, OnErr, decimal};
 ghost use Rattle.std.specs.List.{All};
 ghost use Rattle.std.specs.String.{string_bytes};
-ghost use Rattle.fax_walk.specs.Cursors.{LongPlace, IsLongCursor, long_cursor_text, runs_text};
+ghost use Rattle.fax_walk.specs.Pages.{LongPlace, IsLongCursor, long_cursor_text, runs_text};
 ghost use Rattle.fax_walk.specs.code.LongText.{IsNumberCut};
 
 use crate::cursor::{Cursor, number};
@@ -27,7 +27,7 @@ pub struct LongCursor {
 
 impl Model for LongCursor {
     ghost use Rattle.std.specs.Prelude.{⊤};
-    ghost use Rattle.fax_walk.specs.Cursors.{LongPlace};
+    ghost use Rattle.fax_walk.specs.Pages.{LongPlace};
 
     ghost Value = { LongPlace };
 

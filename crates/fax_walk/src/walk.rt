@@ -4,7 +4,7 @@ ghost use Rattle.std.specs.Borrow.{sem};
 ghost use Rattle.fax_walk.specs.declared.begun.Begun.TheVariants.{At, Inside};
 ghost use Rattle.fax_walk.specs.laws.Left.{IsLeft};
 ghost use Rattle.fax_walk.specs.views.Walk.{walk_from};
-ghost use Rattle.fax_walk.specs.Rows.{Item};
+ghost use Rattle.fax_walk.specs.Rows.{RowItem};
 ghost use Rattle.fax_walk.specs.code.Stages.{IsRefusal};
 ghost use Rattle.fax_walk.specs.code.Walk as Spec;
 
@@ -205,7 +205,7 @@ impl<'a> Walk<'a> {
 
     /// Rows are left, and an end. It computes nothing.
     pub(crate) fn has_items(&self)
-        ensures { (items : List Item) × (end : End) × IsLeft self.now items end }
+        ensures { (items : List RowItem) × (end : End) × IsLeft self.now items end }
     {
         fax_bits::laws::bits_stand_by_place();
         fax_page::laws::lines_are_read_in_one_way();

@@ -5,7 +5,7 @@ use Rattle.std.specs.Prelude.{take, Option, Some, None}
 use Rattle.fax_walk.specs.declared.begun.Begun.{Begun}
 use Rattle.fax_walk.specs.declared.begun.Begun.TheVariants.{At, Inside}
 use Rattle.fax_walk.specs.declared.end.End.{End}
-use Rattle.fax_walk.specs.Cursors.{IsCursor, IsLongCursor}
+use Rattle.fax_walk.specs.Pages.{IsCursor, IsLongCursor}
 use Rattle.fax_walk.specs.laws.Tails.{IsReachedPlace}
 use Rattle.fax_tool.specs.Text.{Line, Printed, next_line, texts_of, text_of}
 use Rattle.fax_tool.specs.Run.{AreRowLines}

@@ -11,7 +11,7 @@ use Rattle.fax_tool.specs.declared.words.Command.{Command}
 use Rattle.fax_tool.specs.declared.words.Command.TheVariants.{Check, Convert, List as Forms, Rows}
 use Rattle.fax_tool.specs.declared.words.WordsFault.{WordsFault}
 use Rattle.fax_tool.specs.declared.words.WordsFault.TheVariants.{NotACursor, Usage}
-use Rattle.fax_walk.specs.Cursors.{IsCursor, IsLongCursor}
+use Rattle.fax_walk.specs.Pages.{IsCursor, IsLongCursor}
 
 -- the words give a job, and what its command writes of the file was written
 abbrev pub WritesOfWords : List Text → Input → Output → Output → ℕ → Type 0

@@ -14,14 +14,14 @@ use Rattle.fax_walk.specs.declared.end.End.TheVariants.{Fault}
 use Rattle.fax_walk.specs.Pages.{AreFrom, IsPageAt}
 use Rattle.fax_walk.specs.code.Opening.{page_or_end}
 use Rattle.fax_walk.specs.laws.InOrder.{LeadTo}
-use Rattle.fax_walk.specs.Rows.{Item, Place, first_at, IsRow}
+use Rattle.fax_walk.specs.Rows.{RowItem, RowPlace, first_at, IsRow}
 use Rattle.fax_walk.specs.Report.{Checked, IsNoted}
 use Rattle.fax_walk.specs.code.Stages.{most_rows}
 
 -- how far a file is checked: what is checked next, and the row that is due
 pub record CheckPlace : Type 0 where
   pub next : Checked
-  pub row : Place
+  pub row : RowPlace
 
 -- before page p
 abbrev pub before_page : ℕ → CheckPlace
@@ -40,7 +40,7 @@ pub record HasChecked (file : List ℕ) (from to : CheckPlace) (notes : List Not
   pub found : List (List Note)
   pub lead : LeadTo (IsNoted file) from.next found to.next
   pub notes_are : notes ≡ flat_map (λ own. own) found
-  pub items : List Item
+  pub items : List RowItem
   pub lead_rows : LeadTo (IsRow file) from.row items to.row
   pub count : rows ≡ length items
 
@@ -50,7 +50,7 @@ pub record IsCheckedTo (file : List ℕ) (from : CheckPlace) (notes : List Note)
   pub found : List (List Note)
   pub are : AreFrom (IsNoted file) from.next found end
   pub notes_are : notes ≡ flat_map (λ own. own) found
-  pub items : List Item
+  pub items : List RowItem
   pub are_rows : AreFrom (IsRow file) from.row items end
   pub count : rows ≡ length items
 

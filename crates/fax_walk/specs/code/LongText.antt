@@ -3,6 +3,10 @@ use Rattle.std.specs.Prelude.{◌≡◌, ◌≢◌, ℕ, ◌^◌, ◌<◌, List,
 use Rattle.std.specs.Prelude.{Option}
 use Rattle.std.specs.Borrow.{Bor}
 
+-- a run after a comma
+abbrev pub and_run : ℕ → List ℕ
+and_run run = codes "," ++ decimal run
+
 -- a text that begins with a number and a colon
 abbrev pub number_and : ℕ → List ℕ → List ℕ
 number_and number rest = decimal number ++ (codes ":" ++ rest)

@@ -11,12 +11,12 @@ use Rattle.fax_walk.specs.declared.begun.Begun.{Begun}
 use Rattle.fax_walk.specs.declared.cursor.Cursor.{Cursor}
 use Rattle.fax_walk.specs.declared.end.End.{End}
 use Rattle.fax_walk.specs.declared.end.End.TheVariants.{Outside}
-use Rattle.fax_walk.specs.Cursors.{LongPlace}
+use Rattle.fax_walk.specs.Pages.{LongPlace}
 use Rattle.fax_walk.specs.Pages.{IsOnPage}
-use Rattle.fax_walk.specs.Rows.{BeginsOn, Inner, Item, Place, before, begins_at, exchanged, first_at}
+use Rattle.fax_walk.specs.Rows.{BeginsOn, Inner, RowItem, RowPlace, before, begins_at, exchanged, first_at}
 
 -- the cursor of a place
-abbrev pub cursor_at : Place → Cursor
+abbrev pub cursor_at : RowPlace → Cursor
 cursor_at at = record { page = at.page; row = at.row }
 
 -- the number of the strip that holds row r, and the row's number in it (TIFF 6.0, RowsPerStrip)
@@ -27,7 +27,7 @@ abbrev pub row_in_strip : PageForm → ℕ → ℕ
 row_in_strip form r = r % form.rows_per_strip
 
 -- the place of row r of a page: inside its strip, at a strip's first row, or on the page after
-abbrev pub place_on : PageForm → ℕ → ℕ → Inner → Place
+abbrev pub place_on : PageForm → ℕ → ℕ → Inner → RowPlace
 place_on form p r inner =
     if nat_lt r form.rows
     then (if row_in_strip form r == 0 then first_at p r
@@ -35,7 +35,7 @@ place_on form p r inner =
     else first_at (p + 1) 0
 
 -- the row at a place, in these bytes of its strip
-abbrev pub IsItem : PageForm → List ℕ → Place → Item → Type 0
+abbrev pub IsItem : PageForm → List ℕ → RowPlace → RowItem → Type 0
 IsItem form bytes at item =
     (item.page ≡ at.page) × (item.row ≡ at.row) × (item.bits ≤ 8 * length bytes)
     × IsLine (strip_form form (strip_at form at.row)) (row_in_strip form at.row)
@@ -44,7 +44,7 @@ IsItem form bytes at item =
     (drop item.bits (bits form.order bytes))
 
 -- where a walk from a cursor begins, and how many rows it reads before the cursor's
-abbrev pub first_row : Cursor → PageForm → Result (Place × ℕ) End
+abbrev pub first_row : Cursor → PageForm → Result (RowPlace × ℕ) End
 first_row at form =
     let strip = first_at at.page (strip_at form at.row * form.rows_per_strip) in
     if nat_lt at.row form.rows then Ok (strip, row_in_strip form at.row)
@@ -61,7 +61,7 @@ abbrev pub FitsStrip : ℕ → Option (List ℕ) → LongPlace → Type 0
 FitsStrip width found place = IfSome found (λ bytes. IsInner width bytes place)
 
 -- where a walk begins in a file
-abbrev pub Begins : List ℕ → Begun → Result (Place × ℕ) End → Type 0
+abbrev pub Begins : List ℕ → Begun → Result (RowPlace × ℕ) End → Type 0
 Begins file begun = IsOnPage file (begins_at begun) (BeginsOn file begun)
 
 -- the place inside a strip at a place, as a long cursor names it, if its bits have 32 bits

@@ -17,13 +17,13 @@ use Rattle.fax_walk.specs.declared.options.ConvertFault.{ConvertFault}
 use Rattle.fax_walk.specs.declared.options.ConvertFault.TheVariants.{Source, Memory}
 use Rattle.fax_walk.specs.declared.output.Output.{Output}
 use Rattle.fax_walk.specs.declared.sheet.Sheet.{Sheet}
-use Rattle.fax_walk.specs.Cursors.{start}
+use Rattle.fax_walk.specs.Pages.{start}
 use Rattle.fax_walk.specs.laws.InOrder.{LeadTo}
 use Rattle.fax_walk.specs.views.InOrder.{EndsAfter}
 use Rattle.fax_walk.specs.Pages.{FormItem, IsForm}
 use Rattle.fax_walk.specs.Converted.{SourcePage}
 use Rattle.fax_walk.specs.laws.Tails.{AreForms, AreItems}
-use Rattle.fax_walk.specs.Rows.{Item, Place, first_at, IsRow}
+use Rattle.fax_walk.specs.Rows.{RowItem, RowPlace, first_at, IsRow}
 use Rattle.fax_walk.specs.views.Walk.{WalkView}
 use Rattle.fax_walk.specs.views.Pages.{PagesView}
 use Rattle.fax_walk.specs.code.Output.{Progress, Part, no_rows, image_sheet, IsPartWritten}
@@ -77,17 +77,17 @@ pub record AreImagesWritten (bytes left : List ℕ) (options : Options) (total c
   })
 
 -- the rows of items
-abbrev pub pels_of : List Item → List (List Colour)
+abbrev pub pels_of : List RowItem → List (List Colour)
 pels_of items = map (λ item. item.pels) items
 
 -- the rows end at a place with a fault
-abbrev pub IsFaultAt : List ℕ → Place → Type 0
+abbrev pub IsFaultAt : List ℕ → RowPlace → Type 0
 IsFaultAt file to = (p r : ℕ) × (cause : Cause) × IsRow file to (Err (Fault p r cause))
 
 -- from a place on so many rows stand, so wide, and lead to the last place; or fewer, and a fault
-pub record HasRows (file : List ℕ) (from : Place) (width rows : ℕ) (last : Place) : Type 0 where
-  pub own : List Item
-  pub to : Place
+pub record HasRows (file : List ℕ) (from : RowPlace) (width rows : ℕ) (last : RowPlace) : Type 0 where
+  pub own : List RowItem
+  pub to : RowPlace
   pub lead : LeadTo (IsRow file) from own to
   pub wide : AreOfWidth width (pels_of own)
   pub ends : ((length own ≡ rows) × (to ≡ last)) ⊎ ((length own < rows) × IsFaultAt file to)
@@ -96,18 +96,18 @@ pub record HasRows (file : List ℕ) (from : Place) (width rows : ℕ) (last : P
 -- rows begins, so wide
 pub record IsBeforePage (walk : WalkView) (width rows : ℕ) : Type 0 where
   pub from_start : walk.begun ≡ At start
-  pub before : List Item
-  pub at : Place
+  pub before : List RowItem
+  pub at : RowPlace
   pub lead : LeadTo (IsRow walk.file) (first_at 0 0) before at
   pub given : length before ≡ walk.given
-  pub last : Place
+  pub last : RowPlace
   pub page : HasRows walk.file at width rows last
 
 -- the items are all rows of pages of these forms, which are these pages
-abbrev pub AreWholePages : List FormItem → List Item → List SourcePage → Type 0
+abbrev pub AreWholePages : List FormItem → List RowItem → List SourcePage → Type 0
 AreWholePages [] items pages = (items ≡ []) × (pages ≡ [])
 AreWholePages (one ∷ forms) items pages =
-    (own others : List Item) × (later : List SourcePage) × (items ≡ own ++ others)
+    (own others : List RowItem) × (later : List SourcePage) × (items ≡ own ++ others)
     × (length own ≡ one.form.rows)
     × (pages ≡ page_of_form one.form (map (λ item. item.pels) own) ∷ later)
     × AreWholePages forms others later
@@ -123,7 +123,7 @@ pub record ConvertsRows (walk : WalkView) (output : Output) (sheet : Sheet) (new
 
 -- the rows of a file end with this fault
 pub record EndsWith (file : List ℕ) (fault : ConvertFault) : Type 0 where
-  pub items : List Item
+  pub items : List RowItem
   pub page : ℕ
   pub row : ℕ
   pub cause : Cause
@@ -147,7 +147,7 @@ pub record ArePagesWritten (file : List ℕ) (options : Options) (total : ℕ) (
   pub lead_forms : LeadTo (IsForm file) 0 forms pages.given
   pub forms_given : length forms ≡ pages.given
   pub pages_from : (pages.file ≡ file) × (pages.begun ≡ start)
-  pub items : List Item
+  pub items : List RowItem
   pub lead_items : LeadTo (IsRow file) (first_at 0 0) items (first_at pages.given 0)
   pub items_given : length items ≡ walk.given
   pub walk_from : (walk.file ≡ file) × (walk.begun ≡ At start)

@@ -19,10 +19,10 @@ use Rattle.fax_walk.specs.declared.end.End.{End}
 use Rattle.fax_walk.specs.declared.end.End.TheVariants.{Fault, Outside}
 use Rattle.fax_walk.specs.declared.opening.OpenFault.{OpenFault}
 use Rattle.fax_walk.specs.declared.opening.OpenFault.TheVariants.{Memory, Ended}
-use Rattle.fax_walk.specs.Cursors.{LongPlace}
+use Rattle.fax_walk.specs.Pages.{LongPlace}
 use Rattle.fax_walk.specs.laws.InOrder.{LeadTo}
 use Rattle.fax_walk.specs.Pages.{IsPageAt}
-use Rattle.fax_walk.specs.Rows.{Item, Place, IsInnerOn, IsRow, place_after, first_at}
+use Rattle.fax_walk.specs.Rows.{RowItem, RowPlace, IsInnerOn, IsRow, place_after, first_at}
 use Rattle.fax_walk.specs.code.Places.{IsInner}
 use Rattle.fax_walk.specs.Rows.{inner_at}
 use Rattle.fax_walk.specs.code.Places.{strip_at}
@@ -52,7 +52,7 @@ abbrev pub skipped : PageState → ℕ
 skipped page = page.first - row_of page
 
 -- the place of the row that is due, or the first one of the page after
-abbrev pub place_of : PageState → Place
+abbrev pub place_of : PageState → RowPlace
 place_of page =
     place_on page.form page.page (row_of page)
     (record { bits = page.strip.place; reference = page.strip.reference })
@@ -104,7 +104,7 @@ pub record IsOpen (page : PageState) : Type 0 where
 
 -- a page of the file was opened at this place; so many rows are read before the first one that is
 -- handed out, and so many were read before
-pub record IsOpenedAt (file : List ℕ) (at : Place) (dropped read : ℕ)
+pub record IsOpenedAt (file : List ℕ) (at : RowPlace) (dropped read : ℕ)
     (page : PageState) : Type 0 where
   pub is_open : IsOpen page
   pub file_is : page.directory.file ≡ file
@@ -114,7 +114,7 @@ pub record IsOpenedAt (file : List ℕ) (at : Place) (dropped read : ℕ)
   pub read_is : page.read ≡ read
 
 -- the same, and where rows are skipped its first row that is handed out is this one
-pub record IsOpenedFrom (file : List ℕ) (at : Place) (dropped : ℕ) (begun : Cursor)
+pub record IsOpenedFrom (file : List ℕ) (at : RowPlace) (dropped : ℕ) (begun : Cursor)
     (page : PageState) : Type 0 where
   pub opened : IsOpenedAt file at dropped 0 page
   pub named : 0 < dropped → (page.page ≡ begun.page) × (page.first ≡ begun.row)
@@ -164,7 +164,7 @@ abbrev pub EndsAtRow : PageState → End → Type 0
 EndsAtRow page end = (cause : Cause) × (end ≡ Fault page.page (row_of page) cause)
 
 -- the row that is due is an item
-abbrev pub item_of : PageState → ℕ → PageState → Item
+abbrev pub item_of : PageState → ℕ → PageState → RowItem
 item_of old r new =
     record { page = old.page; row = r; pels = new.shown; bits = new.strip.place }
 
@@ -203,7 +203,7 @@ pub record StopsAtRow (old : PageState) (end : End) : Type 0 where
   pub told : EndsAtRow old end
 
 -- these rows were read, which are not handed out
-pub record HasSkipped (old new : PageState) (items : List Item) : Type 0 where
+pub record HasSkipped (old new : PageState) (items : List RowItem) : Type 0 where
   pub same : IsSamePage old new
   pub lead : LeadTo (IsRow old.directory.file) (place_of old) items (place_of new)
   pub rows : row_of new ≡ row_of old + length items
@@ -214,10 +214,10 @@ pub record HasSkipped (old new : PageState) (items : List Item) : Type 0 where
 pub record GivesRow (old new : PageState) : Type 0 where
   pub same : IsSamePage old new
   pub still_open : IsOpen new
-  pub items : List Item
+  pub items : List RowItem
   pub lead : LeadTo (IsRow old.directory.file) (place_of old) items (place_of new)
-  pub front : List Item
-  pub item : Item
+  pub front : List RowItem
+  pub item : RowItem
   pub items_are : items ≡ front ++ item ∷ []
   pub count : length front ≡ skipped old
   pub item_is : item ≡ item_of old (row_of old + skipped old) new
@@ -231,7 +231,7 @@ pub record GivesRow (old new : PageState) : Type 0 where
 
 -- the rows end before the next one that is handed out: some before it were read
 pub record GivesNone (old : PageState) (end : End) (new : PageState) : Type 0 where
-  pub items : List Item
+  pub items : List RowItem
   pub skips : HasSkipped old new items
   pub stop : IsRow old.directory.file (place_of new) (Err end)
   pub told : EndsAtRow new end

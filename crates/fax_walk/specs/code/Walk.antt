@@ -12,7 +12,7 @@ use Rattle.fax_walk.specs.declared.opening.OpenFault.{OpenFault}
 use Rattle.fax_walk.specs.declared.opening.OpenFault.TheVariants.{Memory as NoMemory, Ended}
 use Rattle.fax_walk.specs.laws.InOrder.{LeadTo}
 use Rattle.fax_walk.specs.Pages.{FilePage, IsPageAt}
-use Rattle.fax_walk.specs.Rows.{Item, Place, IsRow, IsTailFrom, begins_at, cursor_after}
+use Rattle.fax_walk.specs.Rows.{RowItem, RowPlace, IsRow, IsTailFrom, begins_at, cursor_after}
 use Rattle.fax_walk.specs.code.Places.{Begins}
 use Rattle.fax_walk.specs.Rows.{place_after}
 use Rattle.fax_walk.specs.views.Walk.{WalkView, IsItemNumber, EntersPage, HasEndedAs, AreRead}
@@ -23,7 +23,7 @@ use Rattle.fax_walk.specs.code.Stages.{IsOpenedFrom, IsRefusal}
 
 -- the first page of a walk was opened
 pub record IsOpenedFirst (file : List ℕ) (begun : Begun) (page : PageState) : Type 0 where
-  pub first : Place
+  pub first : RowPlace
   pub dropped : ℕ
   pub begins : Begins file begun (Ok (first, dropped))
   pub from : IsOpenedFrom file first dropped (begins_at begun) page
@@ -58,11 +58,11 @@ IsEntered file begun old (Ok tt) None = ⊥
 -- these items lead to a place from where a walk began: those that it handed out, and those before
 -- the first of them in its strip, but for the ones that it still skips
 pub record HasCome (file : List ℕ) (begun : Begun) (given read skips : ℕ)
-    (to : Place) : Type 0 where
-  pub first : Place
+    (to : RowPlace) : Type 0 where
+  pub first : RowPlace
   pub dropped : ℕ
   pub begins : Begins file begun (Ok (first, dropped))
-  pub items : List Item
+  pub items : List RowItem
   pub lead : LeadTo (IsRow file) first items to
   pub count : length items ≡ read
   pub total : read + skips ≡ given + dropped
@@ -70,9 +70,9 @@ pub record HasCome (file : List ℕ) (begun : Begun) (given read skips : ℕ)
 
 -- the item that was handed out last, after which the cursor stands, leads to this place
 pub record IsAfterItem (file : List ℕ) (begun : Begun) (given : ℕ) (cursor : Cursor)
-    (to : Place) : Type 0 where
+    (to : RowPlace) : Type 0 where
   pub before : ℕ
-  pub item : Item
+  pub item : RowItem
   pub here : FilePage
   pub count : given ≡ before + 1
   pub number : IsItemNumber file begun before item
@@ -82,7 +82,7 @@ pub record IsAfterItem (file : List ℕ) (begun : Begun) (given : ℕ) (cursor :
   pub to_is : to ≡ place_after here.form item
 
 -- the cursor stands where the walk began, or after the item that was handed out last
-abbrev pub StandsAt : List ℕ → Begun → ℕ → Cursor → Place → Type 0
+abbrev pub StandsAt : List ℕ → Begun → ℕ → Cursor → RowPlace → Type 0
 StandsAt file begun given cursor to =
     ((given ≡ 0) × (cursor ≡ begins_at begun)) ⊎ IsAfterItem file begun given cursor to
 

@@ -4,22 +4,22 @@ use Rattle.std.specs.Prelude.{◌≡◌, ℕ, ◌^◌, ◌≤◌, List, length, 
 use Rattle.fax_walk.specs.declared.begun.Begun.{Begun}
 use Rattle.fax_walk.specs.declared.cursor.Cursor.{Cursor}
 use Rattle.fax_walk.specs.declared.end.End.{End}
-use Rattle.fax_walk.specs.Cursors.{IsCursor, cursor_text, IsLongCursor, LongPlace, long_cursor_text}
+use Rattle.fax_walk.specs.Pages.{IsCursor, cursor_text, IsLongCursor, LongPlace, long_cursor_text}
 use Rattle.fax_walk.specs.Pages.{FilePage, IsPageAt}
-use Rattle.fax_walk.specs.Rows.{Item, IsTailFrom, cursor_after, long_after}
+use Rattle.fax_walk.specs.Rows.{RowItem, IsTailFrom, cursor_after, long_after}
 use Rattle.fax_walk.specs.laws.Tails.{IsReached}
 
 -- the numbers of the cursor after item number n have 32 bits, where those of the file's length do
 abbrev pub CursorsAreShort : Type 0
 CursorsAreShort =
-    (file : List ℕ) (begun : Begun) (all : List Item) (end : End) (n : ℕ) (item : Item)
+    (file : List ℕ) (begun : Begun) (all : List RowItem) (end : End) (n : ℕ) (item : RowItem)
     → length file ≤ 2 ^ 32 → IsReached file begun → IsTailFrom file begun all end
     → slice_get all n ≡ Some item → IsCursor (cursor_after item)
 
 -- and so have those of the place inside a strip after it, if there is one
 abbrev pub PlacesAreShort : Type 0
 PlacesAreShort =
-    (file : List ℕ) (begun : Begun) (all : List Item) (end : End) (n : ℕ) (item : Item)
+    (file : List ℕ) (begun : Begun) (all : List RowItem) (end : End) (n : ℕ) (item : RowItem)
     (here : FilePage) (place : LongPlace)
     → length file ≤ 2 ^ 32 → IsTailFrom file begun all end → slice_get all n ≡ Some item
     → IsPageAt file (record { page = item.page; row = item.row }) (Ok here)

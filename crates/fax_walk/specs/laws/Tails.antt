@@ -6,7 +6,7 @@ use Rattle.fax_walk.specs.declared.begun.Begun.{Begun}
 use Rattle.fax_walk.specs.declared.begun.Begun.TheVariants.{At, Inside}
 use Rattle.fax_walk.specs.declared.cursor.Cursor.{Cursor}
 use Rattle.fax_walk.specs.declared.end.End.{End}
-use Rattle.fax_walk.specs.Cursors.{start, LongPlace}
+use Rattle.fax_walk.specs.Pages.{start, LongPlace}
 use Rattle.fax_walk.specs.Pages.{FormItem, IsForm, IsFormTail, FilePage, IsPageAt}
 use Rattle.fax_walk.specs.Pages.{AreFrom}
 use Rattle.fax_walk.specs.views.Pages.{PagesView, HandsOutPage, PagesHaveEnded}
@@ -17,14 +17,14 @@ use Rattle.fax_bits.specs.laws.Codes.{IsOne}
 use Rattle.fax_walk.specs.views.Walk.{WalkView, EndsBefore, IsTailOf, IsItemNumber, IsCursorOf}
 use Rattle.fax_walk.specs.laws.Left.{IsLeft}
 use Rattle.fax_walk.specs.views.Walk.{IsLongOf}
-use Rattle.fax_walk.specs.Rows.{Item, first_at, inner_at, IsRow, IsTailFrom}
+use Rattle.fax_walk.specs.Rows.{RowItem, first_at, inner_at, IsRow, IsTailFrom}
 use Rattle.fax_walk.specs.Rows.{cursor_after, long_after}
 
 -- the forms of a file's pages, and its rows, each with their end
 abbrev pub AreForms : List ℕ → List FormItem → End → Type 0
 AreForms file forms end = AreFrom (IsForm file) 0 forms end
 
-abbrev pub AreItems : List ℕ → List Item → End → Type 0
+abbrev pub AreItems : List ℕ → List RowItem → End → Type 0
 AreItems file items end = AreFrom (IsRow file) (first_at 0 0) items end
 
 -- whatever a walk begins with has a tail and an end, and one only
@@ -39,14 +39,14 @@ CursorsNameOnePage =
 
 -- the tail from the first cursor is all items of the file
 abbrev pub TailOfStart : Type 0
-TailOfStart = (file : List ℕ) (items : List Item) (end : End)
+TailOfStart = (file : List ℕ) (items : List RowItem) (end : End)
     → IsTailFrom file (At start) items end ↔ AreItems file items end
 
 -- rows of its strip lead to a place inside a strip, from the strip's first row on
 pub record IsReachedPlace (file : List ℕ) (place : LongPlace) : Type 0 where
   pub here : FilePage
   pub page : IsPageAt file place.at (Ok here)
-  pub rows : List Item
+  pub rows : List RowItem
   pub lead : LeadTo (IsRow file) (first_at place.at.page
       (place.at.row / here.form.rows_per_strip * here.form.rows_per_strip)) rows (inner_at place)
   pub count : length rows ≡ place.at.row % here.form.rows_per_strip
@@ -59,7 +59,7 @@ IsReached file (Inside place) = IsReachedPlace file place
 -- what follows item number n is the tail from the cursor after it, with the same end
 abbrev pub TailsGoOn : Type 0
 TailsGoOn =
-    (file : List ℕ) (begun : Begun) (all : List Item) (end : End) (n : ℕ) (item : Item)
+    (file : List ℕ) (begun : Begun) (all : List RowItem) (end : End) (n : ℕ) (item : RowItem)
     → IsReached file begun → IsTailFrom file begun all end → slice_get all n ≡ Some item
     → IsTailFrom file (At (cursor_after item)) (drop (n + 1) all) end
 
@@ -67,7 +67,7 @@ TailsGoOn =
 -- with the same end
 abbrev pub LongTailsGoOn : Type 0
 LongTailsGoOn =
-    (file : List ℕ) (begun : Begun) (all : List Item) (end : End) (n : ℕ) (item : Item)
+    (file : List ℕ) (begun : Begun) (all : List RowItem) (end : End) (n : ℕ) (item : RowItem)
     (here : FilePage) (place : LongPlace)
     → IsTailFrom file begun all end → slice_get all n ≡ Some item
     → IsPageAt file (record { page = item.page; row = item.row }) (Ok here)
@@ -77,7 +77,7 @@ LongTailsGoOn =
 -- a place inside a strip after an item is one to which its strip's rows lead
 abbrev pub PlacesAreReached : Type 0
 PlacesAreReached =
-    (file : List ℕ) (begun : Begun) (all : List Item) (end : End) (n : ℕ) (item : Item)
+    (file : List ℕ) (begun : Begun) (all : List RowItem) (end : End) (n : ℕ) (item : RowItem)
     (here : FilePage) (place : LongPlace)
     → IsReached file begun → IsTailFrom file begun all end → slice_get all n ≡ Some item
     → IsPageAt file (record { page = item.page; row = item.row }) (Ok here)
@@ -88,8 +88,8 @@ PlacesAreReached =
 -- so there is one place inside a strip after an item, or none
 abbrev pub ItemsStandByPlace : Type 0
 ItemsStandByPlace =
-    (file : List ℕ) (begun other : Begun) (all others : List Item) (end another : End) (n m : ℕ)
-    (item its : Item)
+    (file : List ℕ) (begun other : Begun) (all others : List RowItem) (end another : End) (n m : ℕ)
+    (item its : RowItem)
     → IsReached file begun → IsReached file other → IsTailFrom file begun all end
     → IsTailFrom file other others another → slice_get all n ≡ Some item
     → slice_get others m ≡ Some its → item.page ≡ its.page → item.row ≡ its.row → item ≡ its
@@ -98,7 +98,7 @@ ItemsStandByPlace =
 -- read all rows before the cursor's in its strip
 abbrev pub TailsEndAfter : Type 0
 TailsEndAfter =
-    (file : List ℕ) (begun : Begun) (all : List Item) (end : End) (n : ℕ) (item : Item)
+    (file : List ℕ) (begun : Begun) (all : List RowItem) (end : End) (n : ℕ) (item : RowItem)
     → IsTailFrom file begun all end → slice_get all n ≡ Some item → n + 1 ≡ length all
     → EndsBefore end (cursor_after item) → ⊥
 
@@ -141,19 +141,19 @@ FormTailsGoOn =
 -- what a walk still hands out is one list with one end
 abbrev pub LeftIsOne : Type 0
 LeftIsOne =
-    (walk : WalkView) (items others : List Item) (end other : End) → IsLeft walk items end
+    (walk : WalkView) (items others : List RowItem) (end other : End) → IsLeft walk items end
     → IsLeft walk others other
     → (items ≡ others) × (end ≡ other)
 
 -- the first of what a walk still hands out is item number `given` of what it hands out in all
 abbrev pub LeftIsNumber : Type 0
-LeftIsNumber = (walk : WalkView) (item : Item) (items : List Item) (end : End)
+LeftIsNumber = (walk : WalkView) (item : RowItem) (items : List RowItem) (end : End)
     → IsLeft walk (item ∷ items) end → IsItemNumber walk.file walk.begun walk.given item
 
 -- where a walk hands out item number `given`, what was left is that item, and then what is left
 abbrev pub LeftGoesOn : Type 0
 LeftGoesOn =
-    (walk : WalkView) (item : Item) (items : List Item) (end : End)
+    (walk : WalkView) (item : RowItem) (items : List RowItem) (end : End)
     → walk.told ≡ None → IsItemNumber walk.file walk.begun walk.given item
     → IsLeft (record walk { given = walk.given + 1 }) items end → IsLeft walk (item ∷ items) end
 
@@ -166,14 +166,14 @@ LeftEnds =
 -- what a walk still hands out after its first item is the tail from its cursor
 abbrev pub LeftIsTail : Type 0
 LeftIsTail =
-    (walk : WalkView) (items : List Item) (end : End) (at : Cursor)
+    (walk : WalkView) (items : List RowItem) (end : End) (at : Cursor)
     → 0 < walk.given → IsReached walk.file walk.begun → IsLeft walk items end → IsCursorOf walk at
     → IsTailFrom walk.file (At at) items end
 
 -- what a walk still hands out is the tail from its place inside a strip, where it has one
 abbrev pub LeftIsLongTail : Type 0
 LeftIsLongTail =
-    (walk : WalkView) (items : List Item) (end : End) (place : LongPlace)
+    (walk : WalkView) (items : List RowItem) (end : End) (place : LongPlace)
     → IsLeft walk items end → IsLongOf walk (Some place)
     → IsTailFrom walk.file (Inside place) items end
 

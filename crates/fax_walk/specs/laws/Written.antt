@@ -18,7 +18,7 @@ use Rattle.fax_walk.specs.declared.options.Options.{Options}
 use Rattle.fax_walk.specs.Converted.{SourcePage, written_page}
 use Rattle.fax_walk.specs.laws.Tails.{AreForms, AreItems}
 use Rattle.fax_walk.specs.Pages.{FormItem}
-use Rattle.fax_walk.specs.Rows.{Item}
+use Rattle.fax_walk.specs.Rows.{RowItem}
 
 -- a row with its page and its number there, both from 0
 pub record WalkedRow : Type 0 where
@@ -27,7 +27,7 @@ pub record WalkedRow : Type 0 where
   pub pels : List Colour
 
 -- an item, without its place in the bits of its strip
-abbrev pub walked : Item → WalkedRow
+abbrev pub walked : RowItem → WalkedRow
 walked item = record { page = item.page; row = item.row; pels = item.pels }
 
 -- rows of page p, from row r on
@@ -55,7 +55,7 @@ forms_of p (written ∷ pages) = record { page = p; form = written.form } ∷ fo
 -- properly
 pub record IsWalkedAs (file : List ℕ) (pages : List WrittenPage)
     (rows : List (List (List Colour))) : Type 0 where
-  pub items : List Item
+  pub items : List RowItem
   pub are : AreItems file items Proper
   pub rows_are : map walked items ≡ rows_of 0 rows
   pub forms : AreForms file (forms_of 0 pages) Proper

@@ -11,11 +11,10 @@ use Rattle.fax_walk.specs.declared.end.End.TheVariants.{Proper, Fault, Outside}
 use Rattle.fax_walk.specs.declared.end.WalkFault.{WalkFault}
 use Rattle.fax_walk.specs.declared.end.WalkFault.TheVariants.{Memory, AtRow, CursorOutside}
 use Rattle.fax_walk.specs.declared.walk.Place.{Place}
-use Rattle.fax_walk.specs.Cursors.{start, LongPlace}
+use Rattle.fax_walk.specs.Pages.{start, LongPlace}
 use Rattle.fax_walk.specs.views.InOrder.{IsNumber, EndsAfter, HasToldNoOther}
 use Rattle.fax_walk.specs.Pages.{FilePage, IsOnPage, IsPageAt}
-use Rattle.fax_walk.specs.Rows as Rows
-use Rattle.fax_walk.specs.Rows.{BeginsOn, Item, IsTailFrom, begins_at, cursor_after, long_after}
+use Rattle.fax_walk.specs.Rows.{BeginsOn, RowItem, RowPlace, IsTailFrom, begins_at, cursor_after, long_after}
 
 -- a walk: its file, what it began with, how many rows it handed out, and how the rows ended, once
 -- it told that
@@ -34,11 +33,11 @@ abbrev pub walk_start : List ℕ → WalkView
 walk_start file = walk_from file (At start)
 
 -- what a walk hands out in all
-abbrev pub IsTailOf : WalkView → List Item → End → Type 0
+abbrev pub IsTailOf : WalkView → List RowItem → End → Type 0
 IsTailOf walk = IsTailFrom walk.file walk.begun
 
 -- item number n of what a walk hands out that began so
-abbrev pub IsItemNumber : List ℕ → Begun → ℕ → Item → Type 0
+abbrev pub IsItemNumber : List ℕ → Begun → ℕ → RowItem → Type 0
 IsItemNumber file begun n item = IsNumber (IsTailFrom file begun) n item
 
 -- a page is entered with item number n: it is the first one, or the one before it was its page's
@@ -46,12 +45,12 @@ IsItemNumber file begun n item = IsNumber (IsTailFrom file begun) n item
 abbrev pub EntersPage : List ℕ → Begun → ℕ → Type 0
 EntersPage file begun n =
     (n ≡ 0)
-    ⊎ ((before : ℕ) × (item : Item) × (here : FilePage) × (n ≡ before + 1)
+    ⊎ ((before : ℕ) × (item : RowItem) × (here : FilePage) × (n ≡ before + 1)
     × IsItemNumber file begun before item
     × IsPageAt file (cursor_after item) (Ok here) × (item.row + 1 ≡ here.form.rows))
 
 -- this item is handed out: it is number `given` of what the walk hands out
-pub record HandsOut (old : WalkView) (item : Item) (new : WalkView) : Type 0 where
+pub record HandsOut (old : WalkView) (item : RowItem) (new : WalkView) : Type 0 where
   pub untold : old.told ≡ None
   pub number : IsItemNumber old.file old.begun old.given item
   pub few : old.given + 1 < 2 ^ 64
@@ -64,7 +63,7 @@ HasEndedAs old end new =
     × (new ≡ record old { told = Some end })
 
 -- a row that is lent, with its place, is this item
-abbrev pub IsLent : Place × Bor (List Colour) → Item → Type 0
+abbrev pub IsLent : Place × Bor (List Colour) → RowItem → Type 0
 IsLent found item =
     (item.page ≡ found.0.page) × (item.row ≡ found.0.row) × (item.pels ≡ found.1.now)
 
@@ -72,7 +71,7 @@ IsLent found item =
 abbrev pub IsNext : WalkView → Result (Option (Place × Bor (List Colour))) WalkFault → WalkView
     → Type 0
 IsNext old (Ok (Some found)) new =
-    (item : Item) × HandsOut old item new × IsLent found item
+    (item : RowItem) × HandsOut old item new × IsLent found item
 IsNext old (Ok None) new = HasEndedAs old Proper new
 IsNext old (Err (AtRow page row cause)) new = HasEndedAs old (Fault page row cause) new
 IsNext old (Err CursorOutside) new = HasEndedAs old Outside new
@@ -82,7 +81,7 @@ IsNext old (Err Memory) new = (new ≡ old) × EntersPage old.file old.begun old
 abbrev pub IsCursorOf : WalkView → Cursor → Type 0
 IsCursorOf walk at =
     ((walk.given ≡ 0) × (at ≡ begins_at walk.begun))
-    ⊎ ((before : ℕ) × (item : Item) × (walk.given ≡ before + 1)
+    ⊎ ((before : ℕ) × (item : RowItem) × (walk.given ≡ before + 1)
     × IsItemNumber walk.file walk.begun before item
     × (at ≡ cursor_after item))
 
@@ -96,7 +95,7 @@ begins_inside (Inside place) = Some place
 abbrev pub IsLongOf : WalkView → Option LongPlace → Type 0
 IsLongOf walk place =
     ((walk.given ≡ 0) × (place ≡ begins_inside walk.begun))
-    ⊎ ((before : ℕ) × (item : Item) × (here : FilePage) × (walk.given ≡ before + 1)
+    ⊎ ((before : ℕ) × (item : RowItem) × (here : FilePage) × (walk.given ≡ before + 1)
     × IsItemNumber walk.file walk.begun before item
     × IsPageAt walk.file (record { page = item.page; row = item.row }) (Ok here)
     × (place ≡ long_after here.form item))
@@ -116,7 +115,7 @@ EndsBefore (Fault page row cause) at = (page ≡ at.page) × (row < at.row)
 -- strip; where none was handed out yet, at most these, and where the rows have ended, all of them,
 -- but where one of these cannot be read
 pub record AreRead (walk : WalkView) (read : ℕ) : Type 0 where
-  pub begin : Result (Rows.Place × ℕ) End
+  pub begin : Result (RowPlace × ℕ) End
   pub begins : IsOnPage walk.file (begins_at walk.begun) (BeginsOn walk.file walk.begun) begin
   pub most : read ≤ walk.given + dropped begin
   pub all : 0 < walk.given → read ≡ walk.given + dropped begin

@@ -2,7 +2,7 @@ use Rattle.std.proofs.Common.{◌∙◌, ap, codes, lit<, false, refl, subst, sy
 use Rattle.std.specs.Prelude.{None}
 use Rattle.clap.specs.Matches.{found_of}
 use Rattle.clap.specs.Walk.{Text, first_of}
-use Rattle.fax_walk.specs.Cursors.{cursor_text}
+use Rattle.fax_walk.specs.Pages.{cursor_text}
 use Rattle.fax_tool.specs.code.Entries.{entries_of}
 use Rattle.fax_tool.specs.Job.{BeginsAt}
 use Rattle.fax_tool.specs.declared.words.Part.{Part}

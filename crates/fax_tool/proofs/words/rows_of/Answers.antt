@@ -1,7 +1,7 @@
 use Rattle.std.proofs.Common.{◌∙◌, ◌⊎◌, ap, codes, inl, inr, lit<, subst, sym, Option}
 use Rattle.clap.specs.Matches.{found_of}
 use Rattle.clap.specs.Walk.{Text, first_of}
-use Rattle.fax_walk.specs.Cursors.{cursor_text, LongPlace}
+use Rattle.fax_walk.specs.Pages.{cursor_text, LongPlace}
 use Rattle.fax_walk.specs.declared.cursor.Cursor.{Cursor}
 use Rattle.fax_tool.specs.code.Entries.{entries_of}
 use Rattle.fax_tool.specs.Job.{BeginsAt, BeginsInside}

@@ -2,7 +2,7 @@ use Rattle.std.proofs.Common.{refl, sym, ◌∙◌, subst}
 use Rattle.std.proofs.lemmas.List.{length-map}
 use Rattle.std.proofs.lemmas.Result.{err_from_is_err_and}
 use Rattle.fax_walk.specs.Pages.{FormItem}
-use Rattle.fax_walk.specs.Rows.{Item}
+use Rattle.fax_walk.specs.Rows.{RowItem}
 use Rattle.fax_walk.specs.Converted.{IsNotConverted}
 use Rattle.fax_walk.specs.code.Output.{no_rows, form_sheet, IsPartWritten}
 use Rattle.fax_walk.specs.code.Sources.{IsBeforePage, ConvertsRows, part_of, pels_of}
@@ -104,7 +104,7 @@ end-requires c =
     record {
       part = part_of first c.of_form-sheet.result (pels_of here.page.own);
       written = rows.put first begun;
-      all = length-map here.page.own (λ (item : Item). item.pels) ∙ rows.all;
+      all = length-map here.page.own (λ (item : RowItem). item.pels) ∙ rows.all;
     }
 
 pub loop-form-preserved : goal.loop-form-preserved
@@ -125,7 +125,7 @@ loop-form-preserved c =
     c.in_ok-convert_rows.ensures.ok due in
     let pels = pels_of due.page.own in
     let ended = c.in_ok-end.ensures (part_of first sheet pels) (rows.put first begun)
-    (length-map due.page.own (λ (item : Item). item.pels) ∙ rows.all) in
+    (length-map due.page.own (λ (item : RowItem). item.pels) ∙ rows.all) in
     record {
       total = inv.total;
       count = inv.count;

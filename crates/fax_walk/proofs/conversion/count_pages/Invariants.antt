@@ -1,5 +1,5 @@
 use Rattle.std.proofs.Common.{◌≡◌, ◌^◌, ◌<◌, ◌-◌}
-use Rattle.fax_walk.specs.Cursors.{start}
+use Rattle.fax_walk.specs.Pages.{start}
 use Rattle.fax_walk.proofs.conversion.count_pages.Given as goal
 
 abbrev pub invariant-loop-count : goal.invariant-loop-count

@@ -2,7 +2,7 @@ use Rattle.std.proofs.Common.{ap, sym, arith}
 use Rattle.std.proofs.Math.Nat.{mod-eq-sub-div-mul}
 use Rattle.fax_page.specs.views.Reader.{StripState}
 use Rattle.std.proofs.lemmas.Result.{err_from_is_err_and}
-use Rattle.fax_walk.specs.Cursors.{LongPlace}
+use Rattle.fax_walk.specs.Pages.{LongPlace}
 use Rattle.fax_walk.specs.code.Opening.{PageDue}
 use Rattle.fax_walk.proofs.OpenPageLemmas.{no_strip, is_inner, no_place, opened_inside}
 use Rattle.fax_walk.proofs.page.open_inside.Goals as goal

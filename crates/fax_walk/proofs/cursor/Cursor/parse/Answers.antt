@@ -1,6 +1,6 @@
 use Rattle.std.proofs.Common.{◌≢◌}
 use Rattle.fax_walk.specs.declared.cursor.Cursor.{Cursor}
-use Rattle.fax_walk.specs.Cursors.{cursor_text, IsCursor}
+use Rattle.fax_walk.specs.Pages.{cursor_text, IsCursor}
 use Rattle.fax_walk.proofs.CursorLemmas.{behind_version, page_and_row, held_on_err}
 use Rattle.fax_walk.proofs.cursor.Cursor.parse.Goals as goal
 

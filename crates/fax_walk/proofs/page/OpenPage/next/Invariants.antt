@@ -1,12 +1,12 @@
 use Rattle.std.proofs.Common.{List, ◌<◌}
-use Rattle.fax_walk.specs.Rows.{Item}
+use Rattle.fax_walk.specs.Rows.{RowItem}
 use Rattle.fax_walk.specs.code.Stages.{HasSkipped, IsOpen, row_of, skipped}
 use Rattle.fax_walk.proofs.page.OpenPage.next.Given as goal
 
 -- only rows that are not handed out were read
 abbrev pub invariant-rows : goal.invariant-rows
 invariant-rows l = record {
-  items : List Item;
+  items : List RowItem;
   skips : HasSkipped l.initial.self l.self items;
   is_open : IsOpen l.self;
   due : row_of l.self < l.self.form.rows;

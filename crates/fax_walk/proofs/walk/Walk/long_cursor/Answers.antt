@@ -1,7 +1,7 @@
 use Rattle.std.proofs.Common.{Option, Result, Ok, Err}
 use Rattle.std.specs.Prelude.{IfOk}
 use Rattle.fax_bits.specs.declared.Memory.{Memory}
-use Rattle.fax_walk.specs.Cursors.{LongPlace}
+use Rattle.fax_walk.specs.Pages.{LongPlace}
 use Rattle.fax_walk.specs.views.Walk.{WalkView}
 use Rattle.fax_walk.proofs.WalkLemmas.{long_is}
 use Rattle.fax_walk.proofs.walk.Walk.long_cursor.Goals as goal
