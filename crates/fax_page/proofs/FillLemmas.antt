@@ -7,7 +7,7 @@ use Rattle.std.proofs.lemmas.List.{replicate-append-replicate}
 use Rattle.fax_bits.specs.Bits.{code_bits}
 use Rattle.fax_bits.specs.views.Sink.{Sink, Appends}
 use Rattle.fax_page.specs.Lines.{IsEndOfLine}
-use Rattle.fax_page.specs.CodedStrip.{end_of_line, fill_zeros}
+use Rattle.fax_page.specs.Strip.{end_of_line, fill_zeros}
 
 -- a number that fits fits more bits too
 pub fits_more : (n len number : ℕ) → number < 2 ^ len → number < 2 ^ (len + n)

@@ -15,7 +15,7 @@ use Rattle.fax_page.specs.declared.notes.NotesFault.TheVariants.{Memory, Strip}
 use Rattle.fax_page.specs.declared.notes.StripNotes.{StripNotes}
 use Rattle.fax_page.specs.Lines.{IsBegin, IsCause, IsLine, IsRowIn, white_row}
 use Rattle.fax_page.specs.Strip.{AreLines, EndsAt, IsStrip}
-use Rattle.fax_page.specs.CodedStrip.{row_bits}
+use Rattle.fax_page.specs.Strip.{row_bits}
 use Rattle.fax_page.specs.laws.Strips.{ReadsLinesOneWay}
 use Rattle.fax_page.specs.Strip.{HasOtherChoice, IsNotedAs}
 use Rattle.fax_page.specs.code.Notes.{IsChosen}

@@ -11,7 +11,7 @@ use Rattle.fax_bits.specs.views.Sink.{Sink, Appends, IsPadded}
 use Rattle.fax_page.specs.declared.Dimension.{Dimension}
 use Rattle.fax_page.specs.declared.StripForm.{StripForm}
 use Rattle.fax_page.specs.Lines.{white_row}
-use Rattle.fax_page.specs.CodedStrip.{written_dimension, start_bits, row_bits, coded_line, coded_lines, coded_bits, coded_strip, end_bits}
+use Rattle.fax_page.specs.Strip.{written_dimension, start_bits, row_bits, coded_line, coded_lines, coded_bits, coded_strip, end_bits}
 use Rattle.fax_page.specs.views.Writer.{WriterState, writer_beginning, PutsRow, FinishesAs}
 use Rattle.fax_page.specs.laws.Writer.{HasPut, last_of}
 

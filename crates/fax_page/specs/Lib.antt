@@ -1,6 +1,5 @@
 pub mod Lines
 pub mod Strip
-pub mod CodedStrip
 pub mod code
 pub mod laws
 pub mod views

@@ -3,7 +3,7 @@ ghost use Rattle.std.specs.Prelude.{◌≡◌, ◌≤◌, List, length, IfOk, If
 ghost use Rattle.fax_bits.specs.Bits.{bits};
 ghost use Rattle.fax_bits.specs.views.Sink.{Appends};
 ghost use Rattle.fax_bits.specs.declared.Colour.{Colour};
-ghost use Rattle.fax_page.specs.CodedStrip.{row_bits};
+ghost use Rattle.fax_page.specs.Strip.{row_bits};
 ghost use Rattle.fax_page.specs.Lines.{IsRowIn};
 ghost use Rattle.fax_page.specs.Strip as Spec;
 ghost use Rattle.fax_page.specs.views.Strip.{IsNotesFault, IsStripForm};

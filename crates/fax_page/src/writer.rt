@@ -2,7 +2,7 @@
 ghost use Rattle.std.specs.Prelude.{◌≡◌, ◌++◌, ◌<◌, ◌≤◌, length, false, All, IfOk, OnOk};
 ghost use Rattle.fax_bits.specs.views.Sink.{Appends};
 ghost use Rattle.fax_bits.specs.Written.{packed};
-ghost use Rattle.fax_page.specs.CodedStrip as Coded;
+ghost use Rattle.fax_page.specs.Strip as Coded;
 
 use crate::{Coding, Dimension, StripForm};
 use fax_rows::{BitSink, Memory, Row, put_1d, put_2d};
@@ -31,7 +31,7 @@ fn written_dimension(coding: Coding, k: u32, i: u32) -> Dimension
 /// How many zeros of fill stand before an EOL after so many bits of a strip: where EOLs are
 /// aligned the fewest that make it end on a byte boundary, and else none (T.4, section 4.1.3; TIFF
 /// 6.0, T4Options).
-#[tactic(auto, unfolding(crate::specs::CodedStrip::fill_zeros))]
+#[tactic(auto, unfolding(crate::specs::Strip::fill_zeros))]
 fn fill_zeros(aligned: bool, before: u128) -> u32
     ensures exact { result ≡ Coded.fill_zeros aligned before }
     ensures few { result < 8 }

@@ -8,7 +8,7 @@ use Rattle.std.proofs.Math.Nat.{mul-le-mul_left}
 use Rattle.std.proofs.lemmas.Bool.{cases_lt}
 use Rattle.std.proofs.lemmas.Grind.{div_ceil_times}
 use Rattle.fax_bits.specs.declared.Colour.{Colour}
-use Rattle.fax_page.specs.CodedStrip.{coded_strip}
+use Rattle.fax_page.specs.Strip.{coded_strip}
 use Rattle.fax_page.specs.views.Writer.{WriterState, PutsRow, FinishesAs, writer_beginning}
 use Rattle.fax_page.specs.laws.Writer.{HasPut, WritesRowByRow}
 use Rattle.fax_files.specs.declared.PageForm.{PageForm}

@@ -6,7 +6,7 @@ use Rattle.std.specs.List.{range_with_len}
 use Rattle.std.specs.Int.{div_ceil}
 use Rattle.fax_bits.specs.Bits.{BeginsWith}
 use Rattle.fax_files.specs.Page.{Coding, Mh, Mr, Mmr, Resolution, usual_resolution, strip_form}
-use Rattle.fax_page.specs.CodedStrip.{coded_strip}
+use Rattle.fax_page.specs.Strip.{coded_strip}
 use Rattle.fax_files.specs.Written.{WrittenPage, file_of}
 use Rattle.fax_files.specs.Directory.{max_file}
 use Rattle.fax_files.specs.Pbm.{Image, AreImages, pbm_of}

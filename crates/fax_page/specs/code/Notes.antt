@@ -13,9 +13,9 @@ use Rattle.fax_page.specs.declared.notes.NotesFault.TheVariants.{Memory, Strip}
 use Rattle.fax_page.specs.declared.notes.StripNotes.{StripNotes}
 use Rattle.fax_page.specs.declared.Dimension.{Dimension}
 use Rattle.fax_page.specs.Lines.{IsLine, IsCause, white_row}
-use Rattle.fax_page.specs.CodedStrip.{row_bits}
+use Rattle.fax_page.specs.Strip.{row_bits}
 use Rattle.fax_page.specs.Strip.{AreLines}
-use Rattle.fax_page.specs.Strip.{IsReturnEol, AreReturnEols, HasEndMark, IsBehindEnd}
+use Rattle.fax_page.specs.Strip.{IsReturnEol, AreReturnEols, IsEndMark, HasEndMark}
 use Rattle.fax_page.specs.Strip.{HasOtherChoice}
 
 -- a row's codes are those that T.4 chooses (T.4, sections 4.1.1 and 4.2.1.3.3)
@@ -77,6 +77,10 @@ pub record AreEolsTaken (coding : Coding) (b : List Bool) (i : ℕ) (ahead : Lis
 abbrev pub IsBehind : (List Bool → Type 0) → Option Source → Type 0
 IsBehind mark (Some source) = mark source.left
 IsBehind mark None = (rest : List Bool) → mark rest → ⊥
+
+-- what stands after the end mark, or all of the bits where they begin with none
+abbrev pub IsBehindEnd : Coding → List Bool → List Bool → Type 0
+IsBehindEnd coding b behind = IsEndMark coding b behind ⊎ ((HasEndMark coding b → ⊥) × (behind ≡ b))
 
 -- the notes on a strip by what is left after its rows, and whether some row is coded otherwise
 -- than T.4 chooses

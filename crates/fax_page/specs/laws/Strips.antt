@@ -10,7 +10,7 @@ use Rattle.fax_bits.specs.laws.Codes.{IsReadInOneWay, IsOne}
 use Rattle.fax_page.specs.declared.StripFault.{StripFault}
 use Rattle.fax_page.specs.views.Strip.{IsStripForm}
 use Rattle.fax_page.specs.Strip.{IsStrip}
-use Rattle.fax_page.specs.CodedStrip.{end_of_line, fill_zeros, coded_bits, coded_strip}
+use Rattle.fax_page.specs.Strip.{end_of_line, fill_zeros, coded_bits, coded_strip}
 
 -- the rows are as many and as wide as the form says
 pub record AreRowsOf (form : StripForm) (rows : List (List Colour)) : Type 0 where

@@ -2,7 +2,7 @@
 use Rattle.std.specs.Prelude.{◌≡◌, ℕ, false, List, [], ◌∷◌, ◌++◌, length}
 use Rattle.fax_bits.specs.declared.Colour.{Colour}
 use Rattle.fax_page.specs.declared.StripForm.{StripForm}
-use Rattle.fax_page.specs.CodedStrip.{coded_lines, coded_strip}
+use Rattle.fax_page.specs.Strip.{coded_lines, coded_strip}
 use Rattle.fax_page.specs.Lines.{white_row}
 use Rattle.fax_page.specs.views.Writer.{FinishesAs, PutsRow, WriterState, writer_beginning}
 

@@ -5,7 +5,7 @@ use Rattle.fax_bits.specs.Written.{packed}
 use Rattle.fax_bits.specs.declared.Colour.{Colour}
 use Rattle.fax_bits.specs.declared.Memory.{Memory}
 use Rattle.fax_page.specs.declared.StripForm.{StripForm}
-use Rattle.fax_page.specs.CodedStrip.{coded_line, end_bits}
+use Rattle.fax_page.specs.Strip.{coded_line, end_bits}
 use Rattle.fax_page.specs.Lines.{white_row}
 
 -- how far a strip is written: its form and k, its bits, how many rows were put, the last of them,

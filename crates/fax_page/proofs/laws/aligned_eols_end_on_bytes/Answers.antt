@@ -1,5 +1,5 @@
 use Rattle.std.proofs.Common.{arith}
-use Rattle.fax_page.specs.CodedStrip.{fill_zeros}
+use Rattle.fax_page.specs.Strip.{fill_zeros}
 use Rattle.fax_page.proofs.laws.aligned_eols_end_on_bytes.Goals as goal
 
 pub returns : goal.returns

@@ -1,6 +1,6 @@
 use Rattle.std.proofs.Common.{None, sym, ◌∙◌}
 use Rattle.fax_bits.specs.Bits.{bits}
-use Rattle.fax_page.specs.CodedStrip.{coded_strip}
+use Rattle.fax_page.specs.Strip.{coded_strip}
 use Rattle.fax_page.proofs.laws.coded_strips_are_read_as_nothing_else.Goals as goal
 
 pub returns : goal.returns

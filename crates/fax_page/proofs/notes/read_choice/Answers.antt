@@ -5,7 +5,7 @@ use Rattle.fax_bits.specs.views.Source.{Source}
 use Rattle.fax_bits.specs.Bits.{BeginsWith}
 use Rattle.fax_rows.specs.laws.Rows.{HasWidth}
 use Rattle.fax_page.specs.Lines.{IsRowIn}
-use Rattle.fax_page.specs.CodedStrip.{row_bits}
+use Rattle.fax_page.specs.Strip.{row_bits}
 use Rattle.fax_page.proofs.NotesLemmas.{line_read, line_seen}
 use Rattle.fax_page.proofs.notes.read_choice.Goals as goal
 

@@ -1,7 +1,7 @@
 use Rattle.std.proofs.Common.{true, false, [], ◌∷◌, ◌++◌, refl, arith}
 use Rattle.std.proofs.lemmas.Result.{on_ok_weaker}
 use Rattle.fax_bits.specs.Bits.{code_bits}
-use Rattle.fax_page.specs.CodedStrip.{end_of_line}
+use Rattle.fax_page.specs.Strip.{end_of_line}
 use Rattle.fax_page.proofs.FillLemmas.{fits_more, put_behind_fill}
 use Rattle.fax_page.proofs.writer.put_start.Goals as goal
 

@@ -1,6 +1,6 @@
 use Rattle.std.proofs.Common.{rules, ℕ, ◌<◌, List, subst}
 use Rattle.std.specs.Prelude.{All}
-use Rattle.fax_page.specs.CodedStrip.{end_bits}
+use Rattle.fax_page.specs.Strip.{end_bits}
 use Rattle.fax_page.proofs.WriterLemmas.{finished}
 use Rattle.fax_page.proofs.writer.StripWriter.finish.Goals as goal
 
