@@ -25,7 +25,8 @@ and_strip (Some strip) = codes " strip" ++ and_number strip
 unfoldable pub note_line : Note → List ℕ
 note_line note =
     codes "note page" ++ and_number note.page ++ and_strip note.strip ++ codes ": N"
-    ++ decimal (number_and_name note.kind).0 ++ codes " " ++ (number_and_name note.kind).1 ++ line_end
+    ++ decimal (number_and_name note.kind).0 ++ codes " " ++ (number_and_name note.kind).1
+    ++ line_end
 
 -- `pages P rows R`: how many pages were read wholly, and how many rows
 abbrev pub counts_line : ℕ → ℕ → List ℕ
