@@ -63,7 +63,8 @@ line_of_row form item = record {
 -- the line of a page
 abbrev pub line_of_page : FormItem → Line
 line_of_page item =
-    record { text = page_line_of item.page item.form; next = At (record { page = item.page + 1; row = 0 }) }
+    let next : Cursor = record { page = item.page + 1; row = 0 } in
+    record { text = page_line_of item.page item.form; next = At next }
 
 -- the texts of these lines
 abbrev pub texts_of : List Line → List ℕ

@@ -56,7 +56,8 @@ by_exchange false row = refl
 pub exchanged_twice : (form : PageForm) (row : List Colour) → exchanged form (exchanged form row) ≡ row
 exchanged_twice form row = by_exchange form.exchanged row
 
-same_items : (item another : RowItem) → item.page ≡ another.page → item.row ≡ another.row → item.pels ≡ another.pels → item.bits ≡ another.bits
+same_items : (item another : RowItem) → item.page ≡ another.page → item.row ≡ another.row → item.pels ≡ another.pels
+    → item.bits ≡ another.bits
     → item ≡ another
 same_items item another pages rows pels bits =
     ap (λ (p : ℕ). record item { page = p }) pages ∙ ap (λ (r : ℕ). record item { page = another.page; row = r }) rows
@@ -107,7 +108,8 @@ module _ (by_place : AreBitsByPlace) (lines_read : LinesAreRead) where
         (refl, refl, omega (arith, from.1, by_place.count form.order bytes), rw (from.2, exchanged_twice form row) line) in
         record { it = Ok (item, place_after form item); is = (is.0, is.1, is.2, is.3, refl); one = only_item item is }
       where
-        only_item : (item : RowItem) → IsItem form bytes at item → (other : Result (RowItem × RowPlace) End) → IsInStrip form at (Some bytes) other
+        only_item : (item : RowItem) → IsItem form bytes at item → (other : Result (RowItem × RowPlace) End)
+            → IsInStrip form at (Some bytes) other
             → other ≡ Ok (item, place_after form item)
         only_item item is (Err end) (fault, stop, end_is) =
             absurd ((lines_read strip i reference).answer_has_no_fault b _ _ fault is.3 stop)
@@ -144,7 +146,8 @@ module _ (by_place : AreBitsByPlace) (lines_read : LinesAreRead) where
         (strip_bytes here.endian file here.offset (strip_at here.form at.row)))
 
 -- what the row at a place is, and what is after it
-pub step_of : (form : PageForm) (at : RowPlace) (found : Option (List ℕ)) (item : RowItem) (to : RowPlace) → IsInStrip form at found (Ok (item, to))
+pub step_of : (form : PageForm) (at : RowPlace) (found : Option (List ℕ)) (item : RowItem) (to : RowPlace)
+    → IsInStrip form at found (Ok (item, to))
     → (item.page ≡ at.page) × (item.row ≡ at.row) × (to ≡ place_after form item)
 step_of form at None item to is = absurd cc
 step_of form at (Some bytes) item to is = (is.0, is.1, is.4)

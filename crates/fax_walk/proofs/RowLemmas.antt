@@ -43,7 +43,8 @@ take_pels zero items = refl
 take_pels (suc n) [] = refl
 take_pels (suc n) (x ∷ items) = ap (λ (l : List (List Colour)). x.pels ∷ l) (take_pels n items)
 
-wide_at : (width n : ℕ) (items : List RowItem) (item : RowItem) → AreOfWidth width (pels_of items) → take (n + 1) items ≡ take n items ++ item ∷
+wide_at : (width n : ℕ) (items : List RowItem) (item : RowItem) → AreOfWidth width (pels_of items)
+    → take (n + 1) items ≡ take n items ++ item ∷
     []
     → length item.pels ≡ width
 wide_at width n [] item wide one =

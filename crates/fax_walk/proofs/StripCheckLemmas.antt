@@ -30,7 +30,7 @@ use Rattle.fax_walk.specs.declared.end.End.TheVariants.{Fault}
 use Rattle.fax_walk.specs.laws.InOrder.{LeadTo}
 use Rattle.fax_walk.specs.Pages.{IsPageAt}
 use Rattle.fax_walk.specs.Rows.{RowPlace, first_at, IsRow}
-use Rattle.fax_walk.specs.Report.{Checked, notes_on_strip, IsStripNoted, IsNoted}
+use Rattle.fax_walk.specs.Report.{notes_on_strip, IsStripNoted, IsNoted}
 use Rattle.fax_walk.specs.code.Check.{before_page, before_strip, HasChecked, IsCheckedTo, IsDirectoryOfPage}
 use Rattle.fax_walk.specs.code.Check.{AreStripsChecked, IsRestChecked, IsRowInside, IsReadTo}
 use Rattle.fax_walk.specs.code.Stages.{most_rows}
@@ -68,7 +68,7 @@ module _ (by_place : AreBitsByPlace) (directory : TiffDirectory) (form : PageFor
   }
 
   -- what is found on a strip
-  noted_on : (s : ℕ) (answer : Result (List Note × Checked) End)
+  noted_on : (s : ℕ) (answer : Result (List Note × (ℕ × Option ℕ)) End)
       → IsStripNoted form p s (bytes_of directory s) answer → IsNoted file ((p, Some s)) answer
   noted_on s answer is = inr (_, page 0, is)
 

@@ -49,7 +49,8 @@ walked_length file at r rows reached read =
     sym (length-map read.items walked) ∙ ap (λ (l : List WalkedRow). length l) read.rows_are ∙ numbered_length at.page r rows
 
 -- one more row, before those that are read after it
-pub one_more : (file : List ℕ) (at : RowPlace) (r : ℕ) (rows : List (List Colour)) (reached : RowPlace → Type 0) (item : RowItem) (next : RowPlace)
+pub one_more : (file : List ℕ) (at : RowPlace) (r : ℕ) (rows : List (List Colour)) (reached : RowPlace
+    → Type 0) (item : RowItem) (next : RowPlace)
     → walked item ≡ record { page = at.page; row = r; pels = item.pels } → next.page ≡ at.page
     → IsRow file at (Ok (item, next))
     → AreRead file next (r + 1) rows reached → AreRead file at r (item.pels ∷ rows) reached

@@ -88,7 +88,8 @@ module _ (file : List ℕ) where
     pub is : IsItem here.form bytes at item
     pub to_is : to ≡ place_after here.form item
 
-  in_bytes : (at : RowPlace) (item : RowItem) (to : RowPlace) (here : FilePage) → IsPageAt file (cursor_at at) (Ok here) → (found : Option (List ℕ))
+  in_bytes : (at : RowPlace) (item : RowItem) (to : RowPlace) (here : FilePage) → IsPageAt file (cursor_at at) (Ok here)
+      → (found : Option (List ℕ))
       → strip_bytes here.endian file here.offset (strip_at here.form at.row) ≡ found → IsInStrip here.form at found (Ok (item, to))
       → IsRead at item to
   in_bytes at item to here page None e is = absurd cc
@@ -373,7 +374,8 @@ module _ (forms : FormsAreWhole) (chains : FilesHaveOneChain) (file : List ℕ) 
             (row_wide at item to wide read))
       ]
 
-  some_first : (at : Cursor) (form : PageForm) (from : RowPlace) (k : ℕ) → ◌≡◌ {A = Result (RowPlace × ℕ) End} (Ok (from, k)) (first_row at form)
+  some_first : (at : Cursor) (form : PageForm) (from : RowPlace) (k : ℕ)
+      → ◌≡◌ {A = Result (RowPlace × ℕ) End} (Ok (from, k)) (first_row at form)
       → (p r : ℕ) × (from ≡ first_at p r)
   some_first at form from k e = by_test (nat_lt at.row form.rows) (at.row == form.rows) e
     where

@@ -23,11 +23,7 @@ pub record SourcePage : Type 0 where
   pub image : Image
   pub resolution : Resolution
 
--- the bytes are read as raw PBM (the netpbm format, P4)
-abbrev pub IsPbm : List ℕ → Type 0
-IsPbm bytes = BeginsWith bytes (codes "P4")
-
--- the bytes are read as TIFF (TIFF 6.0, section 2)
+-- the bytes are read as TIFF (TIFF 6.0, section 2); as raw PBM where they begin with P4
 abbrev pub IsTiff : List ℕ → Type 0
 IsTiff bytes = BeginsWith bytes (codes "II") ⊎ BeginsWith bytes (codes "MM")
 
@@ -43,7 +39,7 @@ pages_of (one ∷ forms) items =
 -- the pages of a source without a fault; an image has no resolution of its own
 abbrev pub IsSource : List ℕ → List SourcePage → Type 0
 IsSource bytes pages =
-    (IsPbm bytes × (images : List Image) × AreImages bytes images None
+    (BeginsWith bytes (codes "P4") × (images : List Image) × AreImages bytes images None
     × (pages ≡ map (λ image. record { image = image; resolution = usual_resolution }) images))
     ⊎ (IsTiff bytes × (forms : List FormItem) × (items : List RowItem)
     × AreFrom (IsForm bytes) 0 forms Proper × AreFrom (IsRow bytes) (first_at 0 0) items Proper
@@ -90,13 +86,13 @@ pub record IsConverted (bytes : List ℕ) (options : Options) (output : List ℕ
   pub output_is : output ≡ target_bytes options.target options pages
   pub fits : IsTooLarge options.target pages output → ⊥
 
--- the bytes are refused so, for another reason than want of memory: with the source's first fault,
--- or where the output is too large
+-- the bytes are refused so, for another reason than want of memory
 abbrev pub IsNotConverted : List ℕ → Options → ConvertFault → Type 0
-IsNotConverted bytes options Refused.UnknownInput = (IsPbm bytes → ⊥) × (IsTiff bytes → ⊥)
+IsNotConverted bytes options Refused.UnknownInput =
+    (BeginsWith bytes (codes "P4") → ⊥) × (IsTiff bytes → ⊥)
 IsNotConverted bytes options (Refused.Pbm image fault) =
-    IsPbm bytes × (images : List Image) × AreImages bytes images (Some fault)
-    × (image ≡ length images)
+    BeginsWith bytes (codes "P4") × (images : List Image)
+    × AreImages bytes images (Some fault) × (image ≡ length images)
 IsNotConverted bytes options (Refused.Source p r cause) =
     IsTiff bytes × (items : List RowItem)
     × AreFrom (IsRow bytes) (first_at 0 0) items (Fault p r cause)

@@ -28,8 +28,7 @@ pub record IsCursor (at : Cursor) : Type 0 where
   pub page : at.page < 2 ^ 32
   pub row : at.row < 2 ^ 32
 
--- a place inside a strip: a cursor, the bits of the strip before its row, and the runs of the row's
--- reference, as coded
+-- a place inside a strip: a cursor, the strip's bits before it, and its reference's runs as coded
 pub record LongPlace : Type 0 where
   pub at : Cursor
   pub bits : ℕ
@@ -73,8 +72,8 @@ pub record FilePage : Type 0 where
   pub offset : ℕ
   pub form : PageForm
 
--- a file's page that a cursor names, or the end there: the fault of the header, of the page's fields
--- or of the chain, a proper end for the page after the last one, or outside
+-- a file's page that a cursor names, or the end there: the fault of the header, of the fields or of
+-- the chain, a proper end for the page after the last one, or outside
 abbrev pub IsPageAt : List ℕ → Cursor → Result FilePage End → Type 0
 IsPageAt file at found =
     elim (header file) [

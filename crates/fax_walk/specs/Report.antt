@@ -37,17 +37,14 @@ note_if test p s kind = if test then (record { page = p; strip = s; kind = kind 
 abbrev pub notes_on_strip : ℕ → ℕ → StripNotes → List Note
 notes_on_strip p s found =
     let note : Bool → NoteKind → List Note = λ test kind. note_if test p (Some s) kind in
-    note found.no_end_of_block Kind.NoEndOfBlock ++ note found.return_to_control Kind.ReturnToControl
+    note found.no_end_of_block Kind.NoEndOfBlock
+    ++ note found.return_to_control Kind.ReturnToControl
     ++ note found.data_after_end Kind.DataAfterEnd ++ note found.not_t4_choice Kind.NotT4Choice
-
--- what is checked: a page's directory, where no strip is named, or a strip of it, both from 0
-abbrev pub Checked : Type 0
-Checked = ℕ × Option ℕ
 
 -- the notes on strip s of page p, with what the file has of it, and what is checked after it; or
 -- the end, where the strip is not whole (TIFF 6.0, StripOffsets)
-abbrev pub IsStripNoted : PageForm → ℕ → ℕ → Option (List ℕ) → Result (List Note × Checked) End
-    → Type 0
+abbrev pub IsStripNoted : PageForm → ℕ → ℕ → Option (List ℕ)
+    → Result (List Note × (ℕ × Option ℕ)) End → Type 0
 IsStripNoted form p s None answer =
     answer ≡ Err (Fault p (s * form.rows_per_strip) (File StripOutside))
 IsStripNoted form p s (Some bytes) (Ok (notes, to)) =
@@ -60,9 +57,9 @@ IsStripNoted form p s (Some bytes) (Err end) =
     × IsStrip (strip_form form s) (bits form.order bytes) rows (Some fault)
     × (end ≡ Fault p (s * form.rows_per_strip + length rows) (Strip fault))
 
--- the notes on what is checked, and what is checked after it, or the end: on a directory the note
--- that its entries do not ascend (TIFF 6.0, section 2); a page that is refused has none
-abbrev pub IsNoted : List ℕ → Checked → Result (List Note × Checked) End → Type 0
+-- the notes on a page's directory, or on a strip of it, where one is named, and what is checked
+-- after it, or the end: a directory's entries ascend (TIFF 6.0, section 2)
+abbrev pub IsNoted : List ℕ → ℕ × Option ℕ → Result (List Note × (ℕ × Option ℕ)) End → Type 0
 IsNoted file (p, None) =
     IsOnPage file (record { page = p; row = 0 }) (λ here answer.
     let ascending = ascend (entries here.endian file here.offset) in

@@ -55,9 +55,11 @@ place_after form item =
     else first_at (item.page + 1) 0
 
 -- the row at a place and the place after it, or the end, with what the file has of its strip
-abbrev pub IsInStrip : PageForm → RowPlace → Option (List ℕ) → Result (RowItem × RowPlace) End → Type 0
+abbrev pub IsInStrip : PageForm → RowPlace → Option (List ℕ) → Result (RowItem × RowPlace) End
+    → Type 0
 IsInStrip form at None answer =
-    answer ≡ Err (Fault at.page (at.row / form.rows_per_strip * form.rows_per_strip) (File StripOutside))
+    let first = at.row / form.rows_per_strip * form.rows_per_strip in
+    answer ≡ Err (Fault at.page first (File StripOutside))
 IsInStrip form at (Some bytes) (Ok (item, to)) =
     (item.page ≡ at.page) × (item.row ≡ at.row) × (item.bits ≤ 8 * length bytes)
     × IsLine (strip_form form (at.row / form.rows_per_strip)) (at.row % form.rows_per_strip)
@@ -82,7 +84,8 @@ IsRow file at =
 pub record IsInnerOn (file : List ℕ) (here : FilePage) (place : LongPlace) : Type 0 where
   pub row : place.at.row < here.form.rows
   pub not_first : 0 < place.at.row % here.form.rows_per_strip
-  pub fits : IfSome (strip_bytes here.endian file here.offset (place.at.row / here.form.rows_per_strip))
+  pub fits : IfSome (strip_bytes here.endian file here.offset
+      (place.at.row / here.form.rows_per_strip))
       (λ bytes. (place.bits ≤ 8 * length bytes)
       × (length (pels_of White place.runs) ≡ here.form.width)
       × (runs_of (pels_of White place.runs) ≡ place.runs))
@@ -93,8 +96,7 @@ inner_at place =
     let inner : Inner = record { bits = place.bits; reference = pels_of White place.runs } in
     record { page = place.at.page; row = place.at.row; inner = Some inner }
 
--- where a walk begins on a page: at a strip's first row, of which it drops the rows before the
--- cursor's, or at a place inside a strip
+-- where a walk begins on a page, and how many rows of a strip it reads there and drops
 abbrev pub BeginsOn : List ℕ → Begun → FilePage → Result (RowPlace × ℕ) End → Type 0
 BeginsOn file (At at) here begin =
     let strip = first_at at.page (at.row / here.form.rows_per_strip * here.form.rows_per_strip) in
@@ -112,7 +114,8 @@ begins_at (Inside place) = place.at
 -- what a walk hands out that begins so
 abbrev pub IsTailFrom : List ℕ → Begun → List RowItem → End → Type 0
 IsTailFrom file begun items end =
-    (begin : Result (RowPlace × ℕ) End) × IsOnPage file (begins_at begun) (BeginsOn file begun) begin
+    (begin : Result (RowPlace × ℕ) End)
+    × IsOnPage file (begins_at begun) (BeginsOn file begun) begin
     × AreBegun (IsRow file) begin items end
 
 -- the cursor after an item
@@ -128,5 +131,6 @@ long_after form item =
       | None ↦ None
       | Some inner ↦
           if nat_le inner.bits 4294967295
-          then Some (record { at = at; bits = inner.bits; runs = runs_of inner.reference }) else None
+          then Some (record { at = at; bits = inner.bits; runs = runs_of inner.reference })
+          else None
     ]

@@ -1,5 +1,6 @@
 //! A file of pages turned into another: raw PBM or TIFF, into either of them.
-ghost use Rattle.std.specs.Prelude.{◌≡◌, ◌≢◌, IfOk, IfErr, OnOk};
+ghost use Rattle.std.specs.Prelude.{◌≡◌, ◌≢◌, IfOk, IfErr, OnOk, codes};
+ghost use Rattle.fax_bits.specs.Bits.{BeginsWith};
 ghost use Rattle.fax_walk.specs.Converted as Spec;
 ghost use Rattle.fax_walk.specs.code.Conversion as Code;
 ghost use Rattle.fax_walk.specs.code.Output.{image_sheet};
@@ -50,7 +51,7 @@ fn convert_raster(alloc: Global, image: &PbmImage, output: &mut Output) -> Resul
 
 /// Converts images.
 fn convert_images(alloc: Global, bytes: &[u8], options: &Options) -> Result<Vec<u8>, ConvertFault>
-    requires { Spec.IsPbm bytes.now }
+    requires { BeginsWith bytes.now (codes "P4") }
     ensures ok { IfOk result (λ output. Spec.IsConverted bytes.now options.now output.items) }
     ensures err { IfErr result (λ fault. fault ≢ ConvertFault.Memory
         → Spec.IsNotConverted bytes.now options.now fault) }

@@ -15,12 +15,12 @@ use Rattle.fax_walk.specs.Pages.{AreFrom, IsPageAt}
 use Rattle.fax_walk.specs.code.Opening.{page_or_end}
 use Rattle.fax_walk.specs.laws.InOrder.{LeadTo}
 use Rattle.fax_walk.specs.Rows.{RowItem, RowPlace, first_at, IsRow}
-use Rattle.fax_walk.specs.Report.{Checked, IsNoted}
+use Rattle.fax_walk.specs.Report.{IsNoted}
 use Rattle.fax_walk.specs.code.Stages.{most_rows}
 
 -- how far a file is checked: what is checked next, and the row that is due
 pub record CheckPlace : Type 0 where
-  pub next : Checked
+  pub next : ℕ × Option ℕ
   pub row : RowPlace
 
 -- before page p

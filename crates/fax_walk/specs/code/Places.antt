@@ -1,6 +1,7 @@
 -- Places of rows.
 -- A definition without a citation is this project's profile.
-use Rattle.std.specs.Prelude.{◌≡◌, ℕ, ◌+◌, ◌*◌, ◌/◌, ◌%◌, ◌≤◌, ◌==◌, nat_lt, nat_le, if◌then◌else◌, List, length}
+use Rattle.std.specs.Prelude.{◌≡◌, ℕ, ◌+◌, ◌*◌, ◌/◌, ◌%◌, ◌≤◌, ◌==◌, nat_lt, nat_le, if◌then◌else◌}
+use Rattle.std.specs.Prelude.{List, length}
 use Rattle.std.specs.Prelude.{drop, Option, Some, None, Result, Ok, Err, IfSome}
 use Rattle.fax_bits.specs.Bits.{bits}
 use Rattle.fax_rows.specs.Rows.{White, pels_of, runs_of}
@@ -13,7 +14,8 @@ use Rattle.fax_walk.specs.declared.end.End.{End}
 use Rattle.fax_walk.specs.declared.end.End.TheVariants.{Outside}
 use Rattle.fax_walk.specs.Pages.{LongPlace}
 use Rattle.fax_walk.specs.Pages.{IsOnPage}
-use Rattle.fax_walk.specs.Rows.{BeginsOn, Inner, RowItem, RowPlace, before, begins_at, exchanged, first_at}
+use Rattle.fax_walk.specs.Rows.{BeginsOn, Inner, RowItem, RowPlace, before, begins_at, exchanged}
+use Rattle.fax_walk.specs.Rows.{first_at}
 
 -- the cursor of a place
 abbrev pub cursor_at : RowPlace → Cursor

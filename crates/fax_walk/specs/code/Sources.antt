@@ -85,7 +85,8 @@ abbrev pub IsFaultAt : List ℕ → RowPlace → Type 0
 IsFaultAt file to = (p r : ℕ) × (cause : Cause) × IsRow file to (Err (Fault p r cause))
 
 -- from a place on so many rows stand, so wide, and lead to the last place; or fewer, and a fault
-pub record HasRows (file : List ℕ) (from : RowPlace) (width rows : ℕ) (last : RowPlace) : Type 0 where
+pub record HasRows (file : List ℕ) (from : RowPlace) (width rows : ℕ)
+    (last : RowPlace) : Type 0 where
   pub own : List RowItem
   pub to : RowPlace
   pub lead : LeadTo (IsRow file) from own to

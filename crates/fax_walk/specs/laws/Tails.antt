@@ -1,6 +1,7 @@
 -- Laws of what the pages of a file hand out, which the functions of the module `laws` prove.
 -- A definition without a citation is this project's profile.
-use Rattle.std.specs.Prelude.{◌/◌, ◌%◌, ◌≡◌, ◌↔◌, ℕ, ◌+◌, ◌*◌, ◌<◌, List, [], ◌∷◌, length, drop, Some}
+use Rattle.std.specs.Prelude.{◌/◌, ◌%◌, ◌≡◌, ◌↔◌, ℕ, ◌+◌, ◌*◌, ◌<◌, List, [], ◌∷◌, length, drop}
+use Rattle.std.specs.Prelude.{Some}
 use Rattle.std.specs.Prelude.{None, Ok, slice_get, ⊤}
 use Rattle.fax_walk.specs.declared.begun.Begun.{Begun}
 use Rattle.fax_walk.specs.declared.begun.Begun.TheVariants.{At, Inside}

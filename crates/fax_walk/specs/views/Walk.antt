@@ -14,7 +14,8 @@ use Rattle.fax_walk.specs.declared.walk.Place.{Place}
 use Rattle.fax_walk.specs.Pages.{start, LongPlace}
 use Rattle.fax_walk.specs.views.InOrder.{IsNumber, EndsAfter, HasToldNoOther}
 use Rattle.fax_walk.specs.Pages.{FilePage, IsOnPage, IsPageAt}
-use Rattle.fax_walk.specs.Rows.{BeginsOn, RowItem, RowPlace, IsTailFrom, begins_at, cursor_after, long_after}
+use Rattle.fax_walk.specs.Rows.{BeginsOn, RowItem, RowPlace, IsTailFrom, begins_at, cursor_after}
+use Rattle.fax_walk.specs.Rows.{long_after}
 
 -- a walk: its file, what it began with, how many rows it handed out, and how the rows ended, once
 -- it told that
