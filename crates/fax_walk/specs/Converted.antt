@@ -8,7 +8,7 @@ use Rattle.fax_rows.specs.Rows.{Colour}
 use Rattle.fax_files.specs.Page.{Coding, Mh, Mr, Mmr, Resolution, usual_resolution, strip_form}
 use Rattle.fax_page.specs.CodedStrip.{coded_strip}
 use Rattle.fax_walk.specs.Pages.{Cause, PageForm, Proper, Fault, End, AreFrom, FormItem, IsForm}
-use Rattle.fax_walk.specs.Report.{PbmFault}
+use Rattle.fax_files.specs.declared.pbm.PbmFault.{PbmFault}
 use Rattle.fax_files.specs.Written.{WrittenPage, file_of}
 use Rattle.fax_files.specs.Directory.{max_file}
 use Rattle.fax_files.specs.Pbm.{Image, AreImages, pbm_of}
