@@ -9,7 +9,8 @@ use Rattle.std.proofs.lemmas.Bool.Decides.{nat_tests}
 use Rattle.fax_files.specs.declared.FileFault.{FileFault}
 use Rattle.fax_files.specs.declared.FileFault.TheVariants.{DirectoryOutside, DirectoryLoop}
 use Rattle.fax_files.specs.declared.Endian.{Endian}
-use Rattle.fax_files.specs.Directory.{Header, is_inside, is_directory, next_offset, entry_count}
+use Rattle.fax_files.specs.Directory.{Header, is_inside, is_directory, next_offset}
+use Rattle.fax_files.specs.code.Entries.{entry_count}
 use Rattle.fax_files.specs.Directory.{chain_stop, IsChainFrom}
 use Rattle.fax_files.specs.laws.Files.{HasOneChain}
 

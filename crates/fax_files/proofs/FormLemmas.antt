@@ -1,5 +1,5 @@
 -- The form of a page that is not refused.
-use Rattle.std.proofs.Common.{◌≡◌, ◌≢◌, ℕ, ◌^◌, ◌-◌, ◌≤◌, min, Bool, true, false, ◌&&◌, not, List, Result, Ok, refl, subst, arith}
+use Rattle.std.proofs.Common.{◌≡◌, ◌≢◌, ℕ, ◌^◌, ◌-◌, ◌≤◌, min, Bool, true, false, ◌&&◌, not, List, Result, Ok, refl, sym, subst, ◌∙◌, arith}
 use Rattle.std.specs.Prelude.{◌==◌, nat_le}
 use Rattle.std.proofs.lemmas.Bool.Decides.{nat_tests}
 use Rattle.std.proofs.lemmas.Grind.{div_ceil_times}
@@ -7,13 +7,16 @@ use Rattle.fax_files.specs.declared.FileFault.{FileFault}
 use Rattle.fax_files.specs.declared.FileFault.TheVariants.{BadField, OutOfLimits}
 use Rattle.fax_files.specs.declared.PageForm.{PageForm}
 use Rattle.fax_files.specs.declared.Endian.{Endian}
-use Rattle.fax_files.specs.Directory.{◌>>=◌, check, Entry, entries, needed_scalar, scalar_or}
-use Rattle.fax_files.specs.Page.{is_between, page, page_size, pel_format, strip_rows, page_coding}
-use Rattle.fax_files.specs.Page.{strip_field}
+use Rattle.fax_files.specs.Directory.{◌>>=◌, check, Entry, entries}
+use Rattle.fax_files.specs.code.Steps.{page_in_steps, needed_scalar, scalar_or}
+use Rattle.fax_files.specs.Page.{is_between, page}
+use Rattle.fax_files.specs.code.Steps.{page_size, pel_format, strip_rows, page_coding}
+use Rattle.fax_files.specs.code.Steps.{strip_field}
 use Rattle.fax_files.specs.views.Page.{strip_count}
 use Rattle.fax_files.specs.laws.Files.{IsWholeForm, FormsAreWhole}
 use Rattle.fax_files.proofs.PageLemmas.{bind_ok, ok_injective, form_of, after_offsets, after_coding, after_rows, after_pels, after_size}
 use Rattle.fax_files.proofs.PageLemmas.{strip_begins_before}
+use Rattle.fax_files.proofs.StepLemmas.{page_is_in_steps}
 use Rattle.fax_files.specs.declared.tags.TheConstants as Tags
 
 checked : {A : Type 0} (test : Bool) (fault : FileFault) (next : Unit {0} → Result A FileFault) (y : A) → (check test fault >>= next) ≡ Ok y
@@ -75,8 +78,9 @@ same_form made form e whole = subst (λ (f : PageForm). IsWholeForm f) (ok_injec
 
 -- a form within the limits
 pub forms_are_whole : FormsAreWhole
-unfolding page
-forms_are_whole endian file q form e =
+unfolding page_in_steps
+forms_are_whole endian file q form page_is =
+    let e : page_in_steps endian file q ≡ Ok form = sym (page_is_in_steps endian file q) ∙ page_is in
     let fields = entries endian file q in
     let size = bind_ok (page_size endian file fields) (after_size endian file fields) form e in
     let pels = bind_ok (pel_format endian file fields) (after_pels endian file fields size.0) form size.2 in

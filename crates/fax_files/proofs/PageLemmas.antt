@@ -6,8 +6,9 @@ use Rattle.fax_files.specs.declared.FileFault.{FileFault}
 use Rattle.fax_files.specs.declared.PageForm.{PageForm}
 use Rattle.fax_files.specs.declared.Endian.{Endian}
 use Rattle.fax_files.specs.Directory.{◌>>=◌, is_inside, Entry, value_at}
-use Rattle.fax_files.specs.Page.{PelFormat, RowCoding, pel_format, strip_rows, page_coding}
-use Rattle.fax_files.specs.Page.{strip_field, resolution, strip_bytes, bytes_at}
+use Rattle.fax_files.specs.code.Steps.{page_resolution, PelFormat, RowCoding, pel_format, strip_rows, page_coding}
+use Rattle.fax_files.specs.Page.{strip_bytes}
+use Rattle.fax_files.specs.code.Steps.{strip_field, bytes_at}
 use Rattle.fax_files.specs.views.Page.{strip_count}
 use Rattle.fax_files.specs.views.Tiff.{TiffDirectory, bytes_of}
 use Rattle.fax_files.specs.code.Tiff.{AreStripPlaces}
@@ -34,9 +35,9 @@ module _ (endian : Endian) (file : List ℕ) (fields : List Entry) where
     exchanged = pels.exchanged;
     rows_per_strip = rows_per_strip;
     strips = strip_count size.1 rows_per_strip;
-    x = (resolution endian file fields).x;
-    y = (resolution endian file fields).y;
-    unit = (resolution endian file fields).unit;
+    x = (page_resolution endian file fields).x;
+    y = (page_resolution endian file fields).y;
+    unit = (page_resolution endian file fields).unit;
   }
 
   abbrev pub after_offsets : ℕ × ℕ → PelFormat → ℕ → RowCoding → Result PageForm FileFault
@@ -71,7 +72,7 @@ pub strip_place : (directory : TiffDirectory) (count s : ℕ) (offsets counts : 
     → bytes_of directory s
     ≡ bytes_at directory.file (value_at directory.endian directory.file offsets s) (value_at directory.endian directory.file counts s)
 unfolding strip_bytes
-strip_place directory count s offsets counts are = rw (are.offsets_are, are.counts_are) refl
+strip_place directory count s offsets counts are = rw (strip_bytes, are.offsets_are, are.counts_are) refl
 
 -- bytes that lie in the file
 pub bytes_inside : (file : List ℕ) (offset len : ℕ) → is_inside file offset len ≡ true

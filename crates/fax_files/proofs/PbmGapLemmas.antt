@@ -5,7 +5,8 @@ use Rattle.std.specs.Prelude.{◌==◌, IsTrue, if◌then◌else◌}
 use Rattle.std.specs.List.{list_all}
 use Rattle.std.proofs.lemmas.Bool.{eqb-true, and_parts}
 use Rattle.std.proofs.lemmas.Bool.Decides.{nat_tests}
-use Rattle.fax_files.specs.Pbm.{is_white_space, is_line_end, is_digit, IsPiece, ArePieces, IsGap}
+use Rattle.fax_files.specs.Pbm.{is_white_space, IsPiece, ArePieces, IsGap}
+use Rattle.fax_files.specs.code.Pbm.{is_line_end, is_digit}
 use Rattle.fax_files.specs.code.Pbm.{begins_piece, behind_pieces, behind_gap, has_digit}
 
 pub white_is_no_hash : (c : ℕ) → is_white_space c ≡ true → (c == 35) ≡ false

@@ -4,7 +4,8 @@ use Rattle.std.specs.Prelude.{codes}
 use Rattle.std.proofs.lemmas.Bool.Decides.{nat_tests}
 use Rattle.std.proofs.lemmas.Grind.{common_steps}
 use Rattle.fax_files.specs.declared.pbm.PbmFault.TheVariants.{BadHeader, OutOfLimits}
-use Rattle.fax_files.specs.Pbm.{IsHead, IsImage, IsImageFault, is_within_limits, raster_len}
+use Rattle.fax_files.specs.Pbm.{IsHead, IsImage, IsImageFault, is_within_limits}
+use Rattle.fax_files.specs.code.Pbm.{raster_len}
 use Rattle.fax_files.specs.code.Pbm.{capped, behind_gap, behind_digits, IsHeadRead}
 use Rattle.fax_files.specs.views.Pbm.{image_of}
 use Rattle.fax_files.proofs.PbmGapLemmas.{gap_is_read, gap_passed, gap_has_no_digit, white_is_no_digit}

@@ -7,7 +7,8 @@ use Rattle.std.proofs.Math.Seq.{take-append_seam, drop-append_seam}
 use Rattle.fax_bits.specs.declared.Colour.{Colour}
 use Rattle.fax_files.specs.declared.pbm.PbmFault.{PbmFault}
 use Rattle.fax_files.specs.declared.pbm.PbmFault.TheVariants.{BadHeader, OutOfLimits, ShortRaster}
-use Rattle.fax_files.specs.Pbm.{Image, IsHead, IsImage, IsImageFault, AreImages, is_within_limits, raster_len, raster_rows}
+use Rattle.fax_files.specs.Pbm.{Image, IsHead, IsImage, IsImageFault, AreImages, is_within_limits, raster_rows}
+use Rattle.fax_files.specs.code.Pbm.{raster_len}
 use Rattle.fax_files.specs.code.Pbm.{capped, capped_from, behind_gap, behind_digits}
 use Rattle.fax_files.proofs.PbmHeadLemmas.{head_passed, capped_limits, within_is_exact}
 

@@ -17,8 +17,11 @@ use Rattle.fax_bits.specs.declared.FillOrder.TheVariants.{MsbFirst}
 use Rattle.fax_bits.specs.declared.Colour.{Colour}
 use Rattle.fax_rows.specs.Coded.{is_black, packed_len, packed_row, unpacked_row}
 use Rattle.fax_rows.specs.laws.Packed.{PackingUndoesUnpacking}
-use Rattle.fax_files.specs.Pbm.{Image, IsHead, IsImage, SpellsNumber, AreImages, is_digit, is_within_limits, spelled_number, head_bytes}
-use Rattle.fax_files.specs.Pbm.{image_bytes, pbm_of, raster_rows, raster_len}
+use Rattle.fax_files.specs.Pbm.{Image, IsHead, IsImage, SpellsNumber, AreImages, is_within_limits}
+use Rattle.fax_files.specs.code.Pbm.{is_digit, spelled_number}
+use Rattle.fax_files.specs.views.Pbm.{head_bytes}
+use Rattle.fax_files.specs.Pbm.{pbm_of, raster_rows}
+use Rattle.fax_files.specs.code.Pbm.{image_bytes, raster_len}
 use Rattle.fax_files.specs.laws.Pbm.{AreOfWidth, IsWritableImage, AreWritableImages}
 
 -- decimals as they are written are a number

@@ -4,15 +4,19 @@ use Rattle.std.proofs.lemmas.List.{length-append}
 use Rattle.std.proofs.lemmas.Bool.{le-leb, lt-ltb, ltb-true, eqb-true, and_parts}
 use Rattle.std.specs.List.{list_all}
 use Rattle.std.specs.Prelude.{◌&&◌, flat_map, Option, Some, nat_lt, find, ◌==◌}
-use Rattle.fax_files.specs.Directory.{Entry, is_inside, entries_at, field, needed, SHORT, LONG}
-use Rattle.fax_files.specs.Directory.{values_place, value_at, has_integers, scalar, needed_scalar}
-use Rattle.fax_files.specs.Directory.{scalar_or, RATIONAL}
+use Rattle.fax_files.specs.Directory.{Entry, is_inside, entries_at, field, needed}
+use Rattle.fax_files.specs.Directory.{values_place, value_at, has_integers}
+use Rattle.fax_files.specs.code.Steps.{needed_scalar, first_value}
+use Rattle.fax_files.specs.code.Steps.{scalar_or}
 use Rattle.fax_files.specs.code.Entries.{entry_at}
 use Rattle.fax_files.specs.declared.Endian.TheVariants.{Little}
 use Rattle.fax_files.specs.views.Page.{IsGoodRational}
-use Rattle.fax_files.specs.Page.{has_rational, good_rational, rational_of}
-use Rattle.fax_files.specs.Written.{two, four, WrittenField, long_field, short_field, rational_field, rational_bytes, field_bytes}
+use Rattle.fax_files.specs.Page.{rational_of}
+use Rattle.fax_files.specs.code.Steps.{good_rational}
+use Rattle.fax_files.specs.Written.{two, four, WrittenField, field_bytes}
+use Rattle.fax_files.specs.code.Parts.{long_field, short_field, rational_field, rational_bytes}
 use Rattle.fax_files.proofs.PlaceLemmas.{HasBytesAt, at_place, at_left, at_right, at_inside, number_there}
+use Rattle.fax_files.specs.declared.tags.TheConstants as Tags
 
 -- a field's numbers fit their bytes
 pub record Fits (written : WrittenField) : Type 0 where
@@ -127,19 +131,19 @@ field_there file place tag (first ∷ fields) written values found =
         let there = rest f in
         record { at_entry = there.at_entry; entry_is = rw e there.entry_is; value_is = there.value_is }
 
--- the value of a field with one LONG
+-- the value of a field with one Tags.LONG
 pub long_there : (file : List ℕ) (p tag n : ℕ) → n < 4294967296 → HasBytesAt file p (four n)
-    → scalar Little file (record { tag = tag; kind = LONG; count = 1; place = p }) ≡ Ok n
-unfolding scalar has_integers value_at values_place
+    → first_value Little file (record { tag = tag; kind = Tags.LONG; count = 1; place = p }) ≡ Ok n
+unfolding first_value has_integers value_at values_place
 long_there file p tag n lt h =
     let zero_on : p + 0 * 4 ≡ p = omega arith in
     let inside : is_inside file p 4 ≡ true = le-leb _ _ (at_inside (four n) h) in
     rw (inside, zero_on, number_there 4 h lt) refl
 
--- the value of a field with one SHORT
+-- the value of a field with one Tags.SHORT
 pub short_there : (file : List ℕ) (p tag n : ℕ) → n < 65536 → HasBytesAt file p (two n ++ two 0)
-    → scalar Little file (record { tag = tag; kind = SHORT; count = 1; place = p }) ≡ Ok n
-unfolding scalar has_integers value_at values_place
+    → first_value Little file (record { tag = tag; kind = Tags.SHORT; count = 1; place = p }) ≡ Ok n
+unfolding first_value has_integers value_at values_place
 short_there file p tag n lt h =
     let zero_on : p + 0 * 2 ≡ p = omega arith in
     let short = at_left (two n) (two 0) h in
@@ -149,8 +153,8 @@ short_there file p tag n lt h =
 -- a rational that a field points to
 pub rational_there : (file : List ℕ) (p tag place x y : ℕ) → place < 4294967296 → 1 ≤ x → x < 4294967296 → 1 ≤ y → y < 4294967296
     → HasBytesAt file p (four place) → HasBytesAt file place (four x ++ four y)
-    → good_rational Little file (record { tag = tag; kind = RATIONAL; count = 1; place = p }) ≡ Some (x, y)
-unfolding good_rational has_rational values_place
+    → good_rational Little file (record { tag = tag; kind = Tags.RATIONAL; count = 1; place = p }) ≡ Some (x, y)
+unfolding good_rational values_place
 rational_there file p tag place x y lt some_x x_lt some_y y_lt h there =
     let at = number_there 4 h lt in
     let inside : is_inside file place 8 ≡ true = le-leb _ _ (at_inside (four x ++ four y) there) in
@@ -197,7 +201,7 @@ pub rational_back : (file : List ℕ) (place tag at_value : ℕ) (value : ℕ ×
     → written_field fields tag ≡ Some (rational_field tag at_value) → at_value < 4294967296 → IsGoodRational value
     → HasBytesAt file at_value (rational_bytes value)
     → rational_of Little file (read_fields place fields) tag ≡ Some value
-unfolding rational_of
+unfolding rational_of good_rational
 rational_back file place tag at_value value fields values found lt good stands =
     let there = field_there file place tag fields (rational_field tag at_value) values found in
     rw (rational_of, there.entry_is) (rational_there file (there.at_entry + 8) tag at_value value.0 value.1 lt good.some_top good.top

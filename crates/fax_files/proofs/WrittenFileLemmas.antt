@@ -1,24 +1,34 @@
 -- A written file is read as the pages that were written.
 use Rattle.std.proofs.Common.{◌≡◌, ℕ, suc, ◌+◌, ◌%◌, ◌<◌, ◌≤◌, ◌⊎◌, inl, inr, true, false, List, [], ◌∷◌, ◌++◌, length, take, drop, None}
-use Rattle.std.proofs.Common.{Ok, refl, sym, ap, ◌∙◌, arith, ◌*◌}
+use Rattle.std.proofs.Common.{Result, Ok, Err, refl, sym, ap, ◌∙◌, arith, ◌*◌}
 use Rattle.std.proofs.lemmas.List.{length-append, length-replicate}
 use Rattle.std.proofs.lemmas.Bool.{le-leb, lt-leb, ne_eqb}
 use Rattle.std.proofs.lemmas.List.Elements.{All-nil, All-cons, All-weaker}
 use Rattle.std.specs.List.{All, AllZip, list_any}
 use Rattle.std.proofs.lemmas.List.Folds.{list_any_none}
-use Rattle.std.specs.Prelude.{◌==◌, replicate, codes, nat_le, if◌then◌else◌}
-use Rattle.fax_files.specs.declared.Endian.TheVariants.{Little}
-use Rattle.fax_files.specs.Directory.{is_inside, number_at, is_directory, next_offset, endian_of}
+use Rattle.std.specs.Prelude.{◌==◌, replicate, codes, bytes_eq, nat_le, if◌then◌else◌}
+use Rattle.fax_files.specs.declared.FileFault.TheVariants as Fault
+use Rattle.fax_files.specs.Directory.{is_inside, number_at, is_directory, next_offset}
+use Rattle.fax_files.specs.Directory.{Endian, Little, Big, FileFault}
 use Rattle.fax_files.specs.Directory.{header, IsChainFrom}
-use Rattle.fax_files.specs.Written.{to_link, to_x, to_offsets, two, four, offsets_from, lengths_of, fields_bytes, values_bytes}
-use Rattle.fax_files.specs.Written.{joined_strips, directory_place, page_bytes, with_four_at, Written, with_page, with_pages, WrittenPage}
-use Rattle.fax_files.specs.Written.{empty_file, file_of, longs, array_bytes, rational_bytes}
+use Rattle.fax_files.specs.Written.{to_link, two, four, offsets_from}
+use Rattle.fax_files.specs.code.Parts.{to_x, to_offsets, lengths_of, fields_bytes, values_bytes}
+use Rattle.fax_files.specs.Written.{directory_place, page_bytes, Written, with_page, with_pages, WrittenPage}
+use Rattle.fax_files.specs.code.Parts.{joined_strips, with_four_at}
+use Rattle.fax_files.specs.Written.{file_of, array_bytes}
+use Rattle.fax_files.specs.code.Parts.{longs, rational_bytes}
+use Rattle.fax_files.specs.views.Writing.{empty_file}
 use Rattle.fax_files.specs.laws.Files.{IsWritable, AreWritable, IsReadAt, AppendedPagesAreRead, WrittenFilesAreRead}
 use Rattle.fax_files.proofs.PlaceLemmas.{HasBytesAt, at_place, at_left, at_right, at_inside, at_drop, at_start, at_slice, length-slice}
 use Rattle.fax_files.proofs.PlaceLemmas.{slice_there, at_end, at_grown, at_patch, at_before_patch, at_behind_patch, length-patched}
 use Rattle.fax_files.proofs.PlaceLemmas.{number_there}
 use Rattle.fax_files.proofs.WrittenStripLemmas.{length-offsets_from, length-lengths_of, length-longs}
 use Rattle.fax_files.proofs.WrittenPageLemmas.{page_fields, IsPageAt, length-page_fields, page_back, directory_whole, next_there}
+
+-- II is little-endian, MM is big-endian
+abbrev endian_of : List ℕ → Result Endian FileFault
+endian_of bytes =
+    if bytes_eq bytes (codes "II") then (Ok Little) else (if bytes_eq bytes (codes "MM") then (Ok Big) else (Err Fault.ByteOrder))
 
 -- a file whose last link is still 0
 abbrev pub HasOpenLink : Written → Type 0

@@ -12,18 +12,23 @@ use Rattle.fax_bits.specs.declared.FillOrder.TheVariants.{MsbFirst, LsbFirst}
 use Rattle.fax_page.specs.declared.Coding.{Coding}
 use Rattle.fax_page.specs.declared.Coding.TheVariants.{Mh, Mr, Mmr}
 use Rattle.fax_files.specs.declared.FileFault.{FileFault}
-use Rattle.fax_files.specs.Directory.{Entry, is_inside, number_at, ◌>>=◌, SHORT, entry_count}
+use Rattle.fax_files.specs.Directory.{Entry, is_inside, number_at, ◌>>=◌}
+use Rattle.fax_files.specs.code.Entries.{entry_count}
 use Rattle.fax_files.specs.Directory.{entries, is_directory, next_offset}
 use Rattle.fax_files.specs.declared.Endian.TheVariants.{Little}
 use Rattle.fax_files.specs.declared.PageForm.{PageForm}
-use Rattle.fax_files.specs.Page.{page_size, pel_format, strip_rows, are_exchanged, fill_order}
-use Rattle.fax_files.specs.Page.{t4_coding, page_coding, resolution, page, strip_bytes}
+use Rattle.fax_files.specs.code.Steps.{page_resolution, page_in_steps, page_size, pel_format, strip_rows, are_exchanged, fill_order}
+use Rattle.fax_files.specs.Page.{page, strip_bytes}
+use Rattle.fax_files.specs.code.Steps.{t4_coding, page_coding}
 use Rattle.fax_files.specs.Page.{fill_order_of}
 use Rattle.fax_files.specs.views.Page.{strip_count}
-use Rattle.fax_files.specs.Written.{field_count, to_link, to_x, to_y, to_offsets, two, WrittenField}
-use Rattle.fax_files.specs.Written.{short_field, field_bytes, compression_of, options_field}
-use Rattle.fax_files.specs.Written.{offsets_from, lengths_of, array_bytes, rational_bytes}
-use Rattle.fax_files.specs.Written.{fields_of, fields_bytes, values_bytes, joined_strips}
+use Rattle.fax_files.specs.Written.{to_link, two, WrittenField}
+use Rattle.fax_files.specs.code.Parts.{field_count, to_x, to_y, to_offsets}
+use Rattle.fax_files.specs.Written.{field_bytes, compression_of, options_field}
+use Rattle.fax_files.specs.code.Parts.{short_field}
+use Rattle.fax_files.specs.Written.{offsets_from, array_bytes}
+use Rattle.fax_files.specs.code.Parts.{lengths_of, rational_bytes}
+use Rattle.fax_files.specs.code.Parts.{fields_of, fields_bytes, values_bytes, joined_strips}
 use Rattle.fax_files.specs.Written.{WrittenPage}
 use Rattle.fax_files.specs.laws.Files.{IsWritable, IsReadAt}
 use Rattle.fax_files.proofs.PlaceLemmas.{HasBytesAt, at_place, at_left, at_right, at_inside, number_there}
@@ -31,6 +36,7 @@ use Rattle.fax_files.proofs.WrittenFieldLemmas.{AllFit, fits, all_fit, length-fi
 use Rattle.fax_files.proofs.WrittenFieldLemmas.{needed_long, needed_short, long_or, short_or, rational_back}
 use Rattle.fax_files.proofs.WrittenStripLemmas.{ArrayThere, array_back, array_checked, array_is_longs, length-longs, length-offsets_from}
 use Rattle.fax_files.proofs.WrittenStripLemmas.{length-lengths_of, strip_there}
+use Rattle.fax_files.proofs.StepLemmas.{page_is_in_steps, strip_is_placed}
 use Rattle.fax_files.specs.declared.tags.TheConstants as Tags
 
 -- the fields of page k of `total`, of which the strips begin at `start` and the directory stands at q
@@ -56,7 +62,7 @@ fields_fit Mmr aligned q total k form offsets lengths o l = rw (o, l) refl
 -- the last two fields
 abbrev last_fields : ℕ → ℕ → PageForm → List WrittenField
 last_fields total k form =
-    short_field Tags.RESOLUTION_UNIT form.unit ∷ record { tag = Tags.PAGE_NUMBER; kind = SHORT; count = 2; value = two k ++ two total } ∷ []
+    short_field Tags.RESOLUTION_UNIT form.unit ∷ record { tag = Tags.PAGE_NUMBER; kind = Tags.SHORT; count = 2; value = two k ++ two total } ∷ []
 
 -- T4Options among fields, of which the one for options is the only one with its tag
 coding_from : (coding : Coding) (aligned : Bool) (file : List ℕ) (place : ℕ) (fields : List WrittenField) → HasValues file place fields
@@ -254,8 +260,8 @@ module _ (file : List ℕ) (q start total k : ℕ) (written : WrittenPage) (know
   parts : ValuesThere file q written.form (offsets_from start written.strips) (lengths_of written.strips)
   parts = values_there file q written.form (offsets_from start written.strips) (lengths_of written.strips) known.here.values
 
-  resolution_there : resolution Little file entries_read ≡ record { x = written.form.x; y = written.form.y; unit = written.form.unit }
-  unfolding resolution
+  resolution_there : page_resolution Little file entries_read ≡ record { x = written.form.x; y = written.form.y; unit = written.form.unit }
+  unfolding page_resolution
   resolution_there =
       let w = known.writable in
       let inside = at_inside (rational_bytes written.form.y) parts.y in
@@ -296,7 +302,7 @@ module _ (file : List ℕ) (q start total k : ℕ) (written : WrittenPage) (know
 
   -- so the page has the form that was written
   form_there : page Little file q ≡ Ok written.form
-  unfolding page
+  unfolding page_in_steps
   form_there =
       let w = known.writable in
       let strips = strip_count written.form.rows written.form.rows_per_strip in
@@ -306,15 +312,14 @@ module _ (file : List ℕ) (q start total k : ℕ) (written : WrittenPage) (know
       let lengths = array_checked file entries_read Tags.STRIP_BYTE_COUNTS strips _ lengths_there
       (counted ∙ sym (length-lengths_of written.strips)) in
       let exchanged : false ≡ written.form.exchanged = sym w.exchanged in
-      rw (what_is_read.0, size_there, format_there, rows_there, coding_there)
+      page_is_in_steps Little file q ∙ rw (what_is_read.0, size_there, format_there, rows_there, coding_there)
       (checked_on _ _ offsets ∙ checked_on _ _ lengths
       ∙ rw (resolution_there, sym w.limits.strips, exchanged) refl)
 
   -- and each strip the bytes that were written
   strip_back : (s : ℕ) → s < written.form.strips → strip_bytes Little file q s ≡ Some (get_or written.strips s [])
-  unfolding strip_bytes
   strip_back s lt =
-      rw what_is_read.0
+      strip_is_placed Little file q s ∙ rw what_is_read.0
       (strip_there file start entries_read written.strips s (omega (arith, lt, known.writable.strips)) known.small known.here.strips
       offsets_there lengths_there)
 

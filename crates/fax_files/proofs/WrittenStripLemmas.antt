@@ -3,19 +3,20 @@ use Rattle.std.proofs.Common.{◌≡◌, ℕ, zero, suc, ◌+◌, ◌*◌, ◌<�
 use Rattle.std.proofs.lemmas.List.{length-append}
 use Rattle.std.proofs.lemmas.Bool.{le-leb, lt-leb}
 use Rattle.std.specs.Prelude.{nat_le, IsOk}
-use Rattle.fax_files.specs.Directory.{Entry, is_inside, LONG, field, needed, values_place, value_at}
+use Rattle.fax_files.specs.Directory.{Entry, is_inside, field, needed, values_place, value_at}
 use Rattle.fax_files.specs.Directory.{has_integers}
 use Rattle.fax_files.specs.declared.Endian.TheVariants.{Little}
-use Rattle.fax_files.specs.Page.{strip_field, placed_bytes}
-use Rattle.fax_files.specs.Written.{four, WrittenField, long_field, offsets_from, lengths_of, longs, one_or_place, array_bytes}
-use Rattle.fax_files.specs.Written.{joined_strips}
+use Rattle.fax_files.specs.code.Steps.{strip_field, placed_bytes}
+use Rattle.fax_files.specs.Written.{four, WrittenField, offsets_from, one_or_place, array_bytes}
+use Rattle.fax_files.specs.code.Parts.{long_field, lengths_of, longs}
+use Rattle.fax_files.specs.code.Parts.{joined_strips}
 use Rattle.fax_files.proofs.PlaceLemmas.{HasBytesAt, at_place, at_left, at_right, at_inside, number_there, bytes_there}
 use Rattle.fax_files.proofs.WrittenFieldLemmas.{read_fields, HasValues, written_field, field_there}
 use Rattle.fax_files.specs.declared.tags.TheConstants as Tags
 
 -- the entry of LONGs at a place
 abbrev pub longs_entry : ℕ → ℕ → ℕ → Entry
-longs_entry tag count place = record { tag = tag; kind = LONG; count = count; place = place }
+longs_entry tag count place = record { tag = tag; kind = Tags.LONG; count = count; place = place }
 
 -- numbers stand where an entry has its values, in the entry or after the directory
 array_there : (file : List ℕ) (p tag place : ℕ) (numbers : List ℕ) → 1 ≤ length numbers → length file < 4294967296

@@ -19,21 +19,13 @@ pub record Image : Type 0 where
 abbrev pub is_white_space : ℕ → Bool
 is_white_space c = (c == 32) || is_between 9 13 c
 
--- LF and CR, which end a comment (the netpbm format, P4)
-abbrev pub is_line_end : ℕ → Bool
-is_line_end c = (c == 10) || (c == 13)
-
--- `0` to `9` (the netpbm format, P4)
-abbrev pub is_digit : ℕ → Bool
-is_digit c = is_between 48 57 c
-
 -- a piece of a gap: one byte of white space, or a comment from `#`, which is 35, to the next LF or
--- CR (the netpbm format, P4)
+-- CR, 10 or 13 (the netpbm format, P4)
 abbrev pub IsPiece : List ℕ → Type 0
 IsPiece piece =
     ((c : ℕ) × IsTrue (is_white_space c) × (piece ≡ c ∷ []))
-    ⊎ ((text : List ℕ) × (c : ℕ) × IsTrue (list_all (λ t. not (is_line_end t)) text)
-    × IsTrue (is_line_end c)
+    ⊎ ((text : List ℕ) × (c : ℕ) × IsTrue (list_all (λ t. not ((t == 10) || (t == 13))) text)
+    × IsTrue ((c == 10) || (c == 13))
     × (piece ≡ 35 ∷ text ++ c ∷ []))
 
 -- pieces one after another
@@ -46,14 +38,12 @@ ArePieces (piece ∷ pieces) gap =
 abbrev pub IsGap : List ℕ → Type 0
 IsGap gap = (pieces : List (List ℕ)) × (pieces ≢ []) × ArePieces pieces gap
 
--- the number that decimals spell, the highest first
-abbrev pub spelled_number : List ℕ → ℕ
-spelled_number digits = fold (λ number digit. 10 * number + (digit - 48)) 0 digits
-
--- a number: one or more digits, with leading zeros or without (the netpbm format, P4)
+-- a number: one or more digits, `0` to `9`, the highest first, with leading zeros or without
+-- (the netpbm format, P4)
 abbrev pub SpellsNumber : List ℕ → ℕ → Type 0
 SpellsNumber digits n =
-    (digits ≢ []) × IsTrue (list_all is_digit digits) × (n ≡ spelled_number digits)
+    (digits ≢ []) × IsTrue (list_all (is_between 48 57) digits)
+    × (n ≡ fold (λ number digit. 10 * number + (digit - 48)) 0 digits)
 
 -- the bytes begin with an image's header: `P4`, a gap, the width, a gap, the height and one byte of
 -- white space (the netpbm format, P4)
@@ -75,10 +65,6 @@ pub record IsHead (bytes : List ℕ) (width height : ℕ) (rest : List ℕ) : Ty
 abbrev pub is_within_limits : ℕ → ℕ → Bool
 is_within_limits width height = is_between 1 65535 width && is_between 1 1000000 height
 
--- how many bytes the rows of an image take (the netpbm format, P4)
-abbrev pub raster_len : ℕ → ℕ → ℕ
-raster_len width height = height * packed_len width
-
 -- the rows that these bytes hold, of which each row takes whole bytes (the netpbm format, P4)
 abbrev pub raster_rows : ℕ → ℕ → List ℕ → List (List Colour)
 raster_rows width zero bytes = []
@@ -93,7 +79,7 @@ pub record IsImage (bytes : List ℕ) (image : Image) (rest : List ℕ) : Type 0
   pub raster : List ℕ
   pub head : IsHead bytes image.width height (raster ++ rest)
   pub within : IsTrue (is_within_limits image.width height)
-  pub whole : length raster ≡ raster_len image.width height
+  pub whole : length raster ≡ height * packed_len image.width
   pub rows_are : image.rows ≡ raster_rows image.width height raster
 
 -- the bytes begin with no image, for this fault
@@ -106,7 +92,7 @@ IsImageFault bytes OutOfLimits =
 IsImageFault bytes ShortRaster =
     (width height : ℕ) × (rest : List ℕ) × IsHead bytes width height rest
     × IsTrue (is_within_limits width height)
-    × (length rest < raster_len width height)
+    × (length rest < height * packed_len width)
 
 -- the name of an image's fault
 abbrev pub pbm_fault_name : PbmFault → List ℕ
@@ -123,15 +109,9 @@ AreImages bytes [] end =
 AreImages bytes (image ∷ images) end =
     (rest : List ℕ) × IsImage bytes image rest × AreImages rest images end
 
--- an image's header as it is written (the netpbm format, P4)
-abbrev pub head_bytes : ℕ → ℕ → List ℕ
-head_bytes width height = codes "P4\n" ++ decimal width ++ codes " " ++ decimal height ++ codes "\n"
-
--- an image as it is written, each row with zeros up to a whole byte
+-- images as they are written: a header, and each row with zeros up to a whole byte
 -- (the netpbm format, P4; the zeros are this project's profile)
-abbrev pub image_bytes : Image → List ℕ
-image_bytes image = head_bytes image.width (length image.rows) ++ flat_map packed_row image.rows
-
--- images as they are written (the netpbm format, P4)
 abbrev pub pbm_of : List Image → List ℕ
-pbm_of images = flat_map image_bytes images
+pbm_of images =
+    flat_map (λ image. codes "P4\n" ++ decimal image.width ++ codes " "
+    ++ decimal (length image.rows) ++ codes "\n" ++ flat_map packed_row image.rows) images

@@ -5,3 +5,5 @@ pub mod Chain
 pub mod Writing
 pub mod Pbm
 pub mod Entries
+pub mod Steps
+pub mod Parts

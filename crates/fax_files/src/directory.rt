@@ -2,6 +2,7 @@
 
 ghost use Rattle.std.specs.Prelude.{◌≡◌, ◌+◌, ◌*◌, ◌<◌, ◌≤◌, length, Ok, IfOk};
 ghost use Rattle.fax_files.specs.Directory as Spec;
+ghost use Rattle.fax_files.specs.code.Entries.{entry_count as count_of};
 ghost use Rattle.fax_files.specs.code.Fields as Code;
 ghost use Rattle.fax_files.specs.views.Page.{IsPageForm};
 ghost use Rattle.fax_files.specs.code.Fields.{AreFieldsOf};
@@ -37,7 +38,7 @@ impl<'a> Model for Directory<'a> {
 /// The number of entries in the directory at an offset.
 pub(crate) fn entry_count(file: &File, offset: usize) -> u16
     requires { offset + 2 ≤ length file.now.bytes.now }
-    ensures { result ≡ Spec.entry_count file.now.endian file.now.bytes.now offset }
+    ensures { result ≡ count_of file.now.endian file.now.bytes.now offset }
 {
     file.u16_at(offset)
 }

@@ -3,19 +3,13 @@
 ghost use Rattle.std.specs.Prelude.{◌≡◌, ◌+◌, ◌≤◌, length, IsTrue, IfSome};
 ghost use Rattle.fax_files.specs.Directory as Spec;
 ghost use Rattle.fax_files.specs.code.Entries.{entry_at, is_integer};
-ghost use Rattle.fax_files.specs.Page.{good_rational};
+ghost use Rattle.fax_files.specs.code.Steps.{first_value, good_rational};
 ghost use Rattle.fax_files.specs.views.Page.{IsGoodRational};
 
 use crate::FileFault;
 use crate::numbers::{File, is_inside};
+use crate::tags::{LONG, RATIONAL, SHORT};
 use std::marker::Model;
-
-/// The type of values of two bytes.
-pub(crate) const SHORT_TYPE: u16 = 3;
-/// The type of values of four bytes.
-pub(crate) const LONG_TYPE: u16 = 4;
-/// The type of fractions: two numbers of four bytes.
-pub(crate) const RATIONAL_TYPE: u16 = 5;
 
 /// An entry of a directory.
 #[derive(Clone, Copy)]
@@ -52,7 +46,7 @@ impl Entry {
     fn is_integer(&self) -> bool
         ensures { result ≡ is_integer self.now }
     {
-        self.kind == SHORT_TYPE || self.kind == LONG_TYPE
+        self.kind == SHORT || self.kind == LONG
     }
 
     /// How many bytes a value takes, where it is SHORT, LONG or RATIONAL.
@@ -61,8 +55,8 @@ impl Entry {
         ensures bound { result ≤ 8 }
     {
         match self.kind {
-            SHORT_TYPE => 2,
-            LONG_TYPE => 4,
+            SHORT => 2,
+            LONG => 4,
             _ => 8,
         }
     }
@@ -119,7 +113,7 @@ impl<'a> File<'a> {
         ensures { result ≡ Spec.value_at self.now.endian self.now.bytes.now entry.now i }
     {
         let place = self.values_place(entry) + i as usize * entry.value_len();
-        if entry.kind == SHORT_TYPE {
+        if entry.kind == SHORT {
             u32::from(self.u16_at(place))
         } else {
             self.u32_at(place)
@@ -127,10 +121,10 @@ impl<'a> File<'a> {
     }
 
     /// The value of a scalar.
-    #[tactic(auto, unfolding(crate::specs::Directory::scalar))]
+    #[tactic(auto, unfolding(crate::specs::code::Steps::first_value))]
     pub fn scalar(&self, entry: &Entry) -> Result<u32, FileFault>
         requires { entry.now.place + 4 ≤ length self.now.bytes.now }
-        ensures { result ≡ Spec.scalar self.now.endian self.now.bytes.now entry.now }
+        ensures { result ≡ first_value self.now.endian self.now.bytes.now entry.now }
     {
         if !self.has_integers(entry, 1) {
             return Err(FileFault::BadField(entry.tag));
@@ -139,14 +133,14 @@ impl<'a> File<'a> {
     }
 
     /// An entry's fraction, where it has one whose numbers are above 0.
-    #[tactic(auto, unfolding(crate::specs::Page::has_rational, crate::specs::Page::good_rational))]
+    #[tactic(auto, unfolding(crate::specs::code::Steps::good_rational))]
     pub fn good_rational(&self, entry: &Entry) -> Option<(u32, u32)>
         requires { entry.now.place + 4 ≤ length self.now.bytes.now }
         ensures exact { result ≡ good_rational self.now.endian self.now.bytes.now entry.now }
         ensures good { IfSome result IsGoodRational }
     {
         let place = self.values_place(entry);
-        if entry.kind != RATIONAL_TYPE || entry.count < 1 || !is_inside(self.bytes, place, 8) {
+        if entry.kind != RATIONAL || entry.count < 1 || !is_inside(self.bytes, place, 8) {
             return None;
         }
         let value = (self.u32_at(place), self.u32_at(place + 4));

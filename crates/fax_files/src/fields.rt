@@ -3,6 +3,7 @@
 ghost use Rattle.std.specs.Prelude.{◌≡◌, ◌+◌, ◌≤◌, length, IsTrue, IfOk, IfSome, List, [], ◌∷◌};
 ghost use Rattle.fax_files.specs.Directory as Spec;
 ghost use Rattle.fax_files.specs.Page.{rational_of};
+ghost use Rattle.fax_files.specs.code.Steps.{needed_scalar, scalar_or};
 ghost use Rattle.fax_files.specs.views.Page.{IsGoodRational};
 ghost use Rattle.fax_files.specs.code.Fields.{is_sought};
 ghost use Rattle.fax_files.specs.views.Fields.{entries_of};
@@ -138,22 +139,22 @@ impl<'d, 'a> Fields<'d, 'a> {
     }
 
     /// The scalar of a tag, which has to be there.
-    #[tactic(auto, unfolding(crate::specs::Directory::needed_scalar))]
+    #[tactic(auto, unfolding(crate::specs::code::Steps::needed_scalar))]
     pub fn needed_scalar(&self, tag: u16) -> Result<u32, FileFault>
         requires { IsTrue (is_sought tag) }
         ensures { result
-            ≡ Spec.needed_scalar self.now.endian self.now.file (entries_of self.now) tag }
+            ≡ needed_scalar self.now.endian self.now.file (entries_of self.now) tag }
     {
         let entry = self.needed(tag)?;
         self.file().scalar(&entry)
     }
 
     /// The scalar of a tag, or `absent` where no entry has the tag.
-    #[tactic(auto, unfolding(crate::specs::Directory::scalar_or))]
+    #[tactic(auto, unfolding(crate::specs::code::Steps::scalar_or))]
     pub fn scalar_or(&self, tag: u16, absent: u32) -> Result<u32, FileFault>
         requires { IsTrue (is_sought tag) }
         ensures { result
-            ≡ Spec.scalar_or self.now.endian self.now.file (entries_of self.now) tag absent }
+            ≡ scalar_or self.now.endian self.now.file (entries_of self.now) tag absent }
     {
         match self.first(tag) {
             Some(entry) => self.file().scalar(&entry),
@@ -162,7 +163,7 @@ impl<'d, 'a> Fields<'d, 'a> {
     }
 
     /// The fraction of a tag, where it is there and good.
-    #[tactic(auto, unfolding(crate::specs::Page::rational_of))]
+    #[tactic(auto, unfolding(crate::specs::Page::rational_of, crate::specs::code::Steps::good_rational))]
     pub fn rational_of(&self, tag: u16) -> Option<(u32, u32)>
         requires { IsTrue (is_sought tag) }
         ensures exact { result

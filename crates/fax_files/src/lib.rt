@@ -79,7 +79,7 @@ pub enum FileFault {
 impl FileFault {
     /// The fault's own name.
     fn name(self) -> &'static str
-        ensures { result.now ≡ Names.file_fault_name self }
+        ensures { result.now ≡ Names.fault_name (Cause.File self) }
     {
         match self {
             FileFault::ShortHeader => "ShortHeader",
@@ -98,7 +98,7 @@ impl FileFault {
 
     /// The tag of the field at fault, where it has one.
     fn tag(self) -> Option<u16>
-        ensures { result ≡ Names.file_fault_tag self }
+        ensures { result ≡ Names.fault_tag (Cause.File self) }
     {
         match self {
             FileFault::MissingField(tag)
@@ -140,7 +140,7 @@ impl Cause {
 
 /// The own name of a strip's fault.
 fn strip_name(fault: StripFault) -> &'static str
-    ensures { result.now ≡ Names.strip_fault_name fault }
+    ensures { result.now ≡ Names.fault_name (Cause.Strip fault) }
 {
     match fault {
         StripFault::DataEnds => "DataEnds",

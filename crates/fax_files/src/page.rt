@@ -4,7 +4,7 @@ ghost use Rattle.std.specs.Prelude.{◌≡◌, ◌≢◌, ◌+◌, ◌≤◌, le
 ghost use Rattle.std.specs.Prelude.{IfErr};
 ghost use Rattle.fax_page.specs.declared.Coding.TheVariants.{Mmr};
 ghost use Rattle.fax_files.specs.Directory as Entries;
-ghost use Rattle.fax_files.specs.Page as Spec;
+ghost use Rattle.fax_files.specs.code.Steps as Spec;
 ghost use Rattle.fax_files.specs.views.Page.{IsGoodRational, IsPageForm};
 ghost use Rattle.fax_files.specs.views.Fields.{entries_of};
 ghost use Rattle.fax_files.specs.code.Fields.{is_sought};
@@ -43,7 +43,7 @@ struct PelFormat {
 }
 
 impl Model for PelFormat {
-    ghost use Rattle.fax_files.specs.Page.{PelFormat};
+    ghost use Rattle.fax_files.specs.code.Steps.{PelFormat};
 
     ghost Value = { PelFormat };
 
@@ -62,7 +62,7 @@ struct RowCoding {
 }
 
 impl Model for RowCoding {
-    ghost use Rattle.fax_files.specs.Page.{RowCoding};
+    ghost use Rattle.fax_files.specs.code.Steps.{RowCoding};
 
     ghost Value = { RowCoding };
 
@@ -85,7 +85,7 @@ impl Model for Resolution {
 }
 
 /// The form of a page and the places of its strips, or its first fault.
-#[tactic(auto, unfolding(crate::specs::Page::page))]
+#[tactic(auto, using(crate::proofs::StepLemmas::page_is_in_steps), unfolding(crate::specs::code::Steps::page_in_steps))]
 pub(crate) fn read_page<'a>(fields: &Fields<'_, 'a>) -> Result<(PageForm, Strips<'a>), FileFault>
     ensures form { IfOk result (λ page. form_of fields.now ≡ Ok page.0) }
     ensures fault { IfErr result (λ fault. form_of fields.now ≡ Err fault) }
@@ -123,7 +123,7 @@ pub(crate) fn read_page<'a>(fields: &Fields<'_, 'a>) -> Result<(PageForm, Strips
 }
 
 /// The width and the rows of a page.
-#[tactic(auto, unfolding(crate::specs::Page::page_size))]
+#[tactic(auto, unfolding(crate::specs::code::Steps::page_size))]
 fn page_size(fields: &Fields) -> Result<(u32, u32), FileFault>
     ensures exact { result
         ≡ Spec.page_size fields.now.endian fields.now.file (entries_of fields.now) }
@@ -144,7 +144,7 @@ fn page_size(fields: &Fields) -> Result<(u32, u32), FileFault>
 }
 
 /// How pels are coded, by the fields that say so.
-#[tactic(auto, unfolding(crate::specs::Page::pel_format))]
+#[tactic(auto, unfolding(crate::specs::code::Steps::pel_format))]
 fn pel_format(fields: &Fields) -> Result<PelFormat, FileFault>
     ensures { result ≡ Spec.pel_format fields.now.endian fields.now.file (entries_of fields.now) }
 {
@@ -168,7 +168,7 @@ fn pel_format(fields: &Fields) -> Result<PelFormat, FileFault>
 }
 
 /// Whether black is coded as white, and white as black.
-#[tactic(auto, unfolding(crate::specs::Page::are_exchanged))]
+#[tactic(auto, unfolding(crate::specs::code::Steps::are_exchanged))]
 fn are_exchanged(fields: &Fields) -> Result<bool, FileFault>
     ensures { result
         ≡ Spec.are_exchanged fields.now.endian fields.now.file (entries_of fields.now) }
@@ -181,7 +181,7 @@ fn are_exchanged(fields: &Fields) -> Result<bool, FileFault>
 }
 
 /// Which bit of a byte comes first.
-#[tactic(auto, unfolding(crate::specs::Page::fill_order))]
+#[tactic(auto, unfolding(crate::specs::code::Steps::fill_order))]
 fn fill_order(fields: &Fields) -> Result<FillOrder, FileFault>
     ensures { result ≡ Spec.fill_order fields.now.endian fields.now.file (entries_of fields.now) }
 {
@@ -193,7 +193,7 @@ fn fill_order(fields: &Fields) -> Result<FillOrder, FileFault>
 }
 
 /// The rows of each strip but the last, of a page with so many rows.
-#[tactic(auto, unfolding(crate::specs::Page::strip_rows))]
+#[tactic(auto, unfolding(crate::specs::code::Steps::strip_rows))]
 fn strip_rows(fields: &Fields, rows: u32) -> Result<u32, FileFault>
     requires { 1 ≤ rows }
     ensures exact { result
@@ -209,7 +209,7 @@ fn strip_rows(fields: &Fields, rows: u32) -> Result<u32, FileFault>
 }
 
 /// How the rows of a page are coded. T4Options is looked at in T.4 alone.
-#[tactic(auto, unfolding(crate::specs::Page::page_coding, crate::specs::Page::t4_coding))]
+#[tactic(auto, unfolding(crate::specs::code::Steps::page_coding, crate::specs::code::Steps::t4_coding))]
 fn page_coding(fields: &Fields, compression: u32) -> Result<RowCoding, FileFault>
     ensures exact { result
         ≡ Spec.page_coding fields.now.endian fields.now.file (entries_of fields.now) compression }
@@ -234,10 +234,10 @@ fn page_coding(fields: &Fields, compression: u32) -> Result<RowCoding, FileFault
 }
 
 /// The resolution of a page: 204 by 196 dots an inch where its fields have no good one.
-#[tactic(auto, unfolding(crate::specs::Page::resolution))]
+#[tactic(auto, unfolding(crate::specs::code::Steps::page_resolution))]
 fn page_resolution(fields: &Fields) -> Resolution
     ensures exact { result
-        ≡ Spec.resolution fields.now.endian fields.now.file (entries_of fields.now) }
+        ≡ Spec.page_resolution fields.now.endian fields.now.file (entries_of fields.now) }
     ensures x { IsGoodRational result.x }
     ensures y { IsGoodRational result.y }
     ensures some_unit { 1 ≤ result.unit }
@@ -261,7 +261,7 @@ fn page_resolution(fields: &Fields) -> Resolution
 }
 
 /// The entry of a tag, which has to have a value for each strip.
-#[tactic(auto, unfolding(crate::specs::Page::strip_field))]
+#[tactic(auto, unfolding(crate::specs::code::Steps::strip_field))]
 fn strip_field(fields: &Fields, tag: u16, strips: u32) -> Result<Entry, FileFault>
     requires { IsTrue (is_sought tag) }
     ensures exact { result

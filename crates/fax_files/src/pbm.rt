@@ -57,14 +57,14 @@ fn is_white_space(byte: u8) -> bool
 
 /// A LF or CR, which ends a comment.
 fn is_line_end(byte: u8) -> bool
-    ensures { result ≡ Pbm.is_line_end byte }
+    ensures { result ≡ Spec.is_line_end byte }
 {
     byte == b'\n' || byte == b'\r'
 }
 
 /// A decimal digit.
 fn is_digit(byte: u8) -> bool
-    ensures { result ≡ Pbm.is_digit byte }
+    ensures { result ≡ Spec.is_digit byte }
 {
     b'0' <= byte && byte <= b'9'
 }
@@ -172,7 +172,7 @@ pub struct PbmImage<'a> {
     pub rows: u32,
     pub raster: &'a [u8],
     ghost within: { IsTrue (Pbm.is_within_limits width rows) },
-    ghost whole: { length raster.now ≡ Pbm.raster_len width rows },
+    ghost whole: { length raster.now ≡ Spec.raster_len width rows },
 }
 
 impl<'a> PbmImage<'a> {
@@ -296,7 +296,7 @@ impl<'a> PbmReader<'a> {
 ///
 /// `Memory` where a growth was refused; the bytes are then as they were.
 pub fn put_pbm_head(out: &mut Vec<u8>, width: u32, rows: u32) -> Result<(), Memory>
-    ensures ok { OnOk result (out.new.items ≡ out.old.items ++ Pbm.head_bytes width rows) }
+    ensures ok { OnOk result (out.new.items ≡ out.old.items ++ View.head_bytes width rows) }
     ensures err { OnErr result (out.new.items ≡ out.old.items) }
 {
     let mut width_digits = Buffer::new();

@@ -1,4 +1,11 @@
-//! The tags of the fields of a fax page (TIFF 6.0, sections 8, 11 and 12).
+//! The tags of the fields of a fax page (TIFF 6.0, sections 8, 11 and 12), and the types of their
+//! values that are read (TIFF 6.0, section 2).
+
+pub(crate) const SHORT: u16 = 3;
+
+pub(crate) const LONG: u16 = 4;
+
+pub(crate) const RATIONAL: u16 = 5;
 
 pub(crate) const NEW_SUBFILE_TYPE: u16 = 254;
 

@@ -53,7 +53,7 @@ impl Model for TiffWriter {
 }
 
 impl TiffWriter {
-    ghost use Rattle.fax_files.specs.Written.{empty_file};
+    ghost use Rattle.fax_files.specs.views.Writing.{empty_file};
 
     /// A file of this many pages, before the first is added.
     ///

@@ -5,12 +5,12 @@ ghost use Rattle.std.specs.Prelude.{IfSome};
 ghost use Rattle.std.specs.Option.{IfNone};
 ghost use Rattle.fax_files.specs.Page.{fill_order_of};
 ghost use Rattle.fax_files.specs.Written as Spec;
+ghost use Rattle.fax_files.specs.code.Parts as Parts;
 ghost use Rattle.fax_files.specs.Directory.{max_file};
 ghost use Rattle.fax_files.specs.code.Writing.{IsLayout, laid_out_fields, tail_bytes};
 ghost use Rattle.fax_files.specs.views.Writing.{contents};
 ghost use Rattle.fax_files.specs.code.Writing.{page_end as end_of_page};
 
-use crate::entries::{LONG_TYPE, RATIONAL_TYPE, SHORT_TYPE};
 use crate::{PageForm, tags};
 use byteorder::{ByteOrder, LittleEndian};
 use fax_bits::FillOrder;
@@ -87,11 +87,11 @@ impl Model for Field {
 
 /// A field of one SHORT.
 fn short_field(tag: u16, n: u16) -> Field
-    ensures { result ≡ Spec.short_field tag n }
+    ensures { result ≡ Parts.short_field tag n }
 {
     Field {
         tag,
-        kind: SHORT_TYPE,
+        kind: tags::SHORT,
         count: 1,
         value: two_and_two(n, 0),
     }
@@ -99,11 +99,11 @@ fn short_field(tag: u16, n: u16) -> Field
 
 /// A field of LONGs: the one that there is, or the place of the first.
 fn long_field(tag: u16, count: u32, n: u32) -> Field
-    ensures { result ≡ Spec.long_field tag count n }
+    ensures { result ≡ Parts.long_field tag count n }
 {
     Field {
         tag,
-        kind: LONG_TYPE,
+        kind: tags::LONG,
         count,
         value: four_bytes(n),
     }
@@ -111,11 +111,11 @@ fn long_field(tag: u16, count: u32, n: u32) -> Field
 
 /// A field of one fraction, which stands at a place.
 fn rational_field(tag: u16, place: u32) -> Field
-    ensures { result ≡ Spec.rational_field tag place }
+    ensures { result ≡ Parts.rational_field tag place }
 {
     Field {
         tag,
-        kind: RATIONAL_TYPE,
+        kind: tags::RATIONAL,
         count: 1,
         value: four_bytes(place),
     }
@@ -182,7 +182,7 @@ fn put_field(out: &mut Vec<u8>, field: &Field) -> Result<(), AllocError>
 
 /// Appends a fraction.
 fn put_rational(out: &mut Vec<u8>, value: (u32, u32)) -> Result<(), AllocError>
-    ensures { OnOk result (out.new.items ≡ out.old.items ++ Spec.rational_bytes value) }
+    ensures { OnOk result (out.new.items ≡ out.old.items ++ Parts.rational_bytes value) }
 {
     put_four(out, value.0)?;
     put_four(out, value.1)
@@ -211,7 +211,7 @@ fn page_fields(form: &PageForm, at: &Layout) -> [Field; FIELDS]
         short_field(tags::RESOLUTION_UNIT, form.unit),
         Field {
             tag: tags::PAGE_NUMBER,
-            kind: SHORT_TYPE,
+            kind: tags::SHORT,
             count: 2,
             value: two_and_two(at.number, at.total),
         },
@@ -221,7 +221,7 @@ fn page_fields(form: &PageForm, at: &Layout) -> [Field; FIELDS]
 /// Appends a directory of these fields, with the next offset 0.
 fn put_directory(out: &mut Vec<u8>, fields: &[Field]) -> Result<(), AllocError>
     requires { length fields.now < 65536 }
-    ensures { OnOk result (out.new.items ≡ out.old.items ++ Spec.fields_bytes fields.now
+    ensures { OnOk result (out.new.items ≡ out.old.items ++ Parts.fields_bytes fields.now
         ++ Spec.four 0) }
 {
     put_two(out, fields.len() as u16)?;
@@ -233,9 +233,9 @@ fn put_directory(out: &mut Vec<u8>, fields: &[Field]) -> Result<(), AllocError>
 
 /// Appends the offsets of strips that begin at a place.
 fn put_offsets(out: &mut Vec<u8>, start: u32, strips: &[Vec<u8>]) -> Result<(), AllocError>
-    requires { start + length (Spec.joined_strips (contents strips.now)) < 4294967296 }
+    requires { start + length (Parts.joined_strips (contents strips.now)) < 4294967296 }
     ensures { OnOk result (out.new.items
-        ≡ out.old.items ++ Spec.longs (Spec.offsets_from start (contents strips.now))) }
+        ≡ out.old.items ++ Parts.longs (Spec.offsets_from start (contents strips.now))) }
 {
     let mut place = start;
     for strip in strips {
@@ -247,9 +247,9 @@ fn put_offsets(out: &mut Vec<u8>, start: u32, strips: &[Vec<u8>]) -> Result<(), 
 
 /// Appends the byte counts of strips.
 fn put_byte_counts(out: &mut Vec<u8>, strips: &[Vec<u8>]) -> Result<(), AllocError>
-    requires { length (Spec.joined_strips (contents strips.now)) < 4294967296 }
+    requires { length (Parts.joined_strips (contents strips.now)) < 4294967296 }
     ensures { OnOk result (out.new.items
-        ≡ out.old.items ++ Spec.longs (Spec.lengths_of (contents strips.now))) }
+        ≡ out.old.items ++ Parts.longs (Parts.lengths_of (contents strips.now))) }
 {
     for strip in strips {
         put_four(out, strip.len() as u32)?;
@@ -260,7 +260,7 @@ fn put_byte_counts(out: &mut Vec<u8>, strips: &[Vec<u8>]) -> Result<(), AllocErr
 /// Appends the bytes of strips. Where a growth is refused, what stood there stays in front.
 fn put_strips(out: &mut Vec<u8>, strips: &[Vec<u8>]) -> Result<(), AllocError>
     ensures ok { OnOk result (out.new.items
-        ≡ out.old.items ++ Spec.joined_strips (contents strips.now)) }
+        ≡ out.old.items ++ Parts.joined_strips (contents strips.now)) }
     ensures err { OnErr result (take (length out.old.items) out.new.items ≡ out.old.items) }
 {
     for strip in strips {
@@ -279,7 +279,7 @@ pub(crate) fn page_tail(
     end: u32,
     at: &Layout,
 ) -> Result<Vec<u8>, AllocError>
-    requires end { end ≡ start + length (Spec.joined_strips (contents strips.now)) }
+    requires end { end ≡ start + length (Parts.joined_strips (contents strips.now)) }
     requires limit { at.now.directory ≤ max_file }
     requires strips { at.now.strips ≡ length strips.now }
     ensures { IfOk result (λ tail. tail.items
@@ -338,7 +338,7 @@ pub(crate) fn laid_out(strips: u32, start: u32, end: u32, number: u16, total: u1
 /// refused, what stood there stays in front.
 pub(crate) fn append(bytes: &mut Vec<u8>, strips: &[Vec<u8>], tail: &[u8]) -> Result<(), AllocError>
     ensures ok { OnOk result (bytes.new.items
-        ≡ bytes.old.items ++ (Spec.joined_strips (contents strips.now) ++ tail.now)) }
+        ≡ bytes.old.items ++ (Parts.joined_strips (contents strips.now) ++ tail.now)) }
     ensures err { OnErr result (take (length bytes.old.items) bytes.new.items ≡ bytes.old.items) }
 {
     put_strips(bytes, strips)?;
@@ -348,7 +348,7 @@ pub(crate) fn append(bytes: &mut Vec<u8>, strips: &[Vec<u8>], tail: &[u8]) -> Re
 /// Sets the four bytes at a place.
 fn set_four(bytes: &mut [u8], place: usize, n: u32)
     requires { place + 4 ≤ length bytes.old }
-    ensures { bytes.new ≡ Spec.with_four_at bytes.old place n }
+    ensures { bytes.new ≡ Parts.with_four_at bytes.old place n }
 {
     bytes[place..place + 4].copy_from_slice(&four_bytes(n));
 }
@@ -357,10 +357,10 @@ fn set_four(bytes: &mut [u8], place: usize, n: u32)
 pub(crate) fn strips_end(start: u32, strips: &[Vec<u8>]) -> Option<u32>
     requires { start ≤ max_file }
     ensures found { IfSome result (λ end. end
-        ≡ start + length (Spec.joined_strips (contents strips.now))) }
+        ≡ start + length (Parts.joined_strips (contents strips.now))) }
     ensures limit { IfSome result (λ end. end ≤ max_file) }
     ensures none { IfNone result (max_file
-        < start + length (Spec.joined_strips (contents strips.now))) }
+        < start + length (Parts.joined_strips (contents strips.now))) }
 {
     let mut end = start;
     for strip in strips {
@@ -375,7 +375,7 @@ pub(crate) fn strips_end(start: u32, strips: &[Vec<u8>]) -> Option<u32>
 /// Sets the four bytes at a place of a file.
 pub(crate) fn set_link(bytes: &mut Vec<u8>, place: usize, n: u32)
     requires { place + 4 ≤ length bytes.old.items }
-    ensures { bytes.new.items ≡ Spec.with_four_at bytes.old.items place n }
+    ensures { bytes.new.items ≡ Parts.with_four_at bytes.old.items place n }
 {
     set_four(bytes, place, n);
 }

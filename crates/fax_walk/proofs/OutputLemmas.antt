@@ -19,9 +19,13 @@ use Rattle.fax_page.specs.declared.Coding.{Coding}
 use Rattle.fax_page.specs.declared.Coding.TheVariants.{Mh, Mr, Mmr}
 use Rattle.fax_page.specs.views.Writer.{WriterState}
 use Rattle.fax_files.specs.declared.PageForm.{PageForm}
-use Rattle.fax_files.specs.Pbm.{Image, head_bytes, image_bytes, pbm_of}
+use Rattle.fax_files.specs.Pbm.{Image, pbm_of}
+use Rattle.fax_files.specs.views.Pbm.{head_bytes}
+use Rattle.fax_files.specs.code.Pbm.{image_bytes}
 use Rattle.fax_files.specs.laws.Pbm.{AreOfWidth}
-use Rattle.fax_files.specs.Written.{Written, WrittenPage, empty_file, four, with_four_at}
+use Rattle.fax_files.specs.Written.{Written, WrittenPage, four}
+use Rattle.fax_files.specs.code.Parts.{with_four_at}
+use Rattle.fax_files.specs.views.Writing.{empty_file}
 use Rattle.fax_files.specs.Written.{page_bytes, directory_place, with_page}
 use Rattle.fax_files.specs.Written.{with_pages, file_of}
 use Rattle.fax_files.specs.Directory.{max_file}

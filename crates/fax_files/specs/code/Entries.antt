@@ -1,7 +1,8 @@
 -- Entries one by one (TIFF 6.0, section 2).
 use Rattle.std.specs.Prelude.{ℕ, ◌+◌, Bool, ◌==◌, ◌||◌, List}
 use Rattle.fax_files.specs.declared.Endian.{Endian}
-use Rattle.fax_files.specs.Directory.{Entry, LONG, SHORT, number_at}
+use Rattle.fax_files.specs.Directory.{Entry, number_at}
+use Rattle.fax_files.specs.declared.tags.TheConstants as Tags
 
 -- the entry of twelve bytes at a place
 abbrev pub entry_at : Endian → List ℕ → ℕ → Entry
@@ -14,4 +15,8 @@ entry_at endian file place = record {
 
 -- an entry's values are SHORT or LONG, which integers may be (ours)
 abbrev pub is_integer : Entry → Bool
-is_integer entry = (entry.kind == SHORT) || (entry.kind == LONG)
+is_integer entry = (entry.kind == Tags.SHORT) || (entry.kind == Tags.LONG)
+
+-- the number of entries in the directory at offset q
+abbrev pub entry_count : Endian → List ℕ → ℕ → ℕ
+entry_count endian file q = number_at endian 2 file q

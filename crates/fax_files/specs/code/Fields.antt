@@ -4,7 +4,8 @@ use Rattle.std.specs.Prelude.{◌==◌}
 use Rattle.std.specs.List.{list_any}
 use Rattle.fax_files.specs.declared.Endian.{Endian}
 use Rattle.fax_files.specs.declared.fields.TheConstants.{TAGS}
-use Rattle.fax_files.specs.Directory.{Entry, entry_count, field}
+use Rattle.fax_files.specs.Directory.{Entry, field}
+use Rattle.fax_files.specs.code.Entries.{entry_count}
 use Rattle.fax_files.specs.views.Fields.{entries_of}
 use Rattle.fax_files.specs.views.Tiff.{TiffDirectory}
 

@@ -1,7 +1,24 @@
 -- How a raw PBM is read, step by step, and how a reader is seen.
 use Rattle.std.specs.Prelude.{◌≡◌, ℕ, ◌+◌, ◌-◌, ◌*◌, ◌==◌, ◌||◌, min, Bool, true, false, not}
-use Rattle.std.specs.Prelude.{if◌then◌else◌, List, [], ◌∷◌, ◌++◌, codes, Option, Some, None}
-use Rattle.fax_files.specs.Pbm.{is_white_space, is_line_end, is_digit}
+use Rattle.std.specs.Prelude.{if◌then◌else◌, List, [], ◌∷◌, ◌++◌, codes, fold, Option, Some, None}
+use Rattle.fax_files.specs.Page.{is_between}
+use Rattle.fax_files.specs.Pbm.{Image, is_white_space}
+use Rattle.fax_files.specs.views.Pbm.{head_bytes}
+use Rattle.std.specs.List.{flat_map}
+use Rattle.std.specs.Prelude.{length}
+use Rattle.fax_rows.specs.Coded.{packed_len, packed_row}
+
+-- LF and CR, which end a comment (the netpbm format, P4)
+abbrev pub is_line_end : ℕ → Bool
+is_line_end c = (c == 10) || (c == 13)
+
+-- `0` to `9` (the netpbm format, P4)
+abbrev pub is_digit : ℕ → Bool
+is_digit c = is_between 48 57 c
+
+-- the number that decimals spell, the highest first
+abbrev pub spelled_number : List ℕ → ℕ
+spelled_number digits = fold (λ number digit. 10 * number + (digit - 48)) 0 digits
 
 -- a byte that begins a piece of a gap
 abbrev pub begins_piece : ℕ → Bool
@@ -54,3 +71,11 @@ pub record IsHeadRead (bytes : List ℕ) (width height : ℕ) (rest : List ℕ) 
   pub height_is : height ≡ capped_from 0 at_height
   pub behind : behind_digits at_height ≡ space ∷ rest
   pub space_is : is_white_space space ≡ true
+
+-- how many bytes the rows of an image take (the netpbm format, P4)
+abbrev pub raster_len : ℕ → ℕ → ℕ
+raster_len width height = height * packed_len width
+
+-- an image as it is written
+abbrev pub image_bytes : Image → List ℕ
+image_bytes image = head_bytes image.width (length image.rows) ++ flat_map packed_row image.rows

@@ -22,7 +22,8 @@ use Rattle.fax_files.specs.Directory.{Header, number_at, is_directory, next_offs
 use Rattle.fax_files.specs.Directory.{max_file}
 use Rattle.fax_files.specs.views.Page.{IsPageForm}
 use Rattle.fax_files.specs.Written.{four, directory_place, Written, with_page, WrittenPage, file_of}
-use Rattle.fax_files.specs.Written.{with_pages, empty_file}
+use Rattle.fax_files.specs.Written.{with_pages}
+use Rattle.fax_files.specs.views.Writing.{empty_file}
 use Rattle.std.specs.Prelude.{◌≡◌, ◌≤◌, ℕ, ◌+◌, ◌*◌, if◌then◌else◌, List, [], ◌∷◌}
 use Rattle.std.specs.Prelude.{◌++◌, length, Vec}
 use Rattle.std.specs.declared.alloc.Global.{Global}

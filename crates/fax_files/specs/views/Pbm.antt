@@ -1,6 +1,6 @@
 -- A reader of raw PBM.
-use Rattle.std.specs.Prelude.{◌≡◌, ◌≢◌, ℕ}
-use Rattle.std.specs.Prelude.{List, [], Option, Some, None}
+use Rattle.std.specs.Prelude.{◌≡◌, ◌≢◌, ℕ, ◌++◌, List, [], Option, Some, None, codes}
+use Rattle.std.specs.Prelude.{decimal}
 use Rattle.fax_files.specs.declared.pbm.PbmFault.{PbmFault}
 use Rattle.fax_files.specs.Pbm.{Image, IsImage, IsImageFault}
 use Rattle.fax_files.specs.Pbm.{raster_rows}
@@ -32,3 +32,7 @@ pub record IsFaultAnswered (old new : PbmState) (fault : PbmFault) : Type 0 wher
   pub again : (given : PbmFault) → old.fault ≡ Some given → fault ≡ given
   pub first : old.fault ≡ None → (old.left ≢ []) × IsImageFault old.left fault
   pub kept : new ≡ record { left = old.left; fault = Some fault }
+
+-- an image's header as it is written (the netpbm format, P4)
+abbrev pub head_bytes : ℕ → ℕ → List ℕ
+head_bytes width height = codes "P4\n" ++ decimal width ++ codes " " ++ decimal height ++ codes "\n"

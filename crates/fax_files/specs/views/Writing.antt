@@ -1,9 +1,13 @@
 -- A file that is being written.
 use Rattle.std.specs.Prelude.{ℕ, ◌+◌, List, [], ◌∷◌}
-use Rattle.std.specs.Prelude.{length, Vec}
+use Rattle.std.specs.Prelude.{◌++◌, length, codes, Vec}
 use Rattle.std.specs.declared.alloc.Global.{Global}
 use Rattle.fax_files.specs.declared.PageForm.{PageForm}
-use Rattle.fax_files.specs.Written.{Written, with_page}
+use Rattle.fax_files.specs.Written.{two, four, Written, with_page}
+
+-- the eight bytes of a little-endian header whose first offset is still 0
+abbrev pub empty_file : Written
+empty_file = record { bytes = codes "II" ++ two 42 ++ four 0; link = 4 }
 
 -- the bytes of vectors
 abbrev pub contents : List (Vec ℕ Global) → List (List ℕ)

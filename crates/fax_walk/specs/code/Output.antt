@@ -8,9 +8,11 @@ use Rattle.fax_page.specs.declared.Coding.{Coding}
 use Rattle.fax_page.specs.declared.Coding.TheVariants.{Mh, Mr, Mmr}
 use Rattle.fax_files.specs.declared.PageForm.{PageForm}
 use Rattle.fax_files.specs.views.Page.{IsGoodRational, strip_count}
-use Rattle.fax_files.specs.Pbm.{head_bytes, pbm_of}
+use Rattle.fax_files.specs.Pbm.{pbm_of}
+use Rattle.fax_files.specs.views.Pbm.{head_bytes}
 use Rattle.fax_files.specs.laws.Pbm.{AreOfWidth}
-use Rattle.fax_files.specs.Written.{empty_file, with_pages}
+use Rattle.fax_files.specs.Written.{with_pages}
+use Rattle.fax_files.specs.views.Writing.{empty_file}
 use Rattle.fax_files.specs.Directory.{max_file}
 use Rattle.fax_files.specs.views.Writing.{Writing}
 use Rattle.fax_walk.specs.declared.options.Options.{Options}

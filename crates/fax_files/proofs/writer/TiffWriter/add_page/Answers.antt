@@ -2,7 +2,7 @@ use Rattle.std.proofs.Common.{◌≡◌, ◌++◌, length, refl, sym, ◌∙◌,
 use Rattle.std.proofs.lemmas.List.{length-append}
 use Rattle.std.specs.Prelude.{Result, Ok, Err, OnOk, false}
 use Rattle.std.specs.Result.{is_err}
-use Rattle.fax_files.specs.Written.{joined_strips}
+use Rattle.fax_files.specs.code.Parts.{joined_strips}
 use Rattle.fax_files.specs.views.Writing.{contents}
 use Rattle.fax_files.proofs.WriterLemmas.{too_long, size, added_bytes, new_link, still_writing}
 use Rattle.fax_files.proofs.writer.TiffWriter.add_page.Goals as goal

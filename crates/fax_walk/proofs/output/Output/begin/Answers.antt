@@ -1,6 +1,6 @@
 use Rattle.std.proofs.Common.{◌≡◌, ◌*◌, length, ap, arith, length-append}
 use Rattle.fax_rows.specs.Coded.{packed_len}
-use Rattle.fax_files.specs.Pbm.{head_bytes}
+use Rattle.fax_files.specs.views.Pbm.{head_bytes}
 use Rattle.fax_walk.proofs.OutputLemmas.{image_too_large, image_begun}
 use Rattle.fax_walk.proofs.output.Output.begin.Goals as goal
 
