@@ -10,7 +10,7 @@ use Rattle.fax_bits.specs.declared.runs.RunCode.TheVariants.{Terminating, MakeUp
 use Rattle.fax_bits.specs.declared.modes.ModeCode.TheVariants.{Vertical}
 use Rattle.fax_bits.specs.Bits.{bits, code_bits}
 use Rattle.fax_bits.specs.views.Source.{HasZerosAhead, Source, source_of, KeepsEnd}
-use Rattle.fax_bits.specs.Written.{bits_number}
+use Rattle.fax_bits.specs.Bits.{bits_number}
 use Rattle.fax_bits.specs.declared.codes.CodeEntry.{CodeEntry}
 use Rattle.fax_bits.specs.views.Codes.{HasCodeAhead}
 use Rattle.fax_bits.specs.Codes.{Takes, IsRun}

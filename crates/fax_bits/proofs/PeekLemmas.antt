@@ -8,7 +8,7 @@ use Rattle.std.proofs.Math.Nat.{pow-succ'}
 use Rattle.std.proofs.Math.Pow.{pow_mono}
 use Rattle.std.proofs.lemmas.List.{length-replicate}
 use Rattle.std.proofs.lemmas.List.Sums.{fold-append}
-use Rattle.fax_bits.specs.Written.{bits_number}
+use Rattle.fax_bits.specs.Bits.{bits_number}
 
 -- the bits with n zeros after them
 abbrev pub padded : List Bool → ℕ → List Bool

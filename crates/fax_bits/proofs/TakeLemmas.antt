@@ -10,7 +10,7 @@ use Rattle.std.proofs.Math.Seq.{take-append_seam, take-length, take-suc, take-ad
 use Rattle.std.proofs.lemmas.List.Concat.{flat_map-append}
 use Rattle.fax_bits.specs.declared.FillOrder.TheVariants.{MsbFirst}
 use Rattle.fax_bits.specs.Bits.{bits, byte_bits, code_bits, BeginsWith}
-use Rattle.fax_bits.specs.Written.{bits_number}
+use Rattle.fax_bits.specs.Bits.{bits_number}
 use Rattle.fax_bits.proofs.SinkLemmas.{bits-push, byte_bits-msb}
 use Rattle.fax_bits.specs.views.Source.{IsTaken}
 use Rattle.fax_bits.proofs.MeetingLemmas.{length-code_bits}

@@ -12,7 +12,7 @@ use Rattle.std.proofs.lemmas.Nat.{leading_length, shr_high, mod-pow-add, mod_bel
 use Rattle.std.proofs.lemmas.Nat.{shl_whole, shr_below, shr_split}
 use Rattle.fax_bits.specs.Bits.{code_bits}
 use Rattle.fax_bits.specs.views.Source.{HasZerosAhead}
-use Rattle.fax_bits.specs.Written.{bits_number}
+use Rattle.fax_bits.specs.Bits.{bits_number}
 use Rattle.fax_bits.specs.code.Window.{first_bits}
 use Rattle.fax_bits.proofs.CodeBitsLemmas.{code_bits-add}
 use Rattle.fax_bits.proofs.MeetingLemmas.{length-code_bits}

@@ -1,27 +1,12 @@
--- Bits, bytes and codes as they are written (T.4, sections 4.1.1 and 4.2.1.3.2; TIFF 6.0,
--- FillOrder).
-use Rattle.std.specs.Prelude.{ℕ, ◌+◌, ◌*◌, ◌/◌, ◌%◌, ◌==◌, Bool, true, false, if◌then◌else◌, List}
-use Rattle.std.specs.Prelude.{[], ◌∷◌, ◌++◌, length, map, fold, flat_map, replicate, reverse}
+-- Codes as they are written (T.4, sections 4.1.1 and 4.2.1.3.2).
+use Rattle.std.specs.Prelude.{ℕ, ◌*◌, ◌/◌, ◌%◌, ◌==◌, Bool, true, false, if◌then◌else◌, List}
+use Rattle.std.specs.Prelude.{[], ◌∷◌, ◌++◌, flat_map, replicate}
 use Rattle.std.specs.Ordering.{int_eq}
-use Rattle.std.specs.Simd.{first_chunks}
-use Rattle.fax_bits.specs.Bits.{Colour, FillOrder, MsbFirst, LsbFirst}
+use Rattle.fax_bits.specs.Bits.{Colour}
 use Rattle.fax_bits.specs.Tables.{CodeEntry, ModeCode, RunCode, run_table, modes}
 use Rattle.fax_bits.specs.declared.modes.ModeCode.TheVariants as mode
 use Rattle.fax_bits.specs.declared.runs.RunCode.TheVariants.{Terminating, MakeUp, Extension}
 use Rattle.fax_bits.specs.Codes.{bits_of}
-
--- the number that bits spell, the highest first
-abbrev pub bits_number : List Bool → ℕ
-bits_number b = fold (λ number bit. 2 * number + (if bit then 1 else 0)) 0 b
-
--- the byte of eight bits
-abbrev pub byte_of : FillOrder → List Bool → ℕ
-byte_of MsbFirst eight = bits_number eight
-byte_of LsbFirst eight = bits_number (reverse eight)
-
--- the bytes of bits, with zeros up to a whole byte
-unfoldable pub packed : FillOrder → List Bool → List ℕ
-packed order b = map (byte_of order) (first_chunks 8 ((length b + 7) / 8) (b ++ replicate 7 false))
 
 -- the two run codes mean the same
 abbrev pub same_run_code : RunCode → RunCode → Bool

@@ -4,7 +4,7 @@ ghost use Rattle.std.specs.Prelude.{slice_index_or, false, IfSome, MatchOption, 
 ghost use Rattle.std.specs.Prelude.{◌^◌};
 ghost use Rattle.fax_bits.specs.Bits.{bits, IsAllZeros, code_bits, BeginsWith};
 ghost use Rattle.fax_bits.specs.views.Source.{HasZerosAhead, IsTaken, KeepsEnd};
-ghost use Rattle.fax_bits.specs.Written.{bits_number};
+ghost use Rattle.fax_bits.specs.Bits.{bits_number};
 ghost use Rattle.fax_bits.specs.laws.Codes.{bit_in_byte};
 ghost use Rattle.fax_bits.specs.code.Source.{IsPlaced, IsZeroByteAt};
 

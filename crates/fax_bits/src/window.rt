@@ -4,7 +4,7 @@ ghost use Rattle.std.specs.Prelude.{drop};
 ghost use Rattle.std.specs.Prelude.{replicate, false, IsTrue};
 ghost use Rattle.fax_bits.specs.Bits.{bits, code_bits};
 ghost use Rattle.fax_bits.specs.views.Source.{HasZerosAhead};
-ghost use Rattle.fax_bits.specs.Written.{bits_number};
+ghost use Rattle.fax_bits.specs.Bits.{bits_number};
 ghost use Rattle.fax_bits.specs.declared.FillOrder.{FillOrder};
 
 use crate::FillOrder;

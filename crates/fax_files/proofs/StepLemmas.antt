@@ -1,12 +1,14 @@
 -- A page's form is found in the steps that the code takes.
-use Rattle.std.proofs.Common.{◌≡◌, ℕ, ◌+◌, ◌-◌, ◌/◌, ◌%◌, ◌^◌, Bool, true, false, List, Option, Some, None, Result, Ok, Err, refl, sym, ap, ◌∙◌, arith}
+use Rattle.std.proofs.Common.{◌≡◌, ℕ, ◌+◌, ◌-◌, ◌/◌, ◌%◌, ◌^◌, Bool, true, false, List, Option, Some, None, Result, Ok, Err, refl, sym, ap}
+use Rattle.std.proofs.Common.{◌∙◌, arith}
 use Rattle.std.specs.Prelude.{◌==◌, ◌||◌, min, not, nat_lt, if◌then◌else◌}
 use Rattle.std.specs.Int.{div_ceil}
 use Rattle.fax_bits.specs.declared.FillOrder.{FillOrder}
 use Rattle.fax_bits.specs.declared.FillOrder.TheVariants.{MsbFirst, LsbFirst}
 use Rattle.std.proofs.lemmas.Bool.Decides.{nat_tests}
 use Rattle.fax_files.specs.Directory.{◌>>=◌, Endian, FileFault, Entry, check, entries, field, has_integers, value_at, needed, scalar}
-use Rattle.fax_files.specs.Page.{Mh, Mr, Mmr, PageForm, Resolution, is_between, rational_of, resolution_of, usual_resolution, page, strip_bytes}
+use Rattle.fax_files.specs.Page.{Mh, Mr, Mmr, PageForm, Resolution, is_between, rational_of, resolution_of, usual_resolution, page}
+use Rattle.fax_files.specs.Page.{strip_bytes}
 use Rattle.fax_files.specs.code.Steps.{first_value, needed_scalar, scalar_or, RowCoding, t4_coding, resolution_from}
 use Rattle.fax_files.specs.code.Steps.{page_size, pel_format, are_exchanged, fill_order, strip_rows, page_coding, strip_field}
 use Rattle.fax_files.specs.code.Steps.{page_resolution, page_in_steps, bytes_at, placed_bytes}
@@ -207,7 +209,8 @@ page_is_in_steps endian file q =
     bind_in (check (not (in_strip == 0)) (BadField Tags.ROWS_PER_STRIP)) _ _ _ (λ _.
     let form = form_with width rows in_strip (if order == 2 then LsbFirst else MsbFirst) (white == 1) in
     let strips = div_ceil rows (min in_strip rows) in
-    coding_step endian file fields (compression == 4) (λ coded. where_placed endian file fields strips (form (found endian file fields) coded))
+    coding_step endian file fields (compression == 4)
+    (λ coded. where_placed endian file fields strips (form (found endian file fields) coded))
     ∙ bind_on (page_coding endian file fields compression) _ _ (λ coded.
     strips_step endian file fields strips (form (found endian file fields) coded)
     ∙ ap (λ r. strip_field endian file fields Tags.STRIP_OFFSETS strips

@@ -62,7 +62,8 @@ fields_fit Mmr aligned q total k form offsets lengths o l = rw (o, l) refl
 -- the last two fields
 abbrev last_fields : ℕ → ℕ → PageForm → List WrittenField
 last_fields total k form =
-    short_field Tags.RESOLUTION_UNIT form.unit ∷ record { tag = Tags.PAGE_NUMBER; kind = Tags.SHORT; count = 2; value = two k ++ two total } ∷ []
+    short_field Tags.RESOLUTION_UNIT form.unit
+    ∷ record { tag = Tags.PAGE_NUMBER; kind = Tags.SHORT; count = 2; value = two k ++ two total } ∷ []
 
 -- T4Options among fields, of which the one for options is the only one with its tag
 coding_from : (coding : Coding) (aligned : Bool) (file : List ℕ) (place : ℕ) (fields : List WrittenField) → HasValues file place fields

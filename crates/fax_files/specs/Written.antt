@@ -13,8 +13,7 @@ two n = little_bytes 2 n
 abbrev pub four : ℕ → List ℕ
 four n = little_bytes 4 n
 
--- a field of a directory as it is written: its tag, its type, its count, and its four bytes of
--- value
+-- a field of a directory as it is written, with the four bytes of its value
 pub record WrittenField : Type 0 where
   pub tag : ℕ
   pub kind : ℕ
@@ -55,7 +54,7 @@ array_bytes (n ∷ []) = []
 array_bytes numbers = flat_map four numbers
 
 -- how far after a directory's place its next offset stands: after the number of its fields and
--- twelve bytes of each
+-- twelve bytes of each of the sixteen
 abbrev pub to_link : ℕ
 to_link = 2 + 12 * 16
 
@@ -108,8 +107,7 @@ page_bytes start total k form strips =
     ++ (four form.x.0 ++ four form.x.1 ++ (four form.y.0 ++ four form.y.1) ++ array_bytes offsets
     ++ array_bytes lengths)
 
--- a file that is being written, and the place of the offset that the next page's directory goes
--- into
+-- a file that is being written, and the place of the offset of the next page's directory
 pub record Written : Type 0 where
   pub bytes : List ℕ
   pub link : ℕ

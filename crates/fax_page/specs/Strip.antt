@@ -4,7 +4,7 @@ use Rattle.std.specs.Prelude.{◌≡◌, ◌≢◌, ℕ, zero, suc, ◌+◌, ◌
 use Rattle.std.specs.Prelude.{false, nat_eq, if◌then◌else◌, List, [], ◌∷◌, ◌++◌, length, replicate}
 use Rattle.std.specs.Prelude.{Option, Some, None, IsTrue}
 use Rattle.std.specs.List.{Contains}
-use Rattle.fax_bits.specs.Written.{packed}
+use Rattle.fax_bits.specs.Bits.{packed}
 use Rattle.fax_rows.specs.Rows.{Colour}
 use Rattle.fax_rows.specs.Coded.{one_dimensional_bits, two_dimensional_bits}
 use Rattle.fax_page.specs.Lines.{Coding, Mh, Mr, Mmr, Dimension, OneDimensional, TwoDimensional}
@@ -78,8 +78,7 @@ coded_lines form k before i reference (row ∷ rows) =
     let line = coded_line form k before i reference row in
     line ++ coded_lines form k (before + length line) (i + 1) row rows
 
--- what is written after the last row: the end of the facsimile block in MMR (T.6, End-of-facsimile
--- block), and nothing in MH and MR
+-- what is written after the last row: two EOLs in MMR (T.6, End-of-facsimile block), else nothing
 abbrev pub end_bits : Coding → List Bool
 end_bits Mmr = end_of_line ++ end_of_line
 end_bits _ = []

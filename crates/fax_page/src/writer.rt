@@ -1,7 +1,7 @@
 //! A writer of strips.
 ghost use Rattle.std.specs.Prelude.{◌≡◌, ◌++◌, ◌<◌, ◌≤◌, length, false, All, IfOk, OnOk};
 ghost use Rattle.fax_bits.specs.views.Sink.{Appends};
-ghost use Rattle.fax_bits.specs.Written.{packed};
+ghost use Rattle.fax_bits.specs.Bits.{packed};
 ghost use Rattle.fax_page.specs.Strip as Coded;
 
 use crate::{Coding, Dimension, StripForm};

@@ -15,7 +15,7 @@ use Rattle.fax_bits.specs.declared.Colour.TheVariants.{White, Black}
 use Rattle.fax_bits.specs.Bits.{bits}
 use Rattle.std.specs.List.{range_with_len}
 use Rattle.std.specs.Simd.{first_chunks}
-use Rattle.fax_bits.specs.Written.{bits_number, packed}
+use Rattle.fax_bits.specs.Bits.{bits_number, packed}
 use Rattle.fax_bits.specs.laws.Codes.{AreBitsByPlace}
 use Rattle.fax_rows.specs.Rows.{other}
 use Rattle.fax_rows.specs.code.Turns.{turned, IsTurnedFrom}

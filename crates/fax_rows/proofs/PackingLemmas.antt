@@ -10,7 +10,7 @@ use Rattle.std.proofs.lemmas.List.{length-replicate, length-map, get_or-map, get
 use Rattle.std.proofs.lemmas.Simd.{get_or-replicate}
 use Rattle.fax_bits.specs.declared.Colour.{Colour}
 use Rattle.fax_bits.specs.declared.Colour.TheVariants.{White, Black}
-use Rattle.fax_bits.specs.Written.{bits_number}
+use Rattle.fax_bits.specs.Bits.{bits_number}
 use Rattle.fax_rows.specs.Coded.{is_black}
 use Rattle.fax_rows.specs.code.PackedByte.{packed_byte}
 use Rattle.fax_rows.specs.code.Turns.{row_of, alternate, ArePlaces, HasPassed, IsBehind}

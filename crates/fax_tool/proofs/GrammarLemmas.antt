@@ -130,7 +130,8 @@ AreApart = AllPairs (λ one other. name_of one.item ≢ name_of other.item)
 abbrev IsNew : List Use → Use → Type 0
 IsNew before u = is_used (name_of u.item) before ≡ false
 
-used_more : (name : Text) (before : List Use) (u : Use) → is_used name (before ++ u ∷ []) ≡ (is_used name before || bytes_eq (name_of u.item) name)
+used_more : (name : Text) (before : List Use) (u : Use)
+    → is_used name (before ++ u ∷ []) ≡ (is_used name before || bytes_eq (name_of u.item) name)
 used_more name before u = list_any-append (λ given. bytes_eq (name_of given.item) name) before (u ∷ [])
     ∙ ap (λ b. is_used name before || b) (last (bytes_eq (name_of u.item) name))
   where

@@ -26,7 +26,8 @@ use Rattle.fax_walk.specs.views.Walk.{WalkView, HasEndedAs, IsNext, IsCursorOf, 
 use Rattle.fax_walk.specs.views.Pages.{PagesView, HandsOutPage, IsCursorOf as IsPageCursor, IsNextPage, PagesHaveEnded}
 use Rattle.fax_walk.specs.laws.Tails.{BeginningsHaveOneTail, CursorsHaveOneFormTail, CursorsNameOnePage}
 use Rattle.fax_walk.specs.Pages.{FilePage, FormItem, IsFormTail, IsPageAt}
-use Rattle.fax_walk.specs.Rows.{RowItem as Item, RowPlace as Place, IsInStrip, IsRow, IsTailFrom, begins_at, cursor_after, exchanged, first_at, long_after}
+use Rattle.fax_walk.specs.Rows.{RowItem as Item, RowPlace as Place, IsInStrip, IsRow, IsTailFrom, begins_at, cursor_after, exchanged}
+use Rattle.fax_walk.specs.Rows.{first_at, long_after}
 use Rattle.fax_walk.specs.code.Places.{long_at}
 use Rattle.fax_walk.specs.code.Places.{row_in_strip, strip_at}
 use Rattle.fax_tool.specs.Run.{AreRowLines, ArePageLines, IsRowLine}
@@ -240,7 +241,8 @@ pub row_put : (file : List ℕ) (begun : Begun) (given new_given : ℕ) (item : 
     → IsLinePut (AreRowLines file begun) given text (Ok None) new_given new_text
 row_put file begun given new_given item page row pels text new_text number page_is row_is pels_are more grown =
     let of = line_of file begun given item number in
-    let same : row_line_of page row (runs_of pels) ≡ row_line_of item.page item.row (runs_of item.pels) = rw (page_is, row_is, pels_are) refl in (
+    let same : row_line_of page row (runs_of pels) ≡ row_line_of item.page item.row (runs_of item.pels) =
+    rw (page_is, row_is, pels_are) refl in (
       of.line,
       of.number,
       more,

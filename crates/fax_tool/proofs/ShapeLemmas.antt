@@ -12,9 +12,11 @@ use Rattle.std.proofs.lemmas.List.Elements.{All-contains, All-from_recursion, Al
 use Rattle.std.proofs.lemmas.Str.{IsUtf8-past_char, byte_from_char, encode_ascii, encodes-chars}
 use Rattle.std.specs.Str.{encode_utf8_all}
 use Rattle.std.proofs.Math.Numerals.{add-one, one-add}
-use Rattle.fax_tool.specs.Grammar.{AreOfCommand, AreSpelled, IsPlain, IsSpelled, Item, Text, Use, commands, file, flag, letter, number, text}
+use Rattle.fax_tool.specs.Grammar.{AreOfCommand, AreSpelled, IsPlain, IsSpelled, Item, Text, Use, commands, file, flag, letter, number}
+use Rattle.fax_tool.specs.Grammar.{text}
 use Rattle.fax_tool.specs.code.Scan.{Word, are_apart, attached, checked, ends, file_after, first_char, has_letter, has_long, is_plain}
-use Rattle.fax_tool.specs.code.Scan.{is_taken, joined, read, takes, uses_of, option_word, says, unknown, use_of, uses_from, waits, with_word, word_of}
+use Rattle.fax_tool.specs.code.Scan.{is_taken, joined, read, takes, uses_of, option_word, says, unknown, use_of, uses_from, waits}
+use Rattle.fax_tool.specs.code.Scan.{with_word, word_of}
 use Rattle.fax_tool.proofs.GrammarLemmas.{both_parts, other_first, scanned_apart, scanned_number, scanned_plain}
 use Rattle.clap.specs.Lexer.{long_of, long_of_rest, name_and_value, short_of, short_of_rest, strip_byte}
 use Rattle.fax_tool.proofs.ViewLemmas.{View, as_end, as_long, as_plain, as_short, hyphens, view}

@@ -7,7 +7,8 @@ use Rattle.std.specs.Str.{chars}
 use Rattle.std.proofs.lemmas.List.Elements.{All-contains, All-from_recursion}
 use Rattle.fax_tool.specs.Grammar.{AreOfCommand, AreOfNoCommand, AreSpelled, IsPlain, IsSpelled, Item, Text, Use, commands, file, flag}
 use Rattle.fax_tool.specs.Grammar.{letter, number, text}
-use Rattle.fax_tool.specs.code.Scan.{attached, is_plain, is_taken, option_word, read, says, takes, use_of, uses_from, uses_of, waits, word_of}
+use Rattle.fax_tool.specs.code.Scan.{attached, is_plain, is_taken, option_word, read, says, takes, use_of, uses_from, uses_of, waits}
+use Rattle.fax_tool.specs.code.Scan.{word_of}
 use Rattle.fax_tool.proofs.GrammarLemmas.{apart_scanned, attached_scanned, number_scanned, plain_scanned}
 use Rattle.fax_tool.proofs.ViewLemmas.{View, as_end, as_long, as_plain, as_short, view}
 

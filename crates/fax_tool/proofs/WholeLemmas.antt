@@ -14,7 +14,8 @@ use Rattle.fax_tool.specs.declared.words.Command.TheVariants.{Convert, Check}
 use Rattle.fax_tool.specs.Run.{Counts, HasWorked, IsRead, IsTextOf}
 use Rattle.fax_tool.specs.views.Streams.{input_after, output_after}
 use Rattle.fax_tool.specs.Text.{Printed}
-use Rattle.fax_tool.specs.ReportText.{convert_fault_line, report_output, report_text}
+use Rattle.fax_tool.specs.ReportText.{convert_fault_line, report_text}
+use Rattle.fax_tool.specs.code.ReportParts.{report_output}
 use Rattle.fax_tool.specs.code.Outcome.{IsDone, IsLineOf, IsStopped, WritesOutput, error_of, status_of}
 use Rattle.fax_tool.specs.code.Transfers.{IsGivenInPart}
 use Rattle.fax_tool.proofs.CommandLemmas.{text_stopped}

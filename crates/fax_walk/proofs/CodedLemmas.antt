@@ -115,7 +115,8 @@ module _ (law : CodedStripsAreRead) (options : Options) (coding : Coding) (some_
           aligned = has_eols;
         }
 
-    coded : (written_page options coding source).strips ≡ coded_strips form options.k 0 (strips_of form.rows_per_strip form.strips source.image.rows)
+    coded : (written_page options coding source).strips
+        ≡ coded_strips form options.k 0 (strips_of form.rows_per_strip form.strips source.image.rows)
     coded = all_coded form options.k source.image.rows
 
     page_writable : IsWritable (written_page options coding source)

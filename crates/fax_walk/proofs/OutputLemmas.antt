@@ -11,7 +11,7 @@ use Rattle.std.proofs.lemmas.List.{length_push, flat_map_more, length-map}
 use Rattle.std.proofs.lemmas.List.{map-append}
 use Rattle.std.proofs.lemmas.List.Concat.{flat_map-append}
 use Rattle.std.specs.Simd.{first_chunks}
-use Rattle.fax_bits.specs.Written.{byte_of, packed}
+use Rattle.fax_bits.specs.Bits.{byte_of, packed}
 use Rattle.fax_bits.specs.declared.FillOrder.TheVariants.{MsbFirst}
 use Rattle.fax_bits.specs.declared.Colour.{Colour}
 use Rattle.fax_rows.specs.Coded.{is_black, packed_len, packed_row}

@@ -143,7 +143,8 @@ pub header_report : (file : List ℕ) (met : FileFault) (report : Report) → he
     → report.pages ≡ 0
     → report.rows ≡ 0 → report.fault ≡ Some (record { page = 0; row = 0 }, File met) → IsReport file report
 header_report file met report bad none pages rows fault_is =
-    reported file report [] 0 (Fault 0 0 (File met)) (ends_at_page file 0 (Fault 0 0 (File met)) (rw (bad, IsPageAt) refl)) none rows (pages, fault_is)
+    reported file report [] 0 (Fault 0 0 (File met)) (ends_at_page file 0 (Fault 0 0 (File met)) (rw (bad, IsPageAt) refl))
+    none rows (pages, fault_is)
 
 -- what a file's chain has at a number
 module _ (tiff : TiffFile) (offsets : List ℕ) (fault : Option FileFault) (good : header tiff.file ≡ Ok tiff.head)

@@ -304,7 +304,8 @@ module _ (file : List ℕ) (here : FilePage) where
 
 module _ (by_place : AreBitsByPlace) (lines_read : LinesAreRead) (chains : FilesHaveOneChain) (file : List ℕ) where
   pub rows_listed : (at : RowPlace) (answer : Result Header FileFault) → header file ≡ answer → IsListed (IsRow file) at
-  rows_listed at (Err fault) e = record { items = []; end = Fault 0 0 (File fault); is = (inl (Fault 0 0 (File fault), rw (e, IsPageAt) refl, refl)) }
+  rows_listed at (Err fault) e =
+      record { items = []; end = Fault 0 0 (File fault); is = (inl (Fault 0 0 (File fault), rw (e, IsPageAt) refl, refl)) }
   rows_listed at (Ok head) e =
       let chain = chains head file in
       rows_from by_place lines_read file head e chain.offsets chain.end chain.is (drop at.page chain.offsets) at refl

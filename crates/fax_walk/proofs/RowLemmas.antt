@@ -164,7 +164,8 @@ module _ (tail : TailOfStart) (answers : (file : List ℕ) (at : RowPlace) → I
       let puts : PutsRow middle item.pels new_output = rw gives.pels puts_row in
       let rows_are : rows ++ item.pels ∷ [] ≡ take (count + 1) (pels_of own) =
       ap (λ (l : List (List Colour)). l ++ item.pels ∷ []) (take_pels count own)
-      ∙ sym (map-append (λ (i : RowItem). i.pels) (take count own) (item ∷ [])) ∙ sym (ap pels_of next.1) ∙ sym (take_pels (count + 1) own) in
+      ∙ sym (map-append (λ (i : RowItem). i.pels) (take count own) (item ∷ [])) ∙ sym (ap pels_of next.1)
+      ∙ sym (take_pels (count + 1) own) in
       record {
         same_file = gives.same_file ∙ so_far.same_file;
         same_begun = gives.same_begun ∙ so_far.same_begun;

@@ -260,7 +260,8 @@ module _ (forms : FormsAreWhole) (chains : FilesHaveOneChain) (file : List ℕ) 
       place_of (Err end) = from
 
       by_test : (below : Bool) → nat_lt at.row here.form.rows ≡ below → (last : Bool)
-          → ◌≡◌ {A = Result (RowPlace × ℕ) End} (Ok (from, k)) (if below then Ok (strip_of here at.page at.row, row_in_strip here.form at.row)
+          → ◌≡◌ {A = Result (RowPlace × ℕ) End} (Ok (from, k))
+          (if below then Ok (strip_of here at.page at.row, row_in_strip here.form at.row)
           else (if last then Ok (first_at (at.page + 1) 0, 0) else Err Outside))
           → FromStrip from
       by_test true below last e =
@@ -544,8 +545,8 @@ module _ (by_place : AreBitsByPlace) (lines_read : LinesAreRead) (chains : Files
       let one = one_tail_from by_place lines_read chains file (At start) in
       let same = one_from (IsRow file) (one_row by_place lines_read chains file) (first_at 0 0) one.items items one.end end
       (from_start one.items one.end one.is) are in
-      subst (λ (e : End). IsTailFrom file (At start) items e) same.1 (subst (λ (l : List RowItem). IsTailFrom file (At start) l one.end) same.0
-      one.is)
+      subst (λ (e : End). IsTailFrom file (At start) items e) same.1
+      (subst (λ (l : List RowItem). IsTailFrom file (At start) l one.end) same.0 one.is)
 
 pub tail_of_start : AreBitsByPlace → LinesAreRead → FilesHaveOneChain → FormsAreWhole → TailOfStart
 tail_of_start by_place lines_read chains forms file items end =

@@ -6,8 +6,7 @@ use Rattle.fax_rows.specs.Rows.{Colour}
 use Rattle.fax_bits.specs.Bits.{bits}
 use Rattle.fax_files.specs.FaultNames.{StripFault}
 use Rattle.fax_page.specs.declared.notes.StripNotes.{StripNotes}
-use Rattle.fax_page.specs.Strip.{IsStrip}
-use Rattle.fax_page.specs.Strip.{IsNotedAs}
+use Rattle.fax_page.specs.Strip.{IsNotedAs, IsStrip}
 use Rattle.fax_files.specs.declared.FileFault.TheVariants.{StripOutside}
 use Rattle.fax_files.specs.Directory.{entries, ascend}
 use Rattle.fax_files.specs.Page.{strip_form, strip_bytes}
@@ -19,7 +18,6 @@ use Rattle.fax_walk.specs.declared.walk.Place.{Place}
 use Rattle.fax_walk.specs.Pages.{Cause, File, Strip, PageForm, End, Proper, Fault, Outside, AreFrom}
 use Rattle.fax_walk.specs.Pages.{IsOnPage, IsPageAt}
 use Rattle.fax_walk.specs.Rows.{RowItem, IsRow, first_at}
-pub use Rattle.fax_files.specs.declared.pbm.PbmFault.{PbmFault}
 
 -- the number of a note, and its name
 abbrev pub number_and_name : NoteKind → ℕ × List ℕ
@@ -76,8 +74,7 @@ IsReportedEnd file (Fault p r cause) pages fault =
     (pages ≡ p) × (fault ≡ Some (record { page = p; row = r }, cause))
 IsReportedEnd file Outside pages fault = ⊥
 
--- what is reported of a file: its notes, how many pages are read wholly, how many rows are read
--- before the fault, and the fault
+-- what is reported of a file: its notes, the pages read wholly, the rows read, and the fault
 pub record IsReport (file : List ℕ) (report : Report) : Type 0 where
   pub items : List RowItem
   pub end : End

@@ -12,7 +12,8 @@ use Rattle.fax_bits.specs.declared.Colour.{Colour}
 use Rattle.fax_bits.specs.declared.FillOrder.TheVariants.{MsbFirst}
 use Rattle.fax_bits.specs.declared.modes.ModeCode.{ModeCode}
 use Rattle.fax_bits.specs.Bits.{byte_bits, bits}
-use Rattle.fax_bits.specs.Written.{bits_number, packed, run_bits, mode_bits}
+use Rattle.fax_bits.specs.Written.{run_bits, mode_bits}
+use Rattle.fax_bits.specs.Bits.{bits_number, packed}
 use Rattle.fax_bits.specs.Codes.{Takes, IsFaultOf, IsRun}
 use Rattle.fax_bits.specs.views.Codes.{IsWritten}
 use Rattle.fax_bits.specs.Tables.{modes}

@@ -1,7 +1,7 @@
 -- A strip that is written row by row.
 use Rattle.std.specs.Prelude.{◌≡◌, ℕ, ◌+◌, Bool, true, false, List, [], ◌++◌, length}
 use Rattle.std.specs.Prelude.{Result, Ok, Err}
-use Rattle.fax_bits.specs.Written.{packed}
+use Rattle.fax_bits.specs.Bits.{packed}
 use Rattle.fax_bits.specs.declared.Colour.{Colour}
 use Rattle.fax_bits.specs.declared.Memory.{Memory}
 use Rattle.fax_page.specs.declared.StripForm.{StripForm}

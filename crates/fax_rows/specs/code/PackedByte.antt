@@ -1,7 +1,7 @@
 -- A packed row byte by byte.
 use Rattle.std.specs.Prelude.{ℕ, ◌++◌, false, List, map, take, drop, replicate}
 use Rattle.fax_bits.specs.declared.Colour.{Colour}
-use Rattle.fax_bits.specs.Written.{bits_number}
+use Rattle.fax_bits.specs.Bits.{bits_number}
 use Rattle.fax_rows.specs.Coded.{is_black}
 
 -- the byte of the eight pels from a place on, the leftmost in its highest bit, with zeros after

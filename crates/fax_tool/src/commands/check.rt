@@ -3,6 +3,7 @@ ghost use Rattle.std.specs.Prelude.{◌≡◌, ◌≤◌, ◌+◌, ◌++◌, IfE
 ghost use Rattle.arrayvec.specs.ArrayString.{array_string_len};
 ghost use Rattle.fax_tool.specs.ReportText as Text;
 ghost use Rattle.fax_tool.specs.code.Outcome as Outcome;
+ghost use Rattle.fax_tool.specs.code.ReportParts as Parts;
 ghost use Rattle.fax_tool.specs.code.Outcome.{IsDone, IsStopped};
 ghost use Rattle.fax_tool.specs.views.Streams.{input_after, no_faults, output_after};
 ghost use Rattle.fax_tool.specs.declared.words.Command.TheVariants.{Check};
@@ -25,7 +26,7 @@ type ReportLine = ArrayString<64>;
 /// Appends the number of a strip, where there is one.
 fn push_strip(line: &mut ReportLine, strip: Option<u32>)
     requires { array_string_len line.old + 17 ≤ 64 }
-    ensures text { line.new.bytes ≡ line.old.bytes ++ Text.and_strip strip }
+    ensures text { line.new.bytes ≡ line.old.bytes ++ Parts.and_strip strip }
     ensures len { array_string_len line.new ≤ array_string_len line.old + 17 }
 {
     if let Some(strip) = strip {
@@ -55,7 +56,7 @@ fn note_line(note: Note) -> ReportLine
 
 /// The last line: how many pages were read wholly, and how many rows.
 fn counts_line(pages: u64, rows: u64) -> ReportLine
-    ensures { result.bytes ≡ Text.counts_line pages rows }
+    ensures { result.bytes ≡ Parts.counts_line pages rows }
 {
     let mut line = ReportLine::new();
     line.push_str("pages");
@@ -68,7 +69,7 @@ fn counts_line(pages: u64, rows: u64) -> ReportLine
 
 /// The text of a report: its notes, line by line, and its counts.
 fn report_text(alloc: Global, report: &Report) -> Result<Collected, Memory>
-    ensures { IfOk result (λ text. text ≡ Text.report_output report.now) }
+    ensures { IfOk result (λ text. text ≡ Parts.report_output report.now) }
 {
     let mut text = Collected::new(alloc);
     for note in &report.notes {

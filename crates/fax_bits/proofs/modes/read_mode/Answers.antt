@@ -2,7 +2,7 @@ use Rattle.std.proofs.Common.{◌≡◌, ℕ, List, [], ◌∷◌, ◌++◌, tak
 use Rattle.std.specs.Prelude.{pos}
 use Rattle.fax_bits.specs.declared.modes.ModeCode.TheVariants.{Vertical}
 use Rattle.fax_bits.specs.Codes.{Takes}
-use Rattle.fax_bits.specs.Written.{bits_number}
+use Rattle.fax_bits.specs.Bits.{bits_number}
 use Rattle.fax_bits.specs.Bits.{code_bits}
 use Rattle.fax_bits.specs.Tables.{modes}
 use Rattle.fax_bits.proofs.TableLemmas.{listed}

@@ -1,5 +1,5 @@
 use Rattle.std.proofs.Common.{◌≡◌, ◌+◌, ◌-◌, ◌*◌, ◌%◌, ◌<◌, ◌≤◌, ◌^◌, ◌∙◌, take, drop, nat_eq, false, ap, subst, arith}
-use Rattle.fax_bits.specs.Written.{bits_number}
+use Rattle.fax_bits.specs.Bits.{bits_number}
 use Rattle.fax_rows.specs.code.Turns.{row_of}
 use Rattle.fax_rows.proofs.PackedLemmas.{padded_bits, byte_done}
 use Rattle.fax_rows.proofs.PackingLemmas.{ones, passed-lt, none_behind, passed_more, run_more, run_fits, same_up_to, still_passed}

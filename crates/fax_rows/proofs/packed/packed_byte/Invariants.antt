@@ -1,5 +1,5 @@
 use Rattle.std.proofs.Common.{◌≡◌, ◌+◌, ◌-◌, ◌<◌, ◌≤◌, ◌^◌, take, drop}
-use Rattle.fax_bits.specs.Written.{bits_number}
+use Rattle.fax_bits.specs.Bits.{bits_number}
 use Rattle.fax_rows.specs.code.Turns.{row_of, HasPassed}
 use Rattle.fax_rows.proofs.PackedLemmas.{padded_bits}
 use Rattle.fax_rows.proofs.packed.packed_byte.Given as goal

@@ -107,4 +107,5 @@ returns-in_err-matches-clause-fault c =
     let words = texts c.args.words.now in
     let texts_are : All IsUtf8 words = search rules in
     let kinds : HasKind (fault_of faxpages_app words) c.in_err-matches.field-0.0 = search rules in
-    untaken_up c.from_residual-in_err-matches.result words c.in_err-matches.field-0.0 texts_are c.from_residual-in_err-matches.ensures.1 kinds
+    untaken_up c.from_residual-in_err-matches.result words c.in_err-matches.field-0.0 texts_are
+    c.from_residual-in_err-matches.ensures.1 kinds

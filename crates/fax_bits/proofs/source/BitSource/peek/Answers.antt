@@ -1,5 +1,5 @@
 use Rattle.std.proofs.Common.{◌%◌, ◌++◌, drop, take, replicate, false, ap, ◌∙◌}
-use Rattle.fax_bits.specs.Written.{bits_number}
+use Rattle.fax_bits.specs.Bits.{bits_number}
 use Rattle.fax_bits.specs.views.Source.{Source}
 use Rattle.fax_bits.proofs.WordLemmas.{bits-from}
 use Rattle.fax_bits.proofs.source.BitSource.peek.Goals as goal

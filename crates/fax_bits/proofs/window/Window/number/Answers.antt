@@ -1,7 +1,7 @@
 use Rattle.std.proofs.Common.{◌++◌, drop, replicate, false, ap, sym, ◌∙◌, take, arith, append_assoc, []}
 use Rattle.std.proofs.Math.Pow.{pow_mono}
 use Rattle.fax_bits.specs.Bits.{bits}
-use Rattle.fax_bits.specs.Written.{bits_number}
+use Rattle.fax_bits.specs.Bits.{bits_number}
 use Rattle.fax_bits.specs.code.Window.{first_bits}
 use Rattle.fax_bits.proofs.WindowLemmas.{next_number, next-lt}
 use Rattle.fax_bits.proofs.window.Window.number.Goals as goal
