@@ -78,7 +78,6 @@ same_form made form e whole = subst (λ (f : PageForm). IsWholeForm f) (ok_injec
 
 -- a form within the limits
 pub forms_are_whole : FormsAreWhole
-unfolding page_in_steps
 forms_are_whole endian file q form page_is =
     let e : page_in_steps endian file q ≡ Ok form = sym (page_is_in_steps endian file q) ∙ page_is in
     let fields = entries endian file q in

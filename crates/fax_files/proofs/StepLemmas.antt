@@ -103,7 +103,6 @@ module _ {B : Type 0} (endian : Endian) (file : List ℕ) (fields : List Entry) 
         aligned = options / 4 % 2 == 1;
       }))
       ≡ ((if is_t6 then (Ok (record { coding = Mmr; aligned = false })) else (t4_coding endian file fields)) >>= next)
-  unfolding t4_coding
   coding_step true next = refl
   coding_step false next =
       or_step endian file fields Tags.T4_OPTIONS (λ _. true) (λ _. true) BadField
@@ -180,7 +179,7 @@ form_with width rows in_strip order exchanged found coded = record {
 }
 
 pub page_is_in_steps : (endian : Endian) (file : List ℕ) (q : ℕ) → page endian file q ≡ page_in_steps endian file q
-unfolding page page_in_steps page_size pel_format are_exchanged fill_order strip_rows page_coding strip_field
+unfolding page page_size pel_format are_exchanged fill_order strip_rows page_coding strip_field
 page_is_in_steps endian file q =
     let fields = entries endian file q in
     needed_step endian file fields Tags.IMAGE_WIDTH _ _ OutOfLimits _ (λ _. refl)

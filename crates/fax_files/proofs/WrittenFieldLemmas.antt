@@ -154,7 +154,7 @@ short_there file p tag n lt h =
 pub rational_there : (file : List ℕ) (p tag place x y : ℕ) → place < 4294967296 → 1 ≤ x → x < 4294967296 → 1 ≤ y → y < 4294967296
     → HasBytesAt file p (four place) → HasBytesAt file place (four x ++ four y)
     → good_rational Little file (record { tag = tag; kind = Tags.RATIONAL; count = 1; place = p }) ≡ Some (x, y)
-unfolding good_rational values_place
+unfolding values_place
 rational_there file p tag place x y lt some_x x_lt some_y y_lt h there =
     let at = number_there 4 h lt in
     let inside : is_inside file place 8 ≡ true = le-leb _ _ (at_inside (four x ++ four y) there) in
@@ -201,7 +201,7 @@ pub rational_back : (file : List ℕ) (place tag at_value : ℕ) (value : ℕ ×
     → written_field fields tag ≡ Some (rational_field tag at_value) → at_value < 4294967296 → IsGoodRational value
     → HasBytesAt file at_value (rational_bytes value)
     → rational_of Little file (read_fields place fields) tag ≡ Some value
-unfolding rational_of good_rational
+unfolding rational_of
 rational_back file place tag at_value value fields values found lt good stands =
     let there = field_there file place tag fields (rational_field tag at_value) values found in
     rw (rational_of, there.entry_is) (rational_there file (there.at_entry + 8) tag at_value value.0 value.1 lt good.some_top good.top

@@ -70,7 +70,7 @@ coding_from : (coding : Coding) (aligned : Bool) (file : List ℕ) (place : ℕ)
     → (aligned ≡ true → coding ≢ Mmr)
     → written_field fields Tags.T4_OPTIONS ≡ written_field (options_field coding aligned ∷ []) Tags.T4_OPTIONS
     → page_coding Little file (read_fields place fields) (compression_of coding) ≡ Ok (record { coding = coding; aligned = aligned })
-unfolding page_coding t4_coding
+unfolding page_coding
 coding_from Mh true file place fields values has_eols found =
     rw (long_or file place Tags.T4_OPTIONS 4 0 fields values found (omega arith)) refl
 coding_from Mh false file place fields values has_eols found =
@@ -303,7 +303,6 @@ module _ (file : List ℕ) (q start total k : ℕ) (written : WrittenPage) (know
 
   -- so the page has the form that was written
   form_there : page Little file q ≡ Ok written.form
-  unfolding page_in_steps
   form_there =
       let w = known.writable in
       let strips = strip_count written.form.rows written.form.rows_per_strip in

@@ -133,7 +133,6 @@ impl<'a> File<'a> {
     }
 
     /// An entry's fraction, where it has one whose numbers are above 0.
-    #[tactic(auto, unfolding(crate::specs::code::Steps::good_rational))]
     pub fn good_rational(&self, entry: &Entry) -> Option<(u32, u32)>
         requires { entry.now.place + 4 ≤ length self.now.bytes.now }
         ensures exact { result ≡ good_rational self.now.endian self.now.bytes.now entry.now }

@@ -163,7 +163,7 @@ impl<'d, 'a> Fields<'d, 'a> {
     }
 
     /// The fraction of a tag, where it is there and good.
-    #[tactic(auto, unfolding(crate::specs::Page::rational_of, crate::specs::code::Steps::good_rational))]
+    #[tactic(auto, unfolding(crate::specs::Page::rational_of))]
     pub fn rational_of(&self, tag: u16) -> Option<(u32, u32)>
         requires { IsTrue (is_sought tag) }
         ensures exact { result

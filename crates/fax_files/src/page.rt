@@ -85,7 +85,7 @@ impl Model for Resolution {
 }
 
 /// The form of a page and the places of its strips, or its first fault.
-#[tactic(auto, using(crate::proofs::StepLemmas::page_is_in_steps), unfolding(crate::specs::code::Steps::page_in_steps))]
+#[tactic(auto, using(crate::proofs::StepLemmas::page_is_in_steps))]
 pub(crate) fn read_page<'a>(fields: &Fields<'_, 'a>) -> Result<(PageForm, Strips<'a>), FileFault>
     ensures form { IfOk result (λ page. form_of fields.now ≡ Ok page.0) }
     ensures fault { IfErr result (λ fault. form_of fields.now ≡ Err fault) }
@@ -209,7 +209,7 @@ fn strip_rows(fields: &Fields, rows: u32) -> Result<u32, FileFault>
 }
 
 /// How the rows of a page are coded. T4Options is looked at in T.4 alone.
-#[tactic(auto, unfolding(crate::specs::code::Steps::page_coding, crate::specs::code::Steps::t4_coding))]
+#[tactic(auto, unfolding(crate::specs::code::Steps::page_coding))]
 fn page_coding(fields: &Fields, compression: u32) -> Result<RowCoding, FileFault>
     ensures exact { result
         ≡ Spec.page_coding fields.now.endian fields.now.file (entries_of fields.now) compression }

@@ -86,7 +86,7 @@ pub record RowCoding : Type 0 where
 
 -- how the rows of Compression 3 are coded: in MR where bit 0 of T4Options is set, else in MH; with
 -- aligned EOLs where bit 2 is set; its other bits are ignored (TIFF 6.0, T4Options)
-unfoldable pub t4_coding : Endian → List ℕ → List Entry → Result RowCoding FileFault
+abbrev pub t4_coding : Endian → List ℕ → List Entry → Result RowCoding FileFault
 t4_coding endian file fields = do
   options ← scalar_or endian file fields Tags.T4_OPTIONS 0
   Ok (record { coding = if options % 2 == 1 then Mr else Mh; aligned = options / 4 % 2 == 1 })
@@ -105,7 +105,7 @@ strip_field endian file fields tag strips = do
   Ok entry
 
 -- an entry's RATIONAL, where both of its numbers are above 0
-unfoldable pub good_rational : Endian → List ℕ → Entry → Option (ℕ × ℕ)
+abbrev pub good_rational : Endian → List ℕ → Entry → Option (ℕ × ℕ)
 good_rational endian file entry =
     let place = values_place endian file entry in
     let top = number_at endian 4 file place in
@@ -128,7 +128,7 @@ page_resolution endian file fields =
 
 -- the form of the page whose directory stands whole at offset q, or the first fault of its fields,
 -- in this order
-unfoldable pub page_in_steps : Endian → List ℕ → ℕ → Result PageForm FileFault
+abbrev pub page_in_steps : Endian → List ℕ → ℕ → Result PageForm FileFault
 page_in_steps endian file q = do
   let fields = entries endian file q
   size ← page_size endian file fields
