@@ -4,7 +4,7 @@ use Rattle.std.proofs.Common.{Option, Some, None, Result, Ok, Err, refl, sym, ap
 use Rattle.std.proofs.lemmas.Option.{slice_get_within, slice_get-map}
 use Rattle.std.proofs.lemmas.List.{length-map}
 use Rattle.std.proofs.lemmas.Slice.Zip.{AllZip-long}
-use Rattle.std.specs.Prelude.{slice_get, if◌then◌else◌, nat_lt, ◌==◌}
+use Rattle.std.specs.Prelude.{slice_get, if◌then◌else◌, nat_lt, nat_le, ◌==◌, ◌/◌, ◌%◌}
 use Rattle.std.specs.Prelude.{option_map, IfOk}
 use Rattle.std.specs.List.{AllZip}
 use Rattle.fax_bits.specs.declared.Colour.{Colour}
@@ -27,9 +27,7 @@ use Rattle.fax_walk.specs.views.Pages.{PagesView, HandsOutPage, IsCursorOf as Is
 use Rattle.fax_walk.specs.laws.Tails.{BeginningsHaveOneTail, CursorsHaveOneFormTail, CursorsNameOnePage}
 use Rattle.fax_walk.specs.Pages.{FilePage, FormItem, IsFormTail, IsPageAt}
 use Rattle.fax_walk.specs.Rows.{RowItem as Item, RowPlace as Place, IsInStrip, IsRow, IsTailFrom, begins_at, cursor_after, exchanged}
-use Rattle.fax_walk.specs.Rows.{first_at, long_after}
-use Rattle.fax_walk.specs.code.Places.{long_at}
-use Rattle.fax_walk.specs.code.Places.{row_in_strip, strip_at}
+use Rattle.fax_walk.specs.Rows.{Inner, first_at, long_after}
 use Rattle.fax_tool.specs.Run.{AreRowLines, ArePageLines, IsRowLine}
 use Rattle.fax_tool.specs.Text.{Line, begun_at, line_of_page, line_of_row, next_after, page_line_of, row_line_of}
 use Rattle.fax_tool.specs.code.Printing.{IsLinePut, IsNextAfter, end_of}
@@ -80,6 +78,16 @@ pub none_given : {tail : List Line → End → Type 0} (begun : Begun) → IsOne
     → IsNextAfter tail begun given begun
 none_given begun one given none = rw none (record { lines = one.items; end = one.end; is = one.is; within = omega arith; next_is = refl })
 
+-- the place inside a strip at a place, as a long cursor names it, if its bits have 32 bits
+abbrev long_at : ℕ → ℕ → Option Inner → Option LongPlace
+long_at p r None = None
+long_at p r (Some inner) =
+    if nat_le inner.bits 4294967295 then (Some (record {
+      at = record { page = p; row = r };
+      bits = inner.bits;
+      runs = runs_of inner.reference;
+    })) else None
+
 abbrev long_at_place : Place → Option LongPlace
 long_at_place at = long_at at.page at.row at.inner
 
@@ -102,12 +110,12 @@ after_tests form item true false = begins_if _ _ (cursor_after item) refl
 after_tests form item false first = refl
 
 pub begins_after : (form : PageForm) (item : Item) → begins_at (begun_at (long_after form item) (cursor_after item)) ≡ cursor_after item
-begins_after form item = after_tests form item (nat_lt (item.row + 1) form.rows) (row_in_strip form (item.row + 1) == 0)
+begins_after form item = after_tests form item (nat_lt (item.row + 1) form.rows) ((item.row + 1) % form.rows_per_strip == 0)
 
 module _ (file : List ℕ) where
   row_has_line : (at : Place) (item : Item) (to : Place) → IsRow file at (Ok (item, to)) → (line : Line) × IsRowLine file item line
   row_has_line at item to (inl (end, page, e)) = absurd cc
-  row_has_line at item to (inr (here, page, is)) = in_bytes (strip_bytes here.endian file here.offset (strip_at here.form at.row)) is
+  row_has_line at item to (inr (here, page, is)) = in_bytes (strip_bytes here.endian file here.offset (at.row / here.form.rows_per_strip)) is
     where
       in_bytes : (found : Option (List ℕ)) → IsInStrip here.form at found (Ok (item, to)) → (line : Line) × IsRowLine file item line
       in_bytes None e = absurd cc

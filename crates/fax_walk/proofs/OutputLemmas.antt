@@ -21,10 +21,8 @@ use Rattle.fax_page.specs.views.Writer.{WriterState}
 use Rattle.fax_files.specs.declared.PageForm.{PageForm}
 use Rattle.fax_files.specs.Pbm.{Image, pbm_of}
 use Rattle.fax_files.specs.views.Pbm.{head_bytes}
-use Rattle.fax_files.specs.code.Pbm.{image_bytes}
 use Rattle.fax_files.specs.laws.Pbm.{AreOfWidth}
 use Rattle.fax_files.specs.Written.{Written, WrittenPage, four}
-use Rattle.fax_files.specs.code.Parts.{with_four_at}
 use Rattle.fax_files.specs.views.Writing.{empty_file}
 use Rattle.fax_files.specs.Written.{page_bytes, directory_place, with_page}
 use Rattle.fax_files.specs.Written.{with_pages, file_of}
@@ -79,6 +77,10 @@ rows_length width (row ∷ rows) are =
 
 image_of : SourcePage → Image
 image_of page = page.image
+
+-- an image as it is written
+abbrev image_bytes : Image → List ℕ
+image_bytes image = head_bytes image.width (length image.rows) ++ flat_map packed_row image.rows
 
 -- the images of pages, and what follows them
 images_split : (pages more : List SourcePage) (page : SourcePage)
@@ -174,7 +176,7 @@ page_grows : (old : Written) (total k : ℕ) (form : PageForm) (strips : List (L
 unfolding with_page
 page_grows old total k form strips =
     let place = directory_place (length old.bytes) strips in
-    let file = with_four_at old.bytes old.link place in
+    let file = take old.link old.bytes ++ four place ++ drop (old.link + 4) old.bytes in
     let four_is : length (four place) ≡ 4 = refl in
     let all = length-append file (page_bytes (length old.bytes) total k form strips) in
     let first = length-append (take old.link old.bytes ++ four place) (drop (old.link + 4) old.bytes) in
