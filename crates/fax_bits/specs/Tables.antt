@@ -77,7 +77,7 @@ common_make_up =
     ++ codes " 000000011111")
 
 -- the codes of runs: terminating codes, make-up codes, those of either colour, and the prefix of
--- extensions, 000000001xxx (T.4, tables 2, 3a and 3b)
+-- extensions, 000000001xxx (T.4, tables 2, 3a, 3b and 4)
 abbrev pub with_common : List (List ℕ) → List (List ℕ) → List (CodeEntry RunCode)
 with_common terminating make_up =
     in_steps Terminating 0 1 terminating ++ in_steps MakeUp 64 64 make_up

@@ -63,8 +63,8 @@ page endian file q = do
   rows ← scalar endian file fields Tags.IMAGE_LENGTH None (is_between 1 1000000) OutOfLimits
   _ ← scalar endian file fields Tags.BITS_PER_SAMPLE (Some 1) (is_between 1 1) Unsupported
   compression ← scalar endian file fields Tags.COMPRESSION None (is_between 3 4) Unsupported
-  -- black is coded as white, and white as black, where it is 1
-  pels ← scalar endian file fields Tags.PHOTOMETRIC_INTERPRETATION None (is_between 0 1) Unsupported
+  -- the value of a white pel: where it is 1, black is coded as white, and white as black
+  white ← scalar endian file fields Tags.PHOTOMETRIC_INTERPRETATION None (is_between 0 1) Unsupported
   order ← scalar endian file fields Tags.FILL_ORDER (Some 1) (is_between 1 2) Unsupported
   _ ← scalar endian file fields Tags.SAMPLES_PER_PIXEL (Some 1) (is_between 1 1) Unsupported
   -- the rows of each strip but the last: more than the page's rows means all of these (ours)
@@ -89,7 +89,7 @@ page endian file q = do
     coding = if compression == 4 then Mmr else (if options % 2 == 1 then Mr else Mh);
     order = if order == 2 then LsbFirst else MsbFirst;
     aligned = options / 4 % 2 == 1;
-    exchanged = pels == 1;
+    exchanged = white == 1;
     rows_per_strip = rows_per_strip;
     strips = strips;
     x = found.x;

@@ -26,7 +26,7 @@ abbrev pub tag_bit : Dimension → Bool
 tag_bit OneDimensional = true
 tag_bit TwoDimensional = false
 
--- the bits begin with fill and an EOL: eleven zeros or more, and a 1 (T.4, sections 4.1.2, 4.1.3)
+-- fill and an EOL: eleven zeros or more, and a 1 (T.4, sections 4.1.2, 4.1.3 and 4.2.3)
 abbrev pub IsEndOfLine : List Bool → List Bool → Type 0
 IsEndOfLine b rest = (zeros : ℕ) × (11 ≤ zeros) × (b ≡ replicate zeros false ++ true ∷ rest)
 

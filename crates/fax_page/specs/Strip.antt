@@ -45,13 +45,13 @@ written_dimension Mmr k i = TwoDimensional
 
 -- how many zeros of fill are written before an EOL, which has twelve bits, after so many bits of
 -- the strip: where EOLs are aligned the fewest that make it end on a byte boundary, and else none
--- (T.4, section 4.1.3; TIFF 6.0, T4Options)
+-- (T.4, sections 4.1.3 and 4.2.3; TIFF 6.0, T4Options)
 unfoldable pub fill_zeros : Bool → ℕ → ℕ
 fill_zeros true before = (12 - before % 8) % 8
 fill_zeros false before = 0
 
 -- what is written before a row's codes, after so many bits of the strip
--- (T.4, sections 4.1.2, 4.1.3 and 4.2.2; T.6, section 2.2.1)
+-- (T.4, sections 4.1.2, 4.1.3, 4.2.2 and 4.2.3; T.6, section 2.2.1)
 abbrev pub start_bits : Coding → Bool → ℕ → Dimension → List Bool
 start_bits Mh aligned before dimension = replicate (fill_zeros aligned before) false ++ end_of_line
 start_bits Mr aligned before dimension =
@@ -64,7 +64,7 @@ row_bits OneDimensional reference row = one_dimensional_bits row
 row_bits TwoDimensional reference row = two_dimensional_bits reference row
 
 -- row i of a strip as it is written after so many bits of it, over the row before it
--- (T.4, sections 4.1.2, 4.1.3 and 4.2.2)
+-- (T.4, sections 4.1.2, 4.1.3, 4.2.2 and 4.2.3)
 unfoldable pub coded_line : StripForm → ℕ → ℕ → ℕ → List Colour → List Colour → List Bool
 coded_line form k before i reference row =
     let dimension = written_dimension form.coding k i in
@@ -92,20 +92,20 @@ unfoldable pub coded_strip : StripForm → ℕ → List (List Colour) → List �
 coded_strip form k rows = packed form.order (coded_bits form k rows)
 
 -- one EOL of a return to control: in MR the tag bit of a one-dimensional row follows it
--- (T.4, sections 4.1.4 and 4.2.2; that any fill may stand before it is the note's own rule)
+-- (T.4, sections 4.1.4 and 4.2.4; that any fill may stand before it is the note's own rule)
 abbrev pub IsReturnEol : Coding → List Bool → List Bool → Type 0
 IsReturnEol Mh b rest = IsEndOfLine b rest
 IsReturnEol Mr b rest = IsEndOfLine b (tag_bit OneDimensional ∷ rest)
 IsReturnEol Mmr b rest = ⊥
 
--- so many of them stand one after another (T.4, section 4.1.4)
+-- so many of them stand one after another (T.4, sections 4.1.4 and 4.2.4)
 abbrev pub AreReturnEols : Coding → ℕ → List Bool → List Bool → Type 0
 AreReturnEols coding zero b rest = b ≡ rest
 AreReturnEols coding (suc n) b rest =
     (middle : List Bool) × IsReturnEol coding b middle × AreReturnEols coding n middle rest
 
--- the bits begin with an end mark: in MH and MR a return to control, six EOLs (T.4, section 4.1.4),
--- in MMR the end of a facsimile block (T.6, End-of-facsimile block)
+-- the bits begin with an end mark: in MH and MR a return to control, six EOLs (T.4, sections 4.1.4
+-- and 4.2.4), in MMR the end of a facsimile block (T.6, End-of-facsimile block)
 abbrev pub IsEndMark : Coding → List Bool → List Bool → Type 0
 IsEndMark Mmr b rest = b ≡ end_bits Mmr ++ rest
 IsEndMark coding b rest = AreReturnEols coding 6 b rest

@@ -171,7 +171,7 @@ fn read_noted(
 }
 
 /// Goes after an EOL of a return to control, and answers whether there is one (T.4, sections 4.1.4
-/// and 4.2.2).
+/// and 4.2.4).
 fn take_return_eol(source: &mut BitSource, coding: Coding) -> bool
     ensures { Code.TakesReturnEol coding source.old.left result source.new.left }
 {

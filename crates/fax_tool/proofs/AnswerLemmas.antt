@@ -9,8 +9,8 @@ use Rattle.fax_walk.specs.Pages.{IsCursor, IsLongCursor, LongPlace}
 use Rattle.fax_walk.specs.declared.options.Options.{Options}
 use Rattle.fax_walk.specs.declared.options.Target.TheVariants.{Mmr, Pbm}
 use Rattle.fax_tool.specs.Job.{AreOptions, BeginsAt, BeginsInside, HasNoCursor, HasNoTarget, IsCommand, IsFault, IsJob, IsNoCursor}
-use Rattle.fax_tool.specs.Job.{Given, IsNoLongCursor}
-use Rattle.fax_tool.specs.laws.Words.{HasCursors, WordsHaveOneAnswer}
+use Rattle.fax_tool.specs.Job.{Given, HasCursors, IsNoLongCursor}
+use Rattle.fax_tool.specs.laws.Words.{WordsHaveOneAnswer}
 use Rattle.fax_tool.specs.declared.words.Command.{Command}
 use Rattle.fax_tool.specs.declared.words.Command.TheVariants.{Check, Convert, List as Forms, Rows}
 use Rattle.fax_tool.specs.declared.words.Job.{Job}

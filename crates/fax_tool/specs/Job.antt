@@ -150,3 +150,10 @@ HasRanges (Rows part) = IfSome part.max (IsInRange 4294967295)
 HasRanges (Convert options) =
     IsInRange 1000000 options.k × IfSome options.strip (IsInRange 1000000)
 HasRanges Check = Unit {0}
+
+-- a command's cursor is one, and so is its long cursor, which has a run
+abbrev pub HasCursors : Command → Type 0
+HasCursors (Forms part) = IsCursor part.cursor
+HasCursors (Rows part) = IsCursor part.cursor × IfSome part.from IsLongCursor
+HasCursors (Convert options) = Unit {0}
+HasCursors Check = Unit {0}

@@ -9,7 +9,8 @@ ghost use Rattle.clap.specs.Walk.{first_of, rule_of};
 ghost use Rattle.fax_walk.specs.declared.options.Target.TheVariants.{Mmr, Pbm};
 ghost use Rattle.fax_tool.specs.declared.words.WordsFault.TheVariants.{Usage as BadWords};
 ghost use Rattle.fax_tool.specs.Grammar.{Text, texts};
-ghost use Rattle.fax_tool.specs.Job.{AreOptions, HasNoTarget, HasRanges, IsCommand};
+ghost use Rattle.fax_walk.specs.Pages.{IsCursor, IsLongCursor};
+ghost use Rattle.fax_tool.specs.Job.{AreOptions, HasCursors, HasNoTarget, HasRanges, IsCommand};
 ghost use Rattle.fax_tool.specs.Job.{IsCommandFault, IsFault, IsJob};
 ghost use Rattle.fax_tool.specs.Job.{IsNoCursor, IsNoLongCursor, IsPartOfPages, IsPartOfRows};
 ghost use Rattle.fax_tool.specs.Job.{number_in, order_by, target_in};
@@ -293,6 +294,7 @@ fn file_of(alloc: Global, matches: &ArgMatches) -> Result<Option<String>, AllocE
 fn pages_of(matches: &ArgMatches) -> Result<Part, NotACursor>
     requires { HasNumber (codes "max") 4294967295 (entries_of matches.now) }
     ensures ok { IfOk result (λ part. IsPartOfPages (given_by (entries_of matches.now)) part) }
+    ensures cursor { IfOk result (λ part. IsCursor part.cursor) }
     ensures err { OnErr result ((text : Text)
         × (first_of (codes "cursor") (entries_of matches.now) ≡ Some text) × IsNoCursor text) }
 {
@@ -313,6 +315,8 @@ fn rows_of(alloc: Global, matches: &ArgMatches) -> Result<Part, WordsFault>
     requires max { HasNumber (codes "max") 4294967295 (entries_of matches.now) }
     requires long { HasFlag (codes "long") (entries_of matches.now) }
     ensures ok { IfOk result (λ part. IsPartOfRows (given_by (entries_of matches.now)) part) }
+    ensures cursor { IfOk result (λ part. IsCursor part.cursor) }
+    ensures from { IfOk result (λ part. IfSome part.from IsLongCursor) }
     ensures err { IfErr result (λ fault. (fault ≢ BadWords)
         × (fault ≡ WordsFault.NotACursor → (text : Text)
         × (first_of (codes "cursor") (entries_of matches.now) ≡ Some text)
@@ -401,6 +405,7 @@ fn command_of(alloc: Global, name: &str, matches: &ArgMatches) -> Result<Command
     ensures command { IfOk result (λ command.
         IsCommand name.now (given_by (entries_of matches.now)) command) }
     ensures ranges { IfOk result (λ command. HasRanges command) }
+    ensures cursors { IfOk result (λ command. HasCursors command) }
     ensures fault { IfErr result (λ fault.
         IsCommandFault name.now (given_by (entries_of matches.now)) fault) }
 {
@@ -435,6 +440,7 @@ fn see_texts(words: &[&str])
 pub fn parse_words(alloc: Global, words: &[&str]) -> Result<Job, WordsFault>
     ensures job { IfOk result (λ job. IsJob (texts words.now) job) }
     ensures ranges { IfOk result (λ job. HasRanges job.command) }
+    ensures cursors { IfOk result (λ job. HasCursors job.command) }
     ensures fault { IfErr result (λ fault. IsFault (texts words.now) fault) }
 {
     see_texts(words);

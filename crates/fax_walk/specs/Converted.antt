@@ -23,7 +23,7 @@ pub record SourcePage : Type 0 where
   pub image : Image
   pub resolution : Resolution
 
--- the bytes are read as TIFF (TIFF 6.0, section 2); as raw PBM where they begin with P4
+-- the bytes begin as those of a TIFF file do, with a byte order (TIFF 6.0, section 2)
 abbrev pub IsTiff : List ℕ → Type 0
 IsTiff bytes = BeginsWith bytes (codes "II") ⊎ BeginsWith bytes (codes "MM")
 

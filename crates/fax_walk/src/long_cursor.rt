@@ -61,7 +61,7 @@ fn cut_number(text: &str) -> Option<(u32, &str)>
 /// Appends the run of these digits.
 fn push_run(runs: &mut Vec<u32>, digits: &str) -> Result<(), LongFault>
     ensures ok { OnOk result ((run : ℕ) × (digits.now ≡ decimal run)
-        × (runs.new.items ≡ runs.old.items ++ run ∷ [])) }
+        × (runs.new.items ≡ runs.old.items ++ run ∷ []) × (run < 2 ^ 32)) }
     ensures err { IfErr result (λ fault. fault ≡ LongFault.NotACursor
         → (run : ℕ) → run < 2 ^ 32 → digits.now ≢ decimal run) }
 {
@@ -75,6 +75,7 @@ fn push_run(runs: &mut Vec<u32>, digits: &str) -> Result<(), LongFault>
 fn parse_runs(alloc: Global, text: &str) -> Result<Vec<u32>, LongFault>
     ensures ok { IfOk result (λ runs. text.now ≡ runs_text runs.items) }
     ensures some { IfOk result (λ runs. 0 < length runs.items) }
+    ensures short { IfOk result (λ runs. All (λ run. run < 2 ^ 32) runs.items) }
     ensures err { IfErr result (λ fault. fault ≡ LongFault.NotACursor → (runs : List ℕ)
         → All (λ run. run < 2 ^ 32) runs → 0 < length runs → text.now ≢ runs_text runs) }
 {
@@ -127,7 +128,7 @@ impl LongCursor {
     /// `NotACursor` where the text is no long cursor's, `Memory` where a growth was refused.
     pub fn parse(alloc: Global, text: &str) -> Result<LongCursor, LongFault>
         ensures ok { IfOk result (λ cursor. text.now ≡ long_cursor_text cursor) }
-        ensures some { IfOk result (λ cursor. 0 < length cursor.runs) }
+        ensures range { IfOk result (λ cursor. IsLongCursor cursor) }
         ensures err { IfErr result (λ fault. fault ≡ LongFault.NotACursor
             → (place : LongPlace) → IsLongCursor place → text.now ≢ long_cursor_text place) }
     {

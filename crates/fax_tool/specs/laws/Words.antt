@@ -1,17 +1,14 @@
 -- Laws of words, which the functions of the module `laws` prove.
 -- A definition without a citation is this project's profile.
-use Rattle.std.specs.Prelude.{◌≡◌, ◌⊎◌, ℕ, List, Option, IfSome}
+use Rattle.std.specs.Prelude.{◌≡◌, ◌⊎◌, ℕ, List, Option}
 use Rattle.std.specs.Io.KnownBytes.{Appends}
 use Rattle.fax_tool.specs.Grammar.{Text}
-use Rattle.fax_tool.specs.Job.{IsFault, IsJob}
+use Rattle.fax_tool.specs.Job.{HasCursors, IsFault, IsJob}
 use Rattle.fax_tool.specs.Run.{HasFailed, IsRefused, WritesText, Counts, Input, Output}
 use Rattle.fax_tool.specs.Words.{words_status, words_text}
 use Rattle.fax_tool.specs.declared.words.Job.{Job}
-use Rattle.fax_tool.specs.declared.words.Command.{Command}
-use Rattle.fax_tool.specs.declared.words.Command.TheVariants.{Check, Convert, List as Forms, Rows}
 use Rattle.fax_tool.specs.declared.words.WordsFault.{WordsFault}
 use Rattle.fax_tool.specs.declared.words.WordsFault.TheVariants.{NotACursor, Usage}
-use Rattle.fax_walk.specs.Pages.{IsCursor, IsLongCursor}
 
 -- the words give a job, and what its command writes of the file was written
 abbrev pub WritesOfWords : List Text → Input → Output → Output → ℕ → Type 0
@@ -31,13 +28,6 @@ pub record SaysFault (words : List Text) (counts : Counts)
 abbrev pub IsRefusedOfWords : List Text → Input → Output → Output → Type 0
 IsRefusedOfWords words input output error = (job : Job) × IsJob words job
     × IsRefused job.command input output error
-
--- the numbers of a command's cursors have 32 bits, as those of each job have
-abbrev pub HasCursors : Command → Type 0
-HasCursors (Forms part) = IsCursor part.cursor
-HasCursors (Rows part) = IsCursor part.cursor × IfSome part.from IsLongCursor
-HasCursors (Convert options) = Unit {0}
-HasCursors Check = Unit {0}
 
 -- the words give a job, or are those of no command, or name no cursor: no two of these
 pub record HaveOneAnswer (words : List Text) : Type 0 where

@@ -1,4 +1,5 @@
-use Rattle.std.proofs.Common.{rules}
+use Rattle.std.proofs.Common.{◌<◌, ◌^◌, rules}
+use Rattle.std.proofs.lemmas.List.Elements.{All-push}
 use Rattle.std.proofs.lemmas.Result.{err_from_is_err_and}
 use Rattle.fax_walk.proofs.LongCursorLemmas.{run_cut, all_cut, run_before, run_left}
 use Rattle.fax_walk.proofs.long_cursor.parse_runs.Goals as goal
@@ -12,6 +13,7 @@ loop-run-preserved c =
           (run_cut c.args.text.now c.loop-run.runs.items c.loop-run.rest.now c.in-Some.run' c.in-Some.behind pushed.0
           c.loop-run.invariant.cut cut pushed.1);
       utf8 = search rules;
+      short = rw pushed.2 (All-push (λ run. run < 2 ^ 32) c.loop-run.runs.items pushed.0 c.loop-run.invariant.short pushed.3);
     }
 
 pub returns-clause-ok : goal.returns-clause-ok
@@ -19,6 +21,11 @@ returns-clause-ok c =
     let pushed = c.in_ok-push_run-2.ensures.ok in
     rw pushed.2
     (all_cut c.args.text.now c.loop-run.runs.items c.loop-run.rest.now pushed.0 c.loop-run.invariant.cut pushed.1)
+
+pub returns-clause-short : goal.returns-clause-short
+returns-clause-short c =
+    let pushed = c.in_ok-push_run-2.ensures.ok in
+    rw pushed.2 (All-push (λ run. run < 2 ^ 32) c.loop-run.runs.items pushed.0 c.loop-run.invariant.short pushed.3)
 
 pub returns-in_err-push_run-clause-err : goal.returns-in_err-push_run-clause-err
 returns-in_err-push_run-clause-err c =
