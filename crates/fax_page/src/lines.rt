@@ -1,11 +1,11 @@
 //! A row of a strip: what stands before its codes, and its codes.
-ghost use Rattle.std.specs.Prelude.{◌≡◌, ◌∷◌, [], length, OnOk, IfOk, IfErr};
+ghost use Rattle.std.specs.Prelude.{◌≡◌, ◌<◌, ◌∷◌, [], length, OnOk, IfOk, IfErr};
 ghost use Rattle.fax_bits.specs.views.Source.{KeepsEnd};
 ghost use Rattle.fax_page.specs.Lines as Lines;
-ghost use Rattle.fax_page.specs.code.Starts.{HasEol, HasNoEol, IsFirstCodeFault, IsNoBegin, IsStop};
+ghost use Rattle.fax_page.specs.code.Starts.{HasEol, HasNoEol, IsFirstCodeFault, IsStop};
 
 use crate::{Coding, Dimension, StripFault, StripForm};
-use fax_rows::{BitSource, Row, read_1d, read_2d};
+use fax_rows::{BitSource, Row, RowFault, read_1d, read_2d};
 
 /// How many zeros an EOL has before its 1 (T.4, section 4.1.2). More are fill.
 const EOL_ZEROS: u64 = 11;
@@ -50,7 +50,11 @@ fn read_tag(source: &mut BitSource) -> Result<Dimension, StripFault>
 /// Reads what stands before the first code of row `i`, and answers how the row is coded: an EOL in
 /// MH, an EOL and a tag bit in MR, nothing in MMR (T.4, sections 4.1.2 and 4.2.2; T.6, section
 /// 2.2.1).
-fn read_start(source: &mut BitSource, coding: Coding, i: u32) -> Result<Dimension, StripFault>
+pub(crate) fn read_start(
+    source: &mut BitSource,
+    coding: Coding,
+    i: u32,
+) -> Result<Dimension, StripFault>
     ensures ok { IfOk result (λ dimension.
         Lines.IsStart coding i source.old.left dimension source.new.left) }
     ensures err { IfErr result (λ fault. Lines.IsStartFault coding i source.old.left fault) }
@@ -83,20 +87,15 @@ fn check_first_code(source: &BitSource) -> Result<(), StripFault>
     }
 }
 
-/// Reads what stands before the codes of row `i` of a strip, and answers how the row is coded.
-pub(crate) fn read_begin(
-    source: &mut BitSource,
-    form: StripForm,
-    i: u32,
-) -> Result<Dimension, StripFault>
-    ensures ok { IfOk result (λ dimension.
-        Lines.IsBegin form i source.old.left dimension source.new.left) }
-    ensures err { IfErr result (IsNoBegin form i source.old.left) }
-    ensures same_end { KeepsEnd source.old source.new }
+/// Why there is no row whose codes are due here, where their reader stopped for this cause. Codes
+/// that it takes begin with a first code, so that one is looked for only then.
+pub(crate) fn stop(codes: &BitSource, cause: RowFault) -> StripFault
+    ensures { IsStop codes.now.left cause result }
 {
-    let dimension = read_start(source, form.coding, i)?;
-    check_first_code(source)?;
-    Ok(dimension)
+    match check_first_code(codes) {
+        Ok(()) => cause.into(),
+        Err(fault) => fault,
+    }
 }
 
 /// Reads the codes of a row that is coded so into `row`, of which nothing is said after a fault.
@@ -105,20 +104,19 @@ fn read_codes(
     dimension: Dimension,
     reference: &Row,
     row: &mut Row,
-) -> Result<(), StripFault>
+) -> Result<(), RowFault>
     requires same_width { length reference.now ≡ length row.old }
     ensures ok { OnOk result (Lines.IsRowIn dimension (length row.old) reference.now
         source.old.left row.new source.new.left) }
     ensures err { IfErr result
-        (IsStop dimension (length row.old) reference.now source.old.left) }
+        (Lines.IsRowFaultIn dimension (length row.old) reference.now source.old.left) }
     ensures same_width { length row.new ≡ length row.old }
     ensures same_end { KeepsEnd source.old source.new }
 {
     match dimension {
-        Dimension::OneDimensional => read_1d(source, row)?,
-        Dimension::TwoDimensional => read_2d(source, reference, row)?,
+        Dimension::OneDimensional => read_1d(source, row),
+        Dimension::TwoDimensional => read_2d(source, reference, row),
     }
-    Ok(())
 }
 
 /// Reads row `i` of a strip into `row`, of which nothing is said after a fault. Its reference is
@@ -132,12 +130,17 @@ pub(crate) fn read_line(
 ) -> Result<(), StripFault>
     requires reference_width { length reference.now ≡ form.width }
     requires width { length row.old ≡ form.width }
+    requires some_pels { 0 < form.width }
     ensures ok { OnOk result
         (Lines.IsLine form i reference.now source.old.left row.new source.new.left) }
     ensures err { IfErr result (λ fault. Lines.IsCause form i reference.now source.old.left fault) }
     ensures same_width { length row.new ≡ length row.old }
     ensures same_end { KeepsEnd source.old source.new }
 {
-    let dimension = read_begin(source, form, i)?;
-    read_codes(source, dimension, reference, row)
+    let dimension = read_start(source, form.coding, i)?;
+    let codes = source.again();
+    match read_codes(source, dimension, reference, row) {
+        Ok(()) => Ok(()),
+        Err(cause) => Err(stop(&codes, cause)),
+    }
 }

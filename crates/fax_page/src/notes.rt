@@ -4,15 +4,16 @@ ghost use Rattle.fax_bits.specs.Bits.{bits};
 ghost use Rattle.fax_bits.specs.views.Sink.{Appends};
 ghost use Rattle.fax_bits.specs.declared.Colour.{Colour};
 ghost use Rattle.fax_page.specs.Strip.{row_bits};
-ghost use Rattle.fax_page.specs.Lines.{IsRowIn};
+ghost use Rattle.fax_page.specs.Lines.{IsRowFaultIn, IsRowIn};
 ghost use Rattle.fax_page.specs.Strip as Spec;
 ghost use Rattle.fax_page.specs.views.Strip.{IsNotesFault, IsStripForm};
 ghost use Rattle.fax_page.specs.code.Notes as Code;
-ghost use Rattle.fax_page.specs.code.Starts.{IsStop};
 
-use crate::lines::{read_begin, read_eol, read_line};
+use crate::lines::{read_eol, read_line, read_start, stop};
 use crate::{Coding, Dimension, StripFault, StripForm};
-use fax_rows::{BitSink, BitSource, Memory, Row, put_1d, put_2d, read_1d_choice, read_2d_choice};
+use fax_rows::{
+    BitSink, BitSource, Memory, Row, RowFault, put_1d, put_2d, read_1d_choice, read_2d_choice,
+};
 use std::alloc::Global;
 use std::mem::swap;
 use thiserror::Error;
@@ -87,21 +88,20 @@ fn read_seen(
     dimension: Dimension,
     reference: &Row,
     row: &mut Row,
-) -> Result<bool, StripFault>
+) -> Result<bool, RowFault>
     requires same_width { length reference.now ≡ length row.old }
     ensures ok { OnOk result (IsRowIn dimension (length row.old) reference.now
         source.old.left row.new source.new.left) }
     ensures chosen { IfOk result (λ chosen. IsTrue chosen
         → Code.IsChosen dimension reference.now source.old.left row.new source.new.left) }
     ensures err { IfErr result
-        (IsStop dimension (length row.old) reference.now source.old.left) }
+        (IsRowFaultIn dimension (length row.old) reference.now source.old.left) }
     ensures same_width { length row.new ≡ length row.old }
 {
-    let chosen = match dimension {
-        Dimension::OneDimensional => read_1d_choice(source, row)?,
-        Dimension::TwoDimensional => read_2d_choice(source, reference, row)?,
-    };
-    Ok(chosen)
+    match dimension {
+        Dimension::OneDimensional => read_1d_choice(source, row),
+        Dimension::TwoDimensional => read_2d_choice(source, reference, row),
+    }
 }
 
 /// Reads row `i` of a strip into `row`, of which nothing is said after a fault, and answers whether
@@ -125,7 +125,7 @@ fn read_choice(
 {
     fax_rows::laws::one_dimensional_rows_are_read_as_nothing_else();
     fax_rows::laws::two_dimensional_rows_are_read_as_nothing_else();
-    let dimension = match read_begin(source, form, i) {
+    let dimension = match read_start(source, form.coding, i) {
         Ok(dimension) => dimension,
         Err(fault) => return Err(NotesFault::Strip { row: i, fault }),
     };
@@ -133,7 +133,10 @@ fn read_choice(
     match read_seen(source, dimension, reference, row) {
         Ok(true) => return Ok(true),
         Ok(false) => {}
-        Err(fault) => return Err(NotesFault::Strip { row: i, fault }),
+        Err(cause) => {
+            let fault = stop(&codes, cause);
+            return Err(NotesFault::Strip { row: i, fault });
+        }
     }
     sink.clear();
     put_codes(sink, dimension, reference, row)?;

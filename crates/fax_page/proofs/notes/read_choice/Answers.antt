@@ -4,8 +4,9 @@ use Rattle.fax_bits.specs.views.Sink.{Sink}
 use Rattle.fax_bits.specs.views.Source.{Source}
 use Rattle.fax_bits.specs.Bits.{BeginsWith}
 use Rattle.fax_rows.specs.laws.Rows.{HasWidth}
-use Rattle.fax_page.specs.Lines.{IsRowIn}
+use Rattle.fax_page.specs.Lines.{IsBegin, IsRowIn}
 use Rattle.fax_page.specs.Strip.{row_bits}
+use Rattle.fax_page.proofs.FirstCodeLemmas.{row_begins}
 use Rattle.fax_page.proofs.NotesLemmas.{line_read, line_seen}
 use Rattle.fax_page.proofs.notes.read_choice.Goals as goal
 
@@ -19,19 +20,28 @@ returns-clause-ok c =
     let put : c.put_codes.new.sink.bits ≡ row_bits c.in-Ok.dimension c.args.reference.now row =
     ap (λ (s : Sink). s.bits) c.in_ok-put_codes.ensures
     ∙ ap (λ (s : Sink). s.bits ++ row_bits c.in-Ok.dimension c.args.reference.now row) c.clear.ensures in
-    let begins : IsTrue c.begins.result ↔ BeginsWith c.read_begin.new.source.left c.put_codes.new.sink.bits =
+    let begins : IsTrue c.begins.result ↔ BeginsWith c.read_start.new.source.left c.put_codes.new.sink.bits =
     subst (λ (s : Source). IsTrue c.begins.result ↔ BeginsWith s.left c.put_codes.new.sink.bits) c.again-codes.ensures c.begins.ensures in
+    let coded = subst (λ n. IsRowIn c.in-Ok.dimension n c.args.reference.now c.read_start.new.source.left row c.read_seen.new.source.left)
+    c.requires.width c.in-Ok-false.ensures.ok in
+    let begin : IsBegin form c.args.i c.args.source.now.left c.in-Ok.dimension c.read_start.new.source.left = record {
+      start = c.in-Ok.ensures.ok;
+      first_code = row_begins c.in-Ok.dimension form.width c.args.reference.now c.read_start.new.source.left row
+          c.read_seen.new.source.left c.requires.limits.some_pels coded;
+    } in
     line_read c.one_dimensional_rows_are_read_as_nothing_else.ensures c.two_dimensional_rows_are_read_as_nothing_else.ensures
-    form c.args.i c.args.reference.now row c.args.source.now.left _ _ _ _ _ fits width c.requires.reference_width c.in-Ok.ensures.ok
-    (subst (λ n. IsRowIn c.in-Ok.dimension n c.args.reference.now c.read_begin.new.source.left row c.read_seen.new.source.left)
-    c.requires.width c.in-Ok-false.ensures.ok)
-    put begins
+    form c.args.i c.args.reference.now row c.args.source.now.left _ _ _ _ _ fits width c.requires.reference_width begin coded put begins
 
 pub returns-in-Ok-true-clause-ok : goal.returns-in-Ok-true-clause-ok
 returns-in-Ok-true-clause-ok c =
-    line_seen c.args.form c.args.i c.args.reference.now c.read_seen.new.row c.args.source.now.left c.read_begin.new.source.left
-    c.read_seen.new.source.left c.in-Ok.dimension c.in-Ok.ensures.ok
-    (subst (λ n. IsRowIn c.in-Ok.dimension n c.args.reference.now c.read_begin.new.source.left c.read_seen.new.row
-    c.read_seen.new.source.left)
-    c.requires.width c.in-Ok-true.ensures.ok)
+    let form = c.args.form in
+    let row = c.read_seen.new.row in
+    let codes = c.read_start.new.source.left in
+    let rest = c.read_seen.new.source.left in
+    let coded = subst (λ n. IsRowIn c.in-Ok.dimension n c.args.reference.now codes row rest) c.requires.width c.in-Ok-true.ensures.ok in
+    let begin : IsBegin form c.args.i c.args.source.now.left c.in-Ok.dimension codes = record {
+      start = c.in-Ok.ensures.ok;
+      first_code = row_begins c.in-Ok.dimension form.width c.args.reference.now codes row rest c.requires.limits.some_pels coded;
+    } in
+    line_seen form c.args.i c.args.reference.now row c.args.source.now.left codes rest c.in-Ok.dimension begin coded
     (c.in-Ok-true.ensures.chosen (search rules))
