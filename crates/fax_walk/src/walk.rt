@@ -85,6 +85,28 @@ fn open_at_place<'a>(
     open_inside(alloc, due, place)
 }
 
+/// Opens the page of the row that is due, after the one that is open, if one is. This is no part of
+/// the step from row to row: there what it puts on the stack would be cleared at each row.
+#[cold]
+#[inline(never)]
+fn open_due<'a>(
+    alloc: Global,
+    file: &'a [u8],
+    begun: &Begun,
+    page: &mut Option<OpenPage<'a>>,
+) -> Result<(), OpenFault>
+    requires { Spec.IsReadOrNone page.old }
+    ensures { Spec.IsEntered file.now begun.now page.old result page.new }
+{
+    let opened = match (&*page, begun) {
+        (None, Begun::At(cursor)) => open_at(alloc, file, *cursor)?,
+        (None, Begun::Inside(place)) => open_at_place(alloc, file, place)?,
+        (Some(page), _) => page.open_next(alloc)?,
+    };
+    *page = Some(opened);
+    Ok(())
+}
+
 /// Opens the page of the row that is due, where it is not open.
 fn enter<'a>(
     alloc: Global,
@@ -94,14 +116,10 @@ fn enter<'a>(
 ) -> Result<(), OpenFault>
     ensures { Spec.IsEntered file.now begun.now page.old result page.new }
 {
-    let opened = match (&*page, begun) {
-        (None, Begun::At(cursor)) => open_at(alloc, file, *cursor)?,
-        (None, Begun::Inside(place)) => open_at_place(alloc, file, place)?,
-        (Some(page), _) if page.is_read() => page.open_next(alloc)?,
-        (Some(_), _) => return Ok(()),
-    };
-    *page = Some(opened);
-    Ok(())
+    match &*page {
+        Some(open) if !open.is_read() => Ok(()),
+        _ => open_due(alloc, file, begun, page),
+    }
 }
 
 /// Reads the next row that is handed out, and answers the cursor after it.

@@ -38,6 +38,11 @@ abbrev pub IsOpenOrNone : Option PageState → Type 0
 IsOpenOrNone None = ⊤
 IsOpenOrNone (Some page) = IsOpen page
 
+-- the rows of the page are all read, if one was opened
+abbrev pub IsReadOrNone : Option PageState → Type 0
+IsReadOrNone None = ⊤
+IsReadOrNone (Some page) = row_of page ≡ page.form.rows
+
 -- the page of the row that is due was opened, or was open, or there is none
 abbrev pub IsEntered : List ℕ → Begun → Option PageState → Result Unit OpenFault → Option PageState
     → Type 0

@@ -1,7 +1,7 @@
 use Rattle.std.proofs.Common.{inr}
-use Rattle.fax_walk.proofs.walk.enter.Goals.{in-None-At+in_ok-opened-in-None-At, in-None-Inside+in_ok-opened-in-None-Inside}
-use Rattle.fax_walk.proofs.walk.enter.Goals.{in-Some-default+in_ok-opened-in-Some-default}
-use Rattle.fax_walk.proofs.walk.enter.Goals as goal
+use Rattle.fax_walk.proofs.walk.open_due.Goals.{in-None-At+in_ok-opened-in-None-At, in-None-Inside+in_ok-opened-in-None-Inside}
+use Rattle.fax_walk.proofs.walk.open_due.Goals.{in-Some-default+in_ok-opened-in-Some-default}
+use Rattle.fax_walk.proofs.walk.open_due.Goals as goal
 
 pub returns : goal.returns
 returns c = elim c.match-page.branch [
@@ -10,6 +10,6 @@ returns c = elim c.match-page.branch [
   | in-None-Inside+in_ok-opened-in-None-Inside w ↦
       rw (w.in-None-Inside.is-0, w.in-None-Inside.is-1, w.opened-is) w.in_ok-opened-in-None-Inside.ensures.opened
   | in-Some-default+in_ok-opened-in-Some-default w ↦
-      rw (w.in-Some-default.is-0, w.opened-is)
-      (inr (w.is_read.ensures.read w.if-is_read.true, w.in_ok-opened-in-Some-default.ensures.opened))
+      let all = rw w.in-Some-default.is-0 at c.requires in
+      rw (w.in-Some-default.is-0, w.opened-is) (inr (all, w.in_ok-opened-in-Some-default.ensures.opened))
 ]
