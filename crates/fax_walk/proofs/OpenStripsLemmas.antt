@@ -1,5 +1,5 @@
 -- Rows that are put on a page, strip by strip.
-use Rattle.std.proofs.Common.{◌≡◌, ℕ, zero, suc, ◌+◌, ◌*◌, ◌<◌, ◌≤◌, inl, inr, min, List, [], ◌∷◌, ◌++◌, length, take, drop, Option, Some}
+use Rattle.std.proofs.Common.{◌≡◌, ◌⊎◌, ℕ, zero, suc, ◌+◌, ◌*◌, ◌<◌, ◌≤◌, inl, inr, min, List, [], ◌∷◌, ◌++◌, length, take, drop, Option, Some}
 use Rattle.std.specs.List.{range_with_len}
 use Rattle.std.proofs.Common.{map, None, Vec, refl, sym, ap, ◌∙◌, subst, arith, length-drop}
 use Rattle.std.specs.declared.alloc.Global.{Global}
@@ -16,7 +16,7 @@ use Rattle.fax_files.specs.views.Page.{IsPageForm}
 use Rattle.fax_files.specs.Page.{strip_form}
 use Rattle.fax_files.specs.views.Writing.{contents}
 use Rattle.fax_walk.specs.declared.open_strips.OpenStrips.{OpenStrips}
-use Rattle.fax_walk.specs.code.OpenStrips.{strips_of, coded_strips, AreInStrip, HasPutRows}
+use Rattle.fax_walk.specs.code.OpenStrips.{strips_of, coded_strips, with_writer, AreInStrip, BeginsStrip, HasPutRows}
 
 -- rows after n strips do not change them
 pub strips_more : (in_strip n : ℕ) (rows more : List (List Colour)) → n * in_strip ≤ length rows
@@ -149,6 +149,21 @@ module _ (writes : WritesRowByRow) (form : PageForm) (k : ℕ) (rows : List (Lis
       ∙ ap (writer_beginning (strip_form form n)) put.k_is in
       subst (λ (l : List (List Colour)). HasPut (strip_form form n) k l writer) (sym nothing)
       (subst (HasPut (strip_form form n) k []) (sym begun) (writes.begins (strip_form form n) k))
+
+  -- the page once a strip is open
+  abbrev pub IsOpened : OpenStrips → Type 0
+  IsOpened opened = (opened ≡ page) ⊎ ((page.writer ≡ None) × BeginsStrip (strip_form page.form n) page opened)
+
+  pub ready_opened : (opened : OpenStrips) (writer : WriterState) → IsOpened opened → opened.writer ≡ Some writer
+      → IsReady writer × (opened ≡ with_writer page page.rows (Some writer))
+  ready_opened opened writer (inl same) is =
+      let here : page.writer ≡ Some writer = ap (λ (p : OpenStrips). p.writer) (sym same) ∙ is in
+      (ready_started writer here, same ∙ ap (with_writer page page.rows) here)
+  ready_opened opened writer (inr (none, begun)) is =
+      let beginning : WriterState = writer_beginning (strip_form page.form n) page.k in
+      let here : Some beginning ≡ Some writer = sym (ap (λ (p : OpenStrips). p.writer) begun) ∙ is in
+      let writer_is : writer ≡ beginning = cc here in
+      (ready_new writer none writer_is, begun ∙ ap (with_writer page page.rows) here)
 
   module _ (row : List Colour) (old new : WriterState) (ready : IsReady old) (puts : PutsRow old row new) where
     abbrev more : List (List Colour)

@@ -1,12 +1,13 @@
 //! The strips of a page that is being written.
 ghost use Rattle.std.specs.Prelude.{◌≡◌, ◌<◌, ◌++◌, [], ◌∷◌, List, length, OnOk};
 ghost use Rattle.fax_bits.specs.declared.Colour.{Colour};
+ghost use Rattle.fax_page.specs.views.Strip.{IsStripForm};
 ghost use Rattle.fax_files.specs.views.Page.{IsPageForm};
 ghost use Rattle.fax_walk.specs.code.OpenStrips as Spec;
 
 use fax_bits::Memory;
 use fax_files::PageForm;
-use fax_page::StripWriter;
+use fax_page::{StripForm, StripWriter};
 use fax_rows::Row;
 use std::alloc::Global;
 
@@ -38,24 +39,50 @@ impl OpenStrips {
         }
     }
 
-    /// Writes the next row, and its strip where that is whole then.
+    /// Begins the strip of this form, which is the next one.
+    #[inline(never)]
+    fn begin_strip(&mut self, form: StripForm) -> Result<(), Memory>
+        requires limits { IsStripForm form }
+        requires some_k { 0 < self.old.k }
+        ensures { OnOk result (Spec.BeginsStrip form self.old self.new) }
+    {
+        self.writer = Some(StripWriter::new(self.alloc, form, self.k)?);
+        Ok(())
+    }
+
+    /// Writes the strip that is open, all rows of which were put.
+    #[inline(never)]
+    fn end_strip(&mut self) -> Result<(), Memory>
+        requires { Spec.HasWholeStrip self.old }
+        ensures { OnOk result (Spec.EndsStrip self.old self.new) }
+    {
+        let Some(writer) = self.writer.take() else {
+            unreachable!();
+        };
+        self.done.push(writer.finish()?).map_err(|_| Memory)?;
+        Ok(())
+    }
+
+    /// Writes the next row, and its strip where that is whole then. The strip's writer stays where
+    /// it is between the strip's rows.
     pub(crate) fn put_row(&mut self, row: &Row) -> Result<(), Memory>
         requires { Spec.TakesRow self.old row.now }
         ensures { OnOk result (Spec.PutsRow self.old row.now self.new) }
     {
         fax_page::laws::strips_are_written_row_by_row();
         let strip = self.done.len() as u32;
-        let mut writer = match self.writer.take() {
-            Some(writer) => writer,
-            None => StripWriter::new(self.alloc, self.form.strip_form(strip), self.k)?,
+        if let None = self.writer {
+            let form = self.form.strip_form(strip);
+            self.begin_strip(form)?;
+        }
+        let Some(writer) = &mut self.writer else {
+            unreachable!();
         };
         writer.put_row(row)?;
         self.rows += 1;
         let end = ((strip + 1) * self.form.rows_per_strip).min(self.form.rows);
         if self.rows == end {
-            self.done.push(writer.finish()?).map_err(|_| Memory)?;
-        } else {
-            self.writer = Some(writer);
+            self.end_strip()?;
         }
         Ok(())
     }

@@ -1,9 +1,11 @@
 -- The strips of a page that is being written.
 use Rattle.std.specs.Prelude.{◌≡◌, ℕ, ◌*◌, ◌<◌, ◌≤◌, min, List, [], ◌∷◌, ◌++◌, length, drop, Option}
-use Rattle.std.specs.Prelude.{Some, None, zero, suc, ◌+◌, take}
+use Rattle.std.specs.Prelude.{Some, None, zero, suc, ◌+◌, take, Vec}
+use Rattle.std.specs.declared.alloc.Global.{Global}
 use Rattle.fax_bits.specs.declared.Colour.{Colour}
 use Rattle.fax_page.specs.Strip.{coded_strip}
-use Rattle.fax_page.specs.views.Writer.{WriterState}
+use Rattle.fax_page.specs.declared.StripForm.{StripForm}
+use Rattle.fax_page.specs.views.Writer.{FinishesAs, WriterState, writer_beginning}
 use Rattle.fax_page.specs.laws.Writer.{HasPut}
 use Rattle.fax_files.specs.declared.PageForm.{PageForm}
 use Rattle.fax_files.specs.views.Page.{IsPageForm}
@@ -51,6 +53,27 @@ pub record HasPutRows (form : PageForm) (k : ℕ) (rows : List (List Colour))
   pub done : contents page.done.items
       ≡ coded_strips form k 0 (strips_of form.rows_per_strip (length page.done.items) rows)
   pub in_strip : AreInStrip form k (length page.done.items) rows page.writer
+
+-- a page with so many rows and this writer of a strip
+abbrev pub with_writer : OpenStrips → ℕ → Option WriterState → OpenStrips
+with_writer page rows writer = record page { rows = rows; writer = writer }
+
+-- a strip of this form is begun, and nothing else is changed
+abbrev pub BeginsStrip : StripForm → OpenStrips → OpenStrips → Type 0
+BeginsStrip form old new = new ≡ with_writer old old.rows (Some (writer_beginning form old.k))
+
+-- a strip is open, and all its rows were put
+pub record HasWholeStrip (page : OpenStrips) : Type 0 where
+  pub writer : WriterState
+  pub is_open : page.writer ≡ Some writer
+  pub all : writer.row ≡ writer.form.rows
+
+-- the open strip is ended, and its bytes are those of the last whole one
+pub record EndsStrip (old new : OpenStrips) : Type 0 where
+  pub bytes : Vec ℕ Global
+  pub done : new.done.items ≡ old.done.items ++ bytes ∷ []
+  pub same : new ≡ record old { done = new.done; writer = None }
+  pub finishes : (writer : WriterState) → old.writer ≡ Some writer → FinishesAs writer bytes.items
 
 -- a row can be put on a page: it is due, and it has the page's width
 pub record TakesRow (page : OpenStrips) (row : List Colour) : Type 0 where

@@ -1,49 +1,56 @@
-use Rattle.std.proofs.Common.{◌≡◌, ℕ, ◌+◌, ◌*◌, min, Some, None, [], ◌∷◌, ◌++◌, length, sym, ap, ◌∙◌, rules, arith}
-use Rattle.fax_page.specs.views.Writer.{writer_beginning}
+use Rattle.std.proofs.Common.{◌≡◌, ℕ, ◌+◌, ◌*◌, inl, inr, min, [], ◌∷◌, ◌++◌, length, refl, sym, ap, subst, ◌∙◌, arith}
+use Rattle.fax_page.specs.declared.StripForm.{StripForm}
 use Rattle.fax_files.specs.declared.PageForm.{PageForm}
 use Rattle.fax_files.specs.Page.{strip_form}
-use Rattle.fax_walk.proofs.OpenStripsLemmas.{IsReady, ready_started, ready_new, kept, whole}
+use Rattle.fax_walk.specs.declared.open_strips.OpenStrips.{OpenStrips}
+use Rattle.fax_walk.specs.code.OpenStrips.{BeginsStrip}
+use Rattle.fax_walk.proofs.OpenStripsLemmas.{IsOpened, ready_opened, kept, whole}
 use Rattle.fax_walk.proofs.open_strips.OpenStrips.put_row.Goals as goal
-use Rattle.fax_walk.proofs.open_strips.OpenStrips.put_row.Goals.{in-Some, in-None+in_ok-writer-in-None}
+use Rattle.fax_walk.proofs.open_strips.OpenStrips.put_row.Goals.{in-None+in_ok-begin_strip, in_default}
 
-pub returns-in_ok-map_err : goal.returns-in_ok-map_err
-returns-in_ok-map_err c = λ form k rows put due.
+pub returns-in_ok-end_strip : goal.returns-in_ok-end_strip
+returns-in_ok-end_strip c = λ form k rows put due.
     let writes = c.strips_are_written_row_by_row.ensures in
-    let n_is : c.len-strip.result ≡ length c.args.self.now.done.items = omega (arith, c.len-strip.ensures) in
-    let ready : IsReady writes form k rows c.args.self.now put due c.match-take.writer = elim c.match-take.branch [
-      | in-Some w ↦
-          let there : c.args.self.now.writer ≡ Some w.in-Some.writer = cc (c.take.ensures.value, w.in-Some.is) in
-          rw w.writer-is (ready_started writes form k rows c.args.self.now put due w.in-Some.writer there)
-      | in-None+in_ok-writer-in-None w ↦
-          let none : c.args.self.now.writer ≡ None = cc (c.take.ensures.value, w.in-None.is) in
-          let begun = w.in_ok-writer-in-None.ensures
-          ∙ ap (λ f. writer_beginning f c.args.self.now.k) (w.strip_form.ensures.exact ∙ ap (strip_form c.args.self.now.form) n_is) in
-          rw w.writer-is (ready_new writes form k rows c.args.self.now put due w.in_ok-writer-in-None.writer none begun)
+    let old = c.args.self.now in
+    let opened = c.match-self.self in
+    let n_is : c.len-strip.result ≡ length old.done.items = omega (arith, c.len-strip.ensures) in
+    let is_opened : IsOpened writes form k rows old put due opened = elim c.match-self.branch [
+      | in-None+in_ok-begin_strip w ↦
+          let form_is = w.strip_form-form.ensures.exact ∙ ap (strip_form old.form) n_is in
+          inr (w.in-None.is, rw w.self-is (subst (λ (f : StripForm). BeginsStrip f old w.begin_strip.new.self) form_is w.in_ok-begin_strip.ensures))
+      | in_default w ↦ inl w.self-is
     ] in
-    let all = sym (ap (λ n. n + 1) put.count) ∙ c.if-self-end.true ∙ c.min-end.ensures
-    ∙ ap (λ (n : ℕ). min ((n + 1) * c.args.self.now.form.rows_per_strip) c.args.self.now.form.rows) n_is
-    ∙ ap (λ (f : PageForm). min ((length c.args.self.now.done.items + 1) * f.rows_per_strip) f.rows) put.form_is in
-    let pushed : c.push.new.self.items ≡ c.args.self.now.done.items ++ c.in_ok-finish.field-0 ∷ [] = search rules in
-    rw c.take.ensures.after
-    (whole writes form k rows c.args.self.now put due c.args.row.now c.match-take.writer c.put_row.new.self ready c.in_ok-put_row.ensures
-    c.push.new.self c.in_ok-finish.field-0 pushed all c.in_ok-finish.ensures)
+    let ready = ready_opened writes form k rows old put due opened c.in-Some.writer is_opened c.in-Some.is in
+    let rows_are : opened.rows ≡ length rows = ap (λ (p : OpenStrips). p.rows) ready.1 ∙ put.count in
+    let form_is : opened.form ≡ form = ap (λ (p : OpenStrips). p.form) ready.1 ∙ put.form_is in
+    let end_is = c.min-end.ensures
+    ∙ ap (λ (n : ℕ). min ((n + 1) * opened.form.rows_per_strip) opened.form.rows) n_is
+    ∙ ap (λ (f : PageForm). min ((length old.done.items + 1) * f.rows_per_strip) f.rows) form_is in
+    let all = sym (ap (λ n. n + 1) rows_are) ∙ c.if-self-end.true ∙ end_is in
+    let ends = c.in_ok-end_strip.ensures in
+    rw (ends.same, ready.1)
+    (whole writes form k rows old put due c.args.row.now c.in-Some.writer c.put_row.new.self ready.0 c.in_ok-put_row.ensures
+    c.end_strip.new.self.done ends.bytes (ends.done ∙ ap (λ (p : OpenStrips). p.done.items ++ ends.bytes ∷ []) ready.1) all
+    (ends.finishes c.put_row.new.self refl))
 
 pub returns-else-self-end : goal.returns-else-self-end
 returns-else-self-end c = λ form k rows put due.
     let writes = c.strips_are_written_row_by_row.ensures in
-    let n_is : c.len-strip.result ≡ length c.args.self.now.done.items = omega (arith, c.len-strip.ensures) in
-    let ready : IsReady writes form k rows c.args.self.now put due c.match-take.writer = elim c.match-take.branch [
-      | in-Some w ↦
-          let there : c.args.self.now.writer ≡ Some w.in-Some.writer = cc (c.take.ensures.value, w.in-Some.is) in
-          rw w.writer-is (ready_started writes form k rows c.args.self.now put due w.in-Some.writer there)
-      | in-None+in_ok-writer-in-None w ↦
-          let none : c.args.self.now.writer ≡ None = cc (c.take.ensures.value, w.in-None.is) in
-          let begun = w.in_ok-writer-in-None.ensures
-          ∙ ap (λ f. writer_beginning f c.args.self.now.k) (w.strip_form.ensures.exact ∙ ap (strip_form c.args.self.now.form) n_is) in
-          rw w.writer-is (ready_new writes form k rows c.args.self.now put due w.in_ok-writer-in-None.writer none begun)
+    let old = c.args.self.now in
+    let opened = c.match-self.self in
+    let n_is : c.len-strip.result ≡ length old.done.items = omega (arith, c.len-strip.ensures) in
+    let is_opened : IsOpened writes form k rows old put due opened = elim c.match-self.branch [
+      | in-None+in_ok-begin_strip w ↦
+          let form_is = w.strip_form-form.ensures.exact ∙ ap (strip_form old.form) n_is in
+          inr (w.in-None.is, rw w.self-is (subst (λ (f : StripForm). BeginsStrip f old w.begin_strip.new.self) form_is w.in_ok-begin_strip.ensures))
+      | in_default w ↦ inl w.self-is
     ] in
+    let ready = ready_opened writes form k rows old put due opened c.in-Some.writer is_opened c.in-Some.is in
+    let rows_are : opened.rows ≡ length rows = ap (λ (p : OpenStrips). p.rows) ready.1 ∙ put.count in
+    let form_is : opened.form ≡ form = ap (λ (p : OpenStrips). p.form) ready.1 ∙ put.form_is in
     let end_is = c.min-end.ensures
-    ∙ ap (λ (n : ℕ). min ((n + 1) * c.args.self.now.form.rows_per_strip) c.args.self.now.form.rows) n_is
-    ∙ ap (λ (f : PageForm). min ((length c.args.self.now.done.items + 1) * f.rows_per_strip) f.rows) put.form_is in
-    kept writes form k rows c.args.self.now put due c.args.row.now c.match-take.writer c.put_row.new.self ready c.in_ok-put_row.ensures
-    (λ all. c.if-self-end.false (ap (λ n. n + 1) put.count ∙ all ∙ sym end_is))
+    ∙ ap (λ (n : ℕ). min ((n + 1) * opened.form.rows_per_strip) opened.form.rows) n_is
+    ∙ ap (λ (f : PageForm). min ((length old.done.items + 1) * f.rows_per_strip) f.rows) form_is in
+    rw ready.1
+    (kept writes form k rows old put due c.args.row.now c.in-Some.writer c.put_row.new.self ready.0 c.in_ok-put_row.ensures
+    (λ all. c.if-self-end.false (ap (λ n. n + 1) rows_are ∙ all ∙ sym end_is)))
