@@ -1,14 +1,14 @@
 -- Bits that are loaded, and codes that are read from them.
 use Rattle.std.proofs.Common.{Bool, true, false, replicate, ◌≡◌, ℕ, ◌+◌, ◌*◌, ◌<◌, ◌≤◌, List, [], ◌∷◌, ◌++◌, length, take, drop, refl, ap}
-use Rattle.std.proofs.Common.{sym, ◌∙◌, subst, arith, length-append, length-drop}
+use Rattle.std.proofs.Common.{sym, ◌∙◌, subst, arith, append_assoc, length-append, length-drop}
 use Rattle.std.specs.Prelude.{pos}
-use Rattle.std.proofs.lemmas.List.{drop-drop}
+use Rattle.std.proofs.lemmas.List.{drop-drop, take-append-drop}
 use Rattle.fax_bits.specs.declared.Colour.{Colour}
 use Rattle.fax_bits.specs.declared.FillOrder.{FillOrder}
 use Rattle.fax_bits.specs.declared.window.Window.{Window}
 use Rattle.fax_bits.specs.declared.runs.RunCode.TheVariants.{Terminating, MakeUp}
 use Rattle.fax_bits.specs.declared.modes.ModeCode.TheVariants.{Vertical}
-use Rattle.fax_bits.specs.Bits.{bits, code_bits}
+use Rattle.fax_bits.specs.Bits.{bits, code_bits, BeginsWith}
 use Rattle.fax_bits.specs.views.Source.{HasZerosAhead, Source, source_of, KeepsEnd}
 use Rattle.fax_bits.specs.Bits.{bits_number}
 use Rattle.fax_bits.specs.declared.codes.CodeEntry.{CodeEntry}
@@ -20,7 +20,8 @@ use Rattle.fax_bits.specs.code.BitsAhead.{bits_ahead}
 use Rattle.fax_bits.specs.code.Ahead.{IsAhead, place_before}
 use Rattle.fax_bits.proofs.SourceLemmas.{length-left}
 use Rattle.fax_bits.proofs.MeetingLemmas.{length-code_bits}
-use Rattle.fax_bits.proofs.TableLemmas.{listed}
+use Rattle.fax_bits.proofs.TableLemmas.{listed, left_behind}
+use Rattle.fax_bits.proofs.FindLemmas.{ahead_is_short}
 use Rattle.fax_bits.proofs.PeekLemmas.{padded}
 use Rattle.fax_bits.proofs.ReadLemmas.{peeked_bits, peeked-below, takes_found, found_is_short}
 use Rattle.fax_bits.proofs.TakeLemmas.{spelled}
@@ -137,6 +138,32 @@ module _ (order : FillOrder) (bytes : List ℕ) (old window : Window) (source : 
             length-drop
                 len source.left,
           )
+
+    -- bits that begin them
+    module _ (len code : ℕ) (ahead : BeginsWith (code_bits 13 number) (code_bits len code))
+        (behind : Window) (count : behind.count + len ≡ window.count) (at : behind.at ≡ window.at) where
+      pub begun_short : len ≤ 13
+      begun_short = ahead_is_short 13 number len code ahead
+
+      begun_left : drop (place_before behind) (bits order bytes) ≡ drop len source.left
+      begun_left = left_behind_code len behind (omega (arith, begun_short)) count at
+
+      pub begun_taken : source.left ≡ code_bits len code ++ drop (place_before behind) (bits order bytes)
+      begun_taken =
+          left_behind source.left (code_bits len code) (ahead.0 ++ drop 13 source.left) len
+          (sym (take-append-drop 13 source.left)
+          ∙ ap (λ b. b ++ drop 13 source.left)
+          (sym (peeked_bits source.left 13 (omega (arith, many, loaded-left)) number spelled_is) ∙ ahead.1)
+          ∙ append_assoc (code_bits len code) ahead.0 (drop 13 source.left))
+          (length-code_bits len code)
+          ∙ ap (λ rest. code_bits len code ++ rest) (sym begun_left)
+
+      pub begun_end_kept : KeepsEnd source (source_of order bytes (place_before behind))
+      begun_end_kept = end_kept len behind (omega (arith, begun_short)) count at
+
+      pub begun_shorter : 0 < len → length (drop (place_before behind) (bits order bytes)) < length source.left
+      begun_shorter some =
+          omega (arith, begun_short, some, many, loaded-left, ap length begun_left, length-drop len source.left)
 
 -- a run of a terminating code alone
 pub short_run : (colour : Colour) (b : List Bool) (n : ℕ) (rest : List Bool) → Takes (run_table colour) b (Terminating n) rest

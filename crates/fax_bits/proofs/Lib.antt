@@ -24,3 +24,4 @@ pub mod WindowLemmas
 pub mod PackedLemmas
 pub mod LaneLemmas
 pub mod WrittenRunLemmas
+pub mod PairLemmas

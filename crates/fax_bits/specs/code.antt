@@ -5,6 +5,7 @@ pub mod Meeting
 pub mod TableTests
 pub mod TableLaws
 pub mod Window
+pub mod Pairs
 pub mod BitsAhead
 pub mod Ahead
 pub mod Codes

@@ -1,17 +1,19 @@
 //! The bits ahead of a source, by value: what a row that has no fault is read from quickly. Every
 //! function gives up, with `None`, where fewer bits are loaded than it may need, or at any doubt:
 //! then the row is read again from its source.
-ghost use Rattle.std.specs.Prelude.{◌≡◌, ◌+◌, ◌*◌, ◌<◌, ◌≤◌, ◌++◌, length, IfSome};
+ghost use Rattle.std.specs.Prelude.{◌≡◌, ◌+◌, ◌*◌, ◌<◌, ◌≤◌, ◌++◌, length, IfSome, IfOk, IfErr};
 ghost use Rattle.fax_bits.specs.Bits.{code_bits};
 ghost use Rattle.fax_bits.specs.Codes.{Takes, IsRun};
 ghost use Rattle.fax_bits.specs.Written.{run_bits};
 ghost use Rattle.fax_bits.specs.Tables.{modes, run_table};
 ghost use Rattle.fax_bits.specs.code.BitsAhead.{bits_ahead};
 ghost use Rattle.fax_bits.specs.views.Source.{KeepsEnd, source_of};
+ghost use Rattle.fax_bits.specs.views.Pairs.{IsPairRead};
 ghost use Rattle.fax_bits.specs.code.Source.{IsPlaced};
 
 use crate::codes::LONGEST_CODE;
 use crate::modes::{ModeCode, find_mode};
+use crate::pairs::{Pair, find_pair};
 use crate::runs::{RunCode, find_run_code, find_short_run};
 use crate::window::Window;
 use crate::{BitSource, Colour, FillOrder};
@@ -173,6 +175,35 @@ impl<'a> Ahead<'a> {
                 };
                 Some((behind, pels))
             }
+        }
+    }
+
+    /// Reads a white run and the black one after it, at most so many pels together, by one look-up
+    /// (T.4, section 4.1.1).
+    ///
+    /// # Errors
+    ///
+    /// The same place, where they are more, or where that look-up has no such pair.
+    #[inline(always)]
+    pub fn pair(self, most: u32) -> Result<(Ahead<'a>, Pair), Ahead<'a>>
+        ensures runs { IfOk result (λ read. IsPairRead self.entry.left read.1 read.0.left) }
+        ensures few { IfOk result (λ read. read.1.white + read.1.black ≤ most) }
+        ensures same_end { IfOk result (λ read. KeepsEnd self.entry read.0) }
+        ensures shorter { IfOk result (λ read. length read.0.left < length self.entry.left) }
+        ensures again { IfErr result (λ again. again ≡ self.entry) }
+    {
+        let Some(window) = loaded(self.bytes, self.order, self.window) else {
+            return Err(self);
+        };
+        match find_pair(window.number(LONGEST_CODE)) {
+            Some((len, pair)) if pair.white + pair.black <= most => {
+                let behind = Ahead {
+                    window: window.behind(len),
+                    ..self
+                };
+                Ok((behind, pair))
+            }
+            _ => Err(Ahead { window, ..self }),
         }
     }
 

@@ -1,6 +1,6 @@
 use fax_bits::{
-    BitSink, BitSource, BlackRuns, CodeFault, CodeTable, Colour, FillOrder, Memory, ModeCode,
-    Modes, RunCode, WhiteRuns, put_mode, put_run, read_code, reverse_bits,
+    Ahead, BitSink, BitSource, BlackRuns, CodeFault, CodeTable, Colour, FillOrder, Memory,
+    ModeCode, Modes, Pair, RunCode, WhiteRuns, put_mode, put_run, read_code, reverse_bits,
 };
 use std::alloc::{AllocError, Global};
 use std::process::Abort;
@@ -124,6 +124,53 @@ fn finds_the_code_that_begins_bits(rt: HostRuntime) {
     assert_eq!(rt; Modes::find(0b0000001, 7), Some((7, ModeCode::Extension)));
     assert_eq!(rt; Modes::find(0, 6), None);
     assert_eq!(rt; Modes::find(0, 0), None);
+}
+
+/// The pair that stands next, of at most so many pels, and the place after it.
+fn pair_of(ahead: Ahead, most: u32) -> (Option<Pair>, u64) {
+    match ahead.pair(most) {
+        Ok((after, pair)) => (Some(pair), after.source().place()),
+        Err(again) => (None, again.source().place()),
+    }
+}
+
+#[test]
+fn reads_a_white_run_and_the_black_one_after_it(rt: HostRuntime) -> Result<(), Fail> {
+    let pair = |white, black| Some(Pair { white, black });
+    let rows = [
+        ("0111 10", 5, pair(2, 3), 6),
+        // More pels than may be read.
+        ("0111 10", 4, None, 0),
+        // Twelve bits, and thirteen.
+        ("00110100 0011", 1728, pair(63, 5), 12),
+        ("00110100 00011", 1728, None, 0),
+        // A run of no pels, and a make-up code.
+        ("00110101 11", 1728, None, 0),
+        ("11011 000111 11", 1728, None, 0),
+    ];
+    for (bits, most, wanted, place) in rows {
+        let bytes = packed(rt.alloc(), &[bits, "000000000000000000000000000000"])?;
+        assert!(rt; bytes.len() < 1000);
+        let ahead = BitSource::new(&bytes, FillOrder::MsbFirst)
+            .ahead()
+            .expect(&rt, "four bytes");
+        assert_eq!(rt; pair_of(ahead, most), (wanted, place), "{bits}");
+    }
+    Ok(())
+}
+
+#[test]
+fn reads_no_pair_at_the_end_of_the_bytes(rt: HostRuntime) {
+    let mut source = BitSource::new(&[0x7A, 0x7A, 0x7A, 0x7A], FillOrder::MsbFirst);
+    let ahead = source.ahead().expect(&rt, "four bytes");
+    let after = match ahead.pair(8) {
+        Ok((after, _)) => after,
+        Err(again) => again,
+    };
+    assert_eq!(rt; pair_of(after, 8), (None, 6));
+    source.skip(1);
+    let ahead = source.ahead().expect(&rt, "four bytes");
+    assert_eq!(rt; pair_of(ahead, 8), (None, 1));
 }
 
 /// The first `len` bits of some bytes, the highest of each first, as text.

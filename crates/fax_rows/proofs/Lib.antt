@@ -33,3 +33,4 @@ pub mod ChosenLemmas
 pub mod ChosenRowLemmas
 pub mod ChosenStepLemmas
 pub mod ChosenRunLemmas
+pub mod PairReadLemmas

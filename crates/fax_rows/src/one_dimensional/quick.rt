@@ -10,7 +10,7 @@ ghost use Rattle.fax_rows.specs.Coded.{one_dimensional_bits};
 ghost use Rattle.fax_rows.specs.Rows.{IsOneDimensionalRow};
 ghost use Rattle.fax_rows.specs.code.Turns.{row_of, IsAscending, IsTurnedFrom};
 
-use crate::turns::turn_behind;
+use crate::turns::{turn_behind, turn_right};
 use fax_bits::{Ahead, BitSource, Colour};
 
 /// Whether a run may be one of the longest: it has pels, or it is the first of its row (T.4,
@@ -101,31 +101,28 @@ fn read_ahead<'a, const CHOICE: bool>(
     let mut total = 0;
     let mut chosen = CHOICE;
     while total < width {
-        let (behind, next, place, fits) = next_run(
-            ahead,
-            places,
-            width,
-            end,
-            total,
-            Colour::White,
-        )?;
-        ahead = behind;
-        end = next;
-        total = place;
-        chosen = both(chosen, fits);
-        if total < width {
-            let (behind, next, place, fits) = next_run(
-                ahead,
-                places,
-                width,
-                end,
-                total,
-                Colour::Black,
-            )?;
-            ahead = behind;
-            end = next;
-            total = place;
-            chosen = both(chosen, fits);
+        match ahead.pair(width - total) {
+            Ok((behind, pair)) => {
+                let middle = total + pair.white;
+                let next = turn_right(places, end, middle);
+                total = middle + pair.black;
+                end = turn_right(places, next, total);
+                ahead = behind;
+            }
+            Err(again) => {
+                let white = next_run(again, places, width, end, total, Colour::White)?;
+                ahead = white.0;
+                end = white.1;
+                total = white.2;
+                chosen = both(chosen, white.3);
+                if total < width {
+                    let black = next_run(ahead, places, width, end, total, Colour::Black)?;
+                    ahead = black.0;
+                    end = black.1;
+                    total = black.2;
+                    chosen = both(chosen, black.3);
+                }
+            }
         }
     }
     Some((ahead, end, chosen))

@@ -1,9 +1,11 @@
-use Rattle.std.proofs.Common.{◌≡◌, take, [], ◌∷◌, ap, subst, arith, ◌∙◌, refl}
+use Rattle.std.proofs.Common.{◌≡◌, ◌+◌, take, length, [], ◌∷◌, ap, arith, ◌∙◌, refl}
 use Rattle.fax_bits.specs.declared.Colour.TheVariants.{White, Black}
+use Rattle.fax_bits.specs.views.Source.{Source}
 use Rattle.fax_rows.specs.code.Turns.{turned}
-use Rattle.fax_rows.proofs.ChosenRunLemmas.{AreWrittenRuns, runs_begin, runs_go_on, runs_end}
+use Rattle.fax_rows.proofs.ChosenRunLemmas.{runs_begin, runs_go_on, runs_end}
+use Rattle.fax_rows.proofs.PairReadLemmas.{pair_read_on, pair_goes_on, white_read, white_written}
 use Rattle.fax_rows.proofs.PlacedRowLemmas.{turned-first, take-first}
-use Rattle.fax_rows.proofs.PlacedReadLemmas.{HasRead, read_on}
+use Rattle.fax_rows.proofs.PlacedReadLemmas.{places_within, read_on}
 use Rattle.fax_rows.proofs.RowLemmas.{row_begins, row_done}
 use Rattle.fax_rows.proofs.TurnLemmas.{length-pels_by}
 use Rattle.fax_rows.proofs.one_dimensional.quick.read_ahead.Goals as goal
@@ -25,51 +27,99 @@ loop-total-init g c =
       same_end = refl;
     }
 
+pub turn_right-next-requires-clause-room : goal.turn_right-next-requires-clause-room
+turn_right-next-requires-clause-room g c =
+    let read = c.loop-total.invariant.read in
+    omega (arith, places_within c.loop-total.places c.loop-total.end c.loop-total.total read.ascending read.last, c.loop-total-test.true)
+
+pub turn_right-end-requires-clause-room : goal.turn_right-end-requires-clause-room
+turn_right-end-requires-clause-room g c =
+    let next = c.turn_right-next in
+    omega (
+      arith,
+      places_within next.new.places next.result (c.loop-total.total + c.in-Ok.pair.white) next.ensures.ascending next.ensures.last,
+      next.ensures.same_len,
+      c.in-Ok.ensures.few,
+      c.in-Ok.ensures.runs.black_some,
+      c.loop-total-test.true,
+    )
+
+pub loop-total-preserved-in-Ok : goal.loop-total-preserved-in-Ok
+loop-total-preserved-in-Ok g c =
+    let loop = c.loop-total in
+    let white = loop.invariant.white c.loop-total-test.true in
+    record {
+      colour = White;
+      read = pair_read_on c.args.width c.args.ahead.left loop.total loop.invariant.colour loop.places c.turn_right-next.new.places
+          c.turn_right-end.new.places loop.end c.turn_right-next.result c.turn_right-end.result loop.ahead.left c.in-Ok.behind.left
+          c.in-Ok.pair loop.invariant.read white c.loop-total-test.true c.in-Ok.ensures.runs c.in-Ok.ensures.few
+          c.turn_right-next.ensures.turned c.turn_right-next.ensures.ascending c.turn_right-next.ensures.last
+          c.turn_right-end.ensures.turned c.turn_right-end.ensures.ascending c.turn_right-end.ensures.last;
+      chosen = λ h.
+          pair_goes_on c.args.ahead.left loop.total loop.invariant.colour loop.ahead.left c.in-Ok.behind.left c.in-Ok.pair
+          (loop.invariant.chosen h) white c.in-Ok.ensures.runs;
+      white = λ h. refl;
+      same_end = omega (arith, c.in-Ok.ensures.same_end, loop.invariant.same_end);
+    }
+
 pub loop-total-preserved : goal.loop-total-preserved
-loop-total-preserved g c = record {
-  colour = Black;
-  read = read_on c.args.width c.args.ahead.left c.loop-total.total c.in_ok-behind.place White c.loop-total.places c.next_run.new.places
-      c.loop-total.end c.in_ok-behind.next c.loop-total.ahead.left c.in_ok-behind.behind.left
-      (subst (λ colour. HasRead c.args.width c.args.ahead.left c.loop-total.total colour c.loop-total.places c.loop-total.end
-      c.loop-total.ahead.left)
-      (c.loop-total.invariant.white c.loop-total-test.true) c.loop-total.invariant.read)
-      c.loop-total-test.true c.in_ok-behind.ensures.run c.in_ok-behind.ensures.right c.in_ok-behind.ensures.within
-      c.in_ok-behind.ensures.turned c.in_ok-behind.ensures.ascending c.in_ok-behind.ensures.last;
-  chosen = λ h.
-      runs_go_on c.args.ahead.left c.loop-total.total c.in_ok-behind.place White c.loop-total.ahead.left c.in_ok-behind.behind.left
-      (subst (λ colour. AreWrittenRuns c.args.ahead.left c.loop-total.total colour c.loop-total.ahead.left)
-      (c.loop-total.invariant.white c.loop-total-test.true) (c.loop-total.invariant.chosen (c.both-chosen.ensures h).0))
-      c.in_ok-behind.ensures.right c.in_ok-behind.ensures.written (c.in_ok-behind.ensures.longest (c.both-chosen.ensures h).1);
-  white = λ h. absurd (omega arith);
-  same_end = omega (arith, c.in_ok-behind.ensures.same_end, c.loop-total.invariant.same_end);
-}
+loop-total-preserved g c =
+    let loop = c.loop-total in
+    let white = loop.invariant.white c.loop-total-test.true in
+    let again = c.in-Err.ensures.again in
+    let first = c.in_ok-white-in-Err in
+    record {
+      colour = Black;
+      read = white_read c.args.width c.args.ahead.left loop.ahead c.in-Err.again loop.total first.white.2 loop.invariant.colour
+          loop.places c.next_run.new.places loop.end first.white.1 first.white.0.left loop.invariant.read white again
+          c.loop-total-test.true first.ensures.run first.ensures.right first.ensures.within
+          first.ensures.turned first.ensures.ascending first.ensures.last;
+      chosen = λ h.
+          white_written c.args.ahead.left loop.ahead c.in-Err.again loop.total first.white.2 loop.invariant.colour first.white.0.left
+          (loop.invariant.chosen (c.both-chosen.ensures h).0) white again first.ensures.right first.ensures.written
+          (first.ensures.longest (c.both-chosen.ensures h).1);
+      white = λ h. absurd (omega arith);
+      same_end = omega (
+        arith,
+        first.ensures.same_end,
+        ap (λ (s : Source). s.place + length s.left) again,
+        loop.invariant.same_end,
+      );
+    }
 
 pub loop-total-preserved-then-total-width : goal.loop-total-preserved-then-total-width
-loop-total-preserved-then-total-width g c = record {
-  colour = White;
-  read = read_on c.args.width c.args.ahead.left c.in_ok-behind.place c.in_ok-behind-2.place Black c.next_run.new.places
-      c.next_run-then-total-width.new.places
-      c.in_ok-behind.next c.in_ok-behind-2.next c.in_ok-behind.behind.left c.in_ok-behind-2.behind.left
-      (read_on c.args.width c.args.ahead.left c.loop-total.total c.in_ok-behind.place White c.loop-total.places c.next_run.new.places
-      c.loop-total.end c.in_ok-behind.next c.loop-total.ahead.left c.in_ok-behind.behind.left
-      (subst (λ colour. HasRead c.args.width c.args.ahead.left c.loop-total.total colour c.loop-total.places c.loop-total.end
-      c.loop-total.ahead.left)
-      (c.loop-total.invariant.white c.loop-total-test.true) c.loop-total.invariant.read)
-      c.loop-total-test.true c.in_ok-behind.ensures.run c.in_ok-behind.ensures.right c.in_ok-behind.ensures.within
-      c.in_ok-behind.ensures.turned c.in_ok-behind.ensures.ascending c.in_ok-behind.ensures.last) c.if-total-width.true
-      c.in_ok-behind-2.ensures.run c.in_ok-behind-2.ensures.right c.in_ok-behind-2.ensures.within
-      c.in_ok-behind-2.ensures.turned c.in_ok-behind-2.ensures.ascending c.in_ok-behind-2.ensures.last;
-  chosen = λ h.
-      let second = c.both-chosen-then-total-width.ensures h in
-      runs_go_on c.args.ahead.left c.in_ok-behind.place c.in_ok-behind-2.place Black c.in_ok-behind.behind.left c.in_ok-behind-2.behind.left
-      (runs_go_on c.args.ahead.left c.loop-total.total c.in_ok-behind.place White c.loop-total.ahead.left c.in_ok-behind.behind.left
-      (subst (λ colour. AreWrittenRuns c.args.ahead.left c.loop-total.total colour c.loop-total.ahead.left)
-      (c.loop-total.invariant.white c.loop-total-test.true) (c.loop-total.invariant.chosen (c.both-chosen.ensures second.0).0))
-      c.in_ok-behind.ensures.right c.in_ok-behind.ensures.written (c.in_ok-behind.ensures.longest (c.both-chosen.ensures second.0).1))
-      c.in_ok-behind-2.ensures.right c.in_ok-behind-2.ensures.written (c.in_ok-behind-2.ensures.longest second.1);
-  white = λ h. refl;
-  same_end = omega (arith, c.in_ok-behind.ensures.same_end, c.in_ok-behind-2.ensures.same_end, c.loop-total.invariant.same_end);
-}
+loop-total-preserved-then-total-width g c =
+    let loop = c.loop-total in
+    let white = loop.invariant.white c.loop-total-test.true in
+    let again = c.in-Err.ensures.again in
+    let first = c.in_ok-white-in-Err in
+    let second = c.in_ok-black-in-Err in
+    record {
+      colour = White;
+      read = read_on c.args.width c.args.ahead.left first.white.2 second.black.2 Black c.next_run.new.places
+          c.next_run-then-total-width.new.places first.white.1 second.black.1 first.white.0.left second.black.0.left
+          (white_read c.args.width c.args.ahead.left loop.ahead c.in-Err.again loop.total first.white.2 loop.invariant.colour
+          loop.places c.next_run.new.places loop.end first.white.1 first.white.0.left loop.invariant.read white again
+          c.loop-total-test.true first.ensures.run first.ensures.right first.ensures.within
+          first.ensures.turned first.ensures.ascending first.ensures.last)
+          c.if-total-width.true second.ensures.run second.ensures.right second.ensures.within
+          second.ensures.turned second.ensures.ascending second.ensures.last;
+      chosen = λ h.
+          let both = c.both-chosen-then-total-width.ensures h in
+          let of_first = c.both-chosen.ensures both.0 in
+          runs_go_on c.args.ahead.left first.white.2 second.black.2 Black first.white.0.left second.black.0.left
+          (white_written c.args.ahead.left loop.ahead c.in-Err.again loop.total first.white.2 loop.invariant.colour first.white.0.left
+          (loop.invariant.chosen of_first.0) white again first.ensures.right first.ensures.written (first.ensures.longest of_first.1))
+          second.ensures.right second.ensures.written (second.ensures.longest both.1);
+      white = λ h. refl;
+      same_end = omega (
+        arith,
+        first.ensures.same_end,
+        second.ensures.same_end,
+        ap (λ (s : Source). s.place + length s.left) again,
+        loop.invariant.same_end,
+      );
+    }
 
 pub returns-clause-row : goal.returns-clause-row
 returns-clause-row g c =

@@ -1,0 +1,202 @@
+-- The arrays of the pairs hold two codes each: a white terminating code and a black one after it.
+use Rattle.std.proofs.Common.{◌≡◌, ℕ, zero, suc, ◌+◌, ◌-◌, ◌*◌, ◌/◌, ◌^◌, ◌<◌, ◌≤◌, List, [], ◌∷◌, ◌++◌, length, get_or, Bool, true, false}
+use Rattle.std.proofs.Common.{if◌then◌else◌, refl, ap, sym, ◌∙◌, subst, arith, append_assoc, zero-add}
+use Rattle.std.specs.Prelude.{◌&&◌, nat_lt, nat_le, nat_eq, Some, slice_get}
+use Rattle.std.proofs.lemmas.Bool.{and_parts}
+use Rattle.std.proofs.lemmas.Bool.Decides.{nat_tests}
+use Rattle.std.proofs.Math.Nat.{div-div-eq-div-mul, pow-succ'}
+use Rattle.fax_bits.specs.declared.Colour.TheVariants.{White, Black}
+use Rattle.fax_bits.specs.declared.codes.CodeEntry.{CodeEntry}
+use Rattle.fax_bits.specs.declared.indexes.TheConstants.{PAIR_WHITES, PAIR_BLACKS, PAIR_LENS}
+use Rattle.fax_bits.specs.declared.pairs.Pair.{Pair}
+use Rattle.fax_bits.specs.declared.runs.RunCode.{RunCode}
+use Rattle.fax_bits.specs.declared.runs.TheConstants.{WHITE_CODES, WHITE_LENS, BLACK_CODES, BLACK_LENS}
+use Rattle.fax_bits.specs.Bits.{code_bits}
+use Rattle.fax_bits.specs.Codes.{IsRun}
+use Rattle.fax_bits.specs.Tables.{white_runs, black_runs}
+use Rattle.fax_bits.specs.Written.{run_bits, run_code_bits}
+use Rattle.fax_bits.specs.code.Codes.{run_meaning}
+use Rattle.fax_bits.specs.code.Pairs.{IsPairAhead}
+use Rattle.fax_bits.specs.code.TableLaws.{run_table_has_short_codes}
+use Rattle.fax_bits.specs.views.Pairs.{IsPairRead}
+use Rattle.fax_bits.proofs.ArrayLemmas.{white_runs_are, black_runs_are, slice_get-run_entries}
+use Rattle.fax_bits.proofs.CodeBitsLemmas.{code_bits-add}
+use Rattle.fax_bits.proofs.FindLemmas.{code_ahead}
+use Rattle.fax_bits.proofs.PutLemmas.{short_bits}
+use Rattle.fax_bits.proofs.ReadBackLemmas.{run_bits_are_read}
+use Rattle.fax_bits.proofs.RunCodeLemmas.{bits_at-found, bits_at-run_table, run_meaning-terminating}
+use Rattle.fax_bits.proofs.TableLemmas.{listed}
+
+-- the first bits of the twelve that a number spells are the codes of the two runs
+abbrev spells_pair : ℕ → ℕ → ℕ → ℕ → Bool
+spells_pair number white black len =
+    nat_eq (number / 2 ^ (12 - len)) (get_or WHITE_CODES white 0 * 2 ^ get_or BLACK_LENS black 0 + get_or BLACK_CODES black 0)
+
+-- of a white run and a black one, both of pels and of one code, and the length of both codes
+abbrev is_pair : ℕ → ℕ → ℕ → ℕ → Bool
+is_pair number white black len =
+    nat_lt 0 white && (nat_lt 0 black && (nat_lt white 64 && (nat_lt black 64 && (nat_le len 12
+    && (nat_eq len (get_or WHITE_LENS white 0 + get_or BLACK_LENS black 0) && spells_pair number white black len)))))
+
+-- those of each number from this one on are, where they have a length
+abbrev are_pairs : ℕ → List ℕ → List ℕ → List ℕ → Bool
+are_pairs number whites blacks [] = true
+are_pairs number [] blacks (len ∷ lens) = false
+are_pairs number (white ∷ whites) [] (len ∷ lens) = false
+are_pairs number (white ∷ whites) (black ∷ blacks) (len ∷ lens) =
+    (if nat_eq len 0 then true else is_pair number white black len) && are_pairs (suc number) whites blacks lens
+
+pairs_are : are_pairs 0 PAIR_WHITES PAIR_BLACKS PAIR_LENS ≡ true
+pairs_are = refl
+
+is_one : (number white black len : ℕ) → 0 < len → (if nat_eq len 0 then true else is_pair number white black len) ≡ true
+    → is_pair number white black len ≡ true
+is_one number white black len some is =
+    let not_none : nat_eq len 0 ≡ false = grind (arith, nat_tests) in rw not_none at is
+
+pair_at : (number : ℕ) (whites blacks lens : List ℕ) (i : ℕ) → are_pairs number whites blacks lens ≡ true → i < length lens
+    → 0 < get_or lens i 0 → is_pair (number + i) (get_or whites i 0) (get_or blacks i 0) (get_or lens i 0) ≡ true
+pair_at number whites blacks [] i are within some = absurd (omega arith)
+pair_at number [] blacks (len ∷ lens) i are within some = cc
+pair_at number (white ∷ whites) [] (len ∷ lens) i are within some = cc
+pair_at number (white ∷ whites) (black ∷ blacks) (len ∷ lens) zero are within some =
+    let e : number + zero ≡ number = omega arith in
+    rw e (is_one number white black len some (and_parts _ (are_pairs (suc number) whites blacks lens) are).0)
+pair_at number (white ∷ whites) (black ∷ blacks) (len ∷ lens) (suc i) are within some =
+    let e : number + suc i ≡ suc number + i = omega arith in
+    rw e (pair_at (suc number) whites blacks lens i
+    (and_parts (if nat_eq len 0 then true else is_pair number white black len) _ are).1 (omega arith) some)
+
+-- what the arrays say of the bits that a number spells
+pub record IsPair (number white black len : ℕ) : Type 0 where
+  pub white_some : 0 < white
+  pub black_some : 0 < black
+  pub white_short : white < 64
+  pub black_short : black < 64
+  pub within : len ≤ 12
+  pub len_is : len ≡ get_or WHITE_LENS white 0 + get_or BLACK_LENS black 0
+  pub spelled : number / 2 ^ (12 - len) ≡ get_or WHITE_CODES white 0 * 2 ^ get_or BLACK_LENS black 0 + get_or BLACK_CODES black 0
+
+lt-from_test : (n m : ℕ) → nat_lt n m ≡ true → n < m
+lt-from_test n m h = grind (arith, nat_tests)
+
+le-from_test : (n m : ℕ) → nat_le n m ≡ true → n ≤ m
+le-from_test n m h = grind (arith, nat_tests)
+
+eq-from_test : (n m : ℕ) → nat_eq n m ≡ true → n ≡ m
+eq-from_test n m h = grind (arith, nat_tests)
+
+from_test : (number white black len : ℕ) → is_pair number white black len ≡ true → IsPair number white black len
+from_test number white black len is =
+    let one = and_parts (nat_lt 0 white) _ is in
+    let two = and_parts (nat_lt 0 black) _ one.1 in
+    let three = and_parts (nat_lt white 64) _ two.1 in
+    let four = and_parts (nat_lt black 64) _ three.1 in
+    let five = and_parts (nat_le len 12) _ four.1 in
+    let six = and_parts (nat_eq len (get_or WHITE_LENS white 0 + get_or BLACK_LENS black 0)) (spells_pair number white black len) five.1 in
+    record {
+      white_some = lt-from_test 0 white one.0;
+      black_some = lt-from_test 0 black two.0;
+      white_short = lt-from_test white 64 three.0;
+      black_short = lt-from_test black 64 four.0;
+      within = le-from_test len 12 five.0;
+      len_is = eq-from_test len _ six.0;
+      spelled = eq-from_test (number / 2 ^ (12 - len)) _ six.1;
+    }
+
+pub found : (number : ℕ) → number < 4096 → 0 < get_or PAIR_LENS number 0
+    → IsPair number (get_or PAIR_WHITES number 0) (get_or PAIR_BLACKS number 0) (get_or PAIR_LENS number 0)
+found number within some =
+    let e : 0 + number ≡ number = zero-add number in
+    from_test number _ _ _
+    (subst (λ n. is_pair n (get_or PAIR_WHITES number 0) (get_or PAIR_BLACKS number 0) (get_or PAIR_LENS number 0) ≡ true) e
+    (pair_at 0 PAIR_WHITES PAIR_BLACKS PAIR_LENS number pairs_are within some))
+
+-- the entry of a code at a place of each table
+abbrev white_entry : ℕ → CodeEntry RunCode
+white_entry n = record { code = get_or WHITE_CODES n 0; len = get_or WHITE_LENS n 0; meaning = run_meaning (0 + n) }
+
+abbrev black_entry : ℕ → CodeEntry RunCode
+black_entry n = record { code = get_or BLACK_CODES n 0; len = get_or BLACK_LENS n 0; meaning = run_meaning (0 + n) }
+
+white_found : (n : ℕ) → n < 64 → slice_get white_runs n ≡ Some (white_entry n)
+white_found n short =
+    ap (λ table. slice_get table n) white_runs_are ∙ slice_get-run_entries 0 WHITE_CODES WHITE_LENS n (omega arith) (omega arith)
+
+black_found : (n : ℕ) → n < 64 → slice_get black_runs n ≡ Some (black_entry n)
+black_found n short =
+    ap (λ table. slice_get table n) black_runs_are ∙ slice_get-run_entries 0 BLACK_CODES BLACK_LENS n (omega arith) (omega arith)
+
+white_bits : (n : ℕ) → n < 64 → code_bits (get_or WHITE_LENS n 0) (get_or WHITE_CODES n 0) ≡ run_bits White n
+white_bits n short =
+    sym (bits_at-found white_runs n (white_entry n) (white_found n short)) ∙ bits_at-run_table White n (omega arith)
+    ∙ ap (run_code_bits White) (run_meaning-terminating n short) ∙ short_bits White n short
+
+black_bits : (n : ℕ) → n < 64 → code_bits (get_or BLACK_LENS n 0) (get_or BLACK_CODES n 0) ≡ run_bits Black n
+black_bits n short =
+    sym (bits_at-found black_runs n (black_entry n) (black_found n short)) ∙ bits_at-run_table Black n (omega arith)
+    ∙ ap (run_code_bits Black) (run_meaning-terminating n short) ∙ short_bits Black n short
+
+black_fits : (n : ℕ) → n < 64 → get_or BLACK_CODES n 0 < 2 ^ get_or BLACK_LENS n 0
+black_fits n short =
+    (run_table_has_short_codes Black (black_entry n) (listed black_runs n (black_entry n) (black_found n short))).2
+
+-- the two codes begin thirteen bits
+pub pair_is_ahead : (number : ℕ) → number < 2 ^ 13 → 0 < get_or PAIR_LENS (number / 2) 0
+    → IsPairAhead (code_bits 13 number) (get_or PAIR_LENS (number / 2) 0)
+    (record { white = get_or PAIR_WHITES (number / 2) 0; black = get_or PAIR_BLACKS (number / 2) 0 })
+pair_is_ahead number fits some = record {
+  white = is.white_some;
+  black = is.black_some;
+  short_white = is.white_short;
+  short_black = is.black_short;
+  some = some;
+  code = code;
+  ahead = code_ahead 13 number len code (omega (arith, is.within)) (first ∙ is.spelled);
+  spelled =
+      ap (λ n. code_bits n code) is.len_is
+      ∙ code_bits-add (get_or WHITE_LENS white 0) (get_or BLACK_LENS black 0) (get_or WHITE_CODES white 0) (get_or BLACK_CODES black 0)
+      (black_fits black is.black_short)
+      ∙ ap (λ b. b ++ code_bits (get_or BLACK_LENS black 0) (get_or BLACK_CODES black 0)) (white_bits white is.white_short)
+      ∙ ap (λ b. run_bits White white ++ b) (black_bits black is.black_short);
+}
+  where
+    len : ℕ
+    len = get_or PAIR_LENS (number / 2) 0
+
+    white : ℕ
+    white = get_or PAIR_WHITES (number / 2) 0
+
+    black : ℕ
+    black = get_or PAIR_BLACKS (number / 2) 0
+
+    is : IsPair (number / 2) white black len
+    is = found (number / 2) (omega arith) some
+
+    code : ℕ
+    code = get_or WHITE_CODES white 0 * 2 ^ get_or BLACK_LENS black 0 + get_or BLACK_CODES black 0
+
+    first : number / 2 ^ (13 - len) ≡ number / 2 / 2 ^ (12 - len)
+    first =
+        let e : suc (12 - len) ≡ 13 - len = omega (arith, is.within) in
+        ap (λ k. number / 2 ^ k) (sym e) ∙ ap (λ m. number / m) (pow-succ' 2 (12 - len))
+        ∙ sym (div-div-eq-div-mul number 2 (2 ^ (12 - len)))
+
+-- they are a white run and a black one
+pub pair_is_read : (b left : List Bool) (len : ℕ) (pair : Pair) (rest : List Bool) (ahead : IsPairAhead b len pair)
+    → left ≡ code_bits len ahead.code ++ rest → IsPairRead left pair rest
+pair_is_read b left len pair rest ahead is =
+    let middle = run_bits Black pair.black ++ rest in
+    let parts : left ≡ run_bits White pair.white ++ middle =
+    is ∙ ap (λ bits. bits ++ rest) ahead.spelled ∙ append_assoc (run_bits White pair.white) (run_bits Black pair.black) rest in
+    record {
+      middle = middle;
+      white =
+          subst (λ bits. IsRun White bits pair.white middle) (sym parts)
+          (run_bits_are_read White pair.white middle (omega (arith, ahead.short_white)));
+      black = run_bits_are_read Black pair.black rest (omega (arith, ahead.short_black));
+      white_written = parts;
+      black_written = refl;
+      white_some = ahead.white;
+      black_some = ahead.black;
+    }

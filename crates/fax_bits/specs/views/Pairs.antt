@@ -1,0 +1,17 @@
+-- A white run and the black one after it, as they are read.
+use Rattle.std.specs.Prelude.{◌≡◌, ◌<◌, Bool, List, ◌++◌}
+use Rattle.fax_bits.specs.declared.pairs.Pair.{Pair}
+use Rattle.fax_bits.specs.Bits.{White, Black}
+use Rattle.fax_bits.specs.Codes.{IsRun}
+use Rattle.fax_bits.specs.Written.{run_bits}
+
+-- the bits begin with a white run and a black one, both as they are written and with pels, and the
+-- rest follows them (T.4, section 4.1.1)
+pub record IsPairRead (b : List Bool) (pair : Pair) (rest : List Bool) : Type 0 where
+  pub middle : List Bool
+  pub white : IsRun White b pair.white middle
+  pub black : IsRun Black middle pair.black rest
+  pub white_written : b ≡ run_bits White pair.white ++ middle
+  pub black_written : middle ≡ run_bits Black pair.black ++ rest
+  pub white_some : 0 < pair.white
+  pub black_some : 0 < pair.black
