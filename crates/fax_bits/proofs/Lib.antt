@@ -12,6 +12,7 @@ pub mod RunCodeLemmas
 pub mod ModeLemmas
 pub mod ReadBackLemmas
 pub mod PutLemmas
+pub mod PendingLemmas
 pub mod FindLemmas
 pub mod NumberLemmas
 pub mod TakeLemmas
@@ -20,6 +21,7 @@ pub mod PlaceLemmas
 pub mod AheadLemmas
 pub mod IndexLemmas
 pub mod WordLemmas
+pub mod WordPutLemmas
 pub mod WindowLemmas
 pub mod PackedLemmas
 pub mod LaneLemmas

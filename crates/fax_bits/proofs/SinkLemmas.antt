@@ -198,8 +198,8 @@ padded_bits count pending zeros fits short =
 pub padded-lt : (count pending zeros : ℕ) → pending < 2 ^ count → count + zeros ≤ 64 → pending * 2 ^ zeros % 2 ^ 64 < 2 ^ (count + zeros)
 padded-lt count pending zeros fits short = rw (shl_whole pending count zeros 64 fits short) (shl_below pending count zeros fits)
 
-pub pads : (order : FillOrder) (bytes : List ℕ) (count pending zeros : ℕ) (old : Sink) → count ≤ 40 → pending < 2 ^ count
-    → zeros ≡ (40 - count) % 8 → sink_of order bytes count pending ≡ old
+pub pads : (order : FillOrder) (bytes : List ℕ) (count pending zeros : ℕ) (old : Sink) → count ≤ 32 → pending < 2 ^ count
+    → zeros ≡ (32 - count) % 8 → sink_of order bytes count pending ≡ old
     → IsPadded old (sink_of order bytes (count + zeros) (pending * 2 ^ zeros % 2 ^ 64))
 pads order bytes count pending zeros old short fits zeros_are old_is =
     let bits_are : bits MsbFirst bytes ++ code_bits (count + zeros) (pending * 2 ^ zeros % 2 ^ 64)

@@ -15,7 +15,7 @@ use crate::{BitSink, BlackRuns, Colour, Memory, ModeCode, Modes, WhiteRuns};
 
 /// The codes of vertical modes, from a1 three pels left of b1 to three pels right of it, and their
 /// lengths in bits (T.4, table 4): small, since most modes of a page are written by them.
-const VERTICAL_CODES: [u8; 7] = [
+pub(crate) const VERTICAL_CODES: [u8; 7] = [
     MODES[LEFT + 3].code as u8,
     MODES[LEFT + 2].code as u8,
     MODES[LEFT + 1].code as u8,
@@ -25,7 +25,7 @@ const VERTICAL_CODES: [u8; 7] = [
     MODES[UNDER + 3].code as u8,
 ];
 
-const VERTICAL_LENS: [u8; 7] = [
+pub(crate) const VERTICAL_LENS: [u8; 7] = [
     MODES[LEFT + 3].len,
     MODES[LEFT + 2].len,
     MODES[LEFT + 1].len,

@@ -13,7 +13,10 @@ use std::alloc::Global;
 use std::marker::Model;
 
 /// The most bits that are pending between two calls.
-const MOST_PENDING: u32 = 40;
+const MOST_PENDING: u32 = 32;
+
+/// How many bytes have room before a word is stored: its four, and five after them.
+const ROOM: usize = 9;
 
 /// Pushes the whole bytes of pending bits after bytes that have room for them, and answers the bits
 /// that are pending then, fewer than eight, and how many they are.
@@ -93,7 +96,7 @@ pub struct BitSink {
     pending: u64,
     /// How many bits are pending.
     count: u32,
-    /// How many bits may be pending: none before the first of them are put, and then 40.
+    /// How many bits may be pending: none before the first of them are put, and then 32.
     most: u32,
 }
 
@@ -196,16 +199,16 @@ impl BitSink {
         Ok(())
     }
 
-    /// What `put` does where the pending bits have to become bytes, or have no room yet.
+    /// What `put` does where the pending bits have to become bytes, or have no room yet, for 0 to
+    /// 32 bits.
     #[inline(never)]
     fn store(&mut self, bits: u32, len: u32) -> Result<(), Memory>
-        requires short { len ≤ 24 }
+        requires short { len ≤ 32 }
         requires fits { bits < 2 ^ len }
         ensures ok { OnOk result (Appends self.old (code_bits len bits) self.new) }
         ensures err { OnErr result (self.new ≡ self.old) }
     {
-        // Four bytes are stored, and five more have room after them.
-        self.bytes.reserve(9).map_err(|_| Memory)?;
+        self.bytes.reserve(ROOM).map_err(|_| Memory)?;
         let pending = (self.pending << len) | u64::from(bits);
         let count = self.count + len;
         self.most = MOST_PENDING;
@@ -218,6 +221,21 @@ impl BitSink {
         push_word(&mut self.bytes, (pending >> left) as u32);
         self.pending = pending & ((1 << left) - 1);
         self.count = left;
+        Ok(())
+    }
+
+    /// Puts the 32 bits of a word, the highest first. After an `Err` the sink is as it was.
+    #[inline(always)]
+    pub(crate) fn put_word(&mut self, word: u32) -> Result<(), Memory>
+        ensures ok { OnOk result (Appends self.old (code_bits 32 word) self.new) }
+        ensures err { OnErr result (self.new ≡ self.old) }
+    {
+        if self.bytes.capacity() - self.bytes.len() < ROOM {
+            return self.store(word, 32);
+        }
+        let pending = (self.pending << 32) | u64::from(word);
+        push_word(&mut self.bytes, (pending >> self.count) as u32);
+        self.pending = pending & ((1 << self.count) - 1);
         Ok(())
     }
 

@@ -1,5 +1,5 @@
 -- A row that is read by steps that T.4 would have chosen has the bits that are written.
-use Rattle.std.proofs.Common.{◌≡◌, ℕ, ◌<◌, ◌≤◌, List, [], ◌++◌, length, Bool, refl, ap, sym, ◌∙◌, append_assoc, arith}
+use Rattle.std.proofs.Common.{◌≡◌, ℕ, ◌<◌, ◌≤◌, List, [], ◌++◌, length, Bool, refl, ap, sym, ◌∙◌, append_assoc, append-nil, arith}
 use Rattle.std.specs.Prelude.{Option, None}
 use Rattle.fax_bits.specs.declared.Colour.{Colour}
 use Rattle.fax_bits.specs.declared.FillOrder.TheVariants.{MsbFirst}
@@ -19,7 +19,7 @@ alone bits = record { order = MsbFirst; bits = bits }
 pub record IsWrittenUpTo (reference row : List Colour) (b : List Bool) (a0 : Option ℕ) (rest : List Bool) : Type 0 where
   pub front : List Bool
   pub bits : b ≡ front ++ rest
-  pub put : IsPutToPlace reference row (alone []) a0 (alone front)
+  pub put : IsPutToPlace reference row (alone []) a0 [] (alone front)
 
 -- they do so for each row that goes on from here
 abbrev pub IsChosenSoFar : List Colour → List Bool → Position → List Bool → Type 0
@@ -41,13 +41,14 @@ chosen_goes_on reference b old mid new rest so_far chosen unfinished row len goe
     rw step.place record {
       front = before.front ++ more;
       bits = before.bits ∙ ap (λ c. before.front ++ c) step.bits ∙ sym (append_assoc before.front more rest);
-      put = place_goes_on reference row (sym len) (alone []) (alone before.front) (alone (before.front ++ more)) old.a0 before.put inside _
-          refl refl;
+      put = place_goes_on reference row (sym len) (alone []) (alone before.front) (alone (before.front ++ more)) old.a0 [] before.put
+          inside _ [] refl (record { done = more; appended = refl; parts = sym (append-nil more) });
     }
 
 pub chosen_ends : (reference row : List Colour) (b : List Bool) (at : Position) (rest : List Bool) → IsChosenSoFar reference b at rest
     → length row ≡ length reference → GoesOnFrom row at → length row ≤ first_pel at → b ≡ two_dimensional_bits reference row ++ rest
 chosen_ends reference row b at rest so_far len goes over =
     let all = so_far row len goes in
-    let put = place_ends reference row (alone []) at.a0 (alone all.front) all.put over in
+    let put = place_ends reference row (alone []) (alone all.front) (alone all.front) at.a0 [] all.put over
+    (ap alone (sym (append-nil all.front))) in
     all.bits ∙ ap (λ (s : Sink). s.bits ++ rest) put

@@ -1,8 +1,8 @@
 //! Rows as they are written, in T.4's own choice of codes (ITU-T T.4, sections 4.1.1 and
 //! 4.2.1.3.3; T.6, section 2.2.3).
-ghost use Rattle.std.specs.Prelude.{◌≡◌, ◌+◌, ◌-◌, ◌≤◌, ◌<◌, ◌^◌, length, true, unwrap_or, Some};
+ghost use Rattle.std.specs.Prelude.{◌≡◌, ◌+◌, ◌-◌, ◌≤◌, ◌<◌, ◌^◌, ◌++◌, length, true, unwrap_or, Some};
 ghost use Rattle.std.specs.Prelude.{None, OnOk, OnErr, IfOk};
-ghost use Rattle.fax_bits.specs.views.Sink.{Appends, AppendsPrefix};
+ghost use Rattle.fax_bits.specs.views.Sink.{Appends, AppendsPrefix, AppendsAllBut};
 ghost use Rattle.fax_rows.specs.code.Ahead as Spec;
 ghost use Rattle.fax_rows.specs.code.Choice as Choice;
 ghost use Rattle.fax_rows.specs.Coded as Coded;
@@ -13,7 +13,7 @@ use crate::pels::Row;
 use crate::rows::Rows;
 use crate::runs::other;
 use crate::turns::colour_after;
-use fax_bits::{BitSink, Colour, Memory, ModeCode, put_mode, put_run};
+use fax_bits::{BitSink, Colour, Memory, ModeCode, PendingBits};
 
 /// Puts a row in one-dimensional coding: the longest runs of white and black pels in turn, white
 /// first, which has no pels where the row begins black (T.4, section 4.1.1).
@@ -26,13 +26,16 @@ pub fn put_1d(row: &Row, sink: &mut BitSink) -> Result<(), Memory>
     ensures err { OnErr result
         (AppendsPrefix sink.old (Coded.one_dimensional_bits row.now) sink.new) }
 {
-    let mut colour = Colour::White;
     let mut runs = LongestRuns::of_row(row);
-    while let Some(n) = runs.next_run() {
-        put_run(sink, colour, n)?;
-        colour = other(colour);
+    let mut pending = PendingBits::none();
+    while let Some(white) = runs.next_run() {
+        pending = pending.put_run(sink, Colour::White, white)?;
+        let Some(black) = runs.next_run() else {
+            return pending.put_all(sink);
+        };
+        pending = pending.put_run(sink, Colour::Black, black)?;
     }
-    Ok(())
+    pending.put_all(sink)
 }
 
 /// How far a row is written (T.4, section 4.2.1.3.1).
@@ -168,75 +171,98 @@ fn choose(a1: u32, b1: u32, b2: u32) -> ModeCode
 
 /// Puts the two runs of horizontal mode, a0a1 and a1a2 (T.4, section 4.2.1.3.2).
 #[inline(always)]
-fn put_run_pair(ahead: ChangesAhead, sink: &mut BitSink) -> Result<(), Memory>
+fn put_run_pair(
+    ahead: ChangesAhead,
+    pending: PendingBits,
+    sink: &mut BitSink,
+) -> Result<PendingBits, Memory>
     requires a0 { unwrap_or ahead.a0 0 ≤ ahead.a1 }
     requires a1 { ahead.a1 ≤ ahead.a2 }
     requires short { ahead.a2 < 2 ^ 16 }
-    ensures ok { OnOk result (Appends sink.old (Spec.run_pair ahead) sink.new) }
-    ensures err { OnErr result (AppendsPrefix sink.old (Spec.run_pair ahead) sink.new) }
+    requires few { length pending ≤ 32 }
+    ensures ok { IfOk result
+        (λ left. AppendsAllBut sink.old (pending ++ Spec.run_pair ahead) left sink.new) }
+    ensures few { IfOk result (λ left. length left ≤ 32) }
+    ensures err { OnErr result (AppendsPrefix sink.old (pending ++ Spec.run_pair ahead) sink.new) }
 {
-    put_run(sink, ahead.colour, ahead.a1 - ahead.a0.unwrap_or(0))?;
-    put_run(sink, other(ahead.colour), ahead.a2 - ahead.a1)?;
-    Ok(())
+    let first = ahead.a1 - ahead.a0.unwrap_or(0);
+    pending
+        .put_run(sink, ahead.colour, first)?
+        .put_run(sink, other(ahead.colour), ahead.a2 - ahead.a1)
 }
 
-/// Puts the step from a0 where a1 is not under b1, and answers how far the row is written then.
+/// Puts the step from a0 where a1 is not under b1, and answers how far the row is written then, and
+/// which bits are pending.
 #[inline(always)]
-fn put_far_step(rows: Rows, ahead: ChangesAhead, sink: &mut BitSink) -> Result<Written, Memory>
+fn put_far_step(
+    rows: Rows,
+    ahead: ChangesAhead,
+    pending: PendingBits,
+    sink: &mut BitSink,
+) -> Result<(Written, PendingBits), Memory>
     requires places { Spec.IsAhead rows ahead }
     requires unfinished { unwrap_or ahead.a0 0 < rows.row.width }
-    ensures ok { OnOk result (Appends sink.old
-        (Spec.bits_from (placed_pels rows.entry.reference)
-        (placed_pels rows.entry.row) ahead.a0) sink.new) }
-    ensures next { IfOk result (λ next. next.a0
+    requires few { length pending ≤ 32 }
+    ensures ok { IfOk result (λ next. AppendsAllBut sink.old
+        (pending ++ Spec.bits_from (placed_pels rows.entry.reference)
+        (placed_pels rows.entry.row) ahead.a0) next.1 sink.new) }
+    ensures few { IfOk result (λ next. length next.1 ≤ 32) }
+    ensures next { IfOk result (λ next. next.0.a0
         ≡ Some (Spec.place_from (placed_pels rows.entry.reference)
         (placed_pels rows.entry.row) ahead.a0)) }
-    ensures places { IfOk result (λ next. Spec.IsWrittenTo rows.entry next) }
+    ensures places { IfOk result (λ next. Spec.IsWrittenTo rows.entry next.0) }
     ensures err { OnErr result (AppendsPrefix sink.old
-        (Spec.bits_from (placed_pels rows.entry.reference)
+        (pending ++ Spec.bits_from (placed_pels rows.entry.reference)
         (placed_pels rows.entry.row) ahead.a0) sink.new) }
 {
     let mode = choose(ahead.a1, ahead.b1, ahead.b2);
     match mode {
         ModeCode::Pass => {
-            put_mode(sink, ModeCode::Pass)?;
-            Ok(ahead.after_pass(rows))
+            let pending = pending.put_mode(sink, ModeCode::Pass)?;
+            Ok((ahead.after_pass(rows), pending))
         }
         ModeCode::Horizontal => {
-            put_mode(sink, ModeCode::Horizontal)?;
-            put_run_pair(ahead, sink)?;
-            Ok(ahead.after_a2(rows))
+            let pending = pending.put_mode(sink, ModeCode::Horizontal)?;
+            let pending = put_run_pair(ahead, pending, sink)?;
+            Ok((ahead.after_a2(rows), pending))
         }
         // An extension is never chosen.
         ModeCode::Vertical(_) | ModeCode::Extension => {
-            put_mode(sink, mode)?;
-            Ok(ahead.after_a1(rows))
+            let pending = pending.put_mode(sink, mode)?;
+            Ok((ahead.after_a1(rows), pending))
         }
     }
 }
 
-/// Puts the next step, and answers how far the row is written then.
+/// Puts the next step, and answers how far the row is written then, and which bits are pending.
 #[inline(always)]
-fn put_step(rows: Rows, at: Written, sink: &mut BitSink) -> Result<Written, Memory>
+fn put_step(
+    rows: Rows,
+    at: Written,
+    pending: PendingBits,
+    sink: &mut BitSink,
+) -> Result<(Written, PendingBits), Memory>
     requires places { Spec.IsWrittenTo rows at }
     requires unfinished { unwrap_or at.a0 0 < rows.row.width }
-    ensures ok { OnOk result (Appends sink.old
-        (Spec.bits_from (placed_pels rows.entry.reference)
-        (placed_pels rows.entry.row) at.a0) sink.new) }
-    ensures next { IfOk result (λ next. next.a0
+    requires few { length pending ≤ 32 }
+    ensures ok { IfOk result (λ next. AppendsAllBut sink.old
+        (pending ++ Spec.bits_from (placed_pels rows.entry.reference)
+        (placed_pels rows.entry.row) at.a0) next.1 sink.new) }
+    ensures few { IfOk result (λ next. length next.1 ≤ 32) }
+    ensures next { IfOk result (λ next. next.0.a0
         ≡ Some (Spec.place_from (placed_pels rows.entry.reference)
         (placed_pels rows.entry.row) at.a0)) }
-    ensures places { IfOk result (λ next. Spec.IsWrittenTo rows.entry next) }
+    ensures places { IfOk result (λ next. Spec.IsWrittenTo rows.entry next.0) }
     ensures err { OnErr result (AppendsPrefix sink.old
-        (Spec.bits_from (placed_pels rows.entry.reference)
+        (pending ++ Spec.bits_from (placed_pels rows.entry.reference)
         (placed_pels rows.entry.row) at.a0) sink.new) }
 {
     let ahead = ChangesAhead::of(rows, at);
     if ahead.a1 == ahead.b1 {
-        put_mode(sink, ModeCode::Vertical(0))?;
-        return Ok(ahead.after_b1(rows));
+        let pending = pending.put_mode(sink, ModeCode::Vertical(0))?;
+        return Ok((ahead.after_b1(rows), pending));
     }
-    put_far_step(rows, ahead, sink)
+    put_far_step(rows, ahead, pending, sink)
 }
 
 /// Puts the steps of a row.
@@ -251,10 +277,11 @@ fn put_steps(rows: Rows, sink: &mut BitSink) -> Result<(), Memory>
         row: 1,
         reference: 1,
     };
+    let mut pending = PendingBits::none();
     while at.a0.unwrap_or(0) < rows.row.width {
-        at = put_step(rows, at, sink)?;
+        (at, pending) = put_step(rows, at, pending, sink)?;
     }
-    Ok(())
+    pending.put_all(sink)
 }
 
 /// Puts a row in two-dimensional coding over its reference row (T.4, section 4.2.1.3.3; T.6,

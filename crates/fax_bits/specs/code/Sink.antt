@@ -11,11 +11,16 @@ abbrev pub sink_of : FillOrder → List ℕ → ℕ → ℕ → Sink
 sink_of order bytes count pending =
     record { order = order; bits = bits MsbFirst bytes ++ code_bits count pending }
 
--- no more bits are pending than may be, which are none, or forty where there is room for five bytes
+-- no more bits are pending than may be, which are none, or thirty-two where there is room for five bytes
 -- more
 pub record IsPending (count pending most bytes capacity : ℕ) : Type 0 where
   pub within : count ≤ most
-  pub few : most ≤ 40
+  pub few : most ≤ 32
   pub fits : pending < 2 ^ count
-  pub forty : 0 < most → most ≡ 40
+  pub word : 0 < most → most ≡ 32
   pub room : 0 < most → bytes + 5 ≤ capacity
+
+-- so many bits, which spell a number, wait for a sink
+pub record AreWaiting (count number : ℕ) : Type 0 where
+  pub few : count ≤ 64
+  pub fits : number < 2 ^ count

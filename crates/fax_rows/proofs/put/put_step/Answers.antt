@@ -10,7 +10,7 @@ returns-then-ahead-clause-ok c =
     let ahead = c.of-ahead.result in
     let inside : unwrap_or c.of-ahead.result.a0 0 < c.args.rows.row.width = rw c.of-ahead.ensures.start c.requires.unfinished in
     rw (← c.of-ahead.ensures.start, under_bits c.args.rows ahead c.of-ahead.ensures.places inside c.if-ahead.true)
-    c.in_ok-put_mode.ensures.ok
+    c.in_ok-pending.ensures.ok
 
 pub returns-then-ahead-clause-next : goal.returns-then-ahead-clause-next
 returns-then-ahead-clause-next c =

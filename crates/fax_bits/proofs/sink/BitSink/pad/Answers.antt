@@ -8,12 +8,12 @@ invariant_of-self c =
     let inside = c.self.inside in
     record {
       within = elim (cases_lt 0 inside.most) [
-        | inl some ↦ omega (arith, c.self.invariant.forty some, c.self.invariant.within)
+        | inl some ↦ omega (arith, c.self.invariant.word some, c.self.invariant.within)
         | inr none ↦ omega (arith, c.self.invariant.within)
       ];
       few = c.self.invariant.few;
-      forty = c.self.invariant.forty;
-      fits = padded-lt inside.count inside.pending ((40 - inside.count) % 8) c.self.invariant.fits
+      word = c.self.invariant.word;
+      fits = padded-lt inside.count inside.pending ((32 - inside.count) % 8) c.self.invariant.fits
           (omega (arith, c.self.invariant.within, c.self.invariant.few));
       room = c.self.invariant.room;
     }
@@ -21,6 +21,6 @@ invariant_of-self c =
 pub returns : goal.returns
 returns c =
     let inside = c.self.inside in
-    pads inside.order inside.bytes.items inside.count inside.pending ((40 - inside.count) % 8) c.args.self.now
+    pads inside.order inside.bytes.items inside.count inside.pending ((32 - inside.count) % 8) c.args.self.now
     (omega (arith, c.self.invariant.within, c.self.invariant.few)) c.self.invariant.fits refl
     c.self.view_is

@@ -10,7 +10,7 @@ invariant_of-self c =
     record {
       within = omega arith;
       few = c.self.invariant.few;
-      forty = c.self.invariant.forty;
+      word = c.self.invariant.word;
       fits =
           joined-lt inside.count inside.pending c.args.len c.from.result c.self.invariant.fits fits (omega (arith, c.self.invariant.few));
       room = c.self.invariant.room;

@@ -14,7 +14,7 @@ invariant_of-self-then-count-lt32 c =
     record {
       within = omega arith;
       few = omega arith;
-      forty = λ some. refl;
+      word = λ some. refl;
       fits = joined-lt inside.count inside.pending c.args.len c.from.result c.self.invariant.fits fits (omega arith);
       room = λ some. omega (arith, on_ok-holds _ reserved c.reserve.ensures.ok);
     }
@@ -49,7 +49,7 @@ invariant_of-self-2 c =
     record {
       within = omega (arith, short);
       few = omega arith;
-      forty = λ some. refl;
+      word = λ some. refl;
       fits = masked-lt 32 (inside.count + c.args.len) all (omega arith) c.if-count-lt32.false short joined;
       room = λ some. omega (arith, on_ok-holds _ reserved c.reserve.ensures.ok, c.push_word.ensures.len, c.push_word.ensures.room);
     }
