@@ -162,7 +162,7 @@ fn choose(a1: u32, b1: u32, b2: u32) -> ModeCode
         return ModeCode::Pass;
     }
     let d = a1 as i32 - b1 as i32;
-    if d.abs() <= 3 {
+    if (-3..=3).contains(&d) {
         ModeCode::Vertical(d as i8)
     } else {
         ModeCode::Horizontal
