@@ -1,7 +1,7 @@
 //! Rows as they are written, in T.4's own choice of codes (ITU-T T.4, sections 4.1.1 and
 //! 4.2.1.3.3; T.6, section 2.2.3).
-ghost use Rattle.std.specs.Prelude.{◌≡◌, ◌+◌, ◌-◌, ◌≤◌, ◌<◌, ◌^◌, ◌++◌, length, true, unwrap_or, Some};
-ghost use Rattle.std.specs.Prelude.{None, OnOk, OnErr, IfOk};
+ghost use Rattle.std.specs.Prelude.{◌≡◌, ◌+◌, ◌-◌, ◌≤◌, ◌<◌, ◌^◌, ◌++◌, length, true, unwrap_or};
+ghost use Rattle.std.specs.Prelude.{Some, None, OnOk, OnErr, IfOk};
 ghost use Rattle.fax_bits.specs.views.Sink.{Appends, AppendsPrefix, AppendsAllBut};
 ghost use Rattle.fax_rows.specs.code.Ahead as Spec;
 ghost use Rattle.fax_rows.specs.code.Choice as Choice;
