@@ -168,6 +168,7 @@ fn reads_no_pair_at_the_end_of_the_bytes(rt: HostRuntime) {
         Err(again) => again,
     };
     assert_eq!(rt; pair_of(after, 8), (None, 6));
+    assert!(rt; source.remaining() > 0);
     source.skip(1);
     let ahead = source.ahead().expect(&rt, "four bytes");
     assert_eq!(rt; pair_of(ahead, 8), (None, 1));
