@@ -9,27 +9,13 @@ use Rattle.fax_bits.specs.declared.runs.RunCode.TheVariants.{Terminating, MakeUp
 use Rattle.fax_bits.specs.Bits.{code_bits}
 use Rattle.fax_bits.specs.Written.{run_codes, run_code_bits, run_bits}
 use Rattle.fax_bits.specs.code.Codes.{one_make_up}
-use Rattle.fax_bits.specs.views.Sink.{Sink, Appends, AppendsPrefix, AppendsAllBut, AppendsCodes}
+use Rattle.fax_bits.specs.views.Sink.{Sink, Appends, AppendsPrefix, AppendsCodes}
 use Rattle.fax_bits.proofs.MeetingLemmas.{length-code_bits}
 use Rattle.fax_bits.proofs.PutLemmas.{appends-then}
 
 -- how many bits wait
 pub length-waiting : (count number : ℕ) (b : List Bool) → code_bits count number ≡ b → length b ≡ count
 length-waiting count number b is = ap length (sym is) ∙ length-code_bits count number
-
--- a sink that is as it was
-appends-none : (old new : Sink) → new ≡ old → Appends old [] new
-appends-none old new same = same ∙ ap (λ b. record { order = old.order; bits = b }) (sym (append-nil old.bits))
-
-pub all_but-none : (sink : Sink) (more : List Bool) → AppendsAllBut sink more more sink
-all_but-none sink more = record { done = []; appended = appends-none sink sink refl; parts = refl }
-
-pub prefix-none : (old new : Sink) (more : List Bool) → new ≡ old → AppendsPrefix old more new
-prefix-none old new more same = record { done = []; missing = more; appended = appends-none old new same; parts = refl }
-
--- all bits are put
-pub all_but-all : (old new : Sink) (more : List Bool) → Appends old more new → AppendsAllBut old more [] new
-all_but-all old new more put = record { done = more; appended = put; parts = sym (append-nil more) }
 
 -- where a growth was refused in the first of two parts, or in the second
 pub prefix-first : (old new : Sink) (first second : List Bool) → AppendsPrefix old first new → AppendsPrefix old (first ++ second) new

@@ -1,5 +1,4 @@
-use Rattle.std.proofs.Common.{◌≡◌, ◌+◌, ◌-◌, ◌*◌, ◌/◌, ◌%◌, ◌^◌, ◌<◌, ◌≤◌, ◌++◌, arith, ap, ◌∙◌, subst}
-use Rattle.std.specs.Prelude.{bit_or}
+use Rattle.std.proofs.Common.{◌+◌, ◌^◌, ◌<◌, ◌≤◌, ◌++◌, arith, ap, ◌∙◌}
 use Rattle.fax_bits.specs.Bits.{code_bits}
 use Rattle.fax_bits.proofs.SinkLemmas.{joined-lt, put_behind}
 use Rattle.fax_bits.proofs.WordPutLemmas.{high_word-lt, left_of_word-lt, word_put}
