@@ -17,7 +17,7 @@ pub(crate) struct PlacedRow<'a> {
 }
 
 impl PlacedRow<'_> {
-    ghost use Rattle.std.specs.Prelude.{◌+◌, ◌≤◌, ◌<◌, ℕ, Option, Some, true};
+    ghost use Rattle.std.specs.Prelude.{◌+◌, ◌-◌, ◌≤◌, ◌<◌, ℕ, Option, Some, slice_index, true};
     ghost use Rattle.fax_bits.specs.declared.Colour.{Colour};
     ghost use Rattle.fax_rows.specs.Rows.{other, is_right_of};
     ghost use Rattle.fax_rows.specs.code.PlacedRow.{IsBeforeB1, IsB1At};
@@ -58,6 +58,23 @@ impl PlacedRow<'_> {
             b1 += 2;
         }
         b1
+    }
+
+    /// What `find_b1` answers from the index before that of a b1 right of the pel: the changing
+    /// element there, or the one right of that b1.
+    #[inline(always)]
+    pub fn b1_before(self, b1: usize, place: u32) -> usize
+        requires some { 0 < b1 }
+        requires within { b1 ≤ self.end + 1 }
+        requires left { place < slice_index self.places.now b1 }
+        ensures { (colour : Colour) → IsBeforeB1 self.entry place colour (b1 - 1)
+            → IsB1At self.entry (Some place) colour result }
+    {
+        if self.places[b1 - 1] > place {
+            b1 - 1
+        } else {
+            b1 + 1
+        }
     }
 
     /// What `find_b1` answers where the pel is in the row; there is no b1 at the row's end.

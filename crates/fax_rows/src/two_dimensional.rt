@@ -113,8 +113,8 @@ fn read_exactly(
 }
 
 /// Reads the modes of a row over the reference row, and answers where its places end, and whether
-/// its codes are seen to be T.4's choice.
-fn read_places(
+/// its codes are seen to be T.4's choice, where that is asked for.
+fn read_places<const CHOICE: bool>(
     source: &mut BitSource,
     reference: PlacedRow,
     places: &mut [u32],
@@ -135,7 +135,7 @@ fn read_places(
     ensures same_len { length places.new ≡ length places.old }
     ensures same_end { KeepsEnd source.old source.new }
 {
-    match read_quickly(source, reference, places) {
+    match read_quickly::<CHOICE>(source, reference, places) {
         Some(read) => Ok(read),
         None => {
             let end = read_exactly(source, reference, places)?;
@@ -144,9 +144,14 @@ fn read_places(
     }
 }
 
-/// What `read_2d` does. It answers too whether the row's codes are seen to be T.4's choice.
+/// What `read_2d` does. It answers too whether the row's codes are seen to be T.4's choice, where
+/// that is asked for.
 #[inline(always)]
-fn read_row(source: &mut BitSource, reference: &Row, row: &mut Row) -> Result<bool, RowFault>
+fn read_row<const CHOICE: bool>(
+    source: &mut BitSource,
+    reference: &Row,
+    row: &mut Row,
+) -> Result<bool, RowFault>
     requires width { length reference.now ≡ length row.old }
     ensures ok { OnOk result
         (Spec.IsTwoDimensionalRow reference.now source.old.left row.new source.new.left) }
@@ -160,7 +165,7 @@ fn read_row(source: &mut BitSource, reference: &Row, row: &mut Row) -> Result<bo
     let reference = reference.placed();
     let width = row.width;
     let places = row.places.as_mut_slice();
-    match read_places(source, reference, places) {
+    match read_places::<CHOICE>(source, reference, places) {
         Ok((end, chosen)) => {
             row.end = close(places, end, width);
             Ok(chosen)
@@ -191,7 +196,7 @@ pub fn read_2d(source: &mut BitSource, reference: &Row, row: &mut Row) -> Result
     // The source goes on in the same bits.
     ensures same_end { KeepsEnd source.old source.new }
 {
-    read_row(source, reference, row)?;
+    read_row::<false>(source, reference, row)?;
     Ok(())
 }
 
@@ -219,5 +224,5 @@ pub fn read_2d_choice(
     // The source goes on in the same bits.
     ensures same_end { KeepsEnd source.old source.new }
 {
-    read_row(source, reference, row)
+    read_row::<true>(source, reference, row)
 }

@@ -22,18 +22,36 @@ use fax_bits::{Ahead, BitSource, Colour, ModeCode};
 /// Whether T.4 chooses vertical mode where a1 is reached by it: b2 is not left of a1 (T.4, section
 /// 4.2.1.3.3).
 #[inline(always)]
-fn chooses_a1(reference: PlacedRow, at: PlacedReached, next: PlacedReached) -> bool
+fn chooses_a1<const CHOICE: bool>(
+    reference: PlacedRow,
+    at: PlacedReached,
+    next: PlacedReached,
+) -> bool
     requires b1 { IsB1At reference at.reached.a0 at.reached.colour at.b1 }
     ensures { IsTrue result → reached_pel next.reached
         ≤ b2 (placed_pels reference.entry) at.reached.a0 at.reached.colour }
 {
-    next.reached.first_pel() <= reference.places[at.b1 + 1]
+    CHOICE && next.reached.first_pel() <= reference.places[at.b1 + 1]
+}
+
+/// Whether T.4 chooses pass mode where a0 is put under b2 by it: b2 is in the row (T.4, section
+/// 4.2.1.3.3).
+#[inline(always)]
+fn chooses_b2<const CHOICE: bool>(reference: PlacedRow, next: PlacedReached) -> bool
+    ensures { IsTrue result → reached_pel next.reached < reference.entry.width }
+{
+    CHOICE && next.reached.first_pel() < reference.width
 }
 
 /// Whether T.4 chooses horizontal mode with two runs of so many pels, as far as the row is read
 /// (T.4, section 4.2.1.3.3).
 #[inline(always)]
-fn chooses_runs(reference: PlacedRow, at: PlacedReached, first: u32, second: u32) -> bool
+fn chooses_runs<const CHOICE: bool>(
+    reference: PlacedRow,
+    at: PlacedReached,
+    first: u32,
+    second: u32,
+) -> bool
     requires b1 { IsB1At reference at.reached.a0 at.reached.colour at.b1 }
     requires within { reached_pel at.reached + first + second ≤ reference.width }
     ensures right { IsTrue result
@@ -50,7 +68,8 @@ fn chooses_runs(reference: PlacedRow, at: PlacedReached, first: u32, second: u32
     let a1 = at.reached.first_pel() + first;
     let b1 = reference.places[at.b1];
     let b2 = reference.places[at.b1 + 1];
-    (first > 0 || at.reached.a0.is_none())
+    CHOICE
+        && (first > 0 || at.reached.a0.is_none())
         && (second > 0 || a1 == reference.width)
         && a1 <= b2
         && (a1 + 3 < b1 || b1 + 3 < a1)
@@ -58,7 +77,10 @@ fn chooses_runs(reference: PlacedRow, at: PlacedReached, first: u32, second: u32
 
 /// Reads a run of the colour and a run of the other one, and answers how many pels they have.
 #[inline(always)]
-fn two_runs<'a>(ahead: Ahead<'a>, colour: Colour) -> Option<(Ahead<'a>, u32, u32)>
+fn two_runs<'a, const CHOICE: bool>(
+    ahead: Ahead<'a>,
+    colour: Colour,
+) -> Option<(Ahead<'a>, u32, u32)>
     ensures pair { IfSome result
         (λ read. Chosen.IsPair colour ahead.entry.left read.1 read.2 read.0.left) }
     ensures same_end { IfSome result (λ read. KeepsEnd ahead.entry read.0) }
@@ -71,22 +93,25 @@ fn two_runs<'a>(ahead: Ahead<'a>, colour: Colour) -> Option<(Ahead<'a>, u32, u32
 
 /// What `two_runs` does, in code of its own for each colour.
 #[inline(always)]
-fn two_runs_by_colour<'a>(ahead: Ahead<'a>, colour: Colour) -> Option<(Ahead<'a>, u32, u32)>
+fn two_runs_by_colour<'a, const CHOICE: bool>(
+    ahead: Ahead<'a>,
+    colour: Colour,
+) -> Option<(Ahead<'a>, u32, u32)>
     ensures pair { IfSome result
         (λ read. Chosen.IsPair colour ahead.entry.left read.1 read.2 read.0.left) }
     ensures same_end { IfSome result (λ read. KeepsEnd ahead.entry read.0) }
     ensures no_longer { IfSome result (λ read. length read.0.left ≤ length ahead.entry.left) }
 {
     match colour {
-        Colour::White => two_runs(ahead, Colour::White),
-        Colour::Black => two_runs(ahead, Colour::Black),
+        Colour::White => two_runs::<CHOICE>(ahead, Colour::White),
+        Colour::Black => two_runs::<CHOICE>(ahead, Colour::Black),
     }
 }
 
 /// Horizontal mode: two runs from a0 on, the first of a0's colour, which stays (T.4, section
 /// 4.2.1.3.2). The index of b1 tells that colour.
 #[inline(always)]
-fn horizontal<'a>(
+fn horizontal<'a, const CHOICE: bool>(
     ahead: Ahead<'a>,
     reference: PlacedRow,
     places: &mut [u32],
@@ -108,18 +133,18 @@ fn horizontal<'a>(
         (placed_position reference.entry.width places.new next.1) next.0.left) }
 {
     let from = at.reached.first_pel();
-    let (after, first, second) = two_runs_by_colour(ahead, colour_after(at.b1))?;
+    let (after, first, second) = two_runs_by_colour::<CHOICE>(ahead, colour_after(at.b1))?;
     if first > reference.width - from || second > reference.width - from - first {
         return None;
     }
-    let chosen = chooses_runs(reference, at, first, second);
+    let chosen = chooses_runs::<CHOICE>(reference, at, first, second);
     let next = after_runs(reference, places, at, first, second);
     Some((after, next, chosen))
 }
 
 /// Reads one mode, and goes on by what it says (T.4, section 4.2.1.3.3).
 #[inline(always)]
-fn step<'a>(
+fn step<'a, const CHOICE: bool>(
     ahead: Ahead<'a>,
     reference: PlacedRow,
     places: &mut [u32],
@@ -142,23 +167,23 @@ fn step<'a>(
 {
     let (after, mode) = ahead.mode()?;
     match mode {
-        ModeCode::Vertical(0) => Some((after, under_b1(reference, places, at), true)),
+        ModeCode::Vertical(0) => Some((after, under_b1(reference, places, at), CHOICE)),
         ModeCode::Vertical(d) => {
             let next = vertical(reference, places, at, d)?;
-            Some((after, next, chooses_a1(reference, at, next)))
+            Some((after, next, chooses_a1::<CHOICE>(reference, at, next)))
         }
         ModeCode::Pass => {
             let next = pass(reference, places, at);
-            Some((after, next, next.reached.first_pel() < reference.width))
+            Some((after, next, chooses_b2::<CHOICE>(reference, next)))
         }
-        ModeCode::Horizontal => horizontal(after, reference, places, at),
+        ModeCode::Horizontal => horizontal::<CHOICE>(after, reference, places, at),
         ModeCode::Extension => None,
     }
 }
 
 /// Reads the modes of a row from the bits ahead.
 #[inline(always)]
-fn read_ahead<'a>(
+fn read_ahead<'a, const CHOICE: bool>(
     mut ahead: Ahead<'a>,
     reference: PlacedRow,
     places: &mut [u32],
@@ -178,9 +203,9 @@ fn read_ahead<'a>(
         (row_of places.new read.1 reference.entry.width) ++ read.0.left) }
 {
     let mut at = PlacedReached::BEGINNING;
-    let mut chosen = true;
+    let mut chosen = CHOICE;
     while at.reached.first_pel() < reference.width {
-        let (after, next, fits) = step(ahead, reference, places, at)?;
+        let (after, next, fits) = step::<CHOICE>(ahead, reference, places, at)?;
         ahead = after;
         at = next;
         chosen = chosen && fits;
@@ -191,7 +216,7 @@ fn read_ahead<'a>(
 /// Reads the modes of a row over the reference row, and answers where its places end. After `None`
 /// the source is as it was.
 #[inline(never)]
-pub(crate) fn read_quickly(
+pub(crate) fn read_quickly<const CHOICE: bool>(
     source: &mut BitSource,
     reference: PlacedRow,
     places: &mut [u32],
@@ -211,7 +236,7 @@ pub(crate) fn read_quickly(
         (row_of places.new read.0 reference.entry.width) ++ source.new.left) }
     ensures unchanged { result ≡ None → source.new ≡ source.old }
 {
-    let (after, end, chosen) = read_ahead(source.ahead()?, reference, places)?;
+    let (after, end, chosen) = read_ahead::<CHOICE>(source.ahead()?, reference, places)?;
     *source = after.source();
     Some((end, chosen))
 }

@@ -1,7 +1,7 @@
 //! Steps of two-dimensional coding over a reference row, which the exact and the quick reader share
 //! (ITU-T T.4, section 4.2.1.3.2).
-ghost use Rattle.std.specs.Prelude.{◌≡◌, ◌+◌, ◌-◌, ◌≤◌, ◌<◌, ◌^◌, ◌+ℤ◌, ◌≤ℤ◌, pos, negsuc};
-ghost use Rattle.std.specs.Prelude.{[], List, Bool, length, slice_index, IfSome, IfNone};
+ghost use Rattle.std.specs.Prelude.{◌≡◌, ◌+◌, ◌-◌, ◌≤◌, ◌<◌, ◌^◌, ◌↔◌, ◌+ℤ◌, ◌≤ℤ◌, ◌<ℤ◌, pos, negsuc};
+ghost use Rattle.std.specs.Prelude.{[], List, Bool, IsTrue, None, length, slice_index, IfSome, IfNone};
 ghost use Rattle.fax_bits.specs.Codes.{IsRun};
 ghost use Rattle.fax_rows.specs.Rows.{other as other_than};
 ghost use Rattle.fax_rows.specs.Rows as Spec;
@@ -33,15 +33,31 @@ impl Reached {
         self.a0.unwrap_or(0)
     }
 
-    /// The first pel right of a0.
-    #[inline(always)]
-    fn next_pel(self) -> u32
-        requires { reached_pel self < 2 ^ 16 }
-        ensures { pos result ≡ Spec.a0_number (position_of self []) +ℤ pos 1 }
+    /// Whether a0 is just before the first pel, in code of its own: few steps ask it.
+    #[inline(never)]
+    fn is_beginning(self) -> bool
+        ensures { IsTrue result ↔ (self.a0 ≡ None) }
     {
-        match self.a0 {
-            None => 0,
-            Some(place) => place + 1,
+        self.a0.is_none()
+    }
+
+    /// The pel `back` pels left of the pel `b1`, where it is right of a0.
+    #[inline(always)]
+    fn left_of(self, b1: u32, back: u32) -> Option<u32>
+        ensures place { IfSome result (λ a1. a1 + back ≡ b1) }
+        ensures right { IfSome result
+            (λ a1. Spec.a0_number (position_of self []) <ℤ pos a1) }
+        ensures none { IfNone result
+            (pos b1 ≤ℤ (Spec.a0_number (position_of self []) +ℤ pos back)) }
+    {
+        if b1 < back {
+            return None;
+        }
+        let place = b1 - back;
+        if place > self.first_pel() || self.is_beginning() {
+            Some(place)
+        } else {
+            None
         }
     }
 }
@@ -173,10 +189,9 @@ fn left_of_b1(
 {
     let back = u32::from(d.unsigned_abs());
     let b1 = reference.places[at.b1];
-    if b1 < back + at.reached.next_pel() {
+    let Some(place) = at.reached.left_of(b1, back) else {
         return None;
-    }
-    let place = b1 - back;
+    };
     let end = turn_right(places, at.end, place);
     Some(PlacedReached {
         reached: Reached {
@@ -184,7 +199,7 @@ fn left_of_b1(
             colour: other(at.reached.colour),
         },
         end,
-        b1: reference.find_b1(at.b1 - 1, place),
+        b1: reference.b1_before(at.b1, place),
     })
 }
 

@@ -4,14 +4,14 @@ use Rattle.fax_rows.proofs.PlacedB1Lemmas.{length-placed_pels}
 use Rattle.fax_rows.proofs.two_dimensional.quick.horizontal.Goals as goal
 
 pub returns-clause-step : goal.returns-clause-step
-returns-clause-step c =
+returns-clause-step g c =
     let read = c.in_ok-after in
     let colour = c.colour_after.ensures ∙ (c.requires.so_far.b1 c.requires.unfinished).colour_is in
     let pair = subst (λ own. IsPair own c.args.ahead.left read.first read.second read.after.left) colour read.ensures.pair in
     c.after_runs-next.ensures.step c.args.ahead.left pair.middle read.after.left pair.first_run pair.second_run
 
 pub returns-clause-chosen : goal.returns-clause-chosen
-returns-clause-chosen c is =
+returns-clause-chosen g c is =
     let read = c.in_ok-after in
     let colour = c.colour_after.ensures ∙ (c.requires.so_far.b1 c.requires.unfinished).colour_is in
     let pair = subst (λ own. IsPair own c.args.ahead.left read.first read.second read.after.left) colour read.ensures.pair in

@@ -12,7 +12,7 @@ use Rattle.fax_rows.proofs.PlacedStepLemmas.{nothing_read, steps_done}
 use Rattle.fax_rows.proofs.two_dimensional.quick.read_ahead.Goals as goal
 
 pub loop-ahead-init : goal.loop-ahead-init
-loop-ahead-init c = record {
+loop-ahead-init g c = record {
   chosen = λ h. chosen_begins (placed_pels c.args.reference) c.args.ahead.left _ refl;
   steps = steps_begin (placed_pels c.args.reference)
       (pels_by c.args.reference.width (take 1 c.args.places.now)) c.args.ahead.left;
@@ -22,7 +22,7 @@ loop-ahead-init c = record {
 }
 
 pub loop-ahead-preserved : goal.loop-ahead-preserved
-loop-ahead-preserved c =
+loop-ahead-preserved g c =
     let len = length-placed_pels c.args.reference in
     record {
       steps = steps_go_on (placed_pels c.args.reference) c.args.ahead.left
@@ -35,7 +35,7 @@ loop-ahead-preserved c =
     }
 
 pub loop-ahead-preserved-then-chosen : goal.loop-ahead-preserved-then-chosen
-loop-ahead-preserved-then-chosen c =
+loop-ahead-preserved-then-chosen g c =
     let len = length-placed_pels c.args.reference in
     record {
       steps = steps_go_on (placed_pels c.args.reference) c.args.ahead.left
@@ -52,14 +52,14 @@ loop-ahead-preserved-then-chosen c =
     }
 
 pub returns-clause-row : goal.returns-clause-row
-returns-clause-row c =
+returns-clause-row g c =
     steps_done (placed_pels c.args.reference) c.args.ahead.left c.loop-ahead.at.reached
     (pels_by c.args.reference.width (take c.loop-ahead.at.end c.loop-ahead.places)) c.loop-ahead.ahead.left c.args.reference.width
     c.loop-ahead.invariant.steps c.args.reference.placed.some (omega arith)
     (length-pels_by c.args.reference.width _) (length-pels_by c.args.reference.width _)
 
 pub returns-clause-chosen : goal.returns-clause-chosen
-returns-clause-chosen c is =
+returns-clause-chosen g c is =
     let len = length-placed_pels c.args.reference in
     let row_len = length-pels_by c.args.reference.width (take c.loop-ahead.at.end c.loop-ahead.places) in
     chosen_ends (placed_pels c.args.reference) (pels_by c.args.reference.width (take c.loop-ahead.at.end c.loop-ahead.places))

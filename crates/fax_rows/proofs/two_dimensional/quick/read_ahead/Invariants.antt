@@ -6,7 +6,7 @@ use Rattle.fax_rows.proofs.StepLemmas.{AreStepsSoFar}
 use Rattle.fax_rows.proofs.two_dimensional.quick.read_ahead.Given as goal
 
 abbrev pub invariant-loop-ahead : goal.invariant-loop-ahead
-invariant-loop-ahead l = record {
+invariant-loop-ahead g l = record {
   steps : AreStepsSoFar (placed_pels l.reference) l.initial.ahead.left (placed_position l.reference.width l.places l.at)
       l.ahead.left;
   chosen : IsTrue l.chosen → IsChosenSoFar (placed_pels l.reference) l.initial.ahead.left
@@ -16,4 +16,4 @@ invariant-loop-ahead l = record {
 }
 
 abbrev pub decreases-loop-ahead : goal.decreases-loop-ahead
-decreases-loop-ahead l = length l.ahead.left
+decreases-loop-ahead g l = length l.ahead.left

@@ -4,7 +4,7 @@ use Rattle.fax_bits.specs.Written.{run_bits}
 use Rattle.fax_rows.proofs.two_dimensional.quick.two_runs.Goals as goal
 
 pub returns-clause-pair : goal.returns-clause-pair
-returns-clause-pair c =
+returns-clause-pair g c =
     let first = c.in_ok-after.first in
     let second = c.in_ok-after-2.second in
     record {

@@ -16,10 +16,10 @@ pub turn_right-end-requires-clause-room : goal.turn_right-end-requires-clause-ro
 turn_right-end-requires-clause-room c =
     omega (arith, room_left c.args.reference c.args.places.now c.args.at c.requires.so_far c.requires.unfinished)
 
-pub returns-then-b1-back-clause-out : goal.returns-then-b1-back-clause-out
-returns-then-b1-back-clause-out c = λ in_row.
+pub returns-in_default-clause-out : goal.returns-in_default-clause-out
+returns-in_default-clause-out c = λ in_row.
     let begins = row_begins c.args.reference c.args.places.now c.args.at c.requires.so_far c.requires.unfinished c.args.d in_row in
-    omega (arith, ints, begins, c.from-back.ensures, c.unsigned_abs.ensures.value, c.requires.left.le, c.next_pel.ensures)
+    omega (arith, ints, begins, c.from-back.ensures, c.unsigned_abs.ensures.value, c.requires.left.le, c.in_default.ensures.none)
 
 pub returns-clause-step : goal.returns-clause-step
 returns-clause-step c =
@@ -28,16 +28,16 @@ returns-clause-step c =
     let at = c.args.at in
     let so_far = c.requires.so_far in
     let unfinished = c.requires.unfinished in
-    let place = get_or reference.places.now at.b1 0 - c.from-back.result in
+    let place = c.in-Some.place in
     let z = pos place in
     let within = under_within reference places at so_far unfinished in
     let z_is : z ≡ pos (get_or reference.places.now at.b1 0) +ℤ c.args.d =
-    omega (arith, ints, c.from-back.ensures, c.unsigned_abs.ensures.value, c.requires.left.le, c.if-b1-back.false) in
+    omega (arith, ints, c.from-back.ensures, c.unsigned_abs.ensures.value, c.requires.left.le, c.in-Some.ensures.place) in
     let least = from_start at.reached in
-    let right : a0_number (position_of at.reached []) <ℤ z = omega (arith, ints, z_is, c.next_pel.ensures, c.if-b1-back.false) in
-    let inside : z ≤ℤ pos reference.width = omega (arith, ints, within) in
+    let right : a0_number (position_of at.reached []) <ℤ z = c.in-Some.ensures.right in
+    let inside : z ≤ℤ pos reference.width = omega (arith, ints, within, c.in-Some.ensures.place) in
     vertical_placed reference places at so_far unfinished c.args.d z z_is least right inside
-    c.turn_right-end.new.places c.turn_right-end.result c.find_b1.result c.other.result c.turn_right-end.ensures.turned c.other.ensures
+    c.turn_right-end.new.places c.turn_right-end.result c.b1_before.result c.other.result c.turn_right-end.ensures.turned c.other.ensures
 
 pub returns-clause-so_far : goal.returns-clause-so_far
 returns-clause-so_far c =
@@ -46,19 +46,19 @@ returns-clause-so_far c =
     let at = c.args.at in
     let so_far = c.requires.so_far in
     let unfinished = c.requires.unfinished in
-    let place = get_or reference.places.now at.b1 0 - c.from-back.result in
+    let place = c.in-Some.place in
     let z = pos place in
     let within = under_within reference places at so_far unfinished in
     let z_is : z ≡ pos (get_or reference.places.now at.b1 0) +ℤ c.args.d =
-    omega (arith, ints, c.from-back.ensures, c.unsigned_abs.ensures.value, c.requires.left.le, c.if-b1-back.false) in
+    omega (arith, ints, c.from-back.ensures, c.unsigned_abs.ensures.value, c.requires.left.le, c.in-Some.ensures.place) in
     let least = from_start at.reached in
-    let right : a0_number (position_of at.reached []) <ℤ z = omega (arith, ints, z_is, c.next_pel.ensures, c.if-b1-back.false) in
-    let inside : z ≤ℤ pos reference.width = omega (arith, ints, within) in
-    turned_so_far reference places at so_far unfinished c.turn_right-end.new.places c.turn_right-end.result place c.find_b1.result
+    let right : a0_number (position_of at.reached []) <ℤ z = c.in-Some.ensures.right in
+    let inside : z ≤ℤ pos reference.width = omega (arith, ints, within, c.in-Some.ensures.place) in
+    turned_so_far reference places at so_far unfinished c.turn_right-end.new.places c.turn_right-end.result place c.b1_before.result
     (a1_ahead reference places at so_far unfinished c.args.d z z_is least right inside)
     (a1_within reference places at so_far unfinished c.args.d z z_is least right inside)
     c.turn_right-end.ensures.same_len c.turn_right-end.ensures.ascending c.turn_right-end.ensures.last c.turn_right-end.ensures.turned
-    (λ h. c.find_b1.ensures (other at.reached.colour)
+    (λ h. c.b1_before.ensures (other at.reached.colour)
     (left_start reference at.reached.a0 at.reached.colour at.b1 place (so_far.b1 unfinished)
     (a1_right reference places at so_far unfinished c.args.d z z_is least right inside)))
     c.other.result c.other.ensures
