@@ -1,13 +1,18 @@
 -- The arrays of the pairs hold two codes each: a white terminating code and a black one after it.
-use Rattle.std.proofs.Common.{◌≡◌, ℕ, zero, suc, ◌+◌, ◌-◌, ◌*◌, ◌/◌, ◌^◌, ◌<◌, ◌≤◌, List, [], ◌∷◌, ◌++◌, length, get_or, Bool, true, false}
+use Rattle.std.proofs.Common.{◌≡◌, ℕ, zero, suc, ◌+◌, ◌-◌, ◌*◌, ◌/◌, ◌%◌, ◌^◌, ◌<◌, ◌≤◌, List, [], ◌∷◌, ◌++◌, map, length, get_or, Bool, true, false}
 use Rattle.std.proofs.Common.{if◌then◌else◌, refl, ap, sym, ◌∙◌, subst, arith, append_assoc, zero-add}
 use Rattle.std.specs.Prelude.{◌&&◌, nat_lt, nat_le, nat_eq, Some, slice_get}
 use Rattle.std.proofs.lemmas.Bool.{and_parts}
 use Rattle.std.proofs.lemmas.Bool.Decides.{nat_tests}
+use Rattle.std.proofs.lemmas.List.FromFn.{get_or-map-range_with_len}
+use Rattle.std.proofs.lemmas.Nat.{mul-add-lt, pow-add}
 use Rattle.std.proofs.Math.Nat.{div-div-eq-div-mul, pow-succ'}
+use Rattle.std.specs.List.{range_with_len}
+use Rattle.fax_bits.specs.declared.Colour.{Colour}
 use Rattle.fax_bits.specs.declared.Colour.TheVariants.{White, Black}
 use Rattle.fax_bits.specs.declared.codes.CodeEntry.{CodeEntry}
 use Rattle.fax_bits.specs.declared.indexes.TheConstants.{PAIR_WHITES, PAIR_BLACKS, PAIR_LENS}
+use Rattle.fax_bits.specs.declared.indexes.TheConstants.{WHITE_PAIR_CODES, WHITE_PAIR_LENS, BLACK_PAIR_CODES, BLACK_PAIR_LENS}
 use Rattle.fax_bits.specs.declared.pairs.Pair.{Pair}
 use Rattle.fax_bits.specs.declared.runs.RunCode.{RunCode}
 use Rattle.fax_bits.specs.declared.runs.TheConstants.{WHITE_CODES, WHITE_LENS, BLACK_CODES, BLACK_LENS}
@@ -18,7 +23,7 @@ use Rattle.fax_bits.specs.Written.{run_bits, run_code_bits}
 use Rattle.fax_bits.specs.code.Codes.{run_meaning}
 use Rattle.fax_bits.specs.code.Pairs.{IsPairAhead}
 use Rattle.fax_bits.specs.code.TableLaws.{run_table_has_short_codes}
-use Rattle.fax_bits.specs.views.Pairs.{IsPairRead}
+use Rattle.fax_bits.specs.views.Pairs.{IsPairRead, pair_bits}
 use Rattle.fax_bits.proofs.ArrayLemmas.{white_runs_are, black_runs_are, slice_get-run_entries}
 use Rattle.fax_bits.proofs.CodeBitsLemmas.{code_bits-add}
 use Rattle.fax_bits.proofs.FindLemmas.{code_ahead}
@@ -200,3 +205,89 @@ pair_is_read b left len pair rest ahead is =
       white_some = ahead.white;
       black_some = ahead.black;
     }
+
+-- the codes of two short runs together, and their length, by 16 times the one and the other
+abbrev pair_code : List ℕ → List ℕ → List ℕ → ℕ → ℕ
+pair_code codes others lens at = get_or codes (at / 16) 0 * 2 ^ get_or lens (at % 16) 0 + get_or others (at % 16) 0
+
+abbrev pair_len : List ℕ → List ℕ → ℕ → ℕ
+pair_len lens others at = get_or lens (at / 16) 0 + get_or others (at % 16) 0
+
+white_pair_codes_are : WHITE_PAIR_CODES ≡ map (pair_code WHITE_CODES BLACK_CODES BLACK_LENS) (range_with_len 0 256)
+white_pair_codes_are = refl
+
+white_pair_lens_are : WHITE_PAIR_LENS ≡ map (pair_len WHITE_LENS BLACK_LENS) (range_with_len 0 256)
+white_pair_lens_are = refl
+
+black_pair_codes_are : BLACK_PAIR_CODES ≡ map (pair_code BLACK_CODES WHITE_CODES WHITE_LENS) (range_with_len 0 256)
+black_pair_codes_are = refl
+
+black_pair_lens_are : BLACK_PAIR_LENS ≡ map (pair_len BLACK_LENS WHITE_LENS) (range_with_len 0 256)
+black_pair_lens_are = refl
+
+-- an array of them at two runs
+at_pair : (array : List ℕ) (f : ℕ → ℕ) (first second : ℕ) → array ≡ map f (range_with_len 0 256) → first < 16 → second < 16
+    → get_or array (first * 16 + second) 0 ≡ f (first * 16 + second)
+at_pair array f first second is short other_short =
+    ap (λ xs. get_or xs (first * 16 + second) 0) is
+    ∙ get_or-map-range_with_len f 0 256 (first * 16 + second) (first * 16 + second) 0 (omega arith) (omega arith)
+
+-- the code of a short run and its length
+abbrev IsShortCode : Colour → ℕ → ℕ → ℕ → Type 0
+IsShortCode colour n code len = (len ≤ 13) × (code < 2 ^ len) × (code_bits len code ≡ run_bits colour n)
+
+white_code : (n : ℕ) → n < 64 → IsShortCode White n (get_or WHITE_CODES n 0) (get_or WHITE_LENS n 0)
+white_code n short =
+    let is = run_table_has_short_codes White (white_entry n) (listed white_runs n (white_entry n) (white_found n short)) in
+    (is.1, is.2, white_bits n short)
+
+black_code : (n : ℕ) → n < 64 → IsShortCode Black n (get_or BLACK_CODES n 0) (get_or BLACK_LENS n 0)
+black_code n short =
+    let is = run_table_has_short_codes Black (black_entry n) (listed black_runs n (black_entry n) (black_found n short)) in
+    (is.1, is.2, black_bits n short)
+
+-- two codes together
+pub record IsPairCode (code len : ℕ) (bits : List Bool) : Type 0 where
+  pub bits_are : code_bits len code ≡ bits
+  pub fits : code < 2 ^ len
+  pub short : len ≤ 32
+
+two_codes : (one other : Colour) (first second code len code' len' : ℕ) → IsShortCode one first code len → IsShortCode other second code' len'
+    → IsPairCode (code * 2 ^ len' + code') (len + len') (run_bits one first ++ run_bits other second)
+two_codes one other first second code len code' len' is is' = record {
+  bits_are =
+      code_bits-add len len' code code' is'.1 ∙ ap (λ b. b ++ code_bits len' code') is.2 ∙ ap (λ b. run_bits one first ++ b) is'.2;
+  fits = omega (arith, mul-add-lt code (2 ^ len') code' (2 ^ len) is.1 is'.1, pow-add 2 len len');
+  short = omega (arith, is.0, is'.0);
+}
+
+high_of : (first second : ℕ) → second < 16 → (first * 16 + second) / 16 ≡ first
+high_of first second short = omega arith
+
+low_of : (first second : ℕ) → second < 16 → (first * 16 + second) % 16 ≡ second
+low_of first second short = omega arith
+
+-- what is looked up for two short runs
+pub white_pair : (first second : ℕ) → first < 16 → second < 16
+    → IsPairCode (get_or WHITE_PAIR_CODES (first * 16 + second) 0) (get_or WHITE_PAIR_LENS (first * 16 + second) 0)
+    (pair_bits White first second)
+white_pair first second short short' =
+    rw (
+      at_pair WHITE_PAIR_CODES (pair_code WHITE_CODES BLACK_CODES BLACK_LENS) first second white_pair_codes_are short short',
+      at_pair WHITE_PAIR_LENS (pair_len WHITE_LENS BLACK_LENS) first second white_pair_lens_are short short',
+      high_of first second short',
+      low_of first second short',
+    )
+    (two_codes White Black first second _ _ _ _ (white_code first (omega arith)) (black_code second (omega arith)))
+
+pub black_pair : (first second : ℕ) → first < 16 → second < 16
+    → IsPairCode (get_or BLACK_PAIR_CODES (first * 16 + second) 0) (get_or BLACK_PAIR_LENS (first * 16 + second) 0)
+    (pair_bits Black first second)
+black_pair first second short short' =
+    rw (
+      at_pair BLACK_PAIR_CODES (pair_code BLACK_CODES WHITE_CODES WHITE_LENS) first second black_pair_codes_are short short',
+      at_pair BLACK_PAIR_LENS (pair_len BLACK_LENS WHITE_LENS) first second black_pair_lens_are short short',
+      high_of first second short',
+      low_of first second short',
+    )
+    (two_codes Black White first second _ _ _ _ (black_code first (omega arith)) (white_code second (omega arith)))

@@ -97,26 +97,10 @@ pushed_bits order bytes pushed byte n all rest pushed_is byte_is all_is =
     ∙ append_assoc (bits order bytes) (byte_bits order byte) rest
     ∙ ap (λ b. bits order bytes ++ (b ++ rest)) byte_is ∙ ap (λ b. bits order bytes ++ b) (sym all_is)
 
--- four bytes that are pushed
-four_items : (xs : List ℕ) → length xs ≡ 4 → get_or xs 0 0 ∷ get_or xs 1 0 ∷ get_or xs 2 0 ∷ get_or xs 3 0 ∷ [] ≡ xs
-four_items [] four = absurd (omega arith)
-four_items (a ∷ []) four = absurd (omega arith)
-four_items (a ∷ b ∷ []) four = absurd (omega arith)
-four_items (a ∷ b ∷ c ∷ []) four = absurd (omega arith)
-four_items (a ∷ b ∷ c ∷ d ∷ []) four = refl
-four_items (a ∷ b ∷ c ∷ d ∷ e ∷ xs) four = absurd (omega arith)
-
-pub bits-pushed : (order : FillOrder) (bytes xs : List ℕ) → length xs ≡ 4
-    → bits order ((((bytes ++ get_or xs 0 0 ∷ []) ++ get_or xs 1 0 ∷ []) ++ get_or xs 2 0 ∷ []) ++ get_or xs 3 0 ∷ [])
-    ≡ bits order bytes ++ bits order xs
+-- bytes that are pushed
+pub bits-append : (order : FillOrder) (bytes xs : List ℕ) → bits order (bytes ++ xs) ≡ bits order bytes ++ bits order xs
 unfolding bits
-bits-pushed order bytes xs four =
-    ap (flat_map (byte_bits order))
-    (append_assoc ((bytes ++ get_or xs 0 0 ∷ []) ++ get_or xs 1 0 ∷ []) (get_or xs 2 0 ∷ []) (get_or xs 3 0 ∷ [])
-    ∙ append_assoc (bytes ++ get_or xs 0 0 ∷ []) (get_or xs 1 0 ∷ []) (get_or xs 2 0 ∷ get_or xs 3 0 ∷ [])
-    ∙ append_assoc bytes (get_or xs 0 0 ∷ []) (get_or xs 1 0 ∷ get_or xs 2 0 ∷ get_or xs 3 0 ∷ [])
-    ∙ ap (λ more. bytes ++ more) (four_items xs four))
-    ∙ flat_map-append (byte_bits order) bytes xs
+bits-append order bytes xs = flat_map-append (byte_bits order) bytes xs
 
 -- the bytes of a word, the highest first
 pub be_coded : (n : ℕ) → n < 2 ^ 32 → bits MsbFirst (n / 16777216 % 256 ∷ n / 65536 % 256 ∷ n / 256 % 256 ∷ n % 256 ∷ []) ≡ code_bits 32 n

@@ -19,7 +19,7 @@ pub use ahead::Ahead;
 pub use codes::{CodeEntry, CodeFault, CodeTable, read_code};
 pub use lanes::reverse_bits;
 pub use modes::{ModeCode, Modes, read_mode};
-pub use pairs::Pair;
+pub use pairs::{Pair, SHORT_RUN};
 pub use pending::PendingBits;
 pub use put::{put_mode, put_run};
 pub use runs::{BlackRuns, RunCode, WhiteRuns};

@@ -5,10 +5,12 @@ ghost use Rattle.fax_bits.specs.Bits.{code_bits};
 ghost use Rattle.fax_bits.specs.Written.{run_bits, mode_bits, run_code_bits};
 ghost use Rattle.fax_bits.specs.code.Codes.{bits_at, run_meaning};
 ghost use Rattle.fax_bits.specs.views.Codes.{IsWritten};
+ghost use Rattle.fax_bits.specs.views.Pairs.{pair_bits};
 ghost use Rattle.fax_bits.specs.views.Sink.{Appends, AppendsPrefix, AppendsAllBut};
 
 use crate::codes::{CodeTable, LONGEST_CODE};
 use crate::modes::{HORIZONTAL, PASS};
+use crate::pairs::{SHORT_RUN, short_pair_code};
 use crate::put::{VERTICAL_CODES, VERTICAL_LENS, put_run};
 use crate::runs::TERMINATING_CODES;
 use crate::{BitSink, BlackRuns, Colour, Memory, ModeCode, Modes, WhiteRuns};
@@ -54,7 +56,7 @@ impl PendingBits {
     #[inline(always)]
     fn then(self, bits: u32, len: u32) -> Self
         requires room { length self + len ≤ 64 }
-        requires short { len ≤ LONGEST_CODE }
+        requires short { len ≤ 32 }
         requires fits { bits < 2 ^ len }
         ensures { result ≡ self ++ code_bits len bits }
     {
@@ -176,6 +178,34 @@ impl PendingBits {
     {
         self.put_all(sink)?;
         put_run(sink, colour, n)
+    }
+
+    /// Puts a run of the colour and a run of the other colour after it, each of fewer than
+    /// `SHORT_RUN` pels, as their two terminating codes (T.4, section 4.1.1). The last bits are
+    /// pending then.
+    ///
+    /// # Errors
+    ///
+    /// Where a growth was refused. The sink is then as it was.
+    #[inline(always)]
+    pub fn put_short_pair(
+        self,
+        sink: &mut BitSink,
+        colour: Colour,
+        first: u32,
+        second: u32,
+    ) -> Result<Self, Memory>
+        requires few { length self ≤ 32 }
+        requires first { first < SHORT_RUN }
+        requires second { second < SHORT_RUN }
+        ensures ok { IfOk result
+            (λ left. AppendsAllBut sink.old (self ++ pair_bits colour first second)
+            left sink.new) }
+        ensures few { IfOk result (λ left. length left ≤ 32) }
+        ensures err { OnErr result (sink.new ≡ sink.old) }
+    {
+        let (bits, len) = short_pair_code(colour, first, second);
+        self.then(bits, len).settled(sink)
     }
 
     /// Puts a mode: pass, horizontal, or vertical with a1 at most 3 pels from b1 (T.4, section

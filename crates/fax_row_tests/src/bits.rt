@@ -1,6 +1,7 @@
 use fax_bits::{
     Ahead, BitSink, BitSource, BlackRuns, CodeFault, CodeTable, Colour, FillOrder, Memory,
-    ModeCode, Modes, Pair, RunCode, WhiteRuns, put_mode, put_run, read_code, reverse_bits,
+    ModeCode, Modes, Pair, PendingBits, RunCode, WhiteRuns, put_mode, put_run, read_code,
+    reverse_bits,
 };
 use std::alloc::{AllocError, Global};
 use std::process::Abort;
@@ -214,6 +215,26 @@ fn puts_runs(rt: HostRuntime) -> Result<(), Fail> {
         let mut sink = BitSink::new(rt.alloc(), FillOrder::MsbFirst);
         put_run(&mut sink, colour, pels)?;
         assert_eq!(rt; text_of(rt.alloc(), sink)?.as_str(), bits, "{pels}");
+    }
+    Ok(())
+}
+
+#[test]
+fn puts_two_short_runs(rt: HostRuntime) -> Result<(), Fail> {
+    let rows = [
+        (Colour::White, 0, 1, "00110101010"),
+        (Colour::White, 2, 3, "011110"),
+        (Colour::White, 15, 15, "110101000011000"),
+        (Colour::Black, 0, 1, "0000110111000111"),
+        (Colour::Black, 2, 3, "111000"),
+        (Colour::Black, 15, 15, "000011000110101"),
+    ];
+    for (colour, first, second, bits) in rows {
+        let mut sink = BitSink::new(rt.alloc(), FillOrder::MsbFirst);
+        PendingBits::none()
+            .put_short_pair(&mut sink, colour, first, second)?
+            .put_all(&mut sink)?;
+        assert_eq!(rt; text_of(rt.alloc(), sink)?.as_str(), bits, "{bits}");
     }
     Ok(())
 }

@@ -3,6 +3,7 @@ use Rattle.std.proofs.Common.{◌≡◌, ℕ, List, [], ◌∷◌, ◌++◌, Boo
 use Rattle.std.specs.Prelude.{Result, Ok, Err, OnErr}
 use Rattle.std.proofs.lemmas.List.{append-nil}
 use Rattle.fax_bits.specs.declared.Colour.{Colour}
+use Rattle.fax_bits.specs.declared.Colour.TheVariants.{White, Black}
 use Rattle.fax_bits.specs.Written.{run_bits}
 use Rattle.fax_bits.specs.views.Sink.{Sink, Appends, AppendsPrefix, AppendsAllBut}
 use Rattle.fax_rows.specs.Coded.{alternating_bits}
@@ -104,6 +105,13 @@ pub row_bits_go_on : (colour : Colour) (n : ℕ) (left runs : List ℕ) → left
     → alternating_bits colour left ≡ run_bits colour n ++ alternating_bits (other colour) runs
 unfolding alternating_bits
 row_bits_go_on colour n left runs is = ap (alternating_bits colour) is
+
+-- those of a white run, of the black one after it, and of the others
+pub row_pair_goes_on : (white black : ℕ) (left middle runs : List ℕ) → left ≡ white ∷ middle → middle ≡ black ∷ runs
+    → alternating_bits White left ≡ (run_bits White white ++ run_bits Black black) ++ alternating_bits White runs
+row_pair_goes_on white black left middle runs is is' =
+    row_bits_go_on White white left middle is ∙ ap (λ b. run_bits White white ++ b) (row_bits_go_on Black black middle runs is')
+    ∙ sym (append_assoc (run_bits White white) (run_bits Black black) (alternating_bits White runs))
 
 -- and where none is left
 pub row_bits_end : (colour : Colour) (left : List ℕ) → left ≡ [] → alternating_bits colour left ≡ []

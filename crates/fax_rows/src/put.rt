@@ -2,7 +2,9 @@
 //! 4.2.1.3.3; T.6, section 2.2.3).
 ghost use Rattle.std.specs.Prelude.{◌≡◌, ◌+◌, ◌-◌, ◌≤◌, ◌<◌, ◌^◌, ◌++◌, length, true, unwrap_or};
 ghost use Rattle.std.specs.Prelude.{Some, None, OnOk, OnErr, IfOk};
+ghost use Rattle.fax_bits.specs.Written.{run_bits};
 ghost use Rattle.fax_bits.specs.views.Sink.{Appends, AppendsPrefix, AppendsAllBut};
+ghost use Rattle.fax_rows.specs.Rows.{other as other_than};
 ghost use Rattle.fax_rows.specs.code.Ahead as Spec;
 ghost use Rattle.fax_rows.specs.code.Choice as Choice;
 ghost use Rattle.fax_rows.specs.Coded as Coded;
@@ -13,7 +15,34 @@ use crate::pels::Row;
 use crate::rows::Rows;
 use crate::runs::other;
 use crate::turns::colour_after;
-use fax_bits::{BitSink, Colour, Memory, ModeCode, PendingBits};
+use fax_bits::{BitSink, Colour, Memory, ModeCode, PendingBits, SHORT_RUN};
+
+/// Puts a run of the colour and a run of the other colour after it (T.4, section 4.1.1): short ones
+/// at once.
+#[inline(always)]
+fn put_pair(
+    pending: PendingBits,
+    sink: &mut BitSink,
+    colour: Colour,
+    first: u32,
+    second: u32,
+) -> Result<PendingBits, Memory>
+    requires first { first < 2 ^ 16 }
+    requires second { second < 2 ^ 16 }
+    requires few { length pending ≤ 32 }
+    ensures ok { IfOk result (λ left. AppendsAllBut sink.old
+        (pending ++ (run_bits colour first ++ run_bits (other_than colour) second)) left sink.new) }
+    ensures few { IfOk result (λ left. length left ≤ 32) }
+    ensures err { OnErr result (AppendsPrefix sink.old
+        (pending ++ (run_bits colour first ++ run_bits (other_than colour) second)) sink.new) }
+{
+    if first < SHORT_RUN && second < SHORT_RUN {
+        return pending.put_short_pair(sink, colour, first, second);
+    }
+    pending
+        .put_run(sink, colour, first)?
+        .put_run(sink, other(colour), second)
+}
 
 /// Puts a row in one-dimensional coding: the longest runs of white and black pels in turn, white
 /// first, which has no pels where the row begins black (T.4, section 4.1.1).
@@ -29,11 +58,11 @@ pub fn put_1d(row: &Row, sink: &mut BitSink) -> Result<(), Memory>
     let mut runs = LongestRuns::of_row(row);
     let mut pending = PendingBits::none();
     while let Some(white) = runs.next_run() {
-        pending = pending.put_run(sink, Colour::White, white)?;
         let Some(black) = runs.next_run() else {
+            pending = pending.put_run(sink, Colour::White, white)?;
             return pending.put_all(sink);
         };
-        pending = pending.put_run(sink, Colour::Black, black)?;
+        pending = put_pair(pending, sink, Colour::White, white, black)?;
     }
     pending.put_all(sink)
 }
@@ -186,9 +215,7 @@ fn put_run_pair(
     ensures err { OnErr result (AppendsPrefix sink.old (pending ++ Spec.run_pair ahead) sink.new) }
 {
     let first = ahead.a1 - ahead.a0.unwrap_or(0);
-    pending
-        .put_run(sink, ahead.colour, first)?
-        .put_run(sink, other(ahead.colour), ahead.a2 - ahead.a1)
+    put_pair(pending, sink, ahead.colour, first, ahead.a2 - ahead.a1)
 }
 
 /// Puts the step from a0 where a1 is not under b1, and answers how far the row is written then, and

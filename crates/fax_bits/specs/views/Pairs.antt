@@ -1,7 +1,7 @@
--- A white run and the black one after it, as they are read.
-use Rattle.std.specs.Prelude.{◌≡◌, ◌<◌, Bool, List, ◌++◌}
+-- A white run and the black one after it, as they are read, and any two runs as they are written.
+use Rattle.std.specs.Prelude.{◌≡◌, ℕ, ◌<◌, Bool, List, ◌++◌}
 use Rattle.fax_bits.specs.declared.pairs.Pair.{Pair}
-use Rattle.fax_bits.specs.Bits.{White, Black}
+use Rattle.fax_bits.specs.Bits.{Colour, White, Black}
 use Rattle.fax_bits.specs.Codes.{IsRun}
 use Rattle.fax_bits.specs.Written.{run_bits}
 
@@ -15,3 +15,8 @@ pub record IsPairRead (b : List Bool) (pair : Pair) (rest : List Bool) : Type 0 
   pub black_written : middle ≡ run_bits Black pair.black ++ rest
   pub white_some : 0 < pair.white
   pub black_some : 0 < pair.black
+
+-- the bits of a run of a colour, and of a run of the other colour after it (T.4, section 4.1.1)
+abbrev pub pair_bits : Colour → ℕ → ℕ → List Bool
+pair_bits White first second = run_bits White first ++ run_bits Black second
+pair_bits Black first second = run_bits Black first ++ run_bits White second

@@ -1,6 +1,6 @@
 use Rattle.std.proofs.lemmas.Result.{on_ok_weaker, on_err_weaker}
 use Rattle.fax_rows.specs.Rows.{White, Black}
-use Rattle.fax_rows.proofs.PutLemmas.{put_goes_on, on_err, put_stops, put_pending, pending_stops, row_bits_go_on, row_bits_end}
+use Rattle.fax_rows.proofs.PutLemmas.{put_goes_on, on_err, put_stops, put_pending, pending_stops, row_bits_go_on, row_pair_goes_on, row_bits_end}
 use Rattle.fax_rows.proofs.put.put_1d.Goals as goal
 
 pub returns-in_err-pending-clause-err : goal.returns-in_err-pending-clause-err
@@ -29,22 +29,19 @@ returns-in_default-next_run-clause-err c =
 
 pub returns-in_err-pending-2-clause-err : goal.returns-in_err-pending-2-clause-err
 returns-in_err-pending-2-clause-err c =
-    let white = put_goes_on c.args.sink.now c.loop-white.sink c.put_run.new.sink _ _ _ _ _ _ c.loop-white.invariant.put
-    (row_bits_go_on White _ c.loop-white.runs _ c.in-Some.ensures.first) c.in_ok-pending.ensures.ok in
     on_err c.from_residual-in_err-pending-2.result
-    (put_stops c.args.sink.now c.put_run.new.sink _ _ _ _ _ _ white
-    (row_bits_go_on Black _ c.next_run.new.self _ c.in-Some-next_run.ensures.first) c.in_err-pending-2.ensures.err)
+    (put_stops c.args.sink.now c.loop-white.sink _ _ _ _ _ _ c.loop-white.invariant.put
+    (row_pair_goes_on _ _ c.loop-white.runs c.next_run.new.self _ c.in-Some.ensures.first c.in-Some-next_run.ensures.first)
+    c.in_err-pending-2.ensures.err)
 
 pub loop-white-preserved : goal.loop-white-preserved
-loop-white-preserved c =
-    let white = put_goes_on c.args.sink.now c.loop-white.sink c.put_run.new.sink _ _ _ _ _ _ c.loop-white.invariant.put
-    (row_bits_go_on White _ c.loop-white.runs _ c.in-Some.ensures.first) c.in_ok-pending.ensures.ok in
-    record {
-      few = c.in_ok-pending-2.ensures.few;
-      put =
-          put_goes_on c.args.sink.now c.put_run.new.sink c.put_run-in-Some.new.sink _ _ _ _ _ _ white
-          (row_bits_go_on Black _ c.next_run.new.self _ c.in-Some-next_run.ensures.first) c.in_ok-pending-2.ensures.ok;
-    }
+loop-white-preserved c = record {
+  few = c.in_ok-pending-2.ensures.few;
+  put =
+      put_goes_on c.args.sink.now c.loop-white.sink c.put_pair.new.sink _ _ _ _ _ _ c.loop-white.invariant.put
+      (row_pair_goes_on _ _ c.loop-white.runs c.next_run.new.self _ c.in-Some.ensures.first c.in-Some-next_run.ensures.first)
+      c.in_ok-pending-2.ensures.ok;
+}
 
 pub returns-clause-ok : goal.returns-clause-ok
 returns-clause-ok c =

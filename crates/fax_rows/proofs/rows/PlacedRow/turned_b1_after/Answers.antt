@@ -9,8 +9,8 @@ bounds-self-b1 c =
     let row = c.args.self in
     omega (arith, row.placed.room, end_within row.places.now row.end row.width row.placed)
 
-pub b1_after-requires-2 : goal.b1_after-requires-2
-b1_after-requires-2 c = record {
+pub b1_after-requires : goal.b1_after-requires
+b1_after-requires c = record {
   within = λ inside.
       let less = inside_end c.args.self c.args.b1 c.requires.some c.requires.within (omega arith) in
       omega arith;
@@ -18,9 +18,9 @@ b1_after-requires-2 c = record {
 
 pub returns : goal.returns
 returns c = λ inside a0 colour at right.
-    c.b1_after-2.ensures inside (other colour)
+    c.b1_after.ensures inside (other colour)
     (right_start c.args.self a0 colour c.args.b1 c.args.place at (omega arith) inside)
 
 pub returns-then-self-b1 : goal.returns-then-self-b1
 returns-then-self-b1 c = λ inside a0 colour at right.
-    c.b1_after.ensures inside (other colour) (left_start c.args.self a0 colour c.args.b1 c.args.place at right)
+    c.b1_before.ensures (other colour) (left_start c.args.self a0 colour c.args.b1 c.args.place at right)

@@ -1,11 +1,10 @@
 use Rattle.std.proofs.lemmas.Result.{on_err_weaker}
 use Rattle.fax_rows.proofs.PutLemmas.{pair_stops}
-use Rattle.fax_rows.proofs.put.put_run_pair.Goals as goal
+use Rattle.fax_rows.proofs.put.put_pair.Goals as goal
 
 pub returns-clause-err : goal.returns-clause-err
 returns-clause-err c =
-    let first = rw c.unwrap_or.ensures at c.in_ok-put_run.ensures.ok in
     on_err_weaker c.put_run-2.result
-    (λ stops. pair_stops c.args.sink.now c.put_run.new.sink c.put_run-2.new.sink c.args.pending _ _ _ first
+    (λ stops. pair_stops c.args.sink.now c.put_run.new.sink c.put_run-2.new.sink c.args.pending _ _ _ c.in_ok-put_run.ensures.ok
     (rw c.other.ensures at stops))
     c.put_run-2.ensures.err
