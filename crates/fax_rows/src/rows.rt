@@ -92,23 +92,6 @@ impl PlacedRow<'_> {
         }
     }
 
-    /// What `find_b1` answers from the index before that of a b1 right of the pel: the changing
-    /// element there, or the one right of that b1.
-    #[inline(always)]
-    fn b1_before(self, b1: usize, place: u32) -> usize
-        requires some { 0 < b1 }
-        requires within { b1 ≤ self.end + 1 }
-        requires left { place < slice_index self.places.now b1 }
-        ensures { (colour : Colour) → IsBeforeB1 self.entry place colour (b1 - 1)
-            → IsB1At self.entry (Some place) colour result }
-    {
-        if self.places[b1 - 1] > place {
-            b1 - 1
-        } else {
-            b1 + 1
-        }
-    }
-
     /// The index of b1 as seen from the pel `place`, where the colour turned, from that of the b1
     /// before.
     pub fn turned_b1_after(self, b1: usize, place: u32) -> usize
