@@ -9,6 +9,7 @@ pub mod StepLemmas
 pub mod RunLemmas
 pub mod RowLemmas
 pub mod RowRunLemmas
+pub mod LongestRunLemmas
 pub mod GivenRunLemmas
 pub mod RunLaws
 pub mod RowLaws

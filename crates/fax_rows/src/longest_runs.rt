@@ -1,6 +1,7 @@
 //! The longest runs of a row, one after another (ITU-T T.4, section 4.1.1).
 ghost use Rattle.std.specs.Prelude.{◌≡◌, ◌+◌, ◌-◌, ◌<◌, ◌≤◌, ◌^◌, ◌↔◌, [], ◌∷◌};
 ghost use Rattle.std.specs.Prelude.{MatchOption, IfNone, IfSome, IsTrue, length, slice_index, sum};
+ghost use Rattle.std.specs.Prelude.{take, drop};
 ghost use Rattle.fax_rows.specs.Rows.{runs_of, pels_of};
 ghost use Rattle.fax_rows.specs.code.LongestRuns.{AreLongest};
 ghost use Rattle.fax_rows.specs.code.Turns.{row_of, IsAscending};
@@ -9,26 +10,25 @@ use crate::pels::Row;
 use crate::turns::turn;
 use fax_bits::Colour;
 use std::marker::Model;
+use std::simd::prelude::*;
 
 /// The longest runs of a row that are still to come. Contracts see the list of their lengths in
 /// pels.
 #[derive(Drop)]
 pub struct LongestRuns<'a> {
-    /// Where the next run begins.
-    from: u32,
-    /// Where these runs end.
-    ends: &'a [u32],
+    /// Where the next run begins, and then where each run ends.
+    places: &'a [u32],
 }
 
 impl<'a> Model for LongestRuns<'a> {
     ghost use Rattle.std.specs.Prelude.{ℕ, List};
-    ghost use Rattle.fax_rows.specs.code.LongestRuns.{gaps, AreAheadOf};
+    ghost use Rattle.fax_rows.specs.code.LongestRuns.{runs_between, AreBounds};
 
     ghost Value = { List ℕ };
 
-    ghost view = { λ s. gaps s.from s.ends.now };
+    ghost view = { λ s. runs_between s.places.now };
 
-    ghost invariant = { λ s. AreAheadOf s.from s.ends.now };
+    ghost invariant = { λ s. AreBounds s.places.now };
 }
 
 impl<'a> LongestRuns<'a> {
@@ -37,8 +37,7 @@ impl<'a> LongestRuns<'a> {
         ensures { result ≡ runs_of row.now }
     {
         LongestRuns {
-            from: 0,
-            ends: &row.places[1..row.end + 1],
+            places: &row.places[..row.end + 1],
         }
     }
 
@@ -47,7 +46,7 @@ impl<'a> LongestRuns<'a> {
         ensures count { result ≡ length self.now }
         ensures few { result ≤ 2 ^ 16 }
     {
-        self.ends.len()
+        self.places.len() - 1
     }
 
     /// How many pels the next run has. `None` where no run is left.
@@ -57,15 +56,36 @@ impl<'a> LongestRuns<'a> {
         ensures none_left { IfNone result (self.new ≡ []) }
         ensures short { IfSome result (λ n. n < 2 ^ 16) }
     {
-        let from = self.from;
-        match self.ends.split_first() {
-            Some((to, after)) => {
-                self.from = *to;
-                self.ends = after;
-                Some(*to - from)
-            }
-            None => None,
+        if self.places.len() < 2 {
+            return None;
         }
+        let run = self.places[1] - self.places[0];
+        self.places = &self.places[1..];
+        Some(run)
+    }
+
+    /// How many pels each of the next eight runs has; they are still to come. `None` where fewer
+    /// are left.
+    #[inline(always)]
+    pub fn eight_ahead(&self) -> Option<[u16; 8]>
+        ensures { MatchOption result (length self.now < 8)
+            (λ runs. (runs ≡ take 8 self.now) × (8 ≤ length self.now)) }
+    {
+        if self.places.len() <= 8 {
+            return None;
+        }
+        let begins = u32x8::from_slice(self.places);
+        let ends = u32x8::from_slice(&self.places[1..]);
+        Some((ends - begins).cast::<u16>().to_array())
+    }
+
+    /// Leaves out so many of the next runs, at most all of them.
+    #[inline(always)]
+    pub fn skip(&mut self, count: usize)
+        requires { count ≤ length self.old }
+        ensures { self.new ≡ drop count self.old }
+    {
+        self.places = &self.places[count..];
     }
 }
 

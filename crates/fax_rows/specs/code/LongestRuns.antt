@@ -1,6 +1,6 @@
 -- The longest runs of a row: those that are still to come, and those that are given.
 use Rattle.std.specs.Prelude.{◌≡◌, ℕ, ◌+◌, ◌-◌, ◌<◌, ◌≤◌, ◌^◌, List, [], ◌∷◌, length, slice_index}
-use Rattle.std.specs.Prelude.{sum}
+use Rattle.std.specs.Prelude.{drop, sum}
 
 -- how far it is from a place to the first of these, and from each of them to the next
 abbrev pub gaps : ℕ → List ℕ → List ℕ
@@ -13,6 +13,16 @@ pub record AreAheadOf (from : ℕ) (ends : List ℕ) : Type 0 where
   pub right : (i : ℕ) → i < length ends → from ≤ slice_index ends i
   pub left : (i : ℕ) → i < length ends → slice_index ends i < 2 ^ 16
   pub steps : (i : ℕ) → i + 1 < length ends → slice_index ends i ≤ slice_index ends (i + 1)
+
+-- the runs between the place where the first begins and those where each ends
+abbrev pub runs_between : List ℕ → List ℕ
+runs_between [] = []
+runs_between (from ∷ ends) = gaps from ends
+
+-- a place and the ends of runs after it
+pub record AreBounds (places : List ℕ) : Type 0 where
+  pub some : 0 < length places
+  pub ahead : AreAheadOf (slice_index places 0) (drop 1 places)
 
 -- these are the longest runs of a row of this width: together they are as long, and the first alone
 -- may be 0

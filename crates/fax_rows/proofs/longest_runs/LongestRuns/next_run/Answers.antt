@@ -1,11 +1,6 @@
-use Rattle.std.proofs.Common.{◌≡◌, ◌∷◌, subst}
-use Rattle.fax_rows.specs.code.LongestRuns.{AreAheadOf}
-use Rattle.fax_rows.proofs.RowRunLemmas.{ahead_of_next}
+use Rattle.std.proofs.Common.{arith}
+use Rattle.fax_rows.proofs.LongestRunLemmas.{rest_is, skip_bounds}
 use Rattle.fax_rows.proofs.longest_runs.LongestRuns.next_run.Goals as goal
 
 pub invariant_of-self : goal.invariant_of-self
-invariant_of-self c =
-    let told = c.in-Some.ensures.cases in
-    let parts : c.self.inside.ends.now ≡ c.in-Some.to.now ∷ c.in-Some.after.now = told.0 in
-    ahead_of_next c.self.inside.from c.in-Some.to.now c.in-Some.after.now
-    (subst (λ ends. AreAheadOf c.self.inside.from ends) parts c.self.invariant)
+invariant_of-self c = rw (rest_is c.self.inside.places.now 1) (skip_bounds c.self.inside.places.now 1 (omega arith) c.self.invariant)

@@ -1,0 +1,94 @@
+-- The longest runs that are still to come, by the place where they begin and those where each ends.
+use Rattle.std.proofs.Common.{◌≡◌, ℕ, zero, suc, ◌+◌, ◌-◌, ◌%◌, ◌<◌, ◌≤◌, ◌^◌, List, [], ◌∷◌, length, take, drop, get_or, map, refl, ap, sym, ◌∙◌}
+use Rattle.std.proofs.Common.{arith, length-drop}
+use Rattle.std.proofs.Math.Seq.{take-length}
+use lib.Lanes.{zip2, Each1}
+use Rattle.fax_rows.specs.code.LongestRuns.{gaps, runs_between, AreAheadOf, AreBounds}
+use Rattle.fax_rows.proofs.RowRunLemmas.{ahead_of_next, length-gaps}
+
+-- what is left of a list is all of what is left
+pub rest_is : (xs : List ℕ) (n : ℕ) → take (length xs - n) (drop n xs) ≡ drop n xs
+rest_is xs n = ap (λ k. take k (drop n xs)) (sym (length-drop n xs)) ∙ take-length (drop n xs)
+
+-- the places of a row, from its first pel on
+pub row_bounds : (places : List ℕ) (end : ℕ) → 0 < length places → get_or places 0 0 ≡ 0 → take (end + 1) places ≡ 0 ∷ take end (drop 1 places)
+row_bounds [] end some first = absurd (omega arith)
+row_bounds (place ∷ places) end some first =
+    let next : end + 1 ≡ suc end = omega arith in
+    ap (λ n. take n (place ∷ places)) next ∙ ap (λ p. p ∷ take end places) first
+
+pub are_bounds : (ends : List ℕ) → AreAheadOf 0 ends → AreBounds (0 ∷ ends)
+are_bounds ends ahead = record { some = omega arith; ahead = ahead }
+
+-- there is a run for each place but the first
+pub length-runs_between : (places : List ℕ) → length (runs_between places) ≡ length places - 1
+length-runs_between [] = refl
+length-runs_between (from ∷ ends) = omega (arith, length-gaps from ends)
+
+-- the next run
+pub no_next : (places : List ℕ) → length places < 2 → runs_between places ≡ []
+no_next [] few = refl
+no_next (from ∷ []) few = refl
+no_next (from ∷ next ∷ ends) few = absurd (omega arith)
+
+pub next_is : (places : List ℕ) → 2 ≤ length places → runs_between places ≡ (get_or places 1 0 - get_or places 0 0) ∷ runs_between (drop 1 places)
+next_is [] some = absurd (omega arith)
+next_is (from ∷ []) some = absurd (omega arith)
+next_is (from ∷ next ∷ ends) some = refl
+
+pub next_right : (places : List ℕ) → 2 ≤ length places → AreBounds places → get_or places 0 0 ≤ get_or places 1 0
+next_right [] some all = absurd (omega arith)
+next_right (from ∷ []) some all = absurd (omega arith)
+next_right (from ∷ next ∷ ends) some all = all.ahead.right 0 (omega arith)
+
+pub next_left : (places : List ℕ) → 2 ≤ length places → AreBounds places → get_or places 1 0 < 2 ^ 16
+next_left [] some all = absurd (omega arith)
+next_left (from ∷ []) some all = absurd (omega arith)
+next_left (from ∷ next ∷ ends) some all = all.ahead.left 0 (omega arith)
+
+-- some runs are left out
+pub skip_bounds : (places : List ℕ) (n : ℕ) → n < length places → AreBounds places → AreBounds (drop n places)
+skip_bounds [] n within all = absurd (omega arith)
+skip_bounds (from ∷ ends) zero within all = all
+skip_bounds (from ∷ []) (suc n) within all = absurd (omega arith)
+skip_bounds (from ∷ next ∷ ends) (suc n) within all =
+    skip_bounds (next ∷ ends) n (omega arith) (record { some = omega arith; ahead = ahead_of_next from next ends all.ahead })
+
+pub skip_runs : (places : List ℕ) (n : ℕ) → n < length places → runs_between (drop n places) ≡ drop n (runs_between places)
+skip_runs [] n within = absurd (omega arith)
+skip_runs (from ∷ ends) zero within = refl
+skip_runs (from ∷ []) (suc n) within = absurd (omega arith)
+skip_runs (from ∷ next ∷ ends) (suc n) within = skip_runs (next ∷ ends) n (omega arith)
+
+-- a lane's subtraction, of a place from one that is no less
+pub lane_is : (a b : ℕ) → b ≤ a → a < 65536 → (a + (4294967296 - b)) % 4294967296 ≡ a - b
+lane_is a b right left = omega arith
+
+-- the first runs, in lanes
+module _ (sub : ℕ → ℕ → ℕ) (cast : ℕ → ℕ) (is : (a b : ℕ) → b ≤ a → a < 65536 → cast (sub a b) ≡ a - b) where
+  gaps_in_lanes : (n from : ℕ) (ends : List ℕ) → n ≤ length ends → AreAheadOf from ends
+      → map cast (zip2 sub (take n ends) (take n (from ∷ ends))) ≡ take n (gaps from ends)
+  gaps_in_lanes zero from ends within all = refl
+  gaps_in_lanes (suc n) from [] within all = absurd (omega arith)
+  gaps_in_lanes (suc n) from (next ∷ ends) within all =
+      ap (λ run. run ∷ map cast (zip2 sub (take n ends) (take n (next ∷ ends))))
+      (is next from (all.right 0 (omega arith)) (all.left 0 (omega arith)))
+      ∙ ap (λ runs. (next - from) ∷ runs) (gaps_in_lanes n next ends (omega arith) (ahead_of_next from next ends all))
+
+  pub runs_in_lanes : (n : ℕ) (places : List ℕ) → n < length places → AreBounds places
+      → map cast (zip2 sub (take n (drop 1 places)) (take n places)) ≡ take n (runs_between places)
+  runs_in_lanes n [] within all = absurd (omega arith)
+  runs_in_lanes n (from ∷ ends) within all = gaps_in_lanes n from ends (omega arith) all.ahead
+
+-- each of them fits a lane
+module _ (P : ℕ → Type 0) (sub : ℕ → ℕ → ℕ) (fits : (a b : ℕ) → b ≤ a → a < 65536 → P (sub a b)) where
+  gaps_fit : (n from : ℕ) (ends : List ℕ) → n ≤ length ends → AreAheadOf from ends
+      → Each1 P (zip2 sub (take n ends) (take n (from ∷ ends)))
+  gaps_fit zero from ends within all = tt
+  gaps_fit (suc n) from [] within all = absurd (omega arith)
+  gaps_fit (suc n) from (next ∷ ends) within all =
+      (fits next from (all.right 0 (omega arith)) (all.left 0 (omega arith)), gaps_fit n next ends (omega arith) (ahead_of_next from next ends all))
+
+  pub runs_fit : (n : ℕ) (places : List ℕ) → n < length places → AreBounds places → Each1 P (zip2 sub (take n (drop 1 places)) (take n places))
+  runs_fit n [] within all = absurd (omega arith)
+  runs_fit n (from ∷ ends) within all = gaps_fit n from ends (omega arith) all.ahead
