@@ -34,3 +34,4 @@ pub mod ChosenRowLemmas
 pub mod ChosenStepLemmas
 pub mod ChosenRunLemmas
 pub mod PairReadLemmas
+pub mod SameRowLemmas
