@@ -27,3 +27,4 @@ pub mod PackedLemmas
 pub mod LaneLemmas
 pub mod WrittenRunLemmas
 pub mod PairLemmas
+pub mod PutSinkLemmas

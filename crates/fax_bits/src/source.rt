@@ -17,9 +17,9 @@ use std::marker::Model;
 /// before it.
 #[derive(Drop)]
 pub struct BitSource<'a> {
-    order: FillOrder,
     bytes: &'a [u8],
     place: u64,
+    order: FillOrder,
 }
 
 impl<'a> Model for BitSource<'a> {
@@ -43,9 +43,9 @@ impl<'a> BitSource<'a> {
         ensures { result ≡ source_of order bytes.now 0 }
     {
         BitSource {
-            order,
             bytes,
             place: 0,
+            order,
         }
     }
 
@@ -55,9 +55,9 @@ impl<'a> BitSource<'a> {
         ensures { result ≡ source_of order bytes.now place }
     {
         BitSource {
-            order,
             bytes,
             place,
+            order,
         }
     }
 
@@ -186,9 +186,9 @@ impl<'a> BitSource<'a> {
         ensures { result ≡ self.now }
     {
         BitSource {
-            order: self.order,
             bytes: self.bytes,
             place: self.place,
+            order: self.order,
         }
     }
 

@@ -1,19 +1,39 @@
-use Rattle.std.proofs.Common.{arith}
+use Rattle.std.proofs.Common.{◌+◌, ◌≤◌, length, sym, ◌∙◌, arith}
+use Rattle.std.proofs.lemmas.List.{length-take-le}
 use Rattle.fax_rows.proofs.PlacedRowLemmas.{end_within, same_places, same_pels}
+use Rattle.fax_rows.proofs.SameRowLemmas.{length-copied, copied_at}
 use Rattle.fax_rows.proofs.turns.copy_places.Goals as goal
+
+pub slice_bounds-copy_from_slice-end : goal.slice_bounds-copy_from_slice-end
+slice_bounds-copy_from_slice-end c =
+    omega (arith, c.requires.room, end_within c.args.other.now c.args.end c.args.width c.requires.row)
+
+pub slice_bounds-copy_from_slice-end-2 : goal.slice_bounds-copy_from_slice-end-2
+slice_bounds-copy_from_slice-end-2 c =
+    sym (length-take-le (c.args.end + 3) c.args.places.now
+    (omega (arith, c.requires.room, end_within c.args.other.now c.args.end c.args.width c.requires.row)))
+
+pub slice_bounds-copy_from_slice-end-3 : goal.slice_bounds-copy_from_slice-end-3
+slice_bounds-copy_from_slice-end-3 c =
+    sym (length-take-le (c.args.end + 3) c.args.other.now
+    (omega (arith, c.requires.row.room, end_within c.args.other.now c.args.end c.args.width c.requires.row)))
 
 pub returns-clause-placed : goal.returns-clause-placed
 returns-clause-placed c =
-    same_places c.loop-i.places c.args.other.now c.args.end c.args.width c.requires.row (omega (arith, c.requires.room))
-    (λ i h. c.loop-i.invariant i (omega arith))
+    let within = end_within c.args.other.now c.args.end c.args.width c.requires.row in
+    let short : c.args.end + 3 ≤ length c.args.other.now = omega (arith, c.requires.row.room, within) in
+    let room : c.args.end + 3 ≤ length c.args.places.now = omega (arith, c.requires.room, within) in
+    let copied = c.copy_from_slice.new.self in
+    same_places _ c.args.other.now c.args.end c.args.width c.requires.row
+    (length-copied c.args.places.now c.args.other.now copied (c.args.end + 3) c.copy_from_slice.ensures.after short room ∙ c.requires.room)
+    (λ i h. copied_at c.args.places.now c.args.other.now copied (c.args.end + 3) c.copy_from_slice.ensures.after short room i h)
 
 pub returns-clause-pels : goal.returns-clause-pels
 returns-clause-pels c =
-    same_pels c.loop-i.places c.args.other.now c.args.end c.args.width c.requires.row (omega (arith, c.requires.room))
-    (λ i h. c.loop-i.invariant i (omega arith))
-
-pub bounds-other-i : goal.bounds-other-i
-bounds-other-i c = omega (arith, c.requires.row.room, end_within c.args.other.now c.args.end c.args.width c.requires.row)
-
-pub bounds-places-i : goal.bounds-places-i
-bounds-places-i c = omega (arith, c.requires.room, end_within c.args.other.now c.args.end c.args.width c.requires.row)
+    let within = end_within c.args.other.now c.args.end c.args.width c.requires.row in
+    let short : c.args.end + 3 ≤ length c.args.other.now = omega (arith, c.requires.row.room, within) in
+    let room : c.args.end + 3 ≤ length c.args.places.now = omega (arith, c.requires.room, within) in
+    let copied = c.copy_from_slice.new.self in
+    same_pels _ c.args.other.now c.args.end c.args.width c.requires.row
+    (length-copied c.args.places.now c.args.other.now copied (c.args.end + 3) c.copy_from_slice.ensures.after short room ∙ c.requires.room)
+    (λ i h. copied_at c.args.places.now c.args.other.now copied (c.args.end + 3) c.copy_from_slice.ensures.after short room i h)
