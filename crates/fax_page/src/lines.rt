@@ -11,6 +11,7 @@ use fax_rows::{BitSource, Row, RowFault, read_1d, read_2d};
 const EOL_ZEROS: u64 = 11;
 
 /// Reads fill and an EOL (T.4, sections 4.1.2 and 4.1.3), which some rows may lack.
+#[inline(always)]
 pub(crate) fn read_eol(source: &mut BitSource, may_lack: bool) -> Result<(), StripFault>
     ensures ok { OnOk result (HasEol may_lack source.old.left source.new.left) }
     ensures err { IfErr result (HasNoEol may_lack source.old.left) }
@@ -29,6 +30,7 @@ pub(crate) fn read_eol(source: &mut BitSource, may_lack: bool) -> Result<(), Str
 }
 
 /// Reads the tag bit after an EOL of MR, which says how the row is coded (T.4, section 4.2.2).
+#[inline(always)]
 fn read_tag(source: &mut BitSource) -> Result<Dimension, StripFault>
     ensures ok { IfOk result (λ dimension.
         source.old.left ≡ Lines.tag_bit dimension ∷ source.new.left) }
@@ -50,6 +52,7 @@ fn read_tag(source: &mut BitSource) -> Result<Dimension, StripFault>
 /// Reads what stands before the first code of row `i`, and answers how the row is coded: an EOL in
 /// MH, an EOL and a tag bit in MR, nothing in MMR (T.4, sections 4.1.2 and 4.2.2; T.6, section
 /// 2.2.1).
+#[inline(always)]
 pub(crate) fn read_start(
     source: &mut BitSource,
     coding: Coding,
