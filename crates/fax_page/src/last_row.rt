@@ -7,7 +7,10 @@ use fax_rows::{BitSink, Colour, FillOrder, Memory, Row, put_1d, put_2d};
 use std::alloc::Global;
 use std::marker::Model;
 
-/// The most changes of a row whose codes are kept. Rows of more hardly ever stand twice.
+/// The fewest changes of a row whose codes are kept: those of fewer are put as soon as copied.
+const FEWEST_CHANGES: usize = 8;
+
+/// The most changes of a row whose codes are kept: rows of more hardly ever stand twice.
 const MOST_CHANGES: usize = 256;
 
 /// The last row of a strip, or a white one. Contracts see its pels.
@@ -60,7 +63,8 @@ impl LastRow {
             return sink.put_sink(&self.codes);
         }
         self.has_codes = false;
-        if row.changes().len() > MOST_CHANGES {
+        let changes = row.changes().len();
+        if changes < FEWEST_CHANGES || changes > MOST_CHANGES {
             put_1d(row, sink)?;
             self.row.set_from(row);
             return Ok(());
