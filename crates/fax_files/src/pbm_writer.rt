@@ -1,5 +1,5 @@
 //! Raw PBM that is written image by image and row by row (the netpbm format, P4).
-ghost use Rattle.std.specs.Prelude.{◌≡◌, ◌≤◌, ◌++◌, [], length, OnOk, OnErr, IsTrue};
+ghost use Rattle.std.specs.Prelude.{◌≡◌, ◌≤◌, ◌<◌, ◌^◌, ◌++◌, [], length, OnOk, OnErr, IsTrue};
 ghost use Rattle.std.specs.Prelude.{List, ℕ, Some, vec_len};
 ghost use Rattle.fax_files.specs.views.Pbm as View;
 ghost use Rattle.fax_rows.specs.Coded as Packed;
@@ -93,7 +93,8 @@ impl PbmWriter {
 
     /// How many bytes are written.
     pub fn len(&self) -> usize
-        ensures { result ≡ length self.now }
+        ensures length { result ≡ length self.now }
+        ensures few { result < 2 ^ 63 }
     {
         self.bytes.len()
     }
