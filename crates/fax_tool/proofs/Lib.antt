@@ -1,5 +1,6 @@
 pub mod TransferLemmas
 mod NumberLemmas
+mod EightLemmas
 mod BuildLemmas
 mod EntryLemmas
 mod EntryReadLemmas

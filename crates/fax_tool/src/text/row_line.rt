@@ -1,6 +1,6 @@
 //! The line of a row.
 ghost use Rattle.std.specs.Prelude.{◌≡◌, ◌+◌, ◌*◌, ◌≤◌, ◌++◌, OnErr, OnOk, decimal, flat_map};
-ghost use Rattle.std.specs.Prelude.{length, take};
+ghost use Rattle.std.specs.Prelude.{ℕ, ◌<◌, MatchOption, length, slice_index, take};
 ghost use Rattle.fax_rows.specs.Rows.{runs_of};
 ghost use Rattle.fax_tool.specs.Text.{and_number, row_line_of};
 
@@ -9,6 +9,7 @@ use fax_bits::Memory;
 use fax_rows::{LongestRuns, Row};
 use fax_walk::Place;
 use itoa::Buffer;
+use std::simd::prelude::*;
 
 /// The most bytes of a line but for its runs: a word, two numbers after a blank each, and the line
 /// end.
@@ -16,6 +17,9 @@ const LINE_BYTES: usize = 26;
 
 /// The most bytes of a run after a blank.
 const RUN_BYTES: usize = 6;
+
+/// Eight blanks and eight digits, in turn.
+const PLACES: [usize; 16] = [0, 8, 1, 9, 2, 10, 3, 11, 4, 12, 5, 13, 6, 14, 7, 15];
 
 /// Writes a number of two digits or more at a place, and answers where it ends.
 #[tactic(auto, using(crate::proofs::NumberLemmas::lengths))]
@@ -63,6 +67,75 @@ fn write_number(bytes: &mut [u8], at: usize, number: u32) -> usize
     write_digits(bytes, at + 1, number)
 }
 
+/// How many of eight numbers come before the first of more than one digit. `None` where each has
+/// one digit.
+#[inline(always)]
+fn short_before(numbers: [u16; 8]) -> Option<usize>
+    ensures { MatchOption result ((i : ℕ) → i < 8 → slice_index numbers i < 10)
+        (λ count. (count ≤ 8) × ((i : ℕ) → i < count → slice_index numbers i < 10)) }
+{
+    let long = u16x8::from_array(numbers)
+        .simd_gt(u16x8::splat(9))
+        .to_bitmask();
+    if long == 0 {
+        return None;
+    }
+    Some(long.trailing_zeros() as usize)
+}
+
+/// Writes eight numbers at a place, each as a blank and one digit: the first ones, up to one of
+/// more digits, are then written as they are.
+#[inline(always)]
+fn write_eight(bytes: &mut [u8], at: usize, numbers: [u16; 8])
+    requires { at + 16 ≤ length bytes.old }
+    ensures { (count : ℕ) → count ≤ 8 → ((i : ℕ) → i < count → slice_index numbers i < 10)
+        → take (at + 2 * count) bytes.new
+        ≡ take at bytes.old ++ flat_map and_number (take count numbers) }
+{
+    let least = u16x8::from_array(numbers).simd_min(u16x8::splat(9));
+    let digits = u8x8::splat(b'0') + least.cast::<u8>();
+    let text = u8x8::splat(b' ').shuffle(digits, PLACES);
+    text.copy_to_slice(&mut bytes[at..]);
+}
+
+/// Writes the first of the runs that are still to come, one at least: those of the next eight that
+/// stand before one of more digits, and that one. It answers where they end.
+#[inline(always)]
+fn write_some(bytes: &mut [u8], at: usize, runs: &mut LongestRuns<'_>, eight: [u16; 8]) -> usize
+    requires next { eight ≡ take 8 runs.old }
+    requires many { 8 ≤ length runs.old }
+    requires room { at + 6 * length runs.old ≤ length bytes.old }
+    ensures written { take result bytes.new ++ flat_map and_number runs.new
+        ≡ take at bytes.old ++ flat_map and_number runs.old }
+    ensures room { result + 6 * length runs.new ≤ at + 6 * length runs.old }
+    ensures fewer { length runs.new < length runs.old }
+{
+    write_eight(bytes, at, eight);
+    let Some(short) = short_before(eight) else {
+        runs.skip(8);
+        return at + 16;
+    };
+    runs.skip(short);
+    let end = at + 2 * short;
+    match runs.next_run() {
+        Some(run) => write_number(bytes, end, run),
+        None => end,
+    }
+}
+
+/// Writes the runs that are still to come, each after a blank, and answers where they end.
+fn write_rest(bytes: &mut [u8], at: usize, mut runs: LongestRuns<'_>) -> usize
+    requires { at + 6 * length runs ≤ length bytes.old }
+    ensures written { take result bytes.new ≡ take at bytes.old ++ flat_map and_number runs.entry }
+    ensures within { result ≤ at + 6 * length runs.entry }
+{
+    let mut end = at;
+    while let Some(run) = runs.next_run() {
+        end = write_number(bytes, end, run);
+    }
+    end
+}
+
 /// Writes the runs of a row at a place, each after a blank, and answers where they end.
 fn write_runs(bytes: &mut [u8], at: usize, row: &Row) -> usize
     requires { at + 6 * length (runs_of row.now) ≤ length bytes.old }
@@ -72,10 +145,10 @@ fn write_runs(bytes: &mut [u8], at: usize, row: &Row) -> usize
 {
     let mut end = at;
     let mut runs = LongestRuns::of_row(row);
-    while let Some(run) = runs.next_run() {
-        end = write_number(bytes, end, run);
+    while let Some(eight) = runs.eight_ahead() {
+        end = write_some(bytes, end, &mut runs, eight);
     }
-    end
+    write_rest(bytes, end, runs)
 }
 
 /// Writes the line of a row at a place, and answers where it ends.
