@@ -6,7 +6,7 @@ use Rattle.std.specs.Prelude.{None, Result, Ok, Err, slice_get}
 use Rattle.std.specs.List.{All}
 use Rattle.fax_files.specs.declared.FileFault.{FileFault}
 use Rattle.fax_files.specs.declared.Endian.{Endian}
-use Rattle.fax_files.specs.Directory.{Header, IsChain, header}
+use Rattle.fax_files.specs.Directory.{IsChain, header}
 use Rattle.fax_files.specs.Page.{page}
 pub use Rattle.fax_walk.specs.declared.cursor.Cursor.{Cursor}
 pub use Rattle.fax_walk.specs.declared.end.End.{End}
