@@ -1,4 +1,5 @@
 //! The line of a row.
+ghost use Rattle.std.specs.Prelude.{◌/◌, ◌%◌, ◌∷◌, []};
 ghost use Rattle.std.specs.Prelude.{◌≡◌, ◌+◌, ◌*◌, ◌≤◌, ◌++◌, OnErr, OnOk, decimal, flat_map};
 ghost use Rattle.std.specs.Prelude.{ℕ, ◌<◌, MatchOption, length, slice_index, take};
 ghost use Rattle.fax_rows.specs.Rows.{runs_of};
@@ -21,30 +22,50 @@ const RUN_BYTES: usize = 6;
 /// Eight blanks and eight digits, in turn.
 const PLACES: [usize; 16] = [0, 8, 1, 9, 2, 10, 3, 11, 4, 12, 5, 13, 6, 14, 7, 15];
 
-/// Writes a number of two digits or more at a place, and answers where it ends.
+/// The two digits of each number below a hundred, as text.
+const DIGITS: [u8; 200] = [
+    48, 48, 48, 49, 48, 50, 48, 51, 48, 52, 48, 53, 48, 54, 48, 55, 48, 56, 48, 57, 49, 48, 49, 49,
+    49, 50, 49, 51, 49, 52, 49, 53, 49, 54, 49, 55, 49, 56, 49, 57, 50, 48, 50, 49, 50, 50, 50, 51,
+    50, 52, 50, 53, 50, 54, 50, 55, 50, 56, 50, 57, 51, 48, 51, 49, 51, 50, 51, 51, 51, 52, 51, 53,
+    51, 54, 51, 55, 51, 56, 51, 57, 52, 48, 52, 49, 52, 50, 52, 51, 52, 52, 52, 53, 52, 54, 52, 55,
+    52, 56, 52, 57, 53, 48, 53, 49, 53, 50, 53, 51, 53, 52, 53, 53, 53, 54, 53, 55, 53, 56, 53, 57,
+    54, 48, 54, 49, 54, 50, 54, 51, 54, 52, 54, 53, 54, 54, 54, 55, 54, 56, 54, 57, 55, 48, 55, 49,
+    55, 50, 55, 51, 55, 52, 55, 53, 55, 54, 55, 55, 55, 56, 55, 57, 56, 48, 56, 49, 56, 50, 56, 51,
+    56, 52, 56, 53, 56, 54, 56, 55, 56, 56, 56, 57, 57, 48, 57, 49, 57, 50, 57, 51, 57, 52, 57, 53,
+    57, 54, 57, 55, 57, 56, 57, 57,
+];
+
+/// Writes a number below a hundred at a place, by two digits.
+#[inline(always)]
+fn write_two(bytes: &mut [u8], at: usize, number: u32)
+    requires few { number < 100 }
+    requires room { at + 2 ≤ length bytes.old }
+    ensures { take (at + 2) bytes.new
+        ≡ take at bytes.old ++ (48 + number / 10) ∷ (48 + number % 10) ∷ [] }
+{
+    let place = 2 * number as usize;
+    let tens = DIGITS[place];
+    let ones = DIGITS[place + 1];
+    bytes[at] = tens;
+    bytes[at + 1] = ones;
+}
+
+/// Writes a number of three digits or more at a place, and answers where it ends.
 #[tactic(auto, using(crate::proofs::NumberLemmas::lengths))]
 fn write_digits(bytes: &mut [u8], at: usize, number: u32) -> usize
-    requires long { 10 ≤ number }
+    requires long { 100 ≤ number }
     requires room { at + length (decimal number) ≤ length bytes.old }
     ensures written { take result bytes.new ≡ take at bytes.old ++ decimal number }
     ensures end { result ≡ at + length (decimal number) }
 {
-    if number < 100 {
-        bytes[at] = b'0' + (number / 10) as u8;
-        bytes[at + 1] = b'0' + (number % 10) as u8;
-        return at + 2;
-    }
     if number < 1000 {
         bytes[at] = b'0' + (number / 100) as u8;
-        bytes[at + 1] = b'0' + (number / 10 % 10) as u8;
-        bytes[at + 2] = b'0' + (number % 10) as u8;
+        write_two(bytes, at + 1, number % 100);
         return at + 3;
     }
     if number < 10000 {
-        bytes[at] = b'0' + (number / 1000) as u8;
-        bytes[at + 1] = b'0' + (number / 100 % 10) as u8;
-        bytes[at + 2] = b'0' + (number / 10 % 10) as u8;
-        bytes[at + 3] = b'0' + (number % 10) as u8;
+        write_two(bytes, at, number / 100);
+        write_two(bytes, at + 2, number % 100);
         return at + 4;
     }
     let mut digits = Buffer::new();
@@ -53,7 +74,7 @@ fn write_digits(bytes: &mut [u8], at: usize, number: u32) -> usize
 
 /// Writes a blank and a number at a place, and answers where they end.
 #[inline(always)]
-#[tactic(auto, using(crate::proofs::NumberLemmas::length_one))]
+#[tactic(auto, using(crate::proofs::NumberLemmas::lengths))]
 fn write_number(bytes: &mut [u8], at: usize, number: u32) -> usize
     requires { at + length (and_number number) ≤ length bytes.old }
     ensures written { take result bytes.new ≡ take at bytes.old ++ and_number number }
@@ -63,6 +84,10 @@ fn write_number(bytes: &mut [u8], at: usize, number: u32) -> usize
     if number < 10 {
         bytes[at + 1] = b'0' + number as u8;
         return at + 2;
+    }
+    if number < 100 {
+        write_two(bytes, at + 1, number);
+        return at + 3;
     }
     write_digits(bytes, at + 1, number)
 }
