@@ -247,8 +247,7 @@ fn puts_the_bits_of_another_sink(rt: HostRuntime) -> Result<(), Fail> {
     put_mode(&mut second, ModeCode::Pass)?;
     second.put_sink(&first)?;
     second.put_sink(&BitSink::new(rt.alloc(), FillOrder::MsbFirst))?;
-    assert_eq!(
-        rt;
+    assert_eq!(rt;
         text_of(rt.alloc(), second)?.as_str(),
         "000100000001111100000001111111011101010"
     );

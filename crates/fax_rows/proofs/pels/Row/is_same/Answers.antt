@@ -6,16 +6,16 @@ pub returns-then-row-self : goal.returns-then-row-self
 returns-then-row-self c = (
   λ told. absurd (false≢true told),
   λ same. absurd (c.if-row-self.true
-  (one_width c.self.inside.places.items c.self.inside.end c.self.inside.width c.self.invariant
-  c.row.inside.places.items c.row.inside.end c.row.inside.width c.row.invariant _ _ c.self.view_is c.row.view_is same)),
+      (one_width c.self.inside.places.items c.self.inside.end c.self.inside.width c.self.invariant
+      c.row.inside.places.items c.row.inside.end c.row.inside.width c.row.invariant _ _ c.self.view_is c.row.view_is same)),
 )
 
 pub returns-then-row-self-2 : goal.returns-then-row-self-2
 returns-then-row-self-2 c = (
   λ told. absurd (false≢true told),
   λ same. absurd (c.if-row-self-2.true
-  (one_end c.self.inside.places.items c.self.inside.end c.self.inside.width c.self.invariant
-  c.row.inside.places.items c.row.inside.end c.row.inside.width c.row.invariant _ _ c.self.view_is c.row.view_is same)),
+      (one_end c.self.inside.places.items c.self.inside.end c.self.inside.width c.self.invariant
+      c.row.inside.places.items c.row.inside.end c.row.inside.width c.row.invariant _ _ c.self.view_is c.row.view_is same)),
 )
 
 pub returns : goal.returns
