@@ -27,4 +27,3 @@ pub mod PackedLemmas
 pub mod LaneLemmas
 pub mod WrittenRunLemmas
 pub mod PairLemmas
-pub mod PutSinkLemmas

@@ -89,7 +89,7 @@ module _ (len low number : ℕ) (within : low ≤ len) (short : len ≤ 48) (fit
       ∙ ap (λ n. code_bits (len - low) (number / 2 ^ low) ++ code_bits low n) (sym low_part)
 
 -- the bits of bytes that stand one after another
-pub bits-append : (bytes more : List ℕ) → bits MsbFirst (bytes ++ more) ≡ bits MsbFirst bytes ++ bits MsbFirst more
+bits-append : (bytes more : List ℕ) → bits MsbFirst (bytes ++ more) ≡ bits MsbFirst bytes ++ bits MsbFirst more
 unfolding bits
 bits-append bytes more = flat_map-append (byte_bits MsbFirst) bytes more
 

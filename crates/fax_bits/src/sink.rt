@@ -1,6 +1,6 @@
 //! Bits that are put one after another into bytes.
 ghost use Rattle.std.specs.Prelude.{◌≡◌, ◌+◌, ◌*◌, ◌<◌, ◌≤◌, ◌%◌, ◌^◌, ◌++◌, ◌↔◌, [], length, take};
-ghost use Rattle.std.specs.Prelude.{OnOk, OnErr, IfOk, IfSome, IsTrue, vec_len, vec_capacity};
+ghost use Rattle.std.specs.Prelude.{OnOk, OnErr, IfSome, IsTrue, vec_len, vec_capacity};
 ghost use Rattle.fax_bits.specs.Bits.{bits, code_bits, BeginsWith};
 ghost use Rattle.fax_bits.specs.views.Sink.{Appends, IsPadded};
 ghost use Rattle.fax_bits.specs.declared.FillOrder.TheVariants.{MsbFirst};
@@ -53,33 +53,6 @@ fn push_word(bytes: &mut Vec<u8>, word: u32)
 {
     // There is room, so that this does not fail.
     let _ = bytes.extend_from_slice(&word.to_be_bytes());
-}
-
-/// Puts the bits of as many bytes as make up words of four, the highest of each first, and answers
-/// how many bytes they are.
-fn put_words(sink: &mut BitSink, bytes: &[u8]) -> Result<usize, Memory>
-    ensures ok { IfOk result (λ n. Appends sink.old (bits MsbFirst (take n bytes.now)) sink.new) }
-    ensures within { IfOk result (λ n. n ≤ length bytes.now) }
-    ensures same_order { sink.new.order ≡ sink.old.order }
-{
-    let mut i = 0;
-    while bytes.len() - i >= 4 {
-        sink.put_word(word_at(bytes, i, FillOrder::MsbFirst))?;
-        i += 4;
-    }
-    Ok(i)
-}
-
-/// Puts the bits of all bytes, the highest of each first.
-fn put_bytes(sink: &mut BitSink, bytes: &[u8]) -> Result<(), Memory>
-    ensures ok { OnOk result (Appends sink.old (bits MsbFirst bytes.now) sink.new) }
-    ensures same_order { sink.new.order ≡ sink.old.order }
-{
-    let words = put_words(sink, bytes)?;
-    for i in words..bytes.len() {
-        sink.put(u32::from(bytes[i]), 8)?;
-    }
-    Ok(())
 }
 
 /// Goes past the bits of as many bytes as make up words of four, where these stand next, and
@@ -262,19 +235,6 @@ impl BitSink {
         push_word(&mut self.bytes, (pending >> count) as u32);
         self.pending = pending & ((1 << count) - 1);
         Ok(())
-    }
-
-    /// Puts the bits of another sink, word by word.
-    ///
-    /// # Errors
-    ///
-    /// Where a growth was refused. Of the bits of this sink nothing is said then.
-    pub fn put_sink(&mut self, other: &BitSink) -> Result<(), Memory>
-        ensures ok { OnOk result (Appends self.old other.now.bits self.new) }
-        ensures same_order { self.new.order ≡ self.old.order }
-    {
-        put_bytes(self, &other.bytes)?;
-        self.store(other.pending as u32, other.count)
     }
 
     /// Puts zeros up to a whole byte. This takes no memory.

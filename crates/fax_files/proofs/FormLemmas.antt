@@ -9,7 +9,7 @@ use Rattle.fax_files.specs.declared.PageForm.{PageForm}
 use Rattle.fax_files.specs.declared.Endian.{Endian}
 use Rattle.fax_files.specs.Directory.{◌>>=◌, check, Entry, entries}
 use Rattle.fax_files.specs.code.Steps.{page_in_steps, needed_scalar, scalar_or}
-use Rattle.fax_files.specs.Page.{is_between}
+use Rattle.fax_files.specs.Page.{is_between, page}
 use Rattle.fax_files.specs.code.Steps.{page_size, pel_format, strip_rows, page_coding}
 use Rattle.fax_files.specs.code.Steps.{strip_field}
 use Rattle.fax_files.specs.views.Page.{strip_count}

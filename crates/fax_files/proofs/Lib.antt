@@ -21,5 +21,4 @@ pub mod PbmNumberLemmas
 pub mod PbmHeadLemmas
 pub mod PbmWrittenLemmas
 pub mod PbmOneLemmas
-pub mod PbmWriterLemmas
 pub mod StepLemmas

@@ -75,7 +75,7 @@ chunk_count : (n : ℕ) (b : List Bool) → length (first_chunks 8 n b) ≡ n
 chunk_count zero b = refl
 chunk_count (suc n) b = ap (λ (k : ℕ). suc k) (chunk_count n (drop 8 b))
 
-pub length-packed_row : (row : List Colour) → length (packed_row row) ≡ packed_len (length row)
+length-packed_row : (row : List Colour) → length (packed_row row) ≡ packed_len (length row)
 unfolding packed_row packed
 length-packed_row row =
     let b = map is_black row ++ replicate 7 false in

@@ -158,7 +158,7 @@ fn read_head(bytes: &[u8]) -> Option<Head<'_>>
 }
 
 /// The bytes of a row of this width.
-pub(crate) fn row_len(width: u32) -> usize
+fn row_len(width: u32) -> usize
     ensures { result ≡ Packed.packed_len width }
 {
     (width as usize).div_ceil(8)

@@ -1,7 +1,6 @@
 //! Strips of fax pages, row by row (ITU-T T.4 and T.6, and this project's profile).
 #![tactic(auto)]
 
-mod last_row;
 pub mod laws;
 mod lines;
 mod notes;

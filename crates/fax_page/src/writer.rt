@@ -1,12 +1,11 @@
 //! A writer of strips.
-ghost use Rattle.std.specs.Prelude.{◌≡◌, ◌++◌, ◌<◌, ◌≤◌, length, false, All, IfOk, OnOk, OnErr};
+ghost use Rattle.std.specs.Prelude.{◌≡◌, ◌++◌, ◌<◌, ◌≤◌, length, false, All, IfOk, OnOk};
 ghost use Rattle.fax_bits.specs.views.Sink.{Appends};
 ghost use Rattle.fax_bits.specs.Bits.{packed};
 ghost use Rattle.fax_page.specs.Strip as Coded;
 
-use crate::last_row::LastRow;
 use crate::{Coding, Dimension, StripForm};
-use fax_rows::{BitSink, Memory, Row};
+use fax_rows::{BitSink, Memory, Row, put_1d, put_2d};
 use std::alloc::Global;
 use std::marker::Model;
 
@@ -63,29 +62,27 @@ fn put_start(sink: &mut BitSink, form: StripForm, dimension: Dimension) -> Resul
 }
 
 /// Puts row `i` of a strip over the row before it: what stands before its codes, and its codes in
-/// T.4's own choice. It is the last row then.
+/// T.4's own choice.
 fn put_line(
     sink: &mut BitSink,
     form: StripForm,
     k: u32,
     i: u32,
-    last: &mut LastRow,
+    reference: &Row,
     row: &Row,
 ) -> Result<(), Memory>
     requires some_k { 0 < k }
-    requires same_width { length last.old ≡ length row.now }
+    requires same_width { length reference.now ≡ length row.now }
     ensures ok { OnOk result
         (Appends sink.old
-        (Coded.coded_line form k (length sink.old.bits) i last.old row.now) sink.new) }
-    ensures last { OnOk result (last.new ≡ row.now) }
-    ensures err { OnErr result (last.new ≡ last.old) }
+        (Coded.coded_line form k (length sink.old.bits) i reference.now row.now) sink.new) }
     ensures same_order { sink.new.order ≡ sink.old.order }
 {
     let dimension = written_dimension(form.coding, k, i);
     put_start(sink, form, dimension)?;
     match dimension {
-        Dimension::OneDimensional => last.put_1d(row, sink),
-        Dimension::TwoDimensional => last.put_2d(row, sink),
+        Dimension::OneDimensional => put_1d(row, sink),
+        Dimension::TwoDimensional => put_2d(reference, row, sink),
     }
 }
 
@@ -115,7 +112,7 @@ pub struct StripWriter {
     k: u32,
     sink: BitSink,
     row: u32,
-    last: LastRow,
+    last: Row,
     refused: bool,
 }
 
@@ -152,7 +149,7 @@ impl StripWriter {
         requires some_k { 0 < k }
         ensures { IfOk result (λ writer. writer ≡ writer_beginning form k) }
     {
-        let last = LastRow::white(alloc, form.width)?;
+        let last = Row::white(alloc, form.width)?;
         Ok(StripWriter {
             form,
             k,
@@ -177,15 +174,9 @@ impl StripWriter {
         if self.refused {
             return Err(Memory);
         }
-        match put_line(
-            &mut self.sink,
-            self.form,
-            self.k,
-            self.row,
-            &mut self.last,
-            row,
-        ) {
+        match put_line(&mut self.sink, self.form, self.k, self.row, &self.last, row) {
             Ok(()) => {
+                self.last.set_from(row);
                 self.row += 1;
                 Ok(())
             }

@@ -240,21 +240,6 @@ fn puts_two_short_runs(rt: HostRuntime) -> Result<(), Fail> {
 }
 
 #[test]
-fn puts_the_bits_of_another_sink(rt: HostRuntime) -> Result<(), Fail> {
-    let mut first = BitSink::new(rt.alloc(), FillOrder::MsbFirst);
-    put_run(&mut first, Colour::White, 5200)?;
-    let mut second = BitSink::new(rt.alloc(), FillOrder::MsbFirst);
-    put_mode(&mut second, ModeCode::Pass)?;
-    second.put_sink(&first)?;
-    second.put_sink(&BitSink::new(rt.alloc(), FillOrder::MsbFirst))?;
-    assert_eq!(rt;
-        text_of(rt.alloc(), second)?.as_str(),
-        "000100000001111100000001111111011101010"
-    );
-    Ok(())
-}
-
-#[test]
 fn puts_modes(rt: HostRuntime) -> Result<(), Fail> {
     let rows = [
         (ModeCode::Pass, "0001"),

@@ -35,4 +35,3 @@ pub mod ChosenRowLemmas
 pub mod ChosenStepLemmas
 pub mod ChosenRunLemmas
 pub mod PairReadLemmas
-pub mod SameRowLemmas

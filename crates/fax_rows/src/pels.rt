@@ -1,12 +1,12 @@
 //! A row of pels.
 ghost use Rattle.std.specs.Prelude.{◌≡◌, ◌≢◌, ◌<◌, ◌^◌, false, List, length, replicate, map};
-ghost use Rattle.std.specs.Prelude.{IfOk, IsTrue, ◌↔◌};
+ghost use Rattle.std.specs.Prelude.{IfOk, IsTrue};
 ghost use Rattle.std.specs.List.{filter, range_with_len};
 ghost use Rattle.fax_rows.specs.Rows.{other as other_than, runs_of, is_changing, pel as pel_of};
 
 use crate::longest_runs::{LongestRuns, are_longest, put_runs};
 use crate::rows::PlacedRow;
-use crate::turns::{are_same, close, colour_after, copy_places, places_up_to, turn_first};
+use crate::turns::{close, colour_after, copy_places, places_up_to, turn_first};
 use fax_bits::{Colour, Memory};
 use std::alloc::Global;
 use std::marker::Model;
@@ -117,20 +117,6 @@ impl Row {
     {
         let places = self.places.as_mut_slice();
         self.end = turn_first(places, self.end, self.width);
-    }
-
-    /// Whether the row has just the pels of another one. It costs a step for each change of both,
-    /// and none where they have not as many.
-    pub fn is_same(&self, row: &Row) -> bool
-        ensures { IsTrue result ↔ self.now ≡ row.now }
-    {
-        if row.width != self.width {
-            return false;
-        }
-        if row.end != self.end {
-            return false;
-        }
-        are_same(&self.places, &row.places, self.end)
     }
 
     /// Takes the pels of a row of the same width.

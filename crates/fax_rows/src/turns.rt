@@ -1,7 +1,6 @@
 //! Places of change: each of them turns the colour of the pels from there on (ITU-T T.4, section
 //! 4.2.1.3.1).
 ghost use Rattle.std.specs.Prelude.{◌≡◌, ℕ, ◌+◌, ◌-◌, ◌≤◌, ◌<◌, ◌^◌, length, take, slice_index};
-ghost use Rattle.std.specs.Prelude.{IsTrue, ◌↔◌};
 ghost use Rattle.fax_rows.specs.code.Turns as Spec;
 
 use fax_bits::Colour;
@@ -137,19 +136,6 @@ pub(crate) fn turn_first(places: &mut [u32], end: usize, width: u32) -> usize
     places.rotate_right(1);
     places[0] = 0;
     end + 1
-}
-
-/// Whether the first places of two rows are the same.
-pub(crate) fn are_same(places: &[u32], other: &[u32], end: usize) -> bool
-    requires within { end ≤ length places.now }
-    requires other_within { end ≤ length other.now }
-    ensures { IsTrue result ↔ take end places.now ≡ take end other.now }
-{
-    let mut same = true;
-    for i in 0..end {
-        same &= places[i] == other[i];
-    }
-    same
 }
 
 /// Takes the places of another row of the same width.

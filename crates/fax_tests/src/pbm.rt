@@ -1,6 +1,6 @@
 //! Raw PBM, read and written.
 use fax_bits::Memory;
-use fax_files::{PbmFault, PbmReader, PbmWriter, put_pbm_head, put_pbm_row};
+use fax_files::{PbmFault, PbmReader, put_pbm_head, put_pbm_row};
 use fax_rows::Row;
 use std::alloc::Global;
 use std::process::Abort;
@@ -78,26 +78,4 @@ fn written(alloc: Global) -> Result<Vec<u8>, Memory> {
 fn writes_an_image(rt: HostRuntime) {
     let out = written(rt.alloc()).expect(&rt, "memory");
     assert_eq!(rt; out.as_slice(), b"P4\n9 1\n\xFF\x00".as_slice());
-}
-
-/// Two images of 24 pels, the first by 3 rows, of which two are the same, the second by 1 row.
-fn written_twice(alloc: Global) -> Result<PbmWriter, Memory> {
-    let striped = Row::from_packed(alloc, &[0xAA, 0xAA, 0x01], 24)?;
-    let black = Row::from_packed(alloc, &[0xFF, 0xFF, 0xFF], 24)?;
-    let mut writer = PbmWriter::new(alloc);
-    writer.put_head(24, 3)?;
-    writer.put_row(&striped)?;
-    writer.put_row(&striped)?;
-    writer.put_row(&black)?;
-    writer.put_head(24, 1)?;
-    writer.put_row(&striped)?;
-    Ok(writer)
-}
-
-#[test]
-fn writes_rows_that_repeat(rt: HostRuntime) {
-    let writer = written_twice(rt.alloc()).expect(&rt, "memory");
-    assert_eq!(rt; writer.len(), 28);
-    let wanted = b"P4\n24 3\n\xAA\xAA\x01\xAA\xAA\x01\xFF\xFF\xFFP4\n24 1\n\xAA\xAA\x01";
-    assert_eq!(rt; writer.into_bytes().as_slice(), wanted.as_slice());
 }

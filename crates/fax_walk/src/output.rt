@@ -7,7 +7,7 @@ use crate::open_strips::OpenStrips;
 use crate::options::{ConvertFault, Options};
 use crate::sheet::Sheet;
 use fax_bits::Memory;
-use fax_files::{Coding, MAX_FILE, PbmWriter, TiffWriter, WriteFault};
+use fax_files::{Coding, MAX_FILE, TiffWriter, WriteFault, put_pbm_head, put_pbm_row};
 use fax_rows::Row;
 use std::alloc::Global;
 
@@ -21,7 +21,7 @@ const MAX_PAGES: u64 = 65_535;
 #[derive(Drop)]
 pub(crate) enum Output {
     /// Images.
-    Images(PbmWriter),
+    Images(Vec<u8>),
     /// A TIFF file, and the page of it that is being written, in this coding.
     File(Coding, TiffWriter, Option<OpenStrips>),
     /// It is too large, and its bytes were given back.
@@ -35,7 +35,7 @@ impl Output {
         ensures { IfOk result (Spec.IsBeginning options.now pages) }
     {
         let Some(coding) = options.target.coding() else {
-            return Ok(Output::Images(PbmWriter::new(alloc)));
+            return Ok(Output::Images(Vec::new(alloc)));
         };
         if pages > MAX_PAGES {
             return Ok(Output::TooLarge);
@@ -56,10 +56,10 @@ impl Output {
         ensures { OnOk result (Spec.BeginsPage options.now self.old sheet.now self.new) }
     {
         match self {
-            Output::Images(images) => {
-                images.put_head(sheet.width, sheet.rows)?;
+            Output::Images(bytes) => {
+                put_pbm_head(bytes, sheet.width, sheet.rows)?;
                 let raster = sheet.rows as usize * (sheet.width as usize).div_ceil(8);
-                if images.len() + raster > MAX_OUTPUT {
+                if bytes.len() + raster > MAX_OUTPUT {
                     *self = Output::TooLarge;
                 }
             }
@@ -78,7 +78,7 @@ impl Output {
         ensures { OnOk result (Spec.PutsRow self.old row.now self.new) }
     {
         match self {
-            Output::Images(images) => images.put_row(row),
+            Output::Images(bytes) => put_pbm_row(bytes, row),
             Output::File(_, _, Some(page)) => page.put_row(row),
             Output::File(_, _, None) => Ok(()),
             Output::TooLarge => Ok(()),
@@ -113,7 +113,7 @@ impl Output {
         ensures err { IfErr result (Spec.IsRefusedAs self) }
     {
         match self {
-            Output::Images(images) => Ok(images.into_bytes()),
+            Output::Images(bytes) => Ok(bytes),
             Output::File(_, writer, _) => Ok(writer.finish()),
             Output::TooLarge => Err(ConvertFault::OutputTooLarge),
         }

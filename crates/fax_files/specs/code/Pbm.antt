@@ -6,7 +6,6 @@ use Rattle.fax_files.specs.Pbm.{Image, is_white_space}
 use Rattle.fax_files.specs.views.Pbm.{head_bytes}
 use Rattle.std.specs.List.{flat_map}
 use Rattle.std.specs.Prelude.{length}
-use Rattle.fax_bits.specs.declared.Colour.{Colour}
 use Rattle.fax_rows.specs.Coded.{packed_len, packed_row}
 
 -- LF and CR, which end a comment (the netpbm format, P4)
@@ -80,7 +79,3 @@ raster_len width height = height * packed_len width
 -- an image as it is written
 abbrev pub image_bytes : Image → List ℕ
 image_bytes image = head_bytes image.width (length image.rows) ++ flat_map packed_row image.rows
-
--- the bytes end with those of a row
-abbrev pub EndsWithRow : List ℕ → List Colour → Type 0
-EndsWithRow bytes row = (before : List ℕ) × (bytes ≡ before ++ packed_row row)

@@ -25,15 +25,3 @@ fn finds_b1_and_b2(rt: HostRuntime) -> Result<(), Fail> {
     }
     Ok(())
 }
-
-#[test]
-fn compares_rows(rt: HostRuntime) -> Result<(), Fail> {
-    let row = Row::from_packed(rt.alloc(), &[0xAA, 0x01], 16)?;
-    let same = Row::from_packed(rt.alloc(), &[0xAA, 0x01], 16)?;
-    let other = Row::from_packed(rt.alloc(), &[0xAA, 0x02], 16)?;
-    let wider = Row::from_packed(rt.alloc(), &[0xAA, 0x01, 0x00], 17)?;
-    assert!(rt; row.is_same(&same));
-    assert!(rt; !row.is_same(&other));
-    assert!(rt; !row.is_same(&wider));
-    Ok(())
-}

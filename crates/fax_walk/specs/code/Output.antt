@@ -137,7 +137,7 @@ pub record HasPages (coding : Coding) (writer : Writing) (at : Progress) : Type 
 
 -- an output has these pages, and no part of another
 abbrev pub IsWrittenTo : Output → Progress → Type 0
-IsWrittenTo (Images bytes) at = HasImages bytes at
+IsWrittenTo (Images bytes) at = HasImages bytes.items at
 IsWrittenTo (File coding writer None) at = HasPages coding writer at
 IsWrittenTo (File coding writer (Some page)) at = ⊥
 IsWrittenTo TooLarge at = StaysTooLarge at
@@ -173,7 +173,7 @@ BecomesTooLarge part =
     → StaysTooLarge (with_source_page part.at (page_of part.sheet rows))
 
 abbrev pub HasPart : Output → Part → Type 0
-HasPart (Images bytes) part = HasImageRows bytes part
+HasPart (Images bytes) part = HasImageRows bytes.items part
 HasPart (File coding writer page) part = HasRowsOnPage coding writer page part
 HasPart TooLarge part = BecomesTooLarge part
 

@@ -7,11 +7,11 @@ use Rattle.fax_walk.proofs.output.Output.begin.Goals as goal
 pub returns-then-len-raster-gt-MAX_OUTPUT : goal.returns-then-len-raster-gt-MAX_OUTPUT
 returns-then-len-raster-gt-MAX_OUTPUT c = λ at options_are fewer written.
     let has = rw c.in-Images.is at written in
-    let new_is = c.in_ok-put_head-in-Images.ensures.ok in
+    let new_is = c.in_ok-put_pbm_head-in-Images.ensures.ok in
     let packed : c.div_ceil.result ≡ packed_len c.args.sheet.now.width = omega (arith, c.div_ceil.ensures) in
     let raster = ap (λ n. c.args.sheet.now.rows * n) packed in
-    let parts = length-append c.in-Images.images (head_bytes c.args.sheet.now.width c.args.sheet.now.rows) in
-    let len : c.len.result ≡ length c.put_head.new.self = c.len.ensures.length in
+    let parts = length-append c.in-Images.bytes.items (head_bytes c.args.sheet.now.width c.args.sheet.now.rows) in
+    let len : c.len.result ≡ length c.put_pbm_head.new.out.items = omega (arith, c.len.ensures) in
     record {
       widths = tt;
       has = image_too_large at c.args.sheet.now has.target
@@ -23,10 +23,10 @@ returns-else-len-raster-gt-MAX_OUTPUT c = λ at options_are fewer written.
     let has = rw c.in-Images.is at written in
     let packed : c.div_ceil.result ≡ packed_len c.args.sheet.now.width = omega (arith, c.div_ceil.ensures) in
     let raster = ap (λ n. c.args.sheet.now.rows * n) packed in
-    let len : c.len.result ≡ length c.put_head.new.self = c.len.ensures.length in
+    let len : c.len.result ≡ length c.put_pbm_head.new.out.items = omega (arith, c.len.ensures) in
     record {
       widths = tt;
       has =
-          image_begun at c.args.sheet.now c.in-Images.images c.put_head.new.self has c.in_ok-put_head-in-Images.ensures.ok
+          image_begun at c.args.sheet.now c.in-Images.bytes.items c.put_pbm_head.new.out.items has c.in_ok-put_pbm_head-in-Images.ensures.ok
           (omega (arith, c.if-len-raster-gt-MAX_OUTPUT.false, len, raster));
     }
