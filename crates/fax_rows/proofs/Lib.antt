@@ -35,3 +35,4 @@ pub mod ChosenRowLemmas
 pub mod ChosenStepLemmas
 pub mod ChosenRunLemmas
 pub mod PairReadLemmas
+pub mod CopiedPlaceLemmas

@@ -1,7 +1,7 @@
 use Rattle.std.proofs.Common.{◌+◌, ◌≤◌, length, sym, ◌∙◌, arith}
 use Rattle.std.proofs.lemmas.List.{length-take-le}
 use Rattle.fax_rows.proofs.PlacedRowLemmas.{end_within, same_places, same_pels}
-use Rattle.fax_rows.proofs.SameRowLemmas.{length-copied, copied_at}
+use Rattle.fax_rows.proofs.CopiedPlaceLemmas.{length-copied, copied_at}
 use Rattle.fax_rows.proofs.turns.copy_places.Goals as goal
 
 pub slice_bounds-copy_from_slice-end : goal.slice_bounds-copy_from_slice-end
