@@ -1,5 +1,5 @@
 //! Rows whose bits were written by hand from tables 2 to 4 of T.4.
-use fax_rows::{BitSource, FillOrder, Row, RowFault, read_1d, read_2d};
+use fax_rows::{BitSource, FillOrder, LongestRuns, Row, RowFault, read_1d, read_2d};
 use std::alloc::Global;
 use std::process::Abort;
 use std::test::Fail;
@@ -285,5 +285,22 @@ fn sets_rows_by_their_longest_runs(rt: HostRuntime) -> Result<(), Fail> {
         assert!(rt; !row.set_runs(runs));
         assert_eq!(rt; row.runs(rt.alloc())?.as_slice(), [3u32, 2, 3].as_slice());
     }
+    Ok(())
+}
+
+#[test]
+fn eight_runs_ahead(rt: HostRuntime) -> Result<(), Fail> {
+    let mut row = Row::white(rt.alloc(), 330)?;
+    assert!(rt; row.set_runs(&[0, 1, 2, 3, 4, 5, 6, 7, 300, 2]));
+    let mut runs = LongestRuns::of_row(&row);
+    assert_eq!(rt; runs.eight_ahead(), Some([0u16, 1, 2, 3, 4, 5, 6, 7]));
+    runs.skip(2);
+    assert_eq!(rt; runs.eight_ahead(), Some([2u16, 3, 4, 5, 6, 7, 300, 2]));
+    runs.skip(5);
+    assert_eq!(rt; runs.eight_ahead(), None);
+    assert_eq!(rt; runs.next_run(), Some(7));
+    assert_eq!(rt; runs.next_run(), Some(300));
+    runs.skip(1);
+    assert_eq!(rt; runs.next_run(), None);
     Ok(())
 }
