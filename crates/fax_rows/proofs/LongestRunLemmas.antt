@@ -1,5 +1,5 @@
 -- The longest runs that are still to come, by the place where they begin and those where each ends.
-use Rattle.std.proofs.Common.{◌≡◌, ℕ, zero, suc, ◌+◌, ◌-◌, ◌%◌, ◌<◌, ◌≤◌, ◌^◌, List, [], ◌∷◌, length, take, drop, get_or, map, refl, ap, sym, ◌∙◌}
+use Rattle.std.proofs.Common.{◌≡◌, ℕ, zero, suc, ◌+◌, ◌-◌, ◌%◌, ◌<◌, ◌≤◌, List, [], ◌∷◌, length, take, drop, get_or, map, refl, ap, sym, ◌∙◌}
 use Rattle.std.proofs.Common.{arith, length-drop}
 use Rattle.std.proofs.Math.Seq.{take-length}
 use lib.Lanes.{zip2, Each1}
@@ -24,27 +24,6 @@ are_bounds ends ahead = record { some = omega arith; ahead = ahead }
 pub length-runs_between : (places : List ℕ) → length (runs_between places) ≡ length places - 1
 length-runs_between [] = refl
 length-runs_between (from ∷ ends) = omega (arith, length-gaps from ends)
-
--- the next run
-pub no_next : (places : List ℕ) → length places < 2 → runs_between places ≡ []
-no_next [] few = refl
-no_next (from ∷ []) few = refl
-no_next (from ∷ next ∷ ends) few = absurd (omega arith)
-
-pub next_is : (places : List ℕ) → 2 ≤ length places → runs_between places ≡ (get_or places 1 0 - get_or places 0 0) ∷ runs_between (drop 1 places)
-next_is [] some = absurd (omega arith)
-next_is (from ∷ []) some = absurd (omega arith)
-next_is (from ∷ next ∷ ends) some = refl
-
-pub next_right : (places : List ℕ) → 2 ≤ length places → AreBounds places → get_or places 0 0 ≤ get_or places 1 0
-next_right [] some all = absurd (omega arith)
-next_right (from ∷ []) some all = absurd (omega arith)
-next_right (from ∷ next ∷ ends) some all = all.ahead.right 0 (omega arith)
-
-pub next_left : (places : List ℕ) → 2 ≤ length places → AreBounds places → get_or places 1 0 < 2 ^ 16
-next_left [] some all = absurd (omega arith)
-next_left (from ∷ []) some all = absurd (omega arith)
-next_left (from ∷ next ∷ ends) some all = all.ahead.left 0 (omega arith)
 
 -- some runs are left out
 pub skip_bounds : (places : List ℕ) (n : ℕ) → n < length places → AreBounds places → AreBounds (drop n places)

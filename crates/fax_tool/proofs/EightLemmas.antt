@@ -81,12 +81,6 @@ least_fits x = go (nat_lt x 9) refl
     go true is = grind (arith, nat_tests)
     go false is = omega arith
 
-pub leasts_are : (n : ℕ) (xs : List ℕ) → length xs ≡ n → leasts n xs ≡ map least xs
-leasts_are zero [] long = refl
-leasts_are zero (x ∷ xs) long = absurd (omega arith)
-leasts_are (suc n) [] long = absurd (omega arith)
-leasts_are (suc n) (x ∷ xs) long = ap (λ more. least x ∷ more) (leasts_are n xs (omega arith))
-
 pub leasts_fit : (P : ℕ → Type 0) → ((x : ℕ) → x < 256 → P x) → (n : ℕ) (xs : List ℕ) → length xs ≡ n → Each1 P (leasts n xs)
 leasts_fit P fits zero [] long = tt
 leasts_fit P fits zero (x ∷ xs) long = absurd (omega arith)
