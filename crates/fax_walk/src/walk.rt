@@ -265,7 +265,6 @@ impl<'a> Walk<'a> {
     ///
     /// `Memory` where a growth was refused: the walk is as it was. `AtRow` at the fault that ends
     /// the rows, `CursorOutside` where the walk began at no place of the file, from then on.
-    #[inline(always)]
     pub fn next_row(&mut self) -> Result<Option<(Place, &Row)>, WalkFault>
         ensures* next { sem 𝓛 (EndsAs self.entry (IsNext self.old result)) }
     {
