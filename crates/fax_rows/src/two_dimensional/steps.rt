@@ -33,8 +33,8 @@ impl Reached {
         self.a0.unwrap_or(0)
     }
 
-    /// Whether a0 is just before the first pel, in code of its own: few steps ask it.
-    #[inline(never)]
+    /// Whether a0 is just before the first pel.
+    #[inline(always)]
     fn is_beginning(self) -> bool
         ensures { IsTrue result ↔ (self.a0 ≡ None) }
     {
