@@ -101,7 +101,7 @@ fn read_ahead<'a, const CHOICE: bool>(
     let mut total = 0;
     let mut chosen = CHOICE;
     while total < width {
-        match ahead.pair(width - total) {
+        match ahead.pair(total, width) {
             Ok((behind, pair)) => {
                 let middle = total + pair.white;
                 let next = turn_right(places, end, middle);
