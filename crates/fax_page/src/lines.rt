@@ -102,6 +102,7 @@ pub(crate) fn stop(codes: &BitSource, cause: RowFault) -> StripFault
 }
 
 /// Reads the codes of a row that is coded so into `row`, of which nothing is said after a fault.
+#[inline(always)]
 fn read_codes(
     source: &mut BitSource,
     dimension: Dimension,
@@ -124,6 +125,7 @@ fn read_codes(
 
 /// Reads row `i` of a strip into `row`, of which nothing is said after a fault. Its reference is
 /// the row before it, or white before the first.
+#[inline(always)]
 pub(crate) fn read_line(
     source: &mut BitSource,
     form: StripForm,
