@@ -21,6 +21,10 @@ const MOST_INPUT: usize = MAX_FILE as usize;
 /// How many bytes are read at a time.
 const CHUNK: usize = 65_536;
 
+/// For how many bytes of an input there is room before the first of them is read: where it has no
+/// more, none is copied as its room grows.
+const FIRST_ROOM: usize = 4 * CHUNK;
+
 /// How many interrupted calls of a stream are made again.
 const MOST_INTERRUPTED: u32 = 1_023;
 
@@ -96,6 +100,7 @@ pub fn read_whole<R: Source>(alloc: Global, input: &mut R) -> Result<Vec<u8>, Re
 {
     let mut interruptions = Interruptions::NONE;
     let mut file = Vec::new(alloc);
+    file.reserve(FIRST_ROOM).map_err(|_| Refusal::Memory)?;
     let mut chunk = room(alloc, CHUNK)?;
     loop {
         interruptions.are_few();
