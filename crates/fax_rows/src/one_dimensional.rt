@@ -43,62 +43,24 @@ fn read_exactly(source: &mut BitSource, places: &mut [u32], width: u32) -> Resul
     Ok(end)
 }
 
-/// Reads the runs of a row in one-dimensional coding, and answers where its places end, and whether
-/// its codes are seen to be T.4's choice, where that is asked for.
-fn read_places<const CHOICE: bool>(
-    source: &mut BitSource,
-    places: &mut [u32],
-    width: u32,
-) -> Result<(usize, bool), RowFault>
+/// Reads the runs of a row in one-dimensional coding, and answers where its places end.
+fn read_places(source: &mut BitSource, places: &mut [u32], width: u32) -> Result<usize, RowFault>
     requires some { 0 < width }
     requires short { width < 2 ^ 16 }
     requires room { length places.old ≡ width + 4 }
     requires first { slice_index places.old 0 ≡ 0 }
-    ensures ok { IfOk result (λ read. IsOneDimensionalRow width source.old.left
-        (row_of places.new read.0 width) source.new.left) }
-    ensures ascending { IfOk result (λ read. IsAscending places.new read.0) }
-    ensures last { IfOk result (λ read. slice_index places.new (read.0 - 1) ≤ width) }
-    ensures chosen { IfOk result (λ read. IsTrue read.1
-        → source.old.left ≡ one_dimensional_bits (row_of places.new read.0 width)
-        ++ source.new.left) }
+    ensures ok { IfOk result (λ end. IsOneDimensionalRow width source.old.left
+        (row_of places.new end width) source.new.left) }
+    ensures ascending { IfOk result (λ end. IsAscending places.new end) }
+    ensures last { IfOk result (λ end. slice_index places.new (end - 1) ≤ width) }
     ensures err { IfErr result (λ fault. IsOneDimensionalFault width source.old.left fault) }
     ensures first { slice_index places.new 0 ≡ 0 }
     ensures same_len { length places.new ≡ length places.old }
     ensures same_end { KeepsEnd source.old source.new }
 {
-    match read_quickly::<CHOICE>(source, places, width) {
-        Some(read) => Ok(read),
-        None => {
-            let end = read_exactly(source, places, width)?;
-            Ok((end, false))
-        }
-    }
-}
-
-/// What `read_1d` does. It answers too whether the row's codes are seen to be T.4's choice, where
-/// that is asked for.
-#[inline(always)]
-fn read_row<const CHOICE: bool>(source: &mut BitSource, row: &mut Row) -> Result<bool, RowFault>
-    ensures ok { OnOk result
-        (IsOneDimensionalRow (length row.old) source.old.left row.new source.new.left) }
-    ensures chosen { IfOk result (λ chosen. IsTrue chosen
-        → source.old.left ≡ one_dimensional_bits row.new ++ source.new.left) }
-    ensures err { IfErr result
-        (λ fault. IsOneDimensionalFault (length row.old) source.old.left fault) }
-    ensures same_width { length row.new ≡ length row.old }
-    ensures same_end { KeepsEnd source.old source.new }
-{
-    let width = row.width;
-    let places = row.places.as_mut_slice();
-    match read_places::<CHOICE>(source, places, width) {
-        Ok((end, chosen)) => {
-            row.end = close(places, end, width);
-            Ok(chosen)
-        }
-        Err(fault) => {
-            row.end = close(places, 1, width);
-            Err(fault)
-        }
+    match read_quickly::<false>(source, places, width) {
+        Some(end) => Ok(end),
+        None => read_exactly(source, places, width),
     }
 }
 
@@ -118,8 +80,18 @@ pub fn read_1d(source: &mut BitSource, row: &mut Row) -> Result<(), RowFault>
     // The source goes on in the same bits.
     ensures same_end { KeepsEnd source.old source.new }
 {
-    read_row::<false>(source, row)?;
-    Ok(())
+    let width = row.width;
+    let places = row.places.as_mut_slice();
+    match read_places(source, places, width) {
+        Ok(end) => {
+            row.end = close(places, end, width);
+            Ok(())
+        }
+        Err(fault) => {
+            row.end = close(places, 1, width);
+            Err(fault)
+        }
+    }
 }
 
 /// Reads a row as `read_1d` does, and answers whether its codes are seen to be those that T.4
@@ -140,5 +112,13 @@ pub fn read_1d_choice(source: &mut BitSource, row: &mut Row) -> Result<bool, Row
     // The source goes on in the same bits.
     ensures same_end { KeepsEnd source.old source.new }
 {
-    read_row::<true>(source, row)
+    let width = row.width;
+    let places = row.places.as_mut_slice();
+    if let Some(end) = read_quickly::<true>(source, places, width) {
+        row.end = close(places, end, width);
+        return Ok(true);
+    }
+    row.end = close(places, 1, width);
+    read_1d(source, row)?;
+    Ok(false)
 }

@@ -25,25 +25,17 @@ fn may_be_longest(colour: Colour, total: u32, run: u32) -> bool
     }
 }
 
-/// Whether both are so.
+/// Reads a run after `total` pels, and answers where the places end then, and how many pels are
+/// read. Where T.4's choice is asked for, it gives up at a run that cannot be one of the longest.
 #[inline(always)]
-fn both(first: bool, second: bool) -> bool
-    ensures { IsTrue result → IsTrue first × IsTrue second }
-{
-    first && second
-}
-
-/// Reads a run after `total` pels, and answers where the places end then, how many pels are read,
-/// and whether the run may be one of the longest.
-#[inline(always)]
-fn next_run<'a>(
+fn next_run<'a, const CHOICE: bool>(
     ahead: Ahead<'a>,
     places: &mut [u32],
     width: u32,
     end: usize,
     total: u32,
     colour: Colour,
-) -> Option<(Ahead<'a>, usize, u32, bool)>
+) -> Option<(Ahead<'a>, usize, u32)>
     requires short { width < 2 ^ 16 }
     requires unfinished { total < width }
     requires room { length places.old ≡ width + 4 }
@@ -53,7 +45,7 @@ fn next_run<'a>(
         (λ read. IsRun colour ahead.entry.left (read.2 - total) read.0.left) }
     ensures written { IfSome result
         (λ read. ahead.entry.left ≡ run_bits colour (read.2 - total) ++ read.0.left) }
-    ensures longest { IfSome result (λ read. IsTrue read.3
+    ensures longest { IfSome result (λ read. IsTrue CHOICE
         → (0 < read.2 - total) ⊎ ((total ≡ 0) × (colour ≡ Colour.White))) }
     ensures right { IfSome result (λ read. total ≤ read.2) }
     ensures within { IfSome result (λ read. read.2 ≤ width) }
@@ -70,18 +62,22 @@ fn next_run<'a>(
     if run > width - total {
         return None;
     }
+    if CHOICE && !may_be_longest(colour, total, run) {
+        return None;
+    }
     let place = total + run;
     let next = turn_behind(places, end, place, run);
-    Some((behind, next, place, may_be_longest(colour, total, run)))
+    Some((behind, next, place))
 }
 
-/// Reads the runs of a row from the bits ahead.
+/// Reads the runs of a row from the bits ahead, and answers where its places end. Where T.4's
+/// choice is asked for, it gives up at codes that are not seen to be that choice.
 #[inline(always)]
 fn read_ahead<'a, const CHOICE: bool>(
     mut ahead: Ahead<'a>,
     places: &mut [u32],
     width: u32,
-) -> Option<(Ahead<'a>, usize, bool)>
+) -> Option<(Ahead<'a>, usize)>
     requires some { 0 < width }
     requires short { width < 2 ^ 16 }
     requires room { length places.old ≡ width + 4 }
@@ -93,13 +89,12 @@ fn read_ahead<'a, const CHOICE: bool>(
     ensures first { slice_index places.new 0 ≡ 0 }
     ensures same_len { length places.new ≡ length places.old }
     ensures same_end { IfSome result (λ read. KeepsEnd ahead.entry read.0) }
-    ensures chosen { IfSome result (λ read. IsTrue read.2
+    ensures chosen { IfSome result (λ read. IsTrue CHOICE
         → ahead.entry.left ≡ one_dimensional_bits (row_of places.new read.1 width) ++ read.0.left) }
 {
     crate::laws::one_dimensional_rows_are_read_as_nothing_else();
     let mut end = 1;
     let mut total = 0;
-    let mut chosen = CHOICE;
     while total < width {
         match ahead.pair(total, width) {
             Ok((behind, pair)) => {
@@ -110,49 +105,54 @@ fn read_ahead<'a, const CHOICE: bool>(
                 ahead = behind;
             }
             Err(again) => {
-                let white = next_run(again, places, width, end, total, Colour::White)?;
+                let white = next_run::<CHOICE>(again, places, width, end, total, Colour::White)?;
                 ahead = white.0;
                 end = white.1;
                 total = white.2;
-                chosen = both(chosen, white.3);
                 if total < width {
-                    let black = next_run(ahead, places, width, end, total, Colour::Black)?;
+                    let black = next_run::<CHOICE>(
+                        ahead,
+                        places,
+                        width,
+                        end,
+                        total,
+                        Colour::Black,
+                    )?;
                     ahead = black.0;
                     end = black.1;
                     total = black.2;
-                    chosen = both(chosen, black.3);
                 }
             }
         }
     }
-    Some((ahead, end, chosen))
+    Some((ahead, end))
 }
 
-/// Reads the runs of a row, and answers where its places end, and whether its codes are seen to be
-/// T.4's choice, where that is asked for. After `None` the source is as it was.
+/// Reads the runs of a row, and answers where its places end. Where T.4's choice is asked for, it
+/// gives up at codes that are not seen to be that choice. After `None` the source is as it was.
 #[inline(never)]
 pub(crate) fn read_quickly<const CHOICE: bool>(
     source: &mut BitSource,
     places: &mut [u32],
     width: u32,
-) -> Option<(usize, bool)>
+) -> Option<usize>
     requires some { 0 < width }
     requires short { width < 2 ^ 16 }
     requires room { length places.old ≡ width + 4 }
     requires first { slice_index places.old 0 ≡ 0 }
-    ensures row { IfSome result (λ read. IsOneDimensionalRow width source.old.left
-        (row_of places.new read.0 width) source.new.left) }
-    ensures ascending { IfSome result (λ read. IsAscending places.new read.0) }
-    ensures last { IfSome result (λ read. slice_index places.new (read.0 - 1) ≤ width) }
+    ensures row { IfSome result (λ end. IsOneDimensionalRow width source.old.left
+        (row_of places.new end width) source.new.left) }
+    ensures ascending { IfSome result (λ end. IsAscending places.new end) }
+    ensures last { IfSome result (λ end. slice_index places.new (end - 1) ≤ width) }
     ensures first { slice_index places.new 0 ≡ 0 }
     ensures same_len { length places.new ≡ length places.old }
     ensures same_end { KeepsEnd source.old source.new }
-    ensures chosen { IfSome result (λ read. IsTrue read.1
-        → source.old.left ≡ one_dimensional_bits (row_of places.new read.0 width)
+    ensures chosen { IfSome result (λ end. IsTrue CHOICE
+        → source.old.left ≡ one_dimensional_bits (row_of places.new end width)
         ++ source.new.left) }
     ensures unchanged { result ≡ None → source.new ≡ source.old }
 {
-    let (behind, end, chosen) = read_ahead::<CHOICE>(source.ahead()?, places, width)?;
+    let (behind, end) = read_ahead::<CHOICE>(source.ahead()?, places, width)?;
     *source = behind.source();
-    Some((end, chosen))
+    Some(end)
 }

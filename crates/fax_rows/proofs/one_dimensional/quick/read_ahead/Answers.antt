@@ -76,8 +76,7 @@ loop-total-preserved g c =
           first.ensures.turned first.ensures.ascending first.ensures.last;
       chosen = λ h.
           white_written c.args.ahead.left loop.ahead c.in-Err.again loop.total first.white.2 loop.invariant.colour first.white.0.left
-          (loop.invariant.chosen (c.both-chosen.ensures h).0) white again first.ensures.right first.ensures.written
-          (first.ensures.longest (c.both-chosen.ensures h).1);
+          (loop.invariant.chosen h) white again first.ensures.right first.ensures.written (first.ensures.longest h);
       white = λ h. absurd (omega arith);
       same_end = omega (
         arith,
@@ -105,12 +104,10 @@ loop-total-preserved-then-total-width g c =
           c.if-total-width.true second.ensures.run second.ensures.right second.ensures.within
           second.ensures.turned second.ensures.ascending second.ensures.last;
       chosen = λ h.
-          let both = c.both-chosen-then-total-width.ensures h in
-          let of_first = c.both-chosen.ensures both.0 in
           runs_go_on c.args.ahead.left first.white.2 second.black.2 Black first.white.0.left second.black.0.left
           (white_written c.args.ahead.left loop.ahead c.in-Err.again loop.total first.white.2 loop.invariant.colour first.white.0.left
-          (loop.invariant.chosen of_first.0) white again first.ensures.right first.ensures.written (first.ensures.longest of_first.1))
-          second.ensures.right second.ensures.written (second.ensures.longest both.1);
+          (loop.invariant.chosen h) white again first.ensures.right first.ensures.written (first.ensures.longest h))
+          second.ensures.right second.ensures.written (second.ensures.longest h);
       white = λ h. refl;
       same_end = omega (
         arith,

@@ -1,13 +1,12 @@
-use Rattle.std.proofs.Common.{◌++◌, length, take, ap, sym, ◌∙◌, arith}
-use Rattle.fax_rows.specs.Coded.{one_dimensional_bits}
+use Rattle.std.proofs.Common.{length, take, ap, ◌∙◌, arith}
 use Rattle.fax_rows.specs.code.Turns.{pels_by}
 use Rattle.fax_rows.proofs.TurnLemmas.{length-pels_by}
 use Rattle.fax_rows.proofs.PlacedRowLemmas.{width_is}
 use Rattle.fax_rows.proofs.PlacedReadLemmas.{one_dimensional_as, refilled}
-use Rattle.fax_rows.proofs.one_dimensional.read_row.Goals as goal
+use Rattle.fax_rows.proofs.one_dimensional.read_1d.Goals as goal
 
 pub returns-in-Ok-clause-ok : goal.returns-in-Ok-clause-ok
-returns-in-Ok-clause-ok g c =
+returns-in-Ok-clause-ok c =
     let same = width_is c.row.inside.places.items c.row.inside.end c.row.inside.width c.row.invariant c.args.row.now c.row.view_is in
     one_dimensional_as c.row.inside.width (length c.args.row.now) _ _ _ _ c.in-Ok.ensures.ok same
     (ap (λ places. pels_by c.row.inside.width (take c.close-row-inside.result places))
@@ -15,24 +14,16 @@ returns-in-Ok-clause-ok g c =
     ∙ c.close-row-inside.ensures.pels)
 
 pub returns-in-Ok-clause-same_width : goal.returns-in-Ok-clause-same_width
-returns-in-Ok-clause-same_width g c =
+returns-in-Ok-clause-same_width c =
     length-pels_by c.row.inside.width _
     ∙ width_is c.row.inside.places.items c.row.inside.end c.row.inside.width c.row.invariant c.args.row.now c.row.view_is
 
 pub returns-in-Err-clause-err : goal.returns-in-Err-clause-err
-returns-in-Err-clause-err g c =
+returns-in-Err-clause-err c =
     let same = width_is c.row.inside.places.items c.row.inside.end c.row.inside.width c.row.invariant c.args.row.now c.row.view_is in
     rw (← same) c.in-Err.ensures.err
 
 pub returns-in-Err-clause-same_width : goal.returns-in-Err-clause-same_width
-returns-in-Err-clause-same_width g c =
+returns-in-Err-clause-same_width c =
     length-pels_by c.row.inside.width _
     ∙ width_is c.row.inside.places.items c.row.inside.end c.row.inside.width c.row.invariant c.args.row.now c.row.view_is
-
-pub returns-in-Ok-clause-chosen : goal.returns-in-Ok-clause-chosen
-returns-in-Ok-clause-chosen g c is =
-    c.in-Ok.ensures.chosen is
-    ∙ ap (λ row. one_dimensional_bits row ++ c.read_places.new.source.left) (sym
-    (ap (λ places. pels_by c.row.inside.width (take c.close-row-inside.result places))
-    (refilled c.row.inside.places.len c.close-row-inside.new.places c.row.inside.places.items (omega arith))
-    ∙ c.close-row-inside.ensures.pels))
