@@ -62,11 +62,11 @@ fn next_run<'a, const CHOICE: bool>(
     if run > width - total {
         return None;
     }
+    let place = total + run;
+    let next = turn_behind(places, end, place, run);
     if CHOICE && !may_be_longest(colour, total, run) {
         return None;
     }
-    let place = total + run;
-    let next = turn_behind(places, end, place, run);
     Some((behind, next, place))
 }
 
