@@ -1,8 +1,7 @@
 //! The bits ahead of a source, by value: what a row that has no fault is read from quickly. Every
 //! function gives up, with `None`, where fewer bits are loaded than it may need, or at any doubt:
 //! then the row is read again from its source.
-ghost use Rattle.std.specs.Prelude.{◌≡◌, ◌+◌, ◌*◌, ◌^◌, ◌<◌, ◌≤◌, ◌++◌, length};
-ghost use Rattle.std.specs.Prelude.{IfSome, IfOk, IfErr};
+ghost use Rattle.std.specs.Prelude.{◌≡◌, ◌+◌, ◌*◌, ◌<◌, ◌≤◌, ◌++◌, length, IfSome, IfOk, IfErr};
 ghost use Rattle.fax_bits.specs.Bits.{code_bits};
 ghost use Rattle.fax_bits.specs.Codes.{Takes, IsRun};
 ghost use Rattle.fax_bits.specs.Written.{run_bits};
@@ -179,17 +178,16 @@ impl<'a> Ahead<'a> {
         }
     }
 
-    /// Reads a white run and the black one after it by one look-up, in a row of `width` pels of
-    /// which `total` stand before them (T.4, section 4.1.1).
+    /// Reads a white run and the black one after it, at most so many pels together, by one look-up
+    /// (T.4, section 4.1.1).
     ///
     /// # Errors
     ///
-    /// The same place, where they go past the row's end, or where that look-up has no such pair.
+    /// The same place, where they are more, or where that look-up has no such pair.
     #[inline(always)]
-    pub fn pair(self, total: u32, width: u32) -> Result<(Ahead<'a>, Pair), Ahead<'a>>
-        requires { total < 2 ^ 31 }
+    pub fn pair(self, most: u32) -> Result<(Ahead<'a>, Pair), Ahead<'a>>
         ensures runs { IfOk result (λ read. IsPairRead self.entry.left read.1 read.0.left) }
-        ensures within { IfOk result (λ read. total + read.1.white + read.1.black ≤ width) }
+        ensures few { IfOk result (λ read. read.1.white + read.1.black ≤ most) }
         ensures same_end { IfOk result (λ read. KeepsEnd self.entry read.0) }
         ensures shorter { IfOk result (λ read. length read.0.left < length self.entry.left) }
         ensures again { IfErr result (λ again. again ≡ self.entry) }
@@ -198,7 +196,7 @@ impl<'a> Ahead<'a> {
             return Err(self);
         };
         match find_pair(window.number(LONGEST_CODE)) {
-            Some((len, pair)) if total + pair.white + pair.black <= width => {
+            Some((len, pair)) if pair.white + pair.black <= most => {
                 let behind = Ahead {
                     window: window.behind(len),
                     ..self

@@ -129,7 +129,7 @@ fn finds_the_code_that_begins_bits(rt: HostRuntime) {
 
 /// The pair that stands next, of at most so many pels, and the place after it.
 fn pair_of(ahead: Ahead, most: u32) -> (Option<Pair>, u64) {
-    match ahead.pair(0, most) {
+    match ahead.pair(most) {
         Ok((after, pair)) => (Some(pair), after.source().place()),
         Err(again) => (None, again.source().place()),
     }
@@ -164,7 +164,7 @@ fn reads_a_white_run_and_the_black_one_after_it(rt: HostRuntime) -> Result<(), F
 fn reads_no_pair_at_the_end_of_the_bytes(rt: HostRuntime) {
     let mut source = BitSource::new(&[0x7A, 0x7A, 0x7A, 0x7A], FillOrder::MsbFirst);
     let ahead = source.ahead().expect(&rt, "four bytes");
-    let after = match ahead.pair(0, 8) {
+    let after = match ahead.pair(8) {
         Ok((after, _)) => after,
         Err(again) => again,
     };
