@@ -2,7 +2,7 @@
 use Rattle.std.proofs.Common.{Bool, true, false, replicate, ◌≡◌, ℕ, ◌+◌, ◌*◌, ◌<◌, ◌≤◌, List, [], ◌∷◌, ◌++◌, length, take, drop, refl, ap}
 use Rattle.std.proofs.Common.{sym, ◌∙◌, subst, arith, append_assoc, length-append, length-drop}
 use Rattle.std.specs.Prelude.{pos}
-use Rattle.std.proofs.lemmas.List.{drop-drop, take-append-drop}
+use Rattle.std.proofs.lemmas.List.{drop-drop, take-append-drop, take-take, take-replicate}
 use Rattle.fax_bits.specs.declared.Colour.{Colour}
 use Rattle.fax_bits.specs.declared.FillOrder.{FillOrder}
 use Rattle.fax_bits.specs.declared.window.Window.{Window}
@@ -91,6 +91,22 @@ module _ (order : FillOrder) (bytes : List ℕ) (old window : Window) (source : 
     pub one_shorter : length (drop (place_before behind) (bits order bytes)) < length source.left
     one_shorter =
         omega (arith, loaded-left, count, ap length (left_behind_code 1 behind (omega arith) count at), length-drop 1 source.left)
+
+  -- ones that stand next
+  module _ (n : ℕ) (all : n ≤ window.count) (ones : take n (bits_ahead order bytes window) ≡ replicate n true) where
+    pub ones_left : take n source.left ≡ replicate n true
+    ones_left = ap (take n) (sym loaded_left) ∙ ones
+
+    pub ones_within : n ≤ length source.left
+    ones_within = omega (arith, loaded-left)
+
+    pub ones_taken : (k : ℕ) → k ≤ n → k ≤ 32 → (behind : Window) → behind.count + k ≡ window.count → behind.at ≡ window.at
+        → source.left ≡ replicate k true ++ drop (place_before behind) (bits order bytes)
+    ones_taken k few short behind count at =
+        sym (take-append-drop k source.left)
+        ∙ ap (λ front. front ++ drop k source.left)
+        (sym (take-take k n source.left few) ∙ ap (take k) ones_left ∙ take-replicate k n true few)
+        ∙ ap (λ rest. replicate k true ++ rest) (sym (left_behind_code k behind short count at))
 
   -- bits that stand next
   pub bits_taken : (len number : ℕ) (short : len ≤ 32) → 32 ≤ window.count → number

@@ -15,6 +15,7 @@ pub mod PutLemmas
 pub mod PendingLemmas
 pub mod FindLemmas
 pub mod NumberLemmas
+pub mod OneLemmas
 pub mod TakeLemmas
 pub mod ReadLemmas
 pub mod PlaceLemmas

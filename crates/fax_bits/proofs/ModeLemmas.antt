@@ -1,20 +1,25 @@
 -- The codes of modes by their places in the mode table.
 use Rattle.std.proofs.Common.{◌≡◌, List, ◌++◌, Bool, lit<, ℕ, zero, suc, ◌+◌, ◌-◌, ◌/◌, ◌^◌, ◌<◌, ◌≤◌, ℤ, pos, negsuc, unsigned_abs, get_or}
-use Rattle.std.proofs.Common.{to_z, of_z, w8, refl, ap, sym, ◌∙◌, arith}
-use Rattle.std.specs.Prelude.{Some, slice_get, nat_abs, ◌+ℤ◌}
-use Rattle.fax_bits.specs.declared.put.TheConstants.{VERTICAL_CODES, VERTICAL_LENS}
+use Rattle.std.proofs.Common.{map, to_z, of_z, w8, w32, refl, ap, sym, ◌∙◌, arith}
+use Rattle.std.specs.Prelude.{Option, None, Some, slice_get, nat_abs, ◌+ℤ◌}
+use Rattle.fax_bits.specs.declared.indexes.TheConstants.{MODE_PLACES, VERTICAL_MODES}
+use Rattle.fax_bits.specs.declared.put.TheConstants.{VERTICAL_CODES}
 use Rattle.std.proofs.lemmas.Int.{ints}
+use Rattle.std.proofs.lemmas.List.{get_or-map}
 use Rattle.fax_bits.specs.declared.codes.CodeEntry.{CodeEntry}
 use Rattle.fax_bits.specs.declared.modes.ModeCode.{ModeCode}
 use Rattle.fax_bits.specs.declared.modes.ModeCode.TheVariants.{Pass, Horizontal, Vertical, Extension as ModeExtension}
 use Rattle.fax_bits.specs.Bits.{code_bits}
 use Rattle.fax_bits.specs.views.Codes.{HasCodeAhead, IsWritten}
+use Rattle.fax_bits.specs.views.Places.{place_of}
 use Rattle.fax_bits.specs.Codes.{Takes}
 use Rattle.fax_bits.specs.code.Codes.{bits_at}
 use Rattle.fax_bits.specs.Written.{mode_bits}
 use Rattle.fax_bits.specs.laws.Codes.{ModeBitsAreRead}
 use Rattle.fax_bits.specs.Tables.{modes}
 use Rattle.fax_bits.proofs.FindLemmas.{code_ahead}
+use Rattle.fax_bits.proofs.IndexLemmas.{mode_place}
+use Rattle.fax_bits.proofs.PlaceLemmas.{found_at_place}
 use Rattle.fax_bits.proofs.RunCodeLemmas.{bits_at-found}
 use Rattle.fax_bits.proofs.TableLemmas.{listed}
 
@@ -50,10 +55,11 @@ few (negsuc n) written = omega (arith, ints, written.0)
 
 -- where the code of a distance stands, as the program finds it
 abbrev place_of_distance : ℤ → ℕ
-place_of_distance d = nat_abs (to_z w8 (of_z w8 (to_z w8 (of_z w8 d) +ℤ pos 3)))
+place_of_distance d = nat_abs (to_z w32 (of_z w32 (to_z w32 (of_z w32 (to_z w8 (of_z w8 d))) +ℤ pos 3)))
 
 pub vertical_bits : (d : ℤ) → IsWritten (Vertical d)
-    → code_bits (get_or VERTICAL_LENS (place_of_distance d) 0) (get_or VERTICAL_CODES (place_of_distance d) 0) ≡ mode_bits (Vertical d)
+    → code_bits (get_or VERTICAL_CODES.lens (place_of_distance d) 0) (get_or VERTICAL_CODES.codes (place_of_distance d) 0)
+    ≡ mode_bits (Vertical d)
 unfolding modes mode_bits code_bits
 vertical_bits (pos zero) written = refl
 vertical_bits (pos (suc zero)) written = refl
@@ -64,6 +70,42 @@ vertical_bits (negsuc zero) written = refl
 vertical_bits (negsuc (suc zero)) written = refl
 vertical_bits (negsuc (suc (suc zero))) written = refl
 vertical_bits (negsuc (suc (suc (suc n)))) written = absurd (omega (arith, few (negsuc (suc (suc (suc n)))) written))
+
+pub vertical_fits : (d : ℤ) → IsWritten (Vertical d)
+    → get_or VERTICAL_CODES.codes (place_of_distance d) 0 < 2 ^ get_or VERTICAL_CODES.lens (place_of_distance d) 0
+vertical_fits (pos zero) written = lit< tt
+vertical_fits (pos (suc zero)) written = lit< tt
+vertical_fits (pos (suc (suc zero))) written = lit< tt
+vertical_fits (pos (suc (suc (suc zero)))) written = lit< tt
+vertical_fits (pos (suc (suc (suc (suc n))))) written = absurd (omega (arith, few (pos (suc (suc (suc (suc n))))) written))
+vertical_fits (negsuc zero) written = lit< tt
+vertical_fits (negsuc (suc zero)) written = lit< tt
+vertical_fits (negsuc (suc (suc zero))) written = lit< tt
+vertical_fits (negsuc (suc (suc (suc n)))) written = absurd (omega (arith, few (negsuc (suc (suc (suc n)))) written))
+
+pub vertical_short : (d : ℤ) → IsWritten (Vertical d)
+    → get_or VERTICAL_CODES.lens (place_of_distance d) 0 < 8
+vertical_short (pos zero) written = lit< tt
+vertical_short (pos (suc zero)) written = lit< tt
+vertical_short (pos (suc (suc zero))) written = lit< tt
+vertical_short (pos (suc (suc (suc zero)))) written = lit< tt
+vertical_short (pos (suc (suc (suc (suc n))))) written = absurd (omega (arith, few (pos (suc (suc (suc (suc n))))) written))
+vertical_short (negsuc zero) written = lit< tt
+vertical_short (negsuc (suc zero)) written = lit< tt
+vertical_short (negsuc (suc (suc zero))) written = lit< tt
+vertical_short (negsuc (suc (suc (suc n)))) written = absurd (omega (arith, few (negsuc (suc (suc (suc n)))) written))
+
+-- a distance is itself as a number of eight bits
+pub distance_is : (d : ℤ) → IsWritten (Vertical d) → to_z w8 (of_z w8 d) ≡ d
+distance_is (pos zero) written = refl
+distance_is (pos (suc zero)) written = refl
+distance_is (pos (suc (suc zero))) written = refl
+distance_is (pos (suc (suc (suc zero)))) written = refl
+distance_is (pos (suc (suc (suc (suc n))))) written = absurd (omega (arith, few (pos (suc (suc (suc (suc n))))) written))
+distance_is (negsuc zero) written = refl
+distance_is (negsuc (suc zero)) written = refl
+distance_is (negsuc (suc (suc zero))) written = refl
+distance_is (negsuc (suc (suc (suc n)))) written = absurd (omega (arith, few (negsuc (suc (suc (suc n)))) written))
 
 -- a mode that is written is read again
 takes_mode : (place : ℕ) (listed_entry : CodeEntry ModeCode) (mode : ModeCode) (more : List Bool) → slice_get modes place
@@ -106,3 +148,64 @@ mode_begins number place entry found short is = record {
   means = refl;
   ahead = code_ahead 13 number entry.len entry.code short is;
 }
+
+-- the length of a vertical mode's code, and how far right of b1 a1 is
+abbrev vertical_len : ModeCode → ℕ → ℕ
+vertical_len (Vertical d) len = len
+vertical_len _ len = 0
+
+abbrev vertical_shift : ModeCode → ℤ
+vertical_shift (Vertical d) = d
+vertical_shift _ = pos 0
+
+-- of the entry at a place, if it is one of a vertical mode
+abbrev len_at : Option (CodeEntry ModeCode) → ℕ
+len_at None = 0
+len_at (Some entry) = vertical_len entry.meaning entry.len
+
+abbrev shift_at : Option (CodeEntry ModeCode) → ℤ
+shift_at None = pos 0
+shift_at (Some entry) = vertical_shift entry.meaning
+
+-- as the program reads an `i8`
+abbrev read_shift : ℤ → ℤ
+read_shift d = to_z w8 (of_z w8 d)
+
+lens_are : VERTICAL_MODES.lens ≡ map (λ place. len_at (slice_get modes place)) MODE_PLACES
+unfolding modes
+lens_are = refl
+
+shifts_are : map read_shift VERTICAL_MODES.shifts ≡ map (λ place. shift_at (slice_get modes place)) MODE_PLACES
+unfolding modes
+shifts_are = refl
+
+is_vertical : (mode : ModeCode) (len : ℕ) → 0 < vertical_len mode len
+    → (len ≡ vertical_len mode len) × (mode ≡ Vertical (vertical_shift mode))
+is_vertical Pass len some = absurd (omega arith)
+is_vertical Horizontal len some = absurd (omega arith)
+is_vertical (Vertical d) len some = (refl, refl)
+is_vertical ModeExtension len some = absurd (omega arith)
+
+-- the code at a place begins thirteen bits, if it is one of a vertical mode
+vertical_begins : (number place : ℕ) (found : Option (CodeEntry ModeCode)) → place ≡ place_of modes 13 number
+    → slice_get modes place ≡ found → 0 < len_at found
+    → HasCodeAhead modes (code_bits 13 number) (len_at found) (Vertical (shift_at found))
+vertical_begins number place None place_is is some = absurd (omega arith)
+vertical_begins number place (Some entry) place_is is some =
+    let parts = is_vertical entry.meaning entry.len some in
+    rw (sym parts.0, sym parts.1) (found_at_place modes number place entry place_is is)
+
+-- a vertical mode that the arrays have begins thirteen bits
+pub vertical_is_ahead : (number : ℕ) → number < 2 ^ 13 → 0 < get_or VERTICAL_MODES.lens (number / 2 ^ 6) 0
+    → HasCodeAhead modes (code_bits 13 number) (get_or VERTICAL_MODES.lens (number / 2 ^ 6) 0)
+    (Vertical (read_shift (get_or VERTICAL_MODES.shifts (number / 2 ^ 6) (pos 0))))
+vertical_is_ahead number within some =
+    let at = number / 2 ^ 6 in
+    let short : at < 128 = omega arith in
+    let len : get_or VERTICAL_MODES.lens at 0 ≡ len_at (slice_get modes (get_or MODE_PLACES at 0)) =
+    ap (λ xs. get_or xs at 0) lens_are ∙ get_or-map (λ place. len_at (slice_get modes place)) MODE_PLACES at 0 0 short in
+    let shift : read_shift (get_or VERTICAL_MODES.shifts at (pos 0)) ≡ shift_at (slice_get modes (get_or MODE_PLACES at 0)) =
+    sym (get_or-map read_shift VERTICAL_MODES.shifts at (pos 0) (pos 0) short) ∙ ap (λ xs. get_or xs at (pos 0)) shifts_are
+    ∙ get_or-map (λ place. shift_at (slice_get modes place)) MODE_PLACES at 0 (pos 0) short in
+    rw (len, shift)
+    (vertical_begins number (get_or MODE_PLACES at 0) _ (mode_place number within) refl (omega (arith, len, some)))

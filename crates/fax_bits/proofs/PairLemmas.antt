@@ -11,7 +11,7 @@ use Rattle.std.specs.List.{range_with_len}
 use Rattle.fax_bits.specs.declared.Colour.{Colour}
 use Rattle.fax_bits.specs.declared.Colour.TheVariants.{White, Black}
 use Rattle.fax_bits.specs.declared.codes.CodeEntry.{CodeEntry}
-use Rattle.fax_bits.specs.declared.indexes.TheConstants.{PAIR_WHITES, PAIR_BLACKS, PAIR_LENS}
+use Rattle.fax_bits.specs.declared.indexes.TheConstants.{PAIRS}
 use Rattle.fax_bits.specs.declared.indexes.TheConstants.{WHITE_PAIR_CODES, WHITE_PAIR_LENS, BLACK_PAIR_CODES, BLACK_PAIR_LENS}
 use Rattle.fax_bits.specs.declared.pairs.Pair.{Pair}
 use Rattle.fax_bits.specs.declared.runs.RunCode.{RunCode}
@@ -51,7 +51,7 @@ are_pairs number (white ∷ whites) [] (len ∷ lens) = false
 are_pairs number (white ∷ whites) (black ∷ blacks) (len ∷ lens) =
     (if nat_eq len 0 then true else is_pair number white black len) && are_pairs (suc number) whites blacks lens
 
-pairs_are : are_pairs 0 PAIR_WHITES PAIR_BLACKS PAIR_LENS ≡ true
+pairs_are : are_pairs 0 PAIRS.whites PAIRS.blacks PAIRS.lens ≡ true
 pairs_are = refl
 
 is_one : (number white black len : ℕ) → 0 < len → (if nat_eq len 0 then true else is_pair number white black len) ≡ true
@@ -109,13 +109,13 @@ from_test number white black len is =
       spelled = eq-from_test (number / 2 ^ (12 - len)) _ six.1;
     }
 
-pub found : (number : ℕ) → number < 4096 → 0 < get_or PAIR_LENS number 0
-    → IsPair number (get_or PAIR_WHITES number 0) (get_or PAIR_BLACKS number 0) (get_or PAIR_LENS number 0)
+pub found : (number : ℕ) → number < 4096 → 0 < get_or PAIRS.lens number 0
+    → IsPair number (get_or PAIRS.whites number 0) (get_or PAIRS.blacks number 0) (get_or PAIRS.lens number 0)
 found number within some =
     let e : 0 + number ≡ number = zero-add number in
     from_test number _ _ _
-    (subst (λ n. is_pair n (get_or PAIR_WHITES number 0) (get_or PAIR_BLACKS number 0) (get_or PAIR_LENS number 0) ≡ true) e
-    (pair_at 0 PAIR_WHITES PAIR_BLACKS PAIR_LENS number pairs_are within some))
+    (subst (λ n. is_pair n (get_or PAIRS.whites number 0) (get_or PAIRS.blacks number 0) (get_or PAIRS.lens number 0) ≡ true) e
+    (pair_at 0 PAIRS.whites PAIRS.blacks PAIRS.lens number pairs_are within some))
 
 -- the entry of a code at a place of each table
 abbrev white_entry : ℕ → CodeEntry RunCode
@@ -147,9 +147,9 @@ black_fits n short =
     (run_table_has_short_codes Black (black_entry n) (listed black_runs n (black_entry n) (black_found n short))).2
 
 -- the two codes begin thirteen bits
-pub pair_is_ahead : (number : ℕ) → number < 2 ^ 13 → 0 < get_or PAIR_LENS (number / 2) 0
-    → IsPairAhead (code_bits 13 number) (get_or PAIR_LENS (number / 2) 0)
-    (record { white = get_or PAIR_WHITES (number / 2) 0; black = get_or PAIR_BLACKS (number / 2) 0 })
+pub pair_is_ahead : (number : ℕ) → number < 2 ^ 13 → 0 < get_or PAIRS.lens (number / 2) 0
+    → IsPairAhead (code_bits 13 number) (get_or PAIRS.lens (number / 2) 0)
+    (record { white = get_or PAIRS.whites (number / 2) 0; black = get_or PAIRS.blacks (number / 2) 0 })
 pair_is_ahead number fits some = record {
   white = is.white_some;
   black = is.black_some;
@@ -167,13 +167,13 @@ pair_is_ahead number fits some = record {
 }
   where
     len : ℕ
-    len = get_or PAIR_LENS (number / 2) 0
+    len = get_or PAIRS.lens (number / 2) 0
 
     white : ℕ
-    white = get_or PAIR_WHITES (number / 2) 0
+    white = get_or PAIRS.whites (number / 2) 0
 
     black : ℕ
-    black = get_or PAIR_BLACKS (number / 2) 0
+    black = get_or PAIRS.blacks (number / 2) 0
 
     is : IsPair (number / 2) white black len
     is = found (number / 2) (omega arith) some

@@ -94,7 +94,7 @@ length-first_bits count word = length-code_bits count (word / 2 ^ (64 - count))
 
 -- the next n bits of a word that has them, whatever follows
 module _ (count word n : ℕ) (more : List Bool) (few : count ≤ 64) (within : n ≤ count) (fits : word < 2 ^ 64) where
-  next_bits : take n (first_bits count word ++ more) ≡ code_bits n (word / 2 ^ (64 - n))
+  pub next_bits : take n (first_bits count word ++ more) ≡ code_bits n (word / 2 ^ (64 - n))
   next_bits =
       let number = word / 2 ^ (64 - count) in
       let short : n ≤ length (first_bits count word) = omega (arith, length-first_bits count word) in

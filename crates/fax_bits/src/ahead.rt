@@ -1,11 +1,12 @@
 //! The bits ahead of a source, by value: what a row that has no fault is read from quickly. Every
 //! function gives up, with `None`, where fewer bits are loaded than it may need, or at any doubt:
 //! then the row is read again from its source.
-ghost use Rattle.std.specs.Prelude.{◌≡◌, ◌+◌, ◌*◌, ◌<◌, ◌≤◌, ◌++◌, length, IfSome, IfOk, IfErr};
-ghost use Rattle.fax_bits.specs.Bits.{code_bits};
+ghost use Rattle.std.specs.Prelude.{◌≡◌, ◌+◌, ◌*◌, ◌^◌, ◌<◌, ◌≤◌, ◌++◌, length, take};
+ghost use Rattle.std.specs.Prelude.{replicate, true, IfSome, IfOk, IfErr};
+ghost use Rattle.fax_bits.specs.Bits.{White, code_bits};
 ghost use Rattle.fax_bits.specs.Codes.{Takes, IsRun};
 ghost use Rattle.fax_bits.specs.Written.{run_bits};
-ghost use Rattle.fax_bits.specs.Tables.{modes, run_table};
+ghost use Rattle.fax_bits.specs.Tables.{modes, run_table, white_runs};
 ghost use Rattle.fax_bits.specs.code.BitsAhead.{bits_ahead};
 ghost use Rattle.fax_bits.specs.views.Source.{KeepsEnd, source_of};
 ghost use Rattle.fax_bits.specs.views.Pairs.{IsPairRead};
@@ -14,7 +15,7 @@ ghost use Rattle.fax_bits.specs.code.Source.{IsPlaced};
 use crate::codes::LONGEST_CODE;
 use crate::modes::{ModeCode, find_mode};
 use crate::pairs::{Pair, find_pair};
-use crate::runs::{RunCode, find_run_code, find_short_run};
+use crate::runs::{RunCode, WhiteRuns, find_run_code, find_short_run};
 use crate::window::Window;
 use crate::{BitSource, Colour, FillOrder};
 use std::marker::Model;
@@ -122,6 +123,32 @@ impl<'a> Ahead<'a> {
         self.looked_up_mode()
     }
 
+    /// How many ones are next, of the bits that are loaded: more of them may follow.
+    #[inline(always)]
+    pub fn ones(&self) -> u32
+        ensures ones { take result self.now.left ≡ replicate result true }
+        ensures within { result ≤ length self.now.left }
+    {
+        self.window.ones()
+    }
+
+    /// Goes past the ones that are next, of the bits that are loaded, at most so many of them, and
+    /// says how many they are: what `ones` says, or `most`.
+    #[inline(always)]
+    pub fn past_ones(self, most: u32) -> (Ahead<'a>, u32)
+        requires { most ≤ 32 }
+        ensures ones { self.entry.left ≡ replicate result.1 true ++ result.0.left }
+        ensures few { result.1 ≤ most }
+        ensures same_end { KeepsEnd self.entry result.0 }
+    {
+        let count = self.window.ones().min(most);
+        let behind = Ahead {
+            window: self.window.behind(count),
+            ..self
+        };
+        (behind, count)
+    }
+
     /// Reads a mode by the number that the next bits spell.
     #[inline(always)]
     fn looked_up_mode(self) -> Option<(Ahead<'a>, ModeCode)>
@@ -166,16 +193,83 @@ impl<'a> Ahead<'a> {
         ensures shorter { IfSome result (λ read. length read.0.left < length self.entry.left) }
     {
         let window = loaded(self.bytes, self.order, self.window)?;
-        match find_short_run(colour, window.number(LONGEST_CODE)) {
-            None => Ahead { window, ..self }.long_run(colour),
+        if let Some((len, pels)) = find_short_run(colour, window.number(LONGEST_CODE)) {
+            let behind = Ahead {
+                window: window.behind(len),
+                ..self
+            };
+            return Some((behind, pels));
+        }
+        let again = Ahead { window, ..self };
+        match colour {
+            Colour::White => again.made_up_run(),
+            Colour::Black => again.long_run(colour),
+        }
+    }
+
+    /// What `run` does for a white run: where its first code is a make-up code of few bits, by a
+    /// look-up of each code.
+    #[inline(always)]
+    fn made_up_run(self) -> Option<(Ahead<'a>, u32)>
+        ensures run { IfSome result (λ read. IsRun White self.entry.left read.1 read.0.left) }
+        ensures written { IfSome result
+            (λ read. self.entry.left ≡ run_bits White read.1 ++ read.0.left) }
+        ensures same_end { IfSome result (λ read. KeepsEnd self.entry read.0) }
+        ensures shorter { IfSome result (λ read. length read.0.left < length self.entry.left) }
+    {
+        match self.make_up() {
+            Err(again) => again.long_run(Colour::White),
+            Ok((behind, pels)) => {
+                let (behind, more) = behind.terminating()?;
+                Some((behind, pels + more))
+            }
+        }
+    }
+
+    /// Reads a make-up code of few bits for a white run, by one look-up: how many pels it means.
+    ///
+    /// # Errors
+    ///
+    /// The same place, where no such code is next.
+    #[inline(always)]
+    fn make_up(self) -> Result<(Ahead<'a>, u32), Ahead<'a>>
+        ensures takes { IfOk result
+            (λ read. Takes white_runs self.entry.left (RunCode.MakeUp read.1) read.0.left) }
+        ensures same_end { IfOk result (λ read. KeepsEnd self.entry read.0) }
+        ensures shorter { IfOk result (λ read. length read.0.left < length self.entry.left) }
+        ensures again { IfErr result (λ again. again ≡ self.entry) }
+    {
+        let Some(window) = loaded(self.bytes, self.order, self.window) else {
+            return Err(self);
+        };
+        match WhiteRuns::find_make_up(window.number(LONGEST_CODE)) {
             Some((len, pels)) => {
                 let behind = Ahead {
                     window: window.behind(len),
                     ..self
                 };
-                Some((behind, pels))
+                Ok((behind, pels))
             }
+            None => Err(Ahead { window, ..self }),
         }
+    }
+
+    /// Reads a terminating code of few bits for a white run, by one look-up: how many pels it
+    /// means.
+    #[inline(always)]
+    fn terminating(self) -> Option<(Ahead<'a>, u32)>
+        ensures takes { IfSome result
+            (λ read. Takes white_runs self.entry.left (RunCode.Terminating read.1) read.0.left) }
+        ensures same_end { IfSome result (λ read. KeepsEnd self.entry read.0) }
+        ensures shorter { IfSome result (λ read. length read.0.left < length self.entry.left) }
+    {
+        let window = loaded(self.bytes, self.order, self.window)?;
+        let (len, pels) = find_short_run(Colour::White, window.number(LONGEST_CODE))?;
+        let behind = Ahead {
+            window: window.behind(len),
+            ..self
+        };
+        Some((behind, pels))
     }
 
     /// Reads a white run and the black one after it, at most so many pels together, by one look-up
@@ -192,11 +286,29 @@ impl<'a> Ahead<'a> {
         ensures shorter { IfOk result (λ read. length read.0.left < length self.entry.left) }
         ensures again { IfErr result (λ again. again ≡ self.entry) }
     {
+        self.pair_within(0, most)
+    }
+
+    /// Reads a white run and the black one after it by one look-up, in a row of `width` pels of
+    /// which `total` stand before them (T.4, section 4.1.1).
+    ///
+    /// # Errors
+    ///
+    /// The same place, where they go past the row's end, or where that look-up has no such pair.
+    #[inline(always)]
+    pub fn pair_within(self, total: u32, width: u32) -> Result<(Ahead<'a>, Pair), Ahead<'a>>
+        requires { total < 2 ^ 31 }
+        ensures runs { IfOk result (λ read. IsPairRead self.entry.left read.1 read.0.left) }
+        ensures within { IfOk result (λ read. total + read.1.white + read.1.black ≤ width) }
+        ensures same_end { IfOk result (λ read. KeepsEnd self.entry read.0) }
+        ensures shorter { IfOk result (λ read. length read.0.left < length self.entry.left) }
+        ensures again { IfErr result (λ again. again ≡ self.entry) }
+    {
         let Some(window) = loaded(self.bytes, self.order, self.window) else {
             return Err(self);
         };
         match find_pair(window.number(LONGEST_CODE)) {
-            Some((len, pair)) if pair.white + pair.black <= most => {
+            Some((len, pair)) if total + pair.white + pair.black <= width => {
                 let behind = Ahead {
                     window: window.behind(len),
                     ..self

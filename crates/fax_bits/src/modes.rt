@@ -8,7 +8,7 @@ ghost use Rattle.fax_bits.specs.views.Source.{KeepsEnd};
 
 use crate::BitSource;
 use crate::codes::{CodeEntry, CodeFault, CodeTable, LONGEST_CODE, read_code};
-use crate::indexes::MODE_PLACES;
+use crate::indexes::{MODE_PLACES, VERTICAL_MODES};
 
 /// What a code of the mode table means (T.4, section 4.2.1.3.2).
 #[derive(Clone, Copy, Debug, PartialEq, Eq)]
@@ -136,40 +136,27 @@ fn begins(bits: u32, place: usize) -> Option<(u32, ModeCode)>
     None
 }
 
-/// The length and the meaning of the code of a mode that begins thirteen bits, which are loaded.
-/// The short codes, which most modes have, are tried first, but for the lone 1, which comes here
-/// only where no bit was loaded before; of the extension it says nothing.
+/// The length and the meaning of the code of a mode that begins thirteen bits. Vertical modes,
+/// which most are, take one look-up; of the extension it says nothing.
 #[inline(always)]
 pub(crate) fn find_mode(bits: u32) -> Option<(u32, ModeCode)>
     requires { bits < 2 ^ LONGEST_CODE }
     ensures { IfSome result
         (λ found. HasCodeAhead modes (code_bits LONGEST_CODE bits) found.0 found.1) }
 {
-    if let Some(found) = begins(bits, UNDER + 1) {
-        return Some(found);
+    let at = (bits >> 6) as usize;
+    let len = VERTICAL_MODES.lens[at];
+    if len > 0 {
+        let mode = ModeCode::Vertical(VERTICAL_MODES.shifts[at]);
+        return Some((u32::from(len), mode));
     }
-    if let Some(found) = begins(bits, LEFT + 1) {
+    if let Some(found) = begins(bits, PASS) {
         return Some(found);
     }
     if let Some(found) = begins(bits, HORIZONTAL) {
         return Some(found);
     }
-    if let Some(found) = begins(bits, PASS) {
-        return Some(found);
-    }
-    if let Some(found) = begins(bits, UNDER + 2) {
-        return Some(found);
-    }
-    if let Some(found) = begins(bits, LEFT + 2) {
-        return Some(found);
-    }
-    if let Some(found) = begins(bits, UNDER) {
-        return Some(found);
-    }
-    if let Some(found) = begins(bits, UNDER + 3) {
-        return Some(found);
-    }
-    begins(bits, LEFT + 3)
+    None
 }
 
 /// Reads a mode: what `read_code` does, without a look-up where a1 is under b1.

@@ -6,10 +6,7 @@ ghost use Rattle.fax_bits.specs.views.Pairs.{pair_bits};
 
 use crate::Colour;
 use crate::codes::LONGEST_CODE;
-use crate::indexes::{
-    BLACK_PAIR_CODES, BLACK_PAIR_LENS, PAIR_BLACKS, PAIR_LENS, PAIR_WHITES, WHITE_PAIR_CODES,
-    WHITE_PAIR_LENS,
-};
+use crate::indexes::{BLACK_PAIR_CODES, BLACK_PAIR_LENS, PAIRS, WHITE_PAIR_CODES, WHITE_PAIR_LENS};
 
 /// Runs of fewer pels than this are short: two of them, one after the other, are put at once.
 pub const SHORT_RUN: u32 = 16;
@@ -30,13 +27,13 @@ pub(crate) fn find_pair(bits: u32) -> Option<(u32, Pair)>
         (λ found. IsPairAhead (code_bits LONGEST_CODE bits) found.0 found.1) }
 {
     let at = (bits >> 1) as usize;
-    let len = PAIR_LENS[at];
+    let len = PAIRS.lens[at];
     if len == 0 {
         return None;
     }
     let pair = Pair {
-        white: u32::from(PAIR_WHITES[at]),
-        black: u32::from(PAIR_BLACKS[at]),
+        white: u32::from(PAIRS.whites[at]),
+        black: u32::from(PAIRS.blacks[at]),
     };
     Some((u32::from(len), pair))
 }

@@ -11,7 +11,7 @@ ghost use Rattle.fax_bits.specs.views.Sink.{Appends, AppendsPrefix, AppendsAllBu
 use crate::codes::{CodeTable, LONGEST_CODE};
 use crate::modes::{HORIZONTAL, PASS};
 use crate::pairs::{SHORT_RUN, short_pair_code};
-use crate::put::{VERTICAL_CODES, VERTICAL_LENS, put_run};
+use crate::put::{put_run, vertical_code};
 use crate::runs::TERMINATING_CODES;
 use crate::{BitSink, BlackRuns, Colour, Memory, ModeCode, Modes, WhiteRuns};
 use std::marker::Model;
@@ -237,11 +237,8 @@ impl PendingBits {
             ModeCode::Pass => self.then_entry::<Modes>(PASS),
             ModeCode::Horizontal => self.then_entry::<Modes>(HORIZONTAL),
             ModeCode::Vertical(d) => {
-                let place = (d + 3) as usize;
-                self.then(
-                    u32::from(VERTICAL_CODES[place]),
-                    u32::from(VERTICAL_LENS[place]),
-                )
+                let (code, len) = vertical_code(d);
+                self.then(code, len)
             }
             // An extension is not written.
             ModeCode::Extension => self,

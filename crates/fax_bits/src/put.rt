@@ -1,5 +1,6 @@
 //! The codes of runs and modes, put into a sink (ITU-T T.4, sections 4.1.1 and 4.2.1.3.2).
 ghost use Rattle.std.specs.Prelude.{◌≡◌, ◌*◌, ◌<◌, ◌≤◌, ◌^◌, OnOk, OnErr};
+ghost use Rattle.fax_bits.specs.Bits.{code_bits};
 ghost use Rattle.fax_bits.specs.declared.modes.ModeCode.TheVariants.{Vertical};
 ghost use Rattle.fax_bits.specs.declared.runs.RunCode.TheVariants.{Terminating, MakeUp};
 ghost use Rattle.fax_bits.specs.code.Codes.{bits_at};
@@ -13,27 +14,34 @@ use crate::modes::{HORIZONTAL, LEFT, MODES, PASS, UNDER};
 use crate::runs::TERMINATING_CODES;
 use crate::{BitSink, BlackRuns, Colour, Memory, ModeCode, Modes, WhiteRuns};
 
-/// The codes of vertical modes, from a1 three pels left of b1 to three pels right of it, and their
-/// lengths in bits (T.4, table 4): small, since most modes of a page are written by them.
-pub(crate) const VERTICAL_CODES: [u8; 7] = [
-    MODES[LEFT + 3].code as u8,
-    MODES[LEFT + 2].code as u8,
-    MODES[LEFT + 1].code as u8,
-    MODES[UNDER].code as u8,
-    MODES[UNDER + 1].code as u8,
-    MODES[UNDER + 2].code as u8,
-    MODES[UNDER + 3].code as u8,
-];
+/// The codes of vertical modes, from a1 three pels left of b1 to three pels right of it (T.4,
+/// table 4): small, since most modes of a page are written by them.
+pub(crate) struct VerticalCodes {
+    pub codes: [u8; 7],
+    /// Their lengths in bits.
+    pub lens: [u8; 7],
+}
 
-pub(crate) const VERTICAL_LENS: [u8; 7] = [
-    MODES[LEFT + 3].len,
-    MODES[LEFT + 2].len,
-    MODES[LEFT + 1].len,
-    MODES[UNDER].len,
-    MODES[UNDER + 1].len,
-    MODES[UNDER + 2].len,
-    MODES[UNDER + 3].len,
-];
+pub(crate) static VERTICAL_CODES: VerticalCodes = VerticalCodes {
+    codes: [
+        MODES[LEFT + 3].code as u8,
+        MODES[LEFT + 2].code as u8,
+        MODES[LEFT + 1].code as u8,
+        MODES[UNDER].code as u8,
+        MODES[UNDER + 1].code as u8,
+        MODES[UNDER + 2].code as u8,
+        MODES[UNDER + 3].code as u8,
+    ],
+    lens: [
+        MODES[LEFT + 3].len,
+        MODES[LEFT + 2].len,
+        MODES[LEFT + 1].len,
+        MODES[UNDER].len,
+        MODES[UNDER + 1].len,
+        MODES[UNDER + 2].len,
+        MODES[UNDER + 3].len,
+    ],
+};
 
 /// Puts a run of `n` pels, below 65,536, as codes of its colour: 2560 as often as it fits, at most
 /// one other make-up code, a terminating code (T.4, section 4.1.1).
@@ -144,6 +152,22 @@ pub fn put_mode(sink: &mut BitSink, mode: ModeCode) -> Result<(), Memory>
     }
 }
 
+/// The code of vertical mode with a1 `d` pels right of b1, -3 to 3, as one number, and its length
+/// in bits (T.4, section 4.2.1.3.2 and table 4).
+#[inline(always)]
+pub(crate) fn vertical_code(d: i8) -> (u32, u32)
+    requires { IsWritten (Vertical d) }
+    ensures bits { code_bits result.1 result.0 ≡ mode_bits (Vertical d) }
+    ensures fits { result.0 < 2 ^ result.1 }
+    ensures short { result.1 < 8 }
+{
+    let place = (i32::from(d) + 3) as usize;
+    (
+        u32::from(VERTICAL_CODES.codes[place]),
+        u32::from(VERTICAL_CODES.lens[place]),
+    )
+}
+
 /// Puts vertical mode with a1 `d` pels right of b1, -3 to 3 (T.4, section 4.2.1.3.2 and table 4).
 /// After an `Err` the sink is as it was.
 #[inline(always)]
@@ -152,11 +176,8 @@ fn put_vertical(sink: &mut BitSink, d: i8) -> Result<(), Memory>
     ensures ok { OnOk result (Appends sink.old (mode_bits (Vertical d)) sink.new) }
     ensures err { OnErr result (sink.new ≡ sink.old) }
 {
-    let place = (d + 3) as usize;
-    sink.put(
-        u32::from(VERTICAL_CODES[place]),
-        u32::from(VERTICAL_LENS[place]),
-    )
+    let (code, len) = vertical_code(d);
+    sink.put(code, len)
 }
 
 /// Puts the code at a place of the table. After an `Err` the sink is as it was.

@@ -357,6 +357,24 @@ impl WhiteRuns {
         let len = WHITE_LENS[usize::from(pels)];
         Some((u32::from(len), u32::from(pels)))
     }
+
+    /// The make-up code of few bits that begins thirteen bits: its length, and how many pels it
+    /// means. `None` where no such code does.
+    #[inline(always)]
+    pub(crate) fn find_make_up(bits: u32) -> Option<(u32, u32)>
+        requires { bits < 2 ^ LONGEST_CODE }
+        ensures { IfSome result
+            (λ found. HasCodeAhead white_runs (code_bits LONGEST_CODE bits) found.0
+            (RunCode.MakeUp found.1)) }
+    {
+        let place = WHITE_SHORT[(bits >> 4) as usize];
+        if place < TERMINATING_CODES || usize::from(place) >= RUN_ENTRIES - 1 {
+            return None;
+        }
+        let len = WHITE_LENS[usize::from(place)];
+        let steps = u32::from(place) + 1 - u32::from(TERMINATING_CODES);
+        Some((u32::from(len), 64 * steps))
+    }
 }
 
 impl BlackRuns {

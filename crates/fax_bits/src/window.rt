@@ -1,7 +1,7 @@
 //! The next bits of some bytes, by value: what a fast reader keeps in registers.
 ghost use Rattle.std.specs.Prelude.{◌≡◌, ◌+◌, ◌-◌, ◌%◌, ◌^◌, ◌<◌, ◌≤◌, ◌++◌, ℕ, List, length, take};
 ghost use Rattle.std.specs.Prelude.{drop};
-ghost use Rattle.std.specs.Prelude.{replicate, false, IsTrue};
+ghost use Rattle.std.specs.Prelude.{replicate, true, false, IsTrue};
 ghost use Rattle.fax_bits.specs.Bits.{bits, code_bits};
 ghost use Rattle.fax_bits.specs.views.Source.{HasZerosAhead};
 ghost use Rattle.fax_bits.specs.Bits.{bits_number};
@@ -91,6 +91,16 @@ impl Window {
         ensures loaded { IsTrue result → 0 < self.count }
     {
         self.bits >> 63 == 1
+    }
+
+    /// How many ones are next, of the bits that are loaded.
+    #[inline(always)]
+    pub fn ones(self) -> u32
+        ensures ahead { (order : FillOrder) (bytes : List ℕ)
+            → take result (bits_ahead order bytes self) ≡ replicate result true }
+        ensures loaded { result ≤ self.count }
+    {
+        self.bits.leading_ones()
     }
 
     /// The number that the next `n` bits spell, which are loaded: what `BitSource::peek` says.

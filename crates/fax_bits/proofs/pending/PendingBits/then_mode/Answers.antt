@@ -1,8 +1,7 @@
-use Rattle.std.proofs.Common.{◌≡◌, ◌++◌, ap, sym, ◌∙◌}
-use Rattle.fax_bits.specs.Bits.{code_bits}
+use Rattle.std.proofs.Common.{◌++◌, ap, sym, ◌∙◌}
 use Rattle.fax_bits.specs.declared.modes.ModeCode.TheVariants.{Vertical}
 use Rattle.fax_bits.specs.Written.{mode_bits}
-use Rattle.fax_bits.proofs.ModeLemmas.{bits_at-pass, bits_at-horizontal, vertical_bits}
+use Rattle.fax_bits.proofs.ModeLemmas.{bits_at-pass, bits_at-horizontal, distance_is}
 use Rattle.fax_bits.proofs.pending.PendingBits.then_mode.Goals as goal
 
 pub returns-in-Pass : goal.returns-in-Pass
@@ -17,7 +16,6 @@ returns-in-Horizontal c =
 pub returns-in-Vertical : goal.returns-in-Vertical
 returns-in-Vertical c =
     let d = c.in-Vertical.d in
-    let same : code_bits c.from-in-Vertical.result c.from.result ≡ mode_bits (Vertical d) =
-    ap (λ len. code_bits len c.from.result) c.from-in-Vertical.ensures ∙ ap (code_bits _) c.from.ensures
-    ∙ vertical_bits d (rw c.in-Vertical.is at c.requires.written) in
+    let written = rw c.in-Vertical.is at c.requires.written in
+    let same = c.vertical_code-code.ensures.bits ∙ ap (λ at. mode_bits (Vertical at)) (distance_is d written) in
     c.then.ensures ∙ ap (λ b. c.args.self ++ b) (same ∙ ap mode_bits (sym c.in-Vertical.is))

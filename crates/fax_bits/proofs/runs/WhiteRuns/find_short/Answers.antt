@@ -24,5 +24,6 @@ returns c =
     ap (λ table. slice_get table pels) white_runs_are ∙ slice_get-run_entries 0 WHITE_CODES WHITE_LENS pels (omega arith) (omega arith)
     ∙ ap (λ meaning. Some (entry meaning)) (ap run_meaning (zero-add pels) ∙ run_meaning-terminating pels few) in
     rw (c.from-2.ensures, c.from-3.ensures ∙ sym c.from.ensures)
-    (found_at_place white_runs c.args.bits pels (entry (Terminating pels)) (c.from.ensures ∙ white_short_place c.args.bits c.requires short)
+    (found_at_place white_runs c.args.bits pels (entry (Terminating pels)) (c.from.ensures ∙ white_short_place c.args.bits c.requires
+    (omega (arith, short)))
     listed)

@@ -3,7 +3,7 @@ use Rattle.fax_bits.specs.Bits.{code_bits}
 use Rattle.fax_bits.proofs.AheadLemmas.{number-below, begun_taken, begun_end_kept, begun_shorter}
 use Rattle.fax_bits.proofs.FindLemmas.{ahead_is_short}
 use Rattle.fax_bits.proofs.PairLemmas.{pair_is_read}
-use Rattle.fax_bits.proofs.ahead.Ahead.pair.Goals as goal
+use Rattle.fax_bits.proofs.ahead.Ahead.pair_within.Goals as goal
 
 pub find_pair-requires : goal.find_pair-requires
 find_pair-requires c =
