@@ -1,5 +1,5 @@
 -- Steps over places of change that T.4 would have chosen.
-use Rattle.std.proofs.Common.{◌≡◌, ℕ, ◌<◌, ◌≤◌, List, length, take, Bool, ℤ, pos, ap, sym, ◌∙◌, subst, arith, length-take-le}
+use Rattle.std.proofs.Common.{◌≡◌, ℕ, ◌<◌, ◌≤◌, List, length, take, Bool, ℤ, pos, ◌≤ℤ◌, ap, sym, ◌∙◌, subst, arith, length-take-le}
 use Rattle.std.specs.Prelude.{Option, Some, None, IfSome}
 use Rattle.std.proofs.lemmas.Int.{ints}
 use Rattle.fax_bits.specs.declared.Colour.TheVariants.{White, Black}
@@ -63,16 +63,21 @@ module _ (reference : PlacedRow) (places : List ℕ) (at : PlacedReached) (so_fa
       vertical_chosen b d new rest takes
       (subst (λ e. IsVerticalStep (placed_pels reference) (placed_position reference.width places at) e new) same step) left
 
-  -- a1 under b1 is not right of b2
-  pub under_chosen : (b : List Bool) (new : Position) (rest : List Bool) → Takes modes b (Vertical (pos 0)) rest
-      → IsVerticalStep (placed_pels reference) (placed_position reference.width places at) (pos 0) new
-      → IsChosenStep (placed_pels reference) (placed_position reference.width places at) b new rest
-  under_chosen b new rest takes step =
+  -- a1 that is not right of b1 is not right of b2
+  pub left_of_b2 : (d : ℤ) (new : Position) → IsVerticalStep (placed_pels reference) (placed_position reference.width places at) d new
+      → d ≤ℤ pos 0 → first_pel new ≤ b2_from (placed_pels reference) (placed_position reference.width places at)
+  left_of_b2 d new step left =
       let b1 = so_far.b1 unfinished in
       let first = b1_is reference at.reached.a0 at.reached.colour at.b1 b1 in
       let second = b2_is reference at.reached.a0 at.reached.colour at.b1 b1 in
       let order = b2_ahead reference at.b1 b1.some b1.within in
-      vertical_chosen b (pos 0) new rest takes step (rw step.new_is (omega (arith, ints, step.a1_is)))
+      rw step.new_is (omega (arith, ints, step.a1_is, left))
+
+  pub under_chosen : (b : List Bool) (new : Position) (rest : List Bool) → Takes modes b (Vertical (pos 0)) rest
+      → IsVerticalStep (placed_pels reference) (placed_position reference.width places at) (pos 0) new
+      → IsChosenStep (placed_pels reference) (placed_position reference.width places at) b new rest
+  under_chosen b new rest takes step =
+      vertical_chosen b (pos 0) new rest takes step (left_of_b2 (pos 0) new step (omega (arith, ints)))
 
   pub pass_chosen : (b : List Bool) (new : Position) (rest : List Bool) → Takes modes b Pass rest
       → new ≡ coloured_up_to (placed_position reference.width places at) (b2_from (placed_pels reference)

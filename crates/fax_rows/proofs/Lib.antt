@@ -36,3 +36,4 @@ pub mod ChosenStepLemmas
 pub mod ChosenRunLemmas
 pub mod PairReadLemmas
 pub mod CopiedPlaceLemmas
+pub mod UnderLemmas

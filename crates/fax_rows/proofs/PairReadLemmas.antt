@@ -21,12 +21,12 @@ run_again colour b total run rest is =
 pub pair_read_on : (width : ℕ) (b : List Bool) (total : ℕ) (colour : Colour) (old mid new : List ℕ) (end next last : ℕ)
     (left rest : List Bool) (pair : Pair)
     → HasRead width b total colour old end left → colour ≡ White → total < width → IsPairRead left pair rest
-    → pair.white + pair.black ≤ width - total
+    → total + pair.white + pair.black ≤ width
     → IsTurnedFrom (take end old) (take next mid) (total + pair.white) → IsAscending mid next → get_or mid (next - 1) 0 ≤ total + pair.white
     → IsTurnedFrom (take next mid) (take last new) (total + pair.white + pair.black) → IsAscending new last
     → get_or new (last - 1) 0 ≤ total + pair.white + pair.black
     → HasRead width b (total + pair.white + pair.black) White new last rest
-pair_read_on width b total colour old mid new end next last left rest pair read white unfinished is few
+pair_read_on width b total colour old mid new end next last left rest pair read white unfinished is within
     turn up at turn_again up_again at_again =
     let some = is.black_some in
     let middle = total + pair.white in

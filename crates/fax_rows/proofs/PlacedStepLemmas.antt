@@ -56,6 +56,21 @@ from_start at = by at.a0
     by None = omega (arith, ints)
     by (Some a) = omega (arith, ints)
 
+-- a0's number, just before the first pel and in the row
+pub number_at_start : (at : Reached) → at.a0 ≡ None → negsuc 0 ≡ a0_number (position_of at [])
+number_at_start at is = by at.a0 is
+  where
+    by : (a0 : Option ℕ) → a0 ≡ None → negsuc 0 ≡ a0_number (record { a0 = a0; colour = at.colour; pels = [] })
+    by None h = refl
+    by (Some a) h = cc
+
+pub number_inside : (at : Reached) (place : ℕ) → at.a0 ≡ Some place → pos place ≡ a0_number (position_of at [])
+number_inside at place is = by at.a0 is
+  where
+    by : (a0 : Option ℕ) → a0 ≡ Some place → pos place ≡ a0_number (record { a0 = a0; colour = at.colour; pels = [] })
+    by None h = cc
+    by (Some a) h = let same : place ≡ a = cc in ap pos same
+
 -- a place right of a0's number is right of a0
 pub number_right : (at : Reached) (a1 : ℕ) → a0_number (position_of at []) <ℤ pos a1 → is_right_of at.a0 a1 ≡ true
 number_right at a1 h = by at.a0 h

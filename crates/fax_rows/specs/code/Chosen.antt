@@ -1,10 +1,11 @@
 -- Steps that are read, and whether T.4 would have chosen them.
-use Rattle.std.specs.Prelude.{◌≡◌, ℕ, ◌+◌, ◌<◌, ◌≤◌, ◌⊎◌, Bool, true, List, ◌++◌, length, take}
+use Rattle.std.specs.Prelude.{◌≡◌, ℕ, ◌+◌, ◌<◌, ◌≤◌, ◌⊎◌, Bool, true, List, [], ◌∷◌, ◌++◌}
+use Rattle.std.specs.Prelude.{length, take}
 use Rattle.std.specs.Prelude.{replicate, Some}
 use Rattle.fax_bits.specs.declared.Colour.{Colour}
 use Rattle.fax_bits.specs.Codes.{IsRun}
 use Rattle.fax_bits.specs.Written.{run_bits}
-use Rattle.fax_rows.specs.Rows.{other, pel, is_right_of, Position, first_pel}
+use Rattle.fax_rows.specs.Rows.{other, pel, is_right_of, Position, first_pel, AreSteps}
 use Rattle.fax_rows.specs.code.Seen.{b1_from, b2_from}
 use Rattle.fax_rows.specs.code.Ahead.{bits_from, place_from}
 
@@ -25,6 +26,26 @@ abbrev pub IsChosenStep : List Colour → Position → List Bool → Position �
 IsChosenStep reference old b new rest =
     (row : List Colour) → length row ≡ length reference → GoesOnFrom row new
     → IsStepOf reference row old b new rest
+
+-- the bits begin with steps through some positions (T.4, section 4.2.1.3.4)
+pub record GoesOn (reference : List Colour) (old : Position) (b : List Bool) (new : Position)
+    (rest : List Bool) : Type 0 where
+  pub positions : List Position
+  pub steps : AreSteps reference old b positions new rest
+
+-- the bits begin with steps that T.4 chooses, through these positions, each from before the end
+abbrev pub AreChosenSteps : List Colour → Position → List Bool → List Position → Position
+    → List Bool → Type 0
+AreChosenSteps reference old b [] new rest = (new ≡ old) × (b ≡ rest)
+AreChosenSteps reference old b (next ∷ more) new rest =
+    (first_pel old < length reference) × (middle : List Bool)
+    × IsChosenStep reference old b next middle × AreChosenSteps reference next middle more new rest
+
+-- and through some positions
+pub record GoesOnAsChosen (reference : List Colour) (old : Position) (b : List Bool)
+    (new : Position) (rest : List Bool) : Type 0 where
+  pub positions : List Position
+  pub steps : AreChosenSteps reference old b positions new rest
 
 -- the bits begin with a run of the colour and one of the other, and are as they are written
 -- (T.4, section 4.1.1)

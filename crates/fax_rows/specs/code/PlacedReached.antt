@@ -1,11 +1,13 @@
 -- How far a row is read in two-dimensional coding into its places of change.
-use Rattle.std.specs.Prelude.{◌≡◌, ℕ, ◌+◌, ◌-◌, ◌≤◌, ◌<◌, List, None, length, take, slice_index}
+use Rattle.std.specs.Prelude.{◌≡◌, ℕ, ◌+◌, ◌-◌, ◌≤◌, ◌<◌, Bool, List, None, length, take}
+use Rattle.std.specs.Prelude.{slice_index}
 use Rattle.fax_bits.specs.declared.Colour.TheVariants.{Black}
 use Rattle.fax_rows.specs.declared.two_dimensional.steps.PlacedReached.{PlacedReached}
 use Rattle.fax_rows.specs.Rows.{Position}
 use Rattle.fax_rows.specs.code.Reached.{reached_pel, position_of}
 use Rattle.fax_rows.specs.declared.rows.PlacedRow.{PlacedRow}
-use Rattle.fax_rows.specs.code.PlacedRow.{IsB1At}
+use Rattle.fax_rows.specs.code.Chosen.{GoesOn, GoesOnAsChosen}
+use Rattle.fax_rows.specs.code.PlacedRow.{placed_pels, IsB1At}
 use Rattle.fax_rows.specs.code.Turns.{turned, pels_by, IsAscending}
 
 -- the position on the row of the places that are put (T.4, section 4.2.1.3.1)
@@ -24,3 +26,12 @@ pub record IsReadTo (reference : PlacedRow) (places : List ℕ) (at : PlacedReac
       → turned Black (take at.end places) i ≡ at.reached.colour
   pub b1 : reached_pel at.reached < reference.width
       → IsB1At reference at.reached.a0 at.reached.colour at.b1
+
+-- the bits begin with steps that T.4 chooses, over which the row is read on
+pub record IsReadOn (reference : PlacedRow) (old new : List ℕ) (at next : PlacedReached)
+    (b rest : List Bool) : Type 0 where
+  pub steps : GoesOn (placed_pels reference) (placed_position reference.width old at) b
+      (placed_position reference.width new next) rest
+  pub chosen : GoesOnAsChosen (placed_pels reference) (placed_position reference.width old at) b
+      (placed_position reference.width new next) rest
+  pub so_far : IsReadTo reference new next

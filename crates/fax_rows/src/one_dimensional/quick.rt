@@ -96,7 +96,7 @@ fn read_ahead<'a, const CHOICE: bool>(
     let mut end = 1;
     let mut total = 0;
     while total < width {
-        match ahead.pair(width - total) {
+        match ahead.pair_within(total, width) {
             Ok((behind, pair)) => {
                 let middle = total + pair.white;
                 let next = turn_right(places, end, middle);

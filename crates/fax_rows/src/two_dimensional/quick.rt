@@ -1,21 +1,22 @@
 //! A row in two-dimensional coding that has no fault, read quickly: the bits ahead stand in a
 //! value. Each function gives up, with `None`, at any doubt, and the row is read again from its
 //! source.
-ghost use Rattle.std.specs.Prelude.{◌≡◌, ◌+◌, ◌-◌, ◌≤◌, ◌<◌, ◌⊎◌, ◌++◌, IfSome};
+ghost use Rattle.std.specs.Prelude.{◌≡◌, ◌+◌, ◌-◌, ◌≤◌, ◌<◌, ◌^◌, ◌⊎◌, ◌++◌, IfSome};
 ghost use Rattle.std.specs.Prelude.{IsTrue, length, true, None, slice_index};
 ghost use Rattle.fax_bits.specs.views.Source.{KeepsEnd};
 ghost use Rattle.fax_rows.specs.Coded.{two_dimensional_bits};
 ghost use Rattle.fax_rows.specs.Rows.{b1, b2, is_right_of};
 ghost use Rattle.fax_rows.specs.Rows as Spec;
 ghost use Rattle.fax_rows.specs.code.Chosen as Chosen;
+ghost use Rattle.fax_rows.specs.code.Seen.{b2_from};
 ghost use Rattle.fax_rows.specs.code.PlacedRow.{placed_pels, IsB1At};
 ghost use Rattle.fax_rows.specs.code.Turns.{row_of, IsAscending};
 ghost use Rattle.fax_rows.specs.code.Reached.{reached_pel};
 ghost use Rattle.fax_rows.specs.code.PlacedReached.{placed_position, IsReadTo};
 
-use super::steps::{PlacedReached, after_runs, pass, under_b1, vertical};
+use super::copied::under_several;
+use super::steps::{PlacedReached, after_runs, left_of_b1, right_of_b1, under_b1, under_b2};
 use crate::rows::PlacedRow;
-use crate::runs::other;
 use crate::turns::colour_after;
 use fax_bits::{Ahead, BitSource, Colour, ModeCode};
 
@@ -75,27 +76,48 @@ fn chooses_runs<const CHOICE: bool>(
         && (a1 + 3 < b1 || b1 + 3 < a1)
 }
 
-/// Reads a run of the colour and a run of the other one, and answers how many pels they have.
+/// Whether a step is taken: it is seen to be T.4's choice, or that is not asked for.
+#[inline(always)]
+fn is_taken<const CHOICE: bool>(chosen: bool) -> bool
+    ensures { IsTrue result → IsTrue CHOICE → IsTrue chosen }
+{
+    chosen || !CHOICE
+}
+
+/// Reads a white run and a black one, and answers how many pels they have.
+#[inline(always)]
+fn white_and_black<'a, const CHOICE: bool>(ahead: Ahead<'a>) -> Option<(Ahead<'a>, u32, u32)>
+    ensures pair { IfSome result
+        (λ read. Chosen.IsPair Colour.White ahead.entry.left read.1 read.2 read.0.left) }
+    ensures same_end { IfSome result (λ read. KeepsEnd ahead.entry read.0) }
+    ensures no_longer { IfSome result (λ read. length read.0.left ≤ length ahead.entry.left) }
+{
+    let (after, first) = ahead.run(Colour::White)?;
+    let (after, second) = after.run(Colour::Black)?;
+    Some((after, first, second))
+}
+
+/// Reads a black run and a white one, and answers how many pels they have.
+#[inline(always)]
+fn black_and_white<'a, const CHOICE: bool>(ahead: Ahead<'a>) -> Option<(Ahead<'a>, u32, u32)>
+    ensures pair { IfSome result
+        (λ read. Chosen.IsPair Colour.Black ahead.entry.left read.1 read.2 read.0.left) }
+    ensures same_end { IfSome result (λ read. KeepsEnd ahead.entry read.0) }
+    ensures no_longer { IfSome result (λ read. length read.0.left ≤ length ahead.entry.left) }
+{
+    let (after, first) = ahead.run(Colour::Black)?;
+    let (after, second) = after.run(Colour::White)?;
+    Some((after, first, second))
+}
+
+/// Reads a run of the colour and a run of the other one, and answers how many pels they have: a
+/// white run and the black one after it mostly by one look-up, where they have at most so many pels
+/// together.
 #[inline(always)]
 fn two_runs<'a, const CHOICE: bool>(
     ahead: Ahead<'a>,
     colour: Colour,
-) -> Option<(Ahead<'a>, u32, u32)>
-    ensures pair { IfSome result
-        (λ read. Chosen.IsPair colour ahead.entry.left read.1 read.2 read.0.left) }
-    ensures same_end { IfSome result (λ read. KeepsEnd ahead.entry read.0) }
-    ensures no_longer { IfSome result (λ read. length read.0.left ≤ length ahead.entry.left) }
-{
-    let (after, first) = ahead.run(colour)?;
-    let (after, second) = after.run(other(colour))?;
-    Some((after, first, second))
-}
-
-/// What `two_runs` does, in code of its own for each colour.
-#[inline(always)]
-fn two_runs_by_colour<'a, const CHOICE: bool>(
-    ahead: Ahead<'a>,
-    colour: Colour,
+    most: u32,
 ) -> Option<(Ahead<'a>, u32, u32)>
     ensures pair { IfSome result
         (λ read. Chosen.IsPair colour ahead.entry.left read.1 read.2 read.0.left) }
@@ -103,8 +125,11 @@ fn two_runs_by_colour<'a, const CHOICE: bool>(
     ensures no_longer { IfSome result (λ read. length read.0.left ≤ length ahead.entry.left) }
 {
     match colour {
-        Colour::White => two_runs::<CHOICE>(ahead, Colour::White),
-        Colour::Black => two_runs::<CHOICE>(ahead, Colour::Black),
+        Colour::White => match ahead.pair(most) {
+            Ok((after, pair)) => Some((after, pair.white, pair.black)),
+            Err(again) => white_and_black::<CHOICE>(again),
+        },
+        Colour::Black => black_and_white::<CHOICE>(ahead),
     }
 }
 
@@ -116,7 +141,7 @@ fn horizontal<'a, const CHOICE: bool>(
     reference: PlacedRow,
     places: &mut [u32],
     at: PlacedReached,
-) -> Option<(Ahead<'a>, PlacedReached, bool)>
+) -> Option<(Ahead<'a>, PlacedReached)>
     requires so_far { IsReadTo reference places.old at }
     requires unfinished { reached_pel at.reached < reference.width }
     ensures step { IfSome result (λ next. Spec.IsHorizontalStep (placed_pels reference.entry)
@@ -127,32 +152,97 @@ fn horizontal<'a, const CHOICE: bool>(
     ensures same_len { length places.new ≡ length places.old }
     ensures same_end { IfSome result (λ next. KeepsEnd ahead.entry next.0) }
     ensures no_longer { IfSome result (λ next. length next.0.left ≤ length ahead.entry.left) }
-    ensures chosen { IfSome result (λ next. IsTrue next.2
+    ensures chosen { IfSome result (λ next. IsTrue CHOICE
         → Chosen.IsChosenPair (placed_pels reference.entry)
         (placed_position reference.entry.width places.old at) ahead.entry.left
         (placed_position reference.entry.width places.new next.1) next.0.left) }
 {
-    let from = at.reached.first_pel();
-    let (after, first, second) = two_runs_by_colour::<CHOICE>(ahead, colour_after(at.b1))?;
-    if first > reference.width - from || second > reference.width - from - first {
+    let most = reference.width - at.reached.first_pel();
+    let colour = colour_after(at.b1);
+    let (after, first, second) = two_runs::<CHOICE>(ahead, colour, most)?;
+    if first > most || second > most - first {
         return None;
     }
     let chosen = chooses_runs::<CHOICE>(reference, at, first, second);
+    if !is_taken::<CHOICE>(chosen) {
+        return None;
+    }
     let next = after_runs(reference, places, at, first, second);
-    Some((after, next, chosen))
+    Some((after, next))
 }
 
-/// Reads one mode, and goes on by what it says (T.4, section 4.2.1.3.3).
+/// Vertical mode, where that is T.4's choice or this is not asked for. It always is where a1 is not
+/// right of b1 (T.4, section 4.2.1.3.3).
 #[inline(always)]
-fn step<'a, const CHOICE: bool>(
+fn vertical<const CHOICE: bool>(
+    reference: PlacedRow,
+    places: &mut [u32],
+    at: PlacedReached,
+    d: i8,
+) -> Option<PlacedReached>
+    requires so_far { IsReadTo reference places.old at }
+    requires unfinished { reached_pel at.reached < reference.width }
+    ensures step { IfSome result (λ next. Spec.IsVerticalStep (placed_pels reference.entry)
+        (placed_position reference.entry.width places.old at) d
+        (placed_position reference.entry.width places.new next)) }
+    ensures so_far { IfSome result (λ next. IsReadTo reference.entry places.new next) }
+    ensures left { IfSome result (λ next. IsTrue CHOICE → reached_pel next.reached
+        ≤ b2 (placed_pels reference.entry) at.reached.a0 at.reached.colour) }
+    ensures first { slice_index places.new 0 ≡ 0 }
+    ensures same_len { length places.new ≡ length places.old }
+{
+    if d < 0 {
+        return left_of_b1(reference, places, at, d);
+    }
+    if d == 0 {
+        return Some(under_b1(reference, places, at));
+    }
+    let next = right_of_b1(reference, places, at, d)?;
+    let chosen = chooses_a1::<CHOICE>(reference, at, next);
+    if is_taken::<CHOICE>(chosen) {
+        Some(next)
+    } else {
+        None
+    }
+}
+
+/// Pass mode, where that is T.4's choice or this is not asked for (T.4, section 4.2.1.3.3).
+#[inline(always)]
+fn pass<const CHOICE: bool>(
+    reference: PlacedRow,
+    places: &[u32],
+    at: PlacedReached,
+) -> Option<PlacedReached>
+    requires so_far { IsReadTo reference places.now at }
+    requires unfinished { reached_pel at.reached < reference.width }
+    ensures step { let from = placed_position reference.entry.width places.now at in
+        IfSome result (λ next. placed_position reference.entry.width places.now next
+        ≡ Spec.coloured_up_to from (b2_from (placed_pels reference.entry) from)) }
+    ensures so_far { IfSome result (λ next. IsReadTo reference.entry places.now next) }
+    ensures inside { IfSome result (λ next. IsTrue CHOICE
+        → reached_pel next.reached < reference.entry.width) }
+{
+    let next = under_b2(reference, places, at);
+    let chosen = chooses_b2::<CHOICE>(reference, next);
+    if is_taken::<CHOICE>(chosen) {
+        Some(next)
+    } else {
+        None
+    }
+}
+
+/// Reads one mode, and goes on by what it says; where a1 is under b1 it reads more such modes too
+/// (T.4, section 4.2.1.3.3).
+#[inline(always)]
+fn steps<'a, const CHOICE: bool>(
     ahead: Ahead<'a>,
     reference: PlacedRow,
     places: &mut [u32],
     at: PlacedReached,
-) -> Option<(Ahead<'a>, PlacedReached, bool)>
+) -> Option<(Ahead<'a>, PlacedReached)>
     requires so_far { IsReadTo reference places.old at }
     requires unfinished { reached_pel at.reached < reference.width }
-    ensures step { IfSome result (λ next. Spec.IsStep (placed_pels reference.entry)
+    ensures steps { IfSome result (λ next. Chosen.GoesOn (placed_pels reference.entry)
         (placed_position reference.entry.width places.old at) ahead.entry.left
         (placed_position reference.entry.width places.new next.1) next.0.left) }
     ensures so_far { IfSome result (λ next. IsReadTo reference.entry places.new next.1) }
@@ -160,21 +250,21 @@ fn step<'a, const CHOICE: bool>(
     ensures same_len { length places.new ≡ length places.old }
     ensures same_end { IfSome result (λ next. KeepsEnd ahead.entry next.0) }
     ensures shorter { IfSome result (λ next. length next.0.left < length ahead.entry.left) }
-    ensures chosen { IfSome result (λ next. IsTrue next.2
-        → Chosen.IsChosenStep (placed_pels reference.entry)
+    ensures chosen { IfSome result (λ next. IsTrue CHOICE
+        → Chosen.GoesOnAsChosen (placed_pels reference.entry)
         (placed_position reference.entry.width places.old at) ahead.entry.left
         (placed_position reference.entry.width places.new next.1) next.0.left) }
 {
     let (after, mode) = ahead.mode()?;
     match mode {
-        ModeCode::Vertical(0) => Some((after, under_b1(reference, places, at), CHOICE)),
+        ModeCode::Vertical(0) => Some(under_several(after, reference, places, at)),
         ModeCode::Vertical(d) => {
-            let next = vertical(reference, places, at, d)?;
-            Some((after, next, chooses_a1::<CHOICE>(reference, at, next)))
+            let next = vertical::<CHOICE>(reference, places, at, d)?;
+            Some((after, next))
         }
         ModeCode::Pass => {
-            let next = pass(reference, places, at);
-            Some((after, next, chooses_b2::<CHOICE>(reference, next)))
+            let next = pass::<CHOICE>(reference, places, at)?;
+            Some((after, next))
         }
         ModeCode::Horizontal => horizontal::<CHOICE>(after, reference, places, at),
         ModeCode::Extension => None,
@@ -187,7 +277,7 @@ fn read_ahead<'a, const CHOICE: bool>(
     mut ahead: Ahead<'a>,
     reference: PlacedRow,
     places: &mut [u32],
-) -> Option<(Ahead<'a>, usize, bool)>
+) -> Option<(Ahead<'a>, usize)>
     requires room { length places.old ≡ reference.width + 4 }
     requires first { slice_index places.old 0 ≡ 0 }
     ensures row { IfSome result (λ read. Spec.IsTwoDimensionalRow (placed_pels reference.entry)
@@ -198,19 +288,17 @@ fn read_ahead<'a, const CHOICE: bool>(
     ensures first { slice_index places.new 0 ≡ 0 }
     ensures same_len { length places.new ≡ length places.old }
     ensures same_end { IfSome result (λ read. KeepsEnd ahead.entry read.0) }
-    ensures chosen { IfSome result (λ read. IsTrue read.2
+    ensures chosen { IfSome result (λ read. IsTrue CHOICE
         → ahead.entry.left ≡ two_dimensional_bits (placed_pels reference.entry)
         (row_of places.new read.1 reference.entry.width) ++ read.0.left) }
 {
     let mut at = PlacedReached::BEGINNING;
-    let mut chosen = CHOICE;
     while at.reached.first_pel() < reference.width {
-        let (after, next, fits) = step::<CHOICE>(ahead, reference, places, at)?;
+        let (after, next) = steps::<CHOICE>(ahead, reference, places, at)?;
         ahead = after;
         at = next;
-        chosen = chosen && fits;
     }
-    Some((ahead, at.end, chosen))
+    Some((ahead, at.end))
 }
 
 /// Reads the modes of a row over the reference row, and answers where its places end. After `None`
@@ -220,23 +308,23 @@ pub(crate) fn read_quickly<const CHOICE: bool>(
     source: &mut BitSource,
     reference: PlacedRow,
     places: &mut [u32],
-) -> Option<(usize, bool)>
+) -> Option<usize>
     requires room { length places.old ≡ reference.width + 4 }
     requires first { slice_index places.old 0 ≡ 0 }
-    ensures row { IfSome result (λ read. Spec.IsTwoDimensionalRow (placed_pels reference.entry)
-        source.old.left (row_of places.new read.0 reference.entry.width) source.new.left) }
-    ensures ascending { IfSome result (λ read. IsAscending places.new read.0) }
+    ensures row { IfSome result (λ end. Spec.IsTwoDimensionalRow (placed_pels reference.entry)
+        source.old.left (row_of places.new end reference.entry.width) source.new.left) }
+    ensures ascending { IfSome result (λ end. IsAscending places.new end) }
     ensures last { IfSome result
-        (λ read. slice_index places.new (read.0 - 1) ≤ reference.entry.width) }
+        (λ end. slice_index places.new (end - 1) ≤ reference.entry.width) }
     ensures first { slice_index places.new 0 ≡ 0 }
     ensures same_len { length places.new ≡ length places.old }
     ensures same_end { KeepsEnd source.old source.new }
-    ensures chosen { IfSome result (λ read. IsTrue read.1
+    ensures chosen { IfSome result (λ end. IsTrue CHOICE
         → source.old.left ≡ two_dimensional_bits (placed_pels reference.entry)
-        (row_of places.new read.0 reference.entry.width) ++ source.new.left) }
+        (row_of places.new end reference.entry.width) ++ source.new.left) }
     ensures unchanged { result ≡ None → source.new ≡ source.old }
 {
-    let (after, end, chosen) = read_ahead::<CHOICE>(source.ahead()?, reference, places)?;
+    let (after, end) = read_ahead::<CHOICE>(source.ahead()?, reference, places)?;
     *source = after.source();
-    Some((end, chosen))
+    Some(end)
 }

@@ -1,7 +1,7 @@
 //! Steps of two-dimensional coding over a reference row, which the exact and the quick reader share
 //! (ITU-T T.4, section 4.2.1.3.2).
-ghost use Rattle.std.specs.Prelude.{◌≡◌, ◌+◌, ◌-◌, ◌≤◌, ◌<◌, ◌^◌, ◌↔◌, ◌+ℤ◌, ◌≤ℤ◌, ◌<ℤ◌, pos, negsuc};
-ghost use Rattle.std.specs.Prelude.{[], List, Bool, IsTrue, None, length, slice_index, IfSome, IfNone};
+ghost use Rattle.std.specs.Prelude.{◌≡◌, ◌+◌, ◌-◌, ◌≤◌, ◌<◌, ◌^◌, ◌+ℤ◌, ◌≤ℤ◌, ◌<ℤ◌, pos, negsuc};
+ghost use Rattle.std.specs.Prelude.{[], List, Bool, length, slice_index, IfSome, IfNone};
 ghost use Rattle.fax_bits.specs.Codes.{IsRun};
 ghost use Rattle.fax_rows.specs.Rows.{other as other_than};
 ghost use Rattle.fax_rows.specs.Rows as Spec;
@@ -33,29 +33,32 @@ impl Reached {
         self.a0.unwrap_or(0)
     }
 
-    /// Whether a0 is just before the first pel.
+    /// a0 as a number: -1 just before the first pel.
     #[inline(always)]
-    fn is_beginning(self) -> bool
-        ensures { IsTrue result ↔ (self.a0 ≡ None) }
+    fn number(self) -> i32
+        requires { reached_pel self < 2 ^ 16 }
+        ensures { result ≡ Spec.a0_number (position_of self []) }
     {
-        self.a0.is_none()
+        match self.a0 {
+            None => -1,
+            Some(place) => place as i32,
+        }
     }
 
-    /// The pel `back` pels left of the pel `b1`, where it is right of a0.
+    /// The pel `d` pels right of the pel `b1`, where it is right of a0.
     #[inline(always)]
-    fn left_of(self, b1: u32, back: u32) -> Option<u32>
-        ensures place { IfSome result (λ a1. a1 + back ≡ b1) }
+    fn left_of(self, b1: u32, d: i8) -> Option<u32>
+        requires reached { reached_pel self < 2 ^ 16 }
+        requires near { b1 < 2 ^ 16 }
+        ensures place { IfSome result (λ a1. pos a1 ≡ pos b1 +ℤ d) }
         ensures right { IfSome result
             (λ a1. Spec.a0_number (position_of self []) <ℤ pos a1) }
         ensures none { IfNone result
-            (pos b1 ≤ℤ (Spec.a0_number (position_of self []) +ℤ pos back)) }
+            ((pos b1 +ℤ d) ≤ℤ Spec.a0_number (position_of self [])) }
     {
-        if b1 < back {
-            return None;
-        }
-        let place = b1 - back;
-        if place > self.first_pel() || self.is_beginning() {
-            Some(place)
+        let place = b1 as i32 + i32::from(d);
+        if place > self.number() {
+            Some(place as u32)
         } else {
             None
         }
@@ -87,7 +90,7 @@ impl PlacedReached {
 
 /// Pass mode: goes on to the pel below b2 (T.4, section 4.2.1.3.2).
 #[inline(always)]
-pub(crate) fn pass(reference: PlacedRow, places: &[u32], at: PlacedReached) -> PlacedReached
+pub(crate) fn under_b2(reference: PlacedRow, places: &[u32], at: PlacedReached) -> PlacedReached
     requires so_far { IsReadTo reference places.now at }
     requires unfinished { reached_pel at.reached < reference.width }
     ensures step { let from = placed_position reference.entry.width places.now at in
@@ -133,7 +136,7 @@ pub(crate) fn under_b1(reference: PlacedRow, places: &mut [u32], at: PlacedReach
 /// Vertical mode with a1 right of b1, by `d` pels (T.4, section 4.2.1.3.2). `None` where a1 is not
 /// in the row.
 #[inline(always)]
-fn right_of_b1(
+pub(crate) fn right_of_b1(
     reference: PlacedRow,
     places: &mut [u32],
     at: PlacedReached,
@@ -169,7 +172,7 @@ fn right_of_b1(
 /// Vertical mode with a1 left of b1, by `-d` pels (T.4, section 4.2.1.3.2). `None` where a1 is not
 /// right of a0.
 #[inline(always)]
-fn left_of_b1(
+pub(crate) fn left_of_b1(
     reference: PlacedRow,
     places: &mut [u32],
     at: PlacedReached,
@@ -187,9 +190,8 @@ fn left_of_b1(
     ensures first { slice_index places.new 0 ≡ 0 }
     ensures same_len { length places.new ≡ length places.old }
 {
-    let back = u32::from(d.unsigned_abs());
     let b1 = reference.places[at.b1];
-    let Some(place) = at.reached.left_of(b1, back) else {
+    let Some(place) = at.reached.left_of(b1, d) else {
         return None;
     };
     let end = turn_right(places, at.end, place);

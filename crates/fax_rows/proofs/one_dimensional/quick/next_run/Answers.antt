@@ -3,7 +3,8 @@ use Rattle.fax_bits.specs.declared.Colour.{Colour}
 use Rattle.fax_bits.specs.declared.Colour.TheVariants.{White}
 use Rattle.fax_rows.proofs.PlacedReadLemmas.{places_within}
 use Rattle.fax_rows.proofs.one_dimensional.quick.next_run.Goals as goal
-use Rattle.fax_rows.proofs.one_dimensional.quick.next_run.Goals.{else-this-ne0-via-then-this-ne0+else-not-may_be_longest, else-this-ne0-via-else-this-ne0}
+use Rattle.fax_rows.proofs.one_dimensional.quick.next_run.Goals.{else-this-ne0-via-then-this-ne0+else-not-may_be_longest}
+use Rattle.fax_rows.proofs.one_dimensional.quick.next_run.Goals.{else-this-ne0-via-else-this-ne0}
 
 not_asked : (choice : ℕ) → choice ≡ 0 → IsTrue (not (nat_eq choice 0)) → ⊥
 not_asked choice none asked = let h = rw none at asked in cc

@@ -39,7 +39,7 @@ turn_right-end-requires-clause-room g c =
       arith,
       places_within next.new.places next.result (c.loop-total.total + c.in-Ok.pair.white) next.ensures.ascending next.ensures.last,
       next.ensures.same_len,
-      c.in-Ok.ensures.few,
+      c.in-Ok.ensures.within,
       c.in-Ok.ensures.runs.black_some,
       c.loop-total-test.true,
     )
@@ -52,7 +52,7 @@ loop-total-preserved-in-Ok g c =
       colour = White;
       read = pair_read_on c.args.width c.args.ahead.left loop.total loop.invariant.colour loop.places c.turn_right-next.new.places
           c.turn_right-end.new.places loop.end c.turn_right-next.result c.turn_right-end.result loop.ahead.left c.in-Ok.behind.left
-          c.in-Ok.pair loop.invariant.read white c.loop-total-test.true c.in-Ok.ensures.runs c.in-Ok.ensures.few
+          c.in-Ok.pair loop.invariant.read white c.loop-total-test.true c.in-Ok.ensures.runs c.in-Ok.ensures.within
           c.turn_right-next.ensures.turned c.turn_right-next.ensures.ascending c.turn_right-next.ensures.last
           c.turn_right-end.ensures.turned c.turn_right-end.ensures.ascending c.turn_right-end.ensures.last;
       chosen = λ h.

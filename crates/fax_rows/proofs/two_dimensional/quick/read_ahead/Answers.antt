@@ -1,14 +1,14 @@
 use Rattle.std.proofs.Common.{take, refl, ap, sym, ◌∙◌, arith}
-use Rattle.std.proofs.lemmas.Bool.{true≢false}
 use Rattle.fax_rows.specs.code.PlacedRow.{placed_pels}
 use Rattle.fax_rows.specs.code.Turns.{pels_by}
 use Rattle.fax_rows.proofs.TurnLemmas.{length-pels_by}
 use Rattle.fax_rows.proofs.PlacedB1Lemmas.{length-placed_pels}
 use Rattle.fax_rows.specs.code.PlacedReached.{placed_position}
 use Rattle.fax_rows.proofs.ChangeLemmas.{first_of}
-use Rattle.fax_rows.proofs.ChosenRowLemmas.{chosen_begins, chosen_goes_on, chosen_ends}
-use Rattle.fax_rows.proofs.StepLemmas.{steps_begin, steps_go_on}
+use Rattle.fax_rows.proofs.ChosenRowLemmas.{chosen_begins, chosen_ends}
+use Rattle.fax_rows.proofs.StepLemmas.{steps_begin}
 use Rattle.fax_rows.proofs.PlacedStepLemmas.{nothing_read, steps_done}
+use Rattle.fax_rows.proofs.UnderLemmas.{all_go_on, all_chosen_go_on}
 use Rattle.fax_rows.proofs.two_dimensional.quick.read_ahead.Goals as goal
 
 pub loop-ahead-init : goal.loop-ahead-init
@@ -23,30 +23,14 @@ loop-ahead-init g c = record {
 
 pub loop-ahead-preserved : goal.loop-ahead-preserved
 loop-ahead-preserved g c =
-    let len = length-placed_pels c.args.reference in
+    let old = placed_position c.args.reference.width c.loop-ahead.places c.loop-ahead.at in
+    let new = placed_position c.args.reference.width c.steps.new.places c.in_ok-after.next in
     record {
-      steps = steps_go_on (placed_pels c.args.reference) c.args.ahead.left
-          c.loop-ahead.at.reached c.in_ok-after.next.reached (pels_by c.args.reference.width (take c.loop-ahead.at.end c.loop-ahead.places))
-          (pels_by c.args.reference.width (take c.in_ok-after.next.end c.step.new.places)) c.loop-ahead.ahead.left c.in_ok-after.after.left
-          c.loop-ahead.invariant.steps (omega (arith, len)) c.in_ok-after.ensures.step;
-      chosen = λ h. absurd (true≢false (sym h ∙ c.if-chosen.false));
-      so_far = c.in_ok-after.ensures.so_far;
-      same_end = omega (arith, c.in_ok-after.ensures.same_end);
-    }
-
-pub loop-ahead-preserved-then-chosen : goal.loop-ahead-preserved-then-chosen
-loop-ahead-preserved-then-chosen g c =
-    let len = length-placed_pels c.args.reference in
-    record {
-      steps = steps_go_on (placed_pels c.args.reference) c.args.ahead.left
-          c.loop-ahead.at.reached c.in_ok-after.next.reached (pels_by c.args.reference.width (take c.loop-ahead.at.end c.loop-ahead.places))
-          (pels_by c.args.reference.width (take c.in_ok-after.next.end c.step.new.places)) c.loop-ahead.ahead.left c.in_ok-after.after.left
-          c.loop-ahead.invariant.steps (omega (arith, len)) c.in_ok-after.ensures.step;
+      steps = all_go_on (placed_pels c.args.reference) c.args.ahead.left old c.loop-ahead.ahead.left new c.in_ok-after.after.left
+          c.loop-ahead.invariant.steps c.in_ok-after.ensures.steps;
       chosen = λ h.
-          chosen_goes_on (placed_pels c.args.reference) c.args.ahead.left
-          (placed_position c.args.reference.width c.loop-ahead.places c.loop-ahead.at) c.loop-ahead.ahead.left
-          (placed_position c.args.reference.width c.step.new.places c.in_ok-after.next) c.in_ok-after.after.left
-          (c.loop-ahead.invariant.chosen c.if-chosen.true) (c.in_ok-after.ensures.chosen h) (omega (arith, len));
+          all_chosen_go_on (placed_pels c.args.reference) c.args.ahead.left old c.loop-ahead.ahead.left new c.in_ok-after.after.left
+          (c.loop-ahead.invariant.chosen h) (c.in_ok-after.ensures.chosen h);
       so_far = c.in_ok-after.ensures.so_far;
       same_end = omega (arith, c.in_ok-after.ensures.same_end);
     }

@@ -1,4 +1,4 @@
-use Rattle.std.proofs.Common.{◌≡◌, ◌+◌, length, IsTrue}
+use Rattle.std.proofs.Common.{◌≡◌, ◌+◌, length, IsTrue, not, nat_eq}
 use Rattle.fax_rows.specs.code.PlacedRow.{placed_pels}
 use Rattle.fax_rows.specs.code.PlacedReached.{placed_position, IsReadTo}
 use Rattle.fax_rows.proofs.ChosenRowLemmas.{IsChosenSoFar}
@@ -9,7 +9,7 @@ abbrev pub invariant-loop-ahead : goal.invariant-loop-ahead
 invariant-loop-ahead g l = record {
   steps : AreStepsSoFar (placed_pels l.reference) l.initial.ahead.left (placed_position l.reference.width l.places l.at)
       l.ahead.left;
-  chosen : IsTrue l.chosen → IsChosenSoFar (placed_pels l.reference) l.initial.ahead.left
+  chosen : IsTrue (not (nat_eq g.row.CHOICE 0)) → IsChosenSoFar (placed_pels l.reference) l.initial.ahead.left
       (placed_position l.reference.width l.places l.at) l.ahead.left;
   so_far : IsReadTo l.reference l.places l.at;
   same_end : l.ahead.place + length l.ahead.left ≡ l.initial.ahead.place + length l.initial.ahead.left;

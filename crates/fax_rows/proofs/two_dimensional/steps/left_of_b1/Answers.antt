@@ -1,4 +1,4 @@
-use Rattle.std.proofs.Common.{◌≡◌, ◌-◌, [], get_or, pos, ◌+ℤ◌, ◌≤ℤ◌, arith}
+use Rattle.std.proofs.Common.{◌≡◌, [], get_or, pos, ◌+ℤ◌, ◌≤ℤ◌, arith}
 use Rattle.std.specs.Prelude.{◌<ℤ◌}
 use Rattle.std.proofs.lemmas.Int.{ints}
 use Rattle.fax_rows.specs.Rows.{other, a0_number}
@@ -19,7 +19,7 @@ turn_right-end-requires-clause-room c =
 pub returns-in_default-clause-out : goal.returns-in_default-clause-out
 returns-in_default-clause-out c = λ in_row.
     let begins = row_begins c.args.reference c.args.places.now c.args.at c.requires.so_far c.requires.unfinished c.args.d in_row in
-    omega (arith, ints, begins, c.from-back.ensures, c.unsigned_abs.ensures.value, c.requires.left.le, c.in_default.ensures.none)
+    omega (arith, ints, begins, c.in_default.ensures.none)
 
 pub returns-clause-step : goal.returns-clause-step
 returns-clause-step c =
@@ -31,11 +31,10 @@ returns-clause-step c =
     let place = c.in-Some.place in
     let z = pos place in
     let within = under_within reference places at so_far unfinished in
-    let z_is : z ≡ pos (get_or reference.places.now at.b1 0) +ℤ c.args.d =
-    omega (arith, ints, c.from-back.ensures, c.unsigned_abs.ensures.value, c.requires.left.le, c.in-Some.ensures.place) in
+    let z_is : z ≡ pos (get_or reference.places.now at.b1 0) +ℤ c.args.d = omega (arith, ints, c.in-Some.ensures.place) in
     let least = from_start at.reached in
     let right : a0_number (position_of at.reached []) <ℤ z = c.in-Some.ensures.right in
-    let inside : z ≤ℤ pos reference.width = omega (arith, ints, within, c.in-Some.ensures.place) in
+    let inside : z ≤ℤ pos reference.width = omega (arith, ints, within, z_is, c.requires.left.le) in
     vertical_placed reference places at so_far unfinished c.args.d z z_is least right inside
     c.turn_right-end.new.places c.turn_right-end.result c.b1_before.result c.other.result c.turn_right-end.ensures.turned c.other.ensures
 
@@ -49,11 +48,10 @@ returns-clause-so_far c =
     let place = c.in-Some.place in
     let z = pos place in
     let within = under_within reference places at so_far unfinished in
-    let z_is : z ≡ pos (get_or reference.places.now at.b1 0) +ℤ c.args.d =
-    omega (arith, ints, c.from-back.ensures, c.unsigned_abs.ensures.value, c.requires.left.le, c.in-Some.ensures.place) in
+    let z_is : z ≡ pos (get_or reference.places.now at.b1 0) +ℤ c.args.d = omega (arith, ints, c.in-Some.ensures.place) in
     let least = from_start at.reached in
     let right : a0_number (position_of at.reached []) <ℤ z = c.in-Some.ensures.right in
-    let inside : z ≤ℤ pos reference.width = omega (arith, ints, within, c.in-Some.ensures.place) in
+    let inside : z ≤ℤ pos reference.width = omega (arith, ints, within, z_is, c.requires.left.le) in
     turned_so_far reference places at so_far unfinished c.turn_right-end.new.places c.turn_right-end.result place c.b1_before.result
     (a1_ahead reference places at so_far unfinished c.args.d z z_is least right inside)
     (a1_within reference places at so_far unfinished c.args.d z z_is least right inside)

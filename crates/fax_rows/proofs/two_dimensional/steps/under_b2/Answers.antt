@@ -1,6 +1,6 @@
 use Rattle.std.proofs.Common.{arith}
 use Rattle.fax_rows.proofs.PlacedStepLemmas.{pass_step, pass_so_far, b1_in_room}
-use Rattle.fax_rows.proofs.two_dimensional.steps.pass.Goals as goal
+use Rattle.fax_rows.proofs.two_dimensional.steps.under_b2.Goals as goal
 
 pub bounds-reference-at : goal.bounds-reference-at
 bounds-reference-at c =

@@ -1,0 +1,353 @@
+-- Steps with a1 under b1, one after another, over places of change that are copied.
+use Rattle.std.proofs.Common.{◌≡◌, ℕ, zero, suc, ◌+◌, ◌-◌, ◌<◌, ◌≤◌, List, [], ◌∷◌, ◌++◌, length, take, get_or, replicate, Bool, ℤ}
+use Rattle.std.proofs.Common.{pos, refl, ap, sym, ◌∙◌, subst, arith, inl, inr, true, rules}
+use Prim.{search}
+use Rattle.std.specs.Prelude.{◌⊎◌, Option, Some, None, unwrap_or}
+use Rattle.std.proofs.lemmas.Bool.{cases_lt, ltb-true}
+use Rattle.std.proofs.lemmas.Int.{ints}
+use Rattle.std.proofs.lemmas.List.{take_more, get_or-take}
+use Rattle.fax_bits.specs.declared.Colour.{Colour}
+use Rattle.fax_bits.specs.declared.Colour.TheVariants.{Black}
+use Rattle.fax_bits.specs.declared.modes.ModeCode.TheVariants.{Vertical}
+use Rattle.fax_bits.specs.Codes.{Takes, Spells}
+use Rattle.fax_bits.specs.Bits.{code_bits}
+use Rattle.fax_bits.specs.Tables.{modes}
+use Rattle.fax_bits.specs.Written.{mode_bits}
+use Rattle.fax_bits.specs.laws.Codes.{ModeBitsAreRead}
+use Rattle.fax_rows.specs.declared.two_dimensional.steps.PlacedReached.{PlacedReached}
+use Rattle.fax_rows.specs.declared.rows.PlacedRow.{PlacedRow}
+use Rattle.fax_rows.specs.Rows.{other, is_right_of, Position, beginning, AreSteps, IsStep, IsVerticalStep}
+use Rattle.fax_rows.specs.code.Chosen.{IsChosenStep, AreChosenSteps, GoesOn, GoesOnAsChosen}
+use Rattle.fax_rows.specs.code.PlacedRow.{placed_pels}
+use Rattle.fax_rows.specs.code.PlacedReached.{placed_position, IsReadTo, IsReadOn}
+use Rattle.fax_rows.specs.code.Reached.{reached_pel, position_of}
+use Rattle.fax_rows.specs.code.Turns.{turned, alternate, pels_by, IsAscending, IsTurnedFrom}
+use Rattle.fax_rows.proofs.ChosenRowLemmas.{IsChosenSoFar, chosen_goes_on as row_goes_on}
+use Rattle.fax_rows.proofs.ChosenStepLemmas.{under_chosen}
+use Rattle.fax_rows.proofs.PlacedB1Lemmas.{length-placed_pels, b1_next}
+use Rattle.fax_rows.proofs.PlacedStepLemmas.{vertical_placed, turned_so_far, under_right, under_ahead, under_within, from_start, room_left}
+use Rattle.fax_rows.proofs.StepLemmas.{AreStepsSoFar, unfinished_below}
+use Rattle.fax_rows.proofs.TurnLemmas.{alternate-suc, turned-push_left, turned-push_right}
+
+AreSteps-append : (reference : List Colour) (first : Position) (b : List Bool) (before : List Position) (old : Position)
+    (mid : List Bool) (after : List Position) (new : Position) (rest : List Bool)
+    → AreSteps reference first b before old mid → AreSteps reference old mid after new rest
+    → AreSteps reference first b (before ++ after) new rest
+AreSteps-append reference first b [] old mid after new rest steps more =
+    subst (λ c. AreSteps reference first c after new rest) (sym steps.1)
+    (subst (λ at. AreSteps reference at mid after new rest) steps.0 more)
+AreSteps-append reference first b (next ∷ before) old mid after new rest steps more =
+    (steps.0, steps.1, steps.2, AreSteps-append reference next steps.1 before old mid after new rest steps.3 more)
+
+-- more steps of a row
+pub all_go_on : (reference : List Colour) (b : List Bool) (old : Position) (mid : List Bool) (new : Position) (rest : List Bool)
+    → AreStepsSoFar reference b old mid → GoesOn reference old mid new rest → AreStepsSoFar reference b new rest
+all_go_on reference b old mid new rest so_far more = record {
+  positions = so_far.positions ++ more.positions;
+  steps = AreSteps-append reference beginning b so_far.positions old mid more.positions new rest so_far.steps more.steps;
+}
+
+chosen_on : (reference : List Colour) (b : List Bool) (old : Position) (mid : List Bool) (positions : List Position) (new : Position)
+    (rest : List Bool) → IsChosenSoFar reference b old mid → AreChosenSteps reference old mid positions new rest
+    → IsChosenSoFar reference b new rest
+chosen_on reference b old mid [] new rest so_far more =
+    subst (λ at. IsChosenSoFar reference b at rest) (sym more.0) (subst (λ c. IsChosenSoFar reference b old c) more.1 so_far)
+chosen_on reference b old mid (next ∷ positions) new rest so_far more =
+    chosen_on reference b next more.1 positions new rest
+    (row_goes_on reference b old mid next more.1 so_far more.2 more.0) more.3
+
+-- and more steps that T.4 would have chosen
+pub all_chosen_go_on : (reference : List Colour) (b : List Bool) (old : Position) (mid : List Bool) (new : Position) (rest : List Bool)
+    → IsChosenSoFar reference b old mid → GoesOnAsChosen reference old mid new rest → IsChosenSoFar reference b new rest
+all_chosen_go_on reference b old mid new rest so_far more =
+    chosen_on reference b old mid more.positions new rest so_far more.steps
+
+-- one step from where the row is read to
+pub step_goes_on : (reference : PlacedRow) (places : List ℕ) (at : PlacedReached) → reached_pel at.reached < reference.width
+    → (b : List Bool) (new : Position) (rest : List Bool)
+    → IsStep (placed_pels reference) (placed_position reference.width places at) b new rest
+    → GoesOn (placed_pels reference) (placed_position reference.width places at) b new rest
+step_goes_on reference places at less b new rest step = record {
+  positions = new ∷ [];
+  steps = (unfinished_below (placed_pels reference) at.reached.a0 (omega (arith, length-placed_pels reference)), rest, step, (refl, refl));
+}
+
+-- in vertical mode, where the distance is said in two ways
+pub vertical_goes_on : (reference : PlacedRow) (places : List ℕ) (at : PlacedReached) → reached_pel at.reached < reference.width
+    → (b : List Bool) (new : Position) (rest : List Bool) (d read : ℤ) → Takes modes b (Vertical d) rest
+    → IsVerticalStep (placed_pels reference) (placed_position reference.width places at) read new → read ≡ d
+    → GoesOn (placed_pels reference) (placed_position reference.width places at) b new rest
+vertical_goes_on reference places at less b new rest d distance taken step same =
+    step_goes_on reference places at less b new rest (record {
+      mode = Vertical d;
+      behind = rest;
+      taken = taken;
+      step = (subst (λ e. IsVerticalStep (placed_pels reference) (placed_position reference.width places at) e new) same step, refl);
+    })
+
+pub chosen_goes_on : (reference : PlacedRow) (places : List ℕ) (at : PlacedReached) → reached_pel at.reached < reference.width
+    → (b : List Bool) (new : Position) (rest : List Bool)
+    → IsChosenStep (placed_pels reference) (placed_position reference.width places at) b new rest
+    → GoesOnAsChosen (placed_pels reference) (placed_position reference.width places at) b new rest
+chosen_goes_on reference places at less b new rest step = record {
+  positions = new ∷ [];
+  steps = (omega (arith, length-placed_pels reference), rest, step, (refl, refl));
+}
+
+-- a place that stands where the next one is to be put
+turned_more : (places : List ℕ) (end place : ℕ) → end < length places → get_or places end 0 ≡ place
+    → IsTurnedFrom (take end places) (take (end + 1) places) place
+turned_more places end place room is = record {
+  left = λ i h. ap (λ ps. turned Black ps i) split ∙ turned-push_left Black (take end places) place i h;
+  right = λ i h. ap (λ ps. turned Black ps i) split ∙ turned-push_right Black (take end places) place i h;
+}
+  where
+    split : take (end + 1) places ≡ take end places ++ place ∷ []
+    split = take_more places end 0 room ∙ ap (λ p. take end places ++ p ∷ []) is
+
+-- how far the row is read after the step to b1, and after so many of them
+abbrev pub under : PlacedRow → PlacedReached → PlacedReached
+under reference at = record {
+  reached = record { a0 = Some (get_or reference.places.now at.b1 0); colour = other at.reached.colour };
+  end = at.end + 1;
+  b1 = at.b1 + 1;
+}
+
+abbrev pub under_all : ℕ → PlacedRow → PlacedReached → PlacedReached
+under_all zero reference at = at
+under_all (suc k) reference at = under_all k reference (under reference at)
+
+module _ (reference : PlacedRow) (places : List ℕ) where
+  -- the last place is left of b1
+  last_left : (at : PlacedReached) → IsReadTo reference places at → reached_pel at.reached < reference.width → at.b1 < reference.end
+      → 1 < at.end → get_or places (at.end - 1) 0 < get_or reference.places.now at.b1 0
+  last_left at so_far unfinished inside some =
+      by at.reached.a0 refl
+    where
+      by : (a0 : Option ℕ) → at.reached.a0 ≡ a0 → get_or places (at.end - 1) 0 < get_or reference.places.now at.b1 0
+      by None is = absurd (omega (arith, so_far.started is))
+      by (Some a) is =
+          let b1 = so_far.b1 unfinished in
+          let right = subst (λ a0. is_right_of a0 (get_or reference.places.now at.b1 0) ≡ true) is (b1.ahead inside) in
+          let last = subst (λ a0. get_or places (at.end - 1) 0 ≤ unwrap_or a0 0) is so_far.last in
+          omega (arith, ltb-true a (get_or reference.places.now at.b1 0) right, last)
+
+  -- the places ascend with the next one too
+  ascending_more : (at : PlacedReached) → IsReadTo reference places at → reached_pel at.reached < reference.width
+      → at.b1 < reference.end → get_or places at.end 0 ≡ get_or reference.places.now at.b1 0 → IsAscending places (at.end + 1)
+  ascending_more at so_far unfinished inside is = record {
+    started = omega arith;
+    within = let room = room_left reference places at so_far unfinished in omega arith;
+    first = so_far.ascending.first;
+    steps = λ i some h. by i some h (cases_lt (i + 1) at.end);
+  }
+    where
+      by : (i : ℕ) → 0 < i → i + 1 < at.end + 1 → (i + 1 < at.end) ⊎ (at.end ≤ i + 1) → get_or places i 0 < get_or places (i + 1) 0
+      by i some h (inl less) = so_far.ascending.steps i some less
+      by i some h (inr over) =
+          let last : i + 1 ≡ at.end = omega arith in
+          let before : i ≡ at.end - 1 = omega arith in
+          let less = last_left at so_far unfinished inside (omega arith) in
+          subst (λ m. get_or places i 0 < get_or places m 0) (sym last)
+          (subst (λ n. get_or places n 0 < get_or places at.end 0) (sym before)
+          (subst (λ p. get_or places (at.end - 1) 0 < p) (sym is) less))
+
+  -- the step to b1, whose place stands there already
+  module _ (at : PlacedReached) (so_far : IsReadTo reference places at) (unfinished : reached_pel at.reached < reference.width)
+      (inside : at.b1 < reference.end) (is : get_or places at.end 0 ≡ get_or reference.places.now at.b1 0) where
+    turn : IsTurnedFrom (take at.end places) (take (at.end + 1) places) (get_or reference.places.now at.b1 0)
+    turn =
+        turned_more places at.end (get_or reference.places.now at.b1 0)
+        (let room = room_left reference places at so_far unfinished in omega arith) is
+
+    step : IsVerticalStep (placed_pels reference) (placed_position reference.width places at) (pos 0)
+        (placed_position reference.width places (under reference at))
+    step =
+        let within = under_within reference places at so_far unfinished in
+        vertical_placed reference places at so_far unfinished (pos 0) (pos (get_or reference.places.now at.b1 0)) (omega (arith, ints))
+        (from_start at.reached) (under_right reference places at so_far unfinished) (omega (arith, ints, within))
+        places (at.end + 1) (at.b1 + 1) (other at.reached.colour) turn refl
+
+    read : IsReadTo reference places (under reference at)
+    read =
+        turned_so_far reference places at so_far unfinished places (at.end + 1) (get_or reference.places.now at.b1 0) (at.b1 + 1)
+        (under_ahead reference places at so_far unfinished) (under_within reference places at so_far unfinished)
+        refl (ascending_more at so_far unfinished inside is)
+        (let same : at.end + 1 - 1 ≡ at.end = omega arith in
+        subst (λ n. get_or places n 0 ≤ get_or reference.places.now at.b1 0) (sym same) (omega (arith, is))) turn
+        (λ h. b1_next reference at.reached.a0 at.reached.colour at.b1 (so_far.b1 unfinished) h)
+        (other at.reached.colour) refl
+
+  -- so many steps with a1 under b1
+  pub record AreUnder (at : PlacedReached) (k : ℕ) (b rest : List Bool) : Type 0 where
+    pub goes_on : GoesOn (placed_pels reference) (placed_position reference.width places at) b
+        (placed_position reference.width places (under_all k reference at)) rest
+    pub chosen : GoesOnAsChosen (placed_pels reference) (placed_position reference.width places at) b
+        (placed_position reference.width places (under_all k reference at)) rest
+    pub so_far : IsReadTo reference places (under_all k reference at)
+
+  pub all_under : (k : ℕ) (at : PlacedReached) (b rest : List Bool) → Spells modes b (replicate k (Vertical (pos 0))) rest
+      → IsReadTo reference places at → reached_pel at.reached < reference.width → at.b1 + k ≤ reference.end
+      → ((i : ℕ) → i < k → get_or places (at.end + i) 0 ≡ get_or reference.places.now (at.b1 + i) 0) → AreUnder at k b rest
+  all_under zero at b rest spells so_far unfinished inside copied = record {
+    goes_on = record { positions = []; steps = (refl, spells) };
+    chosen = record { positions = []; steps = (refl, spells) };
+    so_far = so_far;
+  }
+  all_under (suc k) at b rest spells so_far unfinished inside copied =
+      let same : at.end + 0 ≡ at.end = omega arith in
+      let again : at.b1 + 0 ≡ at.b1 = omega arith in
+      let is : get_or places at.end 0 ≡ get_or reference.places.now at.b1 0 =
+      ap (λ n. get_or places n 0) (sym same) ∙ copied 0 (omega arith) ∙ ap (λ n. get_or reference.places.now n 0) again in
+      let less : at.b1 < reference.end = omega arith in
+      let some = (so_far.b1 unfinished).some in
+      let below : get_or reference.places.now at.b1 0 < reference.width = reference.placed.below at.b1 some less in
+      let vertical = step at so_far unfinished less is in
+      let len = length-placed_pels reference in
+      let more = all_under k (under reference at) spells.0 rest spells.2 (read at so_far unfinished less is) below (omega arith)
+      (λ i h. let one : at.end + 1 + i ≡ at.end + suc i = omega arith in
+      let other_one : at.b1 + 1 + i ≡ at.b1 + suc i = omega arith in
+      ap (λ n. get_or places n 0) one ∙ copied (suc i) (omega arith) ∙ ap (λ n. get_or reference.places.now n 0) (sym other_one)) in
+      record {
+        goes_on = record {
+          positions = placed_position reference.width places (under reference at) ∷ more.goes_on.positions;
+          steps = (
+            unfinished_below (placed_pels reference) at.reached.a0 (omega (arith, len)),
+            spells.0,
+            record { mode = Vertical (pos 0); behind = spells.0; taken = spells.1; step = (vertical, refl) },
+            more.goes_on.steps,
+          );
+        };
+        chosen = record {
+          positions = placed_position reference.width places (under reference at) ∷ more.chosen.positions;
+          steps = (
+            omega (arith, len),
+            spells.0,
+            under_chosen reference places at so_far unfinished b (placed_position reference.width places (under reference at)) spells.0
+                spells.1 vertical,
+            more.chosen.steps,
+          );
+        };
+        so_far = more.so_far;
+      }
+
+-- how far the row is read to a place
+abbrev pub placed : ℕ → Colour → ℕ → ℕ → PlacedReached
+placed place colour end b1 = record { reached = record { a0 = Some place; colour = colour }; end = end; b1 = b1 }
+
+same_placed : (p q : ℕ) (c d : Colour) (m n i j : ℕ) → p ≡ q → c ≡ d → m ≡ n → i ≡ j → placed p c m i ≡ placed q d n j
+same_placed p q c d m n i j place colour end b1 =
+    ap (λ x. placed x c m i) place ∙ ap (λ x. placed q x m i) colour ∙ ap (λ x. placed q d x i) end ∙ ap (λ x. placed q d n x) b1
+
+-- how far it is read after so many steps, one at least
+pub under_all_is : (k : ℕ) (reference : PlacedRow) (at : PlacedReached)
+    → placed (get_or reference.places.now (at.b1 + k) 0) (alternate at.reached.colour (suc k)) (at.end + suc k) (at.b1 + suc k)
+    ≡ under_all (suc k) reference at
+under_all_is zero reference at =
+    let b1 : at.b1 + 0 ≡ at.b1 = omega arith in
+    same_placed (get_or reference.places.now (at.b1 + 0) 0) (get_or reference.places.now at.b1 0) (other at.reached.colour)
+    (other at.reached.colour) (at.end + 1) (at.end + 1) (at.b1 + 1) (at.b1 + 1) (ap (λ n. get_or reference.places.now n 0) b1)
+    refl refl refl
+under_all_is (suc k) reference at =
+    let next = under reference at in
+    same_placed (get_or reference.places.now (at.b1 + suc k) 0) (get_or reference.places.now (at.b1 + 1 + k) 0)
+    (alternate at.reached.colour (suc (suc k))) (alternate next.reached.colour (suc k)) (at.end + suc (suc k)) (at.end + 1 + suc k)
+    (at.b1 + suc (suc k)) (at.b1 + 1 + suc k)
+    (let e : at.b1 + suc k ≡ at.b1 + 1 + k = omega arith in ap (λ n. get_or reference.places.now n 0) e)
+    refl (omega arith) (omega arith) ∙ under_all_is k reference next
+
+alternate-add : (c : Colour) (b k : ℕ) → alternate (alternate c b) k ≡ alternate c (b + k)
+alternate-add c b zero = let e : b ≡ b + 0 = omega arith in ap (alternate c) e
+alternate-add c b (suc k) =
+    let e : suc (b + k) ≡ b + suc k = omega arith in
+    alternate-suc (alternate c b) k ∙ ap other (alternate-add c b k) ∙ sym (alternate-suc c (b + k)) ∙ ap (alternate c) e
+
+-- the same, by the index of b1 after them
+pub under_all_as : (count : ℕ) (reference : PlacedRow) (at : PlacedReached) → 0 < count → alternate Black at.b1 ≡ at.reached.colour
+    → placed (get_or reference.places.now (at.b1 + count - 1) 0) (alternate Black (at.b1 + count)) (at.end + count) (at.b1 + count)
+    ≡ under_all count reference at
+under_all_as zero reference at some is = absurd (omega arith)
+under_all_as (suc k) reference at some is =
+    let e : at.b1 + suc k - 1 ≡ at.b1 + k = omega arith in
+    same_placed (get_or reference.places.now (at.b1 + suc k - 1) 0) (get_or reference.places.now (at.b1 + k) 0)
+    (alternate Black (at.b1 + suc k)) (alternate at.reached.colour (suc k)) (at.end + suc k) (at.end + suc k) (at.b1 + suc k)
+    (at.b1 + suc k) (ap (λ n. get_or reference.places.now n 0) e)
+    (sym (alternate-add Black at.b1 (suc k)) ∙ ap (λ c. alternate c (suc k)) is) refl refl
+    ∙ under_all_is k reference at
+
+-- what is read stays so where places are put after it
+pub so_far_kept : (reference : PlacedRow) (places new : List ℕ) (at : PlacedReached) → IsReadTo reference places at
+    → length new ≡ length places → take at.end new ≡ take at.end places → IsReadTo reference new at
+so_far_kept reference places new at so_far len kept = record {
+  room = len ∙ so_far.room;
+  within = so_far.within;
+  started = so_far.started;
+  ascending = record {
+    started = up.started;
+    within = omega (arith, up.within, len);
+    first = kept_at 0 up.started ∙ up.first;
+    steps = λ i some h. let less = up.steps i some h in omega (arith, kept_at i (omega arith), kept_at (i + 1) h);
+  };
+  last = let same = kept_at (at.end - 1) (omega (arith, up.started)) in omega (arith, same, so_far.last);
+  behind = λ i h. ap (λ ps. turned Black ps i) kept ∙ so_far.behind i h;
+  b1 = so_far.b1;
+}
+  where
+    up : IsAscending places at.end
+    up = so_far.ascending
+
+    kept_at : (k : ℕ) → k < at.end → get_or new k 0 ≡ get_or places k 0
+    kept_at k h =
+        sym (get_or-take at.end new k 0 h) ∙ ap (λ xs. get_or xs k 0) kept ∙ get_or-take at.end places k 0 h
+
+-- a 1 is the code of a1 under b1
+one_is_taken : ModeBitsAreRead → (rest : List Bool) → Takes modes (true ∷ rest) (Vertical (pos 0)) rest
+unfolding modes mode_bits code_bits
+one_is_taken law rest = law (Vertical (pos 0)) rest (search rules)
+
+ones_are_spelled : ModeBitsAreRead → (k : ℕ) (rest : List Bool)
+    → Spells modes (replicate k true ++ rest) (replicate k (Vertical (pos 0))) rest
+ones_are_spelled law zero rest = refl
+ones_are_spelled law (suc k) rest = (replicate k true ++ rest, one_is_taken law (replicate k true ++ rest), ones_are_spelled law k rest)
+
+-- the row is read on by a step whose code is taken, and by so many ones after it, where the places that are put are those of
+-- the reference row
+pub several_read : (reference : PlacedRow) (places new : List ℕ) (at : PlacedReached) (more : ℕ) (colour : Colour)
+    (b first rest : List Bool) → ModeBitsAreRead → Takes modes b (Vertical (pos 0)) first → first ≡ replicate more true ++ rest
+    → IsReadTo reference places at → reached_pel at.reached < reference.width
+    → at.b1 + (more + 1) ≤ reference.end → length new ≡ length places → take at.end new ≡ take at.end places
+    → ((i : ℕ) → i < (more + 1) → get_or new (at.end + i) 0 ≡ get_or reference.places.now (at.b1 + i) 0)
+    → colour ≡ alternate Black (at.b1 + (more + 1))
+    → IsReadOn reference places new at
+    (placed (get_or reference.places.now (at.b1 + (more + 1) - 1) 0) colour (at.end + (more + 1)) (at.b1 + (more + 1))) b rest
+several_read reference places new at more colour b first rest law taken ones so_far unfinished inside len kept copied is =
+    let spells = subst (λ c. Spells modes c (replicate more (Vertical (pos 0))) rest) (sym ones) (ones_are_spelled law more rest) in
+    let one : suc more ≡ more + 1 = omega arith in
+    let again = subst (λ n. Spells modes b (replicate n (Vertical (pos 0))) rest) one (first, taken, spells) in
+    let all = all_under reference new ((more + 1)) at b rest again (so_far_kept reference places new at so_far len kept)
+    unfinished inside copied in
+    let next_is = ap (λ c. placed (get_or reference.places.now (at.b1 + (more + 1) - 1) 0) c (at.end + (more + 1)) (at.b1 + (more + 1))) is
+    ∙ under_all_as ((more + 1)) reference at (omega arith) (so_far.b1 unfinished).colour_is in
+    let from = ap (λ ps. position_of at.reached (pels_by reference.width ps)) kept in
+    subst (λ next. IsReadOn reference places new at next b rest) (sym next_is) (record {
+      steps = subst (λ old. GoesOn (placed_pels reference) old b
+          (placed_position reference.width new (under_all (more + 1) reference at)) rest) from all.goes_on;
+      chosen = subst (λ old. GoesOnAsChosen (placed_pels reference) old b
+          (placed_position reference.width new (under_all (more + 1) reference at)) rest) from all.chosen;
+      so_far = all.so_far;
+    })
+
+-- or by that step alone
+pub one_read : (reference : PlacedRow) (places new : List ℕ) (at next : PlacedReached) (b rest : List Bool)
+    → Takes modes b (Vertical (pos 0)) rest → IsReadTo reference places at → reached_pel at.reached < reference.width
+    → IsVerticalStep (placed_pels reference) (placed_position reference.width places at) (pos 0) (placed_position reference.width new next)
+    → IsReadTo reference new next → IsReadOn reference places new at next b rest
+one_read reference places new at next b rest taken so_far unfinished vertical read =
+    let position = placed_position reference.width new next in
+    record {
+      steps = step_goes_on reference places at unfinished b position rest
+          (record { mode = Vertical (pos 0); behind = rest; taken = taken; step = (vertical, refl) });
+      chosen = chosen_goes_on reference places at unfinished b position rest
+          (under_chosen reference places at so_far unfinished b position rest taken vertical);
+      so_far = read;
+    }

@@ -1,0 +1,52 @@
+use Rattle.std.proofs.Common.{◌≡◌, ◌++◌, take, ap, sym, ◌∙◌, arith}
+use Rattle.fax_rows.specs.Coded.{two_dimensional_bits}
+use Rattle.fax_rows.specs.code.Turns.{pels_by}
+use Rattle.fax_rows.proofs.TurnLemmas.{length-pels_by}
+use Rattle.fax_rows.proofs.PlacedRowLemmas.{width_is}
+use Rattle.fax_rows.proofs.PlacedB1Lemmas.{placed_width}
+use Rattle.fax_rows.proofs.PlacedReadLemmas.{refilled}
+use Rattle.fax_rows.proofs.PlacedStepLemmas.{two_dimensional_as}
+use Rattle.fax_rows.proofs.two_dimensional.read_chosen.Goals as goal
+
+pub read_quickly-requires-clause-room : goal.read_quickly-requires-clause-room
+read_quickly-requires-clause-room c =
+    let own = width_is c.row.inside.places.items c.row.inside.end c.row.inside.width c.row.invariant c.args.row.now c.row.view_is in
+    let others = placed_width c.placed-reference.result c.args.reference.now c.placed-reference.ensures in
+    omega (arith, c.as_mut_slice-places.ensures.len, c.row.invariant.room, own, others)
+
+pub close-row-inside-requires-clause-last : goal.close-row-inside-requires-clause-last
+close-row-inside-requires-clause-last c =
+    let own = width_is c.row.inside.places.items c.row.inside.end c.row.inside.width c.row.invariant c.args.row.now c.row.view_is in
+    let others = placed_width c.placed-reference.result c.args.reference.now c.placed-reference.ensures in
+    omega (arith, c.in-Some.ensures.last, own, others)
+
+pub returns-in-Some-clause-row : goal.returns-in-Some-clause-row
+returns-in-Some-clause-row c _ =
+    let own = width_is c.row.inside.places.items c.row.inside.end c.row.inside.width c.row.invariant c.args.row.now c.row.view_is in
+    let others = placed_width c.placed-reference.result c.args.reference.now c.placed-reference.ensures in
+    let same : c.row.inside.width ≡ c.placed-reference.result.width = omega arith in
+    two_dimensional_as _ _ _ _ _ _ c.in-Some.ensures.row c.placed-reference.ensures
+    (ap (λ places. pels_by c.row.inside.width (take c.close-row-inside.result places))
+    (refilled c.row.inside.places.len c.close-row-inside.new.places c.row.inside.places.items (omega arith))
+    ∙ c.close-row-inside.ensures.pels ∙ ap (λ width. pels_by width (take c.in-Some.end c.read_quickly.new.places)) same)
+
+pub returns-in-Some-clause-same_width : goal.returns-in-Some-clause-same_width
+returns-in-Some-clause-same_width c = length-pels_by c.row.inside.width _
+    ∙ width_is c.row.inside.places.items c.row.inside.end c.row.inside.width c.row.invariant c.args.row.now c.row.view_is
+
+pub returns-in-None-clause-same_width : goal.returns-in-None-clause-same_width
+returns-in-None-clause-same_width c = length-pels_by c.row.inside.width _
+    ∙ width_is c.row.inside.places.items c.row.inside.end c.row.inside.width c.row.invariant c.args.row.now c.row.view_is
+
+pub returns-in-Some-clause-chosen : goal.returns-in-Some-clause-chosen
+returns-in-Some-clause-chosen c is =
+    let own = width_is c.row.inside.places.items c.row.inside.end c.row.inside.width c.row.invariant c.args.row.now c.row.view_is in
+    let others = placed_width c.placed-reference.result c.args.reference.now c.placed-reference.ensures in
+    let same : c.row.inside.width ≡ c.placed-reference.result.width = omega arith in
+    c.in-Some.ensures.chosen is
+    ∙ ap (λ reference. two_dimensional_bits reference (pels_by c.placed-reference.result.width
+    (take c.in-Some.end c.read_quickly.new.places)) ++ c.read_quickly.new.source.left) c.placed-reference.ensures
+    ∙ ap (λ row. two_dimensional_bits c.args.reference.now row ++ c.read_quickly.new.source.left) (sym
+    (ap (λ places. pels_by c.row.inside.width (take c.close-row-inside.result places))
+    (refilled c.row.inside.places.len c.close-row-inside.new.places c.row.inside.places.items (omega arith))
+    ∙ c.close-row-inside.ensures.pels ∙ ap (λ width. pels_by width (take c.in-Some.end c.read_quickly.new.places)) same))
