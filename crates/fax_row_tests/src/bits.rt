@@ -175,6 +175,28 @@ fn reads_no_pair_at_the_end_of_the_bytes(rt: HostRuntime) {
     assert_eq!(rt; pair_of(ahead, 8), (None, 1));
 }
 
+#[test]
+fn reads_a_pair_up_to_the_end_of_a_row(rt: HostRuntime) {
+    // A white run of two pels and a black one of three.
+    let source = BitSource::new(&[0b0111_1000, 0, 0, 0], FillOrder::MsbFirst);
+    let ahead = source.ahead().expect(&rt, "four bytes");
+    assert!(rt; ahead.pair_within(1723, 1728).is_ok());
+    let ahead = source.ahead().expect(&rt, "four bytes");
+    assert!(rt; ahead.pair_within(1724, 1728).is_err());
+}
+
+#[test]
+fn tells_the_ones_that_are_next_and_goes_past_them(rt: HostRuntime) {
+    let source = BitSource::new(&[0b1111_1011, 0, 0, 0], FillOrder::MsbFirst);
+    let ahead = source.ahead().expect(&rt, "four bytes");
+    assert_eq!(rt; ahead.ones(), 5);
+    let (after, count) = ahead.past_ones(3);
+    assert_eq!(rt; (count, after.source().place()), (3, 3));
+    let ahead = source.ahead().expect(&rt, "four bytes");
+    let (after, count) = ahead.past_ones(7);
+    assert_eq!(rt; (count, after.source().place()), (5, 5));
+}
+
 /// The first `len` bits of some bytes, the highest of each first, as text.
 fn spelled(alloc: Global, bytes: &[u8], len: u128) -> Result<String, AllocError> {
     let mut text = String::new(alloc);
