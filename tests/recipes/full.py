@@ -1,0 +1,75 @@
+"""The scripts of the recipes where the disk is full: a small file system of memory has the temporary files and what is
+written."""
+
+import os
+import subprocess
+
+import files
+import pages
+from recipes import SCRIPTS
+from room import WIDTH
+
+SIZE = "64k"
+
+
+def cannot_mount(room):
+    """Lets the folder of temporary files be small: why it cannot be."""
+    ran = subprocess.run(["mount", "-t", "tmpfs", "-o", f"size={SIZE}", "tmpfs", f"{room.path}/tmp"], capture_output=True, text=True)
+    return ran.stderr.strip()
+
+
+def noise(room, name):
+    """Writes a fax of two pages that takes more than the file system has."""
+    image = b"P4\n%d 1000\n" % WIDTH + pages.seeded("full").randbytes(WIDTH // 8 * 1000)
+    room.put(name, pages.converted(room.program, ["-o", "mmr"], image * 2))
+
+
+def full_disk(room, _):
+    why = cannot_mount(room)
+    if why:
+        print(f"not run: a full disk: {why}")
+        return
+    try:
+        yield from refused(room)
+    finally:
+        subprocess.run(["umount", f"{room.path}/tmp"], check=True)
+
+
+def refused(room):
+    """Each script says so, answers 3 (the mirror 1), writes nothing, and leaves what it was given."""
+    noise(room, "archive/fax.tif")
+    room.tool("sendmail", '#!/bin/sh\ncat >"$HOME/mailed"\n')
+    mailer = {"SENDMAIL": f"{room.path}/bin/sendmail"}
+    small, before = f"{room.path}/tmp", room.contents("archive")
+    fax = "archive/fax.tif"
+    calls = [["picture", fax, "0"], ["html", fax], ["cores", fax], ["mail", fax, "a@b.c"], ["salvage", fax, "salvaged"],
+             ["salvage", fax, f"{small}/salvaged"], ["receive", fax, f"{small}/faxes"], ["mirror", "--delete", "archive", f"{small}/copies"],
+             ["from-pdf", "letter.pdf", "letter.tif"]]  # fmt: skip
+    room.bash("img2pdf --output letter.pdf archive/fax.tif")
+    for name, *words in calls:
+        status, output, said = room.call(f"faxpages-{name}", *words, **mailer)
+        yield f"{name}: status", status, 1 if name in ("mirror", "from-pdf") else 3
+        yield f"{name}: it says so", said != "", True
+        yield f"{name}: output", output if name != "cores" else b"", b""
+        yield f"{name}: all is as before", (room.contents("archive"), room.names()), (before, ["archive", "letter.pdf"])
+        left = [place for place, _, names in os.walk(small) if names]
+        yield f"{name}: nothing is left", left, []
+        room.bash(f"rm -rf {small}/*")
+    yield "compare", room.call("faxpages-compare", fax, fax)[::2], (0, "")
+    room.bash("touch -d '1 hour ago' archive/fax.tif")
+    room.bash(f"mkdir {small}/state; head -c 1M /dev/zero >{small}/fill")
+    yield "sweep", room.call("faxpages-sweep", "archive", f"{small}/state", f"{small}/figures")[0], 3
+    yield "sweep: no figures", sorted(os.listdir(small)), ["fill", "state"]
+    os.remove(f"{small}/fill")
+    yield "sweep, with room", room.call("faxpages-sweep", "archive", f"{small}/state", f"{small}/figures")[0], 0
+    yield "sweep, with room: figures", b'faxpages_faxes{result="good"} 1\n' in files.get(f"{small}/figures"), True
+
+
+def checked(room, _):
+    """The scripts as shellcheck sees them; `a && b || c` is meant as it stands."""
+    for name in sorted(os.listdir(SCRIPTS)):
+        yield name, room.call("shellcheck", "--exclude=SC2015", f"{SCRIPTS}/{name}"), (0, b"", "")
+
+
+EXTRA = {"The scripts, by shellcheck": (["shellcheck"], checked),
+         "The scripts on a full disk": (["mount", "img2pdf", "pdftoppm", "tiff2pdf", "tiffcp", "pnmtopng"], full_disk)}  # fmt: skip

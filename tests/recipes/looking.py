@@ -1,0 +1,262 @@
+"""Recipes that show pages, compare them, or make other files of them."""
+
+import base64
+import os
+import re
+import shutil
+import subprocess
+
+import files
+import pages
+from room import HOSTILE, WIDTH
+
+PNG = b"\x89PNG"
+
+
+def grey(data):
+    """The pels of a PNG, as numbers: its width, its height, and a row of bytes after another."""
+    plain = subprocess.run(["pngtopnm"], input=data, capture_output=True, check=True).stdout
+    raw = subprocess.run(["pgmtopgm"], input=plain, capture_output=True, check=True).stdout
+    kind, width, height, most, raster = re.match(rb"(P5)\s+(\d+)\s+(\d+)\s+(\d+)\s(.*)", raw, re.S).groups()
+    size = int(width)
+    return size, int(height), int(most), [raster[at : at + size] for at in range(0, len(raster), size)]
+
+
+def look(room, commands):
+    images = room.fax("fax.tif", "mr", "all")
+    yield "run", room.bash(commands)[:2], (0, b"")
+    for page, image in enumerate(images):
+        yield f"page {page}", room.bash(f"pngtopnm fax.pages/page-{page}.png")[1], image
+    made = room.names("fax.pages")
+    yield "pages", len([name for name in made if name.endswith(".png")]), len(images)
+    room.fax("fax.tif", "mr", "marks")
+    yield "the folder is there", room.bash(commands)[0] != 0, True
+    yield "what is there stays", room.names("fax.pages"), made
+    shutil.rmtree(room("fax.pages"))
+    room.sample("damaged-fourth-page.tif", "fax.tif")
+    status, _, said = room.bash(commands)
+    yield "a fault", (status != 0, "fault page 3 row " in said), (True, True)
+    yield "a fault: nothing is left", room.names(), ["fax.tif"]
+
+
+def look_in_terminal(room, commands):
+    room.fax("fax.tif", "mr", "all")
+    status, shown, said = room.bash(commands)
+    yield "run", (status, said, len(shown) > 100), (0, "", True)
+    if shutil.which("img2sixel"):
+        sixels = room.bash(commands.split("chafa")[0] + "img2sixel -w 800")
+        yield "sixels", (sixels[0], sixels[1][:2]), (0, b"\x1bP")
+
+
+def look_at_low(room, commands):
+    room.fax("fax.tif", "mh", "marks")
+    (rows,) = pages.draw_document(4, "marks", WIDTH)
+    yield "run", room.bash(commands), (0, b"", "")
+    twice = pages.image(WIDTH, [row for row in rows for _ in (1, 2)])
+    yield "page", room.bash("pngtopnm page.png")[1], twice
+
+
+def pictures(html):
+    """The pictures in a page of HTML."""
+    return [base64.b64decode(it) for it in re.findall(rb'src="data:image/png;base64,([^"]*)"', html)]
+
+
+def browser(room, commands):
+    images = room.others("fax.tif")
+    yield "run", room.bash(commands), (0, b"", "")
+    html = room.get("fax.html")
+    yield "pages", [black(it) for it in pictures(html)], [drawn(it) for it in images]
+    room.sample("return-to-control.tif", "fax.tif")
+    room.bash(commands)
+    yield "a note", b"note strip 0: N2 ReturnToControl" in room.get("fax.html"), True
+    room.sample("damaged-fourth-page.tif", "fax.tif")
+    yield "a fault", room.bash(commands)[0], 1
+    html = room.get("fax.html")
+    yield "a fault: pages", len(pictures(html)), 4
+    yield "a fault: rows", re.findall(rb"page 3 rows \d+ to 10: \w+", html) != [], True
+    for name in HOSTILE:
+        room.others(name)
+        status, made, said = room.call("faxpages-html", name)
+        title = re.search(rb"<title>(.*)</title>\n", made)
+        yield f"{name!r}", (status, said, len(pictures(made)), title is not None), (0, "", 5, True)
+        yield f"{name!r}: no mark-up", re.search(rb"[<>]", title.group(1)) if title else "", None
+    yield "no file", room.call("faxpages-html", "none.tif")[:2], (3, b"")
+    yield "nothing is left", room.left(), []
+
+
+def black(data):
+    """The rows of a PNG: for each pel, whether it is black."""
+    return [[value == 0 for value in line] for line in grey(data)[3]]
+
+
+def drawn(image):
+    """The same of a raw PBM."""
+    _, size, raster = image.split(b"\n", 2)
+    width, height = map(int, size.split())
+    bits = f"{int.from_bytes(raster, 'big'):0{8 * len(raster)}b}"
+    step = len(bits) // height
+    return [[bit == "1" for bit in bits[at : at + width]] for at in range(0, len(bits), step)]
+
+
+def compare(room, commands):
+    room.others("sent.tif", 0)
+    room.others("received.tif", 1)
+    yield "the same", room.bash(commands)[::2], (0, "")
+    room.fax("received.tif", "mh", "all")
+    status, shown, said = room.bash(commands)
+    lines = shown.decode().splitlines()
+    yield "another", (status, said, lines[0]), (1, "", "first difference:")
+    mine, others = (room.rows(name)[0].decode().splitlines() for name in ("sent.tif", "received.tif"))
+    wanted = next([f"< {a}", f"> {b}"] for a, b in zip(mine, others) if a != b)
+    yield "another: its rows", lines[1:], wanted
+    images = room.others("sent.tif")
+    room.put("received.tif", pages.converted(room.program, ["-o", "mmr"], b"".join(images[:-1])))
+    status, shown, _ = room.bash(commands)
+    yield "a page less", (status, shown.splitlines()[1:3][1]), (1, b"> end")
+    room.sample("damaged-fourth-page.tif", "received.tif")
+    shutil.copy(room("received.tif"), room("sent.tif"))
+    status, _, said = room.bash(commands)
+    yield "a fault in both", (status, "fault page 3 row" in said), (3, True)
+    room.put("sent.tif", pages.converted(room.program, ["-o", "mh"], whole_page(room)))
+    yield "a fault in one", room.bash(commands)[0], 3
+    for name in HOSTILE:
+        room.others(name)
+        yield f"{name!r}", room.call("faxpages-compare", name, name)[::2], (0, "")
+    yield "no file", room.call("faxpages-compare", "sent.tif", "none.tif")[:2], (3, b"")
+    yield "nothing is left", room.left(), []
+
+
+def whole_page(room):
+    """The images of the damaged sample, with its first page in the place of the fourth."""
+    status, image, _ = room.bash("faxpages-picture received.tif 0 | pngtopnm | pgmtopbm -threshold")
+    assert status == 0
+    return image * 4
+
+
+def pdf(room, commands):
+    images = room.fax("fax.tif", "mh", "all", 100)
+    yield "run", room.bash(commands), (0, b"", "")
+    yield from strips_in_pdf(room, images)
+    os.remove(room("fax.pdf"))
+    yield "tiff2pdf", room.bash(commands[: commands.index("img2pdf")] + "tiff2pdf -o fax.pdf pages.tif"), (0, b"", "")
+    yield from strips_in_pdf(room, images)
+
+
+def strips_in_pdf(room, images):
+    """Each strip of the TIFF file stands in the PDF as it is."""
+    made, data = room.get("fax.pdf"), room.get("pages.tif")
+    strips = [strip for fields in files.directories_of(data) for strip in files.strips_of(data, fields)]
+    found = [len(re.findall(rb"stream\r?\n" + re.escape(strip), made)) for strip in strips]
+    yield "strips", found, [1] * len(images)
+    yield "pages", made.count(b"/CCITTFaxDecode"), len(images)
+
+
+def salvage(room, commands):
+    images = room.others("fax.tif", 1)
+    yield "whole", room.bash(commands), (0, b"5 pages whole, 0 in part\n", "")
+    yield "whole: files", room.names("fax.salvaged"), ["lost.txt", "pages.pdf", "pages.tif"]
+    yield "whole: rows", room.rows("fax.salvaged/pages.tif"), room.rows("fax.tif")
+    yield "whole: nothing is lost", room.get("fax.salvaged/lost.txt"), b""
+    yield "the folder is there", room.bash(commands)[0], 3
+    yield "the folder stays", room.names("fax.salvaged"), ["lost.txt", "pages.pdf", "pages.tif"]
+    yield from salvage_damaged(room, commands)
+    yield from salvage_strips(room, images)
+    yield from salvage_odd(room)
+    for name in HOSTILE:
+        room.others(name, 1)
+        status, _, said = room.call("faxpages-salvage", name, f"{name}.d")
+        yield f"{name!r}", (status, said), (0, "")
+        yield f"{name!r}: rows", room.rows(f"{name}.d/pages.tif"), room.rows(name)
+    for name, data in (("no.tif", b"no fax"), ("none.tif", b""), ("cut.tif", room.get("fax.tif")[:100])):
+        room.put(name, data)
+        status, _, _ = room.call("faxpages-salvage", name, f"{name}.d")
+        yield f"{name}", (status, room.names(f"{name}.d"), len(room.get(f"{name}.d/lost.txt")) > 0), (1, ["lost.txt"], True)
+    yield "no file", room.call("faxpages-salvage", "no-such.tif", "d")[0], 3
+    yield "the owner's modes", oct(os.stat(room("no.tif.d")).st_mode & 0o777), oct(0o777 & ~umask())
+    yield "no folder is left", [name for name in room.names() if re.search(r"\.\w{6}$", name)], []
+    yield "nothing is left", room.left(), []
+
+
+def umask():
+    mask = os.umask(0)
+    os.umask(mask)
+    return mask
+
+
+def salvage_damaged(room, commands):
+    """The sample, whose fourth page is damaged: the rows before the fault are there."""
+    shutil.rmtree(room("fax.salvaged"))
+    room.sample("damaged-fourth-page.tif", "fax.tif")
+    yield "damaged", room.bash(commands), (1, b"3 pages whole, 1 in part\n", "")
+    yield "damaged: files", room.names("fax.salvaged"), ["lost.txt", "page-3.png", "pages.pdf", "pages.tif"]
+    rows, fault = room.rows("fax.tif")
+    row = int(re.search(rb"row (\d+)", fault).group(1))
+    lost = re.fullmatch(rb"page 3 rows %d to 10: (\w+)\n" % row, room.get("fax.salvaged/lost.txt"))
+    yield "damaged: lost", lost is not None and fault.endswith(lost.group(1) + b"\n"), True
+    whole = [line for line in rows.splitlines() if line.split()[:2] in ([b"row", b"0"], [b"row", b"1"], [b"row", b"2"])]
+    yield "damaged: rows", room.rows("fax.salvaged/pages.tif")[0].splitlines(), [*whole, b"end"]
+    width, height, most, raster = grey(room.get("fax.salvaged/page-3.png"))
+    yield "damaged: picture", (width, height), (32, 11)
+    colours = [{value * 3 // most for value in line} for line in raster]
+    yield "damaged: rows that are lost", [it == {2} for it in colours], [False] * row + [True] * (11 - row)
+    yield "damaged: its first row", raster[1], raster_row(b"row 3 1", rows, most)
+
+
+def raster_row(place, rows, most):
+    """A row as bytes of a picture."""
+    (line,) = [line for line in rows.splitlines() if line.startswith(place + b" ")]
+    runs = [int(n) for n in line.split()[3:]]
+    return b"".join(bytes([0 if at % 2 else most]) * n for at, n in enumerate(runs))
+
+
+def salvage_strips(room, images):
+    """A page of many strips, two of which are damaged: the others are read; and a page whose fields are refused."""
+    room.put("strips.tif", pages.converted(room.program, ["-o", "mmr", "--strip", "1"], b"".join(images)))
+    data = bytearray(room.get("strips.tif"))
+    forms = list(files.directories_of(bytes(data)))
+    number = max(range(len(forms)), key=lambda it: forms[it][257][0])
+    for strip in (1, 3):
+        place, size = forms[number][273][strip], forms[number][279][strip]
+        data[place : place + size] = bytes(size)
+    room.put("strips.tif", bytes(data))
+    status, _, _ = room.call("faxpages-salvage", "strips.tif", "strips")
+    wanted = [f"page {number} rows {row} to {row}: " for row in (1, 3)]
+    found = [line.rsplit(" ", 1)[0] + " " for line in room.get("strips/lost.txt").decode().splitlines()]
+    yield "strips", (status, found), (1, wanted)
+    width, height, most, raster = grey(room.get(f"strips/page-{number}.png"))
+    lost = [row for row, line in enumerate(raster) if {value * 3 // most for value in line} == {2}]
+    yield "strips: picture", (width, height, lost), (WIDTH, forms[number][257][0], [1, 3])
+    at = bytes(data).index(b"\x03\x01\x03\x00\x01\x00\x00\x00\x04\x00")  # Compression of the first page
+    data[at + 8] = 5
+    room.put("refused.tif", bytes(data))
+    status, _, _ = room.call("faxpages-salvage", "refused.tif", "refused")
+    lines = room.get("refused/lost.txt").decode().splitlines()
+    yield "refused", (status, lines[0]), (1, "page 0: Unsupported 259")
+    yield "refused: pages", len(room.run("list", name="refused/pages.tif")[1].splitlines()), 5 - (number != 0)
+
+
+def salvage_odd(room):
+    """A page that libtiff 4.5 cannot read, since its rows have the most runs: it is there as a picture."""
+    room.others("odd.tif", 0)
+    room.call("faxpages-salvage", "odd.tif", "odd")
+    copied = [line.split()[2:5:2] for line in room.run("list", name="odd/pages.tif")[1].splitlines()[:-1]]
+    pictures = [int(name[5:-4]) for name in room.names("odd") if name.endswith(".png")]
+    yield "odd: all pages are there", len(copied) + len(pictures), 5
+    for page in pictures:
+        yield f"odd: page {page} is told", f"page {page} is not in pages.tif" in room.get("odd/lost.txt").decode(), True
+        yield f"odd: page {page} is whole", grey(room.get(f"odd/page-{page}.png"))[:2], size_of(room, "odd.tif", page)
+
+
+def size_of(room, name, page):
+    return tuple(int(it) for it in room.run("list", name=name)[1].splitlines()[page].split()[2:4])
+
+
+TESTS = {
+    "Look at a page": (["pamsplit", "pnmtopng", "pngtopnm"], look),
+    "Look at a page in a terminal": (["pampick", "pnmtopng", "chafa"], look_in_terminal),
+    "Look at a page of standard resolution": (["pamenlarge", "pnmtopng", "pngtopnm"], look_at_low),
+    "Look at a fax in a browser": (["pnmtopng", "pngtopnm", "pgmtopgm"], browser),
+    "The same picture?": (["pnmtopng", "pngtopnm", "pgmtopbm", "tiffcp", "pnmtotiff"], compare),
+    "A PDF of a fax": (["img2pdf", "tiff2pdf"], pdf),
+    "Salvage a damaged fax": (["tiffcp", "tiff2pdf", "pnmtopng", "pngtopnm", "pgmtopgm", "pnmtotiff"], salvage),
+}

@@ -1,0 +1,210 @@
+"""Recipes for archives, and for many cores."""
+
+import os
+import shutil
+import signal
+import time
+
+import files
+import pages
+from recipes import recipes
+from room import HOSTILE, WIDTH, lines_of_rows
+
+# The program, but what it converts from the fax `changed.tif` is the fax `other.tif`.
+LIAR = """#!/bin/sh
+case $1,$(readlink /proc/self/fd/0) in
+convert*/changed.tif) exec "$PROGRAM" convert -o mmr other.tif ;;
+*) exec "$PROGRAM" "$@" ;;
+esac
+"""
+# The program, but what it converts comes late.
+LATE = """#!/bin/sh
+[ "$1" != convert ] || sleep 0.3
+exec "$PROGRAM" "$@"
+"""
+SBATCH = """#!/bin/bash
+for script; do :; done
+failed=0
+for task in {0..15}; do
+    SLURM_ARRAY_TASK_ID=$task "$script" || failed=$((failed + 1))
+done
+exit "$failed"
+"""
+
+
+def mirror(room, commands):
+    program = {"PROGRAM": room.program}
+    os.mkdir(room("archive"))
+    yield "an empty folder", room.bash(commands), (0, b"", "")
+    given = room.faxes("archive")
+    before = room.contents("archive")
+    status, _, said = room.bash(commands)
+    yield "a fault", (status, "not copied: ./archive/faulty.tif" in said), (1, True)
+    yield "a fault: nothing is deleted", room.contents("archive"), before
+    yield "a fault: no part stays", [name for name in room.names("copies") if name.endswith(".part")], []
+    os.remove(room("archive/faulty.tif"))
+    for number, name in enumerate(HOSTILE):
+        room.others(f"archive/{name}", number)
+    given = room.names("archive")
+    rows = {name: room.rows(f"archive/{name}") for name in given}
+    yield "one folder", room.call("faxpages-mirror", "--delete", "archive", "./archive")[0], 1
+    shutil.rmtree(room("copies"))
+    room.fax("copies/d.tif", "mmr", "noise")
+    mine, before = room.get("copies/d.tif"), room.contents("archive")
+    status, _, said = room.call("faxpages-mirror", "--delete", "archive", "copies")
+    yield "another fax of that name", (status, "not copied: ./archive/d.tif" in said), (1, True)
+    yield "another fax: all stays", (room.get("copies/d.tif"), room.contents("archive")), (mine, before)
+    os.remove(room("copies/d.tif"))
+    yield "run", room.bash(commands), (0, b"", "")
+    wanted = sorted([*given, *(f"{name}.fields" for name in given)])
+    yield "copies", room.names("copies"), wanted
+    yield "rows", {name: room.rows(f"copies/{name}") for name in given}, rows
+    codings = {line.split()[4] for name in given for line in listed(room, f"copies/{name}")}
+    yield "codings", codings, {"mmr"}
+    yield "nothing is deleted", room.contents("archive"), before
+    yield from mirror_fields(room, commands)
+    yield "delete", room.call("faxpages-mirror", "--delete", "archive", "copies"), (0, b"", "")
+    yield "delete: what is left", (room.names("archive"), room.names("copies")), ([], wanted)
+    yield from mirror_that_differs(room, program)
+    yield from mirror_that_is_killed(room, program)
+    yield "nothing is left", room.left(), []
+
+
+def mirror_fields(room, commands):
+    """The fields that a copy has not are in the record, of each page."""
+    if not shutil.which("tiffset"):
+        return
+    name = HOSTILE[0]
+    os.remove(room(f"copies/{name}"))
+    os.remove(room(f"copies/{name}.fields"))
+    for page, words in ((0, ["306", "2026:11:25 09:00:00"]), (0, ["316", "fax server"]), (2, ["34910", "77"])):
+        yield f"tiffset {words}", room.call("tiffset", "-d", str(page), "-s", *words, f"archive/{name}")[0], 0
+    yield "with fields", room.bash(commands), (0, b"", "")
+    record = room.get(f"copies/{name}.fields")
+    found = [it in record for it in (b"2026:11:25 09:00:00", b"fax server", b"34910 (0x885e) LONG (4) 1<77>")]
+    yield "with fields: the record", found, [True] * 3
+
+
+def mirror_that_differs(room, program):
+    """A copy with other rows than its fax."""
+    room.fax("archive/a.tif", "mh", "all")
+    room.fax("archive/changed.tif", "mh", "marks")
+    room.fax("other.tif", "mh", "noise")
+    room.tool("faxpages", LIAR)
+    before = room.contents("archive")
+    status, _, said = room.call("faxpages-mirror", "--delete", "archive", "more", **program)
+    yield "other rows", (status, "not copied: ./archive/changed.tif" in said), (1, True)
+    yield "other rows: nothing is deleted", room.contents("archive"), before
+
+
+def mirror_that_is_killed(room, program):
+    """A call that is killed in a copy, another one meanwhile, and one after it."""
+    room.tool("faxpages", LATE)
+    before = room.contents("archive")
+    leader = room.start("faxpages-mirror", "--delete", "archive", "third", **program)
+    until = time.monotonic() + 20
+    while not os.path.exists(room("third/a.tif.part")) and time.monotonic() < until:
+        time.sleep(0.01)
+    yield "another call meanwhile", room.call("faxpages-mirror", "archive", "third", **program)[0], 1
+    os.killpg(leader.pid, signal.SIGTERM)
+    leader.wait()
+    yield "killed", (room.contents("archive"), room.names("third")), (before, [])
+    os.makedirs(room("third"), exist_ok=True)
+    room.put("third/a.tif.part", b"")  # as SIGKILL leaves it
+    yield "after it", room.call("faxpages-mirror", "--delete", "archive", "third", **program), (0, b"", "")
+    wanted = ["a.tif", "a.tif.fields", "changed.tif", "changed.tif.fields"]
+    yield "after it: what is there", (room.names("archive"), room.names("third")), ([], wanted)
+
+
+def listed(room, name):
+    return [line for line in room.run("list", name=name)[1].decode().splitlines() if line.startswith("page ")]
+
+
+def cores_by_file(room, commands):
+    room.faxes("faxes")
+    for number, name in enumerate(HOSTILE):
+        room.others(f"faxes/{name}", number)
+    given = room.names("faxes")
+    status, _, said = room.bash(commands)
+    yield "run", status, 123
+    yield "the fault", said, "faxes/faulty.tif: " + room.rows("faxes/faulty.tif")[1].decode()
+    yield "rows", room.contents("rows"), {f"{name}.txt": room.rows(f"faxes/{name}")[0] for name in given}
+
+
+def big(room, pages_of=24):
+    """Writes a file of 120 pages; the lines of its rows."""
+    source = b"".join(pages.image(WIDTH, rows) for rows in pages.draw_document(4, "all", WIDTH)) * pages_of
+    room.put("big.tif", pages.converted(room.program, ["-o", "mr"], source))
+    return lines_of_rows(room.rows("big.tif")[0])
+
+
+def cores_by_part(room, commands):
+    big(room)
+    yield "run", room.bash(commands), (0, b"", "")
+    yield "rows", room.get("big.txt"), room.rows("big.tif")[0]
+    for processes in ("1", "3", "50"):
+        ran = room.call("faxpages-cores", "big.tif", processes)
+        yield f"{processes} processes", ran, (0, room.rows("big.tif")[0], "")
+    whole = room.get("big.tif")
+    forms = list(files.directories_of(whole))
+    for page in (0, 1, 61, 119):
+        damaged = bytearray(whole)
+        (place,), (size,) = forms[page][273], forms[page][279]
+        damaged[place : place + size] = bytes(size)
+        room.put("big.tif", bytes(damaged))
+        rows, fault = room.rows("big.tif")
+        yield f"page {page} is damaged", room.bash(commands), (1, b"", fault.decode())
+        yield f"page {page} is damaged: rows", room.get("big.txt"), rows
+    for sample in ("three-pages.tif", "one-mh-page.tif"):
+        room.sample(sample, "big.tif")
+        rows, fault = room.rows("big.tif")
+        yield sample, (room.bash(commands)[2], room.get("big.txt")), (fault.decode(), rows)
+    for name, data in (("none.tif", b""), ("no.tif", b"no fax at all")):
+        room.put(name, data)
+        status, rows, fault = room.run("rows", name=name)
+        yield name, room.call("faxpages-cores", name), (status, rows, fault.decode())
+    for name in HOSTILE:
+        room.others(name)
+        yield f"{name!r}", room.call("faxpages-cores", name), (0, room.rows(name)[0], "")
+    yield "no file", room.call("faxpages-cores", "no-such.tif")[:2], (3, b"")
+    yield "nothing is left", room.left(), []
+
+
+def slurm_by_file(room, commands):
+    room.tool("sbatch", SBATCH)
+    room.faxes("faxes")
+    for number, name in enumerate(HOSTILE):
+        room.others(f"faxes/{name}", number)
+    given = room.names("faxes")
+    yield "tasks", room.bash(commands), (0, b"", "")
+    wanted = {f"{name}.txt": room.rows(f"faxes/{name}")[0] for name in given}
+    wanted |= {f"{name}.txt.err": room.rows(f"faxes/{name}")[1] for name in given}
+    yield "rows", room.contents("rows"), wanted
+    room.put("rows/a.tif.txt", b"kept")
+    os.remove(room("rows/d.tif.txt"))
+    yield "tasks again", room.bash(commands)[0], 0
+    yield "what was there", room.contents("rows"), wanted | {"a.tif.txt": b"kept"}
+    os.mkdir(room("faxes/e.tif"))
+    yield "a folder", room.bash(commands)[0], 1
+
+
+def slurm_by_part(room, commands):
+    room.tool("sbatch", SBATCH)
+    wanted = big(room)
+    made = recipes()["Many machines, one big file"]
+    room.bash(made[: made.index("export")])
+    yield "run", room.bash(commands), (0, b"", "")
+    yield "rows", room.get("big.txt"), wanted
+    room.sample("three-pages.tif", "big.tif")
+    shutil.rmtree(room("parts"))
+    room.bash(made[: made.index("export")])
+    yield "a fault", room.bash(commands), (0, b"", "fault page 2 row 1: DataEnds\n")
+
+
+TESTS = {
+    "A mirror of an archive in MMR": (["mktemp", "cmp", "tiffdump"], mirror),
+    "Everyday jobs": (["xargs"], cores_by_file),
+    "Many cores, one big file": (["xargs", "awk"], cores_by_part),
+    "A Slurm array, by file": ([], slurm_by_file),
+    "A Slurm array, one big file": (["awk"], slurm_by_part),
+}

@@ -1,0 +1,289 @@
+"""Recipes for faxes that come in, and for archives of them."""
+
+import email
+import email.policy
+import os
+import re
+import shutil
+import signal
+import time
+
+from room import HOSTILE
+
+MAILER = """#!/bin/sh
+cat >"$HOME/mailed"
+echo "$*" >"$HOME/mailed-by"
+"""
+HYLAFAX = "/var/spool/hylafax"
+# What Debian's faxsetup finds out, as far as faxrcvd asks for it.
+SETUP = """AWK=awk
+GREP=grep
+SED=sed
+SBIN={sbin}
+SENDMAIL={room}/bin/sendmail
+ENCODING=base64
+TIFF2PDF=tiff2pdf
+TTYCMD=false
+"""
+
+
+def receive(room, commands):
+    os.mkdir(room("faxes"))
+    before = os.umask(0o027)
+    try:
+        yield from sorted_faxes(room, commands)
+    finally:
+        os.umask(before)
+
+
+def sorted_faxes(room, commands):
+    for number, name in enumerate(["fax.tif", *HOSTILE]):
+        room.others(name, number)
+        data, wanted = room.get(name), room.report(name)
+        ran = room.bash(commands) if name == "fax.tif" else room.call("faxpages-receive", name, f"{room('')}faxes")
+        yield f"{name!r}", ran, (0, b"", "")
+        got = [room.get(f"faxes/good/{it}") for it in (name, f"{name}.report")]
+        yield f"{name!r}: is good", (got, os.path.exists(room(name))), ([data, wanted], False)
+    yield "modes", {oct(os.stat(f"{room('faxes/good')}/{it}").st_mode) for it in room.names("faxes/good")}, {"0o100640"}
+    room.cut("fax.tif")
+    data, wanted = room.get("fax.tif"), room.report("fax.tif")
+    yield "a fault", room.bash(commands), (1, b"", "")
+    yield "a fault: is faulty", room.contents("faxes/faulty"), {"fax.tif": data, "fax.tif.report": wanted}
+    before = room.contents("faxes/good")
+    room.fax("fax.tif", "mh", "marks")
+    status, _, said = room.bash(commands)
+    yield "the name is taken", (status, "is another" in said), (3, True)
+    yield "the name is taken: all stays", (room.contents("faxes/good"), room.names()), (before, ["fax.tif", "faxes"])
+    room.put("fax.tif", before["fax.tif"])
+    yield "it was killed before", (room.bash(commands), room.names()), ((0, b"", ""), ["faxes"])
+    os.mkdir(room("folder.tif"))
+    yield "a folder", room.call("faxpages-receive", "folder.tif", "faxes")[0], 3
+    yield "no file", room.call("faxpages-receive", "none.tif", "faxes")[0], 3
+    room.tool("faxpages", "#!/bin/sh\necho 'fault: Memory' >&2\nexit 3\n")
+    room.put("fax.tif", before["fax.tif"])
+    status, _, said = room.bash(commands)
+    yield "memory", (status, said.endswith("stays: fault: Memory\n"), room.names()), (3, True, ["fax.tif", "faxes", "folder.tif"])
+    room.tool("faxpages", f"#!/bin/sh\nexec {room.program} \"$@\"\n")
+    yield from received_at_once(room)
+    yield from received_from_elsewhere(room)
+    yield "nothing else is in the folders", room.names("faxes"), ["faulty", "good"]
+
+
+def received_at_once(room):
+    """Two faxes of one name at once: one of them is there with its own report, and the other one stays."""
+    for number in range(10):
+        room.others(f"a/{number}.tif", 1)
+        room.fax(f"b/{number}.tif", "mh", "noise")
+        reports = {room.get(f"{it}/{number}.tif"): room.report(f"{it}/{number}.tif") for it in "ab"}
+        calls = [room.start("faxpages-receive", f"{it}/{number}.tif", "faxes") for it in "ab"]
+        yield f"two at once {number}", sorted(it.wait() for it in calls), [0, 3]
+        there = room.get(f"faxes/good/{number}.tif")
+        yield f"two at once {number}: its report", room.get(f"faxes/good/{number}.tif.report"), reports.pop(there)
+        (other,) = reports
+        left = [room.get(f"{it}/{number}.tif") for it in "ab" if os.path.exists(room(f"{it}/{number}.tif"))]
+        yield f"two at once {number}: the other stays", left, [other]
+    shutil.rmtree(room("a"))
+    shutil.rmtree(room("b"))
+
+
+def received_from_elsewhere(room):
+    """A fax that is on another file system than the folders, where there is one; and no room for it there."""
+    other = "/dev/shm"
+    if not os.path.isdir(other) or os.stat(other).st_dev == os.stat(room("")).st_dev:
+        return
+    place = f"{other}/faxpages-test-{os.getpid()}.tif"
+    room.others("there.tif")
+    shutil.move(room("there.tif"), place)
+    try:
+        yield "from another file system", room.call("faxpages-receive", place, "faxes"), (0, b"", "")
+        moved = (os.path.exists(place), os.path.exists(room(f"faxes/good/{os.path.basename(place)}")))
+        yield "from another file system: moved", moved, (False, True)
+    finally:
+        if os.path.exists(place):
+            os.remove(place)
+
+
+def hylafax(room, commands):
+    """Debian's faxrcvd, in a spooling area of its own, calls the FaxDispatch that the recipe makes."""
+    spool = room("spool")
+    shutil.copytree(f"{HYLAFAX}/bin", f"{spool}/bin", symlinks=False, ignore_dangling_symlinks=True)
+    shutil.copytree("/etc/hylafax/templates", f"{spool}/etc/templates")
+    room.tool("sendmail", MAILER.replace("mailed", 'mailed-$(ls "$HOME" | wc -l)', 1))
+    room.put("spool/etc/setup.cache", SETUP.format(room=room.path, sbin=f"{room.path}/bin").encode())
+    room.tool("faxinfo", f"#!/bin/sh\nexec {tool_of('faxinfo')} \"$@\"\n")
+    yield "run", room.bash(f"cd spool/etc\n{commands}")[::2], (0, "")
+    room.put("spool/etc/FaxDispatch", b"SENDTO=office\nFILETYPE=pdf\n" + room.get("spool/etc/FaxDispatch"))
+    for kind in ("good", "faulty"):
+        name = f"spool/recvq/{kind}.tif"
+        room.others(name)
+        if kind == "faulty":
+            room.sample("damaged-fourth-page.tif", name)
+        data = room.get(name)
+        status = room.bash(f"cd spool && bash bin/faxrcvd recvq/{kind}.tif ttyS0 000000001 '' 12345 'A `caller`'")[0]
+        mails = [message(room.get(it)) for it in room.names() if it.startswith("mailed-") and it != "mailed-by"]
+        for it in [it for it in room.names() if it.startswith("mailed")]:
+            os.remove(room(it))
+        texts = [text_of(mail).replace("\r", "") for mail in mails]
+        report = room.report(name).decode()
+        yield f"{kind}: status and mails", (status, sorted(mail["To"] for mail in mails)), (0, ["FaxMaster", "office"])
+        yield f"{kind}: the report is in each", [f"faxpages check:\n{report.rstrip()}" in it for it in texts], [True, True]
+        wrong = [mail["Subject"] for mail in mails if mail["To"] == "FaxMaster" and "with errors" in mail["Subject"]]
+        yield f"{kind}: told as an error", len(wrong), int(kind == "faulty")
+        attached = [part.get_content_type() for mail in mails for part in mail.walk() if part.get_filename()]
+        yield f"{kind}: the PDF is attached", attached, ["application/pdf"]
+        yield f"{kind}: the fax stays", room.get(name), data
+
+
+def tool_of(name):
+    """The place of one of HylaFAX's programs: in Debian that on the path is a script, which mounts a folder first."""
+    inner = f"/usr/lib/hylafax/bin/{name}"
+    return inner if os.path.exists(inner) else shutil.which(name, path="/usr/sbin:/usr/bin:/usr/local/sbin")
+
+
+def message(data):
+    return email.message_from_bytes(data, policy=email.policy.default)
+
+
+def text_of(mail):
+    return mail.get_body(("plain",)).get_content()
+
+
+def asterisk(room, commands):
+    """The words of System, as Asterisk gives them to a shell, without Asterisk."""
+    folder = re.search(r"Set\(FAX=(/var/spool/asterisk/fax)/\$\{UNIQUEID\}\.tif\)", commands).group(1)
+    (words,) = re.findall(r"System\((.*)\)", commands)
+    words = words.replace("${FAX}", f"{folder}/pbx-1764060000.17.tif").replace(folder, room("fax"))
+    yield "all is replaced", "${" in words or "/var" in words.replace(room(""), ""), False
+    for kind, wanted in (("good", 0), ("faulty", 1)):
+        if kind == "good":
+            room.others("fax/pbx-1764060000.17.tif")
+        else:
+            room.sample("damaged-fourth-page.tif", "fax/pbx-1764060000.17.tif")
+        yield kind, room.call("sh", "-c", words), (wanted, b"", "")
+        yield f"{kind}: is there", room.names(f"fax/{kind}"), ["pbx-1764060000.17.tif", "pbx-1764060000.17.tif.report"]
+    yield "no fax came in", room.call("sh", "-c", words)[0], 3
+    yield "the call had none", room.call("sh", "-c", words.replace(f"{room('fax')}/pbx-1764060000.17.tif", ""))[0], 2
+
+
+def mail_gateway(room, commands):
+    room.tool("sendmail", MAILER)
+    mailer = {"SENDMAIL": f"{room.path}/bin/sendmail"}
+    room.others("fax.tif")
+    yield "good", room.bash(commands, **mailer), (0, b"", "")
+    mail = message(room.get("mailed"))
+    yield "good: to", (mail["To"], room.get("mailed-by")), ("office@example.org", b"-oi -t\n")
+    yield "good: subject", mail["Subject"].startswith("Fax, good: pages 5 rows "), True
+    yield "good: report", room.report("fax.tif").decode() in text_of(mail), True
+    parts = list(mail.iter_attachments())
+    yield "good: files", [(it.get_filename(), it.get_content()[:5]) for it in parts], [("fax.pdf", b"%PDF-")]
+    room.sample("damaged-fourth-page.tif", "fax.tif")
+    yield "faulty", room.bash(commands, **mailer)[::2], (1, "")
+    mail = message(room.get("mailed"))
+    parts = {it.get_filename(): it.get_content() for it in mail.iter_attachments()}
+    yield "faulty: files", (sorted(parts), parts["fax.tif"]), (["fax.pdf", "fax.tif"], room.get("fax.tif"))
+    yield "faulty: lost", "\nLost:\npage 3 rows " in text_of(mail), True
+    for name in [*HOSTILE, "\nBcc: all@example.org\n\n.tif"]:
+        room.others(name)
+        os.remove(room("mailed"))
+        yield f"{name!r}", room.call("faxpages-mail", name, "a@b.c", "Fax <fax@b.c>", **mailer), (0, b"", "")
+        mail = message(room.get("mailed"))
+        wanted = ["From", "To", "Subject", "Date", "MIME-Version", "Content-Type"]
+        yield f"{name!r}: head", (mail.keys(), len(list(mail.iter_attachments()))), (wanted, 1)
+    os.remove(room("mailed"))
+    refused = room.call("faxpages-mail", "fax.tif", "a@b.c\nBcc: d@e.f", **mailer)[0]
+    yield "an address of two lines", (refused, os.path.exists(room("mailed"))), (3, False)
+    yield "no file", room.call("faxpages-mail", "none.tif", "a@b.c", **mailer)[0], 3
+    yield "no mailer", room.call("faxpages-mail", "fax.tif", "a@b.c", SENDMAIL="/bin/false")[0], 3
+    yield "nothing is left", room.left(), []
+
+
+def old(room, folder):
+    """Lets the files of a folder be two minutes old."""
+    for place, _, names in os.walk(room(folder)):
+        for name in names:
+            os.utime(f"{place}/{name}", (time.time() - 120,) * 2)
+
+
+def figures(room):
+    lines = [line.split(" ") for line in room.get("faxpages.prom").decode().splitlines() if line[0] != "#"]
+    return {name: float(value) for name, value in lines}
+
+
+def sweep(room, commands):
+    os.mkdir(room("faxes"))
+    yield "an empty tree", room.bash(commands), (0, b"", "")
+    yield "an empty tree: figures", figures(room)['faxpages_faxes{result="good"}'], 0
+    for number, name in enumerate(HOSTILE):
+        room.others(f"faxes/in/{name}", number)
+    room.sample("return-to-control.tif", "faxes/noted.TIFF")
+    room.sample("damaged-fourth-page.tif", "faxes/in/new\n'fault.tif")
+    yield "none is old enough", room.bash(commands), (0, b"", "")
+    old(room, "faxes")
+    status, shown, said = room.bash(commands)
+    lines = shown.decode().splitlines()
+    good = len(HOSTILE) + 1
+    summary = f"new: {good + 1} faxes, {good} good, 1 faulty, 0 not read; in all: {good + 1}"
+    yield "the first", (status, said, lines[1:]), (1, "", [summary])
+    yield "the first: the fault", re.fullmatch(r"faulty: .*new\\n\\'fault\.tif'?: fault page 3 row \d+: \w+", lines[0]) is not None, True
+    found = figures(room)
+    wanted = {'faxpages_faxes{result="good"}': good, 'faxpages_faxes{result="faulty"}': 1,
+              'faxpages_faxes{result="not_read"}': 0, 'faxpages_noted{note="N2"}': 1, "faxpages_swept": good + 1,
+              "faxpages_pages": 5 * len(HOSTILE) + 4}  # fmt: skip
+    yield "figures", {name: found.get(name) for name in wanted}, wanted
+    yield "figures: when", abs(found["faxpages_sweep_timestamp_seconds"] - time.time()) < 60, True
+    if shutil.which("promtool"):
+        yield "promtool", room.bash("promtool check metrics <faxpages.prom")[0], 0
+    yield "nothing is new", room.bash(commands), (0, b"", "")
+    yield "nothing is new: figures", figures(room)["faxpages_swept"], 0
+    os.remove(room(f"faxes/in/{HOSTILE[0]}"))
+    room.cut("faxes/later.tif")
+    old(room, "faxes")
+    room.bash("touch -d '1 hour ago' faxes/later.tif")
+    status, shown, _ = room.bash(commands)
+    yield "one is new, one is gone", (status, shown.splitlines()[-1].endswith(b"in all: %d" % (good + 1))), (1, True)
+    yield from swept_again(room, commands, good)
+    yield "nothing is left", (room.left(), room.names(".faxpages-sweep")), ([], ["lock", "seen"])
+
+
+def swept_again(room, commands, good):
+    """A file that cannot be read is looked at again by each sweep; a sweep that is killed goes on; two at once."""
+    room.tool("faxpages", f'#!/bin/sh\n[ -z "$SLOW" ] || sleep "$SLOW"\nexec {room.program} "$@"\n')
+    shutil.rmtree(room(".faxpages-sweep"))
+    leader = room.start("faxpages-sweep", "faxes", ".faxpages-sweep", "faxpages.prom", SLOW="0.2")
+    until = time.monotonic() + 20
+    while seen(room) < 3 and time.monotonic() < until:
+        time.sleep(0.02)
+    yield "another one is running", room.bash(commands), (0, b"", "")
+    os.killpg(leader.pid, signal.SIGKILL)
+    leader.wait()
+    room.bash("flock -w 20 .faxpages-sweep/lock true")  # until all that it started is gone
+    before = seen(room)
+    yield "it is killed", 3 <= before < good + 1, True
+    files_of = [name for name in os.listdir(room.path + "/tmp")]
+    for name in files_of:
+        shutil.rmtree(f"{room.path}/tmp/{name}")  # what SIGKILL leaves
+    with open(room(".faxpages-sweep/seen"), "ab") as file:
+        file.write(b"1:2:3")  # a line that is cut
+    _, shown, _ = room.bash(commands)
+    yield "it goes on", shown.splitlines()[-1].startswith(b"new: %d faxes" % (good + 1 - before)), True
+    room.tool("faxpages", "#!/bin/sh\necho 'fault: Memory' >&2\nexit 3\n")
+    room.others("faxes/again.tif")
+    old(room, "faxes")
+    room.call("rm", "-r", ".faxpages-sweep/seen")
+    for _ in range(2):
+        status, shown, _ = room.bash(commands)
+        yield "not read", (status, shown.splitlines()[-1]), (1, b"new: %d faxes, 0 good, 0 faulty, %d not read; in all: 0" % (good + 2, good + 2))
+
+
+def seen(room):
+    place = room(".faxpages-sweep/seen")
+    return len(open(place, "rb").read().splitlines()) if os.path.exists(place) else 0
+
+
+TESTS = {
+    "Sort faxes as they come in": (["cmp"], receive),
+    "HylaFAX": (["tiff2pdf", f"{HYLAFAX}/bin/faxrcvd", tool_of("faxinfo") or "faxinfo"], hylafax),
+    "Asterisk": ([], asterisk),
+    "A mail gateway": (["tiff2pdf", "tiffcp", "pnmtopng", "base64"], mail_gateway),
+    "Sweep an archive by cron": (["find", "flock"], sweep),
+}

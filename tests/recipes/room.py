@@ -1,0 +1,139 @@
+"""A folder in which a recipe runs, with the program and the scripts on the path."""
+
+import os
+import shutil
+import subprocess
+
+import files
+import pages
+from recipes import ROOT, SCRIPTS
+
+WIDTH = 1728
+# Names that shells, programs and formats stumble over: blanks, quotes, a newline, an option, a command, a pattern,
+# tiffcp's list of pages, an assignment of awk, and bytes that are not UTF-8.
+HOSTILE = [os.fsdecode(name) for name in (
+    b"a b  c.tif", b"it's \"one\".tif", b"new\nline.tif", b"-o.tif", b"$(touch owned)`touch owned`;.tif", b"*[a]?.tif",
+    b"a,1.tif", b"a=b %s\\n<&>.tif", b"caf\xe9 \xff.tif",
+)]  # fmt: skip
+
+
+class Room:
+    def __init__(self, path, program):
+        self.path, self.program = path, program
+        os.mkdir(f"{path}/bin")
+        os.symlink(program, f"{path}/bin/faxpages")
+        for name in os.listdir(SCRIPTS):
+            os.symlink(f"{SCRIPTS}/{name}", f"{path}/bin/{name}")
+        os.mkdir(f"{path}/work")
+        os.mkdir(f"{path}/tmp")
+
+    def __call__(self, name):
+        """The place of a file."""
+        return f"{self.path}/work/{name}"
+
+    def environment(self, more):
+        return dict(os.environ, PATH=f"{self.path}/bin:{os.environ['PATH']}", HOME=f"{self.path}/work",
+                    TMPDIR=f"{self.path}/tmp", **more)  # fmt: skip
+
+    def bash(self, commands, *words, **more):
+        """The status, output and error stream of commands of bash, with words as $1, $2.."""
+        ran = subprocess.run(["bash", "-c", commands, "bash", *words], cwd=self(""), env=self.environment(more),
+                             stdin=subprocess.DEVNULL, capture_output=True, timeout=120)  # fmt: skip
+        return ran.returncode, ran.stdout, ran.stderr.decode(errors="surrogateescape")
+
+    def call(self, *words, **more):
+        return self.bash('"$@"', *words, **more)
+
+    def start(self, *words, **more):
+        """Starts a program as the leader of a session."""
+        return subprocess.Popen(words, cwd=self(""), env=self.environment(more), stdin=subprocess.DEVNULL,
+                                stdout=subprocess.DEVNULL, stderr=subprocess.DEVNULL, start_new_session=True)  # fmt: skip
+
+    def put(self, name, data):
+        os.makedirs(os.path.dirname(self(name)), exist_ok=True)
+        files.put(self(name), data)
+
+    def get(self, name):
+        return files.get(self(name))
+
+    def tool(self, name, text):
+        """Puts a program of the test in the place of one on the path."""
+        place = f"{self.path}/bin/{name}"
+        if os.path.lexists(place):
+            os.remove(place)
+        files.put(place, text.encode())
+        os.chmod(place, 0o755)
+
+    def contents(self, folder):
+        """What is in a folder: the names, and what each file holds."""
+        return {name: self.get(f"{folder}/{name}") for name in self.names(folder)}
+
+    def names(self, folder="."):
+        return sorted(os.listdir(self(folder)))
+
+    def left(self):
+        """What is left in the folder of temporary files."""
+        return os.listdir(f"{self.path}/tmp")
+
+    def sample(self, name, to):
+        os.makedirs(os.path.dirname(self(to)), exist_ok=True)
+        shutil.copy(f"{ROOT}/samples/{name}", self(to))
+
+    def run(self, *words, name):
+        """What the program does with a file, which it reads as standard input: status, output, error stream."""
+        with open(self(name), "rb") as file:
+            ran = subprocess.run([self.program, *words], stdin=file, capture_output=True)
+        return ran.returncode, ran.stdout, ran.stderr
+
+    def rows(self, name):
+        """What `rows` prints of a fax, on both streams."""
+        return self.run("rows", name=name)[1:]
+
+    def report(self, name):
+        """What `check` prints of a fax, both streams together."""
+        _, output, error = self.run("check", name=name)
+        return output + error
+
+    def fax(self, name, coding, kind, times=1):
+        """Writes a drawn document as a fax, whose pages have their rows so many times; its images."""
+        drawn = pages.draw_document(4, kind, WIDTH)
+        images = [pages.image(WIDTH, rows * times) for rows in drawn]
+        self.put(name, pages.converted(self.program, ["-o", coding], b"".join(images)))
+        return images
+
+    def others(self, name, number=0):
+        """Writes a fax as libtiff and netpbm write one, where they are installed: its images."""
+        drawn = pages.draw_document(5, "all", WIDTH)
+        images = [pages.image(WIDTH, rows) for rows in drawn]
+        if not shutil.which("tiffcp") or not shutil.which("pnmtotiff"):
+            self.put(name, pages.converted(self.program, ["-o", "mr"], b"".join(images)))
+            return images
+        uncoded = []
+        for image in images:
+            files.put(f"{self.path}/image.pbm", image)
+            uncoded.append(f"{self.path}/{len(uncoded)}.tif")
+            files.tool(["pnmtotiff", "-none", "-miniswhite", f"{self.path}/image.pbm"], uncoded[-1])
+        forms = [["g3:1d"], ["g4", "-B"], ["g3:2d", "-f", "lsb2msb", "-r", "2"], ["g3:1d:fill", "-B"], ["g4", "-r", "3"]]
+        said = files.tool(["tiffcp", "-c", *forms[number % len(forms)], *uncoded, f"{self.path}/out.tif"])
+        assert said is None, said
+        self.put(name, files.get(f"{self.path}/out.tif"))
+        return images
+
+    def cut(self, name):
+        """Writes a fax of one page whose strip is cut short: its first rows can be read."""
+        drawn = pages.draw_document(4, "noise", WIDTH)[0]
+        data = pages.converted(self.program, ["-o", "mh"], pages.image(WIDTH, drawn))
+        (fields,) = files.directories_of(data)
+        (strip,) = files.strips_of(data, fields)
+        self.put(name, files.framed(WIDTH, len(drawn), 1, "mh", strip[: len(strip) // 2]))
+
+    def faxes(self, folder):
+        """Writes a folder of three faxes, and one with a fault; their names."""
+        for name, coding, kind in (("a", "mh", "all"), ("b c", "mr", "noise"), ("d", "mmr", "marks")):
+            self.fax(f"{folder}/{name}.tif", coding, kind)
+        self.cut(f"{folder}/faulty.tif")
+        return self.names(folder)
+
+
+def lines_of_rows(text):
+    return b"".join(line for line in text.splitlines(True) if line.startswith(b"row "))
