@@ -13,8 +13,8 @@ CRATES = ["fax_bits", "fax_rows", "fax_page", "fax_files", "fax_walk", "fax_tool
 
 # The program has no callers: what it promises stands on these.
 PROGRAM = "fax_tool"
-PROGRAM_FILES = ["run", "words", "streams"]
-PROGRAM_CALLS = {"run", "parse_words", "WordsFault", "Source", "Sink"}
+PROGRAM_FILES = ["run", "program", "input", "words", "streams"]
+PROGRAM_CALLS = {"run", "run_words", "parse_words", "WordsFault", "Input", "Source", "Sink"}
 
 NAME = r"[A-Za-z_][\w-]*'?"
 USED = re.compile(rf"(?<![\w.])({NAME}(?:\.{NAME})*)")

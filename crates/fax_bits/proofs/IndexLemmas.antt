@@ -7,7 +7,7 @@ use Rattle.std.proofs.lemmas.Nat.{shr_below}
 use Rattle.std.proofs.lemmas.Bool.{cases_lt}
 use Rattle.fax_bits.specs.declared.codes.CodeEntry.{CodeEntry}
 use Rattle.fax_bits.specs.declared.indexes.TheConstants.{WHITE_SHORT, WHITE_LONG, BLACK_SHORT, BLACK_LONG, MODE_PLACES}
-use Rattle.fax_bits.specs.views.Places.{place_of}
+use Rattle.fax_bits.specs.code.Places.{place_of}
 use Rattle.fax_bits.proofs.PlaceLemmas.{long_codes_test, short_place}
 use Rattle.fax_bits.specs.Tables.{modes, white_runs, white_terminating, white_make_up, black_runs, black_terminating, black_make_up}
 use Rattle.fax_bits.specs.Tables.{common_make_up}

@@ -11,7 +11,7 @@ use Rattle.fax_bits.specs.declared.modes.ModeCode.{ModeCode}
 use Rattle.fax_bits.specs.declared.modes.ModeCode.TheVariants.{Pass, Horizontal, Vertical, Extension as ModeExtension}
 use Rattle.fax_bits.specs.Bits.{code_bits}
 use Rattle.fax_bits.specs.views.Codes.{HasCodeAhead, IsWritten}
-use Rattle.fax_bits.specs.views.Places.{place_of}
+use Rattle.fax_bits.specs.code.Places.{place_of}
 use Rattle.fax_bits.specs.Codes.{Takes}
 use Rattle.fax_bits.specs.code.Codes.{bits_at}
 use Rattle.fax_bits.specs.Written.{mode_bits}

@@ -1,7 +1,7 @@
 -- A code that is found by its place in a table.
 use Rattle.std.proofs.Common.{◌≡◌, ℕ, zero, suc, ◌+◌, ◌-◌, ◌*◌, ◌/◌, ◌%◌, ◌^◌, ◌<◌, ◌≤◌, List, [], ◌∷◌, ◌++◌, length, get_or, Bool, true}
 use Rattle.std.proofs.Common.{false, nat_eq, refl, ap, sym, ◌∙◌, subst, arith, inl, inr, append_assoc, length-append}
-use Rattle.std.specs.Prelude.{◌&&◌, ◌||◌, ◌⊎◌, Some, slice_get, Contains, nat_le}
+use Rattle.std.specs.Prelude.{◌&&◌, ◌||◌, ◌⊎◌, Option, Some, None, MatchOption, slice_get, Contains, nat_le}
 use Rattle.std.proofs.lemmas.Bool.Decides.{nat_tests}
 use Rattle.std.proofs.lemmas.Bool.{eqb-true, eq-eqb}
 use Rattle.std.proofs.lemmas.Nat.{pow-add, pow_pos, shl_below, shl-shr}
@@ -11,7 +11,7 @@ use Rattle.fax_bits.specs.Bits.{code_bits}
 use Rattle.fax_bits.specs.Codes.{bits_of, HasNoCode}
 use Rattle.fax_bits.specs.views.Codes.{HasCodeAhead, HasShortCodes, IsPrefixFree}
 use Rattle.fax_bits.specs.Bits.{BeginsWith}
-use Rattle.fax_bits.specs.views.Places.{begins, place_after, place_of}
+use Rattle.fax_bits.specs.code.Places.{begins, place_after, place_of}
 use Rattle.fax_bits.proofs.CodeBitsLemmas.{code_bits-add}
 use Rattle.fax_bits.proofs.FindLemmas.{code_ahead, ahead_is_short, ahead_is_first}
 use Rattle.fax_bits.proofs.MeetingLemmas.{length-code_bits}
@@ -172,13 +172,13 @@ aligned-first n window len short few =
     ∙ sym (div-div-eq-div-mul (window * 2 ^ (13 - n)) (2 ^ (13 - n)) (2 ^ (n - len)))
     ∙ ap (λ m. m / 2 ^ (n - len)) (shl-shr window (13 - n))
 
-pub aligned-lt : (n window : ℕ) → n ≤ 13 → window < 2 ^ n → window * 2 ^ (13 - n) < 2 ^ 13
+aligned-lt : (n window : ℕ) → n ≤ 13 → window < 2 ^ n → window * 2 ^ (13 - n) < 2 ^ 13
 aligned-lt n window few fits =
     let e : n + (13 - n) ≡ 13 = omega arith in
     subst (λ k. window * 2 ^ (13 - n) < 2 ^ k) e (shl_below window n (13 - n) fits)
 
 -- as the program shifts it
-pub aligned_is : (n window : ℕ) → n ≤ 13 → window < 2 ^ n → window * 2 ^ (13 - n) % 2 ^ 32 ≡ window * 2 ^ (13 - n)
+aligned_is : (n window : ℕ) → n ≤ 13 → window < 2 ^ n → window * 2 ^ (13 - n) % 2 ^ 32 ≡ window * 2 ^ (13 - n)
 aligned_is n window few fits = omega (arith, aligned-lt n window few fits)
 
 aligned_bits : (n window : ℕ) → n ≤ 13 → code_bits 13 (window * 2 ^ (13 - n)) ≡ code_bits n window ++ code_bits (13 - n) 0
@@ -209,7 +209,7 @@ module _ {M : Type 0} (table : List (CodeEntry M)) (short : HasShortCodes table)
       (aligned-first n window entry.len within few
       ∙ ahead_is_first n window entry.len entry.code within fits (short entry here).2 ahead)
 
-  pub place_past : length table ≤ place → HasNoCode table (code_bits n window)
+  place_past : length table ≤ place → HasNoCode table (code_bits n window)
   place_past past entry here ahead =
       past_begins_none table 13 (window * 2 ^ (13 - n)) (omega (arith, past, place_is)) here.0 entry here.1 here.2
       (ahead_begins entry here ahead)
@@ -221,7 +221,7 @@ module _ {M : Type 0} (table : List (CodeEntry M)) (short : HasShortCodes table)
       begins_true entry 13 (window * 2 ^ (13 - n)) (place_begins table 13 (window * 2 ^ (13 - n)) entry
       (ap (slice_get table) (sym place_is) ∙ found))
 
-  pub place_found : (entry : CodeEntry M) → slice_get table place ≡ Some entry → entry.len ≤ n
+  place_found : (entry : CodeEntry M) → slice_get table place ≡ Some entry → entry.len ≤ n
       → HasCodeAhead table (code_bits n window) entry.len entry.meaning
   place_found entry found within = record {
     entry = entry;
@@ -233,7 +233,7 @@ module _ {M : Type 0} (table : List (CodeEntry M)) (short : HasShortCodes table)
   }
 
   -- the code at the place is longer than n bits: it and a shorter one would begin the same 13 bits
-  pub place_long : (entry : CodeEntry M) → slice_get table place ≡ Some entry → n < entry.len → HasNoCode table (code_bits n window)
+  place_long : (entry : CodeEntry M) → slice_get table place ≡ Some entry → n < entry.len → HasNoCode table (code_bits n window)
   place_long entry found long other here ahead =
       let number = window * 2 ^ (13 - n) in
       let whole = code_ahead 13 number entry.len entry.code (at_place entry found).0 (at_place entry found).1 in
@@ -253,3 +253,26 @@ module _ {M : Type 0} (table : List (CodeEntry M)) (short : HasShortCodes table)
         length-code_bits entry.len entry.code,
         length-code_bits other.len other.code,
       )
+
+-- what `find` answers by the entry at the place: a code of at most n bits, or none
+pub found_by_place : {M : Type 0} (table : List (CodeEntry M)) → HasShortCodes table → IsPrefixFree table → (n window place : ℕ) → n ≤ 13
+    → window < 2 ^ n → place ≡ place_of table 13 (window * 2 ^ (13 - n) % 2 ^ 32) → (entry : CodeEntry M)
+    → slice_get table place ≡ Some entry → (found : Option (ℕ × M))
+    → MatchOption found (n < entry.len) (λ found. (entry.len ≤ n) × (found.0 ≡ entry.len) × (found.1 ≡ entry.meaning))
+    → MatchOption found (HasNoCode table (code_bits n window)) (λ found. HasCodeAhead table (code_bits n window) found.0 found.1)
+found_by_place table short free n window place few fits place_is entry at None long =
+    place_long table short free n window place few fits (place_is ∙ ap (place_of table 13) (aligned_is n window few fits)) entry at long
+found_by_place table short free n window place few fits place_is entry at (Some found) is =
+    rw (is.1, is.2)
+    (place_found table short free n window place few fits (place_is ∙ ap (place_of table 13) (aligned_is n window few fits)) entry at is.0)
+
+-- where the place is past the table, it answers none
+pub none_by_place : {M : Type 0} (table : List (CodeEntry M)) → HasShortCodes table → IsPrefixFree table → (n window place : ℕ) → n ≤ 13
+    → window < 2 ^ n → place ≡ place_of table 13 (window * 2 ^ (13 - n) % 2 ^ 32) → length table ≤ place
+    → HasNoCode table (code_bits n window)
+none_by_place table short free n window place few fits place_is past =
+    place_past table short free n window place few fits (place_is ∙ ap (place_of table 13) (aligned_is n window few fits)) past
+
+-- thirteen bits: the window with zeros after it
+pub aligned_fits : (n window : ℕ) → n ≤ 13 → window < 2 ^ n → window * 2 ^ (13 - n) % 2 ^ 32 < 2 ^ 13
+aligned_fits n window few fits = omega (arith, aligned_is n window few fits, aligned-lt n window few fits)

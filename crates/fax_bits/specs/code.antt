@@ -9,3 +9,4 @@ pub mod Pairs
 pub mod BitsAhead
 pub mod Ahead
 pub mod Codes
+pub mod Places

@@ -1,6 +1,6 @@
-//! The bits ahead of a source, by value: what a row that has no fault is read from quickly. Every
-//! function gives up, with `None`, where fewer bits are loaded than it may need, or at any doubt:
-//! then the row is read again from its source.
+//! The bits ahead of a source, by value: what a row that has no fault is read from quickly. A
+//! function may give up anywhere, with `None` or with the place as it was: then the row is read
+//! again from its source.
 ghost use Rattle.std.specs.Prelude.{◌≡◌, ◌+◌, ◌*◌, ◌^◌, ◌<◌, ◌≤◌, ◌++◌, length, take};
 ghost use Rattle.std.specs.Prelude.{replicate, true, IfSome, IfOk, IfErr};
 ghost use Rattle.fax_bits.specs.Bits.{White, code_bits};
@@ -123,7 +123,7 @@ impl<'a> Ahead<'a> {
         self.looked_up_mode()
     }
 
-    /// How many ones are next, of the bits that are loaded: more of them may follow.
+    /// So many ones are next. More of them may follow.
     #[inline(always)]
     pub fn ones(&self) -> u32
         ensures ones { take result self.now.left ≡ replicate result true }
@@ -132,8 +132,8 @@ impl<'a> Ahead<'a> {
         self.window.ones()
     }
 
-    /// Goes past the ones that are next, of the bits that are loaded, at most so many of them, and
-    /// says how many they are: what `ones` says, or `most`.
+    /// Goes past ones that are next, at most so many of them, and says how many they are. More of
+    /// them may follow.
     #[inline(always)]
     pub fn past_ones(self, most: u32) -> (Ahead<'a>, u32)
         requires { most ≤ 32 }

@@ -37,7 +37,6 @@ pub trait CodeTable {
     ghost use Rattle.fax_bits.specs.declared.codes.CodeEntry.{CodeEntry};
     ghost use Rattle.fax_bits.specs.views.Codes.{HasCodeAhead, HasShortCodes, IsPrefixFree};
     ghost use Rattle.fax_bits.specs.Codes.{HasNoCode};
-    ghost use Rattle.fax_bits.specs.views.Places.{place_of};
     ghost use Rattle.fax_bits.specs.Bits.{code_bits};
 
     /// What its codes mean.
@@ -58,30 +57,23 @@ pub trait CodeTable {
         ensures not_empty { 0 < result.len }
         ensures short { result.len ≤ LONGEST_CODE };
 
-    /// The place of the entry whose code begins thirteen bits, or `COUNT` where none does.
-    fn place(bits: u32) -> usize
-        requires { bits < 2 ^ LONGEST_CODE }
-        ensures { result ≡ place_of table LONGEST_CODE bits };
-
     /// The length in bits and the meaning of the code that begins `n` bits, 0 to 13 of them: the
-    /// lowest of `window`, the highest first. `None` where no code is the beginning of them.
+    /// lowest of `window`, the highest first. `None` where no code is the beginning of them. A table
+    /// that has no quicker way goes through its entries.
     fn find(window: u32, n: u32) -> Option<(u32, Self::Meaning)>
         requires few { n ≤ LONGEST_CODE }
         requires fits { window < 2 ^ n }
         ensures { MatchOption result (HasNoCode table (code_bits n window))
             (λ found. HasCodeAhead table (code_bits n window) found.0 found.1) }
     {
-        let place = Self::place(window << (LONGEST_CODE - n));
-        if place >= Self::COUNT {
-            return None;
+        for i in 0..Self::COUNT {
+            let entry = Self::entry(i);
+            let len = u32::from(entry.len);
+            if len <= n && window >> (n - len) == u32::from(entry.code) {
+                return Some((len, entry.meaning));
+            }
         }
-        let entry = Self::entry(place);
-        let len = u32::from(entry.len);
-        if len <= n {
-            Some((len, entry.meaning))
-        } else {
-            None
-        }
+        None
     }
 
     ghost counted: { length table ≡ COUNT };
@@ -89,6 +81,20 @@ pub trait CodeTable {
     ghost short_codes: { HasShortCodes table };
 
     ghost prefix_free: { IsPrefixFree table };
+}
+
+/// The length and the meaning of a code, where `n` bits are as many as it has.
+#[inline(always)]
+pub(crate) fn within<M: Copy>(entry: CodeEntry<M>, n: u32) -> Option<(u32, M)>
+    ensures { MatchOption result (n < entry.len)
+        (λ found. (entry.len ≤ n) × (found.0 ≡ entry.len) × (found.1 ≡ entry.meaning)) }
+{
+    let len = u32::from(entry.len);
+    if len <= n {
+        Some((len, entry.meaning))
+    } else {
+        None
+    }
 }
 
 /// How bits begin beside a code.

@@ -4,10 +4,11 @@ ghost use Rattle.fax_bits.specs.Bits.{code_bits};
 ghost use Rattle.fax_bits.specs.views.Codes.{HasCodeAhead};
 ghost use Rattle.fax_bits.specs.Codes.{Takes, IsFaultOf};
 ghost use Rattle.fax_bits.specs.Tables.{modes};
+ghost use Rattle.fax_bits.specs.code.Places.{place_of};
 ghost use Rattle.fax_bits.specs.views.Source.{KeepsEnd};
 
 use crate::BitSource;
-use crate::codes::{CodeEntry, CodeFault, CodeTable, LONGEST_CODE, read_code};
+use crate::codes::{CodeEntry, CodeFault, CodeTable, LONGEST_CODE, read_code, within};
 use crate::indexes::{MODE_PLACES, VERTICAL_MODES};
 
 /// What a code of the mode table means (T.4, section 4.2.1.3.2).
@@ -109,8 +110,13 @@ impl CodeTable for Modes {
         MODES[i]
     }
 
-    fn place(bits: u32) -> usize {
-        usize::from(MODE_PLACES[(bits >> 6) as usize])
+    fn find(window: u32, n: u32) -> Option<(u32, ModeCode)> {
+        let place = mode_place(window << (LONGEST_CODE - n));
+        if place < MODE_ENTRIES {
+            within(Self::entry(place), n)
+        } else {
+            None
+        }
     }
 
     ghost counted = { Laws.length-modes };
@@ -118,6 +124,14 @@ impl CodeTable for Modes {
     ghost short_codes = { Laws.modes_has_short_codes };
 
     ghost prefix_free = { Laws.modes_is_prefix_free };
+}
+
+/// The place of the code that begins thirteen bits, or the number of codes where none does.
+fn mode_place(bits: u32) -> usize
+    requires { bits < 2 ^ LONGEST_CODE }
+    ensures { result ≡ place_of modes LONGEST_CODE bits }
+{
+    usize::from(MODE_PLACES[(bits >> 6) as usize])
 }
 
 /// The length and the meaning of the code at a place of the table, where it begins thirteen bits.

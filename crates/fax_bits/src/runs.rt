@@ -4,9 +4,10 @@ ghost use Rattle.fax_bits.specs.Bits.{code_bits};
 ghost use Rattle.fax_bits.specs.views.Codes.{HasCodeAhead};
 ghost use Rattle.fax_bits.specs.Tables.{black_runs, run_table, white_runs};
 ghost use Rattle.fax_bits.specs.code.Codes.{run_meaning};
+ghost use Rattle.fax_bits.specs.code.Places.{place_of};
 
 use crate::Colour;
-use crate::codes::{CodeEntry, CodeTable, LONGEST_CODE};
+use crate::codes::{CodeEntry, CodeTable, LONGEST_CODE, within};
 use crate::indexes::{BLACK_LONG, BLACK_SHORT, WHITE_LONG, WHITE_SHORT};
 
 /// What a code of a run table means (T.4, section 4.1.1).
@@ -284,12 +285,12 @@ impl CodeTable for WhiteRuns {
         }
     }
 
-    fn place(bits: u32) -> usize {
-        let bits = bits as usize;
-        if bits < 64 {
-            usize::from(WHITE_LONG[bits])
+    fn find(window: u32, n: u32) -> Option<(u32, RunCode)> {
+        let place = WhiteRuns::place(window << (LONGEST_CODE - n));
+        if place < RUN_ENTRIES {
+            within(Self::entry(place), n)
         } else {
-            usize::from(WHITE_SHORT[bits >> 4])
+            None
         }
     }
 
@@ -324,12 +325,12 @@ impl CodeTable for BlackRuns {
         }
     }
 
-    fn place(bits: u32) -> usize {
-        let bits = bits as usize;
-        if bits < 512 {
-            usize::from(BLACK_LONG[bits])
+    fn find(window: u32, n: u32) -> Option<(u32, RunCode)> {
+        let place = BlackRuns::place(window << (LONGEST_CODE - n));
+        if place < RUN_ENTRIES {
+            within(Self::entry(place), n)
         } else {
-            usize::from(BLACK_SHORT[bits >> 7])
+            None
         }
     }
 
@@ -341,6 +342,19 @@ impl CodeTable for BlackRuns {
 }
 
 impl WhiteRuns {
+    /// The place of the code that begins thirteen bits, or the number of codes where none does.
+    fn place(bits: u32) -> usize
+        requires { bits < 2 ^ LONGEST_CODE }
+        ensures { result ≡ place_of white_runs LONGEST_CODE bits }
+    {
+        let bits = bits as usize;
+        if bits < 64 {
+            usize::from(WHITE_LONG[bits])
+        } else {
+            usize::from(WHITE_SHORT[bits >> 4])
+        }
+    }
+
     /// The terminating code of few bits that begins thirteen bits: its length, and how many pels it
     /// means, which is its place. `None` where no such code does.
     #[inline(always)]
@@ -378,6 +392,19 @@ impl WhiteRuns {
 }
 
 impl BlackRuns {
+    /// The place of the code that begins thirteen bits, or the number of codes where none does.
+    fn place(bits: u32) -> usize
+        requires { bits < 2 ^ LONGEST_CODE }
+        ensures { result ≡ place_of black_runs LONGEST_CODE bits }
+    {
+        let bits = bits as usize;
+        if bits < 512 {
+            usize::from(BLACK_LONG[bits])
+        } else {
+            usize::from(BLACK_SHORT[bits >> 7])
+        }
+    }
+
     /// The terminating code of few bits that begins thirteen bits: its length, and how many pels it
     /// means, which is its place. `None` where no such code does.
     #[inline(always)]

@@ -9,7 +9,7 @@ use Rattle.fax_files.specs.declared.PageForm.{PageForm}
 use Rattle.fax_files.specs.declared.Endian.{Endian}
 use Rattle.fax_files.specs.Directory.{◌>>=◌, check, Entry, entries}
 use Rattle.fax_files.specs.code.Steps.{page_in_steps, needed_scalar, scalar_or}
-use Rattle.fax_files.specs.Page.{is_between, page}
+use Rattle.fax_files.specs.Page.{is_between}
 use Rattle.fax_files.specs.code.Steps.{page_size, pel_format, strip_rows, page_coding}
 use Rattle.fax_files.specs.code.Steps.{strip_field}
 use Rattle.fax_files.specs.views.Page.{strip_count}
@@ -19,26 +19,27 @@ use Rattle.fax_files.proofs.PageLemmas.{strip_begins_before}
 use Rattle.fax_files.proofs.StepLemmas.{page_is_in_steps}
 use Rattle.fax_files.specs.declared.tags.TheConstants as Tags
 
-checked : {A : Type 0} (test : Bool) (fault : FileFault) (next : Unit {0} → Result A FileFault) (y : A) → (check test fault >>= next) ≡ Ok y
+pub checked : {A : Type 0} (test : Bool) (fault : FileFault) (next : Unit {0} → Result A FileFault) (y : A) → (check test fault >>= next) ≡ Ok y
     → (test ≡ true) × (next tt ≡ Ok y)
 checked true fault next y e = (refl, e)
 checked false fault next y e = absurd cc
 
-first_holds : (a b : Bool) → (a && b) ≡ true → a ≡ true
+pub first_holds : (a b : Bool) → (a && b) ≡ true → a ≡ true
 first_holds true b e = refl
 first_holds false b e = absurd cc
 
-second_holds : (a b : Bool) → (a && b) ≡ true → b ≡ true
+pub second_holds : (a b : Bool) → (a && b) ≡ true → b ≡ true
 second_holds true b e = e
 second_holds false b e = absurd cc
 
 -- a page has rows, and its size is within the limits
-record IsSize (size : ℕ × ℕ) : Type 0 where
-  width : size.0 ≤ 65535
-  some_rows : 1 ≤ size.1
-  rows : size.1 ≤ 1000000
+pub record IsSize (size : ℕ × ℕ) : Type 0 where
+  pub some_width : 1 ≤ size.0
+  pub width : size.0 ≤ 65535
+  pub some_rows : 1 ≤ size.1
+  pub rows : size.1 ≤ 1000000
 
-within_limits : (endian : Endian) (file : List ℕ) (fields : List Entry) (size : ℕ × ℕ)
+pub within_limits : (endian : Endian) (file : List ℕ) (fields : List Entry) (size : ℕ × ℕ)
     → page_size endian file fields ≡ Ok size → IsSize size
 unfolding page_size
 within_limits endian file fields size e =
@@ -51,18 +52,24 @@ within_limits endian file fields size e =
     (λ _. needed_scalar endian file fields Tags.IMAGE_LENGTH >>= with_rows width.0) size width.2 in
     let rows = bind_ok (needed_scalar endian file fields Tags.IMAGE_LENGTH) (with_rows width.0) size tested.1 in
     let within = checked (is_between 1 1000000 rows.0) (OutOfLimits Tags.IMAGE_LENGTH) (λ _. Ok (width.0, rows.0)) size rows.2 in
+    let some : nat_le 1 width.0 ≡ true = first_holds (nat_le 1 width.0) (nat_le width.0 65535) tested.0 in
     let narrow : nat_le width.0 65535 ≡ true = second_holds (nat_le 1 width.0) (nat_le width.0 65535) tested.0 in
     let low : nat_le 1 rows.0 ≡ true = first_holds (nat_le 1 rows.0) (nat_le rows.0 1000000) within.0 in
     let high : nat_le rows.0 1000000 ≡ true = second_holds (nat_le 1 rows.0) (nat_le rows.0 1000000) within.0 in
     let found : IsSize (width.0, rows.0) =
-    record { width = grind (arith, nat_tests); some_rows = grind (arith, nat_tests); rows = grind (arith, nat_tests) } in
+    record {
+      some_width = grind (arith, nat_tests);
+      width = grind (arith, nat_tests);
+      some_rows = grind (arith, nat_tests);
+      rows = grind (arith, nat_tests);
+    } in
     subst IsSize (ok_injective (width.0, rows.0) size within.1) found
 
 not_zero : (n : ℕ) → not (n == 0) ≡ true → n ≢ 0
 not_zero n e = λ none. let test : (n == 0) ≡ true = grind (arith, nat_tests) in cc
 
 -- its strips have some of them
-some_in_strip : (endian : Endian) (file : List ℕ) (fields : List Entry) (rows in_strip : ℕ) → 1 ≤ rows
+pub some_in_strip : (endian : Endian) (file : List ℕ) (fields : List Entry) (rows in_strip : ℕ) → 1 ≤ rows
     → strip_rows endian file fields rows ≡ Ok in_strip → 1 ≤ in_strip
 unfolding strip_rows
 some_in_strip endian file fields rows in_strip some e =
@@ -93,6 +100,7 @@ forms_are_whole endian file q form page_is =
     let limits = within_limits endian file fields size.0 size.1 in
     let some = some_in_strip endian file fields size.0.1 rows.0 limits.some_rows rows.1 in
     let found : IsWholeForm (form_of endian file fields size.0 pels.0 rows.0 coding.0) = record {
+      some_width = limits.some_width;
       width = limits.width;
       some_rows = limits.some_rows;
       rows = limits.rows;

@@ -9,10 +9,15 @@ pub fn files_have_one_chain()
     ensures { Laws.FilesHaveOneChain }
 {}
 
-/// The rows of a page that is not refused lie in its strips, each of which holds some (TIFF 6.0,
-/// RowsPerStrip).
+/// The size of a page that is not refused is within the limits, and its rows lie in its strips,
+/// each of which holds some (TIFF 6.0, RowsPerStrip).
 pub fn forms_are_whole()
     ensures { Laws.FormsAreWhole }
+{}
+
+/// The form of a page that is not refused is within all limits, in a file of bytes.
+pub fn forms_are_within_limits()
+    ensures { Laws.FormsAreWithinLimits }
 {}
 
 /// A file with one more page at its end keeps what stood in it, but for the link to the page, and

@@ -106,15 +106,14 @@ impl<'a> Tiff<'a> {
     }
 
     /// The bytes of strip `s`, from 0, of a page whose directory and form these are, or
-    /// `StripOutside` where they do not lie in the file. It is for callers that want one strip:
-    /// `Strips` gives one after another.
+    /// `StripOutside` where they do not lie in the directory's file. It is for callers that want
+    /// one strip: `Strips` gives one after another.
     pub fn strip(
         &self,
         form: &PageForm,
         directory: &Directory<'a>,
         s: u32,
     ) -> Result<&'a [u8], FileFault>
-        requires file { directory.now.file ≡ self.now.file }
         requires form { form_of directory.now ≡ Ok form.now }
         requires strip { s < form.now.strips }
         ensures bytes { IfOk result (λ bytes. bytes_of directory.now s ≡ Some bytes.now) }

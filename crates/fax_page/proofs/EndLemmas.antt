@@ -43,7 +43,7 @@ eol_taken b rest (inl eol) = eol
 eol_taken b rest (inr none) = absurd (cc (none.0))
 
 -- an EOL of a return to control is taken in one way
-same_return_eol : (coding : Coding) (b rest remaining : List Bool) → IsReturnEol coding b rest → IsReturnEol coding b remaining
+pub same_return_eol : (coding : Coding) (b rest remaining : List Bool) → IsReturnEol coding b rest → IsReturnEol coding b remaining
     → rest ≡ remaining
 same_return_eol Mh b rest remaining first second = same_eol b rest remaining first second
 same_return_eol Mr b rest remaining first second =

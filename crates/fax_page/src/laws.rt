@@ -23,6 +23,13 @@ pub fn strips_are_read_in_one_way()
     lines_are_read_in_one_way();
 }
 
+/// A strip is noted in one way: of any bits that have all its rows there is one set of notes.
+pub fn strips_are_noted_in_one_way()
+    ensures { Law.StripsAreNotedInOneWay }
+{
+    lines_are_read_in_one_way();
+}
+
 /// An aligned EOL ends on a byte boundary of its strip, after as little fill as does so (T.4,
 /// section 4.1.3; TIFF 6.0, T4Options).
 pub fn aligned_eols_end_on_bytes()

@@ -1,5 +1,5 @@
 //! A reader of strips.
-ghost use Rattle.std.specs.Prelude.{◌≡◌, ◌*◌, ◌<◌, ◌≤◌, length, IfOk};
+ghost use Rattle.std.specs.Prelude.{◌≡◌, ◌*◌, ◌<◌, ◌≤◌, length, IfOk, IfSome};
 ghost use Rattle.std.specs.Borrow.{sem};
 
 use crate::lines::read_line;
@@ -52,7 +52,7 @@ impl<'a> StripReader<'a> {
     ghost use Rattle.fax_page.specs.views.Strip.{IsStripForm};
     ghost use Rattle.fax_page.specs.views.Reader.{strip_beginning, restarted, restarted_at};
     ghost use Rattle.fax_page.specs.views.Reader.{IsAdvance};
-    ghost use Rattle.fax_page.specs.views.NextRow.{EndsAs, IsNextRow};
+    ghost use Rattle.fax_page.specs.views.NextRow.{EndsAs, IsDue, IsNextRow};
 
     /// Before the first row of a strip in at most 4,294,967,295 bytes. It takes all the memory that
     /// the reading of strips of this width needs.
@@ -176,6 +176,7 @@ impl<'a> StripReader<'a> {
     /// Why the row that is due could not be read. Every later call answers the same, until
     /// `restart` or `restart_at`.
     pub fn next_row(&mut self) -> Result<Option<&Row>, StripFault>
+        ensures row { IfOk result (λ lent. IfSome lent (λ row. IsDue self.old row.now)) }
         ensures* next { sem 𝓛 (EndsAs self.entry (IsNextRow self.old result)) }
     {
         if self.advance()? {

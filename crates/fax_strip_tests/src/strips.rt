@@ -1,5 +1,6 @@
 //! Strips whose bits were written by hand from T.4 and T.6.
 mod caller;
+mod first_row;
 mod noted;
 mod written;
 

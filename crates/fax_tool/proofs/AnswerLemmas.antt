@@ -1,16 +1,22 @@
 -- The answers of words exclude one another.
-use Rattle.std.proofs.Common.{◌≡◌, ◌∙◌, ap, codes, inl, inr, refl, subst, true≢false, sym, List, Option, Some, None}
-use Rattle.std.specs.Prelude.{IfSome, false}
+use mathlib.Core.HLevel.{Π_prop, is_prop→PathP, ⊥_prop}
+use native.Mathlib.Bridge.{le_prop}
+use Rattle.std.proofs.Common.{◌≡◌, ◌∙◌, ℕ, Bool, ap, codes, inl, inr, refl, subst, true≢false, sym, List, Option, Some, None}
+use Rattle.std.specs.Prelude.{IfSome, false, true, ◌⊎◌, ◌≢◌, ◌<◌}
+use Rattle.std.specs.Option.{ForSome}
 use Rattle.std.specs.Str.{bytes_eq}
 use Rattle.std.proofs.lemmas.Slice.Eq.{bytes_eq-Decides}
 use Rattle.fax_tool.specs.Grammar.{AreOfCommand, Text, Use, text_in}
 use Rattle.fax_tool.proofs.SpellLemmas.{command_is_read}
 use Rattle.fax_walk.specs.Pages.{IsCursor, IsLongCursor, LongPlace}
+use Rattle.fax_tool.specs.Text.{Cursor}
 use Rattle.fax_walk.specs.declared.options.Options.{Options}
 use Rattle.fax_walk.specs.declared.options.Target.TheVariants.{Mmr, Pbm}
 use Rattle.fax_tool.specs.Job.{AreOptions, BeginsAt, BeginsInside, HasNoCursor, HasNoTarget, IsCommand, IsFault, IsJob, IsNoCursor}
-use Rattle.fax_tool.specs.Job.{Given, HasCursors, IsNoLongCursor}
-use Rattle.fax_tool.specs.laws.Words.{WordsHaveOneAnswer}
+use Rattle.fax_tool.specs.Job.{Given, HasCursors, IsNoLongCursor, IsPartOfRows}
+use Rattle.fax_tool.specs.Program.{file_name}
+use Rattle.fax_tool.specs.laws.Words.{AskTheSame, WordsHaveOneAnswer}
+use Rattle.fax_walk.specs.laws.Cursors.{TextsNameOne}
 use Rattle.fax_tool.specs.declared.words.Command.{Command}
 use Rattle.fax_tool.specs.declared.words.Command.TheVariants.{Check, Convert, List as Forms, Rows}
 use Rattle.fax_tool.specs.declared.words.Job.{Job}
@@ -103,8 +109,120 @@ job_or_no_cursor words job in_range is none =
     command_or_no_cursor is.name (text_in is.uses) job.command in_range is.command
     (subst (λ (c : Text × List Use). HasNoCursor c.0 (text_in c.1)) same none.command)
 
-pub words_have_one_answer : WordsHaveOneAnswer
-words_have_one_answer words = record {
+-- two parts that begin with the same text begin at the same place
+one_cursor : TextsNameOne → (o : Option Text) (part other : Part) → IsCursor part.cursor → IsCursor other.cursor → BeginsAt o part
+    → BeginsAt o other → (part.cursor ≡ other.cursor) × (part.from ≡ other.from)
+one_cursor names None part other in_range in_range' first second = (first.0 ∙ sym second.0, first.1 ∙ sym second.1)
+one_cursor names (Some text) part other in_range in_range' first second =
+    (names.cursors part.cursor other.cursor in_range in_range' (sym first.0 ∙ second.0), first.1 ∙ sym second.1)
+
+one_place : TextsNameOne → (o : Option Text) (part other : Part) → IfSome part.from IsLongCursor → IfSome other.from IsLongCursor
+    → BeginsInside o part → BeginsInside o other → (part.cursor ≡ other.cursor) × (part.from ≡ other.from)
+one_place names None part other in_range in_range' first second = absurd first
+one_place names (Some text) part other in_range in_range' (place, is, at, from) (place', is', at', from') =
+    let same = names.places place place' (subst (λ (o : Option LongPlace). IfSome o IsLongCursor) from in_range)
+    (subst (λ (o : Option LongPlace). IfSome o IsLongCursor) from' in_range') (sym is ∙ is') in
+    (at ∙ ap (λ (p : LongPlace). p.at) same ∙ sym at', from ∙ ap (λ (p : LongPlace). Some p) same ∙ sym from')
+
+not_both : TextsNameOne → (o : Option Text) (part other : Part) → BeginsAt o part → BeginsInside o other → ⊥
+not_both names None part other first second = second
+not_both names (Some text) part other first (place, is, at, from) = names.apart part.cursor place (sym first.0 ∙ is)
+
+abbrev part_of : Cursor → Option ℕ → Bool → Option LongPlace → Part
+part_of at max long from = record { cursor = at; max = max; long = long; from = from }
+
+same_part : (part other : Part) → (part.cursor ≡ other.cursor) × (part.from ≡ other.from) → part.max ≡ other.max → part.long ≡ other.long
+    → part ≡ other
+same_part part other begins max long =
+    ap (λ at. part_of at part.max part.long part.from) begins.0 ∙ ap (λ most. part_of other.cursor most part.long part.from) max
+    ∙ ap (λ flag. part_of other.cursor other.max flag part.from) long ∙ ap (part_of other.cursor other.max other.long) begins.1
+
+one_part : TextsNameOne → (given : Given) (part other : Part) → HasCursors (Rows part) → HasCursors (Rows other) → IsPartOfRows given part
+    → IsPartOfRows given other → part ≡ other
+one_part names given part other in_range in_range' first second =
+    same_part part other (both first.begins second.begins) (first.max ∙ sym second.max) (first.long ∙ sym second.long)
+  where
+    both : BeginsAt (given (codes "cursor")) part ⊎ BeginsInside (given (codes "cursor")) part
+        → BeginsAt (given (codes "cursor")) other ⊎ BeginsInside (given (codes "cursor")) other
+        → (part.cursor ≡ other.cursor) × (part.from ≡ other.from)
+    both (inl at) (inl at') = one_cursor names (given (codes "cursor")) part other in_range.0 in_range'.0 at at'
+    both (inl at) (inr inside) = absurd (not_both names (given (codes "cursor")) part other at inside)
+    both (inr inside) (inl at) = absurd (not_both names (given (codes "cursor")) other part at inside)
+    both (inr inside) (inr inside') = one_place names (given (codes "cursor")) part other in_range.1 in_range'.1 inside inside'
+
+one_options : (given : Given) (options other : Options) → AreOptions given options → AreOptions given other → options ≡ other
+one_options given options other first second =
+    let target : options.target ≡ other.target = let both = sym first.target ∙ second.target in cc both in
+    let order = first.order ∙ sym second.order in
+    let k = first.k ∙ sym second.k in
+    let strip = first.strip ∙ sym second.strip in
+    let aligned = first.aligned ∙ sym second.aligned in
+    λ i. record {
+      target = target i;
+      order = order i;
+      k = k i;
+      strip = strip i;
+      aligned = aligned i;
+      some_k = is_prop→PathP (λ j. 0 < k j) (λ j. le_prop) options.some_k other.some_k i;
+      some_strip = is_prop→PathP (λ j. ForSome (strip j) (λ rows. 0 < rows)) (λ j. Π_prop (λ rows. Π_prop (λ is. le_prop)))
+          options.some_strip other.some_strip i;
+      aligned_is_no_pbm = is_prop→PathP (λ j. aligned j ≡ true → target j ≢ Pbm) (λ j. Π_prop (λ is. Π_prop (λ is_pbm. ⊥_prop)))
+          options.aligned_is_no_pbm other.aligned_is_no_pbm i;
+      aligned_is_no_mmr = is_prop→PathP (λ j. aligned j ≡ true → target j ≢ Mmr) (λ j. Π_prop (λ is. Π_prop (λ is_mmr. ⊥_prop)))
+          options.aligned_is_no_mmr other.aligned_is_no_mmr i;
+    }
+
+-- a command's name and what is given after it give one command
+one_command : TextsNameOne → (name : Text) (given : Given) (command other : Command) → HasCursors command → HasCursors other
+    → IsCommand name given command → IsCommand name given other → command ≡ other
+one_command names name given (Forms part) (Forms other) in_range in_range' first second =
+    ap (λ (p : Part). Forms p) (same_part part other
+    (one_cursor names (given (codes "cursor")) part other in_range in_range' first.1.begins second.1.begins)
+    (first.1.max ∙ sym second.1.max) (first.1.long ∙ sym second.1.long))
+one_command names name given (Forms part) (Rows other) in_range in_range' first second =
+    absurd (one_name name (codes "list") (codes "rows") first.0 second.0 refl)
+one_command names name given (Forms part) (Convert other) in_range in_range' first second =
+    absurd (one_name name (codes "list") (codes "convert") first.0 second.0 refl)
+one_command names name given (Forms part) Check in_range in_range' first second =
+    absurd (one_name name (codes "list") (codes "check") first.0 second refl)
+one_command names name given (Rows part) (Forms other) in_range in_range' first second =
+    absurd (one_name name (codes "rows") (codes "list") first.0 second.0 refl)
+one_command names name given (Rows part) (Rows other) in_range in_range' first second =
+    ap (λ (p : Part). Rows p) (one_part names given part other in_range in_range' first.1 second.1)
+one_command names name given (Rows part) (Convert other) in_range in_range' first second =
+    absurd (one_name name (codes "rows") (codes "convert") first.0 second.0 refl)
+one_command names name given (Rows part) Check in_range in_range' first second =
+    absurd (one_name name (codes "rows") (codes "check") first.0 second refl)
+one_command names name given (Convert options) (Forms other) in_range in_range' first second =
+    absurd (one_name name (codes "convert") (codes "list") first.0 second.0 refl)
+one_command names name given (Convert options) (Rows other) in_range in_range' first second =
+    absurd (one_name name (codes "convert") (codes "rows") first.0 second.0 refl)
+one_command names name given (Convert options) (Convert other) in_range in_range' first second =
+    ap (λ (o : Options). Convert o) (one_options given options other first.1 second.1)
+one_command names name given (Convert options) Check in_range in_range' first second =
+    absurd (one_name name (codes "convert") (codes "check") first.0 second refl)
+one_command names name given Check (Forms other) in_range in_range' first second =
+    absurd (one_name name (codes "check") (codes "list") first second.0 refl)
+one_command names name given Check (Rows other) in_range in_range' first second =
+    absurd (one_name name (codes "check") (codes "rows") first second.0 refl)
+one_command names name given Check (Convert other) in_range in_range' first second =
+    absurd (one_name name (codes "check") (codes "convert") first second.0 refl)
+one_command names name given Check Check in_range in_range' first second = refl
+
+one_job : TextsNameOne → (words : List Text) (job other : Job) → HasCursors job.command → HasCursors other.command → IsJob words job
+    → IsJob words other → AskTheSame job other
+one_job names words job other in_range in_range' first second =
+    let same = same_uses words second.name first.name second.uses first.uses second.named first.named in
+    let command = subst (λ (c : Text × List Use). IsCommand c.0 (text_in c.1) other.command) same second.command in
+    let file = subst (λ (c : Text × List Use). file_name other ≡ text_in c.1 (codes "FILE")) same second.file in
+    record {
+      command = one_command names first.name (text_in first.uses) job.command other.command in_range in_range' first.command command;
+      file = first.file ∙ sym file;
+    }
+
+pub words_have_one_answer : TextsNameOne → WordsHaveOneAnswer
+words_have_one_answer names words = record {
+  one_job = one_job names words;
   job_or_usage = job_or_usage words;
   job_or_no_cursor = job_or_no_cursor words;
   usage_or_no_cursor = usage_or_no_cursor words;

@@ -27,3 +27,4 @@ pub mod CommandLemmas
 pub mod WholeLemmas
 pub mod ReportLemmas
 pub mod RunLemmas
+mod TextLawLemmas

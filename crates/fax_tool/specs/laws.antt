@@ -1,3 +1,4 @@
 pub mod Runs
+pub mod Texts
 pub mod Words
 pub mod Examples

@@ -114,6 +114,7 @@ impl<R: io::Read> FromRead<R> {
     /// The reader's bytes from here on, with counts of 0.
     pub fn new(reader: R) -> Self
         ensures reader { reader_of result ≡ reader }
+        ensures left { ⟦<FromRead<R> as Source>⟧.left result ≡ R.remaining reader }
         ensures taken { ⟦<FromRead<R> as Source>⟧.taken result ≡ 0 }
         ensures counts { ⟦<FromRead<R> as Source>⟧.counts result ≡ no_faults }
     {
@@ -126,7 +127,8 @@ impl<R: io::Read> FromRead<R> {
 
     /// The reader, after the bytes that were taken.
     pub fn into_inner(self) -> R
-        ensures { result ≡ reader_of self }
+        ensures reader { result ≡ reader_of self }
+        ensures left { R.remaining result ≡ ⟦<FromRead<R> as Source>⟧.left self }
     {
         let FromRead { reader, .. } = self;
         reader
@@ -164,6 +166,7 @@ impl<W: io::Write> ToWrite<W> {
     /// The writer, with counts of 0.
     pub fn new(writer: W) -> Self
         ensures writer { writer_of result ≡ writer }
+        ensures written { ⟦<ToWrite<W> as Sink>⟧.written result ≡ W.contents writer }
         ensures counts { ⟦<ToWrite<W> as Sink>⟧.counts result ≡ no_faults }
     {
         ToWrite {
@@ -174,7 +177,8 @@ impl<W: io::Write> ToWrite<W> {
 
     /// The writer, with what was given.
     pub fn into_inner(self) -> W
-        ensures { result ≡ writer_of self }
+        ensures writer { result ≡ writer_of self }
+        ensures written { W.contents result ≡ ⟦<ToWrite<W> as Sink>⟧.written self }
     {
         let ToWrite { writer, .. } = self;
         writer

@@ -2,6 +2,7 @@
 //! files stand as data in the folder `tests` of the repository.
 
 mod caller;
+mod opening;
 mod page;
 mod streams;
 mod words;

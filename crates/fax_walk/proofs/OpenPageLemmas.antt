@@ -330,7 +330,7 @@ module _ (old now new : PageState) (items : List RowItem) (skips : HasSkipped ol
   }
 
   pub row_given : IsFilePage new.page new.chain new.directory new.form → row_of now < now.form.rows → new.first < row_of new
-      → new.read < 2 ^ 64 → GivesRow old new
+      → new.read < 2 ^ 53 → GivesRow old new
   row_given its due past few =
       let count : length items ≡ skipped old = omega (arith, past, skips.few, skips.rows, reads.next_row, same_on.first) in
       let item_is : its_item ≡ item_of old (row_of old + skipped old) new =

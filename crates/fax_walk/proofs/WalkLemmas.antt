@@ -505,7 +505,7 @@ open_or_none _ _ given cursor None from = tt
 open_or_none _ _ given cursor (Some page) from = from.0
 
 pub few_more : (file : List ℕ) (begun : Begun) (given : ℕ) (cursor : Cursor) (page : Option PageState)
-    → ShowsLast file begun (given + 1) cursor page → given + 1 < 2 ^ 64
+    → ShowsLast file begun (given + 1) cursor page → given + 1 < 2 ^ 53
 few_more _ _ given cursor None shows = absurd (omega (arith, shows))
 few_more _ _ given cursor (Some page) shows = shows.few
 

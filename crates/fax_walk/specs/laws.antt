@@ -2,5 +2,8 @@ pub mod InOrder
 pub mod Tails
 pub mod Cursors
 pub mod Left
+pub mod Printed
 pub mod Forms
 pub mod Written
+pub mod ReadBack
+pub mod Answers

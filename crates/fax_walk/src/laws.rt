@@ -2,10 +2,13 @@
 //! contract.
 ghost use Rattle.std.specs.Prelude.{List};
 ghost use Rattle.fax_walk.specs.Pages.{FormItem};
+ghost use Rattle.fax_walk.specs.laws.Answers as AnswerLaws;
 ghost use Rattle.fax_walk.specs.laws.Cursors as CursorLaws;
 ghost use Rattle.fax_walk.specs.laws.Forms.{AreFormsLeft};
 ghost use Rattle.fax_walk.specs.laws.Tails as PageLaws;
 ghost use Rattle.fax_walk.specs.laws.Left.{IsLeft};
+ghost use Rattle.fax_walk.specs.laws.Printed as PrintedLaws;
+ghost use Rattle.fax_walk.specs.laws.ReadBack as ReadBackLaws;
 ghost use Rattle.fax_walk.specs.Rows.{RowItem};
 ghost use Rattle.fax_walk.specs.laws.Written as WrittenLaws;
 ghost use Rattle.fax_walk.specs.declared.end.End.{End};
@@ -30,6 +33,37 @@ pub fn coded_files_are_walked()
 {
     fax_page::laws::coded_strips_are_read_back();
     written_files_are_walked();
+}
+
+/// What bytes are converted to is read back as their pages: a PBM has their images, and a TIFF file
+/// their rows and the forms that were asked for, and ends properly (the netpbm format, P4; TIFF
+/// 6.0). A TIFF file that is converted to another has the same rows at the same places.
+pub fn conversions_are_read_back()
+    ensures back { ReadBackLaws.ConversionsAreReadBack }
+    ensures same { ReadBackLaws.ConversionsKeepItems }
+{
+    fax_bits::laws::bits_stand_by_place();
+    fax_page::laws::lines_are_read_in_one_way();
+    fax_files::laws::files_have_one_chain();
+    fax_files::laws::forms_are_whole();
+    fax_files::laws::forms_are_within_limits();
+    fax_files::laws::written_images_are_read();
+    coded_files_are_walked();
+    tails_go_on();
+}
+
+/// Bytes are converted to one output, or refused for one fault, and never both; and a file has one
+/// report.
+pub fn answers_are_one()
+    ensures conversions { AnswerLaws.BytesAreConvertedInOneWay }
+    ensures reports { AnswerLaws.FilesHaveOneReport }
+{
+    fax_page::laws::strips_are_read_in_one_way();
+    fax_page::laws::strips_are_noted_in_one_way();
+    fax_files::laws::files_have_one_chain();
+    fax_files::laws::images_are_read_in_one_way();
+    form_tails_are_one();
+    tails_go_on();
 }
 
 /// Each walk has rows that are due, and an end, also where it has handed out some.
@@ -103,6 +137,29 @@ pub fn tails_go_on()
     fax_page::laws::lines_are_read_in_one_way();
     fax_files::laws::files_have_one_chain();
     fax_files::laws::forms_are_whole();
+}
+
+/// A walk from what was printed hands out just the rest of a file's items, each once. Each file has
+/// items and an end, and one list of them only, and they ascend. A walk that begins with the first
+/// cursor, or with the cursor or the place inside a strip that was printed after item number n,
+/// hands out what follows that item and the same end, and prints what such a walk prints. Before
+/// its first row it reads again only the rows before its beginning in its strip.
+pub fn walks_hand_out_the_rest()
+    ensures one { PrintedLaws.FilesHaveOneList }
+    ensures ends { PrintedLaws.ItemsEndInTheFile }
+    ensures ascend { PrintedLaws.ItemsAscend }
+    ensures rest { PrintedLaws.WalksHandOutTheRest }
+    ensures begin { PrintedLaws.WalksBeginThere }
+    ensures next { PrintedLaws.WalksGoOn }
+    ensures good { PrintedLaws.EndsAreForGood }
+    ensures left { PrintedLaws.TheRestIsLeft }
+    ensures cursor { PrintedLaws.CursorsArePrinted }
+    ensures place { PrintedLaws.PlacesArePrinted }
+    ensures read { PrintedLaws.RowsAreReadOnce }
+{
+    fax_files::laws::files_have_one_chain();
+    beginnings_have_one_tail();
+    tails_go_on();
 }
 
 /// The cursor after an item of a file of at most 4,294,967,296 bytes has numbers of 32 bits, and so

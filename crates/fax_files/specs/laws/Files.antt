@@ -14,7 +14,7 @@ use Rattle.fax_files.specs.declared.PageForm.{PageForm}
 use Rattle.fax_files.specs.declared.Endian.{Endian}
 use Rattle.fax_files.specs.Page.{strip_bytes, strip_form, page}
 use Rattle.std.specs.Prelude.{◌≡◌, ℕ, ◌+◌, ◌*◌, ◌≤◌, ◌<◌, ◌⊎◌, false, List, [], ◌∷◌, length, take}
-use Rattle.std.specs.Prelude.{drop, slice_index_or, Option, Some, None, Ok, IsTrue}
+use Rattle.std.specs.Prelude.{drop, slice_index_or, Option, Some, None, Ok, IsTrue, All}
 use Rattle.std.specs.List.{AllZip}
 use Rattle.fax_files.specs.declared.FileFault.{FileFault}
 use Rattle.fax_files.specs.declared.Endian.TheVariants.{Little}
@@ -153,6 +153,7 @@ FilesHaveOneChain = (head : Header) (file : List ℕ) → HasOneChain head file
 -- the size of a page is within the limits, and its rows lie in its strips, each of which holds
 -- some, and each but the last as many as the others (TIFF 6.0, RowsPerStrip)
 pub record IsWholeForm (form : PageForm) : Type 0 where
+  pub some_width : 1 ≤ form.width
   pub width : form.width ≤ 65535
   pub some_rows : 1 ≤ form.rows
   pub rows : form.rows ≤ 1000000
@@ -164,6 +165,11 @@ pub record IsWholeForm (form : PageForm) : Type 0 where
 abbrev pub FormsAreWhole : Type 0
 FormsAreWhole = (endian : Endian) (file : List ℕ) (q : ℕ) (form : PageForm)
     → page endian file q ≡ Ok form → IsWholeForm form
+
+-- in a file of bytes it is within all limits of a page's form
+abbrev pub FormsAreWithinLimits : Type 0
+FormsAreWithinLimits = (endian : Endian) (file : List ℕ) (q : ℕ) (form : PageForm)
+    → All (λ byte. byte < 256) file → page endian file q ≡ Ok form → IsPageForm form
 
 -- these pages of so many were added, and no more
 abbrev pub HasAdded : ℕ → List WrittenPage → Writing → Type 0

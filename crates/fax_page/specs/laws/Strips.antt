@@ -9,7 +9,8 @@ use Rattle.fax_bits.specs.Bits.{bits}
 use Rattle.fax_bits.specs.laws.Codes.{IsReadInOneWay, IsOne}
 use Rattle.fax_page.specs.declared.StripFault.{StripFault}
 use Rattle.fax_page.specs.views.Strip.{IsStripForm}
-use Rattle.fax_page.specs.Strip.{IsStrip}
+use Rattle.fax_page.specs.Strip.{IsNotedAs, IsStrip}
+use Rattle.fax_page.specs.declared.notes.StripNotes.{StripNotes}
 use Rattle.fax_page.specs.Strip.{end_of_line, fill_zeros, coded_bits, coded_strip}
 
 -- the rows are as many and as wide as the form says
@@ -26,6 +27,12 @@ ReadsLinesOneWay form i reference =
 -- bits are read in one way as a strip of the form: one list of rows and one end
 abbrev pub ReadsStripsOneWay : StripForm → Type 0
 ReadsStripsOneWay form = (b : List Bool) → IsOne (IsStrip form b)
+
+-- a strip of which all rows can be read has one set of notes
+abbrev pub StripsAreNotedInOneWay : Type 0
+StripsAreNotedInOneWay =
+    (form : StripForm) (b : List Bool) (rows others : List (List Colour)) (notes other : StripNotes)
+    → IsNotedAs form b rows notes → IsNotedAs form b others other → notes ≡ other
 
 -- after so many bits and this much fill an EOL ends on a byte boundary
 -- (T.4, section 4.1.3; TIFF 6.0, T4Options)

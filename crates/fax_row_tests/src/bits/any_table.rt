@@ -30,18 +30,6 @@ impl CodeTable for Trits {
         }
     }
 
-    fn place(bits: u32) -> usize {
-        if bits / 4096 == 0 {
-            0
-        } else if bits / 2048 == 2 {
-            1
-        } else if bits / 2048 == 3 {
-            2
-        } else {
-            3
-        }
-    }
-
     ghost counted = { refl };
 
     ghost short_codes = { Spec.trits_has_short_codes };

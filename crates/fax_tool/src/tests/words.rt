@@ -3,9 +3,7 @@
 ghost use Rattle.std.specs.Prelude.{◌<◌};
 ghost use Rattle.std.specs.Option.{ForSome};
 
-use super::ONE_MH_PAGE;
 use super::caller::TO_PBM;
-use crate::laws::words_are_run;
 use crate::{
     Command, Cursor, FillOrder, FromRead, Options, Part, Target, ToWrite, WordsFault, parse_words,
 };
@@ -278,19 +276,4 @@ fn says_a_fault(rt: HostRuntime) {
         err.into_inner().as_slice(),
         b"fault cursor: NotACursor\n".as_slice()
     );
-}
-
-#[test]
-fn runs_words(rt: HostRuntime) {
-    let mut input = FromRead::new(ONE_MH_PAGE.as_slice());
-    let mut out = ToWrite::new(Vec::new(rt.alloc()));
-    let mut err = ToWrite::new(Vec::new(rt.alloc()));
-    let words = ["faxpages", "rows", "--max=1"];
-    let status = words_are_run(rt.alloc(), &words, &mut input, &mut out, &mut err);
-    assert_eq!(rt; status, 0);
-    assert_eq!(rt;
-        out.into_inner().as_slice(),
-        b"row 0 0 3 2 3\nnext 1:0:1\n".as_slice()
-    );
-    assert!(rt; err.into_inner().is_empty());
 }

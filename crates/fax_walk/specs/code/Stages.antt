@@ -227,7 +227,7 @@ pub record GivesRow (old new : PageState) : Type 0 where
   pub after : place_of new ≡ place_after old.form item
   pub next_row : row_of new ≡ row_of old + skipped old + 1
   pub read : new.read ≡ old.read + skipped old + 1
-  pub few : new.read < 2 ^ 64
+  pub few : new.read < 2 ^ 53
 
 -- the rows end before the next one that is handed out: some before it were read
 pub record GivesNone (old : PageState) (end : End) (new : PageState) : Type 0 where

@@ -112,7 +112,7 @@ pub record IsShown (file : List ℕ) (begun : Begun) (given : ℕ) (cursor : Cur
     (page : PageState) : Type 0 where
   pub last : IsAfterItem file begun given cursor (place_of page)
   pub pels : last.item.pels ≡ page.shown
-  pub few : given < 2 ^ 64
+  pub few : given < 2 ^ 53
 
 abbrev pub ShowsLast : List ℕ → Begun → ℕ → Cursor → Option PageState → Type 0
 ShowsLast file begun given cursor None = given ≡ 0
@@ -155,8 +155,9 @@ answer_of Outside = Err CursorOutside
 -- what a call that goes to the next row answers, and what it leaves
 abbrev pub IsAdvance : WalkView → Result Bool WalkFault → WalkView → Type 0
 IsAdvance old (Ok true) new =
-    (old.told ≡ None) × (old.given + 1 < 2 ^ 64) × (new ≡ record old { given = old.given + 1 })
+    (old.told ≡ None) × (old.given + 1 < 2 ^ 53) × (new ≡ record old { given = old.given + 1 })
 IsAdvance old (Ok false) new = HasEndedAs old Proper new
 IsAdvance old (Err (AtRow page row cause)) new = HasEndedAs old (Fault page row cause) new
 IsAdvance old (Err CursorOutside) new = HasEndedAs old Outside new
-IsAdvance old (Err Memory) new = (new ≡ old) × EntersPage old.file old.begun old.given
+IsAdvance old (Err Memory) new =
+    (new ≡ old) × (old.told ≡ None) × EntersPage old.file old.begun old.given

@@ -54,7 +54,7 @@ EntersPage file begun n =
 pub record HandsOut (old : WalkView) (item : RowItem) (new : WalkView) : Type 0 where
   pub untold : old.told ≡ None
   pub number : IsItemNumber old.file old.begun old.given item
-  pub few : old.given + 1 < 2 ^ 64
+  pub few : old.given + 1 < 2 ^ 53
   pub new_is : new ≡ record old { given = old.given + 1 }
 
 -- the rows have ended so
@@ -76,7 +76,8 @@ IsNext old (Ok (Some found)) new =
 IsNext old (Ok None) new = HasEndedAs old Proper new
 IsNext old (Err (AtRow page row cause)) new = HasEndedAs old (Fault page row cause) new
 IsNext old (Err CursorOutside) new = HasEndedAs old Outside new
-IsNext old (Err Memory) new = (new ≡ old) × EntersPage old.file old.begun old.given
+IsNext old (Err Memory) new =
+    (new ≡ old) × (old.told ≡ None) × EntersPage old.file old.begun old.given
 
 -- the cursor after the row that was handed out last, or the one that the walk began with
 abbrev pub IsCursorOf : WalkView → Cursor → Type 0

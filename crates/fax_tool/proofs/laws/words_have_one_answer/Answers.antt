@@ -2,4 +2,4 @@ use Rattle.fax_tool.proofs.AnswerLemmas.{words_have_one_answer}
 use Rattle.fax_tool.proofs.laws.words_have_one_answer.Goals as goal
 
 pub returns : goal.returns
-returns c = words_have_one_answer
+returns c = words_have_one_answer c.cursors_are_named.ensures.one

@@ -1,37 +1,43 @@
-use Rattle.std.proofs.Common.{◌≡◌, ◌*◌, ◌-◌, ◌^◌, arith, ap, sym, ◌∙◌, subst}
-use Rattle.fax_bits.specs.Bits.{code_bits}
-use Rattle.fax_bits.specs.views.Codes.{HasCodeAhead}
-use Rattle.fax_bits.specs.views.Places.{place_of}
-use Rattle.fax_bits.proofs.PlaceLemmas.{aligned-lt, aligned_is, place_past, place_found, place_long}
+use Rattle.std.proofs.Common.{◌≡◌, ◌/◌, ◌^◌, ◌-◌, ◌≤◌, arith, refl, ap, sym, ◌∙◌}
+use Rattle.fax_bits.specs.Codes.{bits_of}
+use Rattle.fax_bits.specs.Bits.{code_bits, BeginsWith}
+use Rattle.fax_bits.proofs.FindLemmas.{code_ahead, ahead_is_short, ahead_is_first}
+use Rattle.fax_bits.proofs.TableLemmas.{listed, each_below_more, each-from_below}
+use Rattle.fax_bits.proofs.codes.CodeTable.find.Goals.{else-len-n-via-then-len-n+else-window-n, else-len-n-via-else-len-n}
 use Rattle.fax_bits.proofs.codes.CodeTable.find.Goals as goal
 
-pub place-place-requires : goal.place-place-requires
-place-place-requires g c =
-    omega (arith, aligned-lt c.args.n c.args.window c.requires.few c.requires.fits)
+pub returns-then-window-n : goal.returns-then-window-n
+returns-then-window-n g c =
+    let entry = c.entry-entry.result in
+    let within : entry.len ≤ c.args.n = omega (arith, c.from-len.ensures, c.if-len-n.true) in
+    record {
+      entry = entry;
+      listed = listed g.Self.CodeTable.table c.loop-i.i entry c.entry-entry.ensures.found;
+      length = sym c.from-len.ensures;
+      means = refl;
+      ahead = code_ahead c.args.n c.args.window entry.len entry.code within
+          (ap (λ k. c.args.window / 2 ^ (c.args.n - k)) (sym c.from-len.ensures) ∙ c.if-window-n.true ∙ c.from.ensures);
+    }
 
-pub returns-then-place-COUNT : goal.returns-then-place-COUNT
-returns-then-place-COUNT g c =
+pub loop-i-preserved : goal.loop-i-preserved
+loop-i-preserved g c =
     let table = g.Self.CodeTable.table in
-    let place_is : c.place-place.result ≡ place_of table 13 (c.args.window * 2 ^ (13 - c.args.n)) =
-    c.place-place.ensures ∙ ap (place_of table 13) (aligned_is c.args.n c.args.window c.requires.few c.requires.fits) in
-    place_past table g.met.Self.CodeTable.short_codes g.met.Self.CodeTable.prefix_free c.args.n c.args.window c.place-place.result
-    c.requires.few c.requires.fits place_is (omega (arith, g.met.Self.CodeTable.counted, c.if-place-COUNT.true))
+    let entry = c.entry-entry.result in
+    let found = c.entry-entry.ensures.found in
+    each_below_more (λ other. BeginsWith (code_bits c.args.n c.args.window) (bits_of other) → ⊥) table c.loop-i.i entry
+    c.loop-i.invariant found
+    (λ ahead.
+    let within : entry.len ≤ c.args.n = ahead_is_short c.args.n c.args.window entry.len entry.code ahead in
+    elim c.else-len-n.branch [
+      | else-len-n-via-then-len-n+else-window-n w ↦
+          w.if-window-n.false
+          (ap (λ k. c.args.window / 2 ^ (c.args.n - k)) c.from-len.ensures
+          ∙ ahead_is_first c.args.n c.args.window entry.len entry.code within c.requires.fits
+          (g.met.Self.CodeTable.short_codes entry (listed table c.loop-i.i entry found)).2 ahead ∙ sym w.from.ensures)
+      | else-len-n-via-else-len-n w ↦ omega (arith, within, c.from-len.ensures, w.if-len-n.false)
+    ])
 
-pub returns-then-len-n : goal.returns-then-len-n
-returns-then-len-n g c =
-    let table = g.Self.CodeTable.table in
-    let place_is : c.place-place.result ≡ place_of table 13 (c.args.window * 2 ^ (13 - c.args.n)) =
-    c.place-place.ensures ∙ ap (place_of table 13) (aligned_is c.args.n c.args.window c.requires.few c.requires.fits) in
-    subst (λ len. HasCodeAhead table (code_bits c.args.n c.args.window) len c.entry-entry.result.meaning) (sym c.from-len.ensures)
-    (place_found table g.met.Self.CodeTable.short_codes g.met.Self.CodeTable.prefix_free c.args.n c.args.window c.place-place.result
-    c.requires.few c.requires.fits place_is c.entry-entry.result c.entry-entry.ensures.found
-    (omega (arith, c.from-len.ensures, c.if-len-n.true)))
-
-pub returns-else-len-n : goal.returns-else-len-n
-returns-else-len-n g c =
-    let table = g.Self.CodeTable.table in
-    let place_is : c.place-place.result ≡ place_of table 13 (c.args.window * 2 ^ (13 - c.args.n)) =
-    c.place-place.ensures ∙ ap (place_of table 13) (aligned_is c.args.n c.args.window c.requires.few c.requires.fits) in
-    place_long table g.met.Self.CodeTable.short_codes g.met.Self.CodeTable.prefix_free c.args.n c.args.window c.place-place.result
-    c.requires.few c.requires.fits place_is c.entry-entry.result c.entry-entry.ensures.found
-    (omega (arith, c.from-len.ensures, c.if-len-n.false))
+pub returns : goal.returns
+returns g c =
+    each-from_below (λ other. BeginsWith (code_bits c.args.n c.args.window) (bits_of other) → ⊥) g.Self.CodeTable.table c.loop-i.i
+    (omega (arith, g.met.Self.CodeTable.counted, c.loop-i-test.false)) c.loop-i.invariant

@@ -11,7 +11,7 @@ pub returns-then-self-clause-ok : goal.returns-then-self-clause-ok
 returns-then-self-clause-ok c =
     let reads = rw (sym c.self.view_is) at c.in_ok-advance.ensures.ok in
     let row_is = c.self.invariant.row_is in
-    let few : c.self.inside.read < 2 ^ 64 = omega (arith, c.self.invariant.few, c.self.invariant.some_page) in
+    let few : c.self.inside.read < 2 ^ 53 = omega (arith, c.self.invariant.few, c.self.invariant.some_page) in
     let p = c.self.inside in
     let page = state p.page p.chain p.strips.directory p.form p.first p.number p.strip (row_shown p.strip p.exchanged) p.read in
     rw (← c.self.view_is)

@@ -1,0 +1,87 @@
+-- A strip is noted in one way, where its rows are read in one way.
+use Rattle.std.proofs.Common.{◌≡◌, ℕ, zero, suc, ◌+◌, ◌⊎◌, ◌↔◌, List, [], ◌∷◌, Bool, true, false, IsTrue, refl, ap, sym, ◌∙◌, subst, inl, inr}
+use Rattle.std.proofs.Common.{None}
+use Rattle.std.proofs.lemmas.List.{append_cancel_left}
+use Rattle.std.specs.List.{Contains}
+use Rattle.fax_bits.specs.declared.Colour.{Colour}
+use Rattle.fax_page.specs.declared.Coding.{Coding}
+use Rattle.fax_page.specs.declared.Coding.TheVariants.{Mh, Mr, Mmr}
+use Rattle.fax_page.specs.declared.StripForm.{StripForm}
+use Rattle.fax_page.specs.declared.notes.StripNotes.{StripNotes}
+use Rattle.fax_page.specs.Lines.{white_row}
+use Rattle.fax_page.specs.Strip.{AreLines, AreReturnEols, HasEndMark, HasOtherChoice, IsEndMark, IsNotedAs, end_bits}
+use Rattle.fax_page.specs.laws.Strips.{ReadsLinesOneWay, StripsAreNotedInOneWay}
+use Rattle.fax_page.proofs.EndLemmas.{same_return_eol}
+use Rattle.fax_page.proofs.StripLaws.{one_reading}
+
+-- the EOLs of a return to control, and an end mark, are taken in one way
+same_eols : (coding : Coding) (n : ℕ) (b rest other : List Bool) → AreReturnEols coding n b rest → AreReturnEols coding n b other
+    → rest ≡ other
+same_eols coding zero b rest other first second = sym first ∙ second
+same_eols coding (suc n) b rest other first second =
+    let same = same_return_eol coding b first.0 second.0 first.1 second.1 in
+    same_eols coding n first.0 rest other first.2 (subst (λ c. AreReturnEols coding n c other) (sym same) second.2)
+
+same_mark : (coding : Coding) (b rest other : List Bool) → IsEndMark coding b rest → IsEndMark coding b other → rest ≡ other
+same_mark Mh b rest other first second = same_eols Mh 6 b rest other first second
+same_mark Mr b rest other first second = same_eols Mr 6 b rest other first second
+same_mark Mmr b rest other first second = append_cancel_left (end_bits Mmr) rest other (sym first ∙ second)
+
+-- what stands after the end mark, or all where there is none
+abbrev IsBehind : Coding → List Bool → List Bool → Type 0
+IsBehind coding left behind = IsEndMark coding left behind ⊎ ((HasEndMark coding left → ⊥) × (behind ≡ left))
+
+same_behind : (coding : Coding) (left behind other : List Bool) → IsBehind coding left behind → IsBehind coding left other → behind ≡ other
+same_behind coding left behind other (inl mark) (inl another) = same_mark coding left behind other mark another
+same_behind coding left behind other (inl mark) (inr none) = absurd (none.0 (behind, mark))
+same_behind coding left behind other (inr none) (inl mark) = absurd (none.0 (other, mark))
+same_behind coding left behind other (inr none) (inr nor) = none.1 ∙ sym nor.1
+
+abbrev noted : Bool → Bool → Bool → Bool → StripNotes
+noted block return more choice =
+    record { no_end_of_block = block; return_to_control = return; data_after_end = more; not_t4_choice = choice }
+
+-- two flags of one fact
+same_flag : (a b : Bool) (P : Type 0) → IsTrue a ↔ P → IsTrue b ↔ P → a ≡ b
+same_flag true true P first second = refl
+same_flag true false P first second = sym (second.1 (first.0 refl))
+same_flag false true P first second = first.1 (second.0 refl)
+same_flag false false P first second = refl
+
+module _ (reads : (form : StripForm) (i : ℕ) (reference : List Colour) → ReadsLinesOneWay form i reference) where
+  -- the bits that are left after all rows
+  one_left : (form : StripForm) (i : ℕ) (reference : List Colour) (b : List Bool) (rows : List (List Colour)) (left other : List Bool)
+      → AreLines form i reference b rows None left → AreLines form i reference b rows None other → left ≡ other
+  one_left form i reference b [] left other first second = sym first.0 ∙ second.0
+  one_left form i reference b (row ∷ rows) left other first second =
+      let line = (reads form i reference).one_answer b row row first.0 second.0 first.2 second.2 in
+      one_left form (i + 1) row first.0 rows left other first.3
+      (subst (λ c. AreLines form (i + 1) row c rows None other) (sym line.1) second.3)
+
+  same_notes : (form : StripForm) (b : List Bool) (rows : List (List Colour)) (notes other : StripNotes)
+      → IsNotedAs form b rows notes → IsNotedAs form b rows other → notes ≡ other
+  same_notes form b rows notes other first second =
+      let left = one_left form 0 (white_row form.width) b rows second.left first.left second.lines first.lines in
+      let behind = same_behind form.coding first.left second.behind first.behind
+      (subst (λ l. IsBehind form.coding l second.behind) left second.behind_end) first.behind_end in
+      let block = same_flag notes.no_end_of_block other.no_end_of_block ((form.coding ≡ Mmr) × (HasEndMark form.coding first.left → ⊥))
+      first.no_end_of_block
+      (subst (λ l. IsTrue other.no_end_of_block ↔ ((form.coding ≡ Mmr) × (HasEndMark form.coding l → ⊥))) left second.no_end_of_block) in
+      let return = same_flag notes.return_to_control other.return_to_control ((form.coding ≡ Mmr → ⊥) × HasEndMark form.coding first.left)
+      first.return_to_control
+      (subst (λ l. IsTrue other.return_to_control ↔ ((form.coding ≡ Mmr → ⊥) × HasEndMark form.coding l)) left
+      second.return_to_control) in
+      let data_there = same_flag notes.data_after_end other.data_after_end (Contains first.behind true) first.data_after_end
+      (subst (λ l. IsTrue other.data_after_end ↔ Contains l true) behind second.data_after_end) in
+      let choice = same_flag notes.not_t4_choice other.not_t4_choice (HasOtherChoice form 0 (white_row form.width) b rows)
+      first.not_t4_choice second.not_t4_choice in
+      ap (λ flag. noted flag notes.return_to_control notes.data_after_end notes.not_t4_choice) block
+      ∙ ap (λ flag. noted other.no_end_of_block flag notes.data_after_end notes.not_t4_choice) return
+      ∙ ap (λ flag. noted other.no_end_of_block other.return_to_control flag notes.not_t4_choice) data_there
+      ∙ ap (noted other.no_end_of_block other.return_to_control other.data_after_end) choice
+
+  -- a strip is noted in one way
+  pub strips_are_noted_in_one_way : StripsAreNotedInOneWay
+  strips_are_noted_in_one_way form b rows others notes other first second =
+      let same = one_reading reads form 0 (white_row form.width) b others rows None None second.left first.left second.lines first.lines in
+      same_notes form b rows notes other first (subst (λ r. IsNotedAs form b r other) same.0 second)

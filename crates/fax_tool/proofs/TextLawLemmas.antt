@@ -1,0 +1,71 @@
+-- What a command writes of a file is one text.
+use Rattle.std.proofs.Common.{◌≡◌, ℕ, List, [], ◌++◌, codes, Option, None, Bool, false, refl, ap, sym, ◌∙◌, subst, inl, inr}
+use Rattle.std.specs.Prelude.{flat_map}
+use Rattle.std.specs.Option.{option_map_or}
+use Rattle.fax_bits.specs.laws.Codes.{IsOne}
+use Rattle.fax_files.specs.declared.Cause.{Cause}
+use Rattle.fax_walk.specs.declared.checking.Note.{Note}
+use Rattle.fax_walk.specs.declared.checking.Report.{Report}
+use Rattle.fax_walk.specs.declared.options.Options.{Options}
+use Rattle.fax_walk.specs.declared.walk.Place.{Place}
+use Rattle.fax_walk.specs.laws.Answers.{BytesAreConvertedInOneWay, FilesHaveOneReport}
+use Rattle.fax_walk.specs.laws.Tails.{BeginningsHaveOneTail, CursorsHaveOneFormTail, CursorsNameOnePage}
+use Rattle.fax_tool.specs.ReportText.{IsCheckText, IsConversionText, convert_fault_line, note_line, report_text}
+use Rattle.fax_tool.specs.Run.{ArePageLines, AreRowLines, IsTextOfLines, begun_of}
+use Rattle.fax_tool.specs.Text.{Begun, At, End, Line, Printed, and_number, fault_line, text_of}
+use Rattle.fax_tool.specs.declared.words.Command.{Command}
+use Rattle.fax_tool.specs.declared.words.Command.TheVariants.{Check, Convert, List as Forms, Rows}
+use Rattle.fax_tool.specs.laws.Texts.{TextsAreOne}
+use Rattle.fax_tool.proofs.LineLemmas.{one_pages, one_rows}
+
+-- of one list of lines and one end there is one text
+one_of_lines : (are : List Line → End → Type 0) → IsOne are → (long : Bool) (max : Option ℕ) (begun : Begun) (printed other : Printed)
+    → IsTextOfLines are long max begun printed → IsTextOfLines are long max begun other → printed ≡ other
+one_of_lines are one long max begun printed other (lines, end, first, is) (lines', end', second, is') =
+    let these = one.one lines end first in
+    let those = one.one lines' end' second in
+    is ∙ ap (λ (l : List Line). text_of long max begun l end) (these.0 ∙ sym those.0)
+    ∙ ap (λ (e : End). text_of long max begun lines' e) (these.1 ∙ sym those.1) ∙ sym is'
+
+one_conversion : BytesAreConvertedInOneWay → (options : Options) (file : List ℕ) (printed other : Printed)
+    → IsConversionText options file printed → IsConversionText options file other → printed ≡ other
+one_conversion ways options file printed other (inl (output, first, is)) (inl (output', second, is')) =
+    is ∙ ap (λ bytes. record { output = bytes; error = []; status = 0 }) ((ways file options).one_output output output' first second)
+    ∙ sym is'
+one_conversion ways options file printed other (inl (output, first, is)) (inr (fault, second, is')) =
+    absurd ((ways file options).output_has_no_fault output fault first second)
+one_conversion ways options file printed other (inr (fault, first, is)) (inl (output, second, is')) =
+    absurd ((ways file options).output_has_no_fault output fault second first)
+one_conversion ways options file printed other (inr (fault, first, is)) (inr (fault', second, is')) =
+    is ∙ ap (λ f. record { output = []; error = convert_fault_line f; status = 1 })
+    ((ways file options).one_fault fault fault' first second) ∙ sym is'
+
+-- the text of a report's parts
+abbrev text_of_parts : List Note → ℕ → ℕ → Option (Place × Cause) → Printed
+text_of_parts notes pages rows fault = record {
+  output = flat_map note_line notes ++ (codes "pages" ++ and_number pages ++ codes " rows" ++ and_number rows ++ codes "\n");
+  error = option_map_or (λ fault. fault_line fault.0.page fault.0.row fault.1) fault [];
+  status = option_map_or (λ fault. 1) fault 0;
+}
+
+one_report : FilesHaveOneReport → (file : List ℕ) (printed other : Printed) → IsCheckText file printed → IsCheckText file other
+    → printed ≡ other
+one_report reports file printed other (report, first, is) (report', second, is') =
+    let same = reports file report report' first second in
+    is ∙ ap (λ notes. text_of_parts notes report.pages report.rows report.fault) same.notes
+    ∙ ap (λ pages. text_of_parts report'.notes.items pages report.rows report.fault) same.pages
+    ∙ ap (λ rows. text_of_parts report'.notes.items report'.pages rows report.fault) same.rows
+    ∙ ap (text_of_parts report'.notes.items report'.pages report'.rows) same.fault ∙ sym is'
+
+pub texts_are_one : BeginningsHaveOneTail → CursorsNameOnePage → CursorsHaveOneFormTail → BytesAreConvertedInOneWay
+    → FilesHaveOneReport → TextsAreOne
+texts_are_one tails pages forms ways reports (Forms part) file printed other first second =
+    one_of_lines (ArePageLines file part.cursor) (one_pages file forms part.cursor) false part.max (At part.cursor) printed other first
+    second
+texts_are_one tails pages forms ways reports (Rows part) file printed other first second =
+    one_of_lines (AreRowLines file (begun_of part)) (one_rows file tails pages (begun_of part)) part.long part.max (begun_of part) printed
+    other first second
+texts_are_one tails pages forms ways reports (Convert options) file printed other first second =
+    one_conversion ways options file printed other first second
+texts_are_one tails pages forms ways reports Check file printed other first second =
+    one_report reports file printed other first second

@@ -1,0 +1,287 @@
+-- What is converted has one output or one fault, and what is checked has one report.
+use Rattle.std.proofs.Common.{◌≡◌, ℕ, ◌+◌, ◌*◌, ◌≤◌, List, [], ◌∷◌, length, Option, Some, None, Result, Ok, Err, Bool, true, false}
+use Rattle.std.proofs.Common.{refl, ap, sym, ◌∙◌, subst, arith, inl, inr, codes}
+use Rattle.std.specs.Prelude.{◌==◌, ◌&&◌, flat_map, slice_get, map, if◌then◌else◌}
+use Rattle.std.proofs.lemmas.Bool.Decides.{nat_tests}
+use Rattle.fax_bits.specs.Bits.{bits, BeginsWith}
+use Rattle.fax_bits.specs.declared.Colour.{Colour}
+use Rattle.fax_bits.specs.laws.Codes.{IsOne}
+use Rattle.fax_files.specs.declared.FileFault.{FileFault}
+use Rattle.fax_files.specs.declared.Cause.{Cause}
+use Rattle.fax_files.specs.declared.Cause.TheVariants.{File, Strip}
+use Rattle.fax_files.specs.declared.FileFault.TheVariants.{StripOutside}
+use Rattle.fax_files.specs.declared.PageForm.{PageForm}
+use Rattle.fax_files.specs.declared.pbm.PbmFault.{PbmFault}
+use Rattle.fax_files.specs.Directory.{Header, header, IsChain}
+use Rattle.fax_files.specs.Page.{page, strip_bytes, strip_form, usual_resolution}
+use Rattle.fax_files.specs.Pbm.{AreImages, Image}
+use Rattle.fax_files.specs.laws.Files.{FilesHaveOneChain}
+use Rattle.fax_files.specs.laws.Pbm.{ImagesAreReadInOneWay}
+use Rattle.fax_page.specs.declared.StripFault.{StripFault}
+use Rattle.fax_page.specs.declared.StripForm.{StripForm}
+use Rattle.fax_page.specs.declared.notes.StripNotes.{StripNotes}
+use Rattle.fax_page.specs.Strip.{IsNotedAs, IsStrip}
+use Rattle.fax_page.specs.laws.Strips.{ReadsStripsOneWay, StripsAreNotedInOneWay}
+use Rattle.fax_walk.specs.declared.checking.Note.{Note}
+use Rattle.fax_walk.specs.declared.checking.Report.{Report}
+use Rattle.fax_walk.specs.declared.cursor.Cursor.{Cursor}
+use Rattle.fax_walk.specs.declared.end.End.{End}
+use Rattle.fax_walk.specs.declared.end.End.TheVariants.{Fault, Outside, Proper}
+use Rattle.fax_walk.specs.declared.options.ConvertFault.{ConvertFault}
+use Rattle.fax_walk.specs.declared.options.ConvertFault.TheVariants as Refused
+use Rattle.fax_walk.specs.declared.options.Options.{Options}
+use Rattle.fax_walk.specs.declared.walk.Place.{Place}
+use Rattle.fax_walk.specs.Converted.{IsConverted, IsNotConverted, IsSource, IsTiff, IsTooLarge, SourcePage, pages_of, target_bytes}
+use Rattle.fax_walk.specs.Pages.{AreForms, AreFrom, FilePage, FormItem, IsOnPage, IsPageAt}
+use Rattle.fax_walk.specs.Report.{IsNoted, IsReport, IsReportedEnd, IsStripNoted, notes_on_strip}
+use Rattle.fax_walk.specs.Rows.{AreItems, RowItem}
+use Rattle.fax_walk.specs.code.Opening.{IsPageUnder, end_past_chain, page_or_end, page_over}
+use Rattle.fax_walk.specs.laws.Answers.{AreConvertedInOneWay, BytesAreConvertedInOneWay, FilesHaveOneReport, SayTheSame}
+use Rattle.fax_walk.specs.laws.Tails.{FilesHaveOneForms, FilesHaveOneItems}
+use Rattle.fax_walk.proofs.InOrderLemmas.{same_answer}
+use Rattle.fax_walk.proofs.PageLawLemmas.{one_page}
+use Rattle.fax_walk.proofs.ReadBackLemmas.{not_both}
+
+-- two of which one thing holds are the same
+abbrev IsSingle : {A : Type 0} → (A → Type 0) → Type 0
+IsSingle {A} holds = (x y : A) → holds x → holds y → x ≡ y
+
+-- what is one list with one end is single
+two_of : {A E : Type 0} {holds : List A → E → Type 0} → IsOne holds → (items others : List A) (end other : E) → holds items end
+    → holds others other → (items ≡ others) × (end ≡ other)
+two_of one items others end other is is_too =
+    let first = one.one items end is in
+    let second = one.one others other is_too in
+    (first.0 ∙ sym second.0, first.1 ∙ sym second.1)
+
+-- the fault of a source whose rows end so
+abbrev source_fault : End → ConvertFault
+source_fault (Fault p r cause) = Refused.Source p r cause
+source_fault Proper = Refused.UnknownInput
+source_fault Outside = Refused.UnknownInput
+
+module _ (images_once : ImagesAreReadInOneWay) (one_forms : FilesHaveOneForms) (one_items : FilesHaveOneItems) where
+  -- a source has one list of pages
+  one_source : (bytes : List ℕ) (pages others : List SourcePage) → IsSource bytes pages → IsSource bytes others → pages ≡ others
+  one_source bytes pages others (inl (begins, images, are, is)) (inl (begins', images', are', is')) =
+      let same = images_once bytes images images' None None are are' in
+      is ∙ ap (λ l. map (λ image. record { image = image; resolution = usual_resolution }) l) same.0 ∙ sym is'
+  one_source bytes pages others (inl (begins, images, are, is)) (inr (tiff, forms, items, forms_are, items_are, is')) = absurd (not_both bytes begins tiff)
+  one_source bytes pages others (inr (tiff, forms, items, forms_are, items_are, is')) (inl (begins, images, are, is)) = absurd (not_both bytes begins tiff)
+  one_source bytes pages others (inr (tiff, forms, items, forms_are, items_are, is))
+      (inr (tiff', forms', items', forms_are', items_are', is')) =
+      let same_forms = two_of (one_forms bytes) forms forms' Proper Proper forms_are forms_are' in
+      let same_items = two_of (one_items bytes) items items' Proper Proper items_are items_are' in
+      is ∙ ap (λ l. pages_of l items) same_forms.0 ∙ ap (pages_of forms') same_items.0 ∙ sym is'
+
+  -- bytes with a fault are no source
+  no_pbm_source : (bytes : List ℕ) (images : List Image) (fault : PbmFault) (pages : List SourcePage) → BeginsWith bytes (codes "P4")
+      → AreImages bytes images (Some fault) → IsSource bytes pages → ⊥
+  no_pbm_source bytes images fault pages begins are (inl (begins', images', are', is')) =
+      let same = images_once bytes images images' (Some fault) None are are' in cc (same.1)
+  no_pbm_source bytes images fault pages begins are (inr (tiff, forms, items, forms_are, items_are, is)) = not_both bytes begins tiff
+
+  no_tiff_source : (bytes : List ℕ) (items : List RowItem) (p r : ℕ) (cause : Cause) (pages : List SourcePage) → IsTiff bytes
+      → AreItems bytes items (Fault p r cause) → IsSource bytes pages → ⊥
+  no_tiff_source bytes items p r cause pages tiff are (inl (begins, images, are', is)) = not_both bytes begins tiff
+  no_tiff_source bytes items p r cause pages tiff are (inr (tiff', forms', items', forms_are', items_are', is')) =
+      let same = two_of (one_items bytes) items items' (Fault p r cause) Proper are items_are' in cc (same.1)
+
+  no_source : (bytes : List ℕ) (pages : List SourcePage) → (BeginsWith bytes (codes "P4") → ⊥) → (IsTiff bytes → ⊥)
+      → IsSource bytes pages → ⊥
+  no_source bytes pages no_pbm no_tiff (inl (begins, images, are, is)) = no_pbm begins
+  no_source bytes pages no_pbm no_tiff (inr (tiff, forms, items, forms_are, items_are, is)) = no_tiff tiff
+
+  one_output : (bytes : List ℕ) (options : Options) (output other : List ℕ) → IsConverted bytes options output
+      → IsConverted bytes options other → output ≡ other
+  one_output bytes options output other first second =
+      first.output_is
+      ∙ ap (target_bytes options.target options) (one_source bytes first.pages second.pages first.source second.source)
+      ∙ sym second.output_is
+
+  output_has_no_fault : (bytes : List ℕ) (options : Options) (output : List ℕ) (fault : ConvertFault) → IsConverted bytes options output
+      → IsNotConverted bytes options fault → ⊥
+  output_has_no_fault bytes options output Refused.UnknownInput is none = no_source bytes is.pages none.0 none.1 is.source
+  output_has_no_fault bytes options output (Refused.Pbm image fault) is none =
+      no_pbm_source bytes none.1 fault is.pages none.0 none.2 is.source
+  output_has_no_fault bytes options output (Refused.Source p r cause) is none =
+      no_tiff_source bytes none.1 p r cause is.pages none.0 none.2 is.source
+  output_has_no_fault bytes options output Refused.OutputTooLarge is none =
+      let same = one_source bytes none.0 is.pages none.1 is.source in
+      is.fits (subst (λ l. IsTooLarge options.target is.pages l) (sym is.output_is)
+      (subst (λ l. IsTooLarge options.target l (target_bytes options.target options l)) same none.2))
+  output_has_no_fault bytes options output Refused.Memory is none = none
+
+  one_fault : (bytes : List ℕ) (options : Options) (fault other : ConvertFault) → IsNotConverted bytes options fault
+      → IsNotConverted bytes options other → fault ≡ other
+  one_fault bytes options fault Refused.Memory first second = absurd second
+  one_fault bytes options Refused.Memory other first second = absurd first
+  one_fault bytes options Refused.UnknownInput Refused.UnknownInput first second = refl
+  one_fault bytes options Refused.UnknownInput (Refused.Pbm image fault) first second = absurd (first.0 second.0)
+  one_fault bytes options Refused.UnknownInput (Refused.Source p r cause) first second = absurd (first.1 second.0)
+  one_fault bytes options Refused.UnknownInput Refused.OutputTooLarge first second =
+      absurd (no_source bytes second.0 first.0 first.1 second.1)
+  one_fault bytes options (Refused.Pbm image fault) Refused.UnknownInput first second = absurd (second.0 first.0)
+  one_fault bytes options (Refused.Pbm image fault) (Refused.Pbm image' fault') first second =
+      let same = images_once bytes first.1 second.1 (Some fault) (Some fault') first.2 second.2 in
+      let images : image ≡ image' = first.3 ∙ ap (λ l. length l) same.0 ∙ sym second.3 in
+      let faults : fault ≡ fault' = cc (same.1) in
+      ap (λ n. Refused.Pbm n fault) images ∙ ap (λ f. Refused.Pbm image' f) faults
+  one_fault bytes options (Refused.Pbm image fault) (Refused.Source p r cause) first second =
+      absurd (not_both bytes first.0 second.0)
+  one_fault bytes options (Refused.Pbm image fault) Refused.OutputTooLarge first second =
+      absurd (no_pbm_source bytes first.1 fault second.0 first.0 first.2 second.1)
+  one_fault bytes options (Refused.Source p r cause) Refused.UnknownInput first second = absurd (second.1 first.0)
+  one_fault bytes options (Refused.Source p r cause) (Refused.Pbm image fault) first second =
+      absurd (not_both bytes second.0 first.0)
+  one_fault bytes options (Refused.Source p r cause) (Refused.Source p' r' cause') first second =
+      let same = (two_of (one_items bytes) first.1 second.1 (Fault p r cause) (Fault p' r' cause') first.2 second.2).1 in
+      ap source_fault same
+  one_fault bytes options (Refused.Source p r cause) Refused.OutputTooLarge first second =
+      absurd (no_tiff_source bytes first.1 p r cause second.0 first.0 first.2 second.1)
+  one_fault bytes options Refused.OutputTooLarge Refused.UnknownInput first second =
+      absurd (no_source bytes first.0 second.0 second.1 first.1)
+  one_fault bytes options Refused.OutputTooLarge (Refused.Pbm image fault) first second =
+      absurd (no_pbm_source bytes second.1 fault first.0 second.0 second.2 first.1)
+  one_fault bytes options Refused.OutputTooLarge (Refused.Source p r cause) first second =
+      absurd (no_tiff_source bytes second.1 p r cause first.0 second.0 second.2 first.1)
+  one_fault bytes options Refused.OutputTooLarge Refused.OutputTooLarge first second = refl
+
+  pub bytes_are_converted_in_one_way : BytesAreConvertedInOneWay
+  bytes_are_converted_in_one_way bytes options = record {
+    one_output = one_output bytes options;
+    output_has_no_fault = output_has_no_fault bytes options;
+    one_fault = one_fault bytes options;
+  }
+
+-- where a chain ends properly
+proper_there : (head : Header) (file : List ℕ) (offsets : List ℕ) (fault : Option FileFault) (n : ℕ) (found : Option ℕ)
+    → slice_get offsets n ≡ found
+    → ◌≡◌ {A = Result FilePage End} (Err Proper) (page_over head.endian file offsets fault (record { page = n; row = 0 }) found)
+    → n ≡ length offsets
+proper_there head file offsets fault n (Some q) at e = by_form (page head.endian file q) e
+  where
+    by_form : (answer : Result PageForm FileFault) → ◌≡◌ {A = Result FilePage End} (Err Proper) (page_or_end head.endian q n answer)
+        → n ≡ length offsets
+    by_form (Err refused) e = absurd cc
+    by_form (Ok form) e = absurd cc
+proper_there head file offsets (Some fault) n None at e = absurd cc
+proper_there head file offsets None n None at e = by_test (n == length offsets) refl e
+  where
+    by_test : (test : Bool) → (n == length offsets) ≡ test
+        → ◌≡◌ {A = Result FilePage End} (Err Proper) (Err (if test && (0 == 0) then Proper else Outside)) → n ≡ length offsets
+    by_test true is e = grind (arith, nat_tests, is)
+    by_test false is e = absurd cc
+
+module _ (chains : FilesHaveOneChain) (file : List ℕ) where
+  proper_under : (answer : Result Header FileFault) (n m : ℕ) → IsPageUnder file (record { page = n; row = 0 }) answer (Err Proper)
+      → IsPageUnder file (record { page = m; row = 0 }) answer (Err Proper) → n ≡ m
+  proper_under (Err fault) n m first second = absurd cc
+  proper_under (Ok head) n m (offsets, fault, chain, e) (offsets', fault', chain', e') =
+      let one = chains head file in
+      let same : offsets ≡ offsets' = (one.one offsets fault chain).0 ∙ sym (one.one offsets' fault' chain').0 in
+      proper_there head file offsets fault n (slice_get offsets n) refl e ∙ ap (λ (l : List ℕ). length l) same
+      ∙ sym (proper_there head file offsets' fault' m (slice_get offsets' m) refl e')
+
+  one_end : (end : End) (pages others : ℕ) (fault other : Option (Place × Cause)) → IsReportedEnd file end pages fault
+      → IsReportedEnd file end others other → (pages ≡ others) × (fault ≡ other)
+  one_end Proper pages others fault other first second =
+      (proper_under (header file) pages others first.0 second.0, first.1 ∙ sym second.1)
+  one_end (Fault p r cause) pages others fault other first second = (first.0 ∙ sym second.0, first.1 ∙ sym second.1)
+  one_end Outside pages others fault other first second = absurd first
+
+  -- what is single on each page is single on the page that a cursor names
+  single_on_page : {A : Type 0} (at : Cursor) (asked : FilePage → Result A End → Type 0) → ((here : FilePage) → IsSingle (asked here))
+      → IsSingle (IsOnPage file at asked)
+  single_on_page {A} at asked single x y (inl (end, page_is, is)) (inl (other, page_is', is')) =
+      let same : ◌≡◌ {A = Result FilePage End} (Err end) (Err other) =
+      same_answer (one_page chains file at) (Err end) (Err other) page_is page_is' in
+      let ends : end ≡ other = cc in
+      is ∙ ap (λ (e : End). Err e) ends ∙ sym is'
+  single_on_page {A} at asked single x y (inl (end, page_is, is)) (inr (there, page_is', is')) =
+      let same : ◌≡◌ {A = Result FilePage End} (Err end) (Ok there) =
+      same_answer (one_page chains file at) (Err end) (Ok there) page_is page_is' in
+      absurd cc
+  single_on_page {A} at asked single x y (inr (here, page_is, is)) (inl (other, page_is', is')) =
+      let same : ◌≡◌ {A = Result FilePage End} (Ok here) (Err other) =
+      same_answer (one_page chains file at) (Ok here) (Err other) page_is page_is' in
+      absurd cc
+  single_on_page {A} at asked single x y (inr (here, page_is, is)) (inr (there, page_is', is')) =
+      let same : ◌≡◌ {A = Result FilePage End} (Ok here) (Ok there) =
+      same_answer (one_page chains file at) (Ok here) (Ok there) page_is page_is' in
+      let pages : there ≡ here = cc in
+      single here x y is (subst (λ (h : FilePage). asked h y) pages is')
+
+-- where each place has at most one answer, two lists from a place on are one
+single_from : {S A : Type 0} (next : S → Result (A × S) End → Type 0) → ((at : S) → IsSingle (next at)) → (at : S)
+    (items others : List A) (end : End) → AreFrom next at items end → AreFrom next at others end → items ≡ others
+single_from next single at [] [] end first second = refl
+single_from next single at [] (y ∷ others) end first (to, second, rest) =
+    let same = single at (Err end) (Ok (y, to)) first second in absurd cc
+single_from next single at (x ∷ items) [] end (to, first, rest) second =
+    let same = single at (Ok (x, to)) (Err end) first second in absurd cc
+single_from {S} {A} next single at (x ∷ items) (y ∷ others) end (to, first, rest) (to', second, rest') =
+    let same : ◌≡◌ {A = Result (A × S) End} (Ok (x, to)) (Ok (y, to')) = single at (Ok (x, to)) (Ok (y, to')) first second in
+    let item : x ≡ y = ap item_of same in
+    let place : to ≡ to' = ap place_of same in
+    let later = single_from next single to' items others end (subst (λ (p : S). AreFrom next p items end) place rest) rest' in
+    ap (λ (i : A). i ∷ items) item ∙ ap (λ (l : List A). y ∷ l) later
+  where
+    item_of : Result (A × S) End → A
+    item_of (Ok step) = step.0
+    item_of (Err end) = x
+
+    place_of : Result (A × S) End → S
+    place_of (Ok step) = step.1
+    place_of (Err end) = to
+
+module _ (strips_once : (form : StripForm) → ReadsStripsOneWay form) (noted_once : StripsAreNotedInOneWay) where
+  -- a strip that has notes has no fault
+  noted_or_fault : (form : StripForm) (b : List Bool) (rows others : List (List Colour)) (found : StripNotes) (fault : StripFault)
+      → IsNotedAs form b rows found → IsStrip form b others (Some fault) → ⊥
+  noted_or_fault form b rows others found fault noted strip =
+      let whole : IsStrip form b rows None = record { left = noted.left; lines = noted.lines } in
+      let same = (two_of (strips_once form b) rows others None (Some fault) whole strip).1 in
+      cc same
+
+  single_strip : (form : PageForm) (p s : ℕ) (bytes : Option (List ℕ)) → IsSingle (IsStripNoted form p s bytes)
+  single_strip form p s None x y first second = first ∙ sym second
+  single_strip form p s (Some bytes) (Ok (notes, to)) (Ok (others, place)) (rows, found, noted, is, to_is)
+      (rows', found', noted', is', to_is') =
+      let same = noted_once (strip_form form s) (bits form.order bytes) rows rows' found found' noted noted' in
+      let lists : notes ≡ others = is ∙ ap (notes_on_strip p s) same ∙ sym is' in
+      let places : to ≡ place = to_is ∙ sym to_is' in
+      ap (λ l. Ok (l, to)) lists ∙ ap (λ t. Ok (others, t)) places
+  single_strip form p s (Some bytes) (Ok (notes, to)) (Err end) (rows, found, noted, is, to_is) (rows', fault, strip, is') =
+      absurd (noted_or_fault (strip_form form s) (bits form.order bytes) rows rows' found fault noted strip)
+  single_strip form p s (Some bytes) (Err end) (Ok (others, place)) (rows', fault, strip, is') (rows, found, noted, is, to_is) =
+      absurd (noted_or_fault (strip_form form s) (bits form.order bytes) rows rows' found fault noted strip)
+  single_strip form p s (Some bytes) (Err end) (Err other) (rows, fault, strip, is) (rows', fault', strip', is') =
+      let same = two_of (strips_once (strip_form form s) (bits form.order bytes)) rows rows' (Some fault) (Some fault') strip strip' in
+      let faults : fault ≡ fault' = cc (same.1) in
+      let ends : end ≡ other =
+      is ∙ ap (λ (l : List (List Colour)). Fault p (s * form.rows_per_strip + length l) (Strip fault)) same.0
+      ∙ ap (λ f. Fault p (s * form.rows_per_strip + length rows') (Strip f)) faults ∙ sym is' in
+      ap (λ e. Err e) ends
+
+  module _ (chains : FilesHaveOneChain) (file : List ℕ) where
+    single_noted : (at : ℕ × Option ℕ) → IsSingle (IsNoted file at)
+    single_noted (p, None) =
+        single_on_page chains file (record { page = p; row = 0 }) _ (λ here x y first second. first ∙ sym second)
+    single_noted (p, Some s) =
+        single_on_page chains file (record { page = p; row = 0 }) _
+        (λ here. single_strip here.form p s (strip_bytes here.endian file here.offset s))
+
+  pub files_have_one_report : FilesHaveOneChain → FilesHaveOneItems → FilesHaveOneReport
+  files_have_one_report chains one_items file report other first second =
+      let rows = two_of (one_items file) first.items second.items first.end second.end first.read second.read in
+      let end_is = subst (λ (e : End). IsReportedEnd file e other.pages other.fault) (sym rows.1) second.end_is in
+      let ends = one_end chains file first.end report.pages other.pages report.fault other.fault first.end_is end_is in
+      let noted = subst (λ (e : End). AreFrom (IsNoted file) (0, None) second.notes e) (sym rows.1) second.noted in
+      let notes = single_from (IsNoted file) (single_noted chains file) (0, None) first.notes second.notes first.end first.noted noted in
+      record {
+        notes = first.notes_are ∙ ap (λ l. flat_map (λ own. own) l) notes ∙ sym second.notes_are;
+        pages = ends.0;
+        rows = first.rows_are ∙ ap (λ l. length l) rows.0 ∙ sym second.rows_are;
+        fault = ends.1;
+      }

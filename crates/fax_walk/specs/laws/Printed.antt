@@ -1,0 +1,193 @@
+-- The main law of walks, which the function `walks_hand_out_the_rest` of the module `laws` proves:
+-- a walk from what was printed hands out just the rest of a file's items, each once.
+-- A definition without a citation is this project's profile.
+use Rattle.std.specs.Prelude.{◌≡◌, ◌≢◌, ◌↔◌, ◌⊎◌, ℕ, ◌+◌, ◌%◌, ◌<◌, ◌≤◌, if◌then◌else◌, nat_lt, All}
+use Rattle.std.specs.Prelude.{List, [], ◌∷◌, length, take, drop, Option, Some, None, Result, Ok}
+use Rattle.std.specs.Prelude.{Err, slice_get}
+use Rattle.std.specs.List.{AllZip}
+use Rattle.std.specs.Borrow.{Bor}
+use Rattle.fax_bits.specs.declared.Colour.{Colour}
+use Rattle.fax_bits.specs.laws.Codes.{IsOne}
+use Rattle.fax_walk.specs.declared.begun.Begun.{Begun}
+use Rattle.fax_walk.specs.declared.begun.Begun.TheVariants.{At, Inside}
+use Rattle.fax_walk.specs.declared.cursor.Cursor.{Cursor}
+use Rattle.fax_walk.specs.declared.end.WalkFault.{WalkFault}
+use Rattle.fax_walk.specs.declared.end.WalkFault.TheVariants.{Memory, AtRow, CursorOutside}
+use Rattle.fax_walk.specs.declared.walk.Place.{Place}
+use Rattle.fax_walk.specs.Pages.{End, Fault, FilePage, IsPageAt, LongPlace, Outside, Proper, start}
+use Rattle.fax_walk.specs.Rows.{AreItems, RowItem, cursor_after, long_after}
+use Rattle.fax_walk.specs.laws.InOrder.{IsTold}
+use Rattle.fax_walk.specs.laws.Left.{IsLeft}
+use Rattle.fax_walk.specs.views.Walk.{AreRead, IsCursorOf, IsLent, IsLongOf, IsNext, WalkView}
+use Rattle.fax_walk.specs.views.Walk.{walk_from}
+
+-- what is printed after an item: its cursor, or its place inside a strip, if there is one
+abbrev pub IsPrintedAfter : List ℕ → RowItem → Begun → Type 0
+IsPrintedAfter file item (At at) = at ≡ cursor_after item
+IsPrintedAfter file item (Inside place) =
+    (here : FilePage) × IsPageAt file (record { page = item.page; row = item.row }) (Ok here)
+    × (long_after here.form item ≡ Some place)
+
+-- what is printed where n of these items were handed out: the first cursor where none was, and else
+-- what is printed after the last of them
+abbrev pub IsPrinted : List ℕ → List RowItem → ℕ → Begun → Type 0
+IsPrinted file items n begun =
+    ((n ≡ 0) × (begun ≡ At start))
+    ⊎ ((before : ℕ) × (item : RowItem) × (n ≡ before + 1) × (slice_get items before ≡ Some item)
+    × IsPrintedAfter file item begun)
+
+-- what a call for the next row answers
+abbrev pub Answer : Type 0
+Answer = Result (Option (Place × Bor (List Colour))) WalkFault
+
+-- these are what a walk answers to calls for the next row, one after another, which leave it so
+abbrev pub AreAnswers : WalkView → List Answer → WalkView → Type 0
+AreAnswers old [] new = new ≡ old
+AreAnswers old (answer ∷ answers) new =
+    (next : WalkView) × IsNext old answer next × AreAnswers next answers new
+
+-- the rows among answers, and the ends among them
+abbrev pub rows_in : List Answer → List (Place × Bor (List Colour))
+rows_in [] = []
+rows_in (Ok (Some found) ∷ answers) = found ∷ rows_in answers
+rows_in (Ok None ∷ answers) = rows_in answers
+rows_in (Err fault ∷ answers) = rows_in answers
+
+abbrev pub ends_in : List Answer → List End
+ends_in [] = []
+ends_in (Ok (Some found) ∷ answers) = ends_in answers
+ends_in (Ok None ∷ answers) = Proper ∷ ends_in answers
+ends_in (Err (AtRow page row cause) ∷ answers) = Fault page row cause ∷ ends_in answers
+ends_in (Err CursorOutside ∷ answers) = Outside ∷ ends_in answers
+ends_in (Err Memory ∷ answers) = ends_in answers
+
+-- answers hand out these items, the first of them first: their rows are the first of the items, in
+-- order; and each end among them is this one, told only where all the items are handed out
+pub record HandOut (answers : List Answer) (items : List RowItem) (end : End) : Type 0 where
+  pub rows : AllZip IsLent (rows_in answers) (take (length (rows_in answers)) items)
+  pub ends : All (λ told. told ≡ end) (ends_in answers)
+  pub all : 0 < length (ends_in answers) → length (rows_in answers) ≡ length items
+
+-- a walk stands after the first n of these items: it began with what was printed after some of
+-- them, and handed out the others; and it has told this end, after all of them, or none
+pub record StandsAfter (items : List RowItem) (end : End) (n : ℕ) (walk : WalkView) : Type 0 where
+  pub began : ℕ
+  pub printed : IsPrinted walk.file items began walk.begun
+  pub count : n ≡ began + walk.given
+  pub within : n ≤ length items
+  pub told : IsTold walk.told (drop n items) end
+
+-- the rows end here: all items were handed out, and this is their end, which the walk has told now
+pub record EndsThere (items : List RowItem) (end : End) (n : ℕ) (told : End)
+    (new : WalkView) : Type 0 where
+  pub all : n ≡ length items
+  pub its_end : told ≡ end
+  pub stands : StandsAfter items end n new
+  pub has_told : new.told ≡ Some told
+
+-- what a walk that stands after the first n of these items answers to a call for the next row: item
+-- number n; or where these are all, their end; or memory was refused before it told an end, and it
+-- stands as it stood
+abbrev pub IsNextOf : List RowItem → End → ℕ → WalkView → Answer → WalkView → Type 0
+IsNextOf items end n old (Ok (Some found)) new =
+    (item : RowItem) × (slice_get items n ≡ Some item) × IsLent found item
+    × StandsAfter items end (n + 1) new
+IsNextOf items end n old (Ok None) new = EndsThere items end n Proper new
+IsNextOf items end n old (Err (AtRow page row cause)) new =
+    EndsThere items end n (Fault page row cause) new
+IsNextOf items end n old (Err CursorOutside) new = ⊥
+IsNextOf items end n old (Err Memory) new = (new ≡ old) × (old.told ≡ None)
+
+-- an item stands before another: on an earlier page, or above it on its page
+abbrev pub StandsBefore : RowItem → RowItem → Type 0
+StandsBefore item other =
+    (item.page < other.page) ⊎ ((item.page ≡ other.page) × (item.row < other.row))
+
+-- so many rows stand in its strip before what a walk begins with: those above the cursor's, and
+-- none where that stands after its page's last row, where its page is not there, or inside a strip
+abbrev pub AreBeforeIt : List ℕ → Begun → ℕ → Type 0
+AreBeforeIt file (At at) count =
+    ((end : End) × IsPageAt file at (Err end) × (count ≡ 0))
+    ⊎ ((here : FilePage) × IsPageAt file at (Ok here)
+    × (count ≡ (if nat_lt at.row here.form.rows then at.row % here.form.rows_per_strip else 0)))
+AreBeforeIt file (Inside place) count = count ≡ 0
+
+-- each file has items and an end, and one list of them only
+abbrev pub FilesHaveOneList : Type 0
+FilesHaveOneList = (file : List ℕ) → IsOne (AreItems file)
+
+-- the end is proper or a fault
+abbrev pub ItemsEndInTheFile : Type 0
+ItemsEndInTheFile =
+    (file : List ℕ) (items : List RowItem) (end : End) → AreItems file items end → end ≢ Outside
+
+-- the items ascend: page by page, and then downwards, each once
+abbrev pub ItemsAscend : Type 0
+ItemsAscend =
+    (file : List ℕ) (items : List RowItem) (end : End) (n m : ℕ) (item other : RowItem)
+    → AreItems file items end → n < m → slice_get items n ≡ Some item
+    → slice_get items m ≡ Some other → StandsBefore item other
+
+-- whatever a walk answers that begins with what was printed after n items: its answers hand out
+-- the items from number n on, and leave it after so many more
+abbrev pub WalksHandOutTheRest : Type 0
+WalksHandOutTheRest =
+    (file : List ℕ) (items : List RowItem) (end : End) (n : ℕ) (begun : Begun)
+    (answers : List Answer) (new : WalkView)
+    → AreItems file items end → IsPrinted file items n begun
+    → AreAnswers (walk_from file begun) answers new
+    → HandOut answers (drop n items) end × StandsAfter items end (n + length (rows_in answers)) new
+
+-- a walk that begins with what was printed after n items stands after them
+abbrev pub WalksBeginThere : Type 0
+WalksBeginThere =
+    (file : List ℕ) (items : List RowItem) (end : End) (n : ℕ) (begun : Begun)
+    → AreItems file items end → IsPrinted file items n begun
+    → StandsAfter items end n (walk_from file begun)
+
+-- a walk that stands after n items hands out item number n, or after the last the end, again and
+-- again, and then stands after the items that were handed out
+abbrev pub WalksGoOn : Type 0
+WalksGoOn =
+    (items : List RowItem) (end : End) (n : ℕ) (old new : WalkView) (answer : Answer)
+    → AreItems old.file items end → StandsAfter items end n old → IsNext old answer new
+    → IsNextOf items end n old answer new
+
+-- an end that a walk has told is answered again by each later call, which changes nothing
+abbrev pub EndsAreForGood : Type 0
+EndsAreForGood =
+    (old new : WalkView) (told : End) (answer : Answer) → old.told ≡ Some told
+    → IsNext old answer new → (ends_in (answer ∷ []) ≡ told ∷ []) × (new ≡ old)
+
+-- what a walk has left that stands after n items is just the items from number n on, and their end
+abbrev pub TheRestIsLeft : Type 0
+TheRestIsLeft =
+    (items : List RowItem) (end : End) (n : ℕ) (walk : WalkView) (rest : List RowItem) (last : End)
+    → AreItems walk.file items end → StandsAfter items end n walk
+    → IsLeft walk rest last ↔ ((rest ≡ drop n items) × (last ≡ end))
+
+-- its cursor is what is printed after n items
+abbrev pub CursorsArePrinted : Type 0
+CursorsArePrinted =
+    (items : List RowItem) (end : End) (n : ℕ) (walk : WalkView) (at : Cursor)
+    → AreItems walk.file items end → StandsAfter items end n walk → IsCursorOf walk at
+    → IsPrinted walk.file items n (At at)
+
+-- and so is its place inside a strip, if it has one
+abbrev pub PlacesArePrinted : Type 0
+PlacesArePrinted =
+    (items : List RowItem) (end : End) (n : ℕ) (walk : WalkView) (place : LongPlace)
+    → AreItems walk.file items end → StandsAfter items end n walk → IsLongOf walk (Some place)
+    → IsPrinted walk.file items n (Inside place)
+
+-- how many rows such a walk has read: as many as it handed out, and those before its beginning in
+-- its strip; no more than these where it has neither handed out a row nor told the end
+pub record AreReadOnce (walk : WalkView) (read before : ℕ) : Type 0 where
+  pub most : read ≤ walk.given + before
+  pub once : (0 < walk.given) ⊎ (walk.told ≢ None) → read ≡ walk.given + before
+
+abbrev pub RowsAreReadOnce : Type 0
+RowsAreReadOnce =
+    (items : List RowItem) (end : End) (n : ℕ) (walk : WalkView) (read before : ℕ)
+    → AreItems walk.file items end → StandsAfter items end n walk → AreRead walk read
+    → AreBeforeIt walk.file walk.begun before → AreReadOnce walk read before
