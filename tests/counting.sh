@@ -1,0 +1,49 @@
+# One way to count for the tests that are scripts of bash: they make claims, and end with `ends NAME`.
+
+room=$(mktemp -d) || exit 1
+trap 'rm -rf -- "$room"' EXIT
+passed=0
+failed=0
+
+# A claim is true where its command ends with status 0; what it says is shown where it is not.
+claim() {
+    local name=$1
+    shift
+    if "$@" >"$room/said" 2>&1; then
+        passed=$((passed + 1))
+    else
+        failed=$((failed + 1))
+        printf 'FAILED: %s\n' "$name"
+        head -n 10 -- "$room/said"
+    fi
+}
+
+# A run is right where its status, its output and its error stream are these; the texts may have escapes of printf.
+#   is NAME STATUS OUTPUT ERROR COMMAND..
+is() {
+    claim "$1" answers "${@:2}"
+}
+
+answers() {
+    local status=$1 output=$2 error=$3 got
+    shift 3
+    "$@" >"$room/output" 2>"$room/error" </dev/null
+    got=$?
+    printf 'status %s, output and error stream:\n' "$got"
+    head -c 600 -- "$room/output" "$room/error"
+    [ "$got" = "$status" ] && printf -- "$output" | cmp -s - "$room/output" &&
+        printf -- "$error" | cmp -s - "$room/error"
+}
+
+# Whether a machine has the command; else what it would have tried is said.
+has() {
+    command -v "$1" >/dev/null && return
+    printf 'SKIPPED: %s is not installed, so: %s\n' "$1" "$2"
+    return 1
+}
+
+# Ends the test with its count.
+ends() {
+    printf '%s: %s passed, %s failed\n' "$1" "$passed" "$failed"
+    exit $((failed != 0))
+}
