@@ -1,4 +1,4 @@
-"""Lines of tables that are computed, by the plain coder of `tests/plain`: too many or too long to be written by hand."""
+"""Lines of tables that are computed, by a plain coder: too many or too long to be written by hand."""
 
 import functools
 import itertools
@@ -8,17 +8,13 @@ import re
 import sys
 
 sys.dont_write_bytecode = True
-HERE = os.path.dirname(os.path.abspath(__file__))
-sys.path.insert(0, os.path.join(HERE, os.pardir, "plain"))
 
 import named  # noqa: E402
-from drawing import end_mark, to_bytes  # noqa: E402
-from notes import chosen_one_dimensional, chosen_two_dimensional  # noqa: E402
-from reading import runs_of  # noqa: E402
-from tables import EOL  # noqa: E402
+from plain import EOL, one_dimensional, runs_of, strip_bits, to_bytes, two_dimensional  # noqa: E402
 
-MSB, LSB = 1, 2
-ORDERS = {MSB: "msb", LSB: "lsb"}
+HERE = os.path.dirname(os.path.abspath(__file__))
+
+ORDERS = {1: "msb", 2: "lsb"}
 MOST_PELS = 10
 LISTS = 60
 MOST_K = 5
@@ -41,7 +37,7 @@ def pels_of(data, width):
 def packed(pels):
     """A row in a call: its width and its bytes."""
     bits = "".join("01"[pel == "B"] for pel in pels)
-    return f"{len(pels)}:{digits(to_bytes(bits, MSB))}"
+    return f"{len(pels)}:{digits(to_bytes(bits))}"
 
 
 def numbers(values):
@@ -103,11 +99,11 @@ def marks(kind, seed, width):
 def read_and_put(reference, row, why):
     """A row is written in both codings, and read back."""
     runs = numbers(runs_of(row))
-    one, two = chosen_one_dimensional(row), chosen_two_dimensional(reference, row)
+    one, two = one_dimensional(row), two_dimensional(reference, row)
     yield line(f"put_1d {packed(row)}", one, why)
     yield line(f"put_2d {packed(reference)} {packed(row)}", two, why)
-    yield line(f"read_1d {len(row)} {digits(to_bytes(one, MSB))}", f"{runs} {len(one)}", why)
-    yield line(f"read_2d {packed(reference)} {digits(to_bytes(two, MSB))}", f"{runs} {len(two)}", why)
+    yield line(f"read_1d {len(row)} {digits(to_bytes(one))}", f"{runs} {len(one)}", why)
+    yield line(f"read_2d {packed(reference)} {digits(to_bytes(two))}", f"{runs} {len(two)}", why)
 
 
 def marked_rows():
@@ -119,7 +115,7 @@ def marked_rows():
     white, changing = "W" * 65535, ("WB" * 32768)[:65535]
     yield from read_and_put(white, changing, "the row of most changes")
     black_first = ("BW" * 32768)[:65535]
-    assert len(chosen_one_dimensional(black_first)) == 294_914
+    assert len(one_dimensional(black_first)) == 294_914
     yield from read_and_put(white, black_first, "the row of most runs, the first of which has no pels")
 
 
@@ -129,7 +125,7 @@ def rows_of_width(width):
 
 def each_over(reference):
     """Every row over a reference row, written and read back."""
-    bits = [chosen_two_dimensional(reference, row) for row in rows_of_width(len(reference))]
+    bits = [two_dimensional(reference, row) for row in rows_of_width(len(reference))]
     return line(f"put_each {reference}", "".join(f"{of_row}." for of_row in bits), "every row over it")
 
 
@@ -138,7 +134,7 @@ def each_row(pool):
     references = [row for width in range(1, MOST_PELS + 1) for row in rows_of_width(width)]
     assert sum(2 ** len(row) for row in references) == 1_398_100
     for row in references:
-        bits = chosen_one_dimensional(row)
+        bits = one_dimensional(row)
         yield line(f"put_1d {row}", bits, "every row of few pels")
         yield line(f"read_1d {len(row)} {bits}", f"{numbers(runs_of(row))} {len(bits)}", "every row of few pels")
     yield from pool.imap(each_over, references, 16)
@@ -151,21 +147,6 @@ def rows(pool):
 
 
 # Strips.
-
-
-def strip_of(coding, k, aligned, drawn):
-    """The bits of a strip by the wording of T.4 (4.1.2, 4.1.3, 4.2.1.1, 4.2.2) and T.6 (2.2.1 and the end of block)."""
-    parts, length, reference = [], 0, "W" * len(drawn[0])
-    for number, row in enumerate(drawn):
-        one_dimensional = coding == "mh" or coding == "mr" and number % k == 0
-        fill = "0" * (-(length + len(EOL)) % 8) if aligned else ""
-        start = "" if coding == "mmr" else fill + EOL
-        tag = "01"[one_dimensional] if coding == "mr" else ""
-        codes = chosen_one_dimensional(row) if one_dimensional else chosen_two_dimensional(reference, row)
-        parts.append(start + tag + codes)
-        length += len(parts[-1])
-        reference = row
-    return "".join(parts) + (end_mark("mmr") if coding == "mmr" else "")
 
 
 def ways():
@@ -200,7 +181,7 @@ def drawn_strips():
         drawn = draw_rows(rng, rng.randint(1, 3000 if number % 10 == 9 else 70))
         words = " ".join(map(packed, drawn))
         for (coding, k, aligned), order in itertools.product(ways(), ORDERS):
-            wanted = digits(to_bytes(strip_of(coding, k, aligned, drawn), order))
+            wanted = digits(to_bytes(strip_bits(coding, k, aligned, drawn), order))
             call = f"write_strip {coding} {ORDERS[order]} {'aligned' if aligned else 'plain'} {k} {words}"
             yield line(call, wanted, f"list {number} of drawn rows")
 
@@ -227,8 +208,8 @@ def real_strips():
     drawn = [page_row(row) for row in range(2292)]
     words = " ".join(map(packed, drawn))
     for coding in ("mh", "mr", "mmr"):
-        bits = strip_of(coding, 4, False, drawn)
-        strip = digits(to_bytes(bits, MSB))
+        bits = strip_bits(coding, 4, False, drawn)
+        strip = digits(to_bytes(bits))
         yield line(f"write_strip {coding} msb plain 4 {words}", strip, "a page of real size")
         runs = " ".join(numbers(runs_of(row)) for row in drawn)
         yield line(f"read_rows {coding} msb 1728x2292 {strip}", runs, "a page of real size")
@@ -257,7 +238,7 @@ def files(_pool):
 def walks(_pool):
     """A walk over a million rows of one white pel, and as many pages as a file cannot have."""
     rows = 1_000_000
-    strip = to_bytes("1" * rows + EOL * 2, MSB)
+    strip = to_bytes("1" * rows + 2 * EOL)
     million = named.written(("mmr", 1, rows, rows, [strip]))
     yield line(f"count {digits(million)}", f"{rows} next 1:0:{rows} - read {rows}", "a million rows")
     images = b"P4\n1 1\n\x80" * 65_536

@@ -4,7 +4,7 @@ use Rattle.fax_bits.specs.Bits.{bits}
 use Rattle.fax_bits.specs.Codes.{IsFaultOf}
 use Rattle.fax_bits.specs.views.Source.{Source}
 use Rattle.fax_bits.specs.Tables.{modes}
-use Rattle.fax_row_tests.proofs.bits.caller.first_mode.Goals as goal
+use Rattle.fax_callers.proofs.bits.first_mode.Goals as goal
 
 pub returns-clause-err : goal.returns-clause-err
 returns-clause-err c =

@@ -7,7 +7,7 @@ struct Trits;
 
 impl CodeTable for Trits {
     ghost use Rattle.std.specs.Prelude.{refl};
-    ghost use Rattle.fax_row_tests.specs.Trits as Spec;
+    ghost use Rattle.fax_callers.specs.Trits as Spec;
 
     type Meaning = u8;
 

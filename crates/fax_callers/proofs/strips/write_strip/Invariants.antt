@@ -1,6 +1,6 @@
 use Rattle.std.proofs.Common.{take}
 use Rattle.fax_page.specs.laws.Writer.{HasPut}
-use Rattle.fax_strip_tests.proofs.strips.caller.write_strip.Given as goal
+use Rattle.fax_callers.proofs.strips.write_strip.Given as goal
 
 -- the rows so far were put
 abbrev pub invariant-loop-row : goal.invariant-loop-row

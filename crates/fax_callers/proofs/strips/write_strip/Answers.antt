@@ -2,7 +2,7 @@ use Rattle.std.proofs.Common.{◌∷◌, [], ◌++◌, take, sym, ap, ◌∙◌,
 use Rattle.std.specs.Prelude.{Result, Ok, Err, IfOk}
 use Rattle.std.proofs.lemmas.List.{take_more, take_all}
 use Rattle.fax_page.specs.laws.Writer.{HasPut}
-use Rattle.fax_strip_tests.proofs.strips.caller.write_strip.Goals as goal
+use Rattle.fax_callers.proofs.strips.write_strip.Goals as goal
 
 if_ok-weaker : {T E : Type 0} {P Q : T → Type 0} (r : Result T E) → ((v : T) → P v → Q v) → IfOk r P → IfOk r Q
 if_ok-weaker (Ok v) more holds = more v holds

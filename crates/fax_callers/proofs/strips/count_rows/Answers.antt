@@ -1,7 +1,7 @@
 use Rattle.std.proofs.Common.{[], ◌∷◌, ◌++◌, ap, inl, inr, arith, length-append}
 use Rattle.fax_page.specs.declared.StripForm.{StripForm}
 use Rattle.fax_page.specs.views.Reader.{ReadsRow, IsAtEnd}
-use Rattle.fax_strip_tests.proofs.strips.caller.count_rows.Goals as goal
+use Rattle.fax_callers.proofs.strips.count_rows.Goals as goal
 
 pub loop-count-preserved : goal.loop-count-preserved
 loop-count-preserved c =

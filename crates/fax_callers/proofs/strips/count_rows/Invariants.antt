@@ -1,7 +1,7 @@
 use Rattle.std.proofs.Common.{◌≡◌, ◌-◌, ◌≤◌, List, None, length}
 use Rattle.fax_bits.specs.declared.Colour.{Colour}
 use Rattle.fax_page.specs.laws.Reader.{HasRead}
-use Rattle.fax_strip_tests.proofs.strips.caller.count_rows.Given as goal
+use Rattle.fax_callers.proofs.strips.count_rows.Given as goal
 
 -- as many rows were read as are counted, and no fault was met
 abbrev pub invariant-loop-count : goal.invariant-loop-count
