@@ -4,7 +4,7 @@ ghost use Rattle.fax_bits.specs.Bits.{bits};
 ghost use Rattle.fax_bits.specs.declared.Colour.{Colour};
 ghost use Rattle.fax_page.specs.Lines.{IsLine, white_row};
 ghost use Rattle.fax_page.specs.views.Strip.{IsStripForm};
-ghost use Rattle.fax_rows.specs.Coded.{runs_of};
+ghost use Rattle.fax_rows.specs.Rows.{runs_of};
 
 use fax_page::{Coding, FillOrder, Memory, StripForm, StripReader};
 use std::alloc::Global;
