@@ -131,12 +131,7 @@ fn run(alloc: Global, colour: &str, pels: &str) -> Result<String, WrongLine> {
 }
 
 /// The bits of two short runs, the first of this colour.
-fn short_pair(
-    alloc: Global,
-    colour: &str,
-    first: &str,
-    second: &str,
-) -> Result<String, WrongLine> {
+fn short_pair(alloc: Global, colour: &str, first: &str, second: &str) -> Result<String, WrongLine> {
     let colour = words::colour(colour)?;
     let first = words::number(first)?;
     let second = words::number(second)?;

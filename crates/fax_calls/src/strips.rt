@@ -4,7 +4,9 @@ ghost use Rattle.fax_page.specs.views.Strip.{IsStripForm};
 
 use crate::table::WrongLine;
 use crate::{text, words};
-use fax_page::{Coding, FillOrder, NotesFault, Row, StripForm, StripReader, StripWriter, strip_notes};
+use fax_page::{
+    Coding, FillOrder, NotesFault, Row, StripForm, StripReader, StripWriter, strip_notes,
+};
 use std::alloc::Global;
 
 /// What a call of this file answers, or `None` where it has none of that name.

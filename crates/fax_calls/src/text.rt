@@ -59,7 +59,10 @@ pub fn runs(alloc: Global, row: &Row) -> Result<String, WrongLine> {
 
 /// The form of a page.
 pub fn form(alloc: Global, form: &PageForm) -> Result<String, WrongLine> {
-    let size = format!(in alloc; "{}x{} {:?} {:?}", form.width, form.rows, form.coding, form.order)?;
+    let size = format!(in alloc;
+        "{}x{} {:?} {:?}",
+        form.width, form.rows, form.coding, form.order
+    )?;
     let strips = format!(in alloc; "{} of {}", form.strips, form.rows_per_strip)?;
     let (x, y) = (form.x, form.y);
     let inch = format!(in alloc; "{}/{} {}/{} {}", x.0, x.1, y.0, y.1, form.unit)?;

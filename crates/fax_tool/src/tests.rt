@@ -5,8 +5,8 @@ mod caller;
 mod opening;
 mod streams;
 
-use caller::{WHOLE, printed_by};
 use crate::Command;
+use caller::{WHOLE, printed_by};
 
 /// A file of one MH page of 8 pels by 1 row, WWWBBWWW.
 #[rattlefmt::skip]
