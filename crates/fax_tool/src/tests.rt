@@ -1,14 +1,12 @@
-//! Runs over streams in memory, and the words of command lines. Runs of the built program over
-//! files stand as data in the folder `tests` of the repository.
+//! Runs over streams in memory, of what no run of the built program shows. Those stand as data in
+//! the folder `tests` of the repository.
 
 mod caller;
 mod opening;
-mod page;
 mod streams;
-mod words;
 
-use crate::{Command, Cursor, Part};
-use caller::{WHOLE, printed_by, rows_of};
+use crate::Command;
+use caller::{WHOLE, printed_by};
 
 /// A file of one MH page of 8 pels by 1 row, WWWBBWWW.
 #[rattlefmt::skip]
@@ -43,58 +41,11 @@ const ONE_MH_PAGE: [u8; 226] = [
 
 #[test]
 fn prints_rows(rt: HostRuntime) {
-    let printed = rows_of(rt.alloc(), &ONE_MH_PAGE);
+    let printed = printed_by(rt.alloc(), Command::Rows(WHOLE), &ONE_MH_PAGE);
     assert_eq!(rt;
         printed.output.as_slice(),
         b"row 0 0 3 2 3\nend\n".as_slice()
     );
     assert!(rt; printed.error.is_empty());
     assert_eq!(rt; printed.status, 0);
-}
-
-#[test]
-fn prints_pages(rt: HostRuntime) {
-    let printed = printed_by(rt.alloc(), Command::List(WHOLE), &ONE_MH_PAGE);
-    assert_eq!(rt;
-        printed.output.as_slice(),
-        b"page 0 8 1 mh 1 0 1 204/1 196/1 2\nend\n".as_slice()
-    );
-    assert!(rt; printed.error.is_empty());
-    assert_eq!(rt; printed.status, 0);
-}
-
-/// One line, from a row of the first page on.
-fn first_of(row: u32) -> Part {
-    Part {
-        cursor: Cursor { page: 0, row },
-        max: Some(1),
-        long: false,
-        from: None,
-    }
-}
-
-#[test]
-fn looks_no_further_at_the_limit(rt: HostRuntime) {
-    let rows = printed_by(rt.alloc(), Command::Rows(first_of(0)), &ONE_MH_PAGE);
-    assert_eq!(rt;
-        rows.output.as_slice(),
-        b"row 0 0 3 2 3\nnext 1:0:1\n".as_slice()
-    );
-    assert_eq!(rt; rows.status, 0);
-    let pages = printed_by(rt.alloc(), Command::List(first_of(0)), &ONE_MH_PAGE);
-    assert!(rt; pages.output.as_slice().ends_with(b"\nnext 1:1:0\n"));
-    assert_eq!(rt; pages.status, 0);
-}
-
-#[test]
-fn says_that_a_cursor_is_outside(rt: HostRuntime) {
-    for command in [Command::Rows(first_of(2)), Command::List(first_of(2))] {
-        let printed = printed_by(rt.alloc(), command, &ONE_MH_PAGE);
-        assert!(rt; printed.output.is_empty());
-        assert_eq!(rt;
-            printed.error.as_slice(),
-            b"fault cursor: CursorOutside\n".as_slice()
-        );
-        assert_eq!(rt; printed.status, 1);
-    }
 }

@@ -1,6 +1,6 @@
 //! A run over bytes in memory, with all that a caller learns of it.
 
-use crate::{Command, Cursor, FillOrder, FromRead, Job, Options, Part, Target, ToWrite, run};
+use crate::{Command, Cursor, FromRead, Job, Part, ToWrite, run};
 use std::alloc::Global;
 
 /// All of a file.
@@ -9,15 +9,6 @@ pub const WHOLE: Part = Part {
     max: None,
     long: false,
     from: None,
-};
-
-/// Into raw PBM.
-pub const TO_PBM: Options = Options {
-    target: Target::Pbm,
-    order: FillOrder::MsbFirst,
-    k: 4,
-    strip: None,
-    aligned: false,
 };
 
 /// What a run printed.
@@ -50,9 +41,4 @@ pub fn printed_by(alloc: Global, command: Command, file: &[u8]) -> Printed
         error: err.into_inner(),
         status,
     }
-}
-
-/// Runs `rows` over all of a file.
-pub fn rows_of(alloc: Global, file: &[u8]) -> Printed {
-    printed_by(alloc, Command::Rows(WHOLE), file)
 }

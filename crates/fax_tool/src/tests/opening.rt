@@ -57,25 +57,12 @@ fn left_by(alloc: Global, words: &[&str]) -> (Vec<u8>, Vec<u8>, u8) {
 }
 
 #[test]
-fn runs_over_the_file_of_its_name(rt: HostRuntime) {
+fn opens_the_file_of_its_name_alone(rt: HostRuntime) {
     let words = ["faxpages", "convert", "-o", "pbm", "row.pbm"];
     let (output, error, status) = left_by(rt.alloc(), &words);
     assert_eq!(rt; status, 0);
     assert_eq!(rt; output.as_slice(), BLACK_ROW);
     assert!(rt; error.is_empty());
-}
-
-#[test]
-fn runs_over_standard_input(rt: HostRuntime) {
-    let words = ["faxpages", "convert", "-o", "pbm"];
-    let (output, error, status) = left_by(rt.alloc(), &words);
-    assert_eq!(rt; status, 1);
-    assert!(rt; output.is_empty());
-    assert_eq!(rt; error.as_slice(), b"fault: UnknownInput\n".as_slice());
-}
-
-#[test]
-fn says_that_a_file_is_not_opened(rt: HostRuntime) {
     let words = ["faxpages", "convert", "-o", "pbm", "other.pbm"];
     let (output, error, status) = left_by(rt.alloc(), &words);
     assert_eq!(rt; status, 3);

@@ -1,0 +1,214 @@
+//! Calls of `fax_bits`: codes, and bits in bytes.
+use crate::table::WrongLine;
+use crate::{text, words};
+use fax_bits::{
+    BitSink, BitSource, BlackRuns, CodeFault, CodeTable, FillOrder, Memory, ModeCode, Modes,
+    PendingBits, SHORT_RUN, WhiteRuns, put_mode, put_run, read_code, reverse_bits,
+};
+use std::alloc::Global;
+
+/// What a call of this file answers, or `None` where it has none of that name.
+pub fn answer(alloc: Global, words: &[&str]) -> Result<Option<String>, WrongLine> {
+    let answer = match *words {
+        ["read_code", table, bits] => code(alloc, table, bits)?,
+        ["find", table, bits] => found(alloc, table, bits)?,
+        ["pairs", skip, bits, most] => pairs(alloc, skip, bits, most)?,
+        ["pair_within", total, width, bits] => pair_within(alloc, total, width, bits)?,
+        ["past_ones", bits, most] => past_ones(alloc, bits, most)?,
+        ["put_run", colour, pels] => run(alloc, colour, pels)?,
+        ["put_short_pair", colour, first, second] => short_pair(alloc, colour, first, second)?,
+        ["put_mode", mode] => mode_bits(alloc, mode)?,
+        ["put", order, first, second, third] => three_puts(alloc, order, first, second, third)?,
+        ["peek", order, bits, count] => peeked(alloc, order, bits, count)?,
+        ["reverse_bits", bytes] => reversed(alloc, bytes)?,
+        ["says", fault] => said(alloc, fault)?,
+        _ => return Ok(None),
+    };
+    Ok(Some(answer))
+}
+
+/// The code that bits begin with, and the place after it.
+fn code(alloc: Global, table: &str, bits: &str) -> Result<String, WrongLine> {
+    let bytes = words::bytes(alloc, bits)?;
+    let mut source = BitSource::new(&bytes, FillOrder::MsbFirst);
+    let read = match table {
+        "white" => format!(in alloc; "{:?}", read_code::<WhiteRuns>(&mut source))?,
+        "black" => format!(in alloc; "{:?}", read_code::<BlackRuns>(&mut source))?,
+        "modes" => format!(in alloc; "{:?}", read_code::<Modes>(&mut source))?,
+        _ => return Err(WrongLine::BadWord),
+    };
+    Ok(format!(in alloc; "{read} {}", source.place())?)
+}
+
+/// The length and the meaning of the code that few bits begin with.
+fn found(alloc: Global, table: &str, bits: &str) -> Result<String, WrongLine> {
+    let (window, count) = words::short_bits(bits)?;
+    if count > 13 {
+        return Err(WrongLine::OutOfLimits);
+    }
+    match table {
+        "white" => Ok(format!(in alloc; "{:?}", WhiteRuns::find(window, count))?),
+        "black" => Ok(format!(in alloc; "{:?}", BlackRuns::find(window, count))?),
+        "modes" => Ok(format!(in alloc; "{:?}", Modes::find(window, count))?),
+        _ => Err(WrongLine::BadWord),
+    }
+}
+
+/// The pairs of a white run and a black one that are read one after another, and the place after
+/// them.
+fn pairs(alloc: Global, skip: &str, bits: &str, most: &str) -> Result<String, WrongLine> {
+    let most = words::number(most)?;
+    let bytes = words::bytes(alloc, bits)?;
+    let mut source = BitSource::new(&bytes, FillOrder::MsbFirst);
+    let skip = u64::from(words::number(skip)?);
+    if skip > source.remaining() {
+        return Err(WrongLine::OutOfLimits);
+    }
+    source.skip(skip);
+    let Some(mut ahead) = source.ahead() else {
+        return Err(WrongLine::OutOfLimits);
+    };
+    let mut text = String::new(alloc);
+    for _ in 0..8 {
+        match ahead.pair(most) {
+            Ok((after, pair)) => {
+                text.push_str(&format!(in alloc; "{},{} ", pair.white, pair.black)?)?;
+                ahead = after;
+            }
+            Err(again) => {
+                text.push_str(&format!(in alloc; "{}", again.source().place())?)?;
+                return Ok(text);
+            }
+        }
+    }
+    Err(WrongLine::OutOfLimits)
+}
+
+/// Whether a pair is read where so many pels of the row's width stand before it.
+fn pair_within(alloc: Global, total: &str, width: &str, bits: &str) -> Result<String, WrongLine> {
+    let total = words::number(total)?;
+    let width = words::number(width)?;
+    let bytes = words::bytes(alloc, bits)?;
+    let source = BitSource::new(&bytes, FillOrder::MsbFirst);
+    let Some(ahead) = source.ahead() else {
+        return Err(WrongLine::OutOfLimits);
+    };
+    if total >= 0x8000_0000 {
+        return Err(WrongLine::OutOfLimits);
+    }
+    match ahead.pair_within(total, width) {
+        Ok((_, pair)) => Ok(format!(in alloc; "{},{}", pair.white, pair.black)?),
+        Err(again) => Ok(format!(in alloc; "none {}", again.source().place())?),
+    }
+}
+
+/// How many ones are next, how many of them are gone past, and the place after those.
+fn past_ones(alloc: Global, bits: &str, most: &str) -> Result<String, WrongLine> {
+    let most = words::number(most)?;
+    let bytes = words::bytes(alloc, bits)?;
+    let source = BitSource::new(&bytes, FillOrder::MsbFirst);
+    let Some(ahead) = source.ahead() else {
+        return Err(WrongLine::OutOfLimits);
+    };
+    if most > 32 {
+        return Err(WrongLine::OutOfLimits);
+    }
+    let ones = ahead.ones();
+    let (after, count) = ahead.past_ones(most);
+    Ok(format!(in alloc; "{ones} {count} {}", after.source().place())?)
+}
+
+/// The bits of a run.
+fn run(alloc: Global, colour: &str, pels: &str) -> Result<String, WrongLine> {
+    let colour = words::colour(colour)?;
+    let pels = words::number(pels)?;
+    if pels > 65_535 {
+        return Err(WrongLine::OutOfLimits);
+    }
+    let mut sink = BitSink::new(alloc, FillOrder::MsbFirst);
+    put_run(&mut sink, colour, pels)?;
+    text::bits(alloc, sink)
+}
+
+/// The bits of two short runs, the first of this colour.
+fn short_pair(alloc: Global, colour: &str, first: &str, second: &str) -> Result<String, WrongLine> {
+    let colour = words::colour(colour)?;
+    let first = words::number(first)?;
+    let second = words::number(second)?;
+    if first >= SHORT_RUN || second >= SHORT_RUN {
+        return Err(WrongLine::OutOfLimits);
+    }
+    let mut sink = BitSink::new(alloc, FillOrder::MsbFirst);
+    PendingBits::none()
+        .put_short_pair(&mut sink, colour, first, second)?
+        .put_all(&mut sink)?;
+    text::bits(alloc, sink)
+}
+
+/// The bits of a mode: its name, or how far a1 is right of b1.
+fn mode_bits(alloc: Global, mode: &str) -> Result<String, WrongLine> {
+    let mode = match mode {
+        "pass" => ModeCode::Pass,
+        "horizontal" => ModeCode::Horizontal,
+        "0" => ModeCode::Vertical(0),
+        "1" => ModeCode::Vertical(1),
+        "2" => ModeCode::Vertical(2),
+        "3" => ModeCode::Vertical(3),
+        "-1" => ModeCode::Vertical(-1),
+        "-2" => ModeCode::Vertical(-2),
+        "-3" => ModeCode::Vertical(-3),
+        _ => return Err(WrongLine::BadWord),
+    };
+    let mut sink = BitSink::new(alloc, FillOrder::MsbFirst);
+    put_mode(&mut sink, mode)?;
+    text::bits(alloc, sink)
+}
+
+/// How many bits three puts leave, and their bytes.
+fn three_puts(
+    alloc: Global,
+    order: &str,
+    first: &str,
+    second: &str,
+    third: &str,
+) -> Result<String, WrongLine> {
+    let mut sink = BitSink::new(alloc, words::order(order)?);
+    for word in [first, second, third] {
+        let (bits, len) = words::short_bits(word)?;
+        sink.put(bits, len)?;
+    }
+    let len = sink.len();
+    sink.pad();
+    sink.pad();
+    let bytes = text::digits(alloc, &sink.into_bytes())?;
+    Ok(format!(in alloc; "{len} {bytes}")?)
+}
+
+/// The number of the first bits.
+fn peeked(alloc: Global, order: &str, bytes: &str, count: &str) -> Result<String, WrongLine> {
+    let order = words::order(order)?;
+    let bytes = words::bytes(alloc, bytes)?;
+    let count = words::number(count)?;
+    if count > 24 {
+        return Err(WrongLine::OutOfLimits);
+    }
+    let source = BitSource::new(&bytes, order);
+    Ok(format!(in alloc; "{:b}", source.peek(count))?)
+}
+
+/// The bytes with their bits turned round.
+fn reversed(alloc: Global, bytes: &str) -> Result<String, WrongLine> {
+    let mut bytes = words::bytes(alloc, bytes)?;
+    reverse_bits(&mut bytes);
+    text::digits(alloc, &bytes)
+}
+
+/// What an error says.
+fn said(alloc: Global, fault: &str) -> Result<String, WrongLine> {
+    match fault {
+        "DataEnds" => Ok(format!(in alloc; "{}", CodeFault::DataEnds)?),
+        "BadCode" => Ok(format!(in alloc; "{}", CodeFault::BadCode)?),
+        "Memory" => Ok(format!(in alloc; "{Memory}")?),
+        _ => Err(WrongLine::BadWord),
+    }
+}
