@@ -145,6 +145,16 @@ fn push_steps(
     Ok(())
 }
 
+/// The row of few pels that the highest bits of a number spell.
+fn few_pels(alloc: Global, width: u32, pels: u16) -> Result<Row, WrongLine> {
+    let [first, second] = pels.to_be_bytes();
+    if width > 8 {
+        words::packed_row(alloc, width, &[first, second])
+    } else {
+        words::packed_row(alloc, width, &[first])
+    }
+}
+
 /// The bits of each row over a reference row of few pels, by the number that the pels spell, with
 /// a `!` after those that are not read back.
 fn put_each(alloc: Global, reference: &str) -> Result<String, WrongLine> {
@@ -155,8 +165,7 @@ fn put_each(alloc: Global, reference: &str) -> Result<String, WrongLine> {
     }
     let mut text = String::new(alloc);
     for number in 0..1u16 << width {
-        let pels = number << (16 - width);
-        let row = words::packed_row(alloc, width, &pels.to_be_bytes())?;
+        let row = few_pels(alloc, width, number << (16 - width))?;
         push_steps(alloc, &mut text, &reference, &row)?;
         text.push('.')?;
     }
