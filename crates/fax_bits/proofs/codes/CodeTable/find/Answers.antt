@@ -1,4 +1,4 @@
-use Rattle.std.proofs.Common.{◌≡◌, ◌/◌, ◌^◌, ◌-◌, ◌≤◌, arith, refl, ap, sym, ◌∙◌}
+use Rattle.std.proofs.Common.{◌/◌, ◌^◌, ◌-◌, ◌≤◌, arith, refl, ap, sym, ◌∙◌}
 use Rattle.fax_bits.specs.Codes.{bits_of}
 use Rattle.fax_bits.specs.Bits.{code_bits, BeginsWith}
 use Rattle.fax_bits.proofs.FindLemmas.{code_ahead, ahead_is_short, ahead_is_first}
