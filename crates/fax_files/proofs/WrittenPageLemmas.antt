@@ -17,9 +17,9 @@ use Rattle.fax_files.specs.code.Entries.{entry_count}
 use Rattle.fax_files.specs.Directory.{entries, is_directory, next_offset}
 use Rattle.fax_files.specs.declared.Endian.TheVariants.{Little}
 use Rattle.fax_files.specs.declared.PageForm.{PageForm}
-use Rattle.fax_files.specs.code.Steps.{page_resolution, page_in_steps, page_size, pel_format, strip_rows, are_exchanged, fill_order}
+use Rattle.fax_files.specs.code.Steps.{page_resolution, page_size, pel_format, strip_rows, are_exchanged, fill_order}
 use Rattle.fax_files.specs.Page.{page, strip_bytes}
-use Rattle.fax_files.specs.code.Steps.{t4_coding, page_coding}
+use Rattle.fax_files.specs.code.Steps.{page_coding}
 use Rattle.fax_files.specs.Page.{fill_order_of}
 use Rattle.fax_files.specs.views.Page.{strip_count}
 use Rattle.fax_files.specs.Written.{to_link, two, WrittenField}
