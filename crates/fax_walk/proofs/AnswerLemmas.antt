@@ -1,5 +1,5 @@
 -- What is converted has one output or one fault, and what is checked has one report.
-use Rattle.std.proofs.Common.{◌≡◌, ℕ, ◌+◌, ◌*◌, ◌≤◌, List, [], ◌∷◌, length, Option, Some, None, Result, Ok, Err, Bool, true, false}
+use Rattle.std.proofs.Common.{◌≡◌, ℕ, ◌+◌, ◌*◌, List, [], ◌∷◌, length, Option, Some, None, Result, Ok, Err, Bool, true, false}
 use Rattle.std.proofs.Common.{refl, ap, sym, ◌∙◌, subst, arith, inl, inr, codes}
 use Rattle.std.specs.Prelude.{◌==◌, ◌&&◌, flat_map, slice_get, map, if◌then◌else◌}
 use Rattle.std.proofs.lemmas.Bool.Decides.{nat_tests}
@@ -8,11 +8,10 @@ use Rattle.fax_bits.specs.declared.Colour.{Colour}
 use Rattle.fax_bits.specs.laws.Codes.{IsOne}
 use Rattle.fax_files.specs.declared.FileFault.{FileFault}
 use Rattle.fax_files.specs.declared.Cause.{Cause}
-use Rattle.fax_files.specs.declared.Cause.TheVariants.{File, Strip}
-use Rattle.fax_files.specs.declared.FileFault.TheVariants.{StripOutside}
+use Rattle.fax_files.specs.declared.Cause.TheVariants.{Strip}
 use Rattle.fax_files.specs.declared.PageForm.{PageForm}
 use Rattle.fax_files.specs.declared.pbm.PbmFault.{PbmFault}
-use Rattle.fax_files.specs.Directory.{Header, header, IsChain}
+use Rattle.fax_files.specs.Directory.{Header, header}
 use Rattle.fax_files.specs.Page.{page, strip_bytes, strip_form, usual_resolution}
 use Rattle.fax_files.specs.Pbm.{AreImages, Image}
 use Rattle.fax_files.specs.laws.Files.{FilesHaveOneChain}
@@ -22,8 +21,6 @@ use Rattle.fax_page.specs.declared.StripForm.{StripForm}
 use Rattle.fax_page.specs.declared.notes.StripNotes.{StripNotes}
 use Rattle.fax_page.specs.Strip.{IsNotedAs, IsStrip}
 use Rattle.fax_page.specs.laws.Strips.{ReadsStripsOneWay, StripsAreNotedInOneWay}
-use Rattle.fax_walk.specs.declared.checking.Note.{Note}
-use Rattle.fax_walk.specs.declared.checking.Report.{Report}
 use Rattle.fax_walk.specs.declared.cursor.Cursor.{Cursor}
 use Rattle.fax_walk.specs.declared.end.End.{End}
 use Rattle.fax_walk.specs.declared.end.End.TheVariants.{Fault, Outside, Proper}
@@ -32,11 +29,11 @@ use Rattle.fax_walk.specs.declared.options.ConvertFault.TheVariants as Refused
 use Rattle.fax_walk.specs.declared.options.Options.{Options}
 use Rattle.fax_walk.specs.declared.walk.Place.{Place}
 use Rattle.fax_walk.specs.Converted.{IsConverted, IsNotConverted, IsSource, IsTiff, IsTooLarge, SourcePage, pages_of, target_bytes}
-use Rattle.fax_walk.specs.Pages.{AreForms, AreFrom, FilePage, FormItem, IsOnPage, IsPageAt}
-use Rattle.fax_walk.specs.Report.{IsNoted, IsReport, IsReportedEnd, IsStripNoted, notes_on_strip}
+use Rattle.fax_walk.specs.Pages.{AreFrom, FilePage, IsOnPage}
+use Rattle.fax_walk.specs.Report.{IsNoted, IsReportedEnd, IsStripNoted, notes_on_strip}
 use Rattle.fax_walk.specs.Rows.{AreItems, RowItem}
-use Rattle.fax_walk.specs.code.Opening.{IsPageUnder, end_past_chain, page_or_end, page_over}
-use Rattle.fax_walk.specs.laws.Answers.{AreConvertedInOneWay, BytesAreConvertedInOneWay, FilesHaveOneReport, SayTheSame}
+use Rattle.fax_walk.specs.code.Opening.{IsPageUnder, page_or_end, page_over}
+use Rattle.fax_walk.specs.laws.Answers.{BytesAreConvertedInOneWay, FilesHaveOneReport}
 use Rattle.fax_walk.specs.laws.Tails.{FilesHaveOneForms, FilesHaveOneItems}
 use Rattle.fax_walk.proofs.InOrderLemmas.{same_answer}
 use Rattle.fax_walk.proofs.PageLawLemmas.{one_page}
