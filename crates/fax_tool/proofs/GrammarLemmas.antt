@@ -1,5 +1,5 @@
 -- What the grammar says of one word, of numbers and of uses that differ, and what scanning computes of them.
-use Rattle.std.proofs.Common.{◌≡◌, ◌≢◌, ◌⊎◌, ◌<◌, ◌≤◌, ◌==◌, ◌&&◌, ◌||◌, ◌∙◌, ◌++◌, ap, arith, codes, inl, inr, lit<, refl, sym, subst}
+use Rattle.std.proofs.Common.{◌≡◌, ◌≢◌, ◌<◌, ◌==◌, ◌&&◌, ◌||◌, ◌∙◌, ◌++◌, ap, arith, inl, inr, lit<, refl, sym, subst}
 use Rattle.std.proofs.Common.{Bool, true, false, ℕ, zero, suc, List, [], ◌∷◌, Option, Some, None, is_some, length}
 use Rattle.std.specs.Prelude.{nat_le, nat_lt, not, slice_get}
 use Rattle.std.specs.Char.{digit_value}

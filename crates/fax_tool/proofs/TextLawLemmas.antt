@@ -1,19 +1,17 @@
 -- What a command writes of a file is one text.
-use Rattle.std.proofs.Common.{◌≡◌, ℕ, List, [], ◌++◌, codes, Option, None, Bool, false, refl, ap, sym, ◌∙◌, subst, inl, inr}
+use Rattle.std.proofs.Common.{◌≡◌, ℕ, List, [], ◌++◌, codes, Option, Bool, false, ap, sym, ◌∙◌, inl, inr}
 use Rattle.std.specs.Prelude.{flat_map}
 use Rattle.std.specs.Option.{option_map_or}
 use Rattle.fax_bits.specs.laws.Codes.{IsOne}
 use Rattle.fax_files.specs.declared.Cause.{Cause}
 use Rattle.fax_walk.specs.declared.checking.Note.{Note}
-use Rattle.fax_walk.specs.declared.checking.Report.{Report}
 use Rattle.fax_walk.specs.declared.options.Options.{Options}
 use Rattle.fax_walk.specs.declared.walk.Place.{Place}
 use Rattle.fax_walk.specs.laws.Answers.{BytesAreConvertedInOneWay, FilesHaveOneReport}
 use Rattle.fax_walk.specs.laws.Tails.{BeginningsHaveOneTail, CursorsHaveOneFormTail, CursorsNameOnePage}
-use Rattle.fax_tool.specs.ReportText.{IsCheckText, IsConversionText, convert_fault_line, note_line, report_text}
+use Rattle.fax_tool.specs.ReportText.{IsCheckText, IsConversionText, convert_fault_line, note_line}
 use Rattle.fax_tool.specs.Run.{ArePageLines, AreRowLines, IsTextOfLines, begun_of}
 use Rattle.fax_tool.specs.Text.{Begun, At, End, Line, Printed, and_number, fault_line, text_of}
-use Rattle.fax_tool.specs.declared.words.Command.{Command}
 use Rattle.fax_tool.specs.declared.words.Command.TheVariants.{Check, Convert, List as Forms, Rows}
 use Rattle.fax_tool.specs.laws.Texts.{TextsAreOne}
 use Rattle.fax_tool.proofs.LineLemmas.{one_pages, one_rows}
