@@ -9,12 +9,16 @@ sys.path.insert(0, os.path.join(TOP, "tests", "documents"))
 
 import contracts  # noqa: E402
 
-CRATES = ["fax_bits", "fax_rows", "fax_page", "fax_files", "fax_walk", "fax_tool"]
+CRATES = ["fax_bits", "fax_rows", "fax_page", "fax_files", "fax_walk", "fax_tool", "fax_c"]
 
 # The program has no callers: what it promises stands on these.
 PROGRAM = "fax_tool"
 PROGRAM_FILES = ["run", "program", "input", "words", "streams"]
 PROGRAM_CALLS = {"run", "run_words", "parse_words", "WordsFault", "Input", "Source", "Sink"}
+
+# The library for C: what it exports is called by no crate, and stands in modules of its own.
+LIBRARY = "fax_c"
+CALL = re.compile(r"pub (?:const |extern \"C\" )?fn (\w+)")
 
 NAME = r"[A-Za-z_][\w-]*'?"
 USED = re.compile(rf"(?<![\w.])({NAME}(?:\.{NAME})*)")
@@ -111,6 +115,11 @@ def clause_names(text, uses):
             yield found
 
 
+def calls_from_c(paths):
+    """The calls that these sources export to C."""
+    return {name for path in paths for name in re.findall(r'^pub extern "C" fn (\w+)', contracts.read(path), re.M)}
+
+
 def public_roots(crate):
     """What the public contracts of a crate name, and how its public types are seen; and what its laws say."""
     calls, laws = set(), set()
@@ -118,8 +127,8 @@ def public_roots(crate):
         names = PROGRAM_CALLS
         paths = [os.path.join("crates", crate, "src", f"{file}.rt") for file in PROGRAM_FILES]
     else:
-        names = contracts.exported(crate)
         paths = list(contracts.sources(crate))
+        names = calls_from_c(paths) if crate == LIBRARY else contracts.exported(crate)
     for path in paths + [os.path.join("crates", crate, "src", "laws.rt")]:
         if not os.path.exists(os.path.join(TOP, path)):
             continue
@@ -138,7 +147,7 @@ def public_roots(crate):
             where = laws if law else calls
             if law and re.match(r"pub fn ", line):
                 where.update(clause_names("\n".join(contracts.head(lines, at)), uses))
-            elif re.match(r"pub (?:const )?fn (\w+)", line) and re.match(r"pub (?:const )?fn (\w+)", line).group(1) in names:
+            elif CALL.match(line) and CALL.match(line).group(1) in names:
                 where.update(clause_names("\n".join(contracts.head(lines, at)), uses))
             elif owner in names and re.match(r"    (pub )?(?:const )?fn ", line) and ("pub" in line or is_trait):
                 where.update(clause_names("\n".join(contracts.head(lines, at)), uses))

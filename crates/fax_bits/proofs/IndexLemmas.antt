@@ -80,7 +80,7 @@ black_long_place number below = place_at BLACK_LONG black_runs 13 512 number bla
 pub mode_place : (number : ℕ) → number < 2 ^ 13 → get_or MODE_PLACES (number / 2 ^ 6) 0 ≡ place_of modes 13 number
 mode_place number within = short_place_at MODE_PLACES modes 7 0 number mode_places_is (omega arith) mode_long_codes within (omega arith)
 
--- where the codes are long, the arrays of the short ones hold no place of a terminating code, and the white one none of a make-up code
+-- where the codes are long, the arrays of the short ones hold no place of a code of a run
 white_long_first : (i : ℕ) → i < 4 → 104 ≤ get_or WHITE_SHORT i 0
 white_long_first zero within = let e : get_or WHITE_SHORT 0 0 ≡ 105 = refl in omega (arith, e)
 white_long_first (suc zero) within = let e : get_or WHITE_SHORT 1 0 ≡ 104 = refl in omega (arith, e)
@@ -88,7 +88,7 @@ white_long_first (suc (suc zero)) within = let e : get_or WHITE_SHORT 2 0 ≡ 10
 white_long_first (suc (suc (suc zero))) within = let e : get_or WHITE_SHORT 3 0 ≡ 105 = refl in omega (arith, e)
 white_long_first (suc (suc (suc (suc i)))) within = absurd (omega arith)
 
-black_long_first : (i : ℕ) → i < 4 → 64 ≤ get_or BLACK_SHORT i 0
+black_long_first : (i : ℕ) → i < 4 → 104 ≤ get_or BLACK_SHORT i 0
 black_long_first zero within = let e : get_or BLACK_SHORT 0 0 ≡ 105 = refl in omega (arith, e)
 black_long_first (suc zero) within = let e : get_or BLACK_SHORT 1 0 ≡ 105 = refl in omega (arith, e)
 black_long_first (suc (suc zero)) within = let e : get_or BLACK_SHORT 2 0 ≡ 105 = refl in omega (arith, e)
@@ -103,7 +103,7 @@ white_short_place number within few =
       | inr above ↦ white_place number above within
     ]
 
-pub black_short_place : (number : ℕ) → number < 2 ^ 13 → get_or BLACK_SHORT (number / 2 ^ 7) 0 < 64
+pub black_short_place : (number : ℕ) → number < 2 ^ 13 → get_or BLACK_SHORT (number / 2 ^ 7) 0 < 104
     → get_or BLACK_SHORT (number / 2 ^ 7) 0 ≡ place_of black_runs 13 number
 black_short_place number within few =
     elim (cases_lt number 512) [

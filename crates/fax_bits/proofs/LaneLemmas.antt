@@ -94,7 +94,7 @@ turned_group g old new ys n so_far ys_is within = record {
   len = length-put_chunk n new ys ∙ so_far.len;
   done = λ k h l. elim (cases_lt k n) [
     | inl before ↦ get_or-put_chunk_below n new ys k 0 before ∙ so_far.done k before l
-    | inr behind ↦ in_group k behind h
+    | inr after ↦ in_group k after h
   ];
   left = λ k h. get_or-put_chunk_above n new ys k 0 (omega (arith, sixteen)) ∙ so_far.left k (omega arith);
 }
@@ -106,14 +106,14 @@ turned_group g old new ys n so_far ys_is within = record {
     sixteen = ap length ys_is ∙ length-map (chunk n 16 new) g ∙ long
 
     in_group : (k : ℕ) → n ≤ k → k < n + 16 → get_or (put_chunk n new ys) k 0 ≡ g (get_or old k 0)
-    in_group k behind h =
+    in_group k after h =
         let at : n + (k - n) ≡ k = omega arith in
         let near : k - n < 16 = omega arith in
         ap (λ m. get_or (put_chunk n new ys) m 0) (sym at)
         ∙ get_or-put_chunk_at n new ys (k - n) 0 (omega (arith, sixteen)) (omega (arith, sixteen, so_far.len))
         ∙ ap (λ xs. get_or xs (k - n) 0) ys_is ∙ get_or-map g (chunk n 16 new) (k - n) 0 0 (omega (arith, long))
         ∙ ap g (get_or-take 16 (drop n new) (k - n) 0 near ∙ get_or-drop n new (k - n) 0 ∙ ap (λ m. get_or new m 0) at
-        ∙ so_far.left k behind)
+        ∙ so_far.left k after)
 
 -- one more
 pub turned_one : (g : ℕ → ℕ) (old new : List ℕ) (n y : ℕ) → IsTurnedUpTo g old new n → y ≡ g (get_or new n 0) → n < length old
@@ -122,7 +122,7 @@ turned_one g old new n y so_far y_is within = record {
   len = length-set new n y ∙ so_far.len;
   done = λ k h l. elim (cases_lt k n) [
     | inl before ↦ let other : k ≢ n = omega arith in get_or-set_other new n k y 0 other ∙ so_far.done k before l
-    | inr behind ↦
+    | inr after ↦
         let at : n ≡ k = omega arith in
         subst (λ m. get_or (set new n y) m 0 ≡ g (get_or old m 0)) at
         (get_or-set_same new n y 0 (omega (arith, so_far.len)) ∙ y_is ∙ ap g (so_far.left n (omega arith)))

@@ -19,6 +19,7 @@ pub mod OneLemmas
 pub mod TakeLemmas
 pub mod ReadLemmas
 pub mod PlaceLemmas
+pub mod RunPlaceLemmas
 pub mod AheadLemmas
 pub mod IndexLemmas
 pub mod WordLemmas
@@ -28,3 +29,5 @@ pub mod PackedLemmas
 pub mod LaneLemmas
 pub mod WrittenRunLemmas
 pub mod PairLemmas
+pub mod LookUpLemmas
+pub mod LookedAtLemmas

@@ -17,16 +17,16 @@ abbrev digit_of : Bool → ℕ
 digit_of bit = if bit then 1 else 0
 
 -- bits after a number
-number-behind : (b : List Bool) (a : ℕ) → fold (λ number bit. 2 * number + digit_of bit) a b ≡ a * 2 ^ length b + bits_number b
-number-behind [] a = omega arith
-number-behind (x ∷ b) a =
-    let here = number-behind b (2 * a + digit_of x) in
-    let first = number-behind b (2 * 0 + digit_of x) in
+number-after : (b : List Bool) (a : ℕ) → fold (λ number bit. 2 * number + digit_of bit) a b ≡ a * 2 ^ length b + bits_number b
+number-after [] a = omega arith
+number-after (x ∷ b) a =
+    let here = number-after b (2 * a + digit_of x) in
+    let first = number-after b (2 * 0 + digit_of x) in
     rw (pow-succ' 2 (length b)) (omega (arith, here, first))
 
 number-cons : (x : Bool) (b : List Bool) → bits_number (x ∷ b) ≡ digit_of x * 2 ^ length b + bits_number b
-number-cons true b = number-behind b 1
-number-cons false b = number-behind b 0
+number-cons true b = number-after b 1
+number-cons false b = number-after b 0
 
 first_digit : (x : Bool) → nat_eq (bit_at (digit_of x) 0) 1 ≡ x
 first_digit true = refl

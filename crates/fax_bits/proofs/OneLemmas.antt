@@ -13,17 +13,17 @@ use Rattle.fax_bits.proofs.WindowLemmas.{next_bits}
 doubled : (high p q : ℕ) → q ≡ 2 * p → 0 < p → high * q + (q - 1) ≡ (2 * high + 1) * p + (p - 1)
 doubled high p q is some = ap (λ q. high * q + (q - 1)) is ∙ omega arith
 
--- n ones, which stand behind other bits
-ones_behind : (n high : ℕ) → code_bits n (high * 2 ^ n + (2 ^ n - 1)) ≡ replicate n true
+-- n ones, which stand after other bits
+ones_after : (n high : ℕ) → code_bits n (high * 2 ^ n + (2 ^ n - 1)) ≡ replicate n true
 unfolding code_bits
-ones_behind zero high = refl
-ones_behind (suc n) high =
+ones_after zero high = refl
+ones_after (suc n) high =
     let is : high * 2 ^ suc n + (2 ^ suc n - 1) ≡ (2 * high + 1) * 2 ^ n + (2 ^ n - 1) =
     doubled high (2 ^ n) (2 ^ suc n) (pow-succ' 2 n) (pow_pos n) in
     let odd : (2 * high + 1) % 2 ≡ 1 = omega arith in
     let low : 2 ^ n - 1 < 2 ^ n = omega (arith, pow_pos n) in
     ap (code_bits (suc n)) is ∙ ap (λ d. nat_eq d 1 ∷ code_bits n ((2 * high + 1) * 2 ^ n + (2 ^ n - 1)))
-    (ap (λ d. d % 2) (shr_high (2 * high + 1) n (2 ^ n - 1) low) ∙ odd) ∙ ap (λ b. true ∷ b) (ones_behind n (2 * high + 1))
+    (ap (λ d. d % 2) (shr_high (2 * high + 1) n (2 ^ n - 1) low) ∙ odd) ∙ ap (λ b. true ∷ b) (ones_after n (2 * high + 1))
 
 -- what n bits are that leave less than 2 ^ m up to the highest word
 high_ones : (word left n m : ℕ) → n + m ≡ 64 → left < 2 ^ m → word + left + 1 ≡ 2 ^ 64 → word / 2 ^ m ≡ 2 ^ n - 1
@@ -63,7 +63,7 @@ ones_before count word n more few fits is within =
     let place : 64 - n ≡ size.0 = omega arith in
     let zero_high : 2 ^ n - 1 ≡ 0 * 2 ^ n + (2 ^ n - 1) = omega arith in
     next_bits count word n more few within fits ∙ ap (code_bits n) (ap (λ k. word / 2 ^ k) place
-    ∙ high_ones word left n size.0 parts size.2 (omega (arith, fits)) ∙ zero_high) ∙ ones_behind n 0
+    ∙ high_ones word left n size.0 parts size.2 (omega (arith, fits)) ∙ zero_high) ∙ ones_after n 0
 
 pub ones_loaded : (count word n : ℕ) → count ≤ 64 → word < 2 ^ 64 → word % 2 ^ (64 - count) ≡ 0
     → n ≡ count_leading_zeros 64 (2 ^ 64 - 1 - word) → n ≤ count

@@ -47,11 +47,11 @@ unfolding bits
 chunks-bits order [] more fit = refl
 chunks-bits order (byte ∷ bytes) more fit =
     let eight = byte_bits order byte in
-    let behind = bits order bytes ++ more in
-    let all : (eight ++ bits order bytes) ++ more ≡ eight ++ behind = append_assoc eight (bits order bytes) more in
+    let after = bits order bytes ++ more in
+    let all : (eight ++ bits order bytes) ++ more ≡ eight ++ after = append_assoc eight (bits order bytes) more in
     let len : length eight ≡ 8 = length-byte_bits order byte in
-    let front : take 8 (eight ++ behind) ≡ eight = subst (λ n. take n (eight ++ behind) ≡ eight) len (take-append_seam eight behind) in
-    let rest : drop 8 (eight ++ behind) ≡ behind = subst (λ n. drop n (eight ++ behind) ≡ behind) len (drop-append_seam eight behind) in
+    let front : take 8 (eight ++ after) ≡ eight = subst (λ n. take n (eight ++ after) ≡ eight) len (take-append_seam eight after) in
+    let rest : drop 8 (eight ++ after) ≡ after = subst (λ n. drop n (eight ++ after) ≡ after) len (drop-append_seam eight after) in
     let first : byte_of order (take 8 ((eight ++ bits order bytes) ++ more)) ≡ byte =
     ap (λ (b : List Bool). byte_of order (take 8 b)) all ∙ ap (byte_of order) front
     ∙ byte_of-byte_bits order byte (fit zero byte (omega arith)) in

@@ -1,6 +1,6 @@
 -- The arrays of the pairs hold two codes each: a white terminating code and a black one after it.
 use Rattle.std.proofs.Common.{◌≡◌, ℕ, zero, suc, ◌+◌, ◌-◌, ◌*◌, ◌/◌, ◌%◌, ◌^◌, ◌<◌, ◌≤◌, List, [], ◌∷◌, ◌++◌, map, length, get_or, Bool, true, false}
-use Rattle.std.proofs.Common.{if◌then◌else◌, refl, ap, sym, ◌∙◌, subst, arith, append_assoc, zero-add}
+use Rattle.std.proofs.Common.{if◌then◌else◌, refl, ap, sym, ◌∙◌, subst, arith, zero-add}
 use Rattle.std.specs.Prelude.{◌&&◌, nat_lt, nat_le, nat_eq, Some, slice_get}
 use Rattle.std.proofs.lemmas.Bool.{and_parts}
 use Rattle.std.proofs.lemmas.Bool.Decides.{nat_tests}
@@ -13,22 +13,19 @@ use Rattle.fax_bits.specs.declared.Colour.TheVariants.{White, Black}
 use Rattle.fax_bits.specs.declared.codes.CodeEntry.{CodeEntry}
 use Rattle.fax_bits.specs.declared.indexes.TheConstants.{PAIRS}
 use Rattle.fax_bits.specs.declared.indexes.TheConstants.{WHITE_PAIR_CODES, WHITE_PAIR_LENS, BLACK_PAIR_CODES, BLACK_PAIR_LENS}
-use Rattle.fax_bits.specs.declared.pairs.Pair.{Pair}
 use Rattle.fax_bits.specs.declared.runs.RunCode.{RunCode}
 use Rattle.fax_bits.specs.declared.runs.TheConstants.{WHITE_CODES, WHITE_LENS, BLACK_CODES, BLACK_LENS}
 use Rattle.fax_bits.specs.Bits.{code_bits}
-use Rattle.fax_bits.specs.Codes.{IsRun}
 use Rattle.fax_bits.specs.Tables.{white_runs, black_runs}
 use Rattle.fax_bits.specs.Written.{run_bits, run_code_bits}
 use Rattle.fax_bits.specs.code.Codes.{run_meaning}
 use Rattle.fax_bits.specs.code.Pairs.{IsPairAhead}
 use Rattle.fax_bits.specs.code.TableLaws.{run_table_has_short_codes}
-use Rattle.fax_bits.specs.views.Pairs.{IsPairRead, pair_bits}
+use Rattle.fax_bits.specs.views.Pairs.{pair_bits}
 use Rattle.fax_bits.proofs.ArrayLemmas.{white_runs_are, black_runs_are, slice_get-run_entries}
 use Rattle.fax_bits.proofs.CodeBitsLemmas.{code_bits-add}
 use Rattle.fax_bits.proofs.FindLemmas.{code_ahead}
 use Rattle.fax_bits.proofs.PutLemmas.{short_bits}
-use Rattle.fax_bits.proofs.ReadBackLemmas.{run_bits_are_read}
 use Rattle.fax_bits.proofs.RunCodeLemmas.{bits_at-found, bits_at-run_table, run_meaning-terminating}
 use Rattle.fax_bits.proofs.TableLemmas.{listed}
 
@@ -186,25 +183,6 @@ pair_is_ahead number fits some = record {
         let e : suc (12 - len) ≡ 13 - len = omega (arith, is.within) in
         ap (λ k. number / 2 ^ k) (sym e) ∙ ap (λ m. number / m) (pow-succ' 2 (12 - len))
         ∙ sym (div-div-eq-div-mul number 2 (2 ^ (12 - len)))
-
--- they are a white run and a black one
-pub pair_is_read : (b left : List Bool) (len : ℕ) (pair : Pair) (rest : List Bool) (ahead : IsPairAhead b len pair)
-    → left ≡ code_bits len ahead.code ++ rest → IsPairRead left pair rest
-pair_is_read b left len pair rest ahead is =
-    let middle = run_bits Black pair.black ++ rest in
-    let parts : left ≡ run_bits White pair.white ++ middle =
-    is ∙ ap (λ bits. bits ++ rest) ahead.spelled ∙ append_assoc (run_bits White pair.white) (run_bits Black pair.black) rest in
-    record {
-      middle = middle;
-      white =
-          subst (λ bits. IsRun White bits pair.white middle) (sym parts)
-          (run_bits_are_read White pair.white middle (omega (arith, ahead.short_white)));
-      black = run_bits_are_read Black pair.black rest (omega (arith, ahead.short_black));
-      white_written = parts;
-      black_written = refl;
-      white_some = ahead.white;
-      black_some = ahead.black;
-    }
 
 -- the codes of two short runs together, and their length, by 16 times the one and the other
 abbrev pair_code : List ℕ → List ℕ → List ℕ → ℕ → ℕ

@@ -58,6 +58,3 @@ module _ (b : List Bool) (n i j number digit : ℕ) (bit : Bool) (within : i < n
       let here : i < length (padded b n) = simp (length-append, length-replicate) (omega arith) in
       let bit_at_i : bit ≡ get_or (padded b n) i false = bit_is ∙ ap (λ k. get_or b k false) at ∙ sym (get_or-padded b n i) in
       rw (bits_number-more (padded b n) i here, ← bit_at_i, ← number_is, digit_is, bit-digit bit)
-
-  pub peeked-fits : 2 * number + digit < 2 ^ 24
-  peeked-fits = rw peeked-more (peeked-lt b n (i + 1) (omega arith) few)

@@ -157,9 +157,9 @@ same_run colour b (n ∷ pels) [] last end rest remaining first second =
 same_run colour b (n ∷ pels) (m ∷ others) last end rest remaining first second =
     let same = takes_one (run_table colour) (run_table_is_prefix_free colour) b _ _ _ _ first.1 second.1 in
     let here : n ≡ m = cc (same.0) in
-    let behind = same_run colour first.0 pels others last end rest remaining first.2
+    let after = same_run colour first.0 pels others last end rest remaining first.2
     (subst (λ x. Spells (run_table colour) x (map MakeUp others ++ Terminating end ∷ []) remaining) (sym same.1) second.2) in
-    (cc (here, behind.0), behind.1, behind.2)
+    (cc (here, after.0), after.1, after.2)
 
 one_length : (colour : Colour) (b : List Bool) (n m : ℕ) (rest remaining : List Bool) → IsRun colour b n rest → IsRun colour b m remaining
     → (n ≡ m) × (rest ≡ remaining)

@@ -15,7 +15,7 @@ use Rattle.fax_bits.specs.views.Codes.{HasCodeAhead, HasShortCodes}
 use Rattle.fax_bits.proofs.MeetingLemmas.{length-code_bits, ahead_fits}
 use Rattle.fax_bits.proofs.NumberLemmas.{code_bits-number}
 use Rattle.fax_bits.proofs.PeekLemmas.{padded, bits_number-lt}
-use Rattle.fax_bits.proofs.TableLemmas.{left_behind}
+use Rattle.fax_bits.proofs.TableLemmas.{left_after}
 
 -- the next n bits, where there are so many
 module _ (left : List Bool) (n : ℕ) (all : n ≤ length left) where
@@ -43,7 +43,7 @@ takes_found table left b n len meaning next found = record {
   listed = found.listed;
   means = found.means;
   spelled =
-      left_behind left (bits_of found.entry) (found.ahead.0 ++ drop n left) len
+      left_after left (bits_of found.entry) (found.ahead.0 ++ drop n left) len
       (sym (take-append-drop n left) ∙ ap (λ xs. xs ++ drop n left) (sym next ∙ found.ahead.1)
       ∙ append_assoc (bits_of found.entry) found.ahead.0 (drop n left))
       (length-code_bits found.entry.len found.entry.code ∙ found.length);

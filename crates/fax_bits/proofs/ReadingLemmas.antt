@@ -55,7 +55,7 @@ decide_listed P test (first ∷ table) =
         | inl found ↦ inl (found.0, (suc found.1.0, omega (arith, found.1.1), found.1.2), found.2)
         | inr none ↦ inr (λ entry listed p. elim (listed_cases first entry table listed.0 listed.1 listed.2) [
           | inl same ↦ not_first (subst P (sym same) p)
-          | inr behind ↦ none entry behind p
+          | inr after ↦ none entry after p
         ])
       ]
     ]

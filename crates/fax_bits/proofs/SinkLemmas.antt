@@ -145,12 +145,12 @@ all_pushed order bytes pushed count pending left rest sink is same whole short =
     all_whole order pushed left rest sink (ap (λ b. record { order = order; bits = b }) same ∙ is) whole short
 
 -- bits that are put after the pending ones of a sink
-pub put_behind : (order : FillOrder) (bytes : List ℕ) (count pending len number : ℕ) (old : Sink) → pending < 2 ^ count → number < 2 ^ len
+pub put_after : (order : FillOrder) (bytes : List ℕ) (count pending len number : ℕ) (old : Sink) → pending < 2 ^ count → number < 2 ^ len
     → count + len ≤ 64
     → sink_of order bytes count pending ≡ old
     → sink_of order bytes (count + len) (bit_or (pending * 2 ^ len % 2 ^ 64) number)
     ≡ record { order = old.order; bits = old.bits ++ code_bits len number }
-put_behind order bytes count pending len number old fits number_fits short old_is =
+put_after order bytes count pending len number old fits number_fits short old_is =
     ap (λ b. record { order = order; bits = bits MsbFirst bytes ++ b }) (joined_bits count pending len number fits number_fits short)
     ∙ ap (λ b. record {
       order = order;

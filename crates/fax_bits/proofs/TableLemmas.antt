@@ -24,6 +24,6 @@ each-from_below P table i all below entry at =
     below at.0 (omega arith) entry (slice_get_read table (length table) at.0 entry refl at.1 (sym at.2))
 
 -- the bits after a code that was skipped
-pub left_behind : (left code rest : List Bool) (n : ℕ) → left ≡ code ++ rest → length code ≡ n → left ≡ code ++ drop n left
-left_behind left code rest n ahead len =
+pub left_after : (left code rest : List Bool) (n : ℕ) → left ≡ code ++ rest → length code ≡ n → left ≡ code ++ drop n left
+left_after left code rest n ahead len =
     ahead ∙ ap (λ b. code ++ b) (sym (ap (drop n) ahead ∙ ap (λ k. drop k (code ++ rest)) (sym len) ∙ drop-append_seam code rest))

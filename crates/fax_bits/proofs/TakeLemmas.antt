@@ -6,7 +6,7 @@ use Rattle.std.specs.Prelude.{bit_and}
 use Rattle.std.proofs.lemmas.Nat.{one_shl, and_mask, shr_below, shr_split, mod_below, pow_pos}
 use Rattle.fax_bits.proofs.CodeBitsLemmas.{code_bits-add}
 use Rattle.std.proofs.lemmas.List.{append_cancel_left, take-append-le, take-append-drop, length-take-le}
-use Rattle.std.proofs.Math.Seq.{take-append_seam, take-length, take-suc, take-add}
+use Rattle.std.proofs.Math.Seq.{take-append_seam, take-length, take-suc}
 use Rattle.std.proofs.lemmas.List.Concat.{flat_map-append}
 use Rattle.fax_bits.specs.declared.FillOrder.TheVariants.{MsbFirst}
 use Rattle.fax_bits.specs.Bits.{bits, byte_bits, code_bits, BeginsWith}
@@ -44,8 +44,8 @@ spells_it b len number fits begins =
     ∙ number-code_bits len number fits
 
 -- whether bits begin with these, after those that both begin with
-pub begins_behind : (b c front more : List Bool) → b ≡ front ++ c → BeginsWith c more ↔ BeginsWith b (front ++ more)
-begins_behind b c front more is = (
+pub begins_after : (b c front more : List Bool) → b ≡ front ++ c → BeginsWith c more ↔ BeginsWith b (front ++ more)
+begins_after b c front more is = (
   λ begins. (begins.0, is ∙ ap (λ d. front ++ d) begins.1 ∙ sym (append_assoc front more begins.0)),
   λ begins. (
     begins.0,
@@ -63,7 +63,7 @@ pub both_taken : (b middle front back : List Bool) (result : Bool) (rest : List 
     → IsTrue result ↔ BeginsWith b (front ++ back)
 both_taken b middle front back result rest is taken =
     let here = taken_iff back middle result rest taken in
-    let whole = begins_behind b middle front back is in
+    let whole = begins_after b middle front back is in
     (λ yes. whole.0 (here.0 yes), λ begins. here.1 (whole.1 begins))
 
 -- and where it does not
@@ -114,31 +114,22 @@ module _ (bytes : List ℕ) (i : ℕ) (source ahead : List Bool) (so_far : sourc
   other_byte byte pending within byte_is other begins =
       let front = bits MsbFirst (take i bytes) in
       let here = code_bits 8 byte in
-      let behind = bits MsbFirst (drop (suc i) bytes) in
-      let parts : bits MsbFirst bytes ≡ front ++ (here ++ behind) =
+      let after = bits MsbFirst (drop (suc i) bytes) in
+      let parts : bits MsbFirst bytes ≡ front ++ (here ++ after) =
       sym (ap (bits MsbFirst) (take-append-drop i bytes)) ∙ ap (λ xs. bits MsbFirst (take i bytes ++ xs)) (drop-cons bytes i 0 within)
       ∙ bits-append (take i bytes) (get_or bytes i 0 ∷ drop (suc i) bytes)
-      ∙ ap (λ b. front ++ b) (bits-cons (get_or bytes i 0) (drop (suc i) bytes) ∙ ap (λ n. code_bits 8 n ++ behind) (sym byte_is)) in
-      let all : bits MsbFirst bytes ++ pending ≡ front ++ (here ++ (behind ++ pending)) =
-      ap (λ b. b ++ pending) parts ∙ append_assoc front (here ++ behind) pending
-      ∙ ap (λ b. front ++ b) (append_assoc here behind pending) in
+      ∙ ap (λ b. front ++ b) (bits-cons (get_or bytes i 0) (drop (suc i) bytes) ∙ ap (λ n. code_bits 8 n ++ after) (sym byte_is)) in
+      let all : bits MsbFirst bytes ++ pending ≡ front ++ (here ++ (after ++ pending)) =
+      ap (λ b. b ++ pending) parts ∙ append_assoc front (here ++ after) pending
+      ∙ ap (λ b. front ++ b) (append_assoc here after pending) in
       let more =
-      (begins_behind source ahead front (here ++ (behind ++ pending)) so_far).1 (begins.0, begins.1 ∙ ap (λ b. b ++ begins.0) all) in
-      other (behind ++ pending ++ more.0, more.1 ∙ append_assoc here (behind ++ pending) more.0)
+      (begins_after source ahead front (here ++ (after ++ pending)) so_far).1 (begins.0, begins.1 ∙ ap (λ b. b ++ begins.0) all) in
+      other (after ++ pending ++ more.0, more.1 ∙ append_assoc here (after ++ pending) more.0)
 
   pub last_bits : (pending : List Bool) (result : Bool) → i ≡ length bytes → IsTrue result ↔ BeginsWith ahead pending
       → IsTrue result ↔ BeginsWith source (bits MsbFirst bytes ++ pending)
   last_bits pending result all here =
       let is : source ≡ bits MsbFirst bytes ++ ahead =
       so_far ∙ ap (λ n. bits MsbFirst (take n bytes) ++ ahead) all ∙ ap (λ xs. bits MsbFirst xs ++ ahead) (take-length bytes) in
-      let whole = begins_behind source ahead (bits MsbFirst bytes) pending is in
+      let whole = begins_after source ahead (bits MsbFirst bytes) pending is in
       (λ yes. whole.0 (here.0 yes), λ begins. here.1 (whole.1 begins))
-
--- four bytes more
-pub next_word : (bytes : List ℕ) (i : ℕ) (source ahead rest : List Bool) (word : ℕ) → source ≡ bits MsbFirst (take i bytes) ++ ahead
-    → ahead ≡ code_bits 32 word ++ rest → code_bits 32 word ≡ bits MsbFirst (take 4 (drop i bytes))
-    → source ≡ bits MsbFirst (take (i + 4) bytes) ++ rest
-next_word bytes i source ahead rest word so_far taken word_is =
-    so_far ∙ ap (λ b. bits MsbFirst (take i bytes) ++ b) (taken ∙ ap (λ b. b ++ rest) word_is)
-    ∙ sym (append_assoc (bits MsbFirst (take i bytes)) (bits MsbFirst (take 4 (drop i bytes))) rest)
-    ∙ ap (λ b. b ++ rest) (sym (ap (bits MsbFirst) (take-add i 4 bytes) ∙ bits-append (take i bytes) (take 4 (drop i bytes))))

@@ -6,7 +6,8 @@ use Rattle.std.specs.Prelude.{bit_or}
 use Rattle.std.specs.Int.{bit_at}
 use Rattle.std.proofs.Math.Nat.{add-mul, pow-succ', div-div-eq-div-mul, mul_assoc, mul-mod_left}
 use Rattle.std.proofs.Math.Seq.{drop-append_seam, take-append_seam}
-use Rattle.std.proofs.lemmas.List.{take-append-le, take-append-drop}
+use Rattle.std.proofs.lemmas.List.{take-append-le, take-append-drop, take-replicate, replicate-append-replicate}
+use Rattle.std.proofs.lemmas.Nat.Bits.{bit_at-zero}
 use lib.Count.{count_leading_zeros}
 use Rattle.std.proofs.lemmas.Nat.{leading_length, shr_high, mod-pow-add, mod_below, or_shifted, pow-add, pow_pos, shl_below, shl-shr}
 use Rattle.std.proofs.lemmas.Nat.{shl_whole, shr_below, shr_split}
@@ -23,8 +24,8 @@ pub first_bits-of : (count number word : ℕ) → word ≡ number * 2 ^ (64 - co
 first_bits-of count number word is =
     ap (code_bits count) (ap (λ w. w / 2 ^ (64 - count)) is ∙ shl-shr number (64 - count))
 
-pub zeros_behind-of : (count number word : ℕ) → word ≡ number * 2 ^ (64 - count) → word % 2 ^ (64 - count) ≡ 0
-zeros_behind-of count number word is = ap (λ w. w % 2 ^ (64 - count)) is ∙ mul-mod_left number (2 ^ (64 - count))
+pub zeros_after-of : (count number word : ℕ) → word ≡ number * 2 ^ (64 - count) → word % 2 ^ (64 - count) ≡ 0
+zeros_after-of count number word is = ap (λ w. w % 2 ^ (64 - count)) is ∙ mul-mod_left number (2 ^ (64 - count))
 
 word_is : (count word : ℕ) → word % 2 ^ (64 - count) ≡ 0 → word ≡ word / 2 ^ (64 - count) * 2 ^ (64 - count)
 word_is count word zeros = omega (arith, shr_split word (64 - count), zeros)
@@ -63,7 +64,7 @@ module _ (count word n left : ℕ) (few : count ≤ 64) (zeros : word % 2 ^ (64 
       ∙ ap (drop n) (sym split)
 
   pub shifted_zeros : word * 2 ^ n % 2 ^ 64 % 2 ^ (64 - left) ≡ 0
-  shifted_zeros = zeros_behind-of left (word / 2 ^ (64 - count) % 2 ^ left) (word * 2 ^ n % 2 ^ 64) shifted_is
+  shifted_zeros = zeros_after-of left (word / 2 ^ (64 - count) % 2 ^ left) (word * 2 ^ n % 2 ^ 64) shifted_is
 
 -- a word to which k bits are added
 module _ (k count word more : ℕ) (room : count + k ≤ 64) (zeros : word % 2 ^ (64 - count) ≡ 0) (fits : more < 2 ^ k) where
@@ -87,7 +88,7 @@ module _ (k count word more : ℕ) (room : count + k ≤ 64) (zeros : word % 2 ^
       ∙ code_bits-add count k (word / 2 ^ (64 - count)) more fits
 
   pub loaded_zeros : bit_or word (more * 2 ^ (64 - k - count) % 2 ^ 64) % 2 ^ (64 - (count + k)) ≡ 0
-  loaded_zeros = zeros_behind-of (count + k) (word / 2 ^ (64 - count) * 2 ^ k + more) _ loaded_is
+  loaded_zeros = zeros_after-of (count + k) (word / 2 ^ (64 - count) * 2 ^ k + more) _ loaded_is
 
 pub length-first_bits : (count word : ℕ) → length (first_bits count word) ≡ count
 length-first_bits count word = length-code_bits count (word / 2 ^ (64 - count))
@@ -180,3 +181,37 @@ first_is_one (suc count) word few fits zeros =
     let small : word / 2 ^ 63 < 2 = omega (arith, fits) in
     let bit : bit_at (word / 2 ^ (64 - suc count)) count ≡ word / 2 ^ 63 = omega (arith, top, small) in
     ap (λ n. nat_eq n 1) (sym bit)
+
+-- zeros
+code_bits-zero : (n : ℕ) → code_bits n 0 ≡ replicate n false
+unfolding code_bits
+code_bits-zero zero = refl
+code_bits-zero (suc n) = ap (λ d. nat_eq d 1 ∷ code_bits n 0) (bit_at-zero n) ∙ ap (λ b. false ∷ b) (code_bits-zero n)
+
+-- the zeros after the first bits of a word
+whole_word : (count word : ℕ) → count ≤ 64 → word % 2 ^ (64 - count) ≡ 0 → first_bits 64 word ≡ first_bits count word ++ replicate (64 - count) false
+whole_word count word few zeros =
+    let number = word / 2 ^ (64 - count) in
+    let all : count + (64 - count) ≡ 64 = omega arith in
+    let same : word / 2 ^ (64 - 64) ≡ number * 2 ^ (64 - count) + 0 = omega (arith, word_is count word zeros) in
+    ap (code_bits 64) same ∙ ap (λ n. code_bits n (number * 2 ^ (64 - count) + 0)) (sym all)
+    ∙ code_bits-add count (64 - count) number 0 (pow_pos (64 - count))
+    ∙ ap (λ b. code_bits count number ++ b) (code_bits-zero (64 - count))
+
+-- bits with zeros after them: as many as are taken are enough
+take_padded : (b : List Bool) (n m : ℕ) → n ≤ m → take n (b ++ replicate m false) ≡ take n (b ++ replicate n false)
+take_padded [] n m more = take-replicate n m false more ∙ sym (take-replicate n n false (omega arith))
+take_padded (x ∷ b) zero m more = refl
+take_padded (x ∷ b) (suc n) m more =
+    ap (λ ys. x ∷ ys) (take_padded b n m (omega arith) ∙ sym (take_padded b n (suc n) (omega arith)))
+
+-- the next n bits of a word, with zeros past its end
+pub past_number : (count word n : ℕ) → count ≤ 64 → n ≤ 64 → word < 2 ^ 64 → word % 2 ^ (64 - count) ≡ 0
+    → word / 2 ^ (64 - n) ≡ bits_number (take n (first_bits count word ++ replicate n false))
+past_number count word n few short fits zeros =
+    let front = first_bits count word in
+    next_number 64 word n (replicate n false) (omega arith) short fits
+    ∙ ap (λ b. bits_number (take n (b ++ replicate n false))) (whole_word count word few zeros)
+    ∙ ap (λ b. bits_number (take n b)) (append_assoc front (replicate (64 - count) false) (replicate n false)
+    ∙ ap (λ b. front ++ b) (replicate-append-replicate (64 - count) n false))
+    ∙ ap bits_number (take_padded front n (64 - count + n) (omega arith))

@@ -108,15 +108,6 @@ long_codes steps n some few short =
           rw (often, more, low, one_make_up-suc (steps - 1), same) refl
     ]
 
--- such a run has few pels
-pub long_few : (colour : Colour) (b : List Bool) (m n : ℕ) (middle rest : List Bool) → Takes (run_table colour) b (MakeUp m) middle
-    → Takes (run_table colour) middle (Terminating n) rest → m + n < 2624
-long_few colour b m n middle rest first last =
-    let up = code_taken colour b (MakeUp m) middle first in
-    let low = code_taken colour middle (Terminating n) rest last in
-    let steps = make_up_means up.place m up.within up.means in
-    omega (arith, steps.few, steps.are, short_means low.place n low.within low.means)
-
 pub long_written : (colour : Colour) (b : List Bool) (m n : ℕ) (middle rest : List Bool) → Takes (run_table colour) b (MakeUp m) middle
     → Takes (run_table colour) middle (Terminating n) rest → b ≡ run_bits colour (m + n) ++ rest
 unfolding run_bits

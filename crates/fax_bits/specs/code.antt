@@ -7,6 +7,6 @@ pub mod TableLaws
 pub mod Window
 pub mod Pairs
 pub mod BitsAhead
-pub mod Ahead
 pub mod Codes
 pub mod Places
+pub mod LookUp

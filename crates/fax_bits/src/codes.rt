@@ -143,24 +143,6 @@ pub fn read_code<T: CodeTable>(source: &mut BitSource) -> Result<T::Meaning, Cod
     ensures same_end { KeepsEnd source.old source.new }
     ensures shorter { OnOk result (length source.new.left < length source.old.left) }
 {
-    if !source.has_word() {
-        return read_last_code::<T>(source);
-    }
-    match take_code::<T>(source, LONGEST_CODE) {
-        Some(meaning) => Ok(meaning),
-        None => Err(CodeFault::BadCode),
-    }
-}
-
-/// What `read_code` does, also near the end of the bytes.
-#[inline(never)]
-fn read_last_code<T: CodeTable>(source: &mut BitSource) -> Result<T::Meaning, CodeFault>
-    ensures ok { IfOk result (λ meaning. Takes T.table source.old.left meaning source.new.left) }
-    ensures err { IfErr result (λ fault. IsFaultOf T.table source.old.left fault) }
-    ensures unchanged { OnErr result (source.new ≡ source.old) }
-    ensures same_end { KeepsEnd source.old source.new }
-    ensures shorter { OnOk result (length source.new.left < length source.old.left) }
-{
     let n = source.remaining().min(u64::from(LONGEST_CODE)) as u32;
     match take_code::<T>(source, n) {
         Some(meaning) => Ok(meaning),

@@ -1,11 +1,11 @@
 //! Bits of coded strips, read and written, and the code tables of ITU-T T.4.
 #![tactic(auto)]
 
-mod ahead;
 mod codes;
 mod indexes;
 mod lanes;
 pub mod laws;
+mod look_up;
 mod modes;
 mod pairs;
 mod pending;
@@ -15,7 +15,6 @@ mod sink;
 mod source;
 mod window;
 
-pub use ahead::Ahead;
 pub use codes::{CodeEntry, CodeFault, CodeTable, read_code};
 pub use lanes::reverse_bits;
 pub use modes::{ModeCode, Modes, read_mode};

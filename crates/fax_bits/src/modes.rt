@@ -188,7 +188,7 @@ pub fn read_mode(source: &mut BitSource) -> Result<ModeCode, CodeFault>
     ensures same_end { KeepsEnd source.old source.new }
     ensures shorter { OnOk result (length source.new.left < length source.old.left) }
 {
-    if source.has_word() && source.peek(1) == 1 {
+    if source.remaining() > 0 && source.peek(1) == 1 {
         source.skip(1);
         return Ok(ModeCode::Vertical(0));
     }

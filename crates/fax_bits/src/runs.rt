@@ -28,6 +28,9 @@ const RUN_ENTRIES: usize = 105;
 /// How many of them are terminating codes, which stand first.
 pub(crate) const TERMINATING_CODES: u8 = 64;
 
+/// Where the extension prefix stands, after all codes of runs.
+const EXTENSION: usize = RUN_ENTRIES - 1;
+
 // The codes in the order of their meaning, which `meaning_at` gives, and their lengths in bits.
 
 const WHITE_CODES: [u16; RUN_ENTRIES] = [
@@ -343,6 +346,7 @@ impl CodeTable for BlackRuns {
 
 impl WhiteRuns {
     /// The place of the code that begins thirteen bits, or the number of codes where none does.
+    #[inline(always)]
     fn place(bits: u32) -> usize
         requires { bits < 2 ^ LONGEST_CODE }
         ensures { result ≡ place_of white_runs LONGEST_CODE bits }
@@ -355,44 +359,28 @@ impl WhiteRuns {
         }
     }
 
-    /// The terminating code of few bits that begins thirteen bits: its length, and how many pels it
-    /// means, which is its place. `None` where no such code does.
+    /// The length and the place of the code of a run that begins thirteen bits, but for the
+    /// extension.
     #[inline(always)]
-    fn find_short(bits: u32) -> Option<(u32, u32)>
+    fn find_place(bits: u32) -> Option<(u32, u32)>
         requires { bits < 2 ^ LONGEST_CODE }
-        ensures { IfSome result
-            (λ found. HasCodeAhead white_runs (code_bits LONGEST_CODE bits) found.0
-            (RunCode.Terminating found.1)) }
+        ensures { IfSome result (λ found. (found.1 < 104) × HasCodeAhead white_runs
+            (code_bits LONGEST_CODE bits) found.0 (run_meaning found.1)) }
     {
-        let pels = WHITE_SHORT[(bits >> 4) as usize];
-        if pels >= TERMINATING_CODES {
-            return None;
+        let mut place = usize::from(WHITE_SHORT[(bits >> 4) as usize]);
+        if place >= EXTENSION {
+            place = WhiteRuns::place(bits);
+            if place >= EXTENSION {
+                return None;
+            }
         }
-        let len = WHITE_LENS[usize::from(pels)];
-        Some((u32::from(len), u32::from(pels)))
-    }
-
-    /// The make-up code of few bits that begins thirteen bits: its length, and how many pels it
-    /// means. `None` where no such code does.
-    #[inline(always)]
-    pub(crate) fn find_make_up(bits: u32) -> Option<(u32, u32)>
-        requires { bits < 2 ^ LONGEST_CODE }
-        ensures { IfSome result
-            (λ found. HasCodeAhead white_runs (code_bits LONGEST_CODE bits) found.0
-            (RunCode.MakeUp found.1)) }
-    {
-        let place = WHITE_SHORT[(bits >> 4) as usize];
-        if place < TERMINATING_CODES || usize::from(place) >= RUN_ENTRIES - 1 {
-            return None;
-        }
-        let len = WHITE_LENS[usize::from(place)];
-        let steps = u32::from(place) + 1 - u32::from(TERMINATING_CODES);
-        Some((u32::from(len), 64 * steps))
+        Some((u32::from(WHITE_LENS[place]), place as u32))
     }
 }
 
 impl BlackRuns {
     /// The place of the code that begins thirteen bits, or the number of codes where none does.
+    #[inline(always)]
     fn place(bits: u32) -> usize
         requires { bits < 2 ^ LONGEST_CODE }
         ensures { result ≡ place_of black_runs LONGEST_CODE bits }
@@ -405,49 +393,36 @@ impl BlackRuns {
         }
     }
 
-    /// The terminating code of few bits that begins thirteen bits: its length, and how many pels it
-    /// means, which is its place. `None` where no such code does.
+    /// The length and the place of the code of a run that begins thirteen bits, but for the
+    /// extension.
     #[inline(always)]
-    fn find_short(bits: u32) -> Option<(u32, u32)>
+    fn find_place(bits: u32) -> Option<(u32, u32)>
         requires { bits < 2 ^ LONGEST_CODE }
-        ensures { IfSome result
-            (λ found. HasCodeAhead black_runs (code_bits LONGEST_CODE bits) found.0
-            (RunCode.Terminating found.1)) }
+        ensures { IfSome result (λ found. (found.1 < 104) × HasCodeAhead black_runs
+            (code_bits LONGEST_CODE bits) found.0 (run_meaning found.1)) }
     {
-        let pels = BLACK_SHORT[(bits >> 7) as usize];
-        if pels >= TERMINATING_CODES {
-            return None;
+        let mut place = usize::from(BLACK_SHORT[(bits >> 7) as usize]);
+        if place >= EXTENSION {
+            place = BlackRuns::place(bits);
+            if place >= EXTENSION {
+                return None;
+            }
         }
-        let len = BLACK_LENS[usize::from(pels)];
-        Some((u32::from(len), u32::from(pels)))
+        Some((u32::from(BLACK_LENS[place]), place as u32))
     }
 }
 
-/// The terminating code of few bits for a run of the colour that begins thirteen bits: its length,
-/// and how many pels it means. `None` where no such code does.
+/// The length and the place of the code for a run of the colour that begins thirteen bits, but for
+/// the extension. `None` where no such code does.
 #[inline(always)]
-pub(crate) fn find_short_run(colour: Colour, bits: u32) -> Option<(u32, u32)>
+pub(crate) fn find_run_code(colour: Colour, bits: u32) -> Option<(u32, u32)>
     requires { bits < 2 ^ LONGEST_CODE }
-    ensures { IfSome result
-        (λ found. HasCodeAhead (run_table colour) (code_bits LONGEST_CODE bits) found.0
-        (RunCode.Terminating found.1)) }
+    ensures { IfSome result (λ found. (found.1 < 104) × HasCodeAhead (run_table colour)
+        (code_bits LONGEST_CODE bits) found.0 (run_meaning found.1)) }
 {
     match colour {
-        Colour::White => WhiteRuns::find_short(bits),
-        Colour::Black => BlackRuns::find_short(bits),
-    }
-}
-
-/// The length and the meaning of the code for a run of the colour that begins thirteen bits.
-#[inline(always)]
-pub(crate) fn find_run_code(colour: Colour, bits: u32) -> Option<(u32, RunCode)>
-    requires { bits < 2 ^ LONGEST_CODE }
-    ensures { IfSome result
-        (λ found. HasCodeAhead (run_table colour) (code_bits LONGEST_CODE bits) found.0 found.1) }
-{
-    match colour {
-        Colour::White => WhiteRuns::find(bits, LONGEST_CODE),
-        Colour::Black => BlackRuns::find(bits, LONGEST_CODE),
+        Colour::White => WhiteRuns::find_place(bits),
+        Colour::Black => BlackRuns::find_place(bits),
     }
 }
 
@@ -459,7 +434,7 @@ fn meaning_at(i: u16) -> RunCode
     let terminating = u16::from(TERMINATING_CODES);
     if i < terminating {
         RunCode::Terminating(i)
-    } else if usize::from(i) < RUN_ENTRIES - 1 {
+    } else if usize::from(i) < EXTENSION {
         RunCode::MakeUp(64 * (i - terminating + 1))
     } else {
         RunCode::Extension

@@ -1,13 +1,11 @@
 //! Bits that are put one after another into bytes.
-ghost use Rattle.std.specs.Prelude.{◌≡◌, ◌+◌, ◌*◌, ◌<◌, ◌≤◌, ◌%◌, ◌^◌, ◌++◌, ◌↔◌, [], length, take};
-ghost use Rattle.std.specs.Prelude.{OnOk, OnErr, IfSome, IsTrue, vec_len, vec_capacity};
+ghost use Rattle.std.specs.Prelude.{◌≡◌, ◌+◌, ◌*◌, ◌<◌, ◌≤◌, ◌%◌, ◌^◌, ◌++◌, ◌↔◌, [], length};
+ghost use Rattle.std.specs.Prelude.{OnOk, OnErr, IsTrue, vec_len, vec_capacity};
 ghost use Rattle.fax_bits.specs.Bits.{bits, code_bits, BeginsWith};
 ghost use Rattle.fax_bits.specs.views.Sink.{Appends, IsPadded};
 ghost use Rattle.fax_bits.specs.declared.FillOrder.TheVariants.{MsbFirst};
 
-use crate::ahead::Ahead;
 use crate::lanes::reverse_bits;
-use crate::window::word_at;
 use crate::{BitSource, FillOrder, Memory};
 use std::alloc::Global;
 use std::marker::Model;
@@ -53,32 +51,6 @@ fn push_word(bytes: &mut Vec<u8>, word: u32)
 {
     // There is room, so that this does not fail.
     let _ = bytes.extend_from_slice(&word.to_be_bytes());
-}
-
-/// Goes past the bits of as many bytes as make up words of four, where these stand next, and
-/// answers how many bytes they are.
-fn behind_words<'a>(mut ahead: Ahead<'a>, bytes: &[u8]) -> Option<(Ahead<'a>, usize)>
-    ensures within { IfSome result (λ read. read.1 ≤ length bytes.now) }
-    ensures words { IfSome result
-        (λ read. ahead.entry.left ≡ bits MsbFirst (take read.1 bytes.now) ++ read.0.left) }
-{
-    let mut i = 0;
-    while bytes.len() - i >= 4 {
-        ahead = ahead.behind(word_at(bytes, i, FillOrder::MsbFirst), 32)?;
-        i += 4;
-    }
-    Some((ahead, i))
-}
-
-/// Goes past the bits of all bytes, where these stand next.
-fn behind_bytes<'a>(ahead: Ahead<'a>, bytes: &[u8]) -> Option<Ahead<'a>>
-    ensures { IfSome result (λ behind. ahead.entry.left ≡ bits MsbFirst bytes.now ++ behind.left) }
-{
-    let (mut behind, words) = behind_words(ahead, bytes)?;
-    for i in words..bytes.len() {
-        behind = behind.behind(u32::from(bytes[i]), 8)?;
-    }
-    Some(behind)
 }
 
 /// Bits, and the bytes that hold them. Contracts see the order of the bits in a byte and the list
@@ -142,28 +114,6 @@ impl BitSink {
 
     /// Whether the bits that a source has left begin with these.
     pub fn begins(&self, source: &BitSource) -> bool
-        ensures { IsTrue result ↔ BeginsWith source.now.left self.now.bits }
-    {
-        match source.ahead() {
-            Some(ahead) => self.begins_quickly(ahead) || self.begins_exactly(source),
-            None => self.begins_exactly(source),
-        }
-    }
-
-    /// Whether the bits ahead are seen to begin with these, word by word. At any doubt they are
-    /// not.
-    fn begins_quickly(&self, ahead: Ahead) -> bool
-        ensures { IsTrue result → BeginsWith ahead.entry.left self.now.bits }
-    {
-        match behind_bytes(ahead, &self.bytes) {
-            Some(behind) => behind.source().begins(self.pending, self.count),
-            None => false,
-        }
-    }
-
-    /// What `begins` says, byte by byte.
-    #[inline(never)]
-    fn begins_exactly(&self, source: &BitSource) -> bool
         ensures { IsTrue result ↔ BeginsWith source.now.left self.now.bits }
     {
         let mut ahead = source.again();

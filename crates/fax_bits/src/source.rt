@@ -1,7 +1,7 @@
 //! Bits of bytes, read from a place on.
 ghost use Rattle.std.specs.Prelude.{◌≡◌, ◌+◌, ◌≤◌, ◌<◌, ◌++◌, length, take, drop, replicate};
 ghost use Rattle.std.specs.Prelude.{slice_index_or, false, IfSome, MatchOption, IsTrue, ◌↔◌};
-ghost use Rattle.std.specs.Prelude.{◌^◌};
+ghost use Rattle.std.specs.Prelude.{◌^◌, ◌-◌};
 ghost use Rattle.fax_bits.specs.Bits.{bits, IsAllZeros, code_bits, BeginsWith};
 ghost use Rattle.fax_bits.specs.views.Source.{HasZerosAhead, IsTaken, KeepsEnd};
 ghost use Rattle.fax_bits.specs.Bits.{bits_number};
@@ -9,28 +9,27 @@ ghost use Rattle.fax_bits.specs.laws.Codes.{bit_in_byte};
 ghost use Rattle.fax_bits.specs.code.Source.{IsPlaced, IsZeroByteAt};
 
 use crate::FillOrder;
-use crate::ahead::Ahead;
 use crate::window::Window;
 use std::marker::Model;
 
 /// A place in the bits of some bytes. Contracts see the bits from there on and the number of bits
-/// before it.
+/// before it. Some of the next bits are loaded; past the end of the bytes there are none.
 #[derive(Drop)]
 pub struct BitSource<'a> {
-    bytes: &'a [u8],
-    place: u64,
-    order: FillOrder,
+    pub(crate) bytes: &'a [u8],
+    pub(crate) window: Window,
+    pub(crate) order: FillOrder,
 }
 
 impl<'a> Model for BitSource<'a> {
     ghost use Rattle.fax_bits.specs.views.Source.{Source, source_of};
-    ghost use Rattle.fax_bits.specs.code.Source.{IsPlaced};
+    ghost use Rattle.fax_bits.specs.code.BitsAhead.{IsAhead, place_before};
 
     ghost Value = { Source };
 
-    ghost view = { λ s. source_of s.order s.bytes.now s.place };
+    ghost view = { λ s. source_of s.order s.bytes.now (place_before s.window) };
 
-    ghost invariant = { λ s. IsPlaced s.bytes.now s.place };
+    ghost invariant = { λ s. IsAhead s.order s.bytes.now s.window };
 }
 
 impl<'a> BitSource<'a> {
@@ -44,52 +43,23 @@ impl<'a> BitSource<'a> {
     {
         BitSource {
             bytes,
-            place: 0,
+            window: Window::new(0),
             order,
         }
-    }
-
-    /// A place in the bits of the bytes.
-    pub(crate) fn at(bytes: &'a [u8], order: FillOrder, place: u64) -> Self
-        requires { IsPlaced bytes.now place }
-        ensures { result ≡ source_of order bytes.now place }
-    {
-        BitSource {
-            bytes,
-            place,
-            order,
-        }
-    }
-
-    /// The same place by value, for a row that is read quickly, or `None` near the end of the
-    /// bytes.
-    #[inline(always)]
-    pub fn ahead(&self) -> Option<Ahead<'a>>
-        ensures { IfSome result (λ ahead. ahead ≡ self.now) }
-    {
-        Ahead::at(self.bytes, self.order, self.place)
     }
 
     /// How many bits were skipped since the first one.
     pub fn place(&self) -> u64
         ensures { result ≡ self.now.place }
     {
-        self.place
+        self.window.place()
     }
 
     /// How many bits are left.
     pub fn remaining(&self) -> u64
         ensures { result ≡ length self.now.left }
     {
-        self.bytes.len() as u64 * 8 - self.place
-    }
-
-    /// Whether four bytes are left, from that of the next bit on.
-    #[inline(always)]
-    pub(crate) fn has_word(&self) -> bool
-        ensures { IsTrue result → 25 ≤ length self.now.left }
-    {
-        self.bytes.len() - (self.place / 8) as usize >= 4
+        (self.bytes.len() - self.window.at) as u64 * 8 + u64::from(self.window.count)
     }
 
     /// The bit that is `i` bits ahead.
@@ -97,16 +67,9 @@ impl<'a> BitSource<'a> {
         requires { i < length self.now.left }
         ensures { result ≡ slice_index_or self.now.left i false }
     {
-        let at = self.place + i;
+        let at = self.window.place() + i;
         let byte = self.bytes[(at / 8) as usize];
         (byte >> bit_in_byte(self.order, at % 8)) & 1 == 1
-    }
-
-    /// The bit that is `i` bits ahead, or a zero past the end.
-    fn bit_or_zero(&self, i: u64) -> bool
-        ensures { result ≡ slice_index_or self.now.left i false }
-    {
-        i < self.remaining() && self.bit(i)
     }
 
     /// The number that the next `n` bits spell, 0 to 24 of them, the highest first. Past the end of
@@ -115,25 +78,13 @@ impl<'a> BitSource<'a> {
         requires { n ≤ 24 }
         ensures { result ≡ bits_number (take n (self.now.left ++ replicate n false)) }
     {
-        let at = (self.place / 8) as usize;
-        if n == 0 || self.bytes.len() - at < 4 {
-            return self.peek_by_bits(n);
+        if n == 0 {
+            return 0;
         }
-        let loaded = Window::new(at).refilled(self.bytes, self.order);
-        loaded.behind((self.place % 8) as u32).number(n)
-    }
-
-    /// What `peek` says, by each bit: near the end of the bytes.
-    #[inline(never)]
-    fn peek_by_bits(&self, n: u32) -> u32
-        requires { n ≤ 24 }
-        ensures { result ≡ bits_number (take n (self.now.left ++ replicate n false)) }
-    {
-        let mut number = 0;
-        for i in 0..n {
-            number = 2 * number + u32::from(self.bit_or_zero(u64::from(i)));
+        if n <= self.window.count {
+            return self.window.number(n);
         }
-        number
+        self.window.filled(self.bytes, self.order).number(n)
     }
 
     /// The byte that begins `i` bits ahead is whole and all zeros. `false` where no byte begins
@@ -142,7 +93,7 @@ impl<'a> BitSource<'a> {
         requires { i < length self.now.left }
         ensures { IsTrue result → IsZeroByteAt self.now.left i }
     {
-        let at = self.place + i;
+        let at = self.window.place() + i;
         at % 8 == 0 && self.bytes[(at / 8) as usize] == 0
     }
 
@@ -150,14 +101,22 @@ impl<'a> BitSource<'a> {
     pub fn zeros(&self) -> Option<u64>
         ensures { MatchOption result (IsAllZeros self.now.left) (HasZerosAhead self.now.left) }
     {
-        let at = (self.place / 8) as usize;
-        if self.bytes.len() - at >= 4 {
-            let loaded = Window::new(at).refilled(self.bytes, self.order);
-            let ahead = loaded.behind((self.place % 8) as u32);
-            let zeros = ahead.zeros();
-            if zeros < ahead.count {
-                return Some(u64::from(zeros));
-            }
+        let zeros = self.window.zeros();
+        if zeros < self.window.count {
+            return Some(u64::from(zeros));
+        }
+        self.zeros_filled()
+    }
+
+    /// What `zeros` says where no 1 is loaded.
+    #[inline(never)]
+    fn zeros_filled(&self) -> Option<u64>
+        ensures { MatchOption result (IsAllZeros self.now.left) (HasZerosAhead self.now.left) }
+    {
+        let ahead = self.window.filled(self.bytes, self.order);
+        let zeros = ahead.zeros();
+        if zeros < ahead.count {
+            return Some(u64::from(zeros));
         }
         self.zeros_by_bytes()
     }
@@ -182,14 +141,27 @@ impl<'a> BitSource<'a> {
     }
 
     /// The same place once more.
+    #[inline(always)]
     pub fn again(&self) -> Self
         ensures { result ≡ self.now }
     {
+        // By its fields, so that a copy in registers has no gaps that are copied too.
         BitSource {
             bytes: self.bytes,
-            place: self.place,
+            window: self.window.again(),
             order: self.order,
         }
+    }
+
+    /// Goes to the place of another source.
+    #[inline(always)]
+    pub fn go_to(&mut self, other: &BitSource<'a>)
+        ensures { self.new ≡ other.now }
+    {
+        // By its fields, so that a copy in registers has no gaps that are copied too.
+        self.bytes = other.bytes;
+        self.window = other.window.again();
+        self.order = other.order;
     }
 
     /// Goes past the lowest `len` bits of `bits`, 0 to 24 of them, the highest first, where they
@@ -224,11 +196,44 @@ impl<'a> BitSource<'a> {
     }
 
     /// Goes on by `n` bits.
+    #[inline(always)]
     pub fn skip(&mut self, n: u64)
         requires { n ≤ length self.old.left }
         ensures { self.new ≡ record { left = drop n self.old.left; place = self.old.place + n } }
     {
-        self.place += n;
+        if n <= u64::from(self.window.count) && n < 64 {
+            self.window = self.window.after(n as u32);
+        } else {
+            self.skip_further(n);
+        }
+    }
+
+    /// Goes on to a place.
+    #[inline(always)]
+    pub fn skip_to(&mut self, place: u64)
+        requires ahead { self.old.place ≤ place }
+        requires within { place ≤ self.old.place + length self.old.left }
+        ensures { self.new
+            ≡ record { left = drop (place - self.old.place) self.old.left; place = place } }
+    {
+        // By its fields, so that the window that is gone on with need not stand in memory.
+        let window = Window::from_place(self.bytes, self.order, place);
+        self.window = window.again();
+    }
+
+    /// What `skip` does past bits that are not loaded.
+    #[inline(never)]
+    fn skip_further(&mut self, n: u64)
+        requires { n ≤ length self.old.left }
+        ensures { self.new ≡ record { left = drop n self.old.left; place = self.old.place + n } }
+    {
+        let place = self.window.place() + n;
+        let ahead = self.window.filled(self.bytes, self.order);
+        if n <= u64::from(ahead.count) && n < 64 {
+            self.window = ahead.after(n as u32);
+            return;
+        }
+        self.window = Window::from_place(self.bytes, self.order, place);
     }
 }
 

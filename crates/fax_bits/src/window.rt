@@ -1,7 +1,8 @@
 //! The next bits of some bytes, by value: what a fast reader keeps in registers.
 ghost use Rattle.std.specs.Prelude.{◌≡◌, ◌+◌, ◌-◌, ◌%◌, ◌^◌, ◌<◌, ◌≤◌, ◌++◌, ℕ, List, length, take};
 ghost use Rattle.std.specs.Prelude.{drop};
-ghost use Rattle.std.specs.Prelude.{replicate, true, false, IsTrue};
+ghost use Rattle.fax_bits.specs.code.Source.{IsPlaced};
+ghost use Rattle.std.specs.Prelude.{◌*◌, ◌⊎◌, replicate, true, false, IsTrue, IfSome};
 ghost use Rattle.fax_bits.specs.Bits.{bits, code_bits};
 ghost use Rattle.fax_bits.specs.views.Source.{HasZerosAhead};
 ghost use Rattle.fax_bits.specs.Bits.{bits_number};
@@ -19,11 +20,11 @@ pub(crate) struct Window {
     /// The first byte that is not loaded.
     pub at: usize,
     pub ghost few: { count ≤ 64 },
-    pub ghost zeros_behind: { bits % 2 ^ (64 - count) ≡ 0 },
+    pub ghost zeros_after: { bits % 2 ^ (64 - count) ≡ 0 },
 }
 
 impl Window {
-    ghost use Rattle.fax_bits.specs.code.BitsAhead.{bits_ahead};
+    ghost use Rattle.fax_bits.specs.code.BitsAhead.{bits_ahead, IsAhead, place_before};
 
     /// The bits from a byte on, of which none is loaded.
     #[inline(always)]
@@ -40,9 +41,46 @@ impl Window {
         }
     }
 
+    /// The bits from a place on, of which no more than those of its byte are loaded.
+    #[inline(never)]
+    pub fn from_place(bytes: &[u8], order: FillOrder, place: u64) -> Window
+        requires { IsPlaced bytes.now place }
+        ensures ahead { IsAhead order bytes.now result }
+        ensures place { place_before result ≡ place }
+    {
+        let at = (place / 8) as usize;
+        let bits = (place % 8) as u32;
+        if bits == 0 {
+            return Window::new(at);
+        }
+        Window::new(at).with_byte(bytes, order).after(bits)
+    }
+
+    /// The same window, made of its fields.
+    #[inline(always)]
+    pub fn again(self) -> Window
+        ensures { result ≡ self }
+    {
+        Window {
+            bits: self.bits,
+            count: self.count,
+            at: self.at,
+        }
+    }
+
+    /// How many bits of the bytes stand before its own.
+    #[inline(always)]
+    pub fn place(self) -> u64
+        requires after { self.count ≤ 8 * self.at }
+        requires within { self.at ≤ 4294967295 }
+        ensures { result ≡ place_before self }
+    {
+        self.at as u64 * 8 - u64::from(self.count)
+    }
+
     /// The bits after the next `n`, which are loaded.
     #[inline(always)]
-    pub fn behind(self, n: u32) -> Window
+    pub fn after(self, n: u32) -> Window
         requires loaded { n ≤ self.count }
         requires short { n < 64 }
         ensures ahead { (order : FillOrder) (bytes : List ℕ)
@@ -74,6 +112,78 @@ impl Window {
         }
     }
 
+    /// The same bits, of which one byte more is loaded.
+    #[inline(always)]
+    pub fn with_byte(self, bytes: &[u8], order: FillOrder) -> Window
+        requires room { self.count ≤ 56 }
+        requires left { self.at < length bytes.now }
+        ensures ahead { bits_ahead order bytes.now result ≡ bits_ahead order bytes.now self }
+        ensures count { result.count ≡ self.count + 8 }
+        ensures at { result.at ≡ self.at + 1 }
+    {
+        let byte = byte_at(bytes, self.at, order);
+        Window {
+            bits: self.bits | u64::from(byte) << (56 - self.count),
+            count: self.count + 8,
+            at: self.at + 1,
+        }
+    }
+
+    /// The same bits, of which single bytes more are loaded, up to 32 bits or to the end of the
+    /// bytes.
+    #[inline(never)]
+    fn with_last_bytes(self, bytes: &[u8], order: FillOrder) -> Window
+        requires within { self.at ≤ length bytes.now }
+        ensures ahead { bits_ahead order bytes.now result ≡ bits_ahead order bytes.now self }
+        ensures place { 8 * result.at + self.count ≡ 8 * self.at + result.count }
+        ensures within { result.at ≤ length bytes.now }
+        ensures many { (32 ≤ result.count) ⊎ (result.at ≡ length bytes.now) }
+    {
+        let mut more = self;
+        while more.count < 32 && more.at < bytes.len() {
+            more = more.with_byte(bytes, order);
+        }
+        more
+    }
+
+    /// The same bits, of which at least 32 are loaded, or all that are left.
+    #[inline(always)]
+    pub fn filled(self, bytes: &[u8], order: FillOrder) -> Window
+        requires within { self.at ≤ length bytes.now }
+        ensures ahead { bits_ahead order bytes.now result ≡ bits_ahead order bytes.now self }
+        ensures place { 8 * result.at + self.count ≡ 8 * self.at + result.count }
+        ensures within { result.at ≤ length bytes.now }
+        ensures many { (32 ≤ result.count) ⊎ (result.at ≡ length bytes.now) }
+    {
+        if self.count >= 32 {
+            return self;
+        }
+        if bytes.len() - self.at < 4 {
+            return self.with_last_bytes(bytes, order);
+        }
+        self.refilled(bytes, order)
+    }
+
+    /// The same bits, of which at least 32 are loaded, or `None` near the end of the bytes.
+    #[inline(always)]
+    pub fn loaded(self, bytes: &[u8], order: FillOrder) -> Option<Window>
+        requires { self.at ≤ length bytes.now }
+        ensures ahead { IfSome result (λ more. bits_ahead order bytes.now more
+            ≡ bits_ahead order bytes.now self) }
+        ensures many { IfSome result (λ more. 32 ≤ more.count) }
+        ensures place { IfSome result (λ more. 8 * more.at + self.count
+            ≡ 8 * self.at + more.count) }
+        ensures within { IfSome result (λ more. more.at ≤ length bytes.now) }
+    {
+        if self.count >= 32 {
+            return Some(self);
+        }
+        if bytes.len() - self.at < 4 {
+            return None;
+        }
+        Some(self.refilled(bytes, order))
+    }
+
     /// How many zeros stand before the first 1, where it is loaded; else no fewer than are loaded.
     #[inline(always)]
     pub fn zeros(self) -> u32
@@ -103,16 +213,29 @@ impl Window {
         self.bits.leading_ones()
     }
 
-    /// The number that the next `n` bits spell, which are loaded: what `BitSource::peek` says.
+    /// The number that the next `n` bits spell, where they are loaded, or all that are left are:
+    /// past the end of the bytes it sees zeros, which are no bits.
     #[inline(always)]
     pub fn number(self, n: u32) -> u32
         requires some { 0 < n }
         requires few { n ≤ 32 }
-        requires loaded { n ≤ self.count }
         ensures number { (order : FillOrder) (bytes : List ℕ)
+            → (n ≤ self.count) ⊎ (length bytes ≤ self.at)
             → result ≡ bits_number (take n (bits_ahead order bytes self ++ replicate n false)) }
     {
         (self.bits >> (64 - n)) as u32
+    }
+}
+
+/// The bits of a byte as a number, the first bit highest.
+#[inline(always)]
+fn byte_at(bytes: &[u8], at: usize, order: FillOrder) -> u8
+    requires { at < length bytes.now }
+    ensures { code_bits 8 result ≡ bits order (take 1 (drop at bytes.now)) }
+{
+    match order {
+        FillOrder::MsbFirst => bytes[at],
+        FillOrder::LsbFirst => bytes[at].reverse_bits(),
     }
 }
 

@@ -14,6 +14,8 @@ pub fn answer(alloc: Global, words: &[&str]) -> Result<Option<String>, WrongLine
         ["find", table, bits] => found(alloc, table, bits)?,
         ["pairs", skip, bits, most] => pairs(alloc, skip, bits, most)?,
         ["pair_within", total, width, bits] => pair_within(alloc, total, width, bits)?,
+        ["run_within", colour, bits, most] => run_within(alloc, colour, bits, most)?,
+        ["mode", bits] => looked_up_mode(alloc, bits)?,
         ["past_ones", bits, most] => past_ones(alloc, bits, most)?,
         ["put_run", colour, pels] => run(alloc, colour, pels)?,
         ["put_short_pair", colour, first, second] => short_pair(alloc, colour, first, second)?,
@@ -65,18 +67,12 @@ fn pairs(alloc: Global, skip: &str, bits: &str, most: &str) -> Result<String, Wr
         return Err(WrongLine::OutOfLimits);
     }
     source.skip(skip);
-    let Some(mut ahead) = source.ahead() else {
-        return Err(WrongLine::OutOfLimits);
-    };
     let mut text = String::new(alloc);
     for _ in 0..8 {
-        match ahead.pair(most) {
-            Ok((after, pair)) => {
-                text.push_str(&format!(in alloc; "{},{} ", pair.white, pair.black)?)?;
-                ahead = after;
-            }
-            Err(again) => {
-                text.push_str(&format!(in alloc; "{}", again.source().place())?)?;
+        match source.pair_within(0, most) {
+            Some(pair) => text.push_str(&format!(in alloc; "{},{} ", pair.white, pair.black)?)?,
+            None => {
+                text.push_str(&format!(in alloc; "{}", source.place())?)?;
                 return Ok(text);
             }
         }
@@ -84,38 +80,52 @@ fn pairs(alloc: Global, skip: &str, bits: &str, most: &str) -> Result<String, Wr
     Err(WrongLine::OutOfLimits)
 }
 
-/// Whether a pair is read where so many pels of the row's width stand before it.
+/// The pair that is read where so many pels of the row's width stand before it, and the place then.
 fn pair_within(alloc: Global, total: &str, width: &str, bits: &str) -> Result<String, WrongLine> {
     let total = words::number(total)?;
     let width = words::number(width)?;
     let bytes = words::bytes(alloc, bits)?;
-    let source = BitSource::new(&bytes, FillOrder::MsbFirst);
-    let Some(ahead) = source.ahead() else {
-        return Err(WrongLine::OutOfLimits);
-    };
+    let mut source = BitSource::new(&bytes, FillOrder::MsbFirst);
     if total >= 0x8000_0000 {
         return Err(WrongLine::OutOfLimits);
     }
-    match ahead.pair_within(total, width) {
-        Ok((_, pair)) => Ok(format!(in alloc; "{},{}", pair.white, pair.black)?),
-        Err(again) => Ok(format!(in alloc; "none {}", again.source().place())?),
+    match source.pair_within(total, width) {
+        Some(pair) => Ok(format!(in alloc; "{},{} {}", pair.white, pair.black, source.place())?),
+        None => Ok(format!(in alloc; "none {}", source.place())?),
     }
+}
+
+/// The run of at most so many pels that is read, and the place then.
+fn run_within(alloc: Global, colour: &str, bits: &str, most: &str) -> Result<String, WrongLine> {
+    let colour = words::colour(colour)?;
+    let bytes = words::bytes(alloc, bits)?;
+    let most = words::number(most)?;
+    let mut source = BitSource::new(&bytes, FillOrder::MsbFirst);
+    match source.run_within(colour, most) {
+        Some(pels) => Ok(format!(in alloc; "{pels} {}", source.place())?),
+        None => Ok(format!(in alloc; "none {}", source.place())?),
+    }
+}
+
+/// The mode that one look-up reads, and the place then.
+fn looked_up_mode(alloc: Global, bits: &str) -> Result<String, WrongLine> {
+    let bytes = words::bytes(alloc, bits)?;
+    let mut source = BitSource::new(&bytes, FillOrder::MsbFirst);
+    let mode = source.mode();
+    Ok(format!(in alloc; "{mode:?} {}", source.place())?)
 }
 
 /// How many ones are next, how many of them are gone past, and the place after those.
 fn past_ones(alloc: Global, bits: &str, most: &str) -> Result<String, WrongLine> {
     let most = words::number(most)?;
     let bytes = words::bytes(alloc, bits)?;
-    let source = BitSource::new(&bytes, FillOrder::MsbFirst);
-    let Some(ahead) = source.ahead() else {
-        return Err(WrongLine::OutOfLimits);
-    };
+    let mut source = BitSource::new(&bytes, FillOrder::MsbFirst);
     if most > 32 {
         return Err(WrongLine::OutOfLimits);
     }
-    let ones = ahead.ones();
-    let (after, count) = ahead.past_ones(most);
-    Ok(format!(in alloc; "{ones} {count} {}", after.source().place())?)
+    let ones = source.ones();
+    let count = source.past_ones(most);
+    Ok(format!(in alloc; "{ones} {count} {}", source.place())?)
 }
 
 /// The bits of a run.

@@ -102,8 +102,8 @@ module _ (endian : Endian) (file : List ℕ) where
   by_tests false false false end e = inr (inl (refl, refl, cc))
 
   -- the same after offsets that stood before: one that is met again is one of those or stands in the chain
-  abbrev EndsBehind : List ℕ → ℕ → ℕ → Option FileFault → Type 0
-  EndsBehind before due n end =
+  abbrev EndsAfterPlaces : List ℕ → ℕ → ℕ → Option FileFault → Type 0
+  EndsAfterPlaces before due n end =
       (((link endian file due n == 0) ≡ true) × (end ≡ None))
       ⊎ (((link endian file due n == 0) ≡ false) × (is_directory endian file (link endian file due n) ≡ false)
       × (end ≡ Some DirectoryOutside))
@@ -123,7 +123,7 @@ module _ (endian : Endian) (file : List ℕ) where
   met_one_on before due n (inr p) = inr (suc p.0, omega arith, p.2)
 
   ends : (before : List ℕ) (due : ℕ) (offsets : List ℕ) (end : Option FileFault) → IsChainFrom endian file before due offsets end
-      → EndsBehind before due (length offsets) end
+      → EndsAfterPlaces before due (length offsets) end
   ends before due [] end is = elim (by_tests (due == 0) (list_any (λ q. due == q) before) (is_directory endian file due) end is) [
     | inl p ↦ inl p
     | inr (inl p) ↦ inr (inl p)
@@ -135,7 +135,7 @@ module _ (endian : Endian) (file : List ℕ) where
     | inr (inr p) ↦ inr (inr (met_one_on before due (length offsets) p.0, p.1))
   ]
 
-  at_first : (due n : ℕ) (end : Option FileFault) → EndsBehind [] due n end → EndsSo due n end
+  at_first : (due n : ℕ) (end : Option FileFault) → EndsAfterPlaces [] due n end → EndsSo due n end
   at_first due n end (inl p) = inl p
   at_first due n end (inr (inl p)) = inr (inl p)
   at_first due n end (inr (inr (inl there, e))) = absurd cc

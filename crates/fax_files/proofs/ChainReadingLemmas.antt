@@ -51,7 +51,7 @@ module _ (tiff : TiffFile) (due given : ℕ) (turn : Option ℕ) (sound : IsChai
     at_end : (given < length offsets → ⊥) → (slice_get offsets given ≡ None) × (given ≡ length offsets)
     at_end not_before = elim (cases_lt given (length offsets)) [
       | inl before ↦ absurd (not_before before)
-      | inr behind ↦ let _w = within in (past offsets given behind, omega arith)
+      | inr after ↦ let _w = within in (past offsets given after, omega arith)
     ]
 
     abbrev answer : Result (Option TiffDirectory) FileFault
@@ -92,7 +92,7 @@ module _ (tiff : TiffFile) (due given : ℕ) (turn : Option ℕ) (sound : IsChai
     there_before : due ≢ 0 → is_directory tiff.head.endian tiff.file due ≡ true → turn ≢ Some given → given < length offsets
     there_before some there no_turn = elim (cases_lt given (length offsets)) [
       | inl before ↦ before
-      | inr behind ↦
+      | inr after ↦
           let _w = within in
           let last : given ≡ length offsets = omega arith in
           let due_last : due ≡ place tiff (length offsets) = sound.due_is ∙ ap (place tiff) last in
@@ -121,7 +121,7 @@ module _ (tiff : TiffFile) (due given : ℕ) (turn : Option ℕ) (sound : IsChai
       | inl before ↦ let at : (let r : Result (Option TiffDirectory) FileFault = Ok (Some directory) in r)
           ≡ Ok (Some (directory_of tiff (place tiff given))) = e
           ∙ ap (λ (o : Option ℕ). answer_at tiff o end) (the_places.at given before) in (before, cc)
-      | inr behind ↦ absurd (no_directory tiff directory end (e ∙ ap (λ (o : Option ℕ). answer_at tiff o end) (past offsets given behind)))
+      | inr after ↦ absurd (no_directory tiff directory end (e ∙ ap (λ (o : Option ℕ). answer_at tiff o end) (past offsets given after)))
     ]
 
   abbrev state : ChainState

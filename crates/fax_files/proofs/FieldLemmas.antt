@@ -23,10 +23,10 @@ rises [] = true
 rises (a ∷ []) = true
 rises (a ∷ b ∷ rest) = nat_lt a b && rises (b ∷ rest)
 
-rises_behind : (a : ℕ) (rest : List ℕ) → rises (a ∷ rest) ≡ true → rises rest ≡ true
+rises_after : (a : ℕ) (rest : List ℕ) → rises (a ∷ rest) ≡ true → rises rest ≡ true
 unfolding rises
-rises_behind a [] up = refl
-rises_behind a (b ∷ rest) up = (and_parts (nat_lt a b) (rises (b ∷ rest)) up).1
+rises_after a [] up = refl
+rises_after a (b ∷ rest) up = (and_parts (nat_lt a b) (rises (b ∷ rest)) up).1
 
 first_is_least : (a : ℕ) (rest : List ℕ) → rises (a ∷ rest) ≡ true → (j : ℕ) → j < length rest → a < get_or rest j 0
 unfolding rises
@@ -34,7 +34,7 @@ first_is_least a [] up j inside = absurd (omega arith)
 first_is_least a (b ∷ rest) up zero inside = ltb-true _ _ (and_parts (nat_lt a b) (rises (b ∷ rest)) up).0
 first_is_least a (b ∷ rest) up (suc j) inside =
     let both = and_parts (nat_lt a b) (rises (b ∷ rest)) up in
-    let behind : b < get_or rest j 0 = first_is_least b rest both.1 j (omega arith) in
+    let after : b < get_or rest j 0 = first_is_least b rest both.1 j (omega arith) in
     let first : a < b = ltb-true _ _ both.0 in
     omega arith
 
@@ -42,7 +42,7 @@ rising : (xs : List ℕ) → rises xs ≡ true → (i j : ℕ) → i < j → j <
 rising [] up i j lt inside = absurd (omega arith)
 rising (a ∷ rest) up i zero lt inside = absurd (omega arith)
 rising (a ∷ rest) up zero (suc j) lt inside = first_is_least a rest up j (omega arith)
-rising (a ∷ rest) up (suc i) (suc j) lt inside = rising rest (rises_behind a rest up) i j (omega arith) (omega arith)
+rising (a ∷ rest) up (suc i) (suc j) lt inside = rising rest (rises_after a rest up) i j (omega arith) (omega arith)
 
 -- the tags that are looked for rise
 tags_rise : (i j : ℕ) → i < j → j < length TAGS → get_or TAGS i 0 < get_or TAGS j 0
@@ -185,8 +185,8 @@ module _ (endian : Endian) (file : List ℕ) (start count k : ℕ) (total : Bool
   abbrev here : ℕ
   here = number_at endian 2 file (start + 12 * k)
 
-  behind : k < count → total ≡ (nat_lt before here && ascend (entries_at endian file (start + 12 * k) (count - k)))
-  behind within =
+  after : k < count → total ≡ (nat_lt before here && ascend (entries_at endian file (start + 12 * k) (count - k)))
+  after within =
       let place : start + 12 * k - 12 ≡ start + 12 * (k - 1) = omega arith in
       let next : start + 12 * k ≡ start + 12 * (k - 1) + 12 = omega arith in
       let two = two_ascend endian file (start + 12 * (k - 1)) (count - (k - 1)) (count - k) (omega arith) (omega arith) in
@@ -200,13 +200,13 @@ module _ (endian : Endian) (file : List ℕ) (start count k : ℕ) (total : Bool
       rw (before_is, here_is, rest_is) (sym so_far ∙ two)
 
   pub out_of_order : k < count → here ≤ before → false ≡ total
-  out_of_order within above = sym (behind within ∙ rw (le-ltb before here above) refl)
+  out_of_order within above = sym (after within ∙ rw (le-ltb before here above) refl)
 
   pub still_in_order : k < count → before < here
       → ascend (entries_at endian file (start + 12 * (k + 1 - 1)) (count - (k + 1 - 1))) ≡ total
   still_in_order within below =
       let next : k + 1 - 1 ≡ k = omega arith in
-      rw next (sym (behind within ∙ rw (lt-ltb before here below) refl))
+      rw next (sym (after within ∙ rw (lt-ltb before here below) refl))
 
   pub in_order_to_the_end : count ≤ k → true ≡ total
   in_order_to_the_end end = sym (few_ascend endian file (start + 12 * (k - 1)) (count - (k - 1)) (omega arith)) ∙ so_far

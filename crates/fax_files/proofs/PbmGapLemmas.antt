@@ -7,7 +7,7 @@ use Rattle.std.proofs.lemmas.Bool.{eqb-true, and_parts}
 use Rattle.std.proofs.lemmas.Bool.Decides.{nat_tests}
 use Rattle.fax_files.specs.Pbm.{is_white_space, IsPiece, ArePieces, IsGap}
 use Rattle.fax_files.specs.code.Pbm.{is_line_end, is_digit}
-use Rattle.fax_files.specs.code.Pbm.{begins_piece, behind_pieces, behind_gap, has_digit}
+use Rattle.fax_files.specs.code.Pbm.{begins_piece, after_pieces, after_gap, has_digit}
 
 pub white_is_no_hash : (c : ℕ) → is_white_space c ≡ true → (c == 35) ≡ false
 white_is_no_hash c white = grind (arith, nat_tests)
@@ -108,23 +108,23 @@ gap_has_pieces bytes rest has = record { pieces = has.first ∷ has.pieces; gap 
 
 -- the first piece begins at this byte
 first_piece : (c : ℕ) (bytes rest : List ℕ) → begins_piece c ≡ true
-    → ((in_comment : Bool) → behind_pieces in_comment bytes ≡ Some rest → Has in_comment bytes rest)
-    → behind_pieces (c == 35) bytes ≡ Some rest → HasGap (c ∷ bytes) rest
+    → ((in_comment : Bool) → after_pieces in_comment bytes ≡ Some rest → Has in_comment bytes rest)
+    → after_pieces (c == 35) bytes ≡ Some rest → HasGap (c ∷ bytes) rest
 first_piece c bytes rest begins has next =
-    elim (c == 35) as (λ v. (c == 35) ≡ v → behind_pieces v bytes ≡ Some rest → HasGap (c ∷ bytes) rest) [
+    elim (c == 35) as (λ v. (c == 35) ≡ v → after_pieces v bytes ≡ Some rest → HasGap (c ∷ bytes) rest) [
       | true ↦ λ hash more. comment_is_piece c bytes rest (eqb-true c 35 hash) (has true more)
       | false ↦ λ other more. white_is_piece c bytes rest (rw other at begins) (has false more)
     ] refl next
 
-has_read : (in_comment : Bool) (bytes rest : List ℕ) → behind_pieces in_comment bytes ≡ Some rest → Has in_comment bytes rest
+has_read : (in_comment : Bool) (bytes rest : List ℕ) → after_pieces in_comment bytes ≡ Some rest → Has in_comment bytes rest
 has_read in_comment [] rest is = let no : ⊥ = cc in absurd no
 has_read true (c ∷ bytes) rest is =
-    elim (is_line_end c) as (λ v. is_line_end c ≡ v → behind_pieces (not v) bytes ≡ Some rest → HasComment (c ∷ bytes) rest) [
+    elim (is_line_end c) as (λ v. is_line_end c ≡ v → after_pieces (not v) bytes ≡ Some rest → HasComment (c ∷ bytes) rest) [
       | true ↦ λ ends next. comment_ends c bytes rest ends (has_read false bytes rest next)
       | false ↦ λ goes_on next. comment_goes_on c bytes rest goes_on (has_read true bytes rest next)
     ] refl is
 has_read false (c ∷ bytes) rest is =
-    elim (begins_piece c) as (λ v. begins_piece c ≡ v → (if v then (behind_pieces (c == 35) bytes) else (Some (c ∷ bytes))) ≡ Some rest
+    elim (begins_piece c) as (λ v. begins_piece c ≡ v → (if v then (after_pieces (c == 35) bytes) else (Some (c ∷ bytes))) ≡ Some rest
     → HasPieces (c ∷ bytes) rest) [
       | true ↦ λ begins next.
           gap_has_pieces (c ∷ bytes) rest (first_piece c bytes rest begins (λ in_comment more. has_read in_comment bytes rest more) next)
@@ -132,11 +132,11 @@ has_read false (c ∷ bytes) rest is =
     ] refl is
 
 -- a gap that is read is one
-pub gap_is_read : (bytes rest : List ℕ) → behind_gap bytes ≡ Some rest → (gap : List ℕ) × IsGap gap × (bytes ≡ gap ++ rest)
+pub gap_is_read : (bytes rest : List ℕ) → after_gap bytes ≡ Some rest → (gap : List ℕ) × IsGap gap × (bytes ≡ gap ++ rest)
 gap_is_read [] rest is = let no : ⊥ = cc in absurd no
 gap_is_read (c ∷ bytes) rest is =
     elim (begins_piece c) as (λ v. begins_piece c ≡ v
-    → (if v then (if v then (behind_pieces (c == 35) bytes) else (Some (c ∷ bytes))) else None) ≡ Some rest
+    → (if v then (if v then (after_pieces (c == 35) bytes) else (Some (c ∷ bytes))) else None) ≡ Some rest
     → (gap : List ℕ) × IsGap gap × (c ∷ bytes ≡ gap ++ rest)) [
       | true ↦ λ begins next.
           let has = first_piece c bytes rest begins (λ in_comment more. has_read in_comment bytes rest more) next in
@@ -145,32 +145,32 @@ gap_is_read (c ∷ bytes) rest is =
     ] refl is
 
 -- in a comment
-behind_text : (text : List ℕ) (c : ℕ) (more : List ℕ) → list_all (λ t. not (is_line_end t)) text ≡ true → is_line_end c ≡ true
-    → behind_pieces true (text ++ c ∷ more) ≡ behind_pieces false more
-behind_text [] c more all ends = ap (λ v. behind_pieces (not v) more) ends
-behind_text (t ∷ text) c more all ends =
+after_text : (text : List ℕ) (c : ℕ) (more : List ℕ) → list_all (λ t. not (is_line_end t)) text ≡ true → is_line_end c ≡ true
+    → after_pieces true (text ++ c ∷ more) ≡ after_pieces false more
+after_text [] c more all ends = ap (λ v. after_pieces (not v) more) ends
+after_text (t ∷ text) c more all ends =
     let parts = and_parts (not (is_line_end t)) (list_all (λ t. not (is_line_end t)) text) all in
-    ap (λ v. behind_pieces v (text ++ c ∷ more)) parts.0 ∙ behind_text text c more parts.1 ends
+    ap (λ v. after_pieces v (text ++ c ∷ more)) parts.0 ∙ after_text text c more parts.1 ends
 
-white_passed : (c : ℕ) (more : List ℕ) → is_white_space c ≡ true → behind_pieces false (c ∷ more) ≡ behind_pieces false more
+white_passed : (c : ℕ) (more : List ℕ) → is_white_space c ≡ true → after_pieces false (c ∷ more) ≡ after_pieces false more
 white_passed c more white =
-    ap (λ v. if v then (behind_pieces (c == 35) more) else (Some (c ∷ more))) (white_begins c white)
-    ∙ ap (λ v. behind_pieces v more) (white_is_no_hash c white)
+    ap (λ v. if v then (after_pieces (c == 35) more) else (Some (c ∷ more))) (white_begins c white)
+    ∙ ap (λ v. after_pieces v more) (white_is_no_hash c white)
 
-piece_passed : (piece more : List ℕ) → IsPiece piece → behind_pieces false (piece ++ more) ≡ behind_pieces false more
+piece_passed : (piece more : List ℕ) → IsPiece piece → after_pieces false (piece ++ more) ≡ after_pieces false more
 piece_passed piece more (inl w) =
-    ap (λ (p : List ℕ). behind_pieces false (p ++ more)) w.2 ∙ white_passed w.0 more w.1
+    ap (λ (p : List ℕ). after_pieces false (p ++ more)) w.2 ∙ white_passed w.0 more w.1
 piece_passed piece more (inr w) =
-    ap (λ (p : List ℕ). behind_pieces false (p ++ more)) w.4
-    ∙ ap (λ (l : List ℕ). behind_pieces true l) (append_assoc w.0 (w.1 ∷ []) more)
-    ∙ behind_text w.0 w.1 more w.2 w.3
+    ap (λ (p : List ℕ). after_pieces false (p ++ more)) w.4
+    ∙ ap (λ (l : List ℕ). after_pieces true l) (append_assoc w.0 (w.1 ∷ []) more)
+    ∙ after_text w.0 w.1 more w.2 w.3
 
 pieces_passed : (pieces : List (List ℕ)) (gap rest : List ℕ) → ArePieces pieces gap
-    → behind_pieces false (gap ++ rest) ≡ behind_pieces false rest
-pieces_passed [] gap rest are = ap (λ (g : List ℕ). behind_pieces false (g ++ rest)) are
+    → after_pieces false (gap ++ rest) ≡ after_pieces false rest
+pieces_passed [] gap rest are = ap (λ (g : List ℕ). after_pieces false (g ++ rest)) are
 pieces_passed (piece ∷ pieces) gap rest are =
-    ap (λ (g : List ℕ). behind_pieces false (g ++ rest)) are.3
-    ∙ ap (λ (l : List ℕ). behind_pieces false l) (append_assoc piece are.0 rest)
+    ap (λ (g : List ℕ). after_pieces false (g ++ rest)) are.3
+    ∙ ap (λ (l : List ℕ). after_pieces false l) (append_assoc piece are.0 rest)
     ∙ piece_passed piece (are.0 ++ rest) are.1
     ∙ pieces_passed pieces are.0 rest are.2
 
@@ -200,20 +200,20 @@ gap_has_no_digit gap rest is =
     let b = gap_begins gap is in
     ap (λ (g : List ℕ). has_digit (g ++ rest)) b.is ∙ piece_is_no_digit b.first b.begins
 
-digit_stops : (rest : List ℕ) → has_digit rest ≡ true → behind_pieces false rest ≡ Some rest
+digit_stops : (rest : List ℕ) → has_digit rest ≡ true → after_pieces false rest ≡ Some rest
 digit_stops [] digit = let no : ⊥ = cc in absurd no
 digit_stops (c ∷ rest) digit =
-    ap (λ v. if v then (behind_pieces (c == 35) rest) else (Some (c ∷ rest))) (digit_begins_none c digit)
+    ap (λ v. if v then (after_pieces (c == 35) rest) else (Some (c ∷ rest))) (digit_begins_none c digit)
 
-begun_gap : (c : ℕ) (bytes : List ℕ) → begins_piece c ≡ true → behind_gap (c ∷ bytes) ≡ behind_pieces false (c ∷ bytes)
-begun_gap c bytes begins = ap (λ v. if v then (behind_pieces false (c ∷ bytes)) else None) begins
+begun_gap : (c : ℕ) (bytes : List ℕ) → begins_piece c ≡ true → after_gap (c ∷ bytes) ≡ after_pieces false (c ∷ bytes)
+begun_gap c bytes begins = ap (λ v. if v then (after_pieces false (c ∷ bytes)) else None) begins
 
 -- each gap before a digit is read to its end
-pub gap_passed : (gap rest : List ℕ) → IsGap gap → has_digit rest ≡ true → behind_gap (gap ++ rest) ≡ Some rest
+pub gap_passed : (gap rest : List ℕ) → IsGap gap → has_digit rest ≡ true → after_gap (gap ++ rest) ≡ Some rest
 gap_passed gap rest is digit =
     let b = gap_begins gap is in
-    ap (λ (g : List ℕ). behind_gap (g ++ rest)) b.is
+    ap (λ (g : List ℕ). after_gap (g ++ rest)) b.is
     ∙ begun_gap b.first (b.others ++ rest) b.begins
-    ∙ ap (λ (g : List ℕ). behind_pieces false (g ++ rest)) (sym b.is)
+    ∙ ap (λ (g : List ℕ). after_pieces false (g ++ rest)) (sym b.is)
     ∙ pieces_passed is.0 gap rest is.2
     ∙ digit_stops rest digit

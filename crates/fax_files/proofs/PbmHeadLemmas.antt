@@ -6,7 +6,7 @@ use Rattle.std.proofs.lemmas.Grind.{common_steps}
 use Rattle.fax_files.specs.declared.pbm.PbmFault.TheVariants.{BadHeader, OutOfLimits}
 use Rattle.fax_files.specs.Pbm.{IsHead, IsImage, IsImageFault, is_within_limits}
 use Rattle.fax_files.specs.code.Pbm.{raster_len}
-use Rattle.fax_files.specs.code.Pbm.{capped, behind_gap, behind_digits, IsHeadRead}
+use Rattle.fax_files.specs.code.Pbm.{capped, after_gap, after_digits, IsHeadRead}
 use Rattle.fax_files.specs.views.Pbm.{image_of}
 use Rattle.fax_files.proofs.PbmGapLemmas.{gap_is_read, gap_passed, gap_has_no_digit, white_is_no_digit}
 use Rattle.fax_files.proofs.PbmNumberLemmas.{number_is_read, number_passed, number_begins, digits_passed}
@@ -24,7 +24,7 @@ pub head_is_read : (bytes : List ℕ) (width height : ℕ) (rest : List ℕ) →
 head_is_read bytes width height rest read =
     let first = gap_is_read read.at_gap read.at_width read.gap in
     let w = number_is_read read.at_width read.some_width in
-    let second = gap_is_read (behind_digits read.at_width) read.at_height read.second_gap in
+    let second = gap_is_read (after_digits read.at_width) read.at_height read.second_gap in
     let h = number_is_read read.at_height read.some_height in
     record {
       exact_width = w.number;
@@ -48,7 +48,7 @@ head_is_read bytes width height rest read =
             w.is
             ∙ ap (λ (l : List ℕ). w.digits ++ l) (
             second.2
-            ∙ ap (λ (l : List ℕ). second.0 ++ l) (h.is ∙ ap (λ (l : List ℕ). h.digits ++ l) read.behind)
+            ∙ ap (λ (l : List ℕ). second.0 ++ l) (h.is ∙ ap (λ (l : List ℕ). h.digits ++ l) read.after)
             )
             )
             );
@@ -68,7 +68,7 @@ head_passed bytes width height rest head =
     let space_no_digit = white_is_no_digit head.space head.space_is in
     let some_height = number_begins head.height_digits height (head.space ∷ rest) head.height_is in
     let some_width = number_begins head.width_digits width at_second head.width_is in
-    let behind_width = digits_passed head.width_digits at_second head.width_is.1 no_digit in
+    let after_width = digits_passed head.width_digits at_second head.width_is.1 no_digit in
     record {
       at_gap = head.first_gap ++ at_width;
       at_width = at_width;
@@ -78,10 +78,10 @@ head_passed bytes width height rest head =
       gap = gap_passed head.first_gap at_width head.first_is_gap some_width;
       some_width = some_width;
       width_is = sym (number_passed head.width_digits width at_second head.width_is no_digit);
-      second_gap = ap behind_gap behind_width ∙ gap_passed head.second_gap at_height head.second_is_gap some_height;
+      second_gap = ap after_gap after_width ∙ gap_passed head.second_gap at_height head.second_is_gap some_height;
       some_height = some_height;
       height_is = sym (number_passed head.height_digits height (head.space ∷ rest) head.height_is space_no_digit);
-      behind = digits_passed head.height_digits (head.space ∷ rest) head.height_is.1 space_no_digit;
+      after = digits_passed head.height_digits (head.space ∷ rest) head.height_is.1 space_no_digit;
       space_is = head.space_is;
     }
 

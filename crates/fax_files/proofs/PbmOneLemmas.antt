@@ -9,7 +9,7 @@ use Rattle.fax_files.specs.declared.pbm.PbmFault.{PbmFault}
 use Rattle.fax_files.specs.declared.pbm.PbmFault.TheVariants.{BadHeader, OutOfLimits, ShortRaster}
 use Rattle.fax_files.specs.Pbm.{Image, IsHead, IsImage, IsImageFault, AreImages, is_within_limits, raster_rows}
 use Rattle.fax_files.specs.code.Pbm.{raster_len}
-use Rattle.fax_files.specs.code.Pbm.{capped, capped_from, behind_gap, behind_digits}
+use Rattle.fax_files.specs.code.Pbm.{capped, capped_from, after_gap, after_digits}
 use Rattle.fax_files.proofs.PbmHeadLemmas.{head_passed, capped_limits, within_is_exact}
 
 of_some : (a b : List ℕ) → Some a ≡ Some b → a ≡ b
@@ -30,13 +30,13 @@ one_head bytes width height w h rest others first second =
     let a = head_passed bytes width height rest first in
     let b = head_passed bytes w h others second in
     let gap : a.at_gap ≡ b.at_gap = ap (drop 2) (sym a.magic ∙ b.magic) in
-    let at_width : a.at_width ≡ b.at_width = of_some a.at_width b.at_width (sym a.gap ∙ ap behind_gap gap ∙ b.gap) in
+    let at_width : a.at_width ≡ b.at_width = of_some a.at_width b.at_width (sym a.gap ∙ ap after_gap gap ∙ b.gap) in
     let at_height : a.at_height ≡ b.at_height =
-    of_some a.at_height b.at_height (sym a.second_gap ∙ ap (λ (l : List ℕ). behind_gap (behind_digits l)) at_width ∙ b.second_gap) in
+    of_some a.at_height b.at_height (sym a.second_gap ∙ ap (λ (l : List ℕ). after_gap (after_digits l)) at_width ∙ b.second_gap) in
     record {
       width_is = a.width_is ∙ ap (capped_from 0) at_width ∙ sym b.width_is;
       height_is = a.height_is ∙ ap (capped_from 0) at_height ∙ sym b.height_is;
-      rest_is = of_pair a.space b.space rest others (sym a.behind ∙ ap behind_digits at_height ∙ b.behind);
+      rest_is = of_pair a.space b.space rest others (sym a.after ∙ ap after_digits at_height ∙ b.after);
     }
 
 same_limits : (width height w h : ℕ) → capped width ≡ capped w → capped height ≡ capped h

@@ -141,9 +141,9 @@ at_before_patch {file} {p} bytes link n le h =
     at_grown bytes (drop (link + 4) file) (at_grown bytes (four n) start)
 
 -- bytes after it stay too
-pub at_behind_patch : {file : List ℕ} {p : ℕ} (bytes : List ℕ) (link n : ℕ) → link + 4 ≤ p
+pub at_after_patch : {file : List ℕ} {p : ℕ} (bytes : List ℕ) (link n : ℕ) → link + 4 ≤ p
     → HasBytesAt file p bytes → HasBytesAt (with_four_at file link n) p bytes
-at_behind_patch {file} {p} bytes link n le h =
+at_after_patch {file} {p} bytes link n le h =
     let inside = at_inside bytes h in
     let back : drop (link + 4) file ≡ drop (link + 4) h.before ++ (bytes ++ h.after) =
     ap (drop (link + 4)) h.there ∙ drop-append-le (link + 4) h.before (bytes ++ h.after) (omega (arith, h.place_is)) in

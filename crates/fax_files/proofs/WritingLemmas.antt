@@ -78,8 +78,8 @@ module _ (strips : List (Vec ℕ Global)) (i : ℕ) (strip : Vec ℕ Global) (lt
   within = omega (arith, end_of_strip, joined-take strips (i + 1))
 
 -- what is put after a part is put after all before it
-pub put_behind : (now old part more : List ℕ) → now ≡ old ++ part → now ++ more ≡ old ++ (part ++ more)
-put_behind now old part more is = ap (λ (l : List ℕ). l ++ more) is ∙ append_assoc old part more
+pub put_after : (now old part more : List ℕ) → now ≡ old ++ part → now ++ more ≡ old ++ (part ++ more)
+put_after now old part more is = ap (λ (l : List ℕ). l ++ more) is ∙ append_assoc old part more
 
 -- what stands after the strips, part by part
 pub tail_put : (t0 t1 t2 t3 t r f z x y a l : List ℕ) → t0 ≡ r → t1 ≡ t0 ++ f ++ z → t2 ≡ t1 ++ x → t3 ≡ t2 ++ y → t ≡ t3 ++ a ++ l

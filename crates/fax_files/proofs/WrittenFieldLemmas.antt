@@ -100,9 +100,9 @@ unfolding entries_at
 entries_there file p [] fit h = (refl, tt)
 entries_there file p (written ∷ fields) fit h =
     let here = at_left (field_bytes written) (flat_map field_bytes fields) h in
-    let behind = at_place (ap (λ (n : ℕ). p + n) (length-field_bytes written fit.0))
+    let after = at_place (ap (λ (n : ℕ). p + n) (length-field_bytes written fit.0))
     (at_right (field_bytes written) (flat_map field_bytes fields) h) in
-    let rest = entries_there file (p + 12) fields fit.1 behind in
+    let rest = entries_there file (p + 12) fields fit.1 after in
     (rw (entry_there file p written fit.0 here, rest.0) refl, (value_there file p written here, rest.1))
 
 -- the first field of a tag, where it is read and where its value stands

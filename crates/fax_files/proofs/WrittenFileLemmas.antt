@@ -20,7 +20,7 @@ use Rattle.fax_files.specs.code.Parts.{longs, rational_bytes}
 use Rattle.fax_files.specs.views.Writing.{empty_file}
 use Rattle.fax_files.specs.laws.Files.{IsWritable, AreWritable, IsReadAt, AppendedPagesAreRead, WrittenFilesAreRead}
 use Rattle.fax_files.proofs.PlaceLemmas.{HasBytesAt, at_place, at_left, at_right, at_inside, at_drop, at_start, at_slice, length-slice}
-use Rattle.fax_files.proofs.PlaceLemmas.{slice_there, at_end, at_grown, at_patch, at_before_patch, at_behind_patch, length-patched}
+use Rattle.fax_files.proofs.PlaceLemmas.{slice_there, at_end, at_grown, at_patch, at_before_patch, at_after_patch, length-patched}
 use Rattle.fax_files.proofs.PlaceLemmas.{number_there}
 use Rattle.fax_files.proofs.WrittenStripLemmas.{length-offsets_from, length-lengths_of, length-longs}
 use Rattle.fax_files.proofs.WrittenPageLemmas.{page_fields, IsPageAt, length-page_fields, page_back, directory_whole, next_there}
@@ -66,9 +66,9 @@ unfolding with_page
 stays old total k written p bytes (inl before) h =
     at_grown bytes (page_bytes (length old.bytes) total k written.form written.strips)
     (at_before_patch bytes old.link (place_of old written) before h)
-stays old total k written p bytes (inr behind) h =
+stays old total k written p bytes (inr after) h =
     at_grown bytes (page_bytes (length old.bytes) total k written.form written.strips)
-    (at_behind_patch bytes old.link (place_of old written) behind h)
+    (at_after_patch bytes old.link (place_of old written) after h)
 
 linked : (old : Written) (total k : ℕ) (written : WrittenPage) → HasOpenLink old
     → HasBytesAt (with_written old total k written).bytes old.link (four (place_of old written))
@@ -173,9 +173,9 @@ appended_pages_are_read old total k written open' w short =
     let q = place_of old written in
     let has_link : HasOpenLink old = rw open'.zero at (at_slice old.bytes old.link 4 open'.inside) in
     let one = is_appended old total k written has_link w in
-    let behind = at_inside _ one.page_is.values in
+    let after = at_inside _ one.page_is.values in
     record {
-      link = number_there 4 one.old_link (omega (arith, behind, short));
+      link = number_there 4 one.old_link (omega (arith, after, short));
       kept = λ place n inside apart.
           let bytes = take n (drop place old.bytes) in
           let len = length-slice old.bytes place n inside in
@@ -271,10 +271,10 @@ chain_through old total k (written ∷ pages) open' w small before below =
     let file = with_all new total (k + 1) pages in
     let inside = at_inside (four 0) open' in
     let here = page_stays old total k written pages open' w.0 w.1 in
-    let behind = at_inside _ here.values in
+    let after = at_inside _ here.values in
     let link =
     stays_through new total (k + 1) pages one.is_open w.1 old.link (four q) (inl (omega (arith, one.new_link, inside))) one.old_link in
-    let due : number_at Little 4 file old.link ≡ q = number_there 4 link (omega (arith, behind, small)) in
+    let due : number_at Little 4 file old.link ≡ q = number_there 4 link (omega (arith, after, small)) in
     let new_place : list_any (λ o. q == o) before ≡ false =
     list_any_none (λ o. q == o) before (All-weaker (λ o. o < length old.bytes) (λ o. (q == o) ≡ false)
     (λ o lt. ne_eqb _ _ (λ e. absurd (omega (arith, e, lt)))) before below) in
@@ -327,9 +327,9 @@ first_there written total k pages w small =
     let link = stays_through (with_written empty_file total k written) total (k + 1) pages one.is_open w.1 4 (four q)
     (inl (omega (arith, one.new_link))) one.old_link in
     let here = page_stays empty_file total k written pages (at_end (codes "II" ++ two 42) (four 0)) w.0 w.1 in
-    let behind = at_inside _ here.values in
-    let due = number_there 4 link (omega (arith, behind, small)) in
-    (λ e. absurd (omega (arith, e, due)), omega (arith, behind))
+    let after = at_inside _ here.values in
+    let due = number_there 4 link (omega (arith, after, small)) in
+    (λ e. absurd (omega (arith, e, due)), omega (arith, after))
 
 -- the law of written files
 pub written_files_are_read : WrittenFilesAreRead

@@ -201,8 +201,8 @@ module _ (file : List ℕ) (q start total k : ℕ) (written : WrittenPage) (know
 
   what_is_read : (entries Little file q ≡ entries_read) × HasValues file (q + 2) fields
   what_is_read =
-      let behind = at_right (two field_count) (flat_map field_bytes fields) known.here.fields in
-      let read = entries_there file (q + 2) fields (page_fits q start total k written known.writable) behind in
+      let after = at_right (two field_count) (flat_map field_bytes fields) known.here.fields in
+      let read = entries_there file (q + 2) fields (page_fits q start total k written known.writable) after in
       (rw (count_there file q start total k written known.here) read.0, read.1)
 
   values : HasValues file (q + 2) fields
@@ -331,9 +331,9 @@ module _ (file : List ℕ) (q start total k : ℕ) (written : WrittenPage) (know
 pub directory_whole : (file : List ℕ) (q start total k : ℕ) (written : WrittenPage) → IsPageAt file q start total k written
     → is_directory Little file q ≡ true
 directory_whole file q start total k written here =
-    let behind = at_inside (values_bytes written.form (offsets_from start written.strips) (lengths_of written.strips)) here.values in
-    let count : is_inside file q 2 ≡ true = le-leb _ _ (omega (arith, behind)) in
-    let all : is_inside file q to_x ≡ true = le-leb _ _ (omega (arith, behind)) in
+    let after = at_inside (values_bytes written.form (offsets_from start written.strips) (lengths_of written.strips)) here.values in
+    let count : is_inside file q 2 ≡ true = le-leb _ _ (omega (arith, after)) in
+    let all : is_inside file q to_x ≡ true = le-leb _ _ (omega (arith, after)) in
     rw (count_there file q start total k written here, count, all) refl
 
 -- and its next offset is the number at its last four bytes

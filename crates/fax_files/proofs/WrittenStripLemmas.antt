@@ -59,12 +59,12 @@ pub array_back : (file : List ℕ) (place tag at_value : ℕ) (numbers : List �
     → written_field fields tag ≡ Some (long_field tag (length numbers) (one_or_place numbers at_value))
     → 1 ≤ length numbers → length file < 4294967296 → (2 ≤ length numbers → HasBytesAt file at_value (array_bytes numbers))
     → ArrayThere file (read_fields place fields) tag numbers
-array_back file place tag at_value numbers fields values found some small behind =
+array_back file place tag at_value numbers fields values found some small after =
     let there = field_there file place tag fields (long_field tag (length numbers) (one_or_place numbers at_value)) values found in
     record {
       at_entry = there.at_entry + 8;
       entry_is = there.entry_is;
-      stands = array_there file (there.at_entry + 8) tag at_value numbers some small there.value_is behind;
+      stands = array_there file (there.at_entry + 8) tag at_value numbers some small there.value_is after;
     }
 
 -- such an entry has all the numbers

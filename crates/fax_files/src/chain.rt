@@ -56,7 +56,7 @@ fn has_few_pages(tiff: &Tiff, file: &[u8])
 }
 
 /// The offset due after the first directories of a chain.
-fn place_behind(tiff: &Tiff, pages: u64) -> u32
+fn place_after(tiff: &Tiff, pages: u64) -> u32
     requires { (i : ℕ) → i < pages → LeadsOn tiff.now i }
     ensures { result ≡ place tiff.now pages }
 {
@@ -73,11 +73,11 @@ fn first_turn(tiff: &Tiff, round: Round) -> u64
     ensures turn { Spec.IsTurn tiff.now round.len result }
     ensures early { result ≤ round.start }
 {
-    let mut ahead = place_behind(tiff, round.len);
-    let mut behind = tiff.first();
+    let mut ahead = place_after(tiff, round.len);
+    let mut before = tiff.first();
     let mut page: u64 = 0;
-    while behind != ahead {
-        behind = due_after(tiff, behind);
+    while before != ahead {
+        before = due_after(tiff, before);
         ahead = due_after(tiff, ahead);
         page += 1;
     }
@@ -173,7 +173,7 @@ impl<'a> Model for Chain<'a> {
 
 impl<'a> Chain<'a> {
     ghost use Rattle.std.specs.Prelude.{IfOk, IfSome};
-    ghost use Rattle.fax_files.specs.views.Chain.{IsDirectoryOf, IsDueAnswer, behind_answer};
+    ghost use Rattle.fax_files.specs.views.Chain.{IsDirectoryOf, IsDueAnswer, after_answer};
 
     /// A reader of the directories of a file, before the first one. Nothing is read yet.
     pub fn new(tiff: Tiff<'a>) -> Self
@@ -235,7 +235,7 @@ impl<'a> Chain<'a> {
     pub fn next(&mut self) -> Result<Option<Directory<'a>>, FileFault>
         ensures answer { IsDueAnswer self.old result }
         ensures file { IfOk result (λ found. IfSome found (IsDirectoryOf self.old.tiff)) }
-        ensures counted { self.new ≡ behind_answer self.old result }
+        ensures counted { self.new ≡ after_answer self.old result }
     {
         let answer = self.due()?;
         if let Some(directory) = &answer {

@@ -77,9 +77,9 @@ fn begins_piece(byte: u8) -> bool
 }
 
 /// What stands after white space and comments, if anything does.
-fn behind_pieces(bytes: &[u8]) -> Option<&[u8]>
-    ensures some { IfSome result (λ rest. Spec.behind_pieces false bytes.now ≡ Some rest.now) }
-    ensures none { IfNone result (Spec.behind_pieces false bytes.now ≡ None) }
+fn after_pieces(bytes: &[u8]) -> Option<&[u8]>
+    ensures some { IfSome result (λ rest. Spec.after_pieces false bytes.now ≡ Some rest.now) }
+    ensures none { IfNone result (Spec.after_pieces false bytes.now ≡ None) }
 {
     let mut in_comment = false;
     for (i, byte) in bytes.iter().enumerate() {
@@ -95,20 +95,20 @@ fn behind_pieces(bytes: &[u8]) -> Option<&[u8]>
 }
 
 /// What stands after a gap, which is white space or a comment or more of them.
-fn behind_gap(bytes: &[u8]) -> Option<&[u8]>
-    ensures some { IfSome result (λ rest. Spec.behind_gap bytes.now ≡ Some rest.now) }
-    ensures none { IfNone result (Spec.behind_gap bytes.now ≡ None) }
+fn after_gap(bytes: &[u8]) -> Option<&[u8]>
+    ensures some { IfSome result (λ rest. Spec.after_gap bytes.now ≡ Some rest.now) }
+    ensures none { IfNone result (Spec.after_gap bytes.now ≡ None) }
 {
     if bytes.is_empty() || !begins_piece(bytes[0]) {
         return None;
     }
-    behind_pieces(bytes)
+    after_pieces(bytes)
 }
 
 /// The number that the digits ahead spell, or `OVER` where it is larger, and what stands after it.
 fn number(bytes: &[u8]) -> Option<(u32, &[u8])>
     ensures number { IfSome result (λ found. found.0 ≡ Spec.capped_from 0 bytes.now) }
-    ensures behind { IfSome result (λ found. found.1.now ≡ Spec.behind_digits bytes.now) }
+    ensures after { IfSome result (λ found. found.1.now ≡ Spec.after_digits bytes.now) }
     ensures some { IfSome result (λ _. Spec.has_digit bytes.now ≡ true) }
     ensures none { IfNone result (Spec.has_digit bytes.now ≡ false) }
 {
@@ -130,30 +130,30 @@ fn number(bytes: &[u8]) -> Option<(u32, &[u8])>
 struct Head<'a> {
     width: u32,
     height: u32,
-    behind: &'a [u8],
+    after: &'a [u8],
 }
 
 /// The header at the start of the bytes.
 fn read_head(bytes: &[u8]) -> Option<Head<'_>>
     ensures some { IfSome result (λ head.
-        Spec.IsHeadRead bytes.now head.width head.height head.behind.now) }
+        Spec.IsHeadRead bytes.now head.width head.height head.after.now) }
     ensures none { IfNone result ((width height : ℕ) (rest : List ℕ)
         → Spec.IsHeadRead bytes.now width height rest → ⊥) }
 {
     if !bytes.starts_with(b"P4") {
         return None;
     }
-    let at_width = behind_gap(&bytes[2..])?;
-    let (width, behind_width) = number(at_width)?;
-    let at_height = behind_gap(behind_width)?;
-    let (height, behind_height) = number(at_height)?;
-    if behind_height.is_empty() || !is_white_space(behind_height[0]) {
+    let at_width = after_gap(&bytes[2..])?;
+    let (width, after_width) = number(at_width)?;
+    let at_height = after_gap(after_width)?;
+    let (height, after_height) = number(at_height)?;
+    if after_height.is_empty() || !is_white_space(after_height[0]) {
         return None;
     }
     Some(Head {
         width,
         height,
-        behind: &behind_height[1..],
+        after: &after_height[1..],
     })
 }
 
@@ -215,15 +215,15 @@ fn read_image(bytes: &[u8]) -> Result<(PbmImage<'_>, &[u8]), PbmFault>
         return Err(PbmFault::OutOfLimits);
     }
     let len = head.height as usize * row_len(head.width);
-    if head.behind.len() < len {
+    if head.after.len() < len {
         return Err(PbmFault::ShortRaster);
     }
     let image = PbmImage {
         width: head.width,
         rows: head.height,
-        raster: &head.behind[..len],
+        raster: &head.after[..len],
     };
-    Ok((image, &head.behind[len..]))
+    Ok((image, &head.after[len..]))
 }
 
 /// Reads image after image. Contracts see the bytes that are left, and the fault that was answered.
@@ -278,8 +278,8 @@ impl<'a> PbmReader<'a> {
             return Ok(None);
         }
         match read_image(self.left) {
-            Ok((image, behind)) => {
-                self.left = behind;
+            Ok((image, after)) => {
+                self.left = after;
                 Ok(Some(image))
             }
             Err(fault) => {

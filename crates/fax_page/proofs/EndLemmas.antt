@@ -11,9 +11,9 @@ use Rattle.fax_page.specs.declared.StripFault.{StripFault}
 use Rattle.fax_page.specs.Lines.{IsEndOfLine}
 use Rattle.fax_page.specs.Strip.{end_bits}
 use Rattle.fax_page.specs.Strip.{IsReturnEol, AreReturnEols, IsEndMark, HasEndMark}
-use Rattle.fax_page.specs.code.Notes.{IsBehindEnd}
+use Rattle.fax_page.specs.code.Notes.{IsAfterEnd}
 use Rattle.fax_page.specs.code.Starts.{HasEol, HasNoEol}
-use Rattle.fax_page.specs.code.Notes.{AreEolsTaken, IsBehind, TakesReturnEol, AreNotesBehind}
+use Rattle.fax_page.specs.code.Notes.{AreEolsTaken, IsAfterMark, TakesReturnEol, AreNotesAfter}
 use Rattle.fax_page.proofs.StartLaws.{same_eol, eol_is_not_zeros, eol_is_not_below}
 
 -- a 1 after zeros is among the bits
@@ -55,17 +55,17 @@ pub none_taken : (coding : Coding) (b : List Bool) → AreEolsTaken coding b 0 b
 none_taken coding b = record { left = 6; count = refl; onward = λ rest eols. eols; back = λ rest eols. eols }
 
 next_taken : (coding : Coding) (b ahead rest : List Bool) (i left : ℕ) → i + left ≡ 6 → i < 6
-    → ((behind : List Bool) → AreReturnEols coding left ahead behind → AreReturnEols coding 6 b behind)
-    → ((behind : List Bool) → AreReturnEols coding 6 b behind → AreReturnEols coding left ahead behind)
+    → ((after : List Bool) → AreReturnEols coding left ahead after → AreReturnEols coding 6 b after)
+    → ((after : List Bool) → AreReturnEols coding 6 b after → AreReturnEols coding left ahead after)
     → IsReturnEol coding ahead rest → AreEolsTaken coding b (i + 1) rest
 next_taken coding b ahead rest i zero count due onward back eol = absurd (omega (arith, count, due))
 next_taken coding b ahead rest i (suc left) count due onward back eol = record {
   left = left;
   count = omega (arith, count);
-  onward = λ behind eols. onward behind (rest, eol, eols);
-  back = λ behind eols.
-      let found = back behind eols in
-      subst (λ c. AreReturnEols coding left c behind) (same_return_eol coding ahead found.0 rest found.1 eol) found.2;
+  onward = λ after eols. onward after (rest, eol, eols);
+  back = λ after eols.
+      let found = back after eols in
+      subst (λ c. AreReturnEols coding left c after) (same_return_eol coding ahead found.0 rest found.1 eol) found.2;
 }
 
 pub one_taken : (coding : Coding) (b ahead rest : List Bool) (i : ℕ) → i < 6 → AreEolsTaken coding b i ahead → IsReturnEol coding ahead rest
@@ -74,20 +74,20 @@ one_taken coding b ahead rest i due taken eol =
     next_taken coding b ahead rest i taken.left taken.count due taken.onward taken.back eol
 
 missing : (coding : Coding) (b ahead : List Bool) (i left : ℕ) → i + left ≡ 6 → i < 6
-    → ((behind : List Bool) → AreReturnEols coding 6 b behind → AreReturnEols coding left ahead behind)
-    → ((behind : List Bool) → IsReturnEol coding ahead behind → ⊥) → (rest : List Bool) → AreReturnEols coding 6 b rest → ⊥
+    → ((after : List Bool) → AreReturnEols coding 6 b after → AreReturnEols coding left ahead after)
+    → ((after : List Bool) → IsReturnEol coding ahead after → ⊥) → (rest : List Bool) → AreReturnEols coding 6 b rest → ⊥
 missing coding b ahead i zero count due back none rest eols = absurd (omega (arith, count, due))
 missing coding b ahead i (suc left) count due back none rest eols =
     let found = back rest eols in
     none found.0 found.1
 
 pub one_missing : (coding : Coding) (b ahead : List Bool) (i : ℕ) → i < 6 → AreEolsTaken coding b i ahead
-    → ((behind : List Bool) → IsReturnEol coding ahead behind → ⊥) → (rest : List Bool) → AreReturnEols coding 6 b rest → ⊥
+    → ((after : List Bool) → IsReturnEol coding ahead after → ⊥) → (rest : List Bool) → AreReturnEols coding 6 b rest → ⊥
 one_missing coding b ahead i due taken none rest eols =
     missing coding b ahead i taken.left taken.count due taken.back none rest eols
 
 all_of : (coding : Coding) (b ahead : List Bool) (left : ℕ) → left ≡ 0
-    → ((behind : List Bool) → AreReturnEols coding left ahead behind → AreReturnEols coding 6 b behind) → AreReturnEols coding 6 b ahead
+    → ((after : List Bool) → AreReturnEols coding left ahead after → AreReturnEols coding 6 b after) → AreReturnEols coding 6 b ahead
 all_of coding b ahead zero none onward = onward ahead refl
 all_of coding b ahead (suc left) none onward = absurd (omega (arith, none))
 
@@ -96,10 +96,10 @@ all_taken coding b ahead i all taken = all_of coding b ahead taken.left (omega (
 
 -- an end mark was found or not, and a 1 after it or after the last row
 pub record IsEndFound (coding : Coding) (left : List Bool) (ended more : Bool) : Type 0 where
-  pub behind : List Bool
-  pub behind_end : IsBehindEnd coding left behind
+  pub after : List Bool
+  pub after_end : IsAfterEnd coding left after
   pub mark : IsTrue ended ↔ HasEndMark coding left
-  pub one : IsTrue more ↔ Contains behind true
+  pub one : IsTrue more ↔ Contains after true
 
 pub one_found : (b : List Bool) (zeros : Option ℕ) → MatchOption zeros (IsAllZeros b) (HasZerosAhead b)
     → IsTrue (is_some zeros) ↔ Contains b true
@@ -107,17 +107,17 @@ one_found b None all = (λ is. absurd (cc is), λ has. absurd (contains_none b a
 one_found b (Some zeros) ahead = (λ is. contains_one b zeros ahead, λ has. refl)
 
 -- the same as the program finds it: after the end mark
-pub end_found : (coding : Coding) (left behind : List Bool) (zeros : Option ℕ) (more : Bool) (found : Bool × Bool)
-    → IsEndMark coding left behind
-    → MatchOption zeros (IsAllZeros behind) (HasZerosAhead behind) → more ≡ is_some zeros → found ≡ (true, more)
+pub end_found : (coding : Coding) (left after : List Bool) (zeros : Option ℕ) (more : Bool) (found : Bool × Bool)
+    → IsEndMark coding left after
+    → MatchOption zeros (IsAllZeros after) (HasZerosAhead after) → more ≡ is_some zeros → found ≡ (true, more)
     → IsEndFound coding left found.0 found.1
-end_found coding left behind zeros more found mark ahead more_is found_is =
+end_found coding left after zeros more found mark ahead more_is found_is =
     subst (λ (pair : Bool × Bool). IsEndFound coding left pair.0 pair.1) (sym found_is)
     (record {
-      behind = behind;
-      behind_end = inl mark;
-      mark = (λ is. (behind, mark), λ has. refl);
-      one = subst (λ m. IsTrue m ↔ Contains behind true) (sym more_is) (one_found behind zeros ahead);
+      after = after;
+      after_end = inl mark;
+      mark = (λ is. (after, mark), λ has. refl);
+      one = subst (λ m. IsTrue m ↔ Contains after true) (sym more_is) (one_found after zeros ahead);
     })
 
 -- or after the last row
@@ -127,8 +127,8 @@ pub no_end_found : (coding : Coding) (left : List Bool) (zeros : Option ℕ) (mo
 no_end_found coding left zeros more found none ahead more_is found_is =
     subst (λ (pair : Bool × Bool). IsEndFound coding left pair.0 pair.1) (sym found_is)
     (record {
-      behind = left;
-      behind_end = inr (λ has. none has.0 has.1, refl);
+      after = left;
+      after_end = inr (λ has. none has.0 has.1, refl);
       mark = (λ is. absurd (cc is), λ has. absurd (none has.0 has.1));
       one = subst (λ m. IsTrue m ↔ Contains left true) (sym more_is) (one_found left zeros ahead);
     })
@@ -146,7 +146,7 @@ not_mmr coding (inr is) other = cc
 
 -- the notes by them: in MH and MR
 pub notes_of_eols : (coding : Coding) (left : List Bool) (ended more other : Bool) → IsMhOrMr coding → IsEndFound coding left ended more
-    → AreNotesBehind coding left other (record {
+    → AreNotesAfter coding left other (record {
       no_end_of_block = false;
       return_to_control = ended;
       data_after_end = more;
@@ -154,8 +154,8 @@ pub notes_of_eols : (coding : Coding) (left : List Bool) (ended more other : Boo
           other;
     })
 notes_of_eols coding left ended more other either found = record {
-  behind = found.behind;
-  behind_end = found.behind_end;
+  after = found.after;
+  after_end = found.after_end;
   no_end_of_block = (λ is. absurd (cc is), λ none. absurd (not_mmr coding either none.0));
   return_to_control = (λ is. (not_mmr coding either, found.mark.0 is), λ has. found.mark.1 has.1);
   data_after_end = found.one;
@@ -164,7 +164,7 @@ notes_of_eols coding left ended more other either found = record {
 
 -- and in MMR
 pub notes_of_block : (coding : Coding) (left : List Bool) (ended more other : Bool) → coding ≡ Mmr → IsEndFound coding left ended more
-    → AreNotesBehind coding left other (record {
+    → AreNotesAfter coding left other (record {
       no_end_of_block = not ended;
       return_to_control = false;
       data_after_end =
@@ -174,8 +174,8 @@ pub notes_of_block : (coding : Coding) (left : List Bool) (ended more other : Bo
 notes_of_block coding left ended more other is_mmr found =
     let same = is_not ended (HasEndMark coding left) found.mark in
     record {
-      behind = found.behind;
-      behind_end = found.behind_end;
+      after = found.after;
+      after_end = found.after_end;
       no_end_of_block = (λ is. (is_mmr, same.0 is), λ none. same.1 none.1);
       return_to_control = (λ is. absurd (cc is), λ has. absurd (has.0 is_mmr));
       data_after_end = found.one;
@@ -183,11 +183,11 @@ notes_of_block coding left ended more other is_mmr found =
     }
 
 -- a return to control is the end mark of MH and MR
-pub eols_end : (coding : Coding) (b : List Bool) (found : Option Source) → IsMhOrMr coding → IsBehind (AreReturnEols coding 6 b) found
-    → IsBehind (IsEndMark coding b) found
-eols_end Mh b found either behind = behind
-eols_end Mr b found either behind = behind
-eols_end Mmr b found either behind = absurd (not_mmr Mmr either refl)
+pub eols_end : (coding : Coding) (b : List Bool) (found : Option Source) → IsMhOrMr coding → IsAfterMark (AreReturnEols coding 6 b) found
+    → IsAfterMark (IsEndMark coding b) found
+eols_end Mh b found either after = after
+eols_end Mr b found either after = after
+eols_end Mmr b found either after = absurd (not_mmr Mmr either refl)
 
 -- and two EOLs, as a number, that of MMR
 pub block_bits : code_bits 24 4097 ≡ end_bits Mmr
@@ -214,11 +214,11 @@ one_bit : code_bits 1 1 ≡ true ∷ []
 unfolding code_bits
 one_bit = refl
 
-pub tag_taken : (coding : Coding) (b behind : List Bool) (result : Bool) (rest : List Bool) → coding ≡ Mr → HasEol false b behind
-    → IsTaken (code_bits 1 1) behind result rest → TakesReturnEol coding b result rest
-tag_taken coding b behind true rest is eol taken =
+pub tag_taken : (coding : Coding) (b after : List Bool) (result : Bool) (rest : List Bool) → coding ≡ Mr → HasEol false b after
+    → IsTaken (code_bits 1 1) after result rest → TakesReturnEol coding b result rest
+tag_taken coding b after true rest is eol taken =
     subst (λ c. IsReturnEol c b rest) (sym is)
-    (subst (λ c. IsEndOfLine b c) (taken ∙ ap (λ front. front ++ rest) one_bit) (eol_taken b behind eol))
-tag_taken coding b behind false rest is eol taken = λ more return_eol.
+    (subst (λ c. IsEndOfLine b c) (taken ∙ ap (λ front. front ++ rest) one_bit) (eol_taken b after eol))
+tag_taken coding b after false rest is eol taken = λ more return_eol.
     let found = subst (λ c. IsReturnEol c b more) is return_eol in
-    taken.1 (more, same_eol b behind (true ∷ more) (eol_taken b behind eol) found ∙ ap (λ front. front ++ more) (sym one_bit))
+    taken.1 (more, same_eol b after (true ∷ more) (eol_taken b after eol) found ∙ ap (λ front. front ++ more) (sym one_bit))

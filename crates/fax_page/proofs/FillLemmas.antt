@@ -16,17 +16,17 @@ fits_more n len number fits =
     omega (arith, fits, more)
 
 -- the bits of a number after zeros
-pub code_bits-behind_zeros : (n len number : ℕ) → number < 2 ^ len
+pub code_bits-after_zeros : (n len number : ℕ) → number < 2 ^ len
     → code_bits (len + n) number ≡ replicate n false ++ code_bits len number
 unfolding code_bits
-code_bits-behind_zeros zero len number fits =
+code_bits-after_zeros zero len number fits =
     let e : len + zero ≡ len = omega arith in
     ap (λ m. code_bits m number) e
-code_bits-behind_zeros (suc n) len number fits =
+code_bits-after_zeros (suc n) len number fits =
     let e : len + suc n ≡ suc (len + n) = omega arith in
     ap (λ m. code_bits m number) e
     ∙ ap (λ bit. nat_eq bit 1 ∷ code_bits (len + n) number) (bit_at_above number len (len + n) fits (omega arith))
-    ∙ ap (λ more. false ∷ more) (code_bits-behind_zeros n len number fits)
+    ∙ ap (λ more. false ∷ more) (code_bits-after_zeros n len number fits)
 
 -- bits that begin with fill and an EOL
 pub end_of_line_back : (n : ℕ) (tail codes more : List Bool)
@@ -40,12 +40,12 @@ end_of_line_back n tail codes more =
     (n + 11, omega arith, parts ∙ zeros)
 
 -- bits that a number spells are put after fill
-pub put_behind_fill : (old new : Sink) (aligned : Bool) (place fill len number : ℕ) (start : List Bool) → place ≡ length old.bits
+pub put_after_fill : (old new : Sink) (aligned : Bool) (place fill len number : ℕ) (start : List Bool) → place ≡ length old.bits
     → fill ≡ fill_zeros aligned place → number < 2 ^ len → code_bits len number ≡ start
     → Appends old (code_bits (len + fill) number) new
     → Appends old (replicate (fill_zeros aligned (length old.bits)) false ++ start) new
-put_behind_fill old new aligned place fill len number start here is fits spells put =
+put_after_fill old new aligned place fill len number start here is fits spells put =
     let count : fill ≡ fill_zeros aligned (length old.bits) = is ∙ ap (fill_zeros aligned) here in
     subst (λ b. Appends old b new)
-    (code_bits-behind_zeros fill len number fits ∙ ap (λ n. replicate n false ++ code_bits len number) count
+    (code_bits-after_zeros fill len number fits ∙ ap (λ n. replicate n false ++ code_bits len number) count
     ∙ ap (λ b. replicate (fill_zeros aligned (length old.bits)) false ++ b) spells) put

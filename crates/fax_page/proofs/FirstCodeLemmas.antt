@@ -82,7 +82,7 @@ steps_begin reference b [] last rest steps ends =
     let none : last.a0 ≡ None = ap (λ (at : Position). at.a0) steps.0 in
     cc
 steps_begin reference b (next ∷ positions) last rest steps ends =
-    taken_begins modes b steps.2.mode steps.2.behind all_have_one-modes steps.2.taken
+    taken_begins modes b steps.2.mode steps.2.after all_have_one-modes steps.2.taken
 
 -- the codes of a row of at least one pel
 pub row_begins : (dimension : Dimension) (width : ℕ) (reference : List Colour) (b : List Bool) (row : List Colour) (rest : List Bool)

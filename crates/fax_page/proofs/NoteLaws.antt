@@ -28,14 +28,14 @@ same_mark Mr b rest other first second = same_eols Mr 6 b rest other first secon
 same_mark Mmr b rest other first second = append_cancel_left (end_bits Mmr) rest other (sym first ∙ second)
 
 -- what stands after the end mark, or all where there is none
-abbrev IsBehind : Coding → List Bool → List Bool → Type 0
-IsBehind coding left behind = IsEndMark coding left behind ⊎ ((HasEndMark coding left → ⊥) × (behind ≡ left))
+abbrev IsAfterMark : Coding → List Bool → List Bool → Type 0
+IsAfterMark coding left after = IsEndMark coding left after ⊎ ((HasEndMark coding left → ⊥) × (after ≡ left))
 
-same_behind : (coding : Coding) (left behind other : List Bool) → IsBehind coding left behind → IsBehind coding left other → behind ≡ other
-same_behind coding left behind other (inl mark) (inl another) = same_mark coding left behind other mark another
-same_behind coding left behind other (inl mark) (inr none) = absurd (none.0 (behind, mark))
-same_behind coding left behind other (inr none) (inl mark) = absurd (none.0 (other, mark))
-same_behind coding left behind other (inr none) (inr nor) = none.1 ∙ sym nor.1
+same_after : (coding : Coding) (left after other : List Bool) → IsAfterMark coding left after → IsAfterMark coding left other → after ≡ other
+same_after coding left after other (inl mark) (inl another) = same_mark coding left after other mark another
+same_after coding left after other (inl mark) (inr none) = absurd (none.0 (after, mark))
+same_after coding left after other (inr none) (inl mark) = absurd (none.0 (other, mark))
+same_after coding left after other (inr none) (inr nor) = none.1 ∙ sym nor.1
 
 abbrev noted : Bool → Bool → Bool → Bool → StripNotes
 noted block return more choice =
@@ -62,8 +62,8 @@ module _ (reads : (form : StripForm) (i : ℕ) (reference : List Colour) → Rea
       → IsNotedAs form b rows notes → IsNotedAs form b rows other → notes ≡ other
   same_notes form b rows notes other first second =
       let left = one_left form 0 (white_row form.width) b rows second.left first.left second.lines first.lines in
-      let behind = same_behind form.coding first.left second.behind first.behind
-      (subst (λ l. IsBehind form.coding l second.behind) left second.behind_end) first.behind_end in
+      let after = same_after form.coding first.left second.after first.after
+      (subst (λ l. IsAfterMark form.coding l second.after) left second.after_end) first.after_end in
       let block = same_flag notes.no_end_of_block other.no_end_of_block ((form.coding ≡ Mmr) × (HasEndMark form.coding first.left → ⊥))
       first.no_end_of_block
       (subst (λ l. IsTrue other.no_end_of_block ↔ ((form.coding ≡ Mmr) × (HasEndMark form.coding l → ⊥))) left second.no_end_of_block) in
@@ -71,8 +71,8 @@ module _ (reads : (form : StripForm) (i : ℕ) (reference : List Colour) → Rea
       first.return_to_control
       (subst (λ l. IsTrue other.return_to_control ↔ ((form.coding ≡ Mmr → ⊥) × HasEndMark form.coding l)) left
       second.return_to_control) in
-      let data_there = same_flag notes.data_after_end other.data_after_end (Contains first.behind true) first.data_after_end
-      (subst (λ l. IsTrue other.data_after_end ↔ Contains l true) behind second.data_after_end) in
+      let data_there = same_flag notes.data_after_end other.data_after_end (Contains first.after true) first.data_after_end
+      (subst (λ l. IsTrue other.data_after_end ↔ Contains l true) after second.data_after_end) in
       let choice = same_flag notes.not_t4_choice other.not_t4_choice (HasOtherChoice form 0 (white_row form.width) b rows)
       first.not_t4_choice second.not_t4_choice in
       ap (λ flag. noted flag notes.return_to_control notes.data_after_end notes.not_t4_choice) block

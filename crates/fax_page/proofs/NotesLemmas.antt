@@ -20,7 +20,7 @@ use Rattle.fax_page.specs.laws.Strips.{ReadsLinesOneWay}
 use Rattle.fax_page.specs.Strip.{HasOtherChoice, IsNotedAs}
 use Rattle.fax_page.specs.code.Notes.{IsChosen}
 use Rattle.fax_page.specs.views.Strip.{IsNotesFault}
-use Rattle.fax_page.specs.code.Notes.{IsLineRead, IsLineNoted, IsLineFault, AreRowsRead, AreNotesBehind}
+use Rattle.fax_page.specs.code.Notes.{IsLineRead, IsLineNoted, IsLineFault, AreRowsRead, AreNotesAfter}
 use Rattle.fax_page.proofs.StartLaws.{one_start}
 
 -- what follows the codes that T.4 chooses is what follows the row
@@ -61,7 +61,7 @@ module _ (reads : (form : StripForm) (i : ℕ) (reference : List Colour) → Rea
   record IsSameLine (form : StripForm) (i : ℕ) (reference row : List Colour) (b rest remaining : List Bool)
       (line : IsLine form i reference b row rest)
       (other : IsLine form i reference b row remaining) : Type 0 where
-    same_behind : rest ≡ remaining
+    same_after : rest ≡ remaining
     chosen : IsChosen line.dimension reference line.codes row rest → IsChosen other.dimension reference other.codes row remaining
 
   same_line : (form : StripForm) (i : ℕ) (reference row : List Colour) (b rest remaining : List Bool)
@@ -69,12 +69,12 @@ module _ (reads : (form : StripForm) (i : ℕ) (reference : List Colour) → Rea
       (other : IsLine form i reference b row remaining) → IsSameLine form i reference row b rest remaining line other
   same_line form i reference row b rest remaining line other =
       let start = one_start form.coding i b line.dimension other.dimension line.codes other.codes line.begin.start other.begin.start in
-      let behind = ((reads form i reference).one_answer b row row rest remaining line other).1 in
+      let after = ((reads form i reference).one_answer b row row rest remaining line other).1 in
       record {
-        same_behind = behind;
+        same_after = after;
         chosen = λ is.
             sym start.1 ∙ is ∙ ap (λ (d : Dimension). row_bits d reference row ++ rest) start.0
-            ∙ ap (λ c. row_bits other.dimension reference row ++ c) behind;
+            ∙ ap (λ c. row_bits other.dimension reference row ++ c) after;
       }
 
   -- one more row: whether some row is coded otherwise is true then, where this one is
@@ -84,9 +84,9 @@ module _ (reads : (form : StripForm) (i : ℕ) (reference : List Colour) → Rea
   row_noted form b left rest i reference row other now due so_far noted = record {
     before = so_far.before ++ row ∷ [];
     count = omega (arith, so_far.count, length-append so_far.before (row ∷ []));
-    lines = λ more end behind lines.
-        subst (λ rows. AreLines form 0 (white_row form.width) b rows end behind) (sym (append_assoc so_far.before (row ∷ []) more))
-        (so_far.lines (row ∷ more) end behind (rest, due, noted.line, lines));
+    lines = λ more end after lines.
+        subst (λ rows. AreLines form 0 (white_row form.width) b rows end after) (sym (append_assoc so_far.before (row ∷ []) more))
+        (so_far.lines (row ∷ more) end after (rest, due, noted.line, lines));
     found = λ is more. onto more (elim (noted.found is) [
       | inl before ↦ so_far.found before (row ∷ more)
       | inr other_choice ↦ so_far.onward (row ∷ more) (rest, noted.line, inl other_choice)
@@ -100,7 +100,7 @@ module _ (reads : (form : StripForm) (i : ℕ) (reference : List Colour) → Rea
               let same = same_line form i reference row left rest here.0 noted.line here.1 in
               elim here.2 [
                 | inl other_choice ↦ inl (marks now noted.none (λ is. other_choice (same.chosen is)))
-                | inr behind ↦ inr (subst (λ c. HasOtherChoice form (i + 1) row c more) (sym same.same_behind) behind)
+                | inr after ↦ inr (subst (λ c. HasOtherChoice form (i + 1) row c more) (sym same.same_after) after)
               ]
         ];
   }
@@ -145,7 +145,7 @@ pub none_read : (form : StripForm) (b : List Bool) → AreRowsRead form b 0 (whi
 none_read form b = record {
   before = [];
   count = refl;
-  lines = λ more end behind lines. lines;
+  lines = λ more end after lines. lines;
   found = λ is more. absurd (cc is);
   onward = λ more has. has;
   back = λ more has. inr has;
@@ -178,15 +178,15 @@ no_notes form b left i reference other (Strip row fault) due so_far (here, cause
 
 -- all rows were read
 pub all_noted : (form : StripForm) (b left : List Bool) (i : ℕ) (reference : List Colour) (other : Bool) (notes : StripNotes)
-    → i ≡ form.rows → AreRowsRead form b i reference left other → AreNotesBehind form.coding left other notes
+    → i ≡ form.rows → AreRowsRead form b i reference left other → AreNotesAfter form.coding left other notes
     → (rows : List (List Colour)) × IsNotedAs form b rows notes
 all_noted form b left i reference other notes all so_far ends = (
   so_far.before,
   record {
     left = left;
     lines = stopped form b left i reference other None so_far all;
-    behind = ends.behind;
-    behind_end = ends.behind_end;
+    after = ends.after;
+    after_end = ends.after_end;
     no_end_of_block = ends.no_end_of_block;
     return_to_control = ends.return_to_control;
     data_after_end = ends.data_after_end;

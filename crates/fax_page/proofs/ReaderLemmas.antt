@@ -7,7 +7,7 @@ use Rattle.fax_page.specs.declared.StripForm.{StripForm}
 use Rattle.fax_page.specs.declared.StripFault.{StripFault}
 use Rattle.fax_page.specs.Lines.{IsLine, IsCause}
 use Rattle.fax_page.specs.Strip.{EndsAt, AreLines, IsStrip}
-use Rattle.fax_page.specs.views.Reader.{StripState, bits_left, strip_behind, ReadsRow, IsAtEnd, MeetsFault, IsAdvance}
+use Rattle.fax_page.specs.views.Reader.{StripState, bits_left, strip_after, ReadsRow, IsAtEnd, MeetsFault, IsAdvance}
 use Rattle.fax_page.specs.laws.Reader.{HasRead, HasReadFrom}
 
 pub begins_on : (start : StripState) → HasReadFrom start [] start
@@ -22,10 +22,10 @@ row_read_on start rows old new so_far reads = record {
   followed = λ more end left lines.
       let due : old.row < start.form.rows = subst (λ (f : StripForm). old.row < f.rows) so_far.same_form reads.due in
       let line = subst (λ f. IsLine f old.row old.reference (bits_left old) new.reference (bits_left new)) so_far.same_form reads.line in
-      let behind = subst (λ n. AreLines start.form n new.reference (bits_left new) more end left) reads.next_row lines in
+      let after = subst (λ n. AreLines start.form n new.reference (bits_left new) more end left) reads.next_row lines in
       subst (λ them. AreLines start.form start.row start.reference (bits_left start) them end left)
       (sym (append_assoc rows (new.reference ∷ []) more))
-      (so_far.followed (new.reference ∷ more) end left (bits_left new, due, line, behind));
+      (so_far.followed (new.reference ∷ more) end left (bits_left new, due, line, after));
 }
 
 -- the rows so far, and an end after them
@@ -78,18 +78,18 @@ stays_there old new fault (inr meets) = (
 
 -- from a strip's beginning on
 from_beginning : (form : StripForm) (bytes : List ℕ) (rows : List (List Colour)) (state : StripState) → HasRead form bytes rows state
-    → HasReadFrom (strip_behind 0 form bytes) rows state
+    → HasReadFrom (strip_after 0 form bytes) rows state
 from_beginning form bytes rows state so_far =
     record { same_form = so_far.same_form; same_bytes = so_far.same_bytes; followed = so_far.followed }
 
-pub begins_so : (read : ℕ) (form : StripForm) (bytes : List ℕ) → HasRead form bytes [] (strip_behind read form bytes)
+pub begins_so : (read : ℕ) (form : StripForm) (bytes : List ℕ) → HasRead form bytes [] (strip_after read form bytes)
 begins_so read form bytes = record { same_form = refl; same_bytes = refl; followed = λ more end left lines. lines }
 
 pub row_read : (form : StripForm) (bytes : List ℕ) (rows : List (List Colour)) (old new : StripState) → HasRead form bytes rows old
     → ReadsRow old new
     → HasRead form bytes (rows ++ new.reference ∷ []) new
 row_read form bytes rows old new so_far reads =
-    let on = row_read_on (strip_behind 0 form bytes) rows old new (from_beginning form bytes rows old so_far) reads in
+    let on = row_read_on (strip_after 0 form bytes) rows old new (from_beginning form bytes rows old so_far) reads in
     record { same_form = on.same_form; same_bytes = on.same_bytes; followed = on.followed }
 
 pub ended : (form : StripForm) (bytes : List ℕ) (rows : List (List Colour)) (old new : StripState) → HasRead form bytes rows old
@@ -97,12 +97,12 @@ pub ended : (form : StripForm) (bytes : List ℕ) (rows : List (List Colour)) (o
     → IsStrip form (bits form.order bytes) rows None
 ended form bytes rows old new so_far at_end = record {
   left = bits_left old;
-  lines = ended_before (strip_behind 0 form bytes) rows old new (from_beginning form bytes rows old so_far) at_end;
+  lines = ended_before (strip_after 0 form bytes) rows old new (from_beginning form bytes rows old so_far) at_end;
 }
 
 pub fault_met : (form : StripForm) (bytes : List ℕ) (rows : List (List Colour)) (old new : StripState) (fault : StripFault)
     → HasRead form bytes rows old → MeetsFault old fault new → IsStrip form (bits form.order bytes) rows (Some fault)
 fault_met form bytes rows old new fault so_far meets = record {
   left = bits_left old;
-  lines = fault_before (strip_behind 0 form bytes) rows old new fault (from_beginning form bytes rows old so_far) meets;
+  lines = fault_before (strip_after 0 form bytes) rows old new fault (from_beginning form bytes rows old so_far) meets;
 }

@@ -69,8 +69,8 @@ steps_rest : (reference : List Colour) (old : Position) (positions : List Positi
 steps_rest reference old [] b new rest steps = same b rest steps.1
 steps_rest reference old (next ∷ more) b new rest steps =
     let step = steps.2 in
-    onwards b step.behind rest (taken_rest modes b step.mode step.behind step.taken)
-    (onwards step.behind steps.1 rest (step_rest step.mode reference old step.behind next steps.1 step.step)
+    onwards b step.after rest (taken_rest modes b step.mode step.after step.taken)
+    (onwards step.after steps.1 rest (step_rest step.mode reference old step.after next steps.1 step.step)
     (steps_rest reference next more steps.1 new rest steps.3))
 
 row_rest : (dimension : Dimension) (width : ℕ) (reference : List Colour) (b : List Bool) (row : List Colour) (rest : List Bool)
@@ -117,26 +117,26 @@ source_goes_on order bytes place old new here rest same_end =
     ap (λ (c : List Bool). record { left = c; place = new.place }) is
 
 -- after a row, the source stands in the bits of the bytes where the row's rest begins
-pub row_behind : (form : StripForm) (i : ℕ) (reference row : List Colour) (bytes : List ℕ) (place behind : ℕ) (old new : Source)
+pub row_after : (form : StripForm) (i : ℕ) (reference row : List Colour) (bytes : List ℕ) (place after : ℕ) (old new : Source)
     → old ≡ source_of form.order bytes place → IsLine form i reference old.left row new.left
-    → new.place + length new.left ≡ old.place + length old.left → behind ≡ new.place → new ≡ source_of form.order bytes behind
-row_behind form i reference row bytes place behind old new here line same_end behind_is =
+    → new.place + length new.left ≡ old.place + length old.left → after ≡ new.place → new ≡ source_of form.order bytes after
+row_after form i reference row bytes place after old new here line same_end after_is =
     source_goes_on form.order bytes place old new here (line_rest form i reference old.left row new.left line) same_end
-    ∙ ap (λ n. source_of form.order bytes n) (sym behind_is)
+    ∙ ap (λ n. source_of form.order bytes n) (sym after_is)
 
 -- a row between two places of a source
-pub line_between : (form : StripForm) (i : ℕ) (reference row : List Colour) (bytes : List ℕ) (place behind : ℕ) (old new : Source)
-    → old ≡ source_of form.order bytes place → new ≡ source_of form.order bytes behind → IsLine form i reference old.left row new.left
-    → IsLine form i reference (drop place (bits form.order bytes)) row (drop behind (bits form.order bytes))
-line_between form i reference row bytes place behind old new here there line =
-    subst (λ (s : Source). IsLine form i reference s.left row (drop behind (bits form.order bytes))) here
+pub line_between : (form : StripForm) (i : ℕ) (reference row : List Colour) (bytes : List ℕ) (place after : ℕ) (old new : Source)
+    → old ≡ source_of form.order bytes place → new ≡ source_of form.order bytes after → IsLine form i reference old.left row new.left
+    → IsLine form i reference (drop place (bits form.order bytes)) row (drop after (bits form.order bytes))
+line_between form i reference row bytes place after old new here there line =
+    subst (λ (s : Source). IsLine form i reference s.left row (drop after (bits form.order bytes))) here
     (subst (λ (s : Source). IsLine form i reference old.left row s.left) there line)
 
 -- after a row, the place still lies in the bytes
-pub placed_behind : (order : FillOrder) (bytes : List ℕ) (place behind : ℕ) (old new : Source)
+pub placed_after : (order : FillOrder) (bytes : List ℕ) (place after : ℕ) (old new : Source)
     → length (bits order bytes) ≡ 8 * length bytes → place ≤ 8 * length bytes → old ≡ source_of order bytes place
-    → new.place + length new.left ≡ old.place + length old.left → behind ≡ new.place → behind ≤ 8 * length bytes
-placed_behind order bytes place behind old new count placed here same_end behind_is =
+    → new.place + length new.left ≡ old.place + length old.left → after ≡ new.place → after ≤ 8 * length bytes
+placed_after order bytes place after old new count placed here same_end after_is =
     let ends : old.place + length old.left ≡ place + length (drop place (bits order bytes)) =
     ap (λ (s : Source). s.place + length s.left) here in
     omega (arith, length-drop place (bits order bytes))

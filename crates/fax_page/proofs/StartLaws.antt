@@ -186,8 +186,8 @@ first_code_has_no_fault b fault below (inl marker) =
 first_code_has_no_fault b fault below (inr short) = below_is_not_zeros b below (short.0, short.2)
 
 -- eleven zeros are not fewer
-marker_is_not_short : (behind : List Bool) (zeros : ℕ) → zeros < 11 → replicate 11 false ++ behind ≡ replicate zeros false → ⊥
-marker_is_not_short behind zeros few h =
+marker_is_not_short : (after : List Bool) (zeros : ℕ) → zeros < 11 → replicate 11 false ++ after ≡ replicate zeros false → ⊥
+marker_is_not_short after zeros few h =
     omega (arith, ap (λ (c : List Bool). length c) h, length-replicate zeros false)
 
 -- and one fault

@@ -13,7 +13,7 @@ replicate-split n m h =
 
 -- eleven zeros or more before a 1
 pub eleven_ahead : (b : List Bool) (zeros : ℕ) → 11 ≤ zeros → HasZerosAhead b zeros
-    → (behind : List Bool) × (b ≡ replicate 11 false ++ behind)
+    → (after : List Bool) × (b ≡ replicate 11 false ++ after)
 eleven_ahead b zeros enough ahead = (
   replicate (zeros - 11) false ++ true ∷ ahead.0,
   ahead.1 ∙ ap (λ x. x ++ true ∷ ahead.0) (replicate-split 11 zeros enough)
@@ -21,7 +21,7 @@ eleven_ahead b zeros enough ahead = (
 )
 
 -- eleven zeros or more, and nothing else
-pub eleven_alone : (b : List Bool) → 11 ≤ length b → IsAllZeros b → (behind : List Bool) × (b ≡ replicate 11 false ++ behind)
+pub eleven_alone : (b : List Bool) → 11 ≤ length b → IsAllZeros b → (after : List Bool) × (b ≡ replicate 11 false ++ after)
 eleven_alone b enough all =
     let zeros : length b ≡ all.0 = ap length all.1 ∙ length-replicate all.0 false in
     (replicate (all.0 - 11) false, all.1 ∙ replicate-split 11 all.0 (omega arith))

@@ -72,11 +72,11 @@ module _ (one_read : OneDimensionalBitsAreRead) (two_read : TwoDimensionalBitsAr
       let line = coded_line form k before i reference row in
       let place = before + length line in
       let others = coded_lines form k place (i + 1) row rows in
-      let behind = others ++ more in (
-        behind,
+      let after = others ++ more in (
+        after,
         omega (arith, count),
-        subst (λ b. IsLine form i reference b row behind) (sym (append_assoc line others more))
-            (line_back before i reference row behind reference_width width),
+        subst (λ b. IsLine form i reference b row after) (sym (append_assoc line others more))
+            (line_back before i reference row after reference_width width),
         lines_back place (i + 1) row rows more width (λ j d h. widths (suc j) d (omega (arith, h))) (omega (arith, count)),
       )
 
@@ -84,11 +84,11 @@ module _ (one_read : OneDimensionalBitsAreRead) (two_read : TwoDimensionalBitsAr
 pub coded_bits_back : OneDimensionalBitsAreRead → TwoDimensionalBitsAreRead → CodedBitsAreRead
 unfolding coded_bits
 coded_bits_back one_read two_read form k rows more limits fit =
-    let behind = end_bits form.coding ++ more in
+    let after = end_bits form.coding ++ more in
     record {
-      left = behind;
-      lines = subst (λ b. AreLines form 0 (white_row form.width) b rows None behind)
+      left = after;
+      lines = subst (λ b. AreLines form 0 (white_row form.width) b rows None after)
           (sym (append_assoc (coded_lines form k 0 0 (white_row form.width) rows) (end_bits form.coding) more))
-          (lines_back one_read two_read form limits k 0 0 (white_row form.width) rows behind (length-replicate form.width White) fit.widths
+          (lines_back one_read two_read form limits k 0 0 (white_row form.width) rows after (length-replicate form.width White) fit.widths
           (omega (arith, fit.count)));
     }

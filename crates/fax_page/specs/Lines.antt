@@ -34,7 +34,7 @@ IsEndOfLine b rest = (zeros : ℕ) × (11 ≤ zeros) × (b ≡ replicate zeros f
 abbrev pub BeginsBelowEleven : List Bool → Type 0
 BeginsBelowEleven b =
     (zeros : ℕ) × (zeros < 11)
-    × ((behind : List Bool) × (b ≡ replicate zeros false ++ true ∷ behind))
+    × ((after : List Bool) × (b ≡ replicate zeros false ++ true ∷ after))
 
 -- what stands before the first code of row i of a strip: in MH an EOL, which row 0 may lack, in MR
 -- an EOL and a tag bit, nothing in MMR (T.4, sections 4.1.2 and 4.2.2; T.6, section 2.2.1)
@@ -94,7 +94,7 @@ pub record IsNoFirstCode (form : StripForm) (i : ℕ) (b : List Bool)
   pub codes : List Bool
   pub start : IsStart form.coding i b dimension codes
   pub at_first_code :
-      ((behind : List Bool) × (codes ≡ replicate 11 false ++ behind) × (fault ≡ EndMarker))
+      ((after : List Bool) × (codes ≡ replicate 11 false ++ after) × (fault ≡ EndMarker))
       ⊎ ((zeros : ℕ) × (zeros < 11) × (codes ≡ replicate zeros false) × (fault ≡ DataEnds))
 
 -- row i of a strip begins, and its codes stop with a fault

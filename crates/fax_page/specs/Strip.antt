@@ -128,13 +128,13 @@ pub record IsNotedAs (form : StripForm) (b : List Bool) (rows : List (List Colou
     (notes : StripNotes) : Type 0 where
   pub left : List Bool
   pub lines : AreLines form 0 (white_row form.width) b rows None left
-  pub behind : List Bool
-  pub behind_end : IsEndMark form.coding left behind
-      ⊎ ((HasEndMark form.coding left → ⊥) × (behind ≡ left))
+  pub after : List Bool
+  pub after_end : IsEndMark form.coding left after
+      ⊎ ((HasEndMark form.coding left → ⊥) × (after ≡ left))
   pub no_end_of_block : IsTrue notes.no_end_of_block ↔
       ((form.coding ≡ Mmr) × (HasEndMark form.coding left → ⊥))
   pub return_to_control : IsTrue notes.return_to_control ↔
       ((form.coding ≢ Mmr) × HasEndMark form.coding left)
-  pub data_after_end : IsTrue notes.data_after_end ↔ Contains behind true
+  pub data_after_end : IsTrue notes.data_after_end ↔ Contains after true
   pub not_t4_choice : IsTrue notes.not_t4_choice ↔ HasOtherChoice form 0 (white_row form.width) b
       rows

@@ -189,8 +189,8 @@ fn take_return_eol(source: &mut BitSource, coding: Coding) -> bool
 }
 
 /// What stands after a return to control, where there is one (T.4, section 4.1.4).
-fn behind_return<'a>(source: &BitSource<'a>, coding: Coding) -> Option<BitSource<'a>>
-    ensures { Code.IsBehind (Spec.AreReturnEols coding 6 source.now.left) result }
+fn after_return<'a>(source: &BitSource<'a>, coding: Coding) -> Option<BitSource<'a>>
+    ensures { Code.IsAfterMark (Spec.AreReturnEols coding 6 source.now.left) result }
 {
     let mut ahead = source.again();
     for _eol in 0..RETURN_EOLS {
@@ -203,11 +203,11 @@ fn behind_return<'a>(source: &BitSource<'a>, coding: Coding) -> Option<BitSource
 
 /// What stands after the end mark of a strip, where there is one (T.4, section 4.1.4; T.6,
 /// End-of-facsimile block).
-fn behind_end<'a>(source: &BitSource<'a>, coding: Coding) -> Option<BitSource<'a>>
-    ensures { Code.IsBehind (Spec.IsEndMark coding source.now.left) result }
+fn after_end<'a>(source: &BitSource<'a>, coding: Coding) -> Option<BitSource<'a>>
+    ensures { Code.IsAfterMark (Spec.IsEndMark coding source.now.left) result }
 {
     match coding {
-        Coding::Mh | Coding::Mr => behind_return(source, coding),
+        Coding::Mh | Coding::Mr => after_return(source, coding),
         Coding::Mmr => {
             let mut ahead = source.again();
             if ahead.take(END_OF_BLOCK, END_OF_BLOCK_BITS) {
@@ -220,11 +220,11 @@ fn behind_end<'a>(source: &BitSource<'a>, coding: Coding) -> Option<BitSource<'a
 }
 
 /// The notes on a strip whose rows end at a source.
-fn notes_behind(source: &BitSource, coding: Coding, not_t4_choice: bool) -> StripNotes
-    ensures { Code.AreNotesBehind coding source.now.left not_t4_choice result }
+fn notes_after(source: &BitSource, coding: Coding, not_t4_choice: bool) -> StripNotes
+    ensures { Code.AreNotesAfter coding source.now.left not_t4_choice result }
 {
-    let (ended, data_after_end) = match behind_end(source, coding) {
-        Some(behind) => (true, behind.zeros().is_some()),
+    let (ended, data_after_end) = match after_end(source, coding) {
+        Some(after) => (true, after.zeros().is_some()),
         None => (false, source.zeros().is_some()),
     };
     let (no_end_of_block, return_to_control) = match coding {
@@ -270,5 +270,5 @@ pub fn strip_notes(alloc: Global, bytes: &[u8], form: StripForm) -> Result<Strip
         )?;
         swap(&mut reference, &mut row);
     }
-    Ok(notes_behind(&source, form.coding, not_t4_choice))
+    Ok(notes_after(&source, form.coding, not_t4_choice))
 }

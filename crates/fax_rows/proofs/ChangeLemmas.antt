@@ -113,15 +113,15 @@ colour_before row (Some a) place next (suc k) within right =
 abbrev pub first_of : Option ℕ → ℕ
 first_of from = unwrap_or from 0
 
-right_behind : (from : Option ℕ) (k : ℕ) → first_of from ≤ k → is_right_of from (suc k) ≡ true
-right_behind None k h = refl
-right_behind (Some a) k h = lt-ltb a (suc k) (omega arith)
+right_after : (from : Option ℕ) (k : ℕ) → first_of from ≤ k → is_right_of from (suc k) ≡ true
+right_after None k h = refl
+right_after (Some a) k h = lt-ltb a (suc k) (omega arith)
 
 -- the pels from a place up to the next changing element have one colour
 pub colour_up_to : (row : List Colour) (from : Option ℕ) (place : ℕ) → IsNextChange row from place
     → (k : ℕ) → first_of from ≤ k → k < place → pel row k ≡ colour_of row from
-colour_up_to row from place next k behind before =
-    colour_before row from place next (suc k) (omega arith) (right_behind from k behind)
+colour_up_to row from place next k after before =
+    colour_before row from place next (suc k) (omega arith) (right_after from k after)
 
 -- and the changing element has the other
 pub colour_at : (row : List Colour) (from : Option ℕ) (place : ℕ) → IsNextChange row from place

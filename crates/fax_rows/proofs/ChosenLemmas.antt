@@ -23,7 +23,7 @@ use Rattle.fax_rows.specs.code.Choice.{Places, places, colour_of, chosen_mode, r
 use Rattle.fax_rows.specs.code.Chosen.{GoesOnFrom, IsStepOf, IsChosenPair}
 use Rattle.fax_rows.proofs.ChangeLemmas.{first_of, next_change_is, still_left, both, same_as}
 use Rattle.fax_rows.proofs.PlaceLemmas.{next_change_at}
-use Rattle.fax_rows.proofs.PlacedStepLemmas.{right_behind_first}
+use Rattle.fax_rows.proofs.PlacedStepLemmas.{right_after_first}
 use Rattle.fax_rows.proofs.TakenModeLemmas.{is_near}
 use Rattle.fax_rows.proofs.TurnLemmas.{other-other}
 
@@ -53,36 +53,36 @@ module _ (row : List Colour) (from : Option ℕ) (colour : Colour) (to : ℕ) (s
   next_is within right turn =
       next_change_at row from to within
       (λ k h. still_left (is_right_of from k) (is_changing row k)
-      (λ l. same_as (pel row k) (pel_before row k) (each k (right_behind_first from k l) h ∙ sym (before_is k (omega arith) l))))
+      (λ l. same_as (pel row k) (pel_before row k) (each k (right_after_first from k l) h ∙ sym (before_is k (omega arith) l))))
       (λ h. both (is_right_of from to) (is_changing row to) right
       (turned_apart (pel row to) (pel_before row to) (turn h ∙ ap other (sym (before_is to (omega arith) right)))))
 
   -- where the colour goes on, the next changing element is further right
-  next_behind : to < length row → pel row to ≡ colour → to < next_change row from
-  next_behind inside goes_on =
+  next_after : to < length row → pel row to ≡ colour → to < next_change row from
+  next_after inside goes_on =
       elim (cases_lt to (next_change row from)) [
         | inl less ↦ less
         | inr over ↦
             let next = next_change_is row from in
             let within : next_change row from < length row = omega arith in
             let right = next.right within in
-            let here = colour_at (next_change row from) (right_behind_first from (next_change row from) right) (eq-or-lt_of_le over) in
+            let here = colour_at (next_change row from) (right_after_first from (next_change row from) right) (eq-or-lt_of_le over) in
             let same = same_as (pel row (next_change row from)) (pel_before row (next_change row from))
             (here ∙ sym (before_is (next_change row from) over right)) in
             absurd (true≢false (sym (next.there within) ∙ same))
       ]
     where
       colour_at : (k : ℕ) → first_of from ≤ k → (k ≡ to) ⊎ (k < to) → pel row k ≡ colour
-      colour_at k behind (inl same) = ap (pel row) same ∙ goes_on
-      colour_at k behind (inr less) = each k behind less
+      colour_at k after (inl same) = ap (pel row) same ∙ goes_on
+      colour_at k after (inr less) = each k after less
 
 -- at the width there is no changing element any more
-none_behind : (row : List Colour) (a : ℕ) → length row ≤ a → next_change row (Some a) ≡ length row
-none_behind row a over =
+none_after : (row : List Colour) (a : ℕ) → length row ≤ a → next_change row (Some a) ≡ length row
+none_after row a over =
     let next = next_change_is row (Some a) in
     elim (cases_lt (next_change row (Some a)) (length row)) [
       | inl inside ↦ absurd (omega (arith, ltb-true a (next_change row (Some a)) (next.right inside)))
-      | inr behind ↦ omega (arith, next.within)
+      | inr after ↦ omega (arith, next.within)
     ]
 
 -- ---- pels that are read, and those after them
@@ -92,8 +92,8 @@ module _ (row old tail : List Colour) (first to : ℕ) (len : length old ≡ fir
   read_before : old ≡ take first row
   read_before = sym (take_at old tail first len) ∙ ap (take first) read ∙ take-take first to row order
 
-  pel_behind : (k : ℕ) → first ≤ k → k < to → pel row k ≡ get_or tail (k - first) White
-  pel_behind k low high =
+  pel_after : (k : ℕ) → first ≤ k → k < to → pel row k ≡ get_or tail (k - first) White
+  pel_after k low high =
       sym (get_or-take to row k White high) ∙ ap (λ xs. get_or xs k White) (sym read)
       ∙ get_or-append_right old tail k White (omega (arith, len)) ∙ ap (λ n. get_or tail (k - n) White) len
 
@@ -155,10 +155,10 @@ module _ (reference row : List Colour) (same : length row ≡ length reference) 
       let a1_left : a1 ≤ b2_from reference old = rw step.new_is at left in
       let right : is_right_of old.a0 a1 ≡ true =
       right_of_number old.a0 old.colour old.pels a1 (omega (arith, ints, step.a1_is, step.in_row.right_of_a0)) in
-      let order : first_pel old ≤ a1 = right_behind_first old.a0 a1 right in
+      let order : first_pel old ≤ a1 = right_after_first old.a0 a1 right in
       let within : a1 ≤ length row = omega (arith, ints, step.a1_is, step.in_row.within, same) in
       let each : (k : ℕ) → first_pel old ≤ k → k < a1 → pel row k ≡ old.colour = λ k h l.
-      pel_behind row old.pels _ (first_pel old) a1 len order within goes_on.read k h l
+      pel_after row old.pels _ (first_pel old) a1 len order within goes_on.read k h l
       ∙ get_or-replicate (a1 - first_pel old) (k - first_pel old) old.colour White (omega arith) in
       let before = goes_on_from a1 _ order within goes_on.read
       (λ a is inside. let here = ap first_of is in let less = ltb-true a a1 (subst (λ o. is_right_of o a1 ≡ true) is right) in
@@ -182,14 +182,14 @@ module _ (reference row : List Colour) (same : length row ≡ length reference) 
       let within : to ≤ length row = omega arith in
       let here : pel row to ≡ old.colour = goes_on.coloured to refl below in
       let each : (k : ℕ) → first_pel old ≤ k → k < to → pel row k ≡ old.colour = λ k h l.
-      pel_behind row old.pels _ (first_pel old) to len order within goes_on.read k h l
+      pel_after row old.pels _ (first_pel old) to len order within goes_on.read k h l
       ∙ get_or-replicate (to - first_pel old) (k - first_pel old) old.colour White (omega arith) in
       let before = goes_on_from to _ order within goes_on.read
       (λ a is inside. let first = ap first_of is in elim (eq-or-lt_of_le order) [
         | inl at_to ↦ ap (pel row) (omega arith) ∙ here
         | inr less ↦ each a (omega arith) (omega arith)
       ]) in
-      let behind = next_behind row old.a0 old.colour to start each below here in
+      let after = next_after row old.a0 old.colour to start each below here in
       let at = places_are (next_change row old.a0) _ refl refl (old_colour before (omega (arith, same, unfinished))) in
       let is_pass : nat_lt to (next_change row old.a0) ≡ true = grind (arith, nat_tests) in
       step_is _ Pass b new rest before at (rw is_pass refl) (ap (λ (p : Position). p.a0) new_is)
@@ -219,7 +219,7 @@ module _ (reference row : List Colour) (same : length row ≡ length reference) 
       elim (cases_lt a1 (length row)) [
         | inl inside ↦ next_is row (Some a1) (other old.colour) to (λ h. absurd (cc h)) each within (lt-ltb a1 to (some inside))
             (λ h. there h ∙ sym (other-other old.colour))
-        | inr over ↦ omega (arith, none_behind row a1 over)
+        | inr over ↦ omega (arith, none_after row a1 over)
       ]
 
   pub horizontal_is : (b middle : List Bool) (new : Position) (rest : List Bool) → IsChosenPair reference old middle new rest
@@ -235,11 +235,11 @@ module _ (reference row : List Colour) (same : length row ≡ length reference) 
       let tail = replicate first old.colour ++ replicate second (other old.colour) in
       let read : old.pels ++ tail ≡ take to row =
       sym (append_assoc old.pels (replicate first old.colour) (replicate second (other old.colour))) ∙ goes_on.read in
-      let behind = pel_behind row old.pels tail (first_pel old) to len order within read in
+      let after = pel_after row old.pels tail (first_pel old) to len order within read in
       let each : (k : ℕ) → first_pel old ≤ k → k < a1 → pel row k ≡ old.colour = λ k h l.
-      behind k h (omega arith) ∙ run_first first second (k - first_pel old) (omega arith) in
+      after k h (omega arith) ∙ run_first first second (k - first_pel old) (omega arith) in
       let each_other : (k : ℕ) → a1 ≤ k → k < to → pel row k ≡ other old.colour = λ k h l.
-      behind k (omega arith) l ∙ run_second first second (k - first_pel old) (omega arith) (omega arith) in
+      after k (omega arith) l ∙ run_second first second (k - first_pel old) (omega arith) (omega arith) in
       let before = goes_on_from to tail order within read
       (λ a is inside. let here = ap first_of is in let less = ltb-true a a1 (subst (λ o. is_right_of o a1 ≡ true) is pair.right) in
       each a (omega arith) less) in

@@ -10,11 +10,11 @@ use Rattle.fax_bits.specs.declared.Colour.TheVariants.{White}
 use Rattle.fax_bits.specs.Written.{run_bits}
 use Rattle.fax_rows.specs.Coded.{alternating_bits, one_dimensional_bits}
 use Rattle.fax_rows.specs.Rows.{other, pels_of, runs_of, IsOneDimensionalRow}
-use Rattle.fax_rows.specs.Faults.{colour_behind}
+use Rattle.fax_rows.specs.Faults.{colour_after_runs}
 use Rattle.fax_rows.specs.laws.Rows.{OneDimensionalBitsAreOneRow}
 use Rattle.fax_rows.proofs.GivenRunLemmas.{longest_are_back}
 use Rattle.fax_rows.proofs.RowLaws.{length-pels_of}
-use Rattle.fax_rows.proofs.RowLemmas.{colour_behind-push}
+use Rattle.fax_rows.proofs.RowLemmas.{colour_after_runs-push}
 use Rattle.fax_rows.proofs.RunLaws.{sum-cons}
 use Rattle.fax_rows.proofs.RunLemmas.{sum-push}
 
@@ -23,7 +23,7 @@ pub record AreWrittenRuns (b : List Bool) (total : ℕ) (colour : Colour) (rest 
   pub runs : List ℕ
   pub bits : b ≡ alternating_bits White runs ++ rest
   pub sum_is : total ≡ sum runs
-  pub colour_is : colour ≡ colour_behind White runs
+  pub colour_is : colour ≡ colour_after_runs White runs
   pub some : (i : ℕ) → 0 < i → i < length runs → 0 < get_or runs i 0
 
 pub runs_begin : (b : List Bool) → AreWrittenRuns b 0 White b
@@ -31,15 +31,15 @@ unfolding alternating_bits
 runs_begin b = record { runs = []; bits = refl; sum_is = refl; colour_is = refl; some = λ i h l. absurd (omega arith) }
 
 alternating-push : (colour : Colour) (runs : List ℕ) (n : ℕ)
-    → alternating_bits colour (runs ++ n ∷ []) ≡ alternating_bits colour runs ++ run_bits (colour_behind colour runs) n
+    → alternating_bits colour (runs ++ n ∷ []) ≡ alternating_bits colour runs ++ run_bits (colour_after_runs colour runs) n
 unfolding alternating_bits
 alternating-push colour [] n = append-nil (run_bits colour n)
 alternating-push colour (m ∷ runs) n =
     ap (λ b. run_bits colour m ++ b) (alternating-push (other colour) runs n)
-    ∙ sym (append_assoc (run_bits colour m) (alternating_bits (other colour) runs) (run_bits (colour_behind (other colour) runs) n))
+    ∙ sym (append_assoc (run_bits colour m) (alternating_bits (other colour) runs) (run_bits (colour_after_runs (other colour) runs) n))
 
 -- only the first run has none before it
-first_alone : (runs : List ℕ) → sum runs ≡ 0 → colour_behind White runs ≡ White → ((i : ℕ) → 0 < i → i < length runs → 0 < get_or runs i 0)
+first_alone : (runs : List ℕ) → sum runs ≡ 0 → colour_after_runs White runs ≡ White → ((i : ℕ) → 0 < i → i < length runs → 0 < get_or runs i 0)
     → length runs ≡ 0
 first_alone [] none colour some = refl
 first_alone (n ∷ []) none colour some = cc
@@ -69,10 +69,10 @@ runs_go_on b total place colour mid rest so_far right run fits =
     record {
       runs = so_far.runs ++ n ∷ [];
       bits = so_far.bits ∙ ap (λ c. alternating_bits White so_far.runs ++ c) (run ∙ ap (λ c. run_bits c n ++ rest) so_far.colour_is)
-          ∙ sym (append_assoc (alternating_bits White so_far.runs) (run_bits (colour_behind White so_far.runs) n) rest)
+          ∙ sym (append_assoc (alternating_bits White so_far.runs) (run_bits (colour_after_runs White so_far.runs) n) rest)
           ∙ ap (λ c. c ++ rest) (sym (alternating-push White so_far.runs n));
       sum_is = omega (arith, sum-push so_far.runs n, so_far.sum_is);
-      colour_is = ap other so_far.colour_is ∙ sym (colour_behind-push White so_far.runs n);
+      colour_is = ap other so_far.colour_is ∙ sym (colour_after_runs-push White so_far.runs n);
       some = some_push so_far.runs n so_far.some (elim fits [
         | inl pels ↦ inl pels
         | inr none ↦ inr (first_alone so_far.runs (sym so_far.sum_is ∙ none.0) (sym so_far.colour_is ∙ none.1) so_far.some)

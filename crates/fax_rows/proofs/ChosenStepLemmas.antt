@@ -27,6 +27,11 @@ pub map_some : {A : Type 0} {P Q : A → Type 0} (found : Option A) → IfSome f
 map_some None h f = tt
 map_some (Some x) h f = f x h
 
+pub map_both : {A : Type 0} {P Q R : A → Type 0} (found : Option A) → IfSome found P → IfSome found Q → ((x : A) → P x → Q x → R x)
+    → IfSome found R
+map_both None p q f = tt
+map_both (Some x) p q f = f x p q
+
 module _ (reference : PlacedRow) (places : List ℕ) (at : PlacedReached) (so_far : IsReadTo reference places at)
     (unfinished : reached_pel at.reached < reference.width) where
   -- a0's colour just before the first pel
@@ -35,7 +40,7 @@ module _ (reference : PlacedRow) (places : List ℕ) (at : PlacedReached) (so_fa
       let first : take at.end places ≡ take 1 places = ap (λ n. take n places) (so_far.started is) in
       let one = take-first places (omega (arith, so_far.room)) so_far.ascending.first in
       sym (turned-first (reached_pel at.reached)) ∙ ap (λ ps. turned Black ps (reached_pel at.reached)) (sym (first ∙ one))
-      ∙ so_far.behind (reached_pel at.reached) (omega arith)
+      ∙ so_far.after (reached_pel at.reached) (omega arith)
 
   read : length (take (reached_pel at.reached) (pels_by reference.width (take at.end places))) ≡ reached_pel at.reached
   read =

@@ -146,7 +146,7 @@ module _ (bytes : List ℕ) (from at plain : ℕ) (right : from ≤ at) (room : 
   sixteen_more none k l h =
       elim (cases_lt k at) [
         | inl before ↦ same k l before
-        | inr behind ↦ differs_false plain (get_or bytes k 0) (none_from_empty_mask (differs plain) bytes at 16 0 room none k behind h)
+        | inr after ↦ differs_false plain (get_or bytes k 0) (none_from_empty_mask (differs plain) bytes at 16 0 room none k after h)
       ]
 
   pub found_in_lanes : (r : ℕ) → 0 < mask_l (map (differs plain) (chunk at 16 bytes))
@@ -156,7 +156,7 @@ module _ (bytes : List ℕ) (from at plain : ℕ) (right : from ≤ at) (room : 
     within = omega (arith, run_in_chunk_le (differs plain) bytes at 16 r 0 room counted);
     same = λ k l h. elim (cases_lt k at) [
       | inl before ↦ same k l before
-      | inr behind ↦ differs_false plain (get_or bytes k 0) (run_in_chunk_fails (differs plain) bytes at 16 r 0 room counted k behind h)
+      | inr after ↦ differs_false plain (get_or bytes k 0) (run_in_chunk_fails (differs plain) bytes at 16 r 0 room counted k after h)
     ];
     other = λ h. differs_true plain (get_or bytes (at + r) 0) (run_in_chunk_stops (differs plain) bytes at 16 r 0 room counted near);
   }
@@ -196,10 +196,10 @@ first_other_is bytes from r colour right within plain other =
 
 pub plain_on : (bytes : List ℕ) (colour : Colour) (from middle to : ℕ) → IsPlain bytes colour from middle → IsPlain bytes colour middle to
     → IsPlain bytes colour from to
-plain_on bytes colour from middle to before behind k l h =
+plain_on bytes colour from middle to before after k l h =
     elim (cases_lt k middle) [
       | inl near ↦ before k l near
-      | inr far ↦ behind k far h
+      | inr far ↦ after k far h
     ]
 
 -- by the law of the bits of bytes
@@ -236,14 +236,14 @@ module _ (law : AreBitsByPlace) where
       ∙ ap (λ byte. is_other_bit byte colour (k % 8)) (same (k / 8) (omega arith) (omega arith)) ∙ plain_bit colour (k % 8) (omega arith)
 
   -- from a bit of a byte that has no other bit after it, up to the first byte that has one
-  pub plain_before : (bytes : List ℕ) (colour : Colour) (from here plain behind : ℕ) → from / 8 < length bytes
+  pub plain_before : (bytes : List ℕ) (colour : Colour) (from here plain after : ℕ) → from / 8 < length bytes
       → here ≡ first_other_in_byte (get_or bytes (from / 8) 0) (from % 8) colour → 8 ≤ here
-      → plain ≡ plain_byte colour → IsFirstOtherByte bytes (from / 8 + 1) plain behind → IsPlain bytes colour from (8 * behind)
-  plain_before bytes colour from here plain behind inside is none plain_is first =
+      → plain ≡ plain_byte colour → IsFirstOtherByte bytes (from / 8 + 1) plain after → IsPlain bytes colour from (8 * after)
+  plain_before bytes colour from here plain after inside is none plain_is first =
       let below : from % 8 < 8 = omega arith in
-      plain_on bytes colour from (8 * (from / 8 + 1)) (8 * behind)
+      plain_on bytes colour from (8 * (from / 8 + 1)) (8 * after)
       (λ k l h. plain_in_byte bytes colour (from / 8) (from % 8) 8 inside below (omega (arith, is)) k (omega arith) (omega arith))
-      (plain_bytes bytes colour (from / 8 + 1) behind first.within (λ k l h. first.same k l h ∙ plain_is))
+      (plain_bytes bytes colour (from / 8 + 1) after first.within (λ k l h. first.same k l h ∙ plain_is))
 
 -- what stands from a place to the first other bit, and there
 pub first_other_stands : (bytes : List ℕ) (from r : ℕ) (colour : Colour) → r ≡ first_other bytes from colour

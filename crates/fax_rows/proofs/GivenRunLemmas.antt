@@ -9,29 +9,29 @@ use Rattle.std.proofs.lemmas.List.{get_or-replicate, take_more, ext_get_or}
 use Rattle.std.proofs.lemmas.List.Sums.{sum_by-take-le}
 use Rattle.fax_bits.specs.declared.Colour.{Colour}
 use Rattle.fax_bits.specs.declared.Colour.TheVariants.{White, Black}
-use Rattle.fax_rows.specs.Rows.{other, pels_of, runs_behind, runs_of}
-use Rattle.fax_rows.specs.Faults.{colour_behind}
+use Rattle.fax_rows.specs.Rows.{other, pels_of, runs_after, runs_of}
+use Rattle.fax_rows.specs.Faults.{colour_after_runs}
 use Rattle.fax_rows.specs.code.LongestRuns.{AreLongest}
 use Rattle.fax_rows.specs.code.Turns.{turned, pels_by, IsTurnedFrom}
 use Rattle.fax_rows.proofs.PlacedRowLemmas.{turned-first, take-first}
 use Rattle.fax_rows.proofs.RowLaws.{length-pels_of}
-use Rattle.fax_rows.proofs.RowLemmas.{pels_of-push, colour_behind-push}
+use Rattle.fax_rows.proofs.RowLemmas.{pels_of-push, colour_after_runs-push}
 use Rattle.fax_rows.proofs.RunLemmas.{sum-push}
 use Rattle.fax_rows.proofs.TurnLemmas.{length-pels_by, pel-pels_by}
-use Rattle.fax_rows.proofs.WrittenLemmas.{pels_of-runs_behind}
+use Rattle.fax_rows.proofs.WrittenLemmas.{pels_of-runs_after}
 
 -- the places so far are those where these runs end
 pub record ArePutRuns (runs : List ℕ) (total : ℕ) (places : List ℕ) : Type 0 where
   pub sum_is : total ≡ sum runs
   pub pels : (k : ℕ) → k < total → turned Black places k ≡ get_or (pels_of White runs) k White
-  pub behind : (k : ℕ) → total ≤ k → turned Black places k ≡ colour_behind White runs
+  pub after : (k : ℕ) → total ≤ k → turned Black places k ≡ colour_after_runs White runs
 
 -- before the first run
 pub put_none : (places : List ℕ) → 0 < length places → get_or places 0 0 ≡ 0 → ArePutRuns [] 0 (take 1 places)
 put_none places some first = record {
   sum_is = refl;
   pels = λ k h. absurd (omega arith);
-  behind = λ k h. ap (λ ps. turned Black ps k) (take-first places some first) ∙ turned-first k;
+  after = λ k h. ap (λ ps. turned Black ps k) (take-first places some first) ∙ turned-first k;
 }
 
 -- one run more
@@ -40,23 +40,23 @@ pub put_run : (runs : List ℕ) (total n : ℕ) (old new : List ℕ) → ArePutR
 put_run runs total n old new put turn = record {
   sum_is = omega (arith, sum-push runs n, put.sum_is);
   pels = λ k h. turn.left k h ∙ pel_at k h (cases_lt k total) ∙ ap (λ xs. get_or xs k White) (sym (pels_of-push White runs n));
-  behind = λ k h. turn.right k h ∙ ap other (put.behind k (omega arith)) ∙ sym (colour_behind-push White runs n);
+  after = λ k h. turn.right k h ∙ ap other (put.after k (omega arith)) ∙ sym (colour_after_runs-push White runs n);
 }
   where
     len : length (pels_of White runs) ≡ total
     len = length-pels_of White runs ∙ sym put.sum_is
 
     pel_at : (k : ℕ) → k < total + n → (k < total) ⊎ (total ≤ k)
-        → turned Black old k ≡ get_or (pels_of White runs ++ replicate n (colour_behind White runs)) k White
+        → turned Black old k ≡ get_or (pels_of White runs ++ replicate n (colour_after_runs White runs)) k White
     pel_at k h (inl less) =
         let short : k < length (pels_of White runs) = omega (arith, len) in
-        put.pels k less ∙ sym (get_or-append (pels_of White runs) (replicate n (colour_behind White runs)) White k short)
+        put.pels k less ∙ sym (get_or-append (pels_of White runs) (replicate n (colour_after_runs White runs)) White k short)
     pel_at k h (inr more) =
         let long : length (pels_of White runs) ≤ k = omega (arith, len) in
         let short : k - length (pels_of White runs) < n = omega (arith, len) in
-        put.behind k more
-        ∙ sym (get_or-replicate n (k - length (pels_of White runs)) (colour_behind White runs) White short)
-        ∙ sym (get_or-append_right (pels_of White runs) (replicate n (colour_behind White runs)) k White long)
+        put.after k more
+        ∙ sym (get_or-replicate n (k - length (pels_of White runs)) (colour_after_runs White runs) White short)
+        ∙ sym (get_or-append_right (pels_of White runs) (replicate n (colour_after_runs White runs)) k White long)
 
 -- the next of the runs
 pub put_next_run : (runs : List ℕ) (i total n : ℕ) (old new : List ℕ) → i < length runs → n ≡ get_or runs i 0
@@ -80,18 +80,18 @@ put_all_runs runs total places width put whole =
 
 -- pels of the run's colour make it longer
 longer : (colour : Colour) (n m : ℕ) (pels : List Colour)
-    → runs_behind colour n (replicate m colour ++ pels) ≡ runs_behind colour (n + m) pels
-unfolding runs_behind
-longer colour n zero pels = ap (λ k. runs_behind colour k pels) (omega arith)
+    → runs_after colour n (replicate m colour ++ pels) ≡ runs_after colour (n + m) pels
+unfolding runs_after
+longer colour n zero pels = ap (λ k. runs_after colour k pels) (omega arith)
 longer White n (suc m) pels =
-    longer White (n + 1) m pels ∙ ap (λ k. runs_behind White k pels) (omega arith)
+    longer White (n + 1) m pels ∙ ap (λ k. runs_after White k pels) (omega arith)
 longer Black n (suc m) pels =
-    longer Black (n + 1) m pels ∙ ap (λ k. runs_behind Black k pels) (omega arith)
+    longer Black (n + 1) m pels ∙ ap (λ k. runs_after Black k pels) (omega arith)
 
 -- after a run stand the runs of the pels after it, where none of them is 0
 runs_follow : (colour : Colour) (n : ℕ) (runs : List ℕ) → ((i : ℕ) → i < length runs → 0 < get_or runs i 0)
-    → runs_behind colour n (pels_of (other colour) runs) ≡ n ∷ runs
-unfolding runs_behind
+    → runs_after colour n (pels_of (other colour) runs) ≡ n ∷ runs
+unfolding runs_after
 runs_follow colour n [] some = refl
 runs_follow colour n (zero ∷ runs) some = absurd (omega (arith, some 0 (omega arith)))
 runs_follow White n (suc m ∷ runs) some =
@@ -112,9 +112,9 @@ longest_are_back (n ∷ runs) width some longest =
     ∙ ap (λ k. k ∷ runs) (omega arith)
 
 -- no run after a whole one is 0
-none_is_0 : (colour : Colour) (n : ℕ) (pels : List Colour) → 0 < n → (i : ℕ) → i < length (runs_behind colour n pels)
-    → 0 < get_or (runs_behind colour n pels) i 0
-unfolding runs_behind
+none_is_0 : (colour : Colour) (n : ℕ) (pels : List Colour) → 0 < n → (i : ℕ) → i < length (runs_after colour n pels)
+    → 0 < get_or (runs_after colour n pels) i 0
+unfolding runs_after
 none_is_0 colour n [] some zero h = some
 none_is_0 colour n [] some (suc i) h = absurd (omega arith)
 none_is_0 White n (White ∷ pels) some i h = none_is_0 White (n + 1) pels (omega arith) i h
@@ -124,9 +124,9 @@ none_is_0 Black n (White ∷ pels) some zero h = some
 none_is_0 White n (Black ∷ pels) some (suc i) h = none_is_0 Black 1 pels (omega arith) i (omega arith)
 none_is_0 Black n (White ∷ pels) some (suc i) h = none_is_0 White 1 pels (omega arith) i (omega arith)
 
-first_may_be_0 : (colour : Colour) (n : ℕ) (pels : List Colour) (i : ℕ) → 0 < i → i < length (runs_behind colour n pels)
-    → 0 < get_or (runs_behind colour n pels) i 0
-unfolding runs_behind
+first_may_be_0 : (colour : Colour) (n : ℕ) (pels : List Colour) (i : ℕ) → 0 < i → i < length (runs_after colour n pels)
+    → 0 < get_or (runs_after colour n pels) i 0
+unfolding runs_after
 first_may_be_0 colour n [] zero some h = absurd (omega arith)
 first_may_be_0 colour n [] (suc i) some h = absurd (omega arith)
 first_may_be_0 White n (White ∷ pels) i some h = first_may_be_0 White (n + 1) pels i some h
@@ -139,6 +139,6 @@ first_may_be_0 Black n (White ∷ pels) (suc i) some h = none_is_0 White 1 pels 
 -- the runs of a row are such
 pub runs_are_longest : (row : List Colour) → AreLongest (runs_of row) (length row)
 runs_are_longest row = record {
-  whole = sym (length-pels_of White (runs_of row)) ∙ ap (λ (xs : List Colour). length xs) (pels_of-runs_behind White 0 row);
+  whole = sym (length-pels_of White (runs_of row)) ∙ ap (λ (xs : List Colour). length xs) (pels_of-runs_after White 0 row);
   some = first_may_be_0 White 0 row;
 }

@@ -47,7 +47,7 @@ module _ (law : AreBitsByPlace) where
 pub unpacked_none : (b : List Bool) (places : List ℕ) → places ≡ 0 ∷ [] → IsUnpackedTo b places 0 White
 unpacked_none b places is = record {
   before = λ k h. absurd (omega arith);
-  behind = λ k h. ap (λ ps. turned Black ps k) is ∙ turned-first k;
+  after = λ k h. ap (λ ps. turned Black ps k) is ∙ turned-first k;
 }
 
 -- pels more of the colour
@@ -56,9 +56,9 @@ pub unpacked_run : (b : List Bool) (places : List ℕ) (i j : ℕ) (colour : Col
 unpacked_run b places i j colour so_far further same = record {
   before = λ k h. elim (cases_lt k i) [
     | inl near ↦ so_far.before k near
-    | inr far ↦ so_far.behind k far ∙ sym (same k far h)
+    | inr far ↦ so_far.after k far ∙ sym (same k far h)
   ];
-  behind = λ k h. so_far.behind k (omega arith);
+  after = λ k h. so_far.after k (omega arith);
 }
 
 -- and one of the other colour, where it turns
@@ -67,8 +67,8 @@ pub unpacked_turned : (b : List Bool) (old new : List ℕ) (i : ℕ) (colour pel
 unpacked_turned b old new i colour pel so_far turns is turn = record {
   before = below_more (λ k. turned Black new k ≡ colour_of_bit (get_or b k false)) i
       (λ k h. turn.left k h ∙ so_far.before k h)
-      (turn.right i (omega arith) ∙ ap other (so_far.behind i (omega arith)) ∙ sym turns ∙ is);
-  behind = λ k h. turn.right k (omega arith) ∙ ap other (so_far.behind k (omega arith)) ∙ sym turns;
+      (turn.right i (omega arith) ∙ ap other (so_far.after i (omega arith)) ∙ sym turns ∙ is);
+  after = λ k h. turn.right k (omega arith) ∙ ap other (so_far.after k (omega arith)) ∙ sym turns;
 }
 
 -- the bits of a row, with zeros after the last pel

@@ -18,7 +18,7 @@ use Rattle.fax_rows.specs.code.PackedWord.{word_bit, IsPackedWord}
 use Rattle.fax_rows.specs.code.Turns.{row_of, ArePlaces, HasPassed}
 use Rattle.fax_rows.proofs.PackedLaws.{bit-packed_byte}
 use Rattle.fax_rows.proofs.PackedLemmas.{padded_bits}
-use Rattle.fax_rows.proofs.PackingLemmas.{bit_behind}
+use Rattle.fax_rows.proofs.PackingLemmas.{bit_after}
 use Rattle.fax_rows.proofs.PlacedRowLemmas.{at_end}
 
 -- a bit turned, and one that is not
@@ -47,7 +47,7 @@ turned_left word s i within before =
     ∙ same_bit (bit_at word (63 - i)) (bit_at-lt word (63 - i))
 
 turned_right : (word s i : ℕ) → s < 64 → s ≤ i → i < 64 → word_bit (turned_word word s) i ≡ not (word_bit word i)
-turned_right word s i within behind inside =
+turned_right word s i within after inside =
     ap (λ b. nat_eq b 1) (ones-bits word s (63 - i) (omega arith)
     ∙ ap (λ b. (bit_at word (63 - i) + b) % 2) (bit_at_ones (64 - s) (63 - i) (omega arith)))
     ∙ turned_bit (bit_at word (63 - i)) (bit_at-lt word (63 - i))
@@ -56,8 +56,8 @@ turned_fits : (word s : ℕ) → word < 2 ^ 64 → s ≤ 64 → turned_word word
 turned_fits word s fits within = xor_lt 64 word ((2 ^ 64 - 1) / 2 ^ s) fits (omega (arith, shr_le (2 ^ 64 - 1) s))
 
 -- the colour after one place more
-not_behind : (k : ℕ) → not (nat_eq (k % 2) 0) ≡ nat_eq ((k + 1) % 2) 0
-not_behind k =
+not_after : (k : ℕ) → not (nat_eq (k % 2) 0) ≡ nat_eq ((k + 1) % 2) 0
+not_after k =
     elim (cases_lt (k % 2) 1) [
       | inl even ↦
           let none : k % 2 ≡ 0 = omega arith in
@@ -79,7 +79,7 @@ pub record IsWordTo (places : List ℕ) (end width from word k : ℕ) : Type 0 w
   pub ahead : k < end → from ≤ get_or places k 0
   pub before : (i : ℕ) → i < 64 → from + i < get_or places (k - 1) 0
       → word_bit word i ≡ get_or (map is_black (row_of places end width)) (from + i) false
-  pub behind : (i : ℕ) → i < 64 → get_or places (k - 1) 0 ≤ from + i → word_bit word i ≡ nat_eq (k % 2) 0
+  pub after : (i : ℕ) → i < 64 → get_or places (k - 1) 0 ≤ from + i → word_bit word i ≡ nat_eq (k % 2) 0
 
 white_word : (i : ℕ) → word_bit 0 i ≡ false
 white_word i = ap (λ b. nat_eq b 1) (bit_at-zero (63 - i))
@@ -97,7 +97,7 @@ module _ (places : List ℕ) (end width : ℕ) (all : ArePlaces places end width
     left = omega (arith, passed.left);
     ahead = passed.right;
     before = λ i h l. absurd (omega (arith, passed.left));
-    behind = λ i h l. is i;
+    after = λ i h l. is i;
   }
 
   pub begun_white : (from k : ℕ) → HasPassed places end from k → k % 2 ≡ 1 → IsWordTo places end width from 0 k
@@ -112,8 +112,8 @@ module _ (places : List ℕ) (end width : ℕ) (all : ArePlaces places end width
   pel_between : (from word k i : ℕ) → IsWordTo places end width from word k → i < 64 → from + i < width → get_or places (k - 1) 0 ≤ from + i
       → (k < end → from + i < get_or places k 0) → word_bit word i ≡ get_or (map is_black (row_of places end width)) (from + i) false
   pel_between from word k i so_far inside wide left right =
-      so_far.behind i inside left
-      ∙ sym (bit_behind places end width all (from + i) k wide (record {
+      so_far.after i inside left
+      ∙ sym (bit_after places end width all (from + i) k wide (record {
         some = so_far.some;
         within = so_far.within;
         left = left;
@@ -157,9 +157,9 @@ module _ (places : List ℕ) (end width : ℕ) (all : ArePlaces places end width
           | inl less ↦ so_far.before i h less
           | inr more ↦ pel_between from word k i so_far h (omega arith) more (λ r. omega (arith, last))
         ];
-    behind = λ i h l.
+    after = λ i h l.
         turned_right word s i (omega (arith, at)) (omega (arith, last, at)) h
-        ∙ ap not (so_far.behind i h (omega (arith, last, order))) ∙ not_behind k;
+        ∙ ap not (so_far.after i h (omega (arith, last, order))) ∙ not_after k;
   }
     where
       inside : k < end

@@ -13,10 +13,10 @@ use Rattle.fax_bits.specs.declared.Colour.TheVariants.{White, Black}
 use Rattle.fax_bits.specs.Bits.{bits_number}
 use Rattle.fax_rows.specs.Coded.{is_black}
 use Rattle.fax_rows.specs.code.PackedByte.{packed_byte}
-use Rattle.fax_rows.specs.code.Turns.{row_of, alternate, ArePlaces, HasPassed, IsBehind}
+use Rattle.fax_rows.specs.code.Turns.{row_of, alternate, ArePlaces, HasPassed, ArePlacesUpTo}
 use Rattle.fax_rows.proofs.PackedLemmas.{padded_bits, get_or-padded, byte_more, byte_fits}
 use Rattle.fax_rows.proofs.PlacedRowLemmas.{end_within}
-use Rattle.fax_rows.proofs.TurnLemmas.{length-pels_by, pel-pels_by, alternate-odd, alternate-even, colour_behind_places}
+use Rattle.fax_rows.proofs.TurnLemmas.{length-pels_by, pel-pels_by, alternate-odd, alternate-even, colour_after_places}
 
 -- the byte of eight pels of one colour
 pub whole_byte : (row : List Colour) (from : ℕ) (b : Bool) → from < length row
@@ -47,8 +47,8 @@ whole_byte row from b within each = ap bits_number same ∙ number b
     number true = refl
     number false = refl
 
-black_behind : (k : ℕ) → is_black (alternate Black k) ≡ nat_eq (k % 2) 0
-black_behind k =
+black_after : (k : ℕ) → is_black (alternate Black k) ≡ nat_eq (k % 2) 0
+black_after k =
     elim (cases_lt (k % 2) 1) [
       | inl even ↦
           let none : k % 2 ≡ 0 = omega arith in
@@ -60,16 +60,16 @@ black_behind k =
 
 module _ (places : List ℕ) (end width : ℕ) (all : ArePlaces places end width) where
   -- no pel stands after the last one
-  pub none_behind : (i : ℕ) → width ≤ i → get_or (map is_black (row_of places end width)) i false ≡ false
-  none_behind i over =
+  pub none_after : (i : ℕ) → width ≤ i → get_or (map is_black (row_of places end width)) i false ≡ false
+  none_after i over =
       get_or_past (map is_black (row_of places end width)) i false
       (omega (arith, length-map (row_of places end width) is_black, length-pels_by width (take end places)))
 
-  pub bit_behind : (i k : ℕ) → i < width → IsBehind places end i k
+  pub bit_after : (i k : ℕ) → i < width → ArePlacesUpTo places end i k
       → get_or (map is_black (row_of places end width)) i false ≡ nat_eq (k % 2) 0
-  bit_behind i k within at =
+  bit_after i k within at =
       get_or-map is_black (row_of places end width) i White false (omega (arith, length-pels_by width (take end places)))
-      ∙ ap is_black (pel-pels_by width (take end places) i within ∙ colour_behind_places places end all.ascending i k at) ∙ black_behind k
+      ∙ ap is_black (pel-pels_by width (take end places) i within ∙ colour_after_places places end all.ascending i k at) ∙ black_after k
 
   -- no place is passed before the first pel but the first
   pub passed_none : HasPassed places end 0 1
@@ -84,7 +84,7 @@ module _ (places : List ℕ) (end width : ℕ) (all : ArePlaces places end width
   passed-lt i k passed = omega (arith, passed.within, all.room, end_within places end width all)
 
   last_is : get_or places end 0 ≡ width
-  last_is = ap (λ m. get_or places m 0) (omega arith) ∙ all.behind 0 (omega arith)
+  last_is = ap (λ m. get_or places m 0) (omega arith) ∙ all.after 0 (omega arith)
 
   -- one more is passed at its own pel
   inside : (i k : ℕ) → HasPassed places end i k → i < width → get_or places k 0 ≡ i → k < end
@@ -96,7 +96,7 @@ module _ (places : List ℕ) (end width : ℕ) (all : ArePlaces places end width
             absurd (omega (arith, last_is, ap (λ m. get_or places m 0) same))
       ]
 
-  pub passed_more : (i k : ℕ) → HasPassed places end i k → i < width → get_or places k 0 ≡ i → IsBehind places end i (k + 1)
+  pub passed_more : (i k : ℕ) → HasPassed places end i k → i < width → get_or places k 0 ≡ i → ArePlacesUpTo places end i (k + 1)
   passed_more i k passed within at = record {
     some = omega arith;
     within = omega (arith, inside i k passed within at);
@@ -105,11 +105,11 @@ module _ (places : List ℕ) (end width : ℕ) (all : ArePlaces places end width
   }
 
   -- a byte in which no colour changes
-  whole_behind : (from k : ℕ) → HasPassed places end from k → from < width → from + 8 ≤ get_or places k 0
+  whole_after : (from k : ℕ) → HasPassed places end from k → from < width → from + 8 ≤ get_or places k 0
       → packed_byte (row_of places end width) from ≡ (if nat_eq (k % 2) 0 then 255 else 0)
-  whole_behind from k passed within whole =
+  whole_after from k passed within whole =
       whole_byte (row_of places end width) from (nat_eq (k % 2) 0) (omega (arith, length-pels_by width (take end places)))
-      (λ j h. bit_behind (from + j) k (omega (arith, wide)) record {
+      (λ j h. bit_after (from + j) k (omega (arith, wide)) record {
         some = passed.some;
         within = passed.within;
         left = omega (arith, passed.left);
@@ -125,13 +125,13 @@ module _ (places : List ℕ) (end width : ℕ) (all : ArePlaces places end width
   pub whole_white : (from k : ℕ) → HasPassed places end from k → from < width → from + 8 ≤ get_or places k 0 → k % 2 ≡ 1
       → 0 ≡ packed_byte (row_of places end width) from
   whole_white from k passed within whole odd =
-      sym (whole_behind from k passed within whole ∙ ap {B = ℕ} (λ n. if nat_eq n 0 then 255 else 0) odd)
+      sym (whole_after from k passed within whole ∙ ap {B = ℕ} (λ n. if nat_eq n 0 then 255 else 0) odd)
 
   pub whole_black : (from k : ℕ) → HasPassed places end from k → from < width → from + 8 ≤ get_or places k 0 → k % 2 ≢ 1
       → 255 ≡ packed_byte (row_of places end width) from
   whole_black from k passed within whole even =
       let none : k % 2 ≡ 0 = omega arith in
-      sym (whole_behind from k passed within whole ∙ ap {B = ℕ} (λ n. if nat_eq n 0 then 255 else 0) none)
+      sym (whole_after from k passed within whole ∙ ap {B = ℕ} (λ n. if nat_eq n 0 then 255 else 0) none)
 
 -- the number of n ones, or of n zeros
 abbrev pub ones : Bool → ℕ → ℕ
@@ -188,7 +188,7 @@ module _ (places : List ℕ) (end width : ℕ) (all : ArePlaces places end width
       → (m : ℕ) → at - from ≤ m → m < at - from + (next - at)
       → get_or (map is_black (row_of places end width)) (from + m) false ≡ nat_eq (k % 2) 0
   same_up_to from at next k passed order within before m h l =
-      bit_behind places end width all (from + m) k (omega arith) (record {
+      bit_after places end width all (from + m) k (omega arith) (record {
         some = passed.some;
         within = passed.within;
         left = omega (arith, passed.left);
@@ -223,5 +223,5 @@ module _ (places : List ℕ) (end width : ℕ) (all : ArePlaces places end width
       ]
 
   -- a place that is reached is passed
-  pub reached_is_passed : (i k : ℕ) → IsBehind places end i k → HasPassed places end i k
+  pub reached_is_passed : (i k : ℕ) → ArePlacesUpTo places end i k → HasPassed places end i k
   reached_is_passed i k at = record { some = at.some; within = at.within; left = at.left; right = λ h. omega (arith, at.right h) }

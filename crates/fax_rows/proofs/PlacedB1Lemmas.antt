@@ -10,10 +10,10 @@ use Rattle.fax_rows.specs.Rows.{other, same_colour, pel, is_changing, is_right_o
 use Rattle.fax_rows.specs.Rows.{b2}
 use Rattle.fax_rows.specs.declared.rows.PlacedRow.{PlacedRow}
 use Rattle.fax_rows.specs.code.PlacedRow.{placed_pels, IsBeforeB1, IsB1At}
-use Rattle.fax_rows.specs.code.Turns.{alternate, IsBehind, IsFrom}
+use Rattle.fax_rows.specs.code.Turns.{alternate, ArePlacesUpTo, IsFrom}
 use Rattle.fax_rows.proofs.ChangeLemmas.{still_left, both, next_change_is}
 use Rattle.fax_rows.proofs.PlaceLemmas.{next_of_at}
-use Rattle.fax_rows.proofs.TurnLemmas.{other-other, length-pels_by, alternate-suc, below_later, not_later, pel_behind, changing_at}
+use Rattle.fax_rows.proofs.TurnLemmas.{other-other, length-pels_by, alternate-suc, below_later, not_later, pel_after, changing_at}
 use Rattle.fax_rows.proofs.TurnLemmas.{unchanging}
 use Rattle.fax_rows.proofs.PlacedRowLemmas.{at_end, next_here, end_within}
 
@@ -38,7 +38,7 @@ differs_is White White h = absurd (h refl)
 differs_is Black Black h = absurd (h refl)
 
 module _ (row : PlacedRow) where
-  rank_from : (i n k : ℕ) → 0 < k → k + n ≡ row.end → get_or row.places.now (k - 1) 0 ≤ i → (j : ℕ) × IsBehind row.places.now row.end i j
+  rank_from : (i n k : ℕ) → 0 < k → k + n ≡ row.end → get_or row.places.now (k - 1) 0 ≤ i → (j : ℕ) × ArePlacesUpTo row.places.now row.end i j
   rank_from i zero k some sum left =
       (k, record { some = some; within = omega arith; left = left; right = λ h. absurd (omega arith) })
   rank_from i (suc n) k some sum left =
@@ -51,12 +51,12 @@ module _ (row : PlacedRow) where
       same = omega arith
 
   -- how many places a place lies after
-  rank : (i : ℕ) → (j : ℕ) × IsBehind row.places.now row.end i j
+  rank : (i : ℕ) → (j : ℕ) × ArePlacesUpTo row.places.now row.end i j
   rank i = rank_from i (row.end - 1) 1 (omega arith) (omega (arith, row.placed.ascending.started))
       (omega (arith, row.placed.ascending.first))
 
   -- a changing element is a place after the first
-  place_of_change : (i j : ℕ) → IsBehind row.places.now row.end i j → i < row.width → is_changing (placed_pels row) i ≡ true
+  place_of_change : (i j : ℕ) → ArePlacesUpTo row.places.now row.end i j → i < row.width → is_changing (placed_pels row) i ≡ true
       → (1 < j) × (get_or row.places.now (j - 1) 0 ≡ i)
   place_of_change i j at inside changes =
       elim (eq-or-lt_of_le at.some) [
@@ -82,7 +82,7 @@ module _ (row : PlacedRow) where
               | inr few ↦ omega arith
               | inl many ↦
                   elim (cases_lt (b - 2) (j - 1)) [
-                    | inl behind ↦ omega arith
+                    | inl after ↦ omega arith
                     | inr left ↦ absurd (true≢false (sym (passed left) ∙ at.passed many))
                   ]
             ]
@@ -115,13 +115,13 @@ module _ (row : PlacedRow) where
       let place = place_of_change i found.0 found.1 inside changes in
       let same : found.0 ≡ b = before_b1 a0 colour b i found.0 at before right place.0 found.1.within place.1 in
       same_as (pel (placed_pels row) i) colour
-      (pel_behind row.places.now row.end row.placed.ascending row.width i found.0 inside found.1 ∙ ap (alternate Black) same ∙ at.colour_is)
+      (pel_after row.places.now row.end row.placed.ascending row.width i found.0 inside found.1 ∙ ap (alternate Black) same ∙ at.colour_is)
 
   second_end : get_or row.places.now (row.end + 1) 0 ≡ row.width
-  second_end = row.placed.behind 1 (omega arith)
+  second_end = row.placed.after 1 (omega arith)
 
   third_end : get_or row.places.now (row.end + 2) 0 ≡ row.width
-  third_end = row.placed.behind 2 (omega arith)
+  third_end = row.placed.after 2 (omega arith)
 
   -- from the last place on all places are the width
   pub over_end : (b : ℕ) → row.end ≤ b → b ≤ row.end + 2 → get_or row.places.now b 0 ≡ row.width
@@ -193,15 +193,15 @@ module _ (row : PlacedRow) where
           (changing_at row.places.now row.end row.placed.ascending row.width (get_or row.places.now b 0) b at.some inside refl
           (omega (arith, len)))
           (other_than (pel (placed_pels row) (get_or row.places.now b 0)) colour
-          (pel_behind row.places.now row.end row.placed.ascending row.width (get_or row.places.now b 0) (suc b) (omega (arith, len))
-          (behind inside)
+          (pel_after row.places.now row.end row.placed.ascending row.width (get_or row.places.now b 0) (suc b) (omega (arith, len))
+          (after inside)
           ∙ alternate-suc Black b ∙ ap other at.colour_is)))
         where
           same : suc b - 1 ≡ b
           same = omega arith
 
-          behind : b < row.end → IsBehind row.places.now row.end (get_or row.places.now b 0) (suc b)
-          behind inside = record {
+          after : b < row.end → ArePlacesUpTo row.places.now row.end (get_or row.places.now b 0) (suc b)
+          after inside = record {
             some = omega arith;
             within = omega arith;
             left = subst (λ m. get_or row.places.now m 0 ≤ get_or row.places.now b 0) (sym same) (omega arith);
@@ -209,9 +209,9 @@ module _ (row : PlacedRow) where
           }
 
   -- and b2 is the one after it
-  pub behind_b1 : (b : ℕ) → 0 < b → b ≤ row.end + 1
+  pub after_b1 : (b : ℕ) → 0 < b → b ≤ row.end + 1
       → get_or row.places.now (b + 1) 0 ≡ next_change (placed_pels row) (Some (get_or row.places.now b 0))
-  behind_b1 b some within =
+  after_b1 b some within =
       elim (cases_lt b row.end) [
         | inl inside ↦
             (next_here row.places.now row.end row.width row.placed (Some (get_or row.places.now b 0)) (b + 1) (record {
@@ -221,14 +221,14 @@ module _ (row : PlacedRow) where
               right = λ l. below_later row.places.now row.end row.placed.ascending b (b + 1) some (omega arith) l;
             })).place
         | inr over ↦ over_end (b + 1) (omega arith) (omega arith) ∙ sym
-            (none_behind (get_or row.places.now b 0) (over_end b over (omega arith)))
+            (none_after (get_or row.places.now b 0) (over_end b over (omega arith)))
       ]
     where
       same : b + 1 - 1 ≡ b
       same = omega arith
 
-      none_behind : (a : ℕ) → a ≡ row.width → next_change (placed_pels row) (Some a) ≡ row.width
-      none_behind a is =
+      none_after : (a : ℕ) → a ≡ row.width → next_change (placed_pels row) (Some a) ≡ row.width
+      none_after a is =
           let next = next_change_is (placed_pels row) (Some a) in
           let len = length-placed_pels row in
           elim (cases_lt (next_change (placed_pels row) (Some a)) (length (placed_pels row))) [
@@ -239,7 +239,7 @@ module _ (row : PlacedRow) where
   pub b2_is : (a0 : Option ℕ) (colour : Colour) (b : ℕ) → IsB1At row a0 colour b
       → get_or row.places.now (b + 1) 0 ≡ b2 (placed_pels row) a0 colour
   b2_is a0 colour b at =
-      behind_b1 b at.some at.within
+      after_b1 b at.some at.within
       ∙ ap (λ a. next_change (placed_pels row) (Some a)) (b1_is a0 colour b at)
 
   -- the search goes on by two places

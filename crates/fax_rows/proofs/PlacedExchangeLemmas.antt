@@ -60,7 +60,7 @@ module _ (old new : List ℕ) (end width : ℕ) (all : ArePlaces old end width) 
       elim (eq-or-lt_of_le all.ascending.started) [
         | inl one ↦
             let at : end + 0 ≡ 1 = omega arith in
-            let wide : get_or old 1 0 ≡ width = subst (λ m. get_or old m 0 ≡ width) at (all.behind 0 (omega arith)) in
+            let wide : get_or old 1 0 ≡ width = subst (λ m. get_or old m 0 ≡ width) at (all.after 0 (omega arith)) in
             let some = all.some in
             absurd (omega arith)
         | inr more ↦ more
@@ -87,10 +87,10 @@ module _ (old new : List ℕ) (end width : ℕ) (all : ArePlaces old end width) 
         let here : get_or new i 0 ≡ get_or old (suc i) 0 = each i (omega (arith, all.ascending.within)) in
         let less = all.below (suc i) (omega arith) (omega arith) in
         omega arith;
-    behind = λ i h.
+    after = λ i h.
         let started = some_change in
         let at : suc (end - 1 + i) ≡ end + i = omega arith in
-        each (end - 1 + i) (omega (arith, all.room, end_within old end width all)) ∙ ap (λ m. get_or old m 0) at ∙ all.behind i h;
+        each (end - 1 + i) (omega (arith, all.room, end_within old end width all)) ∙ ap (λ m. get_or old m 0) at ∙ all.after i h;
   }
 
   pub turned_white : IsTurnedFrom (take end old) (take (end - 1) new) 0
@@ -173,9 +173,9 @@ module _ (old new : List ℕ) (end width : ℕ) (all : ArePlaces old end width) 
       steps = steps_up;
     };
     below = all_below;
-    behind = λ i h.
+    after = λ i h.
         let at : end + 1 + i ≡ suc (end + i) = omega arith in
-        ap (λ m. get_or new m 0) at ∙ each (end + i) (omega (arith, few_changes, all.room)) ∙ all.behind i h;
+        ap (λ m. get_or new m 0) at ∙ each (end + i) (omega (arith, few_changes, all.room)) ∙ all.after i h;
   }
 
   pub turned_black : IsTurnedFrom (take end old) (take (end + 1) new) 0

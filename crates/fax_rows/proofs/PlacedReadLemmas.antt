@@ -98,20 +98,15 @@ pub run_turned : (width : ℕ) (b : List Bool) (total n : ℕ) (colour : Colour)
     → IsRowSoFar width b total colour (pels_by width old) mid → total < width → total + n ≤ width → IsRun colour mid n rest
     → ((i : ℕ) → total ≤ i → turned Black old i ≡ colour) → IsTurnedFrom old new (total + n)
     → IsRowSoFar width b (total + n) (other colour) (pels_by width new) rest
-run_turned width b total n colour old new mid rest so_far unfinished within run behind turn =
+run_turned width b total n colour old new mid rest so_far unfinished within run after turn =
     row_goes_on width b total n colour (pels_by width old) (pels_by width new) mid rest so_far unfinished run
     (λ k h. pel-pels_by width new k (omega arith) ∙ turn.left k (omega arith) ∙ sym (pel-pels_by width old k (omega arith)))
-    (λ k h l. pel-pels_by width new k (omega arith) ∙ turn.left k (omega arith) ∙ behind k h)
-
--- and after it the other colour
-pub run_behind : (total n : ℕ) (colour : Colour) (old new : List ℕ) → ((i : ℕ) → total ≤ i → turned Black old i ≡ colour)
-    → IsTurnedFrom old new (total + n) → (i : ℕ) → total + n ≤ i → turned Black new i ≡ other colour
-run_behind total n colour old new behind turn i h = turn.right i h ∙ ap other (behind i (omega arith))
+    (λ k h l. pel-pels_by width new k (omega arith) ∙ turn.left k (omega arith) ∙ after k h)
 
 -- the places of the runs that are read, after which the row has a colour
 pub record HasRead (width : ℕ) (b : List Bool) (total : ℕ) (colour : Colour) (places : List ℕ) (end : ℕ) (rest : List Bool) : Type 0 where
   pub so_far : IsRowSoFar width b total colour (pels_by width (take end places)) rest
-  pub behind : (i : ℕ) → total ≤ i → turned Black (take end places) i ≡ colour
+  pub after : (i : ℕ) → total ≤ i → turned Black (take end places) i ≡ colour
   pub ascending : IsAscending places end
   pub last : get_or places (end - 1) 0 ≤ total
   pub within : total ≤ width
@@ -127,8 +122,8 @@ read_on width b total place colour old new end next mid rest read unfinished run
     record {
       so_far = subst (λ n. IsRowSoFar width b n (other colour) (pels_by width (take next new)) rest) sum
           (run_turned width b total (place - total) colour (take end old) (take next new) mid rest read.so_far unfinished
-          (omega (arith, sum)) run read.behind turn_there);
-      behind = λ i h. turn.right i h ∙ ap other (read.behind i (omega arith));
+          (omega (arith, sum)) run read.after turn_there);
+      after = λ i h. turn.right i h ∙ ap other (read.after i (omega arith));
       ascending = up;
       last = last;
       within = within;
@@ -166,14 +161,14 @@ are_closed places end width some short room within up below = record {
         omega (arith, closed-before places end width i (omega arith), closed-before places end width (i + 1) l);
   };
   below = λ i h l. let less = below i h l in omega (arith, closed-before places end width i l);
-  behind = behind;
+  after = after;
 }
   where
     len_two : length (set (set places end width) (end + 1) width) ≡ length places
     len_two = length-set (set places end width) (end + 1) width ∙ length-set places end width
 
-    behind : (i : ℕ) → i < 3 → get_or (closed places end width) (end + i) 0 ≡ width
-    behind zero h =
+    after : (i : ℕ) → i < 3 → get_or (closed places end width) (end + i) 0 ≡ width
+    after zero h =
         let same : end + zero ≡ end = omega arith in
         let second : end ≢ end + 1 = omega arith in
         let third : end ≢ end + 2 = omega arith in
@@ -181,13 +176,13 @@ are_closed places end width some short room within up below = record {
         ∙ get_or-set_other (set (set places end width) (end + 1) width) (end + 2) end width 0 third
         ∙ get_or-set_other (set places end width) (end + 1) end width 0 second
         ∙ get_or-set_same places end width 0 (omega arith)
-    behind (suc zero) h =
+    after (suc zero) h =
         let third : end + 1 ≢ end + 2 = omega arith in
         get_or-set_other (set (set places end width) (end + 1) width) (end + 2) (end + 1) width 0 third
         ∙ get_or-set_same (set places end width) (end + 1) width 0 (omega (arith, length-set places end width))
-    behind (suc (suc zero)) h =
+    after (suc (suc zero)) h =
         get_or-set_same (set (set places end width) (end + 1) width) (end + 2) width 0 (omega (arith, len_two))
-    behind (suc (suc (suc i))) h = absurd (omega arith)
+    after (suc (suc (suc i))) h = absurd (omega arith)
 
 pub pels_closed : (places : List ℕ) (end width : ℕ) → pels_by width (take end (closed places end width)) ≡ pels_by width (take end places)
 pels_closed places end width =

@@ -11,10 +11,10 @@ use Rattle.std.proofs.lemmas.List.{get_or-take, length-take-le, get_or_default, 
 use Rattle.fax_bits.specs.declared.Colour.{Colour}
 use Rattle.fax_bits.specs.declared.Colour.TheVariants.{White, Black}
 use Rattle.fax_rows.specs.Rows.{pel, is_changing, is_right_of, next_change}
-use Rattle.fax_rows.specs.code.Turns.{turned, pels_by, alternate, ArePlaces, IsBehind, IsFrom}
+use Rattle.fax_rows.specs.code.Turns.{turned, pels_by, alternate, ArePlaces, ArePlacesUpTo, IsFrom}
 use Rattle.fax_rows.proofs.ChangeLemmas.{still_left, both}
 use Rattle.fax_rows.proofs.PlaceLemmas.{next_change_at}
-use Rattle.fax_rows.proofs.TurnLemmas.{length-pels_by, pel-pels_by, at_least, below_later, pel_behind}
+use Rattle.fax_rows.proofs.TurnLemmas.{length-pels_by, pel-pels_by, at_least, below_later, pel_after}
 use Rattle.fax_rows.proofs.TurnLemmas.{changing_at, unchanging}
 
 -- after the first place alone all is white
@@ -57,7 +57,7 @@ pub record IsNext (row : List Colour) (from : Option ℕ) (r : ℕ) : Type 0 whe
 module _ (places : List ℕ) (end width : ℕ) (all : ArePlaces places end width) where
   -- after the changes stands the width
   pub at_end : get_or places end 0 ≡ width
-  at_end = subst (λ m. get_or places m 0 ≡ width) same (all.behind 0 (omega arith))
+  at_end = subst (λ m. get_or places m 0 ≡ width) same (all.after 0 (omega arith))
     where
       same : end + 0 ≡ end
       same = omega arith
@@ -145,15 +145,6 @@ module _ (places : List ℕ) (end width : ℕ) (all : ArePlaces places end width
       right : get_or places k 0 < length (pels_by width (take end places)) → is_right_of from (get_or places k 0) ≡ true
       right h = right_of from k at (less h)
 
-  pub next_place : (row : List Colour) → pels_by width (take end places) ≡ row → (from : Option ℕ) (k r : ℕ) → IsFrom places end from k
-      → r ≡ get_or places k r → IsNext row from r
-  next_place row is from k r at read =
-      let same = read_place places k r (omega (arith, all.room, all.ascending.within, (at_from from k at).1, in_room)) read in
-      subst (λ x. IsNext x from r) is (subst (λ p. IsNext (pels_by width (take end places)) from p) (sym same) (next_here from k at))
-    where
-      in_room : end < length places
-      in_room = omega (arith, all.room, end_within)
-
   -- the changing elements among n places from a on are those after k places
   abbrev AreChangesFrom : ℕ → ℕ → ℕ → Type 0
   AreChangesFrom a n k =
@@ -163,7 +154,7 @@ module _ (places : List ℕ) (end width : ℕ) (all : ArePlaces places end width
   -- no change stands at a
   goes_on : (a n k : ℕ) → AreChangesFrom (a + 1) n k → a < width → (k < end → a < get_or places k 0) → AreChangesFrom a (suc n) k
   goes_on a n k more inside before some within next last =
-      let at : IsBehind places end a k = record { some = some; within = within; left = left last; right = before } in
+      let at : ArePlacesUpTo places end a k = record { some = some; within = within; left = left last; right = before } in
       rw (unchanging places end all.ascending width a k at last inside)
       (more some within (λ h. omega (arith, before h)) (later last))
     where
@@ -180,7 +171,7 @@ module _ (places : List ℕ) (end width : ℕ) (all : ArePlaces places end width
   stops a n k more inside short is some within next last =
       let in_front : k < length (take end places) = omega (arith, length-take-le end places all.ascending.within) in
       rw (changing_at places end all.ascending width a k some short is inside)
-      (ap (λ xs. a ∷ xs) (more (omega arith) (omega arith) after (inr behind))
+      (ap (λ xs. a ∷ xs) (more (omega arith) (omega arith) after (inr left_of_a))
       ∙ ap (λ x. x ∷ drop (suc k) (take end places)) (sym (get_or-take end places k 0 short ∙ is))
       ∙ sym (drop-cons (take end places) k 0 in_front))
     where
@@ -190,8 +181,8 @@ module _ (places : List ℕ) (end width : ℕ) (all : ArePlaces places end width
       same : k ≡ suc k - 1
       same = omega arith
 
-      behind : get_or places (suc k - 1) 0 < a + 1
-      behind = subst (λ m. get_or places m 0 < a + 1) same (omega arith)
+      left_of_a : get_or places (suc k - 1) 0 < a + 1
+      left_of_a = subst (λ m. get_or places m 0 < a + 1) same (omega arith)
 
   filter_from : (a n k : ℕ) → a + n ≡ width → AreChangesFrom a n k
   filter_from a zero k sum some within next last =
@@ -228,15 +219,10 @@ module _ (places : List ℕ) (end width : ℕ) (all : ArePlaces places end width
   width_is row is = subst (λ r. width ≡ length r) is (sym (length-pels_by width (take end places)))
 
   -- the colour of the pel at a place, by how many places it lies after
-  pub pel_here : (row : List Colour) → pels_by width (take end places) ≡ row → (i k : ℕ) → i < length row → IsBehind places end i k
+  pub pel_here : (row : List Colour) → pels_by width (take end places) ≡ row → (i k : ℕ) → i < length row → ArePlacesUpTo places end i k
       → pel row i ≡ alternate Black k
   pel_here row is i k inside at =
-      subst (λ r. pel r i ≡ alternate Black k) is (pel_behind places end all.ascending width i k (omega (arith, width_is row is)) at)
-
--- rows of one width by the same places
-pub same_row : (width wide : ℕ) (places : List ℕ) (row : List Colour) → width ≡ wide → pels_by wide places ≡ row
-    → pels_by width places ≡ row
-same_row width wide places row same is = ap (λ n. pels_by n places) same ∙ is
+      subst (λ r. pel r i ≡ alternate Black k) is (pel_after places end all.ascending width i k (omega (arith, width_is row is)) at)
 
 -- the same places elsewhere
 module _ (places other : List ℕ) (end width : ℕ) (all : ArePlaces other end width) (room : length places ≡ width + 4)
@@ -253,7 +239,7 @@ module _ (places other : List ℕ) (end width : ℕ) (all : ArePlaces other end 
       steps = λ i h l. omega (arith, same i (omega arith), same (i + 1) (omega arith), all.ascending.steps i h l);
     };
     below = λ i h l. omega (arith, same i (omega arith), all.below i h l);
-    behind = λ i h. same (end + i) (omega arith) ∙ all.behind i h;
+    after = λ i h. same (end + i) (omega arith) ∙ all.after i h;
   }
 
   pub same_pels : pels_by width (take end places) ≡ pels_by width (take end other)

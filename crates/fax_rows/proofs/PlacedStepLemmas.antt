@@ -32,21 +32,21 @@ use Rattle.fax_rows.proofs.PlacedB1Lemmas.{length-placed_pels}
 pub front_to : (width from to : ℕ) (old new : List ℕ) (colour : Colour) → from ≤ to → to ≤ width
     → ((i : ℕ) → i < to → turned Black new i ≡ turned Black old i) → ((i : ℕ) → from ≤ i → turned Black old i ≡ colour)
     → take to (pels_by width new) ≡ take from (pels_by width old) ++ replicate (to - from) colour
-front_to width from to old new colour order within same behind =
+front_to width from to old new colour order within same after =
     let sum : to ≡ from + (to - from) = omega arith in
     ap (λ n. take n (pels_by width new)) sum
     ∙ painted_front (pels_by width old) (pels_by width new) from (to - from) colour
     (omega (arith, length-pels_by width old)) (length-pels_by width new ∙ sym (length-pels_by width old))
     (λ k h. pel-pels_by width new k (omega arith) ∙ same k (omega arith) ∙ sym (pel-pels_by width old k (omega arith)))
-    (λ k h l. pel-pels_by width new k (omega arith) ∙ same k (omega arith) ∙ behind k h)
+    (λ k h l. pel-pels_by width new k (omega arith) ∙ same k (omega arith) ∙ after k h)
 
 -- the position at a pel up to which the row has a0's colour
 pub coloured : (width : ℕ) (old new : List ℕ) (at : Reached) (to : ℕ) → reached_pel at ≤ to → to ≤ width
     → ((i : ℕ) → i < to → turned Black new i ≡ turned Black old i) → ((i : ℕ) → reached_pel at ≤ i → turned Black old i ≡ at.colour)
     → position_of (record { a0 = Some to; colour = at.colour }) (pels_by width new) ≡ coloured_up_to (position_of at (pels_by width old)) to
-coloured width old new at to order within same behind =
+coloured width old new at to order within same after =
     let position : List Colour → Position = λ pels. record { a0 = Some to; colour = at.colour; pels = pels } in
-    ap position (front_to width (reached_pel at) to old new at.colour order within same behind)
+    ap position (front_to width (reached_pel at) to old new at.colour order within same after)
 
 -- a0 is no less than just before the first pel
 pub from_start : (at : Reached) → negsuc 0 ≤ℤ a0_number (position_of at [])
@@ -79,9 +79,9 @@ number_right at a1 h = by at.a0 h
     by None l = refl
     by (Some a) l = lt-ltb a a1 (omega (arith, ints))
 
-pub right_behind_first : (a0 : Option ℕ) (a1 : ℕ) → is_right_of a0 a1 ≡ true → unwrap_or a0 0 ≤ a1
-right_behind_first None a1 h = omega arith
-right_behind_first (Some a) a1 h = omega (arith, ltb-true a a1 h)
+pub right_after_first : (a0 : Option ℕ) (a1 : ℕ) → is_right_of a0 a1 ≡ true → unwrap_or a0 0 ≤ a1
+right_after_first None a1 h = omega arith
+right_after_first (Some a) a1 h = omega (arith, ltb-true a a1 h)
 
 module _ (reference : PlacedRow) (places : List ℕ) (at : PlacedReached) (so_far : IsReadTo reference places at)
     (unfinished : reached_pel at.reached < reference.width) where
@@ -101,7 +101,7 @@ module _ (reference : PlacedRow) (places : List ℕ) (at : PlacedReached) (so_fa
   pass_step =
       coloured reference.width (take at.end places) (take at.end places) at.reached
       (get_or reference.places.now (at.b1 + 1) 0) b2_order b2_within
-      (λ i h. refl) so_far.behind
+      (λ i h. refl) so_far.after
       ∙ ap (coloured_up_to (placed_position reference.width places at)) (b2_is reference at.reached.a0 at.reached.colour at.b1
       (so_far.b1 unfinished))
 
@@ -121,7 +121,7 @@ module _ (reference : PlacedRow) (places : List ℕ) (at : PlacedReached) (so_fa
     started = λ h. cc;
     ascending = so_far.ascending;
     last = let order = b2_order in omega (arith, so_far.last);
-    behind = λ i h. so_far.behind i (let order = b2_order in omega arith);
+    after = λ i h. so_far.after i (let order = b2_order in omega arith);
     b1 = λ h. b1_passed reference at.reached.a0 at.reached.colour at.b1 (so_far.b1 unfinished) h;
   }
 
@@ -144,7 +144,7 @@ module _ (reference : PlacedRow) (places : List ℕ) (at : PlacedReached) (so_fa
     started = λ h. cc;
     ascending = up;
     last = last;
-    behind = λ i h. turn.right i h ∙ ap other (so_far.behind i (omega arith)) ∙ sym is;
+    after = λ i h. turn.right i h ∙ ap other (so_far.after i (omega arith)) ∙ sym is;
     b1 = λ h. subst (λ c. IsB1At reference (Some a1) c next_b1) (sym is) (b1 h);
   }
 
@@ -154,7 +154,7 @@ module _ (reference : PlacedRow) (places : List ℕ) (at : PlacedReached) (so_fa
       → position_of (record { a0 = Some a1; colour = at.reached.colour }) (pels_by reference.width (take next_end new))
       ≡ coloured_up_to (placed_position reference.width places at) a1
   turned_position new next_end a1 order within turn =
-      coloured reference.width (take at.end places) (take next_end new) at.reached a1 order within turn.left so_far.behind
+      coloured reference.width (take at.end places) (take next_end new) at.reached a1 order within turn.left so_far.after
 
   -- there is room for a place
   pub room_left : at.end + 1 < length places
@@ -171,7 +171,7 @@ module _ (reference : PlacedRow) (places : List ℕ) (at : PlacedReached) (so_fa
     a1_right = number_right at.reached (nat_abs z) (omega (arith, ints, a1_is))
 
     pub a1_ahead : reached_pel at.reached ≤ nat_abs z
-    a1_ahead = right_behind_first at.reached.a0 (nat_abs z) a1_right
+    a1_ahead = right_after_first at.reached.a0 (nat_abs z) a1_right
 
     pub a1_within : nat_abs z ≤ reference.width
     a1_within = omega (arith, ints, a1_is)
@@ -261,12 +261,12 @@ module _ (reference : PlacedRow) (places : List ℕ) (at : PlacedReached) (so_fa
           front_to reference.width (reached_pel at.reached + first) (reached_pel at.reached + first + second) (take middle_end between)
           (take next_end new)
           (other at.reached.colour) (omega arith) within again.left
-          (λ i h. turn.right i h ∙ ap other (so_far.behind i (omega arith)))
+          (λ i h. turn.right i h ∙ ap other (so_far.after i (omega arith)))
           ∙ ap (λ n. take (reached_pel at.reached + first) (pels_by reference.width (take middle_end between)) ++ replicate n
           (other at.reached.colour)) two
           ∙ ap (λ xs. xs ++ replicate second (other at.reached.colour))
           (front_to reference.width (reached_pel at.reached) (reached_pel at.reached + first) (take at.end places) (take middle_end between)
-          at.reached.colour (omega arith) (omega arith) turn.left so_far.behind
+          at.reached.colour (omega arith) (omega arith) turn.left so_far.after
           ∙ ap (λ n. take (reached_pel at.reached) (pels_by reference.width (take at.end places)) ++ replicate n at.reached.colour) one)
 
   pub horizontal_placed : (b mid rest : List Bool) (first second : ℕ) (turned_colour : Colour) (between new : List ℕ)
@@ -313,8 +313,8 @@ module _ (reference : PlacedRow) (places : List ℕ) (at : PlacedReached) (so_fa
     started = λ h. cc;
     ascending = up;
     last = last;
-    behind = λ i h.
-        again.right i h ∙ ap other (turn.right i (omega arith) ∙ ap other (so_far.behind i (omega arith))) ∙ other-other at.reached.colour;
+    after = λ i h.
+        again.right i h ∙ ap other (turn.right i (omega arith) ∙ ap other (so_far.after i (omega arith))) ∙ other-other at.reached.colour;
     b1 = b1;
   }
 
@@ -327,7 +327,7 @@ nothing_read reference places room first = record {
   started = λ h. refl;
   ascending = record { started = omega arith; within = omega arith; first = first; steps = λ i h l. absurd (omega arith) };
   last = omega (arith, first);
-  behind = λ i h. ap (λ ps. turned Black ps i) (take-first places (omega arith) first) ∙ turned-first i;
+  after = λ i h. ap (λ ps. turned Black ps i) (take-first places (omega arith) first) ∙ turned-first i;
   b1 = λ h. record {
     some = omega arith;
     within = omega (arith, reference.placed.ascending.started);

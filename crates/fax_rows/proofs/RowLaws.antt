@@ -11,7 +11,7 @@ use Rattle.fax_bits.specs.Codes.{IsRun}
 use Rattle.fax_bits.specs.Tables.{run_table}
 use Rattle.fax_rows.specs.declared.RowFault.{RowFault}
 use Rattle.fax_rows.specs.Rows.{other, pels_of, AreRuns, IsOneDimensionalRow}
-use Rattle.fax_rows.specs.Faults.{IsRunFault, colour_behind}
+use Rattle.fax_rows.specs.Faults.{IsRunFault, colour_after_runs}
 use Rattle.fax_rows.specs.laws.Rows.{ReadsRowsOneWay}
 use Rattle.fax_rows.proofs.RunLaws.{sum-cons, same_run, run_has_no_fault, same_run_fault, run_or_fault}
 
@@ -32,8 +32,8 @@ record IsEnded (width so_far : ℕ) (runs : List ℕ) : Type 0 where
   reached : so_far + sum runs ≡ width
   ends : (k : ℕ) → k < length runs → so_far + sum (take k runs) ≢ width
 
-ended_behind : (width so_far n : ℕ) (runs : List ℕ) → IsEnded width so_far (n ∷ runs) → IsEnded width (so_far + n) runs
-ended_behind width so_far n runs ended = record {
+ended_after : (width so_far n : ℕ) (runs : List ℕ) → IsEnded width so_far (n ∷ runs) → IsEnded width (so_far + n) runs
+ended_after width so_far n runs ended = record {
   reached = omega (arith, ended.reached, sum-cons n runs);
   ends = λ k h e. ended.ends (suc k) (omega arith) (omega (arith, e, sum-cons n (take k runs)));
 }
@@ -43,10 +43,10 @@ ended_first : (width so_far n : ℕ) (runs : List ℕ) → IsEnded width so_far 
 ended_first width so_far n runs ended at = ended.ends zero (omega arith) (omega (arith, at))
 
 -- a run before them, from within the row
-ends_behind : (width so_far n : ℕ) (runs : List ℕ) → so_far < width → ((k : ℕ) → k < length runs → so_far + n + sum (take k runs) ≢ width)
+ends_after : (width so_far n : ℕ) (runs : List ℕ) → so_far < width → ((k : ℕ) → k < length runs → so_far + n + sum (take k runs) ≢ width)
     → (k : ℕ) → k < length (n ∷ runs) → so_far + sum (take k (n ∷ runs)) ≢ width
-ends_behind width so_far n runs unfinished ends zero h e = omega (arith, e)
-ends_behind width so_far n runs unfinished ends (suc k) h e =
+ends_after width so_far n runs unfinished ends zero h e = omega (arith, e)
+ends_after width so_far n runs unfinished ends (suc k) h e =
     ends k (omega arith) (omega (arith, e, sum-cons n (take k runs)))
 
 -- the runs of a row
@@ -66,7 +66,7 @@ record AreRunsToFault (colour : Colour) (width so_far : ℕ) (b : List Bool) (ru
     (fault : RowFault) : Type 0 where
   coded : AreRuns colour b runs left
   unfinished : so_far + sum runs < width
-  at_run : IsRunFault (colour_behind colour runs) width (so_far + sum runs) left fault
+  at_run : IsRunFault (colour_after_runs colour runs) width (so_far + sum runs) left fault
 
 abbrev AreRunsOrFault : Colour → ℕ → ℕ → List Bool → Type 0
 AreRunsOrFault colour width so_far b =
@@ -84,16 +84,16 @@ module _ (reads : (colour : Colour) → ReadsOneWay (run_table colour)) where
       absurd (ended_first width so_far n runs ended (omega (arith, done.reached)))
   same_runs colour width so_far b c (n ∷ runs) (m ∷ more) rest remaining at first ended second done =
       let run = same_run reads colour b c n m first.0 second.0 at first.1 second.1 in
-      let behind = same_runs (other colour) width (so_far + n) first.0 second.0 runs more rest remaining run.1
-      first.2 (ended_behind width so_far n runs ended) second.2
-      (subst (λ k. IsEnded width (so_far + k) more) (sym run.0) (ended_behind width so_far m more done)) in
-      (cc (run.0, behind.0), behind.1)
+      let after = same_runs (other colour) width (so_far + n) first.0 second.0 runs more rest remaining run.1
+      first.2 (ended_after width so_far n runs ended) second.2
+      (subst (λ k. IsEnded width (so_far + k) more) (sym run.0) (ended_after width so_far m more done)) in
+      (cc (run.0, after.0), after.1)
 
   ended_or_not : (colour : Colour) (width so_far place : ℕ) (b c : List Bool) (runs more : List ℕ) (rest left : List Bool)
       (fault : RowFault) → b ≡ c
       → AreRuns colour b runs rest → IsEnded width so_far runs
       → AreRuns colour c more left → place ≡ so_far + sum more → place < width
-      → IsRunFault (colour_behind colour more) width place left fault → ⊥
+      → IsRunFault (colour_after_runs colour more) width place left fault → ⊥
   ended_or_not colour width so_far place b c [] [] rest left fault at first ended second placed unfinished at_run =
       omega (arith, ended.reached)
   ended_or_not colour width so_far place b c [] (m ∷ more) rest left fault at first ended second placed unfinished at_run =
@@ -104,32 +104,32 @@ module _ (reads : (colour : Colour) → ReadsOneWay (run_table colour)) where
   ended_or_not colour width so_far place b c (n ∷ runs) (m ∷ more) rest left fault at first ended second placed unfinished at_run =
       let run = same_run reads colour b c n m first.0 second.0 at first.1 second.1 in
       ended_or_not (other colour) width (so_far + n) place first.0 second.0 runs more rest left fault run.1
-      first.2 (ended_behind width so_far n runs ended) second.2 (omega (arith, sum-cons m more, run.0)) unfinished at_run
+      first.2 (ended_after width so_far n runs ended) second.2 (omega (arith, sum-cons m more, run.0)) unfinished at_run
 
-  same_fault : (colour : Colour) (width so_far place spot : ℕ) (b c : List Bool) (runs more : List ℕ) (left behind : List Bool)
+  same_fault : (colour : Colour) (width so_far place spot : ℕ) (b c : List Bool) (runs more : List ℕ) (left after : List Bool)
       (fault another : RowFault)
       → b ≡ c
       → AreRuns colour b runs left → place ≡ so_far + sum runs → place < width
-      → IsRunFault (colour_behind colour runs) width place left fault
-      → AreRuns colour c more behind → spot ≡ so_far + sum more → spot < width
-      → IsRunFault (colour_behind colour more) width spot behind another
+      → IsRunFault (colour_after_runs colour runs) width place left fault
+      → AreRuns colour c more after → spot ≡ so_far + sum more → spot < width
+      → IsRunFault (colour_after_runs colour more) width spot after another
       → fault ≡ another
-  same_fault colour width so_far place spot b c [] [] left behind fault another at first placed within here second spotted inside there =
+  same_fault colour width so_far place spot b c [] [] left after fault another at first placed within here second spotted inside there =
       let same : spot ≡ place = omega arith in
-      same_run_fault reads colour width place left behind fault another (sym first ∙ at ∙ second) here
-      (subst (λ n. IsRunFault colour width n behind another) same there)
-  same_fault colour width so_far place spot b c [] (m ∷ more) left behind fault another at first placed within here second spotted inside
+      same_run_fault reads colour width place left after fault another (sym first ∙ at ∙ second) here
+      (subst (λ n. IsRunFault colour width n after another) same there)
+  same_fault colour width so_far place spot b c [] (m ∷ more) left after fault another at first placed within here second spotted inside
       there =
       absurd (run_has_no_fault reads colour width place c left m second.0 fault (sym at ∙ first) second.1
       (omega (arith, sum-cons m more)) here)
-  same_fault colour width so_far place spot b c (n ∷ runs) [] left behind fault another at first placed within here second spotted inside
+  same_fault colour width so_far place spot b c (n ∷ runs) [] left after fault another at first placed within here second spotted inside
       there =
-      absurd (run_has_no_fault reads colour width spot b behind n first.0 another (at ∙ second) first.1
+      absurd (run_has_no_fault reads colour width spot b after n first.0 another (at ∙ second) first.1
       (omega (arith, sum-cons n runs)) there)
-  same_fault colour width so_far place spot b c (n ∷ runs) (m ∷ more) left behind fault another at first placed within here second spotted
+  same_fault colour width so_far place spot b c (n ∷ runs) (m ∷ more) left after fault another at first placed within here second spotted
       inside there =
       let run = same_run reads colour b c n m first.0 second.0 at first.1 second.1 in
-      same_fault (other colour) width (so_far + n) place spot first.0 second.0 runs more left behind fault another run.1
+      same_fault (other colour) width (so_far + n) place spot first.0 second.0 runs more left after fault another run.1
       first.2 (omega (arith, sum-cons n runs)) within here second.2 (omega (arith, sum-cons m more, run.0)) inside there
 
   find_runs : (fuel : ℕ) (colour : Colour) (width so_far : ℕ) (b : List Bool) → length b < fuel → so_far ≤ width
@@ -146,7 +146,7 @@ module _ (reads : (colour : Colour) → ReadsOneWay (run_table colour)) where
           },
         )
         | inr unfinished ↦ elim (run_or_fault reads colour width so_far b within) [
-          | inl run ↦ runs_behind fuel colour width so_far b run.0 run.1 run.2 unfinished
+          | inl run ↦ runs_after fuel colour width so_far b run.0 run.1 run.2 unfinished
               (find_runs fuel (other colour) width (so_far + run.0) run.1 (omega (arith, run.4)) run.3)
           | inr fault ↦
               let none : so_far ≡ so_far + sum [] = omega arith in
@@ -163,10 +163,10 @@ module _ (reads : (colour : Colour) → ReadsOneWay (run_table colour)) where
         ]
       ]
     where
-      runs_behind : (fuel : ℕ) (colour : Colour) (width so_far : ℕ) (b : List Bool) (n : ℕ) (rest : List Bool) → IsRun colour b n rest
+      runs_after : (fuel : ℕ) (colour : Colour) (width so_far : ℕ) (b : List Bool) (n : ℕ) (rest : List Bool) → IsRun colour b n rest
           → so_far < width
           → AreRunsOrFault (other colour) width (so_far + n) rest → AreRunsOrFault colour width so_far b
-      runs_behind fuel colour width so_far b n rest run unfinished (inl ended) =
+      runs_after fuel colour width so_far b n rest run unfinished (inl ended) =
           inl (
             n ∷ ended.0,
             ended.1,
@@ -174,11 +174,11 @@ module _ (reads : (colour : Colour) → ReadsOneWay (run_table colour)) where
               coded = (rest, run, ended.2.coded);
               ended = record {
                 reached = omega (arith, ended.2.ended.reached, sum-cons n ended.0);
-                ends = ends_behind width so_far n ended.0 unfinished ended.2.ended.ends;
+                ends = ends_after width so_far n ended.0 unfinished ended.2.ended.ends;
               };
             },
           )
-      runs_behind fuel colour width so_far b n rest run unfinished (inr fault) =
+      runs_after fuel colour width so_far b n rest run unfinished (inr fault) =
           let same : so_far + n + sum fault.1 ≡ so_far + sum (n ∷ fault.1) = omega (arith, sum-cons n fault.1) in
           inr (
             fault.0,
@@ -187,7 +187,7 @@ module _ (reads : (colour : Colour) → ReadsOneWay (run_table colour)) where
             record {
               coded = (rest, run, fault.3.coded);
               unfinished = omega (arith, same, fault.3.unfinished);
-              at_run = subst (λ k. IsRunFault (colour_behind (other colour) fault.1) width k fault.2 fault.0) same fault.3.at_run;
+              at_run = subst (λ k. IsRunFault (colour_after_runs (other colour) fault.1) width k fault.2 fault.0) same fault.3.at_run;
             },
           )
 
@@ -219,7 +219,7 @@ module _ (reads : (colour : Colour) → ReadsOneWay (run_table colour)) where
                   left = fault.2;
                   coded = fault.3.coded;
                   unfinished = omega (arith, fault.3.unfinished);
-                  at_run = subst (λ k. IsRunFault (colour_behind White fault.1) width k fault.2 fault.0) same fault.3.at_run;
+                  at_run = subst (λ k. IsRunFault (colour_after_runs White fault.1) width k fault.2 fault.0) same fault.3.at_run;
                 },
               )
         ];

@@ -11,25 +11,25 @@ use Rattle.fax_bits.specs.declared.Colour.{Colour}
 use Rattle.fax_bits.specs.declared.Colour.TheVariants.{White}
 use Rattle.fax_bits.specs.Codes.{IsRun}
 use Rattle.fax_rows.specs.Rows.{other, pels_of, AreRuns, IsOneDimensionalRow}
-use Rattle.fax_rows.specs.Faults.{colour_behind}
+use Rattle.fax_rows.specs.Faults.{colour_after_runs}
 use Rattle.fax_rows.proofs.RowLaws.{length-pels_of}
 use Rattle.fax_rows.proofs.RunLemmas.{sum-push}
 
 AreRuns-push : (c : Colour) (b : List Bool) (runs : List ℕ) (n : ℕ) (mid rest : List Bool)
-    → AreRuns c b runs mid → IsRun (colour_behind c runs) mid n rest → AreRuns c b (runs ++ n ∷ []) rest
+    → AreRuns c b runs mid → IsRun (colour_after_runs c runs) mid n rest → AreRuns c b (runs ++ n ∷ []) rest
 AreRuns-push c b [] n mid rest coded run = (rest, subst (λ x. IsRun c x n rest) (sym coded) run, refl)
 AreRuns-push c b (m ∷ runs) n mid rest coded run =
     (coded.0, coded.1, AreRuns-push (other c) coded.0 runs n mid rest coded.2 run)
 
-pub colour_behind-push : (c : Colour) (runs : List ℕ) (n : ℕ) → colour_behind c (runs ++ n ∷ []) ≡ other (colour_behind c runs)
-colour_behind-push c [] n = refl
-colour_behind-push c (m ∷ runs) n = colour_behind-push (other c) runs n
+pub colour_after_runs-push : (c : Colour) (runs : List ℕ) (n : ℕ) → colour_after_runs c (runs ++ n ∷ []) ≡ other (colour_after_runs c runs)
+colour_after_runs-push c [] n = refl
+colour_after_runs-push c (m ∷ runs) n = colour_after_runs-push (other c) runs n
 
-pub pels_of-push : (c : Colour) (runs : List ℕ) (n : ℕ) → pels_of c (runs ++ n ∷ []) ≡ pels_of c runs ++ replicate n (colour_behind c runs)
+pub pels_of-push : (c : Colour) (runs : List ℕ) (n : ℕ) → pels_of c (runs ++ n ∷ []) ≡ pels_of c runs ++ replicate n (colour_after_runs c runs)
 pels_of-push c [] n = append-nil (replicate n c)
 pels_of-push c (m ∷ runs) n =
     ap (λ ys. replicate m c ++ ys) (pels_of-push (other c) runs n)
-    ∙ sym (append_assoc (replicate m c) (pels_of (other c) runs) (replicate n (colour_behind (other c) runs)))
+    ∙ sym (append_assoc (replicate m c) (pels_of (other c) runs) (replicate n (colour_after_runs (other c) runs)))
 
 same_pels : (xs ys : List Colour) → length xs ≡ length ys → ((k : ℕ) → k < length xs → get_or xs k White ≡ get_or ys k White) → xs ≡ ys
 same_pels [] [] len each = refl
@@ -45,7 +45,7 @@ pub record IsRowSoFar (width : ℕ) (b : List Bool) (total : ℕ) (colour : Colo
   pub runs : List ℕ
   pub coded : AreRuns White b runs rest
   pub sum_is : total ≡ sum runs
-  pub colour_is : colour ≡ colour_behind White runs
+  pub colour_is : colour ≡ colour_after_runs White runs
   pub pels : (k : ℕ) → k < total → get_or row k White ≡ get_or (pels_of White runs) k White
   pub below : (k : ℕ) → k < length runs → sum (take k runs) < width
 
@@ -81,7 +81,7 @@ row_goes_on width b total n colour old new mid rest so_far unfinished run before
   runs = so_far.runs ++ n ∷ [];
   coded = AreRuns-push White b so_far.runs n mid rest so_far.coded (subst (λ c. IsRun c mid n rest) so_far.colour_is run);
   sum_is = omega (arith, sum-push so_far.runs n, so_far.sum_is);
-  colour_is = ap other so_far.colour_is ∙ sym (colour_behind-push White so_far.runs n);
+  colour_is = ap other so_far.colour_is ∙ sym (colour_after_runs-push White so_far.runs n);
   pels = λ k h. pel_at k h (cases_lt k total);
   below = below_push width so_far.runs n so_far.below (omega (arith, so_far.sum_is));
 }
@@ -94,14 +94,14 @@ row_goes_on width b total n colour old new mid rest so_far unfinished run before
     pel_at k h (inl less) =
         let short : k < length (pels_of White so_far.runs) = omega (arith, len) in
         before k less ∙ so_far.pels k less
-        ∙ sym (get_or-append (pels_of White so_far.runs) (replicate n (colour_behind White so_far.runs)) White k short)
+        ∙ sym (get_or-append (pels_of White so_far.runs) (replicate n (colour_after_runs White so_far.runs)) White k short)
         ∙ ap (λ xs. get_or xs k White) (sym (pels_of-push White so_far.runs n))
     pel_at k h (inr more) =
         let long : length (pels_of White so_far.runs) ≤ k = omega (arith, len) in
         let short : k - length (pels_of White so_far.runs) < n = omega (arith, len) in
         painted k more h ∙ so_far.colour_is
-        ∙ sym (get_or-replicate n (k - length (pels_of White so_far.runs)) (colour_behind White so_far.runs) White short)
-        ∙ sym (get_or-append_right (pels_of White so_far.runs) (replicate n (colour_behind White so_far.runs)) k White long)
+        ∙ sym (get_or-replicate n (k - length (pels_of White so_far.runs)) (colour_after_runs White so_far.runs) White short)
+        ∙ sym (get_or-append_right (pels_of White so_far.runs) (replicate n (colour_after_runs White so_far.runs)) k White long)
         ∙ ap (λ xs. get_or xs k White) (sym (pels_of-push White so_far.runs n))
 
 pub row_done : (width : ℕ) (b : List Bool) (total : ℕ) (colour : Colour) (row : List Colour) (rest : List Bool)

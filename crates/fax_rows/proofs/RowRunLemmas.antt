@@ -6,7 +6,7 @@ use Rattle.std.proofs.lemmas.List.{take_more, drop_all, get_or-take, length-take
 use Rattle.fax_bits.specs.declared.Colour.{Colour}
 use Rattle.fax_bits.specs.declared.Colour.TheVariants.{White, Black}
 use Rattle.std.specs.List.{filter, range_with_len}
-use Rattle.fax_rows.specs.Rows.{other, same_colour, pel, pel_before, is_changing, runs_behind}
+use Rattle.fax_rows.specs.Rows.{other, same_colour, pel, pel_before, is_changing, runs_after}
 use Rattle.fax_rows.specs.Rows.{runs_of}
 use Rattle.fax_rows.specs.code.LongestRuns.{gaps, AreAheadOf}
 use Rattle.fax_rows.specs.code.Turns.{ArePlaces}
@@ -14,27 +14,27 @@ use Rattle.std.proofs.lemmas.Bool.{cases_lt}
 use Rattle.fax_rows.proofs.PlacedRowLemmas.{at_end, end_within}
 
 -- after the last pel stands the run so far
-pub runs_behind-nil : (colour : Colour) (n : ℕ) → runs_behind colour n [] ≡ n ∷ []
-unfolding runs_behind
-runs_behind-nil colour n = refl
+pub runs_after-nil : (colour : Colour) (n : ℕ) → runs_after colour n [] ≡ n ∷ []
+unfolding runs_after
+runs_after-nil colour n = refl
 
 -- a pel of the run's colour
-runs_behind-same : (colour first : Colour) (n : ℕ) (pels : List Colour) → first ≡ colour
-    → runs_behind colour n (first ∷ pels) ≡ runs_behind colour (n + 1) pels
-unfolding runs_behind
-runs_behind-same White White n pels same = refl
-runs_behind-same Black Black n pels same = refl
-runs_behind-same White Black n pels same = cc
-runs_behind-same Black White n pels same = cc
+runs_after-same : (colour first : Colour) (n : ℕ) (pels : List Colour) → first ≡ colour
+    → runs_after colour n (first ∷ pels) ≡ runs_after colour (n + 1) pels
+unfolding runs_after
+runs_after-same White White n pels same = refl
+runs_after-same Black Black n pels same = refl
+runs_after-same White Black n pels same = cc
+runs_after-same Black White n pels same = cc
 
 -- a pel of the other colour
-runs_behind-other : (colour first : Colour) (n : ℕ) (pels : List Colour) → first ≢ colour
-    → runs_behind colour n (first ∷ pels) ≡ n ∷ runs_behind first 1 pels
-unfolding runs_behind
-runs_behind-other White Black n pels other = refl
-runs_behind-other Black White n pels other = refl
-runs_behind-other White White n pels other = absurd (other refl)
-runs_behind-other Black Black n pels other = absurd (other refl)
+runs_after-other : (colour first : Colour) (n : ℕ) (pels : List Colour) → first ≢ colour
+    → runs_after colour n (first ∷ pels) ≡ n ∷ runs_after first 1 pels
+unfolding runs_after
+runs_after-other White Black n pels other = refl
+runs_after-other Black White n pels other = refl
+runs_after-other White White n pels other = absurd (other refl)
+runs_after-other Black Black n pels other = absurd (other refl)
 
 -- tests of two colours, as the program reads them
 pub not_true : (b : Bool) → not b ≡ true → b ≡ false
@@ -43,19 +43,19 @@ not_true false h = refl
 
 -- the pel at place i is of the run's colour
 pub goes_on : (colour first : Colour) (n i : ℕ) (pels : List Colour) → i < length pels → get_or pels i White ≡ first → first ≡ colour
-    → runs_behind colour n (drop i pels) ≡ runs_behind colour (n + 1) (drop (i + 1) pels)
+    → runs_after colour n (drop i pels) ≡ runs_after colour (n + 1) (drop (i + 1) pels)
 goes_on colour first n i pels within at same =
-    ap (λ xs. runs_behind colour n xs) (drop-cons pels i White within)
-    ∙ runs_behind-same colour (get_or pels i White) n (drop (suc i) pels) (at ∙ same)
-    ∙ ap (λ j. runs_behind colour (n + 1) (drop j pels)) (suc-eq-add-one i)
+    ap (λ xs. runs_after colour n xs) (drop-cons pels i White within)
+    ∙ runs_after-same colour (get_or pels i White) n (drop (suc i) pels) (at ∙ same)
+    ∙ ap (λ j. runs_after colour (n + 1) (drop j pels)) (suc-eq-add-one i)
 
 -- it is of the other colour, so that a run ends before it
 pub turns : (colour first : Colour) (n i : ℕ) (pels : List Colour) → i < length pels → get_or pels i White ≡ first → first ≢ colour
-    → runs_behind colour n (drop i pels) ≡ n ∷ runs_behind first 1 (drop (i + 1) pels)
+    → runs_after colour n (drop i pels) ≡ n ∷ runs_after first 1 (drop (i + 1) pels)
 turns colour first n i pels within at other =
-    ap (λ xs. runs_behind colour n xs) (drop-cons pels i White within ∙ ap (λ x. x ∷ drop (suc i) pels) at)
-    ∙ runs_behind-other colour first n (drop (suc i) pels) other
-    ∙ ap (λ j. n ∷ runs_behind first 1 (drop j pels)) (suc-eq-add-one i)
+    ap (λ xs. runs_after colour n xs) (drop-cons pels i White within ∙ ap (λ x. x ∷ drop (suc i) pels) at)
+    ∙ runs_after-other colour first n (drop (suc i) pels) other
+    ∙ ap (λ j. n ∷ runs_after first 1 (drop j pels)) (suc-eq-add-one i)
 
 -- the colour of a run goes on at a pel that is no changing element, and turns at one that is
 changes_not : (a b : Colour) → not (same_colour a b) ≡ false → a ≡ b
@@ -87,7 +87,7 @@ gaps_to-gaps from (next ∷ changes) width = ap (λ runs. (next - from) ∷ runs
 -- the gaps between the changing elements after place i
 abbrev GapsFrom : List Colour → ℕ → ℕ → ℕ → Type 0
 GapsFrom row n i from =
-    gaps_to from (filter (is_changing row) (range_with_len i n)) (length row) ≡ runs_behind (pel_before row i) (i - from) (drop i row)
+    gaps_to from (filter (is_changing row) (range_with_len i n)) (length row) ≡ runs_after (pel_before row i) (i - from) (drop i row)
 
 -- one place more
 gaps_more : (row : List Colour) (n i from : ℕ) (b : Bool) → is_changing row i ≡ b → i < length row → from ≤ i
@@ -97,15 +97,15 @@ gaps_more row n i from true is inside order more =
     let one : i + 1 - i ≡ 1 = omega arith in
     rw is
     (ap (λ runs. (i - from) ∷ runs)
-    (more i (omega arith) ∙ ap (λ c. runs_behind c (i + 1 - i) (drop (i + 1) row)) (before_next row i)
-    ∙ ap (λ k. runs_behind (pel row i) k (drop (i + 1) row)) one)
+    (more i (omega arith) ∙ ap (λ c. runs_after c (i + 1 - i) (drop (i + 1) row)) (before_next row i)
+    ∙ ap (λ k. runs_after (pel row i) k (drop (i + 1) row)) one)
     ∙ sym (turns (pel_before row i) (pel row i) (i - from) i row inside refl (changes_so (pel row i) (pel_before row i) is)))
 gaps_more row n i from false is inside order more =
     let count : i + 1 - from ≡ i - from + 1 = omega arith in
     let same : pel row i ≡ pel_before row i = changes_not (pel row i) (pel_before row i) is in
     rw is
-    (more from (omega arith) ∙ ap (λ c. runs_behind c (i + 1 - from) (drop (i + 1) row)) (before_next row i ∙ same)
-    ∙ ap (λ k. runs_behind (pel_before row i) k (drop (i + 1) row)) count
+    (more from (omega arith) ∙ ap (λ c. runs_after c (i + 1 - from) (drop (i + 1) row)) (before_next row i ∙ same)
+    ∙ ap (λ k. runs_after (pel_before row i) k (drop (i + 1) row)) count
     ∙ sym (goes_on (pel_before row i) (pel row i) (i - from) i row inside refl same))
 
 -- they are the runs that are left
@@ -114,7 +114,7 @@ unfolding gaps_to
 gaps_from row zero i from order all =
     let end : i ≡ length row = omega arith in
     ap (λ k. (k - from) ∷ []) (sym end)
-    ∙ sym (ap (runs_behind (pel_before row i) (i - from)) (drop_all i row (omega arith)) ∙ runs_behind-nil (pel_before row i) (i - from))
+    ∙ sym (ap (runs_after (pel_before row i) (i - from)) (drop_all i row (omega arith)) ∙ runs_after-nil (pel_before row i) (i - from))
 gaps_from row (suc n) i from order all =
     gaps_more row n i from (is_changing row i) refl (omega arith) order
     (λ next near. gaps_from row n (i + 1) next near (omega arith))
@@ -176,20 +176,20 @@ module _ (places : List ℕ) (end width : ℕ) (all : ArePlaces places end width
     right = λ i h. omega arith;
     left = λ i h.
         let inside : i < end = omega (arith, few_ends) in
-        omega (arith, end_at i (i + 1) refl inside, all.short, not_behind (i + 1) (omega arith) (omega arith));
+        omega (arith, end_at i (i + 1) refl inside, all.short, not_after (i + 1) (omega arith) (omega arith));
     steps = λ i h.
         let inside : i + 1 < end = omega (arith, few_ends) in
         let step : get_or places (i + 1) 0 ≤ get_or places (i + 1 + 1) 0 = elim (cases_lt (i + 1 + 1) end) [
           | inl less ↦ omega (arith, all.ascending.steps (i + 1) (omega arith) less)
           | inr last ↦
               let same : i + 1 + 1 ≡ end = omega arith in
-              omega (arith, not_behind (i + 1) (omega arith) (omega arith), ap (λ k. get_or places k 0) same, at_end places end width all)
+              omega (arith, not_after (i + 1) (omega arith) (omega arith), ap (λ k. get_or places k 0) same, at_end places end width all)
         ] in
         omega (arith, end_at i (i + 1) refl (omega arith), end_at (i + 1) (i + 1 + 1) refl inside, step);
   }
     where
-      not_behind : (k : ℕ) → 0 < k → k ≤ end → get_or places k 0 ≤ width
-      not_behind k some within =
+      not_after : (k : ℕ) → 0 < k → k ≤ end → get_or places k 0 ≤ width
+      not_after k some within =
           elim (cases_lt k end) [
             | inl less ↦ omega (arith, all.below k some less)
             | inr last ↦ let same : k ≡ end = omega arith in omega (arith, ap (λ j. get_or places j 0) same, at_end places end width all)

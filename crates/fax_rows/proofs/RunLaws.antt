@@ -111,37 +111,37 @@ module _ (reads : (colour : Colour) → ReadsOneWay (run_table colour)) where
       same_code_fault width so_far some.0 fault another some.3
       (fault_of_taken colour width so_far b c some.0 some.1 another at some.2 second)
 
-  same_fault_behind : (colour : Colour) (width from place spot : ℕ) (b c left behind : List Bool) (fault another : RowFault)
+  same_fault_after : (colour : Colour) (width from place spot : ℕ) (b c left after : List Bool) (fault another : RowFault)
       (ms ns : List ℕ) → b ≡ c
       → Spells (run_table colour) b (map MakeUp ms) left → place ≡ from + sum ms → place ≤ width → IsAtRunCode colour width place left fault
-      → Spells (run_table colour) c (map MakeUp ns) behind → spot ≡ from + sum ns → spot ≤ width
-      → IsAtRunCode colour width spot behind another
+      → Spells (run_table colour) c (map MakeUp ns) after → spot ≡ from + sum ns → spot ≤ width
+      → IsAtRunCode colour width spot after another
       → fault ≡ another
-  same_fault_behind colour width from place spot b c left behind fault another [] [] at first placed within here second spotted inside
+  same_fault_after colour width from place spot b c left after fault another [] [] at first placed within here second spotted inside
       there =
       let same : spot ≡ place = omega arith in
-      same_fault_at_code colour width place left behind fault another (sym first ∙ at ∙ second) here
-      (subst (λ n. IsAtRunCode colour width n behind another) same there)
-  same_fault_behind colour width from place spot b c left behind fault another [] (n ∷ ns) at first placed within here second spotted inside
+      same_fault_at_code colour width place left after fault another (sym first ∙ at ∙ second) here
+      (subst (λ n. IsAtRunCode colour width n after another) same there)
+  same_fault_after colour width from place spot b c left after fault another [] (n ∷ ns) at first placed within here second spotted inside
       there =
       let long = fault_of_taken colour width place c left (MakeUp n) second.0 fault (sym at ∙ first) second.1 here in
       absurd (omega (arith, long.0, sum-cons n ns))
-  same_fault_behind colour width from place spot b c left behind fault another (m ∷ ms) [] at first placed within here second spotted inside
+  same_fault_after colour width from place spot b c left after fault another (m ∷ ms) [] at first placed within here second spotted inside
       there =
-      let long = fault_of_taken colour width spot b behind (MakeUp m) first.0 another (at ∙ second) first.1 there in
+      let long = fault_of_taken colour width spot b after (MakeUp m) first.0 another (at ∙ second) first.1 there in
       absurd (omega (arith, long.0, sum-cons m ms))
-  same_fault_behind colour width from place spot b c left behind fault another (m ∷ ms) (n ∷ ns) at first placed within here second spotted
+  same_fault_after colour width from place spot b c left after fault another (m ∷ ms) (n ∷ ns) at first placed within here second spotted
       inside there =
       let same = took_same colour b c (MakeUp m) (MakeUp n) first.0 second.0 at first.1 second.1 in
       let pels : m ≡ n = cc (same.0) in
-      same_fault_behind colour width (from + m) place spot first.0 second.0 left behind fault another ms ns same.1
+      same_fault_after colour width (from + m) place spot first.0 second.0 left after fault another ms ns same.1
       first.2 (omega (arith, sum-cons m ms)) within here second.2 (omega (arith, sum-cons n ns)) inside there
 
   -- a run has at most one fault
   pub same_run_fault : (colour : Colour) (width from : ℕ) (b c : List Bool) (fault another : RowFault) → b ≡ c
       → IsRunFault colour width from b fault → IsRunFault colour width from c another → fault ≡ another
   same_run_fault colour width from b c fault another at first second =
-      same_fault_behind colour width from (from + sum first.make_up) (from + sum second.make_up) b c first.left second.left fault another
+      same_fault_after colour width from (from + sum first.make_up) (from + sum second.make_up) b c first.left second.left fault another
       first.make_up second.make_up at first.spelled refl first.within first.at_code second.spelled refl second.within second.at_code
 
   run_by_code : (colour : Colour) (width from : ℕ) (b : List Bool) (code : RunCode) (rest : List Bool) → from ≤ width

@@ -1,5 +1,8 @@
 -- Runs, code by code.
-use Rattle.std.proofs.Common.{◌≡◌, ℕ, ◌+◌, List, [], ◌∷◌, ◌++◌, map, Bool, refl, sym, subst, arith}
+use Rattle.std.proofs.Common.{◌≡◌, ℕ, ◌+◌, ◌-◌, List, [], ◌∷◌, ◌++◌, map, length, drop, Bool, refl, ap, sym, ◌∙◌, subst, arith}
+use Rattle.std.proofs.Common.{append_assoc, length-append}
+use Rattle.std.proofs.Math.Seq.{drop-append_seam}
+use Rattle.fax_bits.specs.views.Source.{Source, KeepsEnd}
 use Rattle.std.specs.Prelude.{sum}
 use Rattle.std.proofs.lemmas.Grind.{common_steps}
 use Rattle.std.proofs.lemmas.List.{map-append}
@@ -7,7 +10,7 @@ use Rattle.fax_bits.specs.declared.codes.CodeEntry.{CodeEntry}
 use Rattle.fax_bits.specs.declared.Colour.{Colour}
 use Rattle.fax_bits.specs.declared.runs.RunCode.TheVariants.{Terminating, MakeUp}
 use Rattle.fax_bits.specs.Tables.{run_table}
-use Rattle.fax_bits.specs.Codes.{Takes, Spells, IsRun}
+use Rattle.fax_bits.specs.Codes.{Takes, Spells, IsRun, bits_of}
 
 -- make-up codes of n pels so far
 pub record IsPartialRun (colour : Colour) (b : List Bool) (n : ℕ) (rest : List Bool) : Type 0 where
@@ -40,3 +43,27 @@ run_done colour b n m mid rest part taken = record {
   spelled = Spells-push (run_table colour) b (map MakeUp part.make_up) (Terminating m) mid rest part.spelled taken;
   length = omega (arith, part.sum_is);
 }
+
+-- codes stand before what is left after them
+pub spells_after : {M : Type 0} (table : List (CodeEntry M)) (b : List Bool) (ms : List M) (rest : List Bool)
+    → Spells table b ms rest → (front : List Bool) × (b ≡ front ++ rest)
+spells_after table b [] rest spelled = ([], spelled)
+spells_after table b (m ∷ ms) rest spelled =
+    let more = spells_after table spelled.0 ms rest spelled.2 in
+    let code = bits_of spelled.1.entry in
+    (code ++ more.0, spelled.1.spelled ∙ ap (λ c. code ++ c) more.1 ∙ sym (append_assoc code more.0 rest))
+
+-- the bits from a place on, where others end at the same place
+pub from_there : (old new : Source) (front : List Bool) → old.left ≡ front ++ new.left → KeepsEnd old new
+    → record { left = drop (new.place - old.place) old.left; place = new.place } ≡ new
+from_there old new front parts same_end =
+    let len = ap length parts in
+    let n : new.place - old.place ≡ length front = omega (arith, len, length-append front new.left, same_end) in
+    let left : drop (new.place - old.place) old.left ≡ new.left =
+    ap (λ k. drop k old.left) n ∙ ap (drop (length front)) parts ∙ drop-append_seam front new.left in
+    ap (λ l. record { left = l; place = new.place }) left
+
+pub run_after : (colour : Colour) (b : List Bool) (n : ℕ) (rest : List Bool) → IsRun colour b n rest
+    → (front : List Bool) × (b ≡ front ++ rest)
+run_after colour b n rest run =
+    spells_after (run_table colour) b (map MakeUp run.make_up ++ Terminating run.last ∷ []) rest run.spelled

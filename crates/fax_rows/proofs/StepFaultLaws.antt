@@ -83,14 +83,14 @@ end_or_not (Some a) width =
 
 module _ (runs_read : (colour : Colour) → ReadsOneWay (run_table colour)) (modes_read : ReadsOneWay modes) where
   -- where a mode is taken the fault is that mode's
-  fault_of_mode : (reference : List Colour) (old : Position) (b c : List Bool) (mode : ModeCode) (behind : List Bool) (fault : RowFault)
+  fault_of_mode : (reference : List Colour) (old : Position) (b c : List Bool) (mode : ModeCode) (after : List Bool) (fault : RowFault)
       → b ≡ c
-      → Takes modes b mode behind → IsStepFault reference old c fault → IsModeFault mode reference old behind fault
-  fault_of_mode reference old b c mode behind fault at taken (inl none) =
-      absurd (modes_read.code.answer_has_no_fault b mode behind none.0 taken (subst (λ x. IsFaultOf modes x none.0) (sym at) none.1))
-  fault_of_mode reference old b c mode behind fault at taken (inr some) =
-      let same = modes_read.code.one_answer b mode some.0 behind some.1 taken (subst (λ x. Takes modes x some.0 some.1) (sym at) some.2) in
-      subst (λ m. IsModeFault m reference old behind fault) (sym same.0)
+      → Takes modes b mode after → IsStepFault reference old c fault → IsModeFault mode reference old after fault
+  fault_of_mode reference old b c mode after fault at taken (inl none) =
+      absurd (modes_read.code.answer_has_no_fault b mode after none.0 taken (subst (λ x. IsFaultOf modes x none.0) (sym at) none.1))
+  fault_of_mode reference old b c mode after fault at taken (inr some) =
+      let same = modes_read.code.one_answer b mode some.0 after some.1 taken (subst (λ x. Takes modes x some.0 some.1) (sym at) some.2) in
+      subst (λ m. IsModeFault m reference old after fault) (sym same.0)
       (subst (λ x. IsModeFault some.0 reference old x fault) (sym same.1) some.3)
 
   -- horizontal mode is a step or has a fault
@@ -117,8 +117,8 @@ module _ (runs_read : (colour : Colour) → ReadsOneWay (run_table colour)) (mod
       → b ≡ c
       → IsStep reference old b new rest → IsStepFault reference old c fault → ⊥
   step_has_no_fault reference old b c new rest fault at step fails =
-      mode_has_no_fault step.mode reference old new step.behind rest fault step.step
-      (fault_of_mode reference old b c step.mode step.behind fault at step.taken fails)
+      mode_has_no_fault step.mode reference old new step.after rest fault step.step
+      (fault_of_mode reference old b c step.mode step.after fault at step.taken fails)
 
   -- a step has one fault
   same_horizontal_fault : (reference : List Colour) (old : Position) (b : List Bool) (fault another : RowFault)
@@ -237,7 +237,7 @@ module _ (runs_read : (colour : Colour) → ReadsOneWay (run_table colour)) (mod
           | inl step ↦ inl (
             step.0,
             step.1,
-            record { mode = code.0; behind = code.1; taken = code.2; step = step.2 },
+            record { mode = code.0; after = code.1; taken = code.2; step = step.2 },
             step.3,
             omega (arith, step.4, modes_read.takes_bits b code.0 code.1 code.2),
           )
@@ -311,25 +311,25 @@ module _ (runs_read : (colour : Colour) → ReadsOneWay (run_table colour)) (mod
       unfinished fails
 
   -- steps to a fault lead to one fault
-  same_fault_behind : (reference : List Colour) (old start : Position) (b c : List Bool) (positions more : List Position)
+  same_fault_after : (reference : List Colour) (old start : Position) (b c : List Bool) (positions more : List Position)
       (last end : Position)
-      (left behind : List Bool) (fault another : RowFault) → old ≡ start → b ≡ c
+      (left after : List Bool) (fault another : RowFault) → old ≡ start → b ≡ c
       → AreSteps reference old b positions last left → IsStepFault reference last left fault
-      → AreSteps reference start c more end behind → IsStepFault reference end behind another → fault ≡ another
-  same_fault_behind reference old start b c [] [] last end left behind fault another from at first here second there =
-      same_step_fault reference last left behind fault another (sym first.1 ∙ at ∙ second.1) here
-      (subst (λ p. IsStepFault reference p behind another) (second.0 ∙ sym from ∙ sym first.0) there)
-  same_fault_behind reference old start b c [] (next ∷ more) last end left behind fault another from at first here second there =
+      → AreSteps reference start c more end after → IsStepFault reference end after another → fault ≡ another
+  same_fault_after reference old start b c [] [] last end left after fault another from at first here second there =
+      same_step_fault reference last left after fault another (sym first.1 ∙ at ∙ second.1) here
+      (subst (λ p. IsStepFault reference p after another) (second.0 ∙ sym from ∙ sym first.0) there)
+  same_fault_after reference old start b c [] (next ∷ more) last end left after fault another from at first here second there =
       absurd (step_has_no_fault reference start c left next second.1 fault (sym at ∙ first.1) second.2
       (subst (λ p. IsStepFault reference p left fault) (first.0 ∙ from) here))
-  same_fault_behind reference old start b c (next ∷ positions) [] last end left behind fault another from at first here second there =
-      absurd (step_has_no_fault reference old b behind next first.1 another (at ∙ second.1) first.2
-      (subst (λ p. IsStepFault reference p behind another) (second.0 ∙ sym from) there))
-  same_fault_behind reference old start b c (next ∷ positions) (onward ∷ more) last end left behind fault another from at first here second
+  same_fault_after reference old start b c (next ∷ positions) [] last end left after fault another from at first here second there =
+      absurd (step_has_no_fault reference old b after next first.1 another (at ∙ second.1) first.2
+      (subst (λ p. IsStepFault reference p after another) (second.0 ∙ sym from) there))
+  same_fault_after reference old start b c (next ∷ positions) (onward ∷ more) last end left after fault another from at first here second
       there =
       let step = same_step runs_read modes_read reference old b c next onward first.1 second.1 at first.2
       (subst (λ p. IsStep reference p c onward second.1) (sym from) second.2) in
-      same_fault_behind reference next onward first.1 second.1 positions more last end left behind fault another step.0 step.1
+      same_fault_after reference next onward first.1 second.1 positions more last end left after fault another step.0 step.1
       first.3 here second.3 there
 
   pub row_over_reads_one_way : (reference : List Colour) → ReadsRowsOverOneWay reference
@@ -359,6 +359,6 @@ module _ (runs_read : (colour : Colour) → ReadsOneWay (run_table colour)) (mod
         fault
         refl refl whole.steps whole.ends not_whole.steps not_whole.unfinished not_whole.at_step;
     one_fault = λ b fault another first second.
-        same_fault_behind reference beginning beginning b b first.positions second.positions first.last second.last first.left second.left
+        same_fault_after reference beginning beginning b b first.positions second.positions first.last second.last first.left second.left
         fault another refl refl first.steps first.at_step second.steps second.at_step;
   }

@@ -27,18 +27,18 @@ module _ (runs_read : (colour : Colour) → ReadsOneWay (run_table colour)) (mod
       (cc (a1, first.0.new_is, second.0.new_is), sym first.1 ∙ at ∙ second.1)
   same_by Horizontal reference old b c new another rest remaining at first second =
       let run = same_run runs_read old.colour b c first.first second.first first.middle second.middle at first.first_run second.first_run in
-      let behind = same_run runs_read (other old.colour) first.middle second.middle first.second second.second rest remaining run.1
+      let after = same_run runs_read (other old.colour) first.middle second.middle first.second second.second rest remaining run.1
       first.second_run second.second_run in
-      (cc (run.0, behind.0, first.new_is, second.new_is), behind.1)
+      (cc (run.0, after.0, first.new_is, second.new_is), after.1)
   same_by Extension reference old b c new another rest remaining at first second = absurd first
 
   pub same_step : (reference : List Colour) (old : Position) (b c : List Bool) (new another : Position) (rest remaining : List Bool)
       → b ≡ c → IsStep reference old b new rest → IsStep reference old c another remaining → (new ≡ another) × (rest ≡ remaining)
   same_step reference old b c new another rest remaining at first second =
-      let took = modes_read.code.one_answer b first.mode second.mode first.behind second.behind first.taken
-      (subst (λ x. Takes modes x second.mode second.behind) (sym at) second.taken) in
-      same_by first.mode reference old first.behind second.behind new another rest remaining took.1 first.step
-      (subst (λ mode. IsStepBy mode reference old second.behind another remaining) (sym took.0) second.step)
+      let took = modes_read.code.one_answer b first.mode second.mode first.after second.after first.taken
+      (subst (λ x. Takes modes x second.mode second.after) (sym at) second.taken) in
+      same_by first.mode reference old first.after second.after new another rest remaining took.1 first.step
+      (subst (λ mode. IsStepBy mode reference old second.after another remaining) (sym took.0) second.step)
 
   same_steps : (reference : List Colour) (old start : Position) (b c : List Bool) (positions more : List Position) (last another : Position)
       (rest remaining : List Bool) → old ≡ start → b ≡ c

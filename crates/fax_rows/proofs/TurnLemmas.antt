@@ -9,7 +9,7 @@ use Rattle.std.proofs.lemmas.List.FromFn.{get_or-map-range_with_len, length-map-
 use Rattle.fax_bits.specs.declared.Colour.{Colour}
 use Rattle.fax_bits.specs.declared.Colour.TheVariants.{White, Black}
 use Rattle.fax_rows.specs.Rows.{other, same_colour, pel, is_changing}
-use Rattle.fax_rows.specs.code.Turns.{turned, pels_by, alternate, IsAscending, IsBehind}
+use Rattle.fax_rows.specs.code.Turns.{turned, pels_by, alternate, IsAscending, ArePlacesUpTo}
 
 pub other-other : (c : Colour) → other (other c) ≡ c
 other-other White = refl
@@ -103,8 +103,8 @@ module _ (places : List ℕ) (end : ℕ) (up : IsAscending places end) where
       ]
 
   -- the colour after k places
-  pub colour_behind_places : (i k : ℕ) → IsBehind places end i k → turned Black (take end places) i ≡ alternate Black k
-  colour_behind_places i k at =
+  pub colour_after_places : (i k : ℕ) → ArePlacesUpTo places end i k → turned Black (take end places) i ≡ alternate Black k
+  colour_after_places i k at =
       turned-rank Black (take end places) i k (omega (arith, len, at.within)) left right
     where
       len : length (take end places) ≡ end
@@ -122,15 +122,15 @@ module _ (places : List ℕ) (end : ℕ) (up : IsAscending places end) where
           rw (get_or-take end places j 0 (omega (arith, len))) (omega arith)
 
   -- the pel after k places
-  pub pel_behind : (width i k : ℕ) → i < width → IsBehind places end i k → pel (pels_by width (take end places)) i ≡ alternate Black k
-  pel_behind width i k h at = pel-pels_by width (take end places) i h ∙ colour_behind_places i k at
+  pub pel_after : (width i k : ℕ) → i < width → ArePlacesUpTo places end i k → pel (pels_by width (take end places)) i ≡ alternate Black k
+  pel_after width i k h at = pel-pels_by width (take end places) i h ∙ colour_after_places i k at
 
   -- a row changes at each of its places
   pub changing_at : (width i j : ℕ) → 0 < j → j < end → get_or places j 0 ≡ i → i < width
       → is_changing (pels_by width (take end places)) i ≡ true
   changing_at width zero j some h is inside =
       let one : j ≡ 1 = omega (arith, at_least j h, up.first, few) in
-      let two = pel_behind width zero 2 inside (record {
+      let two = pel_after width zero 2 inside (record {
         some = omega arith;
         within = omega (arith, one);
         left = subst (λ m. get_or places m 0 ≤ 0) one (omega (arith, is));
@@ -147,13 +147,13 @@ module _ (places : List ℕ) (end : ℕ) (up : IsAscending places end) where
       later : 2 < end → 0 < get_or places 2 0
       later l = let m = below_later 1 2 (omega arith) (omega arith) l in omega arith
   changing_at width (suc i) j some h is inside =
-      let here = pel_behind width (suc i) (suc j) inside (record {
+      let here = pel_after width (suc i) (suc j) inside (record {
         some = omega arith;
         within = omega arith;
         left = rw same (omega (arith, is));
         right = λ l. let next = below_later j (suc j) some (omega arith) l in omega (arith, is);
       }) in
-      let before = pel_behind width i j (omega arith) (record {
+      let before = pel_after width i j (omega arith) (record {
         some = some;
         within = omega arith;
         left = last (eq-or-lt_of_le some);
@@ -173,16 +173,16 @@ module _ (places : List ℕ) (end : ℕ) (up : IsAscending places end) where
       turns Black = refl
 
   -- and nowhere else
-  pub unchanging : (width i k : ℕ) → IsBehind places end i k → (k ≡ 1) ⊎ (get_or places (k - 1) 0 < i) → i < width
+  pub unchanging : (width i k : ℕ) → ArePlacesUpTo places end i k → (k ≡ 1) ⊎ (get_or places (k - 1) 0 < i) → i < width
       → is_changing (pels_by width (take end places)) i ≡ false
   unchanging width zero k at (inr less) inside = absurd (omega arith)
   unchanging width zero k at (inl one) inside =
       let here : pel (pels_by width (take end places)) 0 ≡ alternate Black 1 =
-      pel_behind width zero k inside at ∙ ap (alternate Black) one in
+      pel_after width zero k inside at ∙ ap (alternate Black) one in
       rw here refl
   unchanging width (suc i) k at from inside =
-      let here = pel_behind width (suc i) k inside at in
-      let before = pel_behind width i k (omega arith) (record {
+      let here = pel_after width (suc i) k inside at in
+      let before = pel_after width i k (omega arith) (record {
         some = at.some;
         within = at.within;
         left = left from;

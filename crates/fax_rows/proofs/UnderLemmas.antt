@@ -80,7 +80,7 @@ pub vertical_goes_on : (reference : PlacedRow) (places : List ℕ) (at : PlacedR
 vertical_goes_on reference places at less b new rest d distance taken step same =
     step_goes_on reference places at less b new rest (record {
       mode = Vertical d;
-      behind = rest;
+      after = rest;
       taken = taken;
       step = (subst (λ e. IsVerticalStep (placed_pels reference) (placed_position reference.width places at) e new) same step, refl);
     })
@@ -214,7 +214,7 @@ module _ (reference : PlacedRow) (places : List ℕ) where
           steps = (
             unfinished_below (placed_pels reference) at.reached.a0 (omega (arith, len)),
             spells.0,
-            record { mode = Vertical (pos 0); behind = spells.0; taken = spells.1; step = (vertical, refl) },
+            record { mode = Vertical (pos 0); after = spells.0; taken = spells.1; step = (vertical, refl) },
             more.goes_on.steps,
           );
         };
@@ -289,7 +289,7 @@ so_far_kept reference places new at so_far len kept = record {
     steps = λ i some h. let less = up.steps i some h in omega (arith, kept_at i (omega arith), kept_at (i + 1) h);
   };
   last = let same = kept_at (at.end - 1) (omega (arith, up.started)) in omega (arith, same, so_far.last);
-  behind = λ i h. ap (λ ps. turned Black ps i) kept ∙ so_far.behind i h;
+  after = λ i h. ap (λ ps. turned Black ps i) kept ∙ so_far.after i h;
   b1 = so_far.b1;
 }
   where
@@ -346,7 +346,7 @@ one_read reference places new at next b rest taken so_far unfinished vertical re
     let position = placed_position reference.width new next in
     record {
       steps = step_goes_on reference places at unfinished b position rest
-          (record { mode = Vertical (pos 0); behind = rest; taken = taken; step = (vertical, refl) });
+          (record { mode = Vertical (pos 0); after = rest; taken = taken; step = (vertical, refl) });
       chosen = chosen_goes_on reference places at unfinished b position rest
           (under_chosen reference places at so_far unfinished b position rest taken vertical);
       so_far = read;

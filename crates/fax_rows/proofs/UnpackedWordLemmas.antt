@@ -226,7 +226,7 @@ pub record IsPutTo (old places : List ℕ) (from before word left r : ℕ) : Typ
   pub rest : (i : ℕ) → r ≤ i → i < 64 → word_bit left i ≡ turns_bit (word_bit word i) (bit_before before word i)
   pub kept : (k : ℕ) → k < from → turned Black places k ≡ turned Black old k
   pub done : (i : ℕ) → i < r → turned Black places (from + i) ≡ colour_of_bit (word_bit word i)
-  pub behind : (k : ℕ) → from + r ≤ k → turned Black places k ≡ colour_of_bit (bit_before before word r)
+  pub after : (k : ℕ) → from + r ≤ k → turned Black places k ≡ colour_of_bit (bit_before before word r)
 
 pub put_none : (old : List ℕ) (from before word : ℕ) → word < 2 ^ 64
     → ((k : ℕ) → from ≤ k → turned Black old k ≡ colour_of_bit (word_bit before 63))
@@ -237,7 +237,7 @@ put_none old from before word fits colour = record {
   rest = λ i h l. change_bit before word i fits l;
   kept = λ k h. refl;
   done = λ i h. absurd (omega arith);
-  behind = λ k h. colour k (omega arith);
+  after = λ k h. colour k (omega arith);
 }
 
 module _ (old places : List ℕ) (from before word left r : ℕ) (so_far : IsPutTo old places from before word left r) where
@@ -260,12 +260,12 @@ module _ (old places : List ℕ) (from before word left r : ℕ) (so_far : IsPut
   put_pels is i inside =
       elim (cases_lt i r) [
         | inl less ↦ so_far.done i less
-        | inr more ↦ so_far.behind (from + i) (omega arith) ∙ same_pel 64 i more inside (omega arith) (λ j h. none_left is j)
+        | inr more ↦ so_far.after (from + i) (omega arith) ∙ same_pel 64 i more inside (omega arith) (λ j h. none_left is j)
       ]
 
-  pub put_behind : left ≡ 0 → (k : ℕ) → from + 64 ≤ k → turned Black places k ≡ colour_of_bit (word_bit word 63)
-  put_behind is k far =
-      so_far.behind k (omega (arith, so_far.within))
+  pub put_after : left ≡ 0 → (k : ℕ) → from + 64 ≤ k → turned Black places k ≡ colour_of_bit (word_bit word 63)
+  put_after is k far =
+      so_far.after k (omega (arith, so_far.within))
       ∙ ap colour_of_bit (sym (quiet_to 64 so_far.within (omega arith) (λ j h. none_left is j)))
 
   -- the next change is not left of them
@@ -298,7 +298,7 @@ module _ (old places : List ℕ) (from before word left r : ℕ) (so_far : IsPut
           turns.right (from + i) (omega arith) ∙ turned_there (from + i) (omega arith)
           ∙ ap (λ n. colour_of_bit (word_bit word n)) (sym same)
     ];
-    behind = λ k h.
+    after = λ k h.
         let last : suc at ≡ next = omega arith in
         turns.right k (omega arith) ∙ turned_there k (omega arith) ∙ ap (λ n. colour_of_bit (bit_before before word n)) last;
   }
@@ -307,20 +307,20 @@ module _ (old places : List ℕ) (from before word left r : ℕ) (so_far : IsPut
       up_to i less =
           elim (cases_lt i r) [
             | inl near ↦ so_far.done i near
-            | inr far ↦ so_far.behind (from + i) (omega arith) ∙ same_pel at i far less (omega (arith, top.within)) top.before
+            | inr far ↦ so_far.after (from + i) (omega arith) ∙ same_pel at i far less (omega (arith, top.within)) top.before
           ]
 
       turned_there : (k : ℕ) → from + at ≤ k → other (turned Black places k) ≡ colour_of_bit (word_bit word at)
       turned_there k far =
-          ap other (so_far.behind k (omega (arith, not_gone at top))
+          ap other (so_far.after k (omega (arith, not_gone at top))
           ∙ ap colour_of_bit (sym (quiet_to at (not_gone at top) (omega (arith, top.within)) top.before)))
           ∙ other_colour (word_bit word at) (bit_before before word at)
           (sym (so_far.rest at (not_gone at top) top.within) ∙ top.there)
 
 -- there is room for a place after those of a word
-pub room_behind : (places : List ℕ) (end from r : ℕ) → IsAscending places end → (1 < end → get_or places (end - 1) 0 < from + r)
+pub room_after : (places : List ℕ) (end from r : ℕ) → IsAscending places end → (1 < end → get_or places (end - 1) 0 < from + r)
     → end ≤ from + r + 2
-room_behind places end from r up last =
+room_after places end from r up last =
     elim (cases_lt 1 end) [
       | inl more ↦ places_within places end (from + r) up (omega (arith, last more))
       | inr one ↦ omega arith
@@ -334,7 +334,7 @@ pub unpacked_word : (b : List Bool) (old new : List ℕ) (from next before word 
     → ((k : ℕ) → from + 64 ≤ k → turned Black new k ≡ colour_of_bit (word_bit word 63))
     → ((i : ℕ) → i < 64 → word_bit word i ≡ get_or b (from + i) false)
     → IsUnpackedTo b new next (colour_of_bit (word_bit word 63))
-unpacked_word b old new from next before word sum so_far kept pels behind bit = record {
+unpacked_word b old new from next before word sum so_far kept pels after bit = record {
   before = λ k h. elim (cases_lt k from) [
     | inl less ↦ kept k less ∙ so_far.before k less
     | inr more ↦
@@ -342,7 +342,7 @@ unpacked_word b old new from next before word sum so_far kept pels behind bit = 
         ap (turned Black new) (sym place) ∙ pels (k - from) (omega arith)
         ∙ ap colour_of_bit (bit (k - from) (omega arith) ∙ ap (λ n. get_or b n false) place)
   ];
-  behind = λ k h. behind k (omega arith);
+  after = λ k h. after k (omega arith);
 }
 
 -- the last place is below a number where it is one of the changes, and 0 else

@@ -15,7 +15,7 @@ use Rattle.fax_bits.specs.Codes.{Takes}
 use Rattle.fax_bits.specs.laws.Codes.{RunBitsAreRead, ModeBitsAreRead}
 use Rattle.fax_bits.specs.Written.{mode_bits}
 use Rattle.fax_bits.specs.Tables.{modes}
-use Rattle.fax_rows.specs.Rows.{other, pels_of, runs_behind, runs_of, AreRuns, IsOneDimensionalRow}
+use Rattle.fax_rows.specs.Rows.{other, pels_of, runs_after, runs_of, AreRuns, IsOneDimensionalRow}
 use Rattle.fax_rows.specs.Rows.{Position, AreSteps, IsTwoDimensionalRow}
 use Rattle.fax_rows.specs.laws.Rows.{HasWidth}
 use Rattle.fax_rows.specs.Coded.{chosen_step, step_bits, two_dimensional_bits, alternating_bits}
@@ -150,7 +150,7 @@ module _ (runs_read : RunBitsAreRead) (modes_taken : ModeBitsAreRead) (reference
       rest,
       record {
         mode = mode_at a0;
-        behind = run_pair_bits (mode_at a0) row a0 (places reference row a0) ++ rest;
+        after = run_pair_bits (mode_at a0) row a0 (places reference row a0) ++ rest;
         taken = subst (λ b. Takes modes b (mode_at a0) (run_pair_bits (mode_at a0) row a0 (places reference row a0) ++ rest))
             (ap (λ b. mode_bits (mode_at a0) ++ (run_pair_bits (mode_at a0) row a0 (places reference row a0) ++ b)) rest_is
             ∙ sym (bits_of_step limit a0 more unfinished))
@@ -197,21 +197,21 @@ replicate_more n colour pels =
     rw (← replicate-append-replicate n 1 colour) (append_assoc (replicate n colour) (colour ∷ []) pels)
 
 -- the longest runs make up the pels
-pub pels_of-runs_behind : (colour : Colour) (n : ℕ) (pels : List Colour)
-    → pels_of colour (runs_behind colour n pels) ≡ replicate n colour ++ pels
-unfolding runs_behind
-pels_of-runs_behind colour n [] = refl
-pels_of-runs_behind White n (White ∷ pels) =
-    pels_of-runs_behind White (n + 1) pels ∙ replicate_more n White pels
-pels_of-runs_behind Black n (Black ∷ pels) =
-    pels_of-runs_behind Black (n + 1) pels ∙ replicate_more n Black pels
-pels_of-runs_behind White n (Black ∷ pels) = ap (λ more. replicate n White ++ more) (pels_of-runs_behind Black 1 pels)
-pels_of-runs_behind Black n (White ∷ pels) = ap (λ more. replicate n Black ++ more) (pels_of-runs_behind White 1 pels)
+pub pels_of-runs_after : (colour : Colour) (n : ℕ) (pels : List Colour)
+    → pels_of colour (runs_after colour n pels) ≡ replicate n colour ++ pels
+unfolding runs_after
+pels_of-runs_after colour n [] = refl
+pels_of-runs_after White n (White ∷ pels) =
+    pels_of-runs_after White (n + 1) pels ∙ replicate_more n White pels
+pels_of-runs_after Black n (Black ∷ pels) =
+    pels_of-runs_after Black (n + 1) pels ∙ replicate_more n Black pels
+pels_of-runs_after White n (Black ∷ pels) = ap (λ more. replicate n White ++ more) (pels_of-runs_after Black 1 pels)
+pels_of-runs_after Black n (White ∷ pels) = ap (λ more. replicate n Black ++ more) (pels_of-runs_after White 1 pels)
 
 -- no fewer of them do
 fewer_runs : (colour : Colour) (n : ℕ) (pels : List Colour) → 0 < n + length pels
-    → (k : ℕ) → k < length (runs_behind colour n pels) → sum (take k (runs_behind colour n pels)) < n + length pels
-unfolding runs_behind
+    → (k : ℕ) → k < length (runs_after colour n pels) → sum (take k (runs_after colour n pels)) < n + length pels
+unfolding runs_after
 fewer_runs colour n [] some zero h = omega arith
 fewer_runs colour n [] some (suc k) h = absurd (omega arith)
 fewer_runs White n (White ∷ pels) some k h = omega (arith, fewer_runs White (n + 1) pels (omega arith) k h)
@@ -219,9 +219,9 @@ fewer_runs Black n (Black ∷ pels) some k h = omega (arith, fewer_runs Black (n
 fewer_runs White n (Black ∷ pels) some zero h = omega arith
 fewer_runs Black n (White ∷ pels) some zero h = omega arith
 fewer_runs White n (Black ∷ pels) some (suc k) h =
-    omega (arith, fewer_runs Black 1 pels (omega arith) k (omega arith), sum-cons n (take k (runs_behind Black 1 pels)))
+    omega (arith, fewer_runs Black 1 pels (omega arith) k (omega arith), sum-cons n (take k (runs_after Black 1 pels)))
 fewer_runs Black n (White ∷ pels) some (suc k) h =
-    omega (arith, fewer_runs White 1 pels (omega arith) k (omega arith), sum-cons n (take k (runs_behind White 1 pels)))
+    omega (arith, fewer_runs White 1 pels (omega arith) k (omega arith), sum-cons n (take k (runs_after White 1 pels)))
 
 -- written runs are read back
 runs_back : RunBitsAreRead → (colour : Colour) (runs : List ℕ) (more : List Bool) → sum runs < 2 ^ 16
@@ -238,7 +238,7 @@ runs_back runs_read colour (n ∷ runs) more short = (
 pub one_dimensional_back : RunBitsAreRead → (row : List Colour) → HasWidth row → (more : List Bool)
     → IsOneDimensionalRow (length row) (one_dimensional_bits row ++ more) row more
 one_dimensional_back runs_read row limits more =
-    let pels : row ≡ pels_of White (runs_of row) = sym (pels_of-runs_behind White 0 row) in
+    let pels : row ≡ pels_of White (runs_of row) = sym (pels_of-runs_after White 0 row) in
     let sum_is : sum (runs_of row) ≡ length row =
     sym (length-pels_of White (runs_of row)) ∙ ap (λ (xs : List Colour). length xs) (sym pels) in
     record {

@@ -16,18 +16,18 @@ use Rattle.fax_rows.specs.declared.rows.Rows.{Rows}
 use Rattle.fax_rows.specs.Rows.{other, is_right_of, next_change, b1, b2}
 use Rattle.fax_rows.specs.code.Ahead.{IsAhead, IsWrittenTo, mode_from, bits_from, place_from, run_pair}
 use Rattle.fax_rows.specs.code.PlacedRow.{placed_pels, IsBeforeB1, IsB1At}
-use Rattle.fax_rows.specs.code.Turns.{alternate, IsFrom, IsBehind}
+use Rattle.fax_rows.specs.code.Turns.{alternate, IsFrom, ArePlacesUpTo}
 use Rattle.fax_rows.proofs.ChangeLemmas.{first_of}
 use Rattle.fax_rows.proofs.ChoiceLemmas.{a1_right, passed_right}
 use Rattle.fax_rows.proofs.PlacedB1Lemmas.{inside_end, b1_ahead, b2_ahead, b1_next, b1_passed, same_start}
 use Rattle.fax_rows.proofs.PlacedRowLemmas.{at_from}
-use Rattle.fax_rows.proofs.TurnLemmas.{alternate-suc, below_later, pel_behind}
+use Rattle.fax_rows.proofs.TurnLemmas.{alternate-suc, below_later, pel_after}
 use Rattle.fax_rows.proofs.WrittenPlaceLemmas.{known_bounds, same_widths, written_width}
 
 module _ (row : PlacedRow) where
   -- a change is the last of the places that are not right of it
-  behind_place : (k : ℕ) → 0 < k → k < row.end → IsBehind row.places.now row.end (get_or row.places.now k 0) (k + 1)
-  behind_place k some inside = record {
+  after_place : (k : ℕ) → 0 < k → k < row.end → ArePlacesUpTo row.places.now row.end (get_or row.places.now k 0) (k + 1)
+  after_place k some inside = record {
     some = omega arith;
     within = omega arith;
     left = subst (λ m. get_or row.places.now m 0 ≤ get_or row.places.now k 0) same (omega arith);
@@ -46,7 +46,7 @@ module _ (row : PlacedRow) where
   pub colour_here : (a0 : Option ℕ) (k : ℕ) → IsFrom row.places.now row.end a0 k → unwrap_or a0 0 < row.width
       → alternate Black k ≡ colour_of (placed_pels row) a0
   colour_here None k at inside = ap (alternate Black) at
-  colour_here (Some a) k at inside = sym (pel_behind row.places.now row.end row.placed.ascending row.width a k inside at)
+  colour_here (Some a) k at inside = sym (pel_after row.places.now row.end row.placed.ascending row.width a k inside at)
 
 module _ (rows : Rows) (ahead : ChangesAhead) (is : IsAhead rows ahead) (unfinished : unwrap_or ahead.a0 0 < rows.row.width) where
   row_at : (0 < ahead.row) × (ahead.row ≤ rows.row.end)
@@ -56,17 +56,17 @@ module _ (rows : Rows) (ahead : ChangesAhead) (is : IsAhead rows ahead) (unfinis
   from_a1 inside =
       let less = inside_end rows.row ahead.row row_at.0 (omega (arith, row_at.1))
       (omega (arith, is.a1_at)) in
-      subst (λ a. IsBehind rows.row.places.now rows.row.end a (ahead.row + 1)) (sym is.a1_at)
-      (behind_place rows.row ahead.row row_at.0 less)
+      subst (λ a. ArePlacesUpTo rows.row.places.now rows.row.end a (ahead.row + 1)) (sym is.a1_at)
+      (after_place rows.row ahead.row row_at.0 less)
 
   pub from_a2 : ahead.a2 < rows.row.width → IsFrom rows.row.places.now rows.row.end (Some ahead.a2) (ahead.row + 2)
   from_a2 inside =
       let less = inside_end rows.row (ahead.row + 1) (omega arith) (omega (arith, row_at.1))
       (omega (arith, is.a2_at)) in
       let next : ahead.row + 1 + 1 ≡ ahead.row + 2 = omega arith in
-      subst (λ a. IsBehind rows.row.places.now rows.row.end a (ahead.row + 2)) (sym is.a2_at)
-      (subst (λ k. IsBehind rows.row.places.now rows.row.end (get_or rows.row.places.now (ahead.row + 1) 0) k) next
-      (behind_place rows.row (ahead.row + 1) (omega arith) less))
+      subst (λ a. ArePlacesUpTo rows.row.places.now rows.row.end a (ahead.row + 2)) (sym is.a2_at)
+      (subst (λ k. ArePlacesUpTo rows.row.places.now rows.row.end (get_or rows.row.places.now (ahead.row + 1) 0) k) next
+      (after_place rows.row (ahead.row + 1) (omega arith) less))
 
   -- b2 is not left of a0
   b2_from_a0 : unwrap_or ahead.a0 0 ≤ ahead.b2
@@ -89,43 +89,43 @@ module _ (rows : Rows) (ahead : ChangesAhead) (is : IsAhead rows ahead) (unfinis
   turned_colour : other ahead.colour ≡ alternate Black (ahead.row + 1)
   turned_colour =
       let next : ahead.row + 1 ≡ suc ahead.row = omega arith in
-      ap other is.behind ∙ sym (alternate-suc Black ahead.row) ∙ ap (alternate Black) (sym next)
+      ap other is.after ∙ sym (alternate-suc Black ahead.row) ∙ ap (alternate Black) (sym next)
 
   same_colour : ahead.colour ≡ alternate Black (ahead.row + 2)
   same_colour =
       let next : ahead.row + 2 ≡ suc (suc ahead.row) = omega arith in
-      is.behind ∙ ap (alternate Black) (sym next)
+      is.after ∙ ap (alternate Black) (sym next)
 
-  pub b1_behind_pass : ahead.b2 < rows.row.width
+  pub b1_after_pass : ahead.b2 < rows.row.width
       → IsB1At rows.reference (Some ahead.b2) (alternate Black ahead.row) (ahead.reference + 2)
-  b1_behind_pass inside =
-      subst (λ colour. IsB1At rows.reference (Some ahead.b2) colour (ahead.reference + 2)) is.behind
+  b1_after_pass inside =
+      subst (λ colour. IsB1At rows.reference (Some ahead.b2) colour (ahead.reference + 2)) is.after
       (subst (λ a. IsB1At rows.reference (Some a) ahead.colour (ahead.reference + 2)) (sym is.b2_at)
       (b1_passed rows.reference ahead.a0 ahead.colour ahead.reference is.reference
       (omega (arith, is.b2_at))))
 
-  pub b1_behind_b1 : ahead.a1 ≡ ahead.b1 → ahead.a1 < rows.row.width
+  pub b1_after_b1 : ahead.a1 ≡ ahead.b1 → ahead.a1 < rows.row.width
       → IsB1At rows.reference (Some ahead.a1) (alternate Black (ahead.row + 1)) (ahead.reference + 1)
-  b1_behind_b1 same inside =
+  b1_after_b1 same inside =
       subst (λ colour. IsB1At rows.reference (Some ahead.a1) colour (ahead.reference + 1)) turned_colour
       (subst (λ a. IsB1At rows.reference (Some a) (other ahead.colour) (ahead.reference + 1)) (sym (same ∙ is.b1_at))
       (b1_next rows.reference ahead.a0 ahead.colour ahead.reference is.reference
       (omega (arith, same, is.b1_at))))
 
-  pub b1_behind_a1 : (b : ℕ) → ((a0 : Option ℕ) (colour : Colour) → IsB1At rows.reference a0 colour ahead.reference
+  pub b1_after_a1 : (b : ℕ) → ((a0 : Option ℕ) (colour : Colour) → IsB1At rows.reference a0 colour ahead.reference
       → is_right_of a0 ahead.a1 ≡ true → IsB1At rows.reference (Some ahead.a1) (other colour) b)
       → IsB1At rows.reference (Some ahead.a1) (alternate Black (ahead.row + 1)) b
-  b1_behind_a1 b found =
+  b1_after_a1 b found =
       let inside : first_of ahead.a0 < length (placed_pels rows.row) = omega (arith, written_width rows) in
       let passes = a1_right (placed_pels rows.reference) (placed_pels rows.row) (same_widths rows) ahead.a0 inside in
       let right = passed_right ahead.a0 ahead.a1 (omega (arith, passes, is.a1)) in
       subst (λ colour. IsB1At rows.reference (Some ahead.a1) colour b) turned_colour
       (found ahead.a0 ahead.colour is.reference right)
 
-  pub b1_behind_a2 : (b : ℕ) → ((colour : Colour) → IsBeforeB1 rows.reference ahead.a2 colour ahead.reference
+  pub b1_after_a2 : (b : ℕ) → ((colour : Colour) → IsBeforeB1 rows.reference ahead.a2 colour ahead.reference
       → IsB1At rows.reference (Some ahead.a2) colour b)
       → IsB1At rows.reference (Some ahead.a2) (alternate Black (ahead.row + 2)) b
-  b1_behind_a2 b found =
+  b1_after_a2 b found =
       let known = known_bounds rows ahead is unfinished in
       subst (λ colour. IsB1At rows.reference (Some ahead.a2) colour b) same_colour
       (found ahead.colour

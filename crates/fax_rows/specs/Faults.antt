@@ -40,13 +40,13 @@ pub record IsRunFault (colour : Colour) (width from : ℕ) (b : List Bool)
   pub spelled : Spells (run_table colour) b (map run.MakeUp make_up) left
   pub within : from + sum make_up ≤ width
   pub at_code : IsCodeFault (run_table colour) left fault
-      ⊎ ((code : RunCode) × (behind : List Bool) × Takes (run_table colour) left code behind
+      ⊎ ((code : RunCode) × (after : List Bool) × Takes (run_table colour) left code after
       × IsRunCodeFault width (from + sum make_up) code fault)
 
 -- the colour of the run after these runs (T.4, section 4.1.1)
-abbrev pub colour_behind : Colour → List ℕ → Colour
-colour_behind colour [] = colour
-colour_behind colour (n ∷ runs) = colour_behind (other colour) runs
+abbrev pub colour_after_runs : Colour → List ℕ → Colour
+colour_after_runs colour [] = colour
+colour_after_runs colour (n ∷ runs) = colour_after_runs (other colour) runs
 
 -- the bits begin with whole runs that do not make up the width, and then a run with this fault
 pub record IsOneDimensionalFault (width : ℕ) (b : List Bool) (fault : RowFault) : Type 0 where
@@ -54,7 +54,7 @@ pub record IsOneDimensionalFault (width : ℕ) (b : List Bool) (fault : RowFault
   pub left : List Bool
   pub coded : AreRuns White b runs left
   pub unfinished : sum runs < width
-  pub at_run : IsRunFault (colour_behind White runs) width (sum runs) left fault
+  pub at_run : IsRunFault (colour_after_runs White runs) width (sum runs) left fault
 
 -- the fault of a mode, with the bits after its code; in horizontal mode it stands in the first run,
 -- or after a first run within the row in the second
@@ -73,8 +73,8 @@ IsModeFault mode.Extension reference at b fault = fault ≡ Extension
 abbrev pub IsStepFault : List Colour → Position → List Bool → RowFault → Type 0
 IsStepFault reference at b fault =
     IsCodeFault modes b fault
-    ⊎ ((m : ModeCode) × (behind : List Bool) × Takes modes b m behind
-    × IsModeFault m reference at behind fault)
+    ⊎ ((m : ModeCode) × (after : List Bool) × Takes modes b m after
+    × IsModeFault m reference at after fault)
 
 -- the bits begin with steps that do not end the row, and then a step with this fault
 pub record IsTwoDimensionalFault (reference : List Colour) (b : List Bool)

@@ -66,15 +66,15 @@ pels_of colour [] = []
 pels_of colour (n ∷ runs) = replicate n colour ++ pels_of (other colour) runs
 
 -- the longest runs of the pels, where n pels of this colour stand before them (section 4.1.1)
-unfoldable pub runs_behind : Colour → ℕ → List Colour → List ℕ
-runs_behind colour n [] = n ∷ []
-runs_behind colour n (first ∷ pels) =
-    if same_colour first colour then runs_behind colour (n + 1) pels
-    else (n ∷ runs_behind (other colour) 1 pels)
+unfoldable pub runs_after : Colour → ℕ → List Colour → List ℕ
+runs_after colour n [] = n ∷ []
+runs_after colour n (first ∷ pels) =
+    if same_colour first colour then runs_after colour (n + 1) pels
+    else (n ∷ runs_after (other colour) 1 pels)
 
 -- the longest runs of a row, white first: 0 where it begins black (section 4.1.1)
 abbrev pub runs_of : List Colour → List ℕ
-runs_of row = runs_behind White 0 row
+runs_of row = runs_after White 0 row
 
 -- the bits are runs of these lengths in alternating colours, and the rest follows them
 abbrev pub AreRuns : Colour → List Bool → List ℕ → List Bool → Type 0
@@ -158,9 +158,9 @@ IsStepBy Extension reference old b new rest = ⊥
 pub record IsStep (reference : List Colour) (old : Position) (b : List Bool) (new : Position)
     (rest : List Bool) : Type 0 where
   pub mode : ModeCode
-  pub behind : List Bool
-  pub taken : Takes modes b mode behind
-  pub step : IsStepBy mode reference old behind new rest
+  pub after : List Bool
+  pub taken : Takes modes b mode after
+  pub step : IsStepBy mode reference old after new rest
 
 -- the bits begin with steps through these positions, each of them from before the row's end
 -- (section 4.2.1.3.4)

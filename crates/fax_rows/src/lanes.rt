@@ -91,9 +91,9 @@ pub fn first_other(bytes: &[u8], from: u64, colour: Colour) -> u64
     if here < 8 {
         return 8 * at as u64 + u64::from(here);
     }
-    let behind = first_other_byte(bytes, at + 1, plain_byte(colour));
-    if behind == bytes.len() {
-        return 8 * behind as u64;
+    let after = first_other_byte(bytes, at + 1, plain_byte(colour));
+    if after == bytes.len() {
+        return 8 * after as u64;
     }
-    8 * behind as u64 + u64::from(first_other_in_byte(bytes[behind], 0, colour))
+    8 * after as u64 + u64::from(first_other_in_byte(bytes[after], 0, colour))
 }

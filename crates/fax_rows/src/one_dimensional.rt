@@ -1,67 +1,125 @@
 //! Rows in one-dimensional coding (ITU-T T.4, section 4.1.1).
-ghost use Rattle.std.specs.Prelude.{◌≡◌, ◌+◌, ◌-◌, ◌≤◌, ◌<◌, ◌^◌, length, slice_index};
+ghost use Rattle.std.specs.Prelude.{◌≡◌, ◌+◌, ◌-◌, ◌≤◌, ◌<◌, ◌^◌, ◌⊎◌, length, slice_index, take};
 ghost use Rattle.std.specs.Prelude.{◌++◌, OnOk, IfOk, IfErr, IsTrue};
+ghost use Rattle.fax_bits.specs.Codes.{IsRun};
+ghost use Rattle.fax_bits.specs.Written.{run_bits};
 ghost use Rattle.fax_bits.specs.views.Source.{KeepsEnd};
 ghost use Rattle.fax_rows.specs.Coded.{one_dimensional_bits};
 ghost use Rattle.fax_rows.specs.Rows.{IsOneDimensionalRow};
-ghost use Rattle.fax_rows.specs.Faults.{IsOneDimensionalFault};
-ghost use Rattle.fax_rows.specs.code.Turns.{row_of, IsAscending};
+ghost use Rattle.fax_rows.specs.Faults.{IsOneDimensionalFault, IsRunFault};
+ghost use Rattle.fax_rows.specs.code.Turns.{row_of, IsTurnedFrom};
+ghost use Rattle.fax_rows.specs.code.Put.{ArePut};
 
 use crate::RowFault;
 use crate::pels::Row;
-use crate::runs::{other, read_run};
-use crate::turns::{close, turn};
+use crate::runs::next_run;
+use crate::turns::{close, turn_after, turn_right};
 use fax_bits::{BitSource, Colour};
-use quick::read_quickly;
 
-mod quick;
-
-/// What `read_places` does, code by code: also where the row has a fault.
-#[inline(never)]
-fn read_exactly(source: &mut BitSource, places: &mut [u32], width: u32) -> Result<usize, RowFault>
-    requires some { 0 < width }
-    requires short { width < 2 ^ 16 }
-    requires room { length places.old ≡ width + 4 }
-    requires first { slice_index places.old 0 ≡ 0 }
-    ensures ok { IfOk result (λ end. IsOneDimensionalRow width source.old.left
-        (row_of places.new end width) source.new.left) }
-    ensures ascending { IfOk result (λ end. IsAscending places.new end) }
-    ensures last { IfOk result (λ end. slice_index places.new (end - 1) ≤ width) }
-    ensures err { IfErr result (λ fault. IsOneDimensionalFault width source.old.left fault) }
-    ensures first { slice_index places.new 0 ≡ 0 }
-    ensures same_len { length places.new ≡ length places.old }
-    ensures same_end { KeepsEnd source.old source.new }
-{
-    let mut end = 1;
-    let mut total = 0;
-    let mut colour = Colour::White;
-    while total < width {
-        total += read_run(source, colour, width, total)?;
-        end = turn(places, end, total);
-        colour = other(colour);
-    }
-    Ok(end)
+/// The runs of a row that are read so far, as places of change.
+#[derive(Clone, Copy)]
+struct Runs {
+    /// The index after the last place that is put.
+    end: usize,
+    /// How many pels they have.
+    total: u32,
+    /// Whether their codes are seen to be those that T.4 chooses.
+    is_chosen: bool,
 }
 
-/// Reads the runs of a row in one-dimensional coding, and answers where its places end.
-fn read_places(source: &mut BitSource, places: &mut [u32], width: u32) -> Result<usize, RowFault>
+impl Runs {
+    ghost use Rattle.std.specs.Prelude.{◌<◌, ◌≡◌, ◌⊎◌, IsTrue};
+
+    /// Sees that a run after them may be one of the longest: it has pels, or is the first of its
+    /// row. Else the codes are not those that T.4 chooses (T.4, section 4.1.1).
+    #[inline(always)]
+    fn see(&mut self, colour: Colour, run: u32)
+        ensures chosen { IsTrue self.new.is_chosen → IsTrue self.old.is_chosen
+            × ((0 < run) ⊎ ((self.old.total ≡ 0) × (colour ≡ Colour.White))) }
+        ensures end { self.new.end ≡ self.old.end }
+        ensures total { self.new.total ≡ self.old.total }
+    {
+        if run == 0 && (self.total > 0 || colour == Colour::Black) {
+            self.is_chosen = false;
+        }
+    }
+}
+
+/// Reads a run of the colour after others, and puts the place where it ends.
+#[inline(always)]
+fn read_on(
+    ahead: &mut BitSource,
+    places: &mut [u32],
+    width: u32,
+    colour: Colour,
+    runs: &mut Runs,
+) -> Result<(), RowFault>
+    requires short { width < 2 ^ 16 }
+    requires unfinished { runs.old.total < width }
+    requires put { ArePut width places.old runs.old.end runs.old.total }
+    ensures put { OnOk result (ArePut width places.new runs.new.end runs.new.total) }
+    ensures turned { OnOk result (IsTurnedFrom (take runs.old.end places.old)
+        (take runs.new.end places.new) runs.new.total) }
+    ensures run { OnOk result
+        (IsRun colour ahead.old.left (runs.new.total - runs.old.total) ahead.new.left) }
+    ensures right { OnOk result (runs.old.total ≤ runs.new.total) }
+    ensures chosen { OnOk result (IsTrue runs.new.is_chosen → IsTrue runs.old.is_chosen
+        × (ahead.old.left ≡ run_bits colour (runs.new.total - runs.old.total) ++ ahead.new.left)
+        × ((0 < runs.new.total - runs.old.total)
+        ⊎ ((runs.old.total ≡ 0) × (colour ≡ Colour.White)))) }
+    ensures err { IfErr result
+        (λ fault. IsRunFault colour width runs.old.total ahead.old.left fault) }
+    ensures first { slice_index places.new 0 ≡ 0 }
+    ensures same_len { length places.new ≡ length places.old }
+    ensures same_end { KeepsEnd ahead.old ahead.new }
+    ensures shorter { OnOk result (length ahead.new.left < length ahead.old.left) }
+{
+    let run = next_run(ahead, colour, width, runs.total, &mut runs.is_chosen)?;
+    runs.see(colour, run);
+    runs.total += run;
+    runs.end = turn_after(places, runs.end, runs.total, run);
+    Ok(())
+}
+
+/// Reads the runs of a row: a white run and the black one after it mostly by one look-up.
+#[inline(never)]
+fn read_runs(source: &mut BitSource, places: &mut [u32], width: u32) -> Result<Runs, RowFault>
     requires some { 0 < width }
     requires short { width < 2 ^ 16 }
     requires room { length places.old ≡ width + 4 }
     requires first { slice_index places.old 0 ≡ 0 }
-    ensures ok { IfOk result (λ end. IsOneDimensionalRow width source.old.left
-        (row_of places.new end width) source.new.left) }
-    ensures ascending { IfOk result (λ end. IsAscending places.new end) }
-    ensures last { IfOk result (λ end. slice_index places.new (end - 1) ≤ width) }
+    ensures ok { IfOk result (λ runs. IsOneDimensionalRow width source.old.left
+        (row_of places.new runs.end width) source.new.left) }
+    ensures chosen { IfOk result (λ runs. IsTrue runs.is_chosen → source.old.left
+        ≡ one_dimensional_bits (row_of places.new runs.end width) ++ source.new.left) }
+    ensures put { IfOk result (λ runs. ArePut width places.new runs.end width) }
     ensures err { IfErr result (λ fault. IsOneDimensionalFault width source.old.left fault) }
     ensures first { slice_index places.new 0 ≡ 0 }
     ensures same_len { length places.new ≡ length places.old }
     ensures same_end { KeepsEnd source.old source.new }
 {
-    match read_quickly::<false>(source, places, width) {
-        Some(end) => Ok(end),
-        None => read_exactly(source, places, width),
+    crate::laws::one_dimensional_rows_are_read_as_nothing_else();
+    let mut ahead = source.again();
+    let mut runs = Runs {
+        end: 1,
+        total: 0,
+        is_chosen: true,
+    };
+    while runs.total < width {
+        if let Some(pair) = ahead.pair_within(runs.total, width) {
+            let middle = runs.total + pair.white;
+            let next = turn_right(places, runs.end, middle);
+            runs.total = middle + pair.black;
+            runs.end = turn_right(places, next, runs.total);
+            continue;
+        }
+        read_on(&mut ahead, places, width, Colour::White, &mut runs)?;
+        if runs.total < width {
+            read_on(&mut ahead, places, width, Colour::Black, &mut runs)?;
+        }
     }
+    source.go_to(&ahead);
+    Ok(runs)
 }
 
 /// Reads a row in one-dimensional coding: runs of white and black pels in turn, white first, up to
@@ -80,18 +138,8 @@ pub fn read_1d(source: &mut BitSource, row: &mut Row) -> Result<(), RowFault>
     // The source goes on in the same bits.
     ensures same_end { KeepsEnd source.old source.new }
 {
-    let width = row.width;
-    let places = row.places.as_mut_slice();
-    match read_places(source, places, width) {
-        Ok(end) => {
-            row.end = close(places, end, width);
-            Ok(())
-        }
-        Err(fault) => {
-            row.end = close(places, 1, width);
-            Err(fault)
-        }
-    }
+    read_1d_choice(source, row)?;
+    Ok(())
 }
 
 /// Reads a row as `read_1d` does, and answers whether its codes are seen to be those that T.4
@@ -114,11 +162,14 @@ pub fn read_1d_choice(source: &mut BitSource, row: &mut Row) -> Result<bool, Row
 {
     let width = row.width;
     let places = row.places.as_mut_slice();
-    if let Some(end) = read_quickly::<true>(source, places, width) {
-        row.end = close(places, end, width);
-        return Ok(true);
+    match read_runs(source, places, width) {
+        Ok(runs) => {
+            row.end = close(places, runs.end, width);
+            Ok(runs.is_chosen)
+        }
+        Err(fault) => {
+            row.end = close(places, 1, width);
+            Err(fault)
+        }
     }
-    row.end = close(places, 1, width);
-    read_1d(source, row)?;
-    Ok(false)
 }

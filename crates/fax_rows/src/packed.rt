@@ -95,9 +95,9 @@ fn pack_words(places: &[u32], end: usize, width: u32, words: usize, out: &mut [u
             fill(out, 8 * k, 8 * change, byte);
             k = change;
         } else {
-            let (word, behind) = packed_word(places, end, width, k as u32, passed);
+            let (word, after) = packed_word(places, end, width, k as u32, passed);
             write_word(out, 8 * k, word);
-            passed = behind;
+            passed = after;
             k += 1;
         }
     }
@@ -116,12 +116,12 @@ fn packed_word(places: &[u32], end: usize, width: u32, k: u32, passed: usize) ->
 {
     let to = WORD * k + WORD;
     let mut word = if passed % 2 == 1 { 0 } else { u64::MAX };
-    let mut behind = passed;
-    while places[behind] < to {
-        word ^= u64::MAX >> (places[behind] % WORD);
-        behind += 1;
+    let mut after = passed;
+    while places[after] < to {
+        word ^= u64::MAX >> (places[after] % WORD);
+        after += 1;
     }
-    (word, behind)
+    (word, after)
 }
 
 /// Writes a word at a place, the highest byte first.
@@ -164,9 +164,9 @@ fn pack_rest(places: &[u32], end: usize, width: u32, from: usize, passed: usize,
             fill(out, k, change, byte);
             k = change;
         } else {
-            let (byte, behind) = packed_byte(places, end, width, 8 * k as u32, passed);
+            let (byte, after) = packed_byte(places, end, width, 8 * k as u32, passed);
             out[k] = byte;
-            passed = behind;
+            passed = after;
             k += 1;
         }
     }
@@ -197,17 +197,17 @@ fn packed_byte(places: &[u32], end: usize, width: u32, from: u32, passed: usize)
     let to = width.min(from + 8);
     let mut byte = 0;
     let mut at = from;
-    let mut behind = passed;
+    let mut after = passed;
     while at < to {
-        let next = to.min(places[behind]);
-        byte = with_run(byte, next - at, behind % 2 == 0);
+        let next = to.min(places[after]);
+        byte = with_run(byte, next - at, after % 2 == 0);
         at = next;
         if at < to {
-            behind += 1;
+            after += 1;
         }
     }
     let padded = with_run(byte, from + 8 - to, false);
-    (padded as u8, behind)
+    (padded as u8, after)
 }
 
 /// The number of these bits, and `n` bits more of one colour after them.

@@ -22,7 +22,7 @@ pub(crate) fn places_up_to(places: &[u32], end: usize, i: u32) -> usize
     requires started { 0 < end }
     requires within { end ≤ length places.now }
     requires first { slice_index places.now 0 ≡ 0 }
-    ensures { Spec.IsBehind places.now end i result }
+    ensures { Spec.ArePlacesUpTo places.now end i result }
 {
     let mut low = 1;
     let mut high = end;
@@ -58,7 +58,7 @@ pub(crate) fn turn(places: &mut [u32], end: usize, place: u32) -> usize
 /// What `turn` does, after a run of pels that ends at the place: where it has some, the last place
 /// is another one.
 #[inline(always)]
-pub(crate) fn turn_behind(places: &mut [u32], end: usize, place: u32, run: u32) -> usize
+pub(crate) fn turn_after(places: &mut [u32], end: usize, place: u32, run: u32) -> usize
     requires ascending { Spec.IsAscending places.old end }
     requires last { slice_index places.old (end - 1) + run ≤ place }
     requires room { end < length places.old }

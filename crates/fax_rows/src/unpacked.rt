@@ -65,7 +65,7 @@ fn put_word(places: &mut [u32], end: usize, from: u32, before: u64, word: u64) -
     ensures pels { (i : ℕ) → i < 64
         → turned TurnsFrom (take result places.new) (from + i)
         ≡ Spec.colour_of_bit (word_bit word i) }
-    ensures behind { (k : ℕ) → from + 64 ≤ k
+    ensures after { (k : ℕ) → from + 64 ≤ k
         → turned TurnsFrom (take result places.new) k ≡ Spec.colour_of_bit (word_bit word 63) }
     ensures same_len { length places.new ≡ length places.old }
 {

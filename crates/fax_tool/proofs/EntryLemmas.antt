@@ -178,20 +178,20 @@ module _ (id : Text) (parser : ValueParser) where
         go true none = option_passes a v h fit none all
         go false none = flag_passes a v h fit none all
 
-    short_passes : (o : Option Rule) (rest : Text) (h : Held) (behind : Held → Held × Outcome) (behind_fault : Held → Kinds)
-        → ((h : Held) → behind_fault h ≡ [] → ArePassed h.rows → ArePassed (behind h).0.rows) → IsFoundOf o
-        → short_fault c again o rest h behind_fault ≡ [] → ArePassed h.rows → ArePassed (short_met c o rest h behind).0.rows
-    short_passes None rest h behind behind_fault others fit none all = all
-    short_passes (Some a) rest h behind behind_fault others fit none all = go (takes_values a) none
+    short_passes : (o : Option Rule) (rest : Text) (h : Held) (after : Held → Held × Outcome) (after_fault : Held → Kinds)
+        → ((h : Held) → after_fault h ≡ [] → ArePassed h.rows → ArePassed (after h).0.rows) → IsFoundOf o
+        → short_fault c again o rest h after_fault ≡ [] → ArePassed h.rows → ArePassed (short_met c o rest h after).0.rows
+    short_passes None rest h after after_fault others fit none all = all
+    short_passes (Some a) rest h after after_fault others fit none all = go (takes_values a) none
       where
         go : (b : Bool)
             → cond b (option_fault c again a (attached_value rest) h) (or_else (react_fault c again a [] h)
-            (behind_fault (reacted c a [] h))) ≡ []
-            → ArePassed (cond b (option_met c a (attached_value rest) h) (behind (reacted c a [] h))).0.rows
+            (after_fault (reacted c a [] h))) ≡ []
+            → ArePassed (cond b (option_met c a (attached_value rest) h) (after (reacted c a [] h))).0.rows
         go true none = option_passes a (attached_value rest) h fit none all
         go false none =
             let react = react_fault c again a [] h in
-            let later = behind_fault (reacted c a [] h) in
+            let later = after_fault (reacted c a [] h) in
             others (reacted c a [] h) (none_then react later none) (reacted_passes a [] h fit (none_first react later none) all)
 
     bundle_passes : (k : ℕ) (flags : Text) (skip : ℕ) (so_far : Outcome) (h : Held) → flags_fault c again k flags skip h ≡ []
@@ -206,12 +206,12 @@ module _ (id : Text) (parser : ValueParser) where
             → ArePassed (bundle_met c k rest skip so_far h).0.rows)
             → (x : Option ℕ) (skip : ℕ) → bundle_step_fault c again x flags skip h (flags_fault c again k) ≡ []
             → ArePassed (bundle_step c x flags skip so_far h (bundle_met c k)).0.rows
-        step behind None skip none = all
-        step behind (Some x) zero none =
+        step after None skip none = all
+        step after (Some x) zero none =
             let rest = drop (length (encode_utf8 x)) flags in
             short_passes (arg_by_short c x) rest h (bundle_met c k rest 0 done) (flags_fault c again k rest 0)
-            (λ h none all. behind rest 0 done h none all) (found_fits _ c fits) none all
-        step behind (Some x) (suc skip) none = behind (drop (length (encode_utf8 x)) flags) skip so_far h none all
+            (λ h none all. after rest 0 done h none all) (found_fits _ c fits) none all
+        step after (Some x) (suc skip) none = after (drop (length (encode_utf8 x)) flags) skip so_far h none all
 
     plain_passes : (waiting : Waiting) (word : Text) (h : Held) → ArePassed h.rows → ArePassed (plain_word c waiting word h).0.rows
     plain_passes idle word h all = all
@@ -348,8 +348,8 @@ module _ (id : Text) (parser : ValueParser) where
         let settle = settle_fault s.rules again end in
         let defaults = defaults_fault rows s.rules in
         let check = check_fault s (finished s.rules end) has in
-        let behind = none_then turns (or_else below (or_else settle (or_else defaults check))) none in
-        let above = none_then below (or_else settle (or_else defaults check)) behind in
+        let after = none_then turns (or_else below (or_else settle (or_else defaults check))) none in
+        let above = none_then below (or_else settle (or_else defaults check)) after in
         let last = none_then settle (or_else defaults check) above in
         let held = walk_passes names (walk_from nothing_held) words (none_first turns _ none) tt in
         defaults_pass s.rules rows fits (none_first defaults check last)

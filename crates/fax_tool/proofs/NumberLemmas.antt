@@ -94,24 +94,24 @@ pub length_long : (n : ℕ) → n < 2 ^ 32 → length (decimal n) ≤ 10
 length_long n short = length-decimal-le 10 n (omega arith) (omega arith) (omega arith)
 
 -- a byte that is written after those before it
-pub behind : (bytes before : List ℕ) (at end b : ℕ) → end ≡ at + 1 → at < length bytes → take at bytes ≡ before
+pub after : (bytes before : List ℕ) (at end b : ℕ) → end ≡ at + 1 → at < length bytes → take at bytes ≡ before
     → take end (set bytes at b) ≡ before ++ b ∷ []
-behind bytes before at end b next room is = take-set_at bytes at end b next room ∙ ap (λ xs. xs ++ b ∷ []) is
+after bytes before at end b next room is = take-set_at bytes at end b next room ∙ ap (λ xs. xs ++ b ∷ []) is
 
 module _ (bytes : List ℕ) (at : ℕ) where
   pub one : (a : ℕ) → at + 1 ≤ length bytes → take (at + 1) (set bytes at a) ≡ take at bytes ++ a ∷ []
-  one a room = behind bytes (take at bytes) at (at + 1) a refl (omega arith) refl
+  one a room = after bytes (take at bytes) at (at + 1) a refl (omega arith) refl
 
   pub two : (a b : ℕ) → at + 2 ≤ length bytes → take (at + 2) (set (set bytes at a) (at + 1) b) ≡ take at bytes ++ a ∷ b ∷ []
   two a b room =
-      behind (set bytes at a) (take at bytes ++ a ∷ []) (at + 1) (at + 2) b (omega arith) (omega (arith, length-set bytes at a))
+      after (set bytes at a) (take at bytes ++ a ∷ []) (at + 1) (at + 2) b (omega arith) (omega (arith, length-set bytes at a))
       (one a (omega arith))
       ∙ append_assoc (take at bytes) (a ∷ []) (b ∷ [])
 
   pub three : (a b c : ℕ) → at + 3 ≤ length bytes
       → take (at + 3) (set (set (set bytes at a) (at + 1) b) (at + 2) c) ≡ take at bytes ++ a ∷ b ∷ c ∷ []
   three a b c room =
-      behind (set (set bytes at a) (at + 1) b) (take at bytes ++ a ∷ b ∷ []) (at + 2) (at + 3) c (omega arith)
+      after (set (set bytes at a) (at + 1) b) (take at bytes ++ a ∷ b ∷ []) (at + 2) (at + 3) c (omega arith)
       (omega (arith, length-set bytes at a, length-set (set bytes at a) (at + 1) b)) (two a b (omega arith))
       ∙ append_assoc (take at bytes) (a ∷ b ∷ []) (c ∷ [])
 

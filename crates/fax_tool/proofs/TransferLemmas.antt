@@ -19,12 +19,12 @@ pub record IsPartWritten (old new : Option (List ℕ)) (bytes rest : List ℕ) :
   pub written : Appends old new front
 
 -- what is left after n bytes, as the code cuts it
-rest_behind : (rest : List ℕ) (n : ℕ) → take (length rest - n) (drop n rest) ≡ drop n rest
-rest_behind rest n = ap (λ k. take k (drop n rest)) (sym (length-drop n rest)) ∙ take-length (drop n rest)
+rest_after : (rest : List ℕ) (n : ℕ) → take (length rest - n) (drop n rest) ≡ drop n rest
+rest_after rest n = ap (λ k. take k (drop n rest)) (sym (length-drop n rest)) ∙ take-length (drop n rest)
 
 pub more_written : (old mid new : Option (List ℕ)) (bytes rest : List ℕ) (n : ℕ) → IsPartWritten old mid bytes rest
     → Appends mid new (take n rest) → IsPartWritten old new bytes (take (length rest - n) (drop n rest))
-more_written old mid new bytes rest n part appends = rw (rest_behind rest n) (record {
+more_written old mid new bytes rest n part appends = rw (rest_after rest n) (record {
   front = part.front ++ take n rest;
   parts =
       part.parts ∙ ap (λ xs. part.front ++ xs) (sym (take-append-drop n rest)) ∙ sym (append_assoc part.front (take n rest) (drop n rest));

@@ -12,7 +12,7 @@ use Rattle.std.specs.Str.Parse.{IsNumeral, digits_value, without_leading_plus}
 abbrev pub Text : Type 0
 Text = List ℕ
 
--- the words behind references
+-- the words after references
 abbrev pub texts : List (Bor Text) → List Text
 texts = map (λ word. word.now)
 

@@ -8,23 +8,23 @@ use Rattle.fax_walk.specs.declared.options.ConvertFault.TheVariants.{Pbm as PbmS
 use Rattle.fax_walk.specs.code.Conversion.{AreImagesRead, IsImageCount, IsImagesFault}
 
 pub none_read : (bytes : List ℕ) → AreImagesRead bytes bytes 0
-none_read bytes = record { images = []; count_is = refl; behind = λ more end are. are }
+none_read bytes = record { images = []; count_is = refl; after = λ more end are. are }
 
 pub one_more : (bytes left : List ℕ) (count : ℕ) (image : Image) (rest : List ℕ) → AreImagesRead bytes left count → IsImage left image rest
     → AreImagesRead bytes rest (count + 1)
 one_more bytes left count image rest read is = record {
   images = read.images ++ image ∷ [];
   count_is = length-append read.images (image ∷ []) ∙ ap (λ n. n + 1) read.count_is;
-  behind = λ more end are.
+  after = λ more end are.
       subst (λ (l : List Image). AreImages bytes l end) (sym (append_assoc read.images (image ∷ []) more))
-      (read.behind (image ∷ more) end (rest, is, are));
+      (read.after (image ∷ more) end (rest, is, are));
 }
 
 pub all_read : (bytes left : List ℕ) (count : ℕ) → AreImagesRead bytes left count → left ≡ [] → IsImageCount bytes count
 all_read bytes left count read empty = record {
   images = read.images ++ [];
   count_is = ap length (append-nil read.images) ∙ read.count_is;
-  are = read.behind [] None (inl (empty, refl));
+  are = read.after [] None (inl (empty, refl));
 }
 
 pub fault_met : (bytes left : List ℕ) (count : ℕ) (fault : PbmFault) → AreImagesRead bytes left count → (left ≡ [] → ⊥)
@@ -33,7 +33,7 @@ pub fault_met : (bytes left : List ℕ) (count : ℕ) (fault : PbmFault) → Are
 fault_met bytes left count fault read some is = record {
   images = read.images ++ [];
   fault = fault;
-  are = read.behind [] (Some fault) (inr (fault, some, is, refl));
+  are = read.after [] (Some fault) (inr (fault, some, is, refl));
   answer_is = ap (λ n. PbmSource n fault) (sym (ap length (append-nil read.images) ∙ read.count_is));
 }
 

@@ -30,9 +30,9 @@ version_has_no_colon zero within = λ e. omega arith
 version_has_no_colon (suc i) within = absurd (omega arith)
 
 -- the text after the first colon of a cursor's
-pub behind_version : (text : List ℕ) (at : Cursor) (r : Option (Bor (List ℕ) × Bor (List ℕ))) → IsSplitOnceResult 58 text r
+pub after_version : (text : List ℕ) (at : Cursor) (r : Option (Bor (List ℕ) × Bor (List ℕ))) → IsSplitOnceResult 58 text r
     → text ≡ cursor_text at → MatchOption r ⊥ (λ x. (x.0.now ≡ version) × (x.1.now ≡ (decimal at.page ++ 58 ∷ []) ++ decimal at.row))
-behind_version text at r cut is = split_after 58 text version _ r cut (omega arith) is version_has_no_colon
+after_version text at r cut is = split_after 58 text version _ r cut (omega arith) is version_has_no_colon
 
 -- the two numbers of a cursor's text
 pub page_and_row : (place : List ℕ) (at : Cursor) (r : Option (Bor (List ℕ) × Bor (List ℕ))) → IsSplitOnceResult 58 place r

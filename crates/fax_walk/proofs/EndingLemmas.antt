@@ -10,7 +10,7 @@ use Rattle.fax_files.specs.declared.PageForm.{PageForm}
 use Rattle.fax_files.specs.Directory.{header, IsChain}
 use Rattle.fax_files.specs.laws.Files.{HasOneChain, FilesHaveOneChain}
 use Rattle.fax_files.specs.views.Page.{IsPageForm}
-use Rattle.fax_files.specs.views.Chain.{ChainState, IsDueAnswer, behind_answer}
+use Rattle.fax_files.specs.views.Chain.{ChainState, IsDueAnswer, after_answer}
 use Rattle.fax_files.specs.views.Tiff.{TiffDirectory, directory_of, form_of}
 use Rattle.fax_walk.specs.declared.cursor.Cursor.{Cursor}
 use Rattle.fax_walk.specs.declared.end.End.{End}
@@ -49,7 +49,7 @@ header_refused file at fault refused = rw (refused, IsPageAt) refl
 -- a directory stands there
 pub goes_on : (file : List ℕ) (number : ℕ) (chain new : ChainState) (answer : Result (Option TiffDirectory) FileFault)
     (directory : TiffDirectory)
-    → IsChainBefore file number chain → IsDueAnswer chain answer → answer ≡ Ok (Some directory) → new ≡ behind_answer chain answer
+    → IsChainBefore file number chain → IsDueAnswer chain answer → answer ≡ Ok (Some directory) → new ≡ after_answer chain answer
     → IsChainBefore file (number + 1) new
 goes_on file number chain new answer directory before due is counted =
     let counted : new ≡ record chain { given = chain.given + 1 } = rw is at counted in
@@ -134,7 +134,7 @@ module _ (file : List ℕ) (number : ℕ) (chain : ChainState) (answer : Result 
         (Fault number 0 (File refused))
     fields_refused refused bad r = rw bad at (found r)
 
-    pub page_due : (new : ChainState) (form : PageForm) → new ≡ behind_answer chain answer → form_of directory ≡ Ok form → IsPageForm form
+    pub page_due : (new : ChainState) (form : PageForm) → new ≡ after_answer chain answer → form_of directory ≡ Ok form → IsPageForm form
         → IsPageDue number new directory form
     page_due new form counted form_is limits = record {
       its = record {

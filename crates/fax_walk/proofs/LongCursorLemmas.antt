@@ -24,10 +24,10 @@ abbrev pub run_and : ℕ → List ℕ
 run_and run = decimal run ++ 44 ∷ []
 
 -- runs after the first one, and in front of the last
-behind_first : (runs : List ℕ) (last : ℕ) → flat_map and_run (runs ++ last ∷ []) ≡ 44 ∷ (flat_map run_and runs ++ decimal last)
-behind_first [] last = append-nil (44 ∷ decimal last)
-behind_first (run ∷ runs) last =
-    ap (λ more. 44 ∷ (decimal run ++ more)) (behind_first runs last)
+after_first : (runs : List ℕ) (last : ℕ) → flat_map and_run (runs ++ last ∷ []) ≡ 44 ∷ (flat_map run_and runs ++ decimal last)
+after_first [] last = append-nil (44 ∷ decimal last)
+after_first (run ∷ runs) last =
+    ap (λ more. 44 ∷ (decimal run ++ more)) (after_first runs last)
     ∙ ap (λ more. 44 ∷ more)
     (sym (append_assoc (decimal run) (44 ∷ []) (flat_map run_and runs ++ decimal last))
     ∙ sym (append_assoc (run_and run) (flat_map run_and runs) (decimal last)))
@@ -35,7 +35,7 @@ behind_first (run ∷ runs) last =
 pub runs_text-push : (runs : List ℕ) (last : ℕ) → runs_text (runs ++ last ∷ []) ≡ flat_map run_and runs ++ decimal last
 runs_text-push [] last = append-nil (decimal last)
 runs_text-push (run ∷ runs) last =
-    ap (λ more. decimal run ++ more) (behind_first runs last)
+    ap (λ more. decimal run ++ more) (after_first runs last)
     ∙ sym (append_assoc (decimal run) (44 ∷ []) (flat_map run_and runs ++ decimal last))
     ∙ sym (append_assoc (run_and run) (flat_map run_and runs) (decimal last))
 
@@ -68,25 +68,25 @@ pub record AreRunsCut (text runs rest : List ℕ) : Type 0 where
   pub others : IsRunsText text → IsRunsText rest
 
 -- the text before a comma is a run's, and after it stand the others
-before_comma : (rest : List ℕ) (run behind : Bor (List ℕ)) → IsSplitOnceResult 44 rest (Some (run, behind))
+before_comma : (rest : List ℕ) (run after : Bor (List ℕ)) → IsSplitOnceResult 44 rest (Some (run, after))
     → (runs : List ℕ) → All (λ n. n < 2 ^ 32) runs → 0 < length runs → rest ≡ runs_text runs
-    → IsRunText run.now × IsRunsText behind.now
-before_comma rest run behind cut [] short some is = absurd (omega arith)
-before_comma rest run behind cut (n ∷ []) short some is =
-    let parts = split_parts 44 rest (Some (run, behind)) cut (omega arith) in
-    let whole : run.now ++ 44 ∷ behind.now ≡ decimal n = sym parts.0 ∙ is ∙ append-nil (decimal n) in
+    → IsRunText run.now × IsRunsText after.now
+before_comma rest run after cut [] short some is = absurd (omega arith)
+before_comma rest run after cut (n ∷ []) short some is =
+    let parts = split_parts 44 rest (Some (run, after)) cut (omega arith) in
+    let whole : run.now ++ 44 ∷ after.now ≡ decimal n = sym parts.0 ∙ is ∙ append-nil (decimal n) in
     let small : n < 2 ^ 32 = All-head (λ k. k < 2 ^ 32) n [] short in
     let zero_more : length run.now - length run.now ≡ 0 = omega arith in
-    let at : get_or (run.now ++ 44 ∷ behind.now) (length run.now) 0 ≡ 44 =
-    get_or-append_right run.now (44 ∷ behind.now) (length run.now) 0 (omega arith)
-    ∙ ap (λ i. get_or (44 ∷ behind.now) i 0) zero_more in
+    let at : get_or (run.now ++ 44 ∷ after.now) (length run.now) 0 ≡ 44 =
+    get_or-append_right run.now (44 ∷ after.now) (length run.now) 0 (omega arith)
+    ∙ ap (λ i. get_or (44 ∷ after.now) i 0) zero_more in
     absurd
     (no_comma n small (length run.now)
-    (omega (arith, ap (λ (s : List ℕ). length s) whole, length-append run.now (44 ∷ behind.now)))
+    (omega (arith, ap (λ (s : List ℕ). length s) whole, length-append run.now (44 ∷ after.now)))
     (ap (λ s. get_or s (length run.now) 0) (sym whole) ∙ at))
-before_comma rest run behind cut (n ∷ m ∷ runs) short some is =
+before_comma rest run after cut (n ∷ m ∷ runs) short some is =
     let small : n < 2 ^ 32 = All-head (λ k. k < 2 ^ 32) n (m ∷ runs) short in
-    let parts = split_after 44 rest (decimal n) (runs_text (m ∷ runs)) (Some (run, behind)) cut (omega arith) is (no_comma n small) in (
+    let parts = split_after 44 rest (decimal n) (runs_text (m ∷ runs)) (Some (run, after)) cut (omega arith) is (no_comma n small) in (
       record { run = n; short = small; text_is = parts.0 },
       record {
         runs = m ∷ runs;
@@ -106,25 +106,25 @@ no_comma_left rest cut (n ∷ m ∷ runs) short some is =
     let small : n < 2 ^ 32 = All-head (λ k. k < 2 ^ 32) n (m ∷ runs) short in
     absurd (split_after 44 rest (decimal n) (runs_text (m ∷ runs)) None cut (omega arith) is (no_comma n small))
 
-pub run_before : (rest : List ℕ) (run behind : Bor (List ℕ)) → IsSplitOnceResult 44 rest (Some (run, behind)) → IsRunsText rest
-    → IsRunText run.now × IsRunsText behind.now
-run_before rest run behind cut is = before_comma rest run behind cut is.runs is.short is.some is.text_is
+pub run_before : (rest : List ℕ) (run after : Bor (List ℕ)) → IsSplitOnceResult 44 rest (Some (run, after)) → IsRunsText rest
+    → IsRunText run.now × IsRunsText after.now
+run_before rest run after cut is = before_comma rest run after cut is.runs is.short is.some is.text_is
 
 pub run_left : (rest : List ℕ) → IsSplitOnceResult 44 rest None → IsRunsText rest → IsRunText rest
 run_left rest cut is = no_comma_left rest cut is.runs is.short is.some is.text_is
 
 -- one run more is cut
-pub run_cut : (text runs rest : List ℕ) (run behind : Bor (List ℕ)) (n : ℕ) → AreRunsCut text runs rest
-    → IsSplitOnceResult 44 rest (Some (run, behind)) → run.now ≡ decimal n → AreRunsCut text (runs ++ n ∷ []) behind.now
-run_cut text runs rest run behind n so_far cut is = record {
+pub run_cut : (text runs rest : List ℕ) (run after : Bor (List ℕ)) (n : ℕ) → AreRunsCut text runs rest
+    → IsSplitOnceResult 44 rest (Some (run, after)) → run.now ≡ decimal n → AreRunsCut text (runs ++ n ∷ []) after.now
+run_cut text runs rest run after n so_far cut is = record {
   parts =
-      so_far.parts ∙ ap (λ more. flat_map run_and runs ++ more) (parts.0 ∙ ap (λ digits. digits ++ 44 ∷ behind.now) is)
-      ∙ sym (more_cut runs n behind.now);
-  others = λ whole. (run_before rest run behind cut (so_far.others whole)).1;
+      so_far.parts ∙ ap (λ more. flat_map run_and runs ++ more) (parts.0 ∙ ap (λ digits. digits ++ 44 ∷ after.now) is)
+      ∙ sym (more_cut runs n after.now);
+  others = λ whole. (run_before rest run after cut (so_far.others whole)).1;
 }
   where
-    parts : (rest ≡ run.now ++ 44 ∷ behind.now) × ((i : ℕ) → i < length run.now → get_or run.now i 0 ≢ 44)
-    parts = split_parts 44 rest (Some (run, behind)) cut (omega arith)
+    parts : (rest ≡ run.now ++ 44 ∷ after.now) × ((i : ℕ) → i < length run.now → get_or run.now i 0 ≢ 44)
+    parts = split_parts 44 rest (Some (run, after)) cut (omega arith)
 
 -- the last run is read
 pub all_cut : (text runs rest : List ℕ) (n : ℕ) → AreRunsCut text runs rest → rest ≡ decimal n → text ≡ runs_text (runs ++ n ∷ [])
@@ -137,19 +137,19 @@ none_before_colon text cut = λ number rest small is.
     split_after 58 text (decimal number) rest None cut (omega arith) is (no_colon number small)
 
 -- nor does one where no number stands before the colon
-pub no_number_before : (text : List ℕ) (digits behind : Bor (List ℕ)) → IsSplitOnceResult 58 text (Some (digits, behind))
+pub no_number_before : (text : List ℕ) (digits after : Bor (List ℕ)) → IsSplitOnceResult 58 text (Some (digits, after))
     → ((number : ℕ) → number < 2 ^ 32 → digits.now ≢ decimal number) → IsNumberCut text None
-no_number_before text digits behind cut none = λ number rest small is.
-    let parts = split_after 58 text (decimal number) rest (Some (digits, behind)) cut (omega arith) is (no_colon number small) in
+no_number_before text digits after cut none = λ number rest small is.
+    let parts = split_after 58 text (decimal number) rest (Some (digits, after)) cut (omega arith) is (no_colon number small) in
     none number small parts.0
 
 -- the number before the first colon is the only one
-pub number_before : (text : List ℕ) (digits behind : Bor (List ℕ)) (n : ℕ) → IsSplitOnceResult 58 text (Some (digits, behind))
-    → n < 2 ^ 32 → digits.now ≡ decimal n → IsNumberCut text (Some (n, behind))
-number_before text digits behind n cut small is = (
-  (split_parts 58 text (Some (digits, behind)) cut (omega arith)).0 ∙ ap (λ d. d ++ 58 ∷ behind.now) is,
+pub number_before : (text : List ℕ) (digits after : Bor (List ℕ)) (n : ℕ) → IsSplitOnceResult 58 text (Some (digits, after))
+    → n < 2 ^ 32 → digits.now ≡ decimal n → IsNumberCut text (Some (n, after))
+number_before text digits after n cut small is = (
+  (split_parts 58 text (Some (digits, after)) cut (omega arith)).0 ∙ ap (λ d. d ++ 58 ∷ after.now) is,
   λ number rest short text_is.
-      let parts = split_after 58 text (decimal number) rest (Some (digits, behind)) cut (omega arith) text_is (no_colon number short) in
+      let parts = split_after 58 text (decimal number) rest (Some (digits, after)) cut (omega arith) text_is (no_colon number short) in
       (decimal_injective number n (omega arith) (omega arith) (sym parts.0 ∙ is), sym parts.1),
 )
 
@@ -170,12 +170,12 @@ pub text_by_numbers : (place : LongPlace)
 text_by_numbers place = rw two (simp append_assoc)
 
 -- a text of these numbers is a long cursor's
-pub is_long_text : (text behind_version behind_page behind_row behind_bits : List ℕ) (version : ℕ) (place : LongPlace)
-    → text ≡ number_and version behind_version → version ≡ 2 → behind_version ≡ number_and place.at.page behind_page
-    → behind_page ≡ number_and place.at.row behind_row → behind_row ≡ number_and place.bits behind_bits
-    → behind_bits ≡ runs_text place.runs → text ≡ long_cursor_text place
-is_long_text text behind_version behind_page behind_row behind_bits version place whole two page row bits runs =
-    whole ∙ ap (λ n. number_and n behind_version) two ∙ ap (number_and 2) (page ∙ ap (number_and place.at.page)
+pub is_long_text : (text after_version after_page after_row after_bits : List ℕ) (version : ℕ) (place : LongPlace)
+    → text ≡ number_and version after_version → version ≡ 2 → after_version ≡ number_and place.at.page after_page
+    → after_page ≡ number_and place.at.row after_row → after_row ≡ number_and place.bits after_bits
+    → after_bits ≡ runs_text place.runs → text ≡ long_cursor_text place
+is_long_text text after_version after_page after_row after_bits version place whole two page row bits runs =
+    whole ∙ ap (λ n. number_and n after_version) two ∙ ap (number_and 2) (page ∙ ap (number_and place.at.page)
     (row ∙ ap (number_and place.at.row) (bits ∙ ap (number_and place.bits) runs)))
     ∙ sym (text_by_numbers place)
 

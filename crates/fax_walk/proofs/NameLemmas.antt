@@ -61,10 +61,10 @@ one_cursor at other pages rows =
 -- the texts of cursors differ
 cursors : (at other : Cursor) → IsCursor at → IsCursor other → cursor_text at ≡ cursor_text other → at ≡ other
 cursors at other is is_too e =
-    let behind : (decimal at.page ++ 58 ∷ []) ++ decimal at.row ≡ (decimal other.page ++ 58 ∷ []) ++ decimal other.row =
+    let after : (decimal at.page ++ 58 ∷ []) ++ decimal at.row ≡ (decimal other.page ++ 58 ∷ []) ++ decimal other.row =
     ap (λ (l : List ℕ). drop 2 l) e in
     let numbers : number_and at.page (decimal at.row) ≡ number_and other.page (decimal other.row) =
-    sym (append_assoc (decimal at.page) (58 ∷ []) (decimal at.row)) ∙ behind
+    sym (append_assoc (decimal at.page) (58 ∷ []) (decimal at.row)) ∙ after
     ∙ append_assoc (decimal other.page) (58 ∷ []) (decimal other.row) in
     let parts = before_colon at.page other.page (decimal at.row) (decimal other.row) is.page is_too.page numbers in
     one_cursor at other parts.0 (one_number at.row other.row is.row is_too.row parts.1)

@@ -39,7 +39,7 @@ use Rattle.fax_walk.specs.code.Stages.{GivesRow, HasSkipped, IsNoInner, IsNoPlac
 use Rattle.fax_walk.specs.code.Stages.{IsStripOf, KeepsPlace}
 use Rattle.fax_walk.specs.code.Stages.{PageState, ReadsPageRow, StopsAtRow, item_of, place_of, row_of, skipped}
 use Rattle.fax_walk.proofs.InOrderLemmas.{leads_on}
-use Rattle.fax_walk.proofs.RunLemmas.{pels_behind}
+use Rattle.fax_walk.proofs.RunLemmas.{pels_after}
 use Rattle.fax_walk.proofs.StripPlaceLemmas.{in_strip}
 use Rattle.fax_walk.proofs.RowLawLemmas.{exchanged_twice}
 
@@ -429,7 +429,7 @@ refused_after file due p (Err (Ended end)) page_is file_is refused =
 pub inner_is : (width : ℕ) (bytes : List ℕ) (place : LongPlace) (reference : List Colour) → place.bits ≤ 8 * length bytes
     → length reference ≡ width → runs_of reference ≡ place.runs → IsInner width bytes place × (reference ≡ pels_of White place.runs)
 inner_is width bytes place reference within width_is runs =
-    let pels : pels_of White place.runs ≡ reference = ap (pels_of White) (sym runs) ∙ pels_behind White 0 reference in
+    let pels : pels_of White place.runs ≡ reference = ap (pels_of White) (sym runs) ∙ pels_after White 0 reference in
     ((within, rw pels width_is, rw pels runs), sym pels)
 
 -- a place inside a strip of a page that is due

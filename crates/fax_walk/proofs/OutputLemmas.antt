@@ -35,7 +35,7 @@ use Rattle.fax_walk.specs.declared.open_strips.OpenStrips.{OpenStrips}
 use Rattle.fax_walk.specs.declared.sheet.Sheet.{Sheet}
 use Rattle.fax_walk.specs.Converted.{SourcePage, written_page, target_bytes, IsTooLarge}
 use Rattle.fax_walk.specs.code.OpenStrips.{strips_of, coded_strips, HasPutRows, AreInStrip}
-use Rattle.fax_walk.specs.code.Output.{Progress, Part, no_rows, with_row, page_of, behind, nothing_written, sheet_form, coding_of}
+use Rattle.fax_walk.specs.code.Output.{Progress, Part, no_rows, with_row, page_of, after, nothing_written, sheet_form, coding_of}
 use Rattle.fax_walk.proofs.OpenStripsLemmas.{all_coded}
 use Rattle.fax_walk.specs.code.Output.{StaysTooLarge, HasImages, HasPages, HasRowsOnPage, HasImageRows, BecomesTooLarge}
 
@@ -291,7 +291,7 @@ module _ (part : Part) (coding : Coding) (writer : Writing) (page : OpenStrips) 
       ∙ ap (with_pages empty_file total 0) (sym (map-append written part.at.pages (source ∷ [])))
 
   pub page_ended : (new : Writing) → new ≡ with_one_more writer page.form page.done.items
-      → length_with writer page.form page.done.items ≤ max_file → HasPages coding new (behind part)
+      → length_with writer page.form page.done.items ≤ max_file → HasPages coding new (after part)
   page_ended new new_is fits = record {
     coding_is = has.0.coding_is;
     few = has.0.few;
@@ -301,7 +301,7 @@ module _ (part : Part) (coding : Coding) (writer : Writing) (page : OpenStrips) 
     fits = omega (arith, ap (λ (w : Writing). length w.written.bytes) new_is, fits);
   }
 
-  pub page_too_large : max_file < length_with writer page.form page.done.items → StaysTooLarge (behind part)
+  pub page_too_large : max_file < length_with writer page.form page.done.items → StaysTooLarge (after part)
   page_too_large large = λ more count.
       let file = map written (pages ++ more) in
       let count_is : length file ≡ total = length-map (pages ++ more) written ∙ count in

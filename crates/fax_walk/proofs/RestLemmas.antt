@@ -54,8 +54,8 @@ steps_rest : (reference : List Colour) (old : Position) (b : List Bool) (positio
 steps_rest reference old b [] new rest steps = all_of b rest steps.1
 steps_rest reference old b (next ∷ more) new rest (unfinished, middle, step, steps) =
     through b middle rest
-    (through b step.behind middle (bits_of step.taken.entry, step.taken.spelled)
-    (step_rest step.mode reference old step.behind next middle step.step))
+    (through b step.after middle (bits_of step.taken.entry, step.taken.spelled)
+    (step_rest step.mode reference old step.after next middle step.step))
     (steps_rest reference next middle more new rest steps)
 
 row_rest : (dimension : Dimension) (width : ℕ) (reference : List Colour) (b : List Bool) (row : List Colour) (rest : List Bool)

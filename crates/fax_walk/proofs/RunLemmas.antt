@@ -2,7 +2,7 @@
 use Rattle.std.proofs.Common.{◌≡◌, ℕ, zero, suc, ◌+◌, List, [], ◌∷◌, ◌++◌, replicate, refl, ap, ◌∙◌, arith}
 use Rattle.fax_bits.specs.declared.Colour.{Colour}
 use Rattle.fax_bits.specs.declared.Colour.TheVariants.{White, Black}
-use Rattle.fax_rows.specs.Rows.{pels_of, runs_behind}
+use Rattle.fax_rows.specs.Rows.{pels_of, runs_after}
 
 replicate_more : (n : ℕ) (colour : Colour) (pels : List Colour) → replicate (n + 1) colour ++ pels ≡ replicate n colour ++ colour ∷ pels
 replicate_more zero colour pels = refl
@@ -11,10 +11,10 @@ replicate_more (suc n) colour pels =
     rw e (ap (λ (l : List Colour). colour ∷ l) (replicate_more n colour pels))
 
 -- the pels of a row's runs are the row
-pub pels_behind : (colour : Colour) (n : ℕ) (row : List Colour) → pels_of colour (runs_behind colour n row) ≡ replicate n colour ++ row
-unfolding runs_behind
-pels_behind colour n [] = refl
-pels_behind White n (White ∷ row) = pels_behind White (n + 1) row ∙ replicate_more n White row
-pels_behind Black n (Black ∷ row) = pels_behind Black (n + 1) row ∙ replicate_more n Black row
-pels_behind White n (Black ∷ row) = ap (λ (l : List Colour). replicate n White ++ l) (pels_behind Black 1 row)
-pels_behind Black n (White ∷ row) = ap (λ (l : List Colour). replicate n Black ++ l) (pels_behind White 1 row)
+pub pels_after : (colour : Colour) (n : ℕ) (row : List Colour) → pels_of colour (runs_after colour n row) ≡ replicate n colour ++ row
+unfolding runs_after
+pels_after colour n [] = refl
+pels_after White n (White ∷ row) = pels_after White (n + 1) row ∙ replicate_more n White row
+pels_after Black n (Black ∷ row) = pels_after Black (n + 1) row ∙ replicate_more n Black row
+pels_after White n (Black ∷ row) = ap (λ (l : List Colour). replicate n White ++ l) (pels_after Black 1 row)
+pels_after Black n (White ∷ row) = ap (λ (l : List Colour). replicate n Black ++ l) (pels_after White 1 row)

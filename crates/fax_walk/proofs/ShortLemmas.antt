@@ -8,7 +8,7 @@ use Rattle.std.proofs.lemmas.List.Elements.{All-cons, All-nil}
 use Rattle.std.proofs.lemmas.Option.{slice_get_within}
 use Rattle.fax_bits.specs.declared.Colour.{Colour}
 use Rattle.fax_bits.specs.declared.Colour.TheVariants.{White}
-use Rattle.fax_rows.specs.Rows.{other, runs_behind, runs_of, same_colour}
+use Rattle.fax_rows.specs.Rows.{other, runs_after, runs_of, same_colour}
 use Rattle.fax_files.specs.declared.FileFault.{FileFault}
 use Rattle.fax_files.specs.Directory.{IsChain, Header, header}
 use Rattle.fax_files.specs.laws.Files.{FilesHaveOneChain, FormsAreWhole}
@@ -40,24 +40,24 @@ module _ (chains : FilesHaveOneChain) (file : List ℕ) where
 
 -- the longest runs of pels are no longer than all of them
 runs_short : (colour : Colour) (n most : ℕ) (pels : List Colour) → n + length pels < most
-    → All (λ run. run < most) (runs_behind colour n pels)
-unfolding runs_behind
+    → All (λ run. run < most) (runs_after colour n pels)
+unfolding runs_after
 runs_short colour n most [] within = All-cons (λ run. run < most) n [] (omega arith) (All-nil (λ run. run < most))
 runs_short colour n most (first ∷ pels) within =
     elim (same_colour first colour)
-    as (λ same. All (λ run. run < most) (if same then runs_behind colour (n + 1) pels else (n ∷ runs_behind (other colour) 1 pels))) [
+    as (λ same. All (λ run. run < most) (if same then runs_after colour (n + 1) pels else (n ∷ runs_after (other colour) 1 pels))) [
       | true ↦ runs_short colour (n + 1) most pels (omega arith)
-      | false ↦ All-cons (λ run. run < most) n (runs_behind (other colour) 1 pels) (omega arith)
+      | false ↦ All-cons (λ run. run < most) n (runs_after (other colour) 1 pels) (omega arith)
           (runs_short (other colour) 1 most pels (omega arith))
     ]
 
 -- there is one at least
-some_run : (colour : Colour) (n : ℕ) (pels : List Colour) → 0 < length (runs_behind colour n pels)
-unfolding runs_behind
+some_run : (colour : Colour) (n : ℕ) (pels : List Colour) → 0 < length (runs_after colour n pels)
+unfolding runs_after
 some_run colour n [] = omega arith
 some_run colour n (first ∷ pels) =
     elim (same_colour first colour)
-    as (λ same. 0 < length (if same then runs_behind colour (n + 1) pels else (n ∷ runs_behind (other colour) 1 pels))) [
+    as (λ same. 0 < length (if same then runs_after colour (n + 1) pels else (n ∷ runs_after (other colour) 1 pels))) [
       | true ↦ some_run colour (n + 1) pels
       | false ↦ omega arith
     ]

@@ -38,9 +38,9 @@ right_of a i true h = grind (arith, nat_tests)
 right_of a i false h = grind (arith, nat_tests)
 
 -- b1 stands right of a0, and b2 right of b1, or after the row
-b1_behind : (reference : List Colour) (a : ℕ) (colour : Colour) → a ≤ length reference → a ≤ b1 reference (Some a) colour
+b1_after : (reference : List Colour) (a : ℕ) (colour : Colour) → a ≤ length reference → a ≤ b1 reference (Some a) colour
 unfolding b1
-b1_behind reference a colour within =
+b1_after reference a colour within =
     let test : ℕ → Bool = λ i. is_right_of (Some a) i && (is_changing reference i && not (same_colour (pel reference i) colour)) in
     elim (found test 0 (length reference)) [
       | inl none ↦ omega (arith, none)
@@ -50,7 +50,7 @@ b1_behind reference a colour within =
 b1_right : (reference : List Colour) (a0 : Option ℕ) (colour : Colour) → unwrap_or a0 0 ≤ length reference
     → unwrap_or a0 0 ≤ b1 reference a0 colour
 b1_right reference None colour within = omega arith
-b1_right reference (Some a) colour within = b1_behind reference a colour within
+b1_right reference (Some a) colour within = b1_after reference a colour within
 
 b2_right : (reference : List Colour) (place : ℕ)
     → (next_change reference (Some place) ≤ length reference)
@@ -109,7 +109,7 @@ steps_paint : (reference : List Colour) (old : Position) (b : List Bool) (positi
 steps_paint reference old b [] new rest painted steps = subst (IsPainted reference) (sym steps.0) painted
 steps_paint reference old b (next ∷ positions) new rest painted steps =
     let step = steps.2 in
-    steps_paint reference next steps.1 positions new rest (step_paints step.mode reference old step.behind next steps.1 painted step.step)
+    steps_paint reference next steps.1 positions new rest (step_paints step.mode reference old step.after next steps.1 painted step.step)
     steps.3
 
 pub row_in : (dimension : Dimension) (width : ℕ) (reference : List Colour) (b : List Bool) (row : List Colour) (rest : List Bool)

@@ -81,9 +81,9 @@ fn parse_runs(alloc: Global, text: &str) -> Result<Vec<u32>, LongFault>
 {
     let mut runs = Vec::new(alloc);
     let mut rest = text;
-    while let Some((run, behind)) = rest.split_once(',') {
+    while let Some((run, after)) = rest.split_once(',') {
         push_run(&mut runs, run)?;
-        rest = behind;
+        rest = after;
     }
     push_run(&mut runs, rest)?;
     Ok(runs)

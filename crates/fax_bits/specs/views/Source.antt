@@ -24,4 +24,4 @@ KeepsEnd old new = new.place + length new.left ≡ old.place + length old.left
 
 -- the bits begin with this many zeros and a 1 (T.4, section 4.1.3)
 abbrev pub HasZerosAhead : List Bool → ℕ → Type 0
-HasZerosAhead b zeros = (behind : List Bool) × (b ≡ replicate zeros false ++ true ∷ behind)
+HasZerosAhead b zeros = (after : List Bool) × (b ≡ replicate zeros false ++ true ∷ after)

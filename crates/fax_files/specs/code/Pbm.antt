@@ -25,16 +25,16 @@ abbrev pub begins_piece : ℕ → Bool
 begins_piece c = (c == 35) || is_white_space c
 
 -- what stands after all pieces, where a comment is open or not, and where something stands there
-abbrev pub behind_pieces : Bool → List ℕ → Option (List ℕ)
-behind_pieces in_comment [] = None
-behind_pieces true (c ∷ bytes) = behind_pieces (not (is_line_end c)) bytes
-behind_pieces false (c ∷ bytes) =
-    if begins_piece c then (behind_pieces (c == 35) bytes) else (Some (c ∷ bytes))
+abbrev pub after_pieces : Bool → List ℕ → Option (List ℕ)
+after_pieces in_comment [] = None
+after_pieces true (c ∷ bytes) = after_pieces (not (is_line_end c)) bytes
+after_pieces false (c ∷ bytes) =
+    if begins_piece c then (after_pieces (c == 35) bytes) else (Some (c ∷ bytes))
 
 -- what stands after a gap
-abbrev pub behind_gap : List ℕ → Option (List ℕ)
-behind_gap [] = None
-behind_gap (c ∷ bytes) = if begins_piece c then (behind_pieces false (c ∷ bytes)) else None
+abbrev pub after_gap : List ℕ → Option (List ℕ)
+after_gap [] = None
+after_gap (c ∷ bytes) = if begins_piece c then (after_pieces false (c ∷ bytes)) else None
 
 -- a number above each limit, in place of a larger one
 abbrev pub capped : ℕ → ℕ
@@ -47,9 +47,9 @@ capped_from number (c ∷ bytes) =
     if is_digit c then (capped_from (capped (10 * number + (c - 48))) bytes) else number
 
 -- what stands after the digits ahead
-abbrev pub behind_digits : List ℕ → List ℕ
-behind_digits [] = []
-behind_digits (c ∷ bytes) = if is_digit c then (behind_digits bytes) else (c ∷ bytes)
+abbrev pub after_digits : List ℕ → List ℕ
+after_digits [] = []
+after_digits (c ∷ bytes) = if is_digit c then (after_digits bytes) else (c ∷ bytes)
 
 -- a digit is ahead
 abbrev pub has_digit : List ℕ → Bool
@@ -63,13 +63,13 @@ pub record IsHeadRead (bytes : List ℕ) (width height : ℕ) (rest : List ℕ) 
   pub at_height : List ℕ
   pub space : ℕ
   pub magic : bytes ≡ codes "P4" ++ at_gap
-  pub gap : behind_gap at_gap ≡ Some at_width
+  pub gap : after_gap at_gap ≡ Some at_width
   pub some_width : has_digit at_width ≡ true
   pub width_is : width ≡ capped_from 0 at_width
-  pub second_gap : behind_gap (behind_digits at_width) ≡ Some at_height
+  pub second_gap : after_gap (after_digits at_width) ≡ Some at_height
   pub some_height : has_digit at_height ≡ true
   pub height_is : height ≡ capped_from 0 at_height
-  pub behind : behind_digits at_height ≡ space ∷ rest
+  pub after : after_digits at_height ≡ space ∷ rest
   pub space_is : is_white_space space ≡ true
 
 -- how many bytes the rows of an image take (the netpbm format, P4)

@@ -30,6 +30,6 @@ IsDueAnswer chain answer =
     → answer ≡ answer_at chain.tiff (slice_get offsets chain.given) end
 
 -- a reader after its answer: one directory on, or as it was
-abbrev pub behind_answer : ChainState → Result (Option TiffDirectory) FileFault → ChainState
-behind_answer chain (Ok (Some directory)) = record chain { given = chain.given + 1 }
-behind_answer chain _ = chain
+abbrev pub after_answer : ChainState → Result (Option TiffDirectory) FileFault → ChainState
+after_answer chain (Ok (Some directory)) = record chain { given = chain.given + 1 }
+after_answer chain _ = chain

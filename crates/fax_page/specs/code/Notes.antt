@@ -48,9 +48,9 @@ pub record AreRowsRead (form : StripForm) (b : List Bool) (i : ℕ) (reference :
     (left : List Bool) (other : Bool) : Type 0 where
   pub before : List (List Colour)
   pub count : length before ≡ i
-  pub lines : (more : List (List Colour)) (end : Option StripFault) (behind : List Bool)
-      → AreLines form i reference left more end behind
-      → AreLines form 0 (white_row form.width) b (before ++ more) end behind
+  pub lines : (more : List (List Colour)) (end : Option StripFault) (after : List Bool)
+      → AreLines form i reference left more end after
+      → AreLines form 0 (white_row form.width) b (before ++ more) end after
   pub found : other ≡ true → (more : List (List Colour))
       → HasOtherChoice form 0 (white_row form.width) b (before ++ more)
   pub onward : (more : List (List Colour)) → HasOtherChoice form i reference left more
@@ -62,7 +62,7 @@ pub record AreRowsRead (form : StripForm) (b : List Bool) (i : ℕ) (reference :
 -- whether an EOL of a return to control stands next, after which the source goes then
 abbrev pub TakesReturnEol : Coding → List Bool → Bool → List Bool → Type 0
 TakesReturnEol coding b true rest = IsReturnEol coding b rest
-TakesReturnEol coding b false rest = (behind : List Bool) → IsReturnEol coding b behind → ⊥
+TakesReturnEol coding b false rest = (after : List Bool) → IsReturnEol coding b after → ⊥
 
 -- so many of six EOLs were taken, and as many as are left stand next where six stand in all
 pub record AreEolsTaken (coding : Coding) (b : List Bool) (i : ℕ) (ahead : List Bool) : Type 0 where
@@ -74,22 +74,22 @@ pub record AreEolsTaken (coding : Coding) (b : List Bool) (i : ℕ) (ahead : Lis
       → AreReturnEols coding left ahead rest
 
 -- what stands after a mark, or nothing where there is none
-abbrev pub IsBehind : (List Bool → Type 0) → Option Source → Type 0
-IsBehind mark (Some source) = mark source.left
-IsBehind mark None = (rest : List Bool) → mark rest → ⊥
+abbrev pub IsAfterMark : (List Bool → Type 0) → Option Source → Type 0
+IsAfterMark mark (Some source) = mark source.left
+IsAfterMark mark None = (rest : List Bool) → mark rest → ⊥
 
 -- what stands after the end mark, or all of the bits where they begin with none
-abbrev pub IsBehindEnd : Coding → List Bool → List Bool → Type 0
-IsBehindEnd coding b behind = IsEndMark coding b behind ⊎ ((HasEndMark coding b → ⊥) × (behind ≡ b))
+abbrev pub IsAfterEnd : Coding → List Bool → List Bool → Type 0
+IsAfterEnd coding b after = IsEndMark coding b after ⊎ ((HasEndMark coding b → ⊥) × (after ≡ b))
 
 -- the notes on a strip by what is left after its rows, and whether some row is coded otherwise
 -- than T.4 chooses
-pub record AreNotesBehind (coding : Coding) (left : List Bool) (other : Bool)
+pub record AreNotesAfter (coding : Coding) (left : List Bool) (other : Bool)
     (notes : StripNotes) : Type 0 where
-  pub behind : List Bool
-  pub behind_end : IsBehindEnd coding left behind
+  pub after : List Bool
+  pub after_end : IsAfterEnd coding left after
   pub no_end_of_block : IsTrue notes.no_end_of_block ↔
       ((coding ≡ Mmr) × (HasEndMark coding left → ⊥))
   pub return_to_control : IsTrue notes.return_to_control ↔ ((coding ≢ Mmr) × HasEndMark coding left)
-  pub data_after_end : IsTrue notes.data_after_end ↔ Contains behind true
+  pub data_after_end : IsTrue notes.data_after_end ↔ Contains after true
   pub other_is : notes.not_t4_choice ≡ other

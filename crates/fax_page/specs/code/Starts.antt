@@ -19,7 +19,7 @@ HasNoEol may_lack b fault =
 -- eleven zeros stand where a row's first code is due, or fewer zeros and nothing after them
 abbrev pub IsFirstCodeFault : List Bool → StripFault → Type 0
 IsFirstCodeFault b fault =
-    ((behind : List Bool) × (b ≡ replicate 11 false ++ behind) × (fault ≡ EndMarker))
+    ((after : List Bool) × (b ≡ replicate 11 false ++ after) × (fault ≡ EndMarker))
     ⊎ ((zeros : ℕ) × (zeros < 11) × (b ≡ replicate zeros false) × (fault ≡ DataEnds))
 
 -- a row's first code is not there, or it is, and the codes stop for this cause

@@ -8,7 +8,7 @@ use Rattle.fax_page.specs.declared.StripFault.{StripFault}
 use Rattle.fax_page.specs.Lines.{white_row}
 use Rattle.fax_page.specs.Strip.{AreLines, IsStrip}
 use Rattle.fax_page.specs.views.Reader.{IsAdvance, IsAtEnd, MeetsFault, ReadsRow, StripState}
-use Rattle.fax_page.specs.views.Reader.{bits_left, strip_behind}
+use Rattle.fax_page.specs.views.Reader.{bits_left, strip_after}
 
 -- these rows of the bytes were read, one after another from the first on, and no more: whatever
 -- lines follow, they follow these rows
@@ -24,7 +24,7 @@ pub record HasRead (form : StripForm) (bytes : List ℕ) (rows : List (List Colo
 -- strip, up to its end
 pub record ReadsRowByRow : Type 0 where
   pub begins : (read : ℕ) (form : StripForm) (bytes : List ℕ)
-      → HasRead form bytes [] (strip_behind read form bytes)
+      → HasRead form bytes [] (strip_after read form bytes)
   pub goes_on : (form : StripForm) (bytes : List ℕ) (rows : List (List Colour))
       (old new : StripState)
       → HasRead form bytes rows old → ReadsRow old new

@@ -24,8 +24,8 @@ abbrev pub bits_left : StripState → List Bool
 bits_left state = drop state.place (bits state.form.order state.bytes)
 
 -- before the first row of the bytes, where the reader answered so many rows before
-abbrev pub strip_behind : ℕ → StripForm → List ℕ → StripState
-strip_behind read form bytes = record {
+abbrev pub strip_after : ℕ → StripForm → List ℕ → StripState
+strip_after read form bytes = record {
   form = form;
   bytes = bytes;
   place = 0;
@@ -37,11 +37,11 @@ strip_behind read form bytes = record {
 
 -- before the first row of the bytes, which are a reader's first
 abbrev pub strip_beginning : StripForm → List ℕ → StripState
-strip_beginning form bytes = strip_behind 0 form bytes
+strip_beginning form bytes = strip_after 0 form bytes
 
 -- before the first row of other bytes, which have so many rows; the rest of the form stays
 abbrev pub restarted : StripState → List ℕ → ℕ → StripState
-restarted old bytes rows = strip_behind old.read (record old.form { rows = rows }) bytes
+restarted old bytes rows = strip_after old.read (record old.form { rows = rows }) bytes
 
 -- before row i of other bytes, which have so many rows, after so many bits, over this reference;
 -- the rest of the form stays

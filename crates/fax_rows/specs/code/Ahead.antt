@@ -29,7 +29,7 @@ pub record IsAhead (rows : Rows) (ahead : ChangesAhead) : Type 0 where
   pub b1 : ahead.b1 ≡ b1 (placed_pels rows.reference) ahead.a0 ahead.colour
   pub b2 : ahead.b2 ≡ b2 (placed_pels rows.reference) ahead.a0 ahead.colour
   pub colour : ahead.colour ≡ colour_of (placed_pels rows.row) ahead.a0
-  pub behind : ahead.colour ≡ alternate Black ahead.row
+  pub after : ahead.colour ≡ alternate Black ahead.row
   pub row : IsFrom rows.row.places.now rows.row.end ahead.a0 ahead.row
   pub reference : IsB1At rows.reference ahead.a0 ahead.colour ahead.reference
   pub a1_at : ahead.a1 ≡ slice_index rows.row.places.now ahead.row

@@ -22,7 +22,7 @@ pub record IsReadTo (reference : PlacedRow) (places : List ℕ) (at : PlacedReac
   pub started : at.reached.a0 ≡ None → at.end ≡ 1
   pub ascending : IsAscending places at.end
   pub last : slice_index places (at.end - 1) ≤ reached_pel at.reached
-  pub behind : (i : ℕ) → reached_pel at.reached ≤ i
+  pub after : (i : ℕ) → reached_pel at.reached ≤ i
       → turned Black (take at.end places) i ≡ at.reached.colour
   pub b1 : reached_pel at.reached < reference.width
       → IsB1At reference at.reached.a0 at.reached.colour at.b1

@@ -13,7 +13,7 @@ use Rattle.fax_rows.specs.Faults.{IsCodeFault, IsRunCodeFault, IsRunFault}
 abbrev pub IsAtRunCode : Colour → ℕ → ℕ → List Bool → RowFault → Type 0
 IsAtRunCode colour width so_far b fault =
     IsCodeFault (run_table colour) b fault
-    ⊎ ((code : RunCode) × (behind : List Bool) × Takes (run_table colour) b code behind
+    ⊎ ((code : RunCode) × (after : List Bool) × Takes (run_table colour) b code after
     × IsRunCodeFault width so_far code fault)
 
 -- horizontal mode with a fault in its first run, or with a first run within the row and a fault in

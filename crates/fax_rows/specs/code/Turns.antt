@@ -41,10 +41,10 @@ pub record ArePlaces (places : List ℕ) (end width : ℕ) : Type 0 where
   pub room : length places ≡ width + 4
   pub ascending : IsAscending places end
   pub below : (i : ℕ) → 0 < i → i < end → slice_index places i < width
-  pub behind : (i : ℕ) → i < 3 → slice_index places (end + i) ≡ width
+  pub after : (i : ℕ) → i < 3 → slice_index places (end + i) ≡ width
 
 -- place i lies after k of the first `end` places and before the others
-pub record IsBehind (places : List ℕ) (end i k : ℕ) : Type 0 where
+pub record ArePlacesUpTo (places : List ℕ) (end i k : ℕ) : Type 0 where
   pub some : 0 < k
   pub within : k ≤ end
   pub left : slice_index places (k - 1) ≤ i
@@ -66,4 +66,4 @@ pub record IsTurnedFrom (old new : List ℕ) (place : ℕ) : Type 0 where
 -- first pel
 abbrev pub IsFrom : List ℕ → ℕ → Option ℕ → ℕ → Type 0
 IsFrom places end None k = k ≡ 1
-IsFrom places end (Some a) k = IsBehind places end a k
+IsFrom places end (Some a) k = ArePlacesUpTo places end a k

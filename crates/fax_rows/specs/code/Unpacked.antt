@@ -9,4 +9,4 @@ use Rattle.fax_rows.specs.code.Turns.{turned}
 -- colour
 pub record IsUnpackedTo (b : List Bool) (places : List ℕ) (i : ℕ) (colour : Colour) : Type 0 where
   pub before : (k : ℕ) → k < i → turned Black places k ≡ colour_of_bit (slice_index_or b k false)
-  pub behind : (k : ℕ) → i ≤ k → turned Black places k ≡ colour
+  pub after : (k : ℕ) → i ≤ k → turned Black places k ≡ colour

@@ -2,7 +2,7 @@
 //! value. Each function gives up, with `None`, at any doubt, and the row is read again from its
 //! source.
 ghost use Rattle.std.specs.Prelude.{◌≡◌, ◌+◌, ◌-◌, ◌≤◌, ◌<◌, ◌^◌, ◌⊎◌, ◌++◌, IfSome};
-ghost use Rattle.std.specs.Prelude.{IsTrue, length, true, None, slice_index};
+ghost use Rattle.std.specs.Prelude.{IsTrue, IsSome, length, true, None, slice_index};
 ghost use Rattle.fax_bits.specs.views.Source.{KeepsEnd};
 ghost use Rattle.fax_rows.specs.Coded.{two_dimensional_bits};
 ghost use Rattle.fax_rows.specs.Rows.{b1, b2, is_right_of};
@@ -18,7 +18,7 @@ use super::copied::under_several;
 use super::steps::{PlacedReached, after_runs, left_of_b1, right_of_b1, under_b1, under_b2};
 use crate::rows::PlacedRow;
 use crate::turns::colour_after;
-use fax_bits::{Ahead, BitSource, Colour, ModeCode};
+use fax_bits::{BitSource, Colour, ModeCode};
 
 /// Whether T.4 chooses vertical mode where a1 is reached by it: b2 is not left of a1 (T.4, section
 /// 4.2.1.3.3).
@@ -70,7 +70,7 @@ fn chooses_runs<const CHOICE: bool>(
     let b1 = reference.places[at.b1];
     let b2 = reference.places[at.b1 + 1];
     CHOICE
-        && (first > 0 || at.reached.a0.is_none())
+        && at.reached.is_left_of(a1)
         && (second > 0 || a1 == reference.width)
         && a1 <= b2
         && (a1 + 3 < b1 || b1 + 3 < a1)
@@ -84,91 +84,91 @@ fn is_taken<const CHOICE: bool>(chosen: bool) -> bool
     chosen || !CHOICE
 }
 
-/// Reads a white run and a black one, and answers how many pels they have.
+/// Reads a white run and a black one, at most so many pels together, and answers how many they
+/// have.
 #[inline(always)]
-fn white_and_black<'a, const CHOICE: bool>(ahead: Ahead<'a>) -> Option<(Ahead<'a>, u32, u32)>
+fn white_and_black<const CHOICE: bool>(ahead: &mut BitSource, most: u32) -> Option<(u32, u32)>
     ensures pair { IfSome result
-        (λ read. Chosen.IsPair Colour.White ahead.entry.left read.1 read.2 read.0.left) }
-    ensures same_end { IfSome result (λ read. KeepsEnd ahead.entry read.0) }
-    ensures no_longer { IfSome result (λ read. length read.0.left ≤ length ahead.entry.left) }
+        (λ runs. Chosen.IsPair Colour.White ahead.old.left runs.0 runs.1 ahead.new.left) }
+    ensures few { IfSome result (λ runs. runs.0 + runs.1 ≤ most) }
+    ensures same_end { KeepsEnd ahead.old ahead.new }
+    ensures no_longer { IsSome result → length ahead.new.left ≤ length ahead.old.left }
 {
-    let (after, first) = ahead.run(Colour::White)?;
-    let (after, second) = after.run(Colour::Black)?;
-    Some((after, first, second))
+    let first = ahead.run_within(Colour::White, most)?;
+    let second = ahead.run_within(Colour::Black, most - first)?;
+    Some((first, second))
 }
 
-/// Reads a black run and a white one, and answers how many pels they have.
+/// Reads a black run and a white one, at most so many pels together, and answers how many they
+/// have.
 #[inline(always)]
-fn black_and_white<'a, const CHOICE: bool>(ahead: Ahead<'a>) -> Option<(Ahead<'a>, u32, u32)>
+fn black_and_white<const CHOICE: bool>(ahead: &mut BitSource, most: u32) -> Option<(u32, u32)>
     ensures pair { IfSome result
-        (λ read. Chosen.IsPair Colour.Black ahead.entry.left read.1 read.2 read.0.left) }
-    ensures same_end { IfSome result (λ read. KeepsEnd ahead.entry read.0) }
-    ensures no_longer { IfSome result (λ read. length read.0.left ≤ length ahead.entry.left) }
+        (λ runs. Chosen.IsPair Colour.Black ahead.old.left runs.0 runs.1 ahead.new.left) }
+    ensures few { IfSome result (λ runs. runs.0 + runs.1 ≤ most) }
+    ensures same_end { KeepsEnd ahead.old ahead.new }
+    ensures no_longer { IsSome result → length ahead.new.left ≤ length ahead.old.left }
 {
-    let (after, first) = ahead.run(Colour::Black)?;
-    let (after, second) = after.run(Colour::White)?;
-    Some((after, first, second))
+    let first = ahead.run_within(Colour::Black, most)?;
+    let second = ahead.run_within(Colour::White, most - first)?;
+    Some((first, second))
 }
 
-/// Reads a run of the colour and a run of the other one, and answers how many pels they have: a
-/// white run and the black one after it mostly by one look-up, where they have at most so many pels
-/// together.
+/// Reads a run of the colour and a run of the other one, at most so many pels together, and answers
+/// how many they have: a white run and the black one after it mostly by one look-up.
 #[inline(always)]
-fn two_runs<'a, const CHOICE: bool>(
-    ahead: Ahead<'a>,
+fn two_runs<const CHOICE: bool>(
+    ahead: &mut BitSource,
     colour: Colour,
     most: u32,
-) -> Option<(Ahead<'a>, u32, u32)>
+) -> Option<(u32, u32)>
     ensures pair { IfSome result
-        (λ read. Chosen.IsPair colour ahead.entry.left read.1 read.2 read.0.left) }
-    ensures same_end { IfSome result (λ read. KeepsEnd ahead.entry read.0) }
-    ensures no_longer { IfSome result (λ read. length read.0.left ≤ length ahead.entry.left) }
+        (λ runs. Chosen.IsPair colour ahead.old.left runs.0 runs.1 ahead.new.left) }
+    ensures few { IfSome result (λ runs. runs.0 + runs.1 ≤ most) }
+    ensures same_end { KeepsEnd ahead.old ahead.new }
+    ensures no_longer { IsSome result → length ahead.new.left ≤ length ahead.old.left }
 {
     match colour {
-        Colour::White => match ahead.pair(most) {
-            Ok((after, pair)) => Some((after, pair.white, pair.black)),
-            Err(again) => white_and_black::<CHOICE>(again),
+        Colour::White => match ahead.pair_within(0, most) {
+            Some(pair) => Some((pair.white, pair.black)),
+            None => white_and_black::<CHOICE>(ahead, most),
         },
-        Colour::Black => black_and_white::<CHOICE>(ahead),
+        Colour::Black => black_and_white::<CHOICE>(ahead, most),
     }
 }
 
 /// Horizontal mode: two runs from a0 on, the first of a0's colour, which stays (T.4, section
 /// 4.2.1.3.2). The index of b1 tells that colour.
 #[inline(always)]
-fn horizontal<'a, const CHOICE: bool>(
-    ahead: Ahead<'a>,
+fn horizontal<const CHOICE: bool>(
+    ahead: &mut BitSource,
     reference: PlacedRow,
     places: &mut [u32],
     at: PlacedReached,
-) -> Option<(Ahead<'a>, PlacedReached)>
+) -> Option<PlacedReached>
     requires so_far { IsReadTo reference places.old at }
     requires unfinished { reached_pel at.reached < reference.width }
     ensures step { IfSome result (λ next. Spec.IsHorizontalStep (placed_pels reference.entry)
-        (placed_position reference.entry.width places.old at) ahead.entry.left
-        (placed_position reference.entry.width places.new next.1) next.0.left) }
-    ensures so_far { IfSome result (λ next. IsReadTo reference.entry places.new next.1) }
+        (placed_position reference.entry.width places.old at) ahead.old.left
+        (placed_position reference.entry.width places.new next) ahead.new.left) }
+    ensures so_far { IfSome result (λ next. IsReadTo reference.entry places.new next) }
     ensures first { slice_index places.new 0 ≡ 0 }
     ensures same_len { length places.new ≡ length places.old }
-    ensures same_end { IfSome result (λ next. KeepsEnd ahead.entry next.0) }
-    ensures no_longer { IfSome result (λ next. length next.0.left ≤ length ahead.entry.left) }
+    ensures same_end { KeepsEnd ahead.old ahead.new }
+    ensures no_longer { IsSome result → length ahead.new.left ≤ length ahead.old.left }
     ensures chosen { IfSome result (λ next. IsTrue CHOICE
         → Chosen.IsChosenPair (placed_pels reference.entry)
-        (placed_position reference.entry.width places.old at) ahead.entry.left
-        (placed_position reference.entry.width places.new next.1) next.0.left) }
+        (placed_position reference.entry.width places.old at) ahead.old.left
+        (placed_position reference.entry.width places.new next) ahead.new.left) }
 {
     let most = reference.width - at.reached.first_pel();
     let colour = colour_after(at.b1);
-    let (after, first, second) = two_runs::<CHOICE>(ahead, colour, most)?;
-    if first > most || second > most - first {
-        return None;
-    }
+    let (first, second) = two_runs::<CHOICE>(ahead, colour, most)?;
     let chosen = chooses_runs::<CHOICE>(reference, at, first, second);
     if !is_taken::<CHOICE>(chosen) {
         return None;
     }
-    let next = after_runs(reference, places, at, first, second);
-    Some((after, next))
+    Some(after_runs(reference, places, at, first, second))
 }
 
 /// Vertical mode, where that is T.4's choice or this is not asked for. It always is where a1 is not
@@ -234,71 +234,35 @@ fn pass<const CHOICE: bool>(
 /// Reads one mode, and goes on by what it says; where a1 is under b1 it reads more such modes too
 /// (T.4, section 4.2.1.3.3).
 #[inline(always)]
-fn steps<'a, const CHOICE: bool>(
-    ahead: Ahead<'a>,
+fn steps<const CHOICE: bool>(
+    ahead: &mut BitSource,
     reference: PlacedRow,
     places: &mut [u32],
     at: PlacedReached,
-) -> Option<(Ahead<'a>, PlacedReached)>
+) -> Option<PlacedReached>
     requires so_far { IsReadTo reference places.old at }
     requires unfinished { reached_pel at.reached < reference.width }
     ensures steps { IfSome result (λ next. Chosen.GoesOn (placed_pels reference.entry)
-        (placed_position reference.entry.width places.old at) ahead.entry.left
-        (placed_position reference.entry.width places.new next.1) next.0.left) }
-    ensures so_far { IfSome result (λ next. IsReadTo reference.entry places.new next.1) }
+        (placed_position reference.entry.width places.old at) ahead.old.left
+        (placed_position reference.entry.width places.new next) ahead.new.left) }
+    ensures so_far { IfSome result (λ next. IsReadTo reference.entry places.new next) }
     ensures first { slice_index places.new 0 ≡ 0 }
     ensures same_len { length places.new ≡ length places.old }
-    ensures same_end { IfSome result (λ next. KeepsEnd ahead.entry next.0) }
-    ensures shorter { IfSome result (λ next. length next.0.left < length ahead.entry.left) }
+    ensures same_end { KeepsEnd ahead.old ahead.new }
+    ensures shorter { IsSome result → length ahead.new.left < length ahead.old.left }
     ensures chosen { IfSome result (λ next. IsTrue CHOICE
         → Chosen.GoesOnAsChosen (placed_pels reference.entry)
-        (placed_position reference.entry.width places.old at) ahead.entry.left
-        (placed_position reference.entry.width places.new next.1) next.0.left) }
+        (placed_position reference.entry.width places.old at) ahead.old.left
+        (placed_position reference.entry.width places.new next) ahead.new.left) }
 {
-    let (after, mode) = ahead.mode()?;
+    let mode = ahead.mode()?;
     match mode {
-        ModeCode::Vertical(0) => Some(under_several(after, reference, places, at)),
-        ModeCode::Vertical(d) => {
-            let next = vertical::<CHOICE>(reference, places, at, d)?;
-            Some((after, next))
-        }
-        ModeCode::Pass => {
-            let next = pass::<CHOICE>(reference, places, at)?;
-            Some((after, next))
-        }
-        ModeCode::Horizontal => horizontal::<CHOICE>(after, reference, places, at),
+        ModeCode::Vertical(0) => Some(under_several(ahead, reference, places, at)),
+        ModeCode::Vertical(d) => vertical::<CHOICE>(reference, places, at, d),
+        ModeCode::Pass => pass::<CHOICE>(reference, places, at),
+        ModeCode::Horizontal => horizontal::<CHOICE>(ahead, reference, places, at),
         ModeCode::Extension => None,
     }
-}
-
-/// Reads the modes of a row from the bits ahead.
-#[inline(always)]
-fn read_ahead<'a, const CHOICE: bool>(
-    mut ahead: Ahead<'a>,
-    reference: PlacedRow,
-    places: &mut [u32],
-) -> Option<(Ahead<'a>, usize)>
-    requires room { length places.old ≡ reference.width + 4 }
-    requires first { slice_index places.old 0 ≡ 0 }
-    ensures row { IfSome result (λ read. Spec.IsTwoDimensionalRow (placed_pels reference.entry)
-        ahead.entry.left (row_of places.new read.1 reference.entry.width) read.0.left) }
-    ensures ascending { IfSome result (λ read. IsAscending places.new read.1) }
-    ensures last { IfSome result
-        (λ read. slice_index places.new (read.1 - 1) ≤ reference.entry.width) }
-    ensures first { slice_index places.new 0 ≡ 0 }
-    ensures same_len { length places.new ≡ length places.old }
-    ensures same_end { IfSome result (λ read. KeepsEnd ahead.entry read.0) }
-    ensures chosen { IfSome result (λ read. IsTrue CHOICE
-        → ahead.entry.left ≡ two_dimensional_bits (placed_pels reference.entry)
-        (row_of places.new read.1 reference.entry.width) ++ read.0.left) }
-{
-    let mut at = PlacedReached::BEGINNING;
-    while at.reached.first_pel() < reference.width {
-        let (after, next) = steps::<CHOICE>(ahead, reference, places, at)?;
-        ahead = after;
-        at = next;
-    }
-    Some((ahead, at.end))
 }
 
 /// Reads the modes of a row over the reference row, and answers where its places end. After `None`
@@ -324,7 +288,11 @@ pub(crate) fn read_quickly<const CHOICE: bool>(
         (row_of places.new end reference.entry.width) ++ source.new.left) }
     ensures unchanged { result ≡ None → source.new ≡ source.old }
 {
-    let (after, end) = read_ahead::<CHOICE>(source.ahead()?, reference, places)?;
-    *source = after.source();
-    Some(end)
+    let mut ahead = source.again();
+    let mut at = PlacedReached::BEGINNING;
+    while at.reached.first_pel() < reference.width {
+        at = steps::<CHOICE>(&mut ahead, reference, places, at)?;
+    }
+    source.go_to(&ahead);
+    Some(at.end)
 }

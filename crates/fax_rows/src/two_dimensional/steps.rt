@@ -1,7 +1,7 @@
 //! Steps of two-dimensional coding over a reference row, which the exact and the quick reader share
 //! (ITU-T T.4, section 4.2.1.3.2).
 ghost use Rattle.std.specs.Prelude.{◌≡◌, ◌+◌, ◌-◌, ◌≤◌, ◌<◌, ◌^◌, ◌+ℤ◌, ◌≤ℤ◌, ◌<ℤ◌, pos, negsuc};
-ghost use Rattle.std.specs.Prelude.{[], List, Bool, length, slice_index, IfSome, IfNone};
+ghost use Rattle.std.specs.Prelude.{[], List, Bool, true, length, slice_index, IfSome, IfNone, IsTrue};
 ghost use Rattle.fax_bits.specs.Codes.{IsRun};
 ghost use Rattle.fax_rows.specs.Rows.{other as other_than};
 ghost use Rattle.fax_rows.specs.Rows as Spec;
@@ -13,7 +13,7 @@ ghost use Rattle.fax_rows.specs.code.PlacedReached.{placed_position, IsReadTo};
 
 use crate::rows::PlacedRow;
 use crate::runs::other;
-use crate::turns::{turn_behind, turn_right};
+use crate::turns::{turn_after, turn_right};
 use fax_bits::Colour;
 
 /// How far a row is read (T.4, section 4.2.1.3.1).
@@ -43,6 +43,16 @@ impl Reached {
             None => -1,
             Some(place) => place as i32,
         }
+    }
+
+    /// Whether the pel `a1` is right of a0.
+    #[inline(always)]
+    pub fn is_left_of(self, a1: u32) -> bool
+        requires reached { reached_pel self < 2 ^ 16 }
+        requires near { a1 < 2 ^ 16 }
+        ensures { IsTrue result → Spec.is_right_of self.a0 a1 ≡ true }
+    {
+        a1 as i32 > self.number()
     }
 
     /// The pel `d` pels right of the pel `b1`, where it is right of a0.
@@ -258,8 +268,8 @@ pub(crate) fn after_runs(
 {
     let middle = at.reached.first_pel() + first;
     let to = middle + second;
-    let between = turn_behind(places, at.end, middle, first);
-    let end = turn_behind(places, between, to, second);
+    let between = turn_after(places, at.end, middle, first);
+    let end = turn_after(places, between, to, second);
     PlacedReached {
         reached: Reached {
             a0: Some(to),

@@ -9,7 +9,7 @@ use Rattle.fax_walk.specs.declared.options.ConvertFault.TheVariants.{Pbm as PbmS
 pub record AreImagesRead (bytes left : List ℕ) (count : ℕ) : Type 0 where
   pub images : List Image
   pub count_is : length images ≡ count
-  pub behind : (more : List Image) (end : Option PbmFault) → AreImages left more end
+  pub after : (more : List Image) (end : Option PbmFault) → AreImages left more end
       → AreImages bytes (images ++ more) end
 
 -- the bytes are so many images, and no fault

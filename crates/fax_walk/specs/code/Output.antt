@@ -109,8 +109,8 @@ abbrev pub with_row : Part → List Colour → Part
 with_row part row = record part { rows = part.rows ++ row ∷ [] }
 
 -- after the page
-abbrev pub behind : Part → Progress
-behind part = with_source_page part.at (page_of part.sheet part.rows)
+abbrev pub after : Part → Progress
+after part = with_source_page part.at (page_of part.sheet part.rows)
 
 -- whatever pages follow, up to all of them, the output is too large
 abbrev pub StaysTooLarge : Progress → Type 0
@@ -216,7 +216,7 @@ pub record HasAllRows (output : Output) : Type 0 where
 abbrev pub EndsPage : Output → Output → Type 0
 EndsPage old new =
     (part : Part) → IsPartWritten old part → length part.rows ≡ part.sheet.rows
-    → IsWrittenTo new (behind part)
+    → IsWrittenTo new (after part)
 
 -- all pages were written
 pub record HasAllPages (output : Output) : Type 0 where

@@ -2,13 +2,13 @@ use Rattle.std.proofs.Common.{◌≡◌, ◌≢◌, ℕ, ◌+◌, ◌-◌, ◌<�
 use Rattle.fax_files.specs.code.Chain.{place}
 use Rattle.fax_files.proofs.chain.first_turn.Given as goal
 
-abbrev pub invariant-loop-behind : goal.invariant-loop-behind
-invariant-loop-behind l = record {
-  behind : l.behind ≡ place l.tiff l.page;
+abbrev pub invariant-loop-before : goal.invariant-loop-before
+invariant-loop-before l = record {
+  before : l.before ≡ place l.tiff l.page;
   ahead : l.ahead ≡ place l.tiff (l.page + l.fn.round.len);
   early : l.page ≤ l.fn.round.start;
   first : (i : ℕ) → i < l.page → place l.tiff i ≢ place l.tiff (i + l.fn.round.len);
 }
 
-abbrev pub decreases-loop-behind : goal.decreases-loop-behind
-decreases-loop-behind l = l.fn.round.start - l.page
+abbrev pub decreases-loop-before : goal.decreases-loop-before
+decreases-loop-before l = l.fn.round.start - l.page

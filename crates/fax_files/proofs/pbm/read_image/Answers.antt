@@ -11,7 +11,7 @@ pub returns-then-not-is_within_limits-clause-err :
     goal.returns-then-not-is_within_limits-clause-err
 returns-then-not-is_within_limits-clause-err c =
     let head = c.in-Some.head in
-    head_outside c.args.bytes.now head.width head.height head.behind.now c.in-Some.ensures.some
+    head_outside c.args.bytes.now head.width head.height head.after.now c.in-Some.ensures.some
     (sym c.is_within_limits.ensures ∙ c.if-not-is_within_limits.true)
 
 pub returns-then-head-len-clause-err : goal.returns-then-head-len-clause-err
@@ -20,8 +20,8 @@ returns-then-head-len-clause-err c =
     let within = sym c.is_within_limits.ensures ∙ c.if-not-is_within_limits.false in (
       head.width,
       head.height,
-      head.behind.now,
-      exact_head c.args.bytes.now head.width head.height head.behind.now c.in-Some.ensures.some within,
+      head.after.now,
+      exact_head c.args.bytes.now head.width head.height head.after.now c.in-Some.ensures.some within,
       within,
       rw c.row_len.ensures at c.if-head-len.true,
     )
@@ -31,17 +31,17 @@ returns-clause-ok c =
     let head = c.in-Some.head in
     let within = sym c.is_within_limits.ensures ∙ c.if-not-is_within_limits.false in
     let len = head.height * c.row_len.result in
-    let behind = head.behind.now in
-    let raster = take len behind in
-    let rest = take (length behind - len) (drop len behind) in
+    let after = head.after.now in
+    let raster = take len after in
+    let rest = take (length after - len) (drop len after) in
     image_read c.args.bytes.now head.width head.height raster rest
-    (subst (λ (l : List ℕ). IsHeadRead c.args.bytes.now head.width head.height l) (take_both behind len) c.in-Some.ensures.some)
+    (subst (λ (l : List ℕ). IsHeadRead c.args.bytes.now head.width head.height l) (take_both after len) c.in-Some.ensures.some)
     within
-    (length-take_of behind len c.if-head-len.false ∙ ap (λ n. head.height * n) c.row_len.ensures)
+    (length-take_of after len c.if-head-len.false ∙ ap (λ n. head.height * n) c.row_len.ensures)
 
 pub returns-clause-raster : goal.returns-clause-raster
 returns-clause-raster c =
     let head = c.in-Some.head in
     let within = sym c.is_within_limits.ensures ∙ c.if-not-is_within_limits.false in
-    subst (λ (l : List ℕ). IsHead c.args.bytes.now head.width head.height l) (take_both head.behind.now (head.height * c.row_len.result))
-    (exact_head c.args.bytes.now head.width head.height head.behind.now c.in-Some.ensures.some within)
+    subst (λ (l : List ℕ). IsHead c.args.bytes.now head.width head.height l) (take_both head.after.now (head.height * c.row_len.result))
+    (exact_head c.args.bytes.now head.width head.height head.after.now c.in-Some.ensures.some within)

@@ -1,5 +1,5 @@
 use Rattle.std.proofs.Common.{◌≡◌, length, ◌∙◌, arith}
-use Rattle.fax_files.proofs.WritingLemmas.{lengths_more, put_behind, within}
+use Rattle.fax_files.proofs.WritingLemmas.{lengths_more, put_after, within}
 use Rattle.fax_files.proofs.written.put_byte_counts.Goals as goal
 
 pub overflow_cast-len : goal.overflow_cast-len
@@ -16,4 +16,4 @@ loop-strip-preserved c =
     let more = lengths_more c.args.strips.now c.loop-strip.strip-index c.strip-item.result c.loop-strip-test.true c.strip-item.is in
     let count : c.len.result ≡ length c.strip-item.result.items = omega (arith, c.len.ensures) in
     let put = rw count at c.in_ok-put_four.ensures in
-    rw more (put ∙ put_behind _ _ _ _ c.loop-strip.invariant)
+    rw more (put ∙ put_after _ _ _ _ c.loop-strip.invariant)

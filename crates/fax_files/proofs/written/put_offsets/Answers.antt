@@ -1,5 +1,5 @@
 use Rattle.std.proofs.Common.{◌∙◌, arith}
-use Rattle.fax_files.proofs.WritingLemmas.{offsets_more, put_behind, end_of_strip, within}
+use Rattle.fax_files.proofs.WritingLemmas.{offsets_more, put_after, end_of_strip, within}
 use Rattle.fax_files.proofs.written.put_offsets.Goals as goal
 
 pub overflow_cast-place : goal.overflow_cast-place
@@ -30,5 +30,5 @@ loop-strip-preserved c =
       place = omega (arith, end, c.loop-strip.invariant.place, c.len.ensures);
       put =
           let put = rw c.loop-strip.invariant.place at c.in_ok-put_four.ensures in
-          rw more (put ∙ put_behind _ _ _ _ c.loop-strip.invariant.put);
+          rw more (put ∙ put_after _ _ _ _ c.loop-strip.invariant.put);
     }

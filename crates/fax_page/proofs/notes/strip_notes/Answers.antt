@@ -29,4 +29,4 @@ loop-i-preserved c =
 pub returns-clause-ok : goal.returns-clause-ok
 returns-clause-ok c =
     let all : c.loop-i.i ≡ c.args.form.rows = omega arith in
-    all_noted _ _ _ _ _ _ _ all c.loop-i.invariant.read c.notes_behind.ensures
+    all_noted _ _ _ _ _ _ _ all c.loop-i.invariant.read c.notes_after.ensures

@@ -2,7 +2,7 @@ use Rattle.std.proofs.Common.{true, false, [], ◌∷◌, ◌++◌, refl, arith}
 use Rattle.std.proofs.lemmas.Result.{on_ok_weaker}
 use Rattle.fax_bits.specs.Bits.{code_bits}
 use Rattle.fax_page.specs.Strip.{end_of_line}
-use Rattle.fax_page.proofs.FillLemmas.{fits_more, put_behind_fill}
+use Rattle.fax_page.proofs.FillLemmas.{fits_more, put_after_fill}
 use Rattle.fax_page.proofs.writer.put_start.Goals as goal
 
 pub put-requires-clause-fits : goal.put-requires-clause-fits
@@ -20,7 +20,7 @@ returns-in-Mh-default-clause-ok c =
     let sink = c.args.sink.now in
     rw (c.in-Mh-default.is-0)
     (on_ok_weaker c.put.result
-    (put_behind_fill sink c.put.new.self c.args.form.aligned c.len.result c.fill_zeros-fill.result 12 1 (end_of_line) c.len.ensures
+    (put_after_fill sink c.put.new.self c.args.form.aligned c.len.result c.fill_zeros-fill.result 12 1 (end_of_line) c.len.ensures
     c.fill_zeros-fill.ensures.exact (omega arith) refl)
     c.put.ensures.ok)
 
@@ -30,7 +30,7 @@ returns-in-Mr-OneDimensional-clause-ok c =
     let sink = c.args.sink.now in
     rw (c.in-Mr-OneDimensional.is-0, c.in-Mr-OneDimensional.is-1)
     (on_ok_weaker c.put-in-Mr-OneDimensional.result
-    (put_behind_fill sink c.put-in-Mr-OneDimensional.new.self c.args.form.aligned c.len.result c.fill_zeros-fill.result 13 3
+    (put_after_fill sink c.put-in-Mr-OneDimensional.new.self c.args.form.aligned c.len.result c.fill_zeros-fill.result 13 3
     (end_of_line ++ true ∷ []) c.len.ensures
     c.fill_zeros-fill.ensures.exact (omega arith) refl)
     c.put-in-Mr-OneDimensional.ensures.ok)
@@ -41,7 +41,7 @@ returns-in-Mr-TwoDimensional-clause-ok c =
     let sink = c.args.sink.now in
     rw (c.in-Mr-TwoDimensional.is-0, c.in-Mr-TwoDimensional.is-1)
     (on_ok_weaker c.put-in-Mr-TwoDimensional.result
-    (put_behind_fill sink c.put-in-Mr-TwoDimensional.new.self c.args.form.aligned c.len.result c.fill_zeros-fill.result 13 2
+    (put_after_fill sink c.put-in-Mr-TwoDimensional.new.self c.args.form.aligned c.len.result c.fill_zeros-fill.result 13 2
     (end_of_line ++ false ∷ []) c.len.ensures
     c.fill_zeros-fill.ensures.exact (omega arith) refl)
     c.put-in-Mr-TwoDimensional.ensures.ok)

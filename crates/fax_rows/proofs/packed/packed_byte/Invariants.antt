@@ -10,8 +10,8 @@ invariant-loop-at l = record {
   within : l.at ≤ l.to;
   number : l.byte ≡ bits_number (take (l.at - l.from) (drop l.from (padded_bits (row_of l.places l.end l.width))));
   fits : l.byte < 2 ^ (l.at - l.from);
-  so_far : HasPassed l.places l.end l.at l.behind;
+  so_far : HasPassed l.places l.end l.at l.after;
 }
 
 abbrev pub decreases-loop-at : goal.decreases-loop-at
-decreases-loop-at l = l.to - l.at + (l.end - l.behind)
+decreases-loop-at l = l.to - l.at + (l.end - l.after)

@@ -4,8 +4,8 @@ use Rattle.fax_rows.proofs.PlacedRowLemmas.{end_within}
 use Rattle.fax_rows.proofs.packed.packed_word.Goals as goal
 use Rattle.fax_rows.proofs.packed.packed_word.Goals.{then-passed-eq1, else-passed-eq1}
 
-pub loop-behind-init : goal.loop-behind-init
-loop-behind-init c =
+pub loop-after-init : goal.loop-after-init
+loop-after-init c =
     elim c.if-passed-eq1.branch [
       | then-passed-eq1 w ↦ rw w.word-is
           (begun_white c.args.places.now c.args.end c.args.width c.requires.row (64 * c.args.k) c.args.passed c.requires.so_far
@@ -15,21 +15,21 @@ loop-behind-init c =
           (omega (arith, w.if-passed-eq1)))
     ]
 
-pub bounds-places-behind : goal.bounds-places-behind
-bounds-places-behind c =
-    omega (arith, c.loop-behind.invariant.within, c.requires.row.room, end_within c.args.places.now c.args.end c.args.width c.requires.row)
+pub bounds-places-after : goal.bounds-places-after
+bounds-places-after c =
+    omega (arith, c.loop-after.invariant.within, c.requires.row.room, end_within c.args.places.now c.args.end c.args.width c.requires.row)
 
-pub bounds-places-behind-in-loop-behind : goal.bounds-places-behind-in-loop-behind
-bounds-places-behind-in-loop-behind c =
-    omega (arith, c.loop-behind.invariant.within, c.requires.row.room, end_within c.args.places.now c.args.end c.args.width c.requires.row)
+pub bounds-places-after-in-loop-after : goal.bounds-places-after-in-loop-after
+bounds-places-after-in-loop-after c =
+    omega (arith, c.loop-after.invariant.within, c.requires.row.room, end_within c.args.places.now c.args.end c.args.width c.requires.row)
 
-pub loop-behind-preserved : goal.loop-behind-preserved
-loop-behind-preserved c =
-    word_turned c.args.places.now c.args.end c.args.width c.requires.row (64 * c.args.k) c.loop-behind.word c.loop-behind.behind
-    (get_or c.args.places.now c.loop-behind.behind 0 % 64) c.loop-behind.invariant (omega arith) c.requires.within (λ ahead. omega arith)
+pub loop-after-preserved : goal.loop-after-preserved
+loop-after-preserved c =
+    word_turned c.args.places.now c.args.end c.args.width c.requires.row (64 * c.args.k) c.loop-after.word c.loop-after.after
+    (get_or c.args.places.now c.loop-after.after 0 % 64) c.loop-after.invariant (omega arith) c.requires.within (λ ahead. omega arith)
 
 pub returns-clause-word : goal.returns-clause-word
 returns-clause-word c =
-    word_done c.args.places.now c.args.end c.args.width c.requires.row (64 * c.args.k) c.loop-behind.word c.loop-behind.behind
-    c.loop-behind.invariant
+    word_done c.args.places.now c.args.end c.args.width c.requires.row (64 * c.args.k) c.loop-after.word c.loop-after.after
+    c.loop-after.invariant
     c.requires.within (λ h. omega arith)

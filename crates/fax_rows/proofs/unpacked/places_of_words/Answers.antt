@@ -26,7 +26,7 @@ loop-k-preserved c = record {
   left = λ h. omega (arith, c.put_word-end.ensures.left h);
   unpacked =
       unpacked_word (bits MsbFirst c.args.bytes.now) _ _ (64 * c.loop-k.k) (64 * (c.loop-k.k + 1)) c.loop-k.before c.word_at-word.result
-      (omega arith) c.loop-k.invariant.unpacked c.put_word-end.ensures.kept c.put_word-end.ensures.pels c.put_word-end.ensures.behind
+      (omega arith) c.loop-k.invariant.unpacked c.put_word-end.ensures.kept c.put_word-end.ensures.pels c.put_word-end.ensures.after
       (λ i h.
       let place : 8 * (8 * c.loop-k.k) + i ≡ 64 * c.loop-k.k + i = omega arith in
       c.word_at-word.ensures i h ∙ ap (λ n. get_or (bits MsbFirst c.args.bytes.now) n false) place);

@@ -1,5 +1,5 @@
 use Rattle.std.proofs.Common.{◌+◌, take, refl, arith}
-use Rattle.fax_rows.proofs.UnpackedWordLemmas.{highest, less_without, put_none, put_more, put_pels, put_behind, not_gone, room_behind}
+use Rattle.fax_rows.proofs.UnpackedWordLemmas.{highest, less_without, put_none, put_more, put_pels, put_after, not_gone, room_after}
 use Rattle.fax_rows.proofs.unpacked.put_word.Goals as goal
 use lib.Count.{count_leading_zeros}
 
@@ -25,7 +25,7 @@ turn_right-end-requires-clause-room c =
     let so_far = c.loop-left.invariant.1 in
     omega (
       arith,
-      room_behind c.loop-left.places c.loop-left.end c.args.from c.loop-left.invariant.0 so_far.ascending so_far.last,
+      room_after c.loop-left.places c.loop-left.end c.args.from c.loop-left.invariant.0 so_far.ascending so_far.last,
       so_far.put.within,
       c.requires.room,
       c.loop-left.auto.places,
@@ -52,5 +52,5 @@ loop-left-preserved c =
 pub returns-clause-pels : goal.returns-clause-pels
 returns-clause-pels c = put_pels _ _ _ _ _ _ _ c.loop-left.invariant.1.put (omega arith)
 
-pub returns-clause-behind : goal.returns-clause-behind
-returns-clause-behind c = put_behind _ _ _ _ _ _ _ c.loop-left.invariant.1.put (omega arith)
+pub returns-clause-after : goal.returns-clause-after
+returns-clause-after c = put_after _ _ _ _ _ _ _ c.loop-left.invariant.1.put (omega arith)

@@ -57,11 +57,11 @@ invariant_of-result c =
 pub returns-clause-some : goal.returns-clause-some
 returns-clause-some c =
     let at = (goal.at.returns-clause-some c).After-get_flag-aligned in
-    let behind = (goal.at.returns-clause-some c).After-get_one-2 in
+    let after = (goal.at.returns-clause-some c).After-get_one-2 in
     record {
       target = target_named at;
       order = c.order_of.ensures;
-      k = c.unwrap_or.ensures ∙ ap (λ o. unwrap_or o 4) (k_read behind);
-      strip = strip_read behind;
+      k = c.unwrap_or.ensures ∙ ap (λ o. unwrap_or o 4) (k_read after);
+      strip = strip_read after;
       aligned = flag at;
     }

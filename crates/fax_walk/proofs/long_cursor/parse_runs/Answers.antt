@@ -10,7 +10,7 @@ loop-run-preserved c =
     let cut = rw c.in-Some.is at c.split_once.ensures.cases in
     record {
       cut = rw pushed.2
-          (run_cut c.args.text.now c.loop-run.runs.items c.loop-run.rest.now c.in-Some.run' c.in-Some.behind pushed.0
+          (run_cut c.args.text.now c.loop-run.runs.items c.loop-run.rest.now c.in-Some.run' c.in-Some.after pushed.0
           c.loop-run.invariant.cut cut pushed.1);
       utf8 = search rules;
       short = rw pushed.2 (All-push (λ run. run < 2 ^ 32) c.loop-run.runs.items pushed.0 c.loop-run.invariant.short pushed.3);
@@ -34,7 +34,7 @@ returns-in_err-push_run-clause-err c =
     rw (p.1, p.2)
     (λ told runs short some is.
     let rest = c.loop-run.invariant.cut.others (record { runs = runs; short = short; some = some; text_is = is }) in
-    let run = (run_before c.loop-run.rest.now c.in-Some.run' c.in-Some.behind cut rest).0 in
+    let run = (run_before c.loop-run.rest.now c.in-Some.run' c.in-Some.after cut rest).0 in
     c.in_err-push_run.ensures.err told run.run run.short run.text_is)
 
 pub returns-in_err-push_run-2-clause-err : goal.returns-in_err-push_run-2-clause-err

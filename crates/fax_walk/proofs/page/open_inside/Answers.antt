@@ -1,4 +1,5 @@
-use Rattle.std.proofs.Common.{ap, sym, arith}
+use Rattle.std.proofs.Common.{ap, sym, arith, rules}
+use Prim.{search}
 use Rattle.std.proofs.Math.Nat.{mod-eq-sub-div-mul}
 use Rattle.fax_page.specs.views.Reader.{StripState}
 use Rattle.std.proofs.lemmas.Result.{err_from_is_err_and}
@@ -54,3 +55,16 @@ returns-in_err-strip-clause-refused c =
     rw (e.1, e.2, ← c.due.view_is, ← c.place.view_is)
     (no_place due place c.due.invariant.its same_page (omega (arith, c.if-row-form.false)) (omega (arith, c.if-row-form-eq0.false))
     c.in-Ok.bytes.now there _ none)
+
+pub invariant_of-result : goal.invariant_of-result
+invariant_of-result c = record {
+  its = rw c.strips-strips.ensures.directory c.due.invariant.its;
+  limits = c.due.invariant.limits;
+  counted = c.strips-strips.ensures.count;
+  within = search rules;
+  strip_is = search rules;
+  row_is = search rules;
+  room = c.in_ok-exchanged.ensures;
+  some_page = search rules;
+  few = search rules;
+}

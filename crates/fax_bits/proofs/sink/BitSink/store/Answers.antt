@@ -3,7 +3,7 @@ use Rattle.std.specs.Prelude.{bit_or}
 use Rattle.fax_bits.specs.declared.FillOrder.TheVariants.{MsbFirst}
 use Rattle.fax_bits.specs.Bits.{bits, code_bits}
 use Rattle.fax_bits.specs.code.Sink.{sink_of}
-use Rattle.fax_bits.proofs.SinkLemmas.{on_ok-holds, joined-lt, first_part-lt, masked-lt, put_behind, word_stored}
+use Rattle.fax_bits.proofs.SinkLemmas.{on_ok-holds, joined-lt, first_part-lt, masked-lt, put_after, word_stored}
 use Rattle.fax_bits.proofs.sink.BitSink.store.Goals as goal
 
 pub invariant_of-self-then-count-lt32 : goal.invariant_of-self-then-count-lt32
@@ -25,7 +25,7 @@ returns-then-count-lt32-clause-ok c =
     let fits : c.from.result < 2 ^ c.args.len = omega (arith, c.from.ensures, c.requires.fits) in
     let short : inside.count + c.args.len ≤ 64 = omega (arith, c.self.invariant.within, c.self.invariant.few, c.requires.short) in
     let all = bit_or (inside.pending * 2 ^ c.args.len % 2 ^ 64) c.from.result in
-    let put = put_behind inside.order inside.bytes.items inside.count inside.pending c.args.len c.from.result c.args.self.now
+    let put = put_after inside.order inside.bytes.items inside.count inside.pending c.args.len c.from.result c.args.self.now
     c.self.invariant.fits fits short c.self.view_is
     ∙ ap (λ n. record { order = c.args.self.now.order; bits = c.args.self.now.bits ++ code_bits c.args.len n }) c.from.ensures in
     ap (λ items. sink_of inside.order items (inside.count + c.args.len) all) c.reserve.ensures.items ∙ put
@@ -60,7 +60,7 @@ returns-clause-ok c =
     let fits : c.from.result < 2 ^ c.args.len = omega (arith, c.from.ensures, c.requires.fits) in
     let short : inside.count + c.args.len ≤ 64 = omega (arith, c.self.invariant.within, c.self.invariant.few, c.requires.short) in
     let all = bit_or (inside.pending * 2 ^ c.args.len % 2 ^ 64) c.from.result in
-    let put = put_behind inside.order inside.bytes.items inside.count inside.pending c.args.len c.from.result c.args.self.now
+    let put = put_after inside.order inside.bytes.items inside.count inside.pending c.args.len c.from.result c.args.self.now
     c.self.invariant.fits fits short c.self.view_is
     ∙ ap (λ n. record { order = c.args.self.now.order; bits = c.args.self.now.bits ++ code_bits c.args.len n }) c.from.ensures in
     let joined = joined-lt inside.count inside.pending c.args.len c.from.result c.self.invariant.fits fits short in

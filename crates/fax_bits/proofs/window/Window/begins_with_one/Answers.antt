@@ -12,4 +12,4 @@ pub returns-clause-ahead : goal.returns-clause-ahead
 returns-clause-ahead c = λ one order bytes.
     let window = c.args.self in
     first_of (first_bits window.count window.bits) (bits order (drop window.at bytes))
-    (sym (first_is_one window.count window.bits window.few (omega arith) window.zeros_behind) ∙ one)
+    (sym (first_is_one window.count window.bits window.few (omega arith) window.zeros_after) ∙ one)

@@ -6,7 +6,7 @@ use Rattle.fax_bits.proofs.window.Window.ones.Goals as goal
 pub returns-clause-loaded : goal.returns-clause-loaded
 returns-clause-loaded c =
     let w = c.args.self in
-    ones_loaded w.count w.bits _ w.few (omega arith) w.zeros_behind c.leading_ones.ensures
+    ones_loaded w.count w.bits _ w.few (omega arith) w.zeros_after c.leading_ones.ensures
 
 pub returns-clause-ahead : goal.returns-clause-ahead
 returns-clause-ahead c order bytes =

@@ -11,7 +11,7 @@ invariant_of-result c =
     let fits : c.from.result < 2 ^ 32 = omega (arith, c.from.ensures, c.word_at-word.type_inv) in
     record {
       few = omega (arith, c.requires.room);
-      zeros_behind = loaded_zeros 32 w.count w.bits c.from.result (omega (arith, c.requires.room)) w.zeros_behind fits;
+      zeros_after = loaded_zeros 32 w.count w.bits c.from.result (omega (arith, c.requires.room)) w.zeros_after fits;
     }
 
 pub returns-clause-ahead : goal.returns-clause-ahead
@@ -21,7 +21,7 @@ returns-clause-ahead c =
     let bytes = c.args.bytes.now in
     let fits : c.from.result < 2 ^ 32 = omega (arith, c.from.ensures, c.word_at-word.type_inv) in
     ap (λ b. b ++ bits order (drop (w.at + 4) bytes)) (loaded_bits 32 w.count w.bits c.from.result (omega (arith, c.requires.room))
-    w.zeros_behind fits)
+    w.zeros_after fits)
     ∙ append_assoc (first_bits w.count w.bits) (code_bits 32 c.from.result) (bits order (drop (w.at + 4) bytes))
     ∙ ap (λ b. first_bits w.count w.bits ++ (b ++ bits order (drop (w.at + 4) bytes)))
     (ap (code_bits 32) c.from.ensures ∙ c.word_at-word.ensures)

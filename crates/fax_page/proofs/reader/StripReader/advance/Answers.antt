@@ -1,5 +1,5 @@
 use Rattle.std.proofs.Common.{rules}
-use Rattle.fax_page.proofs.RestLemmas.{row_behind, line_between, placed_behind}
+use Rattle.fax_page.proofs.RestLemmas.{row_after, line_between, placed_after}
 use Rattle.fax_page.proofs.reader.StripReader.advance.Goals as goal
 
 pub invariant_of-self : goal.invariant_of-self
@@ -9,11 +9,11 @@ invariant_of-self c = record {
   next_width = search rules;
   within = search rules;
   placed =
-      placed_behind c.self.inside.form.order c.self.inside.bytes.now c.self.inside.place _ _ _
+      placed_after c.self.inside.form.order c.self.inside.bytes.now c.self.inside.place _ _ _
       (c.bits_stand_by_place.ensures.count c.self.inside.form.order c.self.inside.bytes.now) c.self.invariant.placed
       (c.self.invariant.at_row c.in_default.is) c.in-Ok.ensures.same_end c.place-self-inside.ensures;
   at_row = λ none.
-      row_behind _ _ _ _ _ _ _ _ _ (c.self.invariant.at_row none) c.in-Ok.ensures.ok c.in-Ok.ensures.same_end c.place-self-inside.ensures;
+      row_after _ _ _ _ _ _ _ _ _ (c.self.invariant.at_row none) c.in-Ok.ensures.ok c.in-Ok.ensures.same_end c.place-self-inside.ensures;
 }
 
 pub returns-in-Ok : goal.returns-in-Ok
@@ -21,7 +21,7 @@ returns-in-Ok c =
     rw (← c.self.view_is)
     (let here = c.self.invariant.at_row c.in_default.is in
     let there =
-    row_behind _ _ _ _ _ _ _ _ _ here c.in-Ok.ensures.ok c.in-Ok.ensures.same_end c.place-self-inside.ensures in
+    row_after _ _ _ _ _ _ _ _ _ here c.in-Ok.ensures.ok c.in-Ok.ensures.same_end c.place-self-inside.ensures in
     record {
       no_fault = search rules;
       due = search rules;

@@ -1,10 +1,10 @@
 use Rattle.std.proofs.Common.{arith}
-use Rattle.fax_rows.proofs.WrittenStepLemmas.{from_a2, b1_behind_a2}
+use Rattle.fax_rows.proofs.WrittenStepLemmas.{from_a2, b1_after_a2}
 use Rattle.fax_rows.proofs.put.ChangesAhead.after_a2.Goals as goal
 
 pub returns-clause-places : goal.returns-clause-places
 returns-clause-places c = record {
   row = from_a2 c.args.rows c.args.self c.requires.places c.requires.unfinished;
   reference = λ inside.
-      b1_behind_a2 c.args.rows c.args.self c.requires.places c.requires.unfinished _ (c.b1_after.ensures (omega arith));
+      b1_after_a2 c.args.rows c.args.self c.requires.places c.requires.unfinished _ (c.b1_after.ensures (omega arith));
 }

@@ -1,7 +1,7 @@
 use Rattle.std.proofs.Common.{◌∙◌, refl, subst, sym, arith}
 use Rattle.fax_rows.specs.code.PlacedRow.{IsB1At}
 use Rattle.fax_rows.proofs.PlacedRowLemmas.{at_from, next_here, end_within}
-use Rattle.fax_rows.proofs.PlacedB1Lemmas.{b1_is, b2_is, behind_b1}
+use Rattle.fax_rows.proofs.PlacedB1Lemmas.{b1_is, b2_is, after_b1}
 use Rattle.fax_rows.proofs.WrittenStepLemmas.{colour_here}
 use Rattle.fax_rows.proofs.put.ChangesAhead.of.Goals as goal
 
@@ -39,11 +39,11 @@ returns-clause-places c =
     (c.requires.places.reference c.requires.unfinished) in
     record {
       a1 = (next_here row.places.now row.end row.width row.placed c.args.at.a0 c.args.at.row from).place;
-      a2 = behind_b1 row c.args.at.row at.0 (omega (arith, at.1));
+      a2 = after_b1 row c.args.at.row at.0 (omega (arith, at.1));
       b1 = b1_is reference c.args.at.a0 c.colour_after.result c.args.at.reference b1;
       b2 = b2_is reference c.args.at.a0 c.colour_after.result c.args.at.reference b1;
       colour = c.colour_after.ensures ∙ colour_here row c.args.at.a0 c.args.at.row from c.requires.unfinished;
-      behind = c.colour_after.ensures;
+      after = c.colour_after.ensures;
       row = from;
       reference = b1;
       a1_at = refl;

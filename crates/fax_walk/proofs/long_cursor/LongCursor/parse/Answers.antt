@@ -9,26 +9,26 @@ returns-in_default-clause-err c = λ told place limits is.
 
 pub returns-in_default-cut_number-clause-err : goal.returns-in_default-cut_number-clause-err
 returns-in_default-cut_number-clause-err c = λ told place limits is.
-    let behind = rw c.in-Some.is at (cut_so c.args.text.now c.cut_number.result c.cut_number.ensures 2 _ (omega arith)
+    let after = rw c.in-Some.is at (cut_so c.args.text.now c.cut_number.result c.cut_number.ensures 2 _ (omega arith)
     (is ∙ text_by_numbers place)) in
     rw c.in_default-cut_number.is at
-    (cut_so c.in-Some.place.now c.cut_number-2.result c.cut_number-2.ensures place.at.page _ limits.cursor.page (sym behind.1))
+    (cut_so c.in-Some.place.now c.cut_number-2.result c.cut_number-2.ensures place.at.page _ limits.cursor.page (sym after.1))
 
 pub returns-in_default-cut_number-2-clause-err : goal.returns-in_default-cut_number-2-clause-err
 returns-in_default-cut_number-2-clause-err c = λ told place limits is.
-    let behind = rw c.in-Some.is at (cut_so c.args.text.now c.cut_number.result c.cut_number.ensures 2 _ (omega arith)
+    let after = rw c.in-Some.is at (cut_so c.args.text.now c.cut_number.result c.cut_number.ensures 2 _ (omega arith)
     (is ∙ text_by_numbers place)) in
     let page = rw c.in-Some-cut_number.is at
-    (cut_so c.in-Some.place.now c.cut_number-2.result c.cut_number-2.ensures place.at.page _ limits.cursor.page (sym behind.1)) in
+    (cut_so c.in-Some.place.now c.cut_number-2.result c.cut_number-2.ensures place.at.page _ limits.cursor.page (sym after.1)) in
     rw c.in_default-cut_number-2.is at
     (cut_so c.in-Some-cut_number.place.now c.cut_number-3.result c.cut_number-3.ensures place.at.row _ limits.cursor.row (sym page.1))
 
 pub returns-in_default-cut_number-3-clause-err : goal.returns-in_default-cut_number-3-clause-err
 returns-in_default-cut_number-3-clause-err c = λ told place limits is.
-    let behind = rw c.in-Some.is at (cut_so c.args.text.now c.cut_number.result c.cut_number.ensures 2 _ (omega arith)
+    let after = rw c.in-Some.is at (cut_so c.args.text.now c.cut_number.result c.cut_number.ensures 2 _ (omega arith)
     (is ∙ text_by_numbers place)) in
     let page = rw c.in-Some-cut_number.is at
-    (cut_so c.in-Some.place.now c.cut_number-2.result c.cut_number-2.ensures place.at.page _ limits.cursor.page (sym behind.1)) in
+    (cut_so c.in-Some.place.now c.cut_number-2.result c.cut_number-2.ensures place.at.page _ limits.cursor.page (sym after.1)) in
     let row = rw c.in-Some-cut_number-2.is at
     (cut_so c.in-Some-cut_number.place.now c.cut_number-3.result c.cut_number-3.ensures place.at.row _ limits.cursor.row (sym page.1)) in
     rw c.in_default-cut_number-3.is at
@@ -36,19 +36,19 @@ returns-in_default-cut_number-3-clause-err c = λ told place limits is.
 
 pub returns-then-version-ne-VERSION-clause-err : goal.returns-then-version-ne-VERSION-clause-err
 returns-then-version-ne-VERSION-clause-err c = λ told place limits is.
-    let behind = rw c.in-Some.is at (cut_so c.args.text.now c.cut_number.result c.cut_number.ensures 2 _ (omega arith)
+    let after = rw c.in-Some.is at (cut_so c.args.text.now c.cut_number.result c.cut_number.ensures 2 _ (omega arith)
     (is ∙ text_by_numbers place)) in
-    c.if-version-ne-VERSION.true (sym behind.0)
+    c.if-version-ne-VERSION.true (sym after.0)
 
 pub returns-in_err-parse_runs-clause-err : goal.returns-in_err-parse_runs-clause-err
 returns-in_err-parse_runs-clause-err c =
     let p = err_from_is_err_and c.from_residual.result c.from_residual.ensures.1 in
     rw (p.1, p.2)
     (λ told place limits is.
-    let behind = rw c.in-Some.is at (cut_so c.args.text.now c.cut_number.result c.cut_number.ensures 2 _ (omega arith)
+    let after = rw c.in-Some.is at (cut_so c.args.text.now c.cut_number.result c.cut_number.ensures 2 _ (omega arith)
     (is ∙ text_by_numbers place)) in
     let page = rw c.in-Some-cut_number.is at
-    (cut_so c.in-Some.place.now c.cut_number-2.result c.cut_number-2.ensures place.at.page _ limits.cursor.page (sym behind.1)) in
+    (cut_so c.in-Some.place.now c.cut_number-2.result c.cut_number-2.ensures place.at.page _ limits.cursor.page (sym after.1)) in
     let row = rw c.in-Some-cut_number-2.is at
     (cut_so c.in-Some-cut_number.place.now c.cut_number-3.result c.cut_number-3.ensures place.at.row _ limits.cursor.row (sym page.1)) in
     let bits = rw c.in-Some-cut_number-3.is at

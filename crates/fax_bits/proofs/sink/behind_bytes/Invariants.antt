@@ -1,7 +1,0 @@
-use Rattle.std.proofs.Common.{◌≡◌, ◌++◌, take}
-use Rattle.fax_bits.specs.declared.FillOrder.TheVariants.{MsbFirst}
-use Rattle.fax_bits.specs.Bits.{bits}
-use Rattle.fax_bits.proofs.sink.behind_bytes.Given as goal
-
-abbrev pub invariant-loop-i : goal.invariant-loop-i
-invariant-loop-i l = l.fn.ahead.left ≡ bits MsbFirst (take l.i l.bytes) ++ l.behind.left

@@ -1,0 +1,48 @@
+-- What one look-up finds of the next bits.
+use Rattle.std.specs.Prelude.{◌≡◌, ℕ, ◌<◌, ◌^◌, Bool, List, ◌++◌, length, Contains}
+use Rattle.fax_bits.specs.declared.codes.CodeEntry.{CodeEntry}
+use Rattle.fax_bits.specs.declared.pairs.Pair.{Pair}
+use Rattle.fax_bits.specs.Bits.{Colour, White, Black, BeginsWith}
+use Rattle.fax_bits.specs.Codes.{bits_of}
+use Rattle.fax_bits.specs.Written.{run_bits}
+use Rattle.fax_bits.specs.views.Source.{Source, KeepsEnd}
+
+-- the first of the bits, `len` of them and at least one, mean what is found
+pub record IsBegun {F : Type 0} (means : List Bool → F → Type 0) (b : List Bool) (len : ℕ)
+    (found : F) : Type 0 where
+  pub front : List Bool
+  pub ahead : BeginsWith b front
+  pub long : length front ≡ len
+  pub some : 0 < len
+  pub meaning : means front found
+
+-- the source went past bits that mean what is found
+pub record IsLookedUp {F : Type 0} (means : List Bool → F → Type 0) (old : Source) (found : F)
+    (new : Source) : Type 0 where
+  pub front : List Bool
+  pub meaning : means front found
+  pub taken : old.left ≡ front ++ new.left
+  pub same_end : KeepsEnd old new
+  pub shorter : length new.left < length old.left
+
+-- the bits are the code of some entry that has this meaning (T.4, section 4.1.1)
+pub record IsCode {M : Type 0} (table : List (CodeEntry M)) (b : List Bool)
+    (meaning : M) : Type 0 where
+  pub entry : CodeEntry M
+  pub listed : Contains table entry
+  pub means : entry.meaning ≡ meaning
+  pub spelled : b ≡ bits_of entry
+
+-- the bits are those of a run of the colour (T.4, section 4.1.1)
+pub record IsOneRun (colour : Colour) (b : List Bool) (pels : ℕ) : Type 0 where
+  pub spelled : b ≡ run_bits colour pels
+  pub short : pels < 2 ^ 16
+
+-- the bits are those of a white run and of the black one after it; each has pels, and is one
+-- terminating code (T.4, section 4.1.1)
+pub record AreTwoRuns (b : List Bool) (pair : Pair) : Type 0 where
+  pub white : 0 < pair.white
+  pub black : 0 < pair.black
+  pub short_white : pair.white < 64
+  pub short_black : pair.black < 64
+  pub spelled : b ≡ run_bits White pair.white ++ run_bits Black pair.black

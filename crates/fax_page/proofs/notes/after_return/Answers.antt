@@ -1,0 +1,22 @@
+use Rattle.std.proofs.Common.{◌≡◌, arith, sym, subst}
+use Rattle.fax_bits.specs.views.Source.{Source}
+use Rattle.fax_page.specs.code.Notes.{AreEolsTaken}
+use Rattle.fax_page.proofs.EndLemmas.{none_taken, one_taken, one_missing, all_taken}
+use Rattle.fax_page.proofs.notes.after_return.Goals as goal
+
+pub loop-eol-init : goal.loop-eol-init
+loop-eol-init c =
+    subst (λ (s : Source). AreEolsTaken c.args.coding c.args.source.now.left 0 s.left) (sym c.again-ahead.ensures)
+    (none_taken c.args.coding c.args.source.now.left)
+
+pub returns-then-not-take_return_eol : goal.returns-then-not-take_return_eol
+returns-then-not-take_return_eol c =
+    one_missing _ _ _ _ c.loop-eol-test.true c.loop-eol.invariant c.if-not-take_return_eol.ensures
+
+pub loop-eol-preserved : goal.loop-eol-preserved
+loop-eol-preserved c = one_taken _ _ _ _ _ c.loop-eol-test.true c.loop-eol.invariant c.if-not-take_return_eol.ensures
+
+pub returns : goal.returns
+returns c =
+    let all : c.loop-eol._eol ≡ 6 = omega arith in
+    all_taken _ _ _ _ all c.loop-eol.invariant

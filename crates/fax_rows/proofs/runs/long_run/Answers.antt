@@ -1,0 +1,16 @@
+use Rattle.std.proofs.Common.{◌≡◌, ◌∙◌, sym, subst}
+use Rattle.fax_bits.specs.Codes.{IsRun}
+use Rattle.fax_bits.specs.views.Source.{Source}
+use Rattle.fax_rows.proofs.RunLemmas.{run_after, from_there}
+use Rattle.fax_rows.proofs.runs.long_run.Goals as goal
+
+pub returns-clause-ok : goal.returns-clause-ok
+returns-clause-ok c =
+    let start : c.again-copy.result ≡ c.args.source.now = c.again-copy.ensures in
+    let run = rw start at c.in_ok-n.ensures.ok in
+    let end = rw start at c.in_ok-n.ensures.same_end in
+    let parts = run_after c.args.colour c.args.source.now.left c.in_ok-n.n c.read_run.new.source.left run in
+    let same = from_there c.args.source.now c.read_run.new.source parts.0 parts.1 end in
+    let there : c.skip_to.new.self ≡ c.read_run.new.source =
+    c.skip_to.ensures ∙ rw c.place.ensures same in
+    subst (λ (s : Source). IsRun c.args.colour c.args.source.now.left c.in_ok-n.n s.left) (sym there) run

@@ -1,0 +1,11 @@
+-- A row that is being put: the places of change so far.
+use Rattle.std.specs.Prelude.{◌≡◌, ℕ, ◌+◌, ◌-◌, ◌≤◌, List, length, slice_index}
+use Rattle.fax_rows.specs.code.Turns.{IsAscending}
+
+-- the first `end` places are those of a row of this width up to the pel `total`, and there is room
+-- for the others
+pub record ArePut (width : ℕ) (places : List ℕ) (end total : ℕ) : Type 0 where
+  pub room : length places ≡ width + 4
+  pub ascending : IsAscending places end
+  pub last : slice_index places (end - 1) ≤ total
+  pub within : total ≤ width
