@@ -1,0 +1,133 @@
+-- Forms that are written one after another.
+use Rattle.std.proofs.Common.{◌≡◌, ℕ, ◌+◌, ◌<◌, ◌≤◌, List, [], ◌∷◌, ◌++◌, length, set, map, take, drop, refl, ap, sym, ◌∙◌, subst}
+use Rattle.std.proofs.Common.{arith, inl, inr}
+use Rattle.std.specs.Prelude.{Some, slice_get}
+use Rattle.std.proofs.lemmas.List.{length-map, length-take-le, map-append}
+use Rattle.std.proofs.lemmas.Option.{slice_get_within}
+use Rattle.fax_bits.specs.laws.Codes.{IsOne}
+use Rattle.fax_walk.specs.declared.cursor.Cursor.{Cursor}
+use Rattle.fax_walk.specs.declared.end.End.{End}
+use Rattle.fax_walk.specs.Pages.{FormItem, IsFormTail}
+use Rattle.fax_walk.specs.views.InOrder.{IsNumber}
+use Rattle.fax_walk.specs.views.Pages.{HandsOutPage, IsCursorOf, PagesHaveEnded, PagesView}
+use Rattle.fax_walk.specs.laws.Tails.{CursorsHaveOneFormTail}
+use Rattle.fax_c.specs.declared.filled.Stop.TheVariants.{Done, Ended}
+use Rattle.fax_c.specs.declared.forms.FaxForm.{FaxForm}
+use Rattle.fax_c.specs.Forms.{AreFormsFilled, cursor_after_pages, form_of}
+use Rattle.fax_c.proofs.ListLemmas.{one_set, take_at}
+use Rattle.fax_c.proofs.NumberLemmas.{end_is, number_is}
+
+-- the forms as they stand in memory of the caller
+abbrev pub forms_of : List FormItem → List FaxForm
+forms_of = map (λ item. form_of item.form)
+
+pages-push : (from : Cursor) (items : List FormItem) (item : FormItem)
+    → cursor_after_pages from (items ++ item ∷ []) ≡ record { page = item.page + 1; row = 0 }
+pages-push from [] item = refl
+pages-push from (first ∷ items) item = pages-push (record { page = first.page + 1; row = 0 }) items item
+
+-- so many forms of a reader are written
+pub record AreFormsWritten (file : List ℕ) (from : Cursor) (pages : PagesView) (count : ℕ) (old forms : List FaxForm) : Type 0 where
+  pub items : List FormItem
+  pub end : End
+  pub tail : IsFormTail file from items end
+  pub same_file : pages.file ≡ file
+  pub same_begun : pages.begun ≡ from
+  pub given : pages.given ≡ count
+  pub few : count ≤ length items
+  pub asked : count ≤ length old
+  pub written : forms ≡ forms_of (take count items) ++ drop count old
+
+pub none_written : (pages : PagesView) (old : List FaxForm) → CursorsHaveOneFormTail → pages.given ≡ 0
+    → AreFormsWritten pages.file pages.begun pages 0 old old
+none_written pages old one none =
+    let tail = one pages.file pages.begun in
+    record {
+      items = tail.items;
+      end = tail.end;
+      tail = tail.is;
+      same_file = refl;
+      same_begun = refl;
+      given = none;
+      few = omega arith;
+      asked = omega arith;
+      written = refl;
+    }
+
+module _ (file : List ℕ) (from : Cursor) (pages : PagesView) (count : ℕ) (old forms : List FaxForm) (law : CursorsHaveOneFormTail)
+    (so_far : AreFormsWritten file from pages count old forms) where
+  one_here : IsOne (IsFormTail pages.file pages.begun)
+  one_here = law pages.file pages.begun
+
+  tail_here : IsFormTail pages.file pages.begun so_far.items so_far.end
+  tail_here =
+      let of_file : IsFormTail pages.file from so_far.items so_far.end =
+      subst (λ f. IsFormTail f from so_far.items so_far.end) (sym so_far.same_file) so_far.tail in
+      subst (λ b. IsFormTail pages.file b so_far.items so_far.end) (sym so_far.same_begun) of_file
+
+  item_is : (n : ℕ) (item : FormItem) → IsNumber (IsFormTail pages.file pages.begun) n item → slice_get so_far.items n ≡ Some item
+  item_is n item = number_is (IsFormTail pages.file pages.begun) one_here so_far.items so_far.end tail_here n item
+
+  pub cursor_is : (at : Cursor) → IsCursorOf pages at → at ≡ cursor_after_pages from (take count so_far.items)
+  cursor_is at (inl (none, is)) =
+      let zero_pages : count ≡ 0 = sym so_far.given ∙ none in
+      rw (zero_pages, is, so_far.same_begun) refl
+  cursor_is at (inr (before, item, given, number, is)) =
+      let count_is : count ≡ before + 1 = sym so_far.given ∙ given in
+      rw (count_is, is)
+      (sym (ap (cursor_after_pages from) (take_at so_far.items before item (item_is before item number))
+      ∙ pages-push from (take before so_far.items) item))
+
+  pub one_more : (new : PagesView) (item : FormItem) → count < length old → HandsOutPage pages item new
+      → AreFormsWritten file from new (count + 1) old (set forms count (form_of item.form))
+  one_more new item below hands =
+      let there = item_is pages.given item hands.number in
+      let here : slice_get so_far.items count ≡ Some item = subst (λ n. slice_get so_far.items n ≡ Some item) so_far.given there in
+      let inside = slice_get_within so_far.items count item here in
+      let front = forms_of (take count so_far.items) in
+      let len : length front ≡ count =
+      length-map (take count so_far.items) (λ i. form_of i.form) ∙ length-take-le count so_far.items so_far.few in
+      let all : forms_of (take (count + 1) so_far.items) ≡ front ++ form_of item.form ∷ [] =
+      ap forms_of (take_at so_far.items count item here) ∙ map-append (λ i. form_of i.form) (take count so_far.items) (item ∷ []) in
+      record {
+        items = so_far.items;
+        end = so_far.end;
+        tail = so_far.tail;
+        same_file = ap (λ (p : PagesView). p.file) hands.new_is ∙ so_far.same_file;
+        same_begun = ap (λ (p : PagesView). p.begun) hands.new_is ∙ so_far.same_begun;
+        given = ap (λ (p : PagesView). p.given) hands.new_is ∙ ap (λ n. n + 1) so_far.given;
+        few = omega (arith, inside);
+        asked = omega (arith, below);
+        written =
+            one_set front old forms count (form_of item.form) len below so_far.written ∙ ap (λ (l : List FaxForm). l ++ drop (count + 1) old) (sym all);
+      }
+
+  pub ended : (end : End) (new : PagesView) (at : Cursor) → PagesHaveEnded pages end new → IsCursorOf pages at
+      → AreFormsFilled file from old (record { cursor = at; count = count; used = 0; stop = Ended end }) forms
+  ended end new at ends is =
+      let are = end_is (IsFormTail pages.file pages.begun) one_here so_far.items so_far.end tail_here pages.given end ends.ends in
+      record {
+        items = so_far.items;
+        end = so_far.end;
+        tail = so_far.tail;
+        few = so_far.few;
+        asked = so_far.asked;
+        written = so_far.written;
+        cursor = cursor_is at is;
+        none_used = refl;
+        stops = (sym so_far.given ∙ are.0, are.1);
+      }
+
+  pub all_asked : (at : Cursor) → length old ≤ count → IsCursorOf pages at
+      → AreFormsFilled file from old (record { cursor = at; count = count; used = 0; stop = Done }) forms
+  all_asked at all is = record {
+    items = so_far.items;
+    end = so_far.end;
+    tail = so_far.tail;
+    few = so_far.few;
+    asked = so_far.asked;
+    written = so_far.written;
+    cursor = cursor_is at is;
+    none_used = refl;
+    stops = omega (arith, so_far.asked, all);
+  }

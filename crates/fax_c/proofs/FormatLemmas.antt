@@ -1,0 +1,73 @@
+-- The runs and the changing elements of a row, written at a place.
+use Rattle.std.proofs.Common.{◌≡◌, ℕ, ◌+◌, ◌<◌, ◌≤◌, List, [], ◌∷◌, ◌++◌, length, set, take, drop, Bool, true, false, cond, refl, ap, sym, ◌∙◌}
+use Rattle.std.proofs.Common.{append_assoc, append-nil, arith, length-append}
+use Rattle.std.specs.List.{filter, range_with_len}
+use Rattle.std.proofs.lemmas.List.{length-take-le}
+use Rattle.std.proofs.lemmas.List.FromFn.{length-range_with_len}
+use Rattle.fax_rows.specs.Rows.{Colour, is_changing}
+use Rattle.fax_c.specs.Changes.{changes_of}
+use Rattle.fax_c.proofs.ListLemmas.{one_set}
+
+length-filter-le : (p : ℕ → Bool) (xs : List ℕ) → length (filter p xs) ≤ length xs
+length-filter-le p [] = omega arith
+length-filter-le p (x ∷ xs) =
+    let less = length-filter-le p xs in
+    elim (p x) as (λ b. length (cond b (x ∷ filter p xs) (filter p xs)) ≤ length (x ∷ xs)) [
+      | true ↦ omega (arith, less)
+      | false ↦ omega (arith, less)
+    ]
+
+pub has_few_changes : (row : List Colour) → length (changes_of row) ≤ length row
+has_few_changes row =
+    let all = length-range_with_len 0 (length row) in
+    omega (arith, length-filter-le (is_changing row) (range_with_len 0 (length row)), all)
+
+-- the first of these runs are written at a place
+pub record AreRunsPut (all left : List ℕ) (at to : ℕ) (old now : List ℕ) : Type 0 where
+  pub front : List ℕ
+  pub all_is : all ≡ front ++ left
+  pub to_is : to ≡ at + length front
+  pub room : at + length all ≤ length old
+  pub now_is : now ≡ (take at old ++ front) ++ drop to old
+
+pub none_put : (all : List ℕ) (at : ℕ) (old : List ℕ) → at + length all ≤ length old → take at old ++ drop at old ≡ old
+    → AreRunsPut all all at at old old
+none_put all at old room whole = record {
+  front = [];
+  all_is = refl;
+  to_is = omega arith;
+  room = room;
+  now_is = sym (ap (λ l. l ++ drop at old) (append-nil (take at old)) ∙ whole);
+}
+
+pub one_put : (all left rest : List ℕ) (at to run : ℕ) (old now : List ℕ) → AreRunsPut all left at to old now → left ≡ run ∷ rest
+    → AreRunsPut all rest at (to + 1) old (set now to run)
+one_put all left rest at to run old now so_far is =
+    let front = so_far.front in
+    let begin = take at old ++ front in
+    let all_is : all ≡ front ++ run ∷ rest = so_far.all_is ∙ ap (λ l. front ++ l) is in
+    let len_all : length all ≡ length front + length (run ∷ rest) = ap length all_is ∙ length-append front (run ∷ rest) in
+    let within : at ≤ length old = omega (arith, so_far.room) in
+    let len : length begin ≡ to = omega (arith, length-append (take at old) front, length-take-le at old within, so_far.to_is) in
+    let below : to < length old = omega (arith, len_all, so_far.room, so_far.to_is) in
+    record {
+      front = front ++ run ∷ [];
+      all_is = all_is ∙ sym (append_assoc front (run ∷ []) rest);
+      to_is = omega (arith, so_far.to_is, length-append front (run ∷ []));
+      room = so_far.room;
+      now_is =
+          one_set begin old now to run len below so_far.now_is
+          ∙ ap (λ l. l ++ drop (to + 1) old) (append_assoc (take at old) front (run ∷ []));
+    }
+
+pub below_end : (all left rest : List ℕ) (at to run : ℕ) (old now : List ℕ) → AreRunsPut all left at to old now → left ≡ run ∷ rest
+    → length now ≡ length old → to < length now
+below_end all left rest at to run old now so_far is same =
+    let len_all : length all ≡ length so_far.front + length left = ap length so_far.all_is ∙ length-append so_far.front left in
+    omega (arith, len_all, ap length is, so_far.room, so_far.to_is, same)
+
+pub all_put : (all left : List ℕ) (at to : ℕ) (old now : List ℕ) → AreRunsPut all left at to old now → left ≡ []
+    → now ≡ take at old ++ all ++ drop (at + length all) old
+all_put all left at to old now so_far none =
+    let all_is : all ≡ so_far.front = so_far.all_is ∙ ap (λ l. so_far.front ++ l) none ∙ append-nil so_far.front in
+    rw (all_is, sym so_far.to_is) so_far.now_is

@@ -1,0 +1,10 @@
+pub mod PackedLemmas
+pub mod FormatLemmas
+pub mod ListLemmas
+pub mod NumberLemmas
+pub mod FormLemmas
+pub mod FillLemmas
+pub mod PlaceLemmas
+pub mod PlaceTextLemmas
+pub mod NoteLemmas
+pub mod ConversionLemmas

@@ -1,0 +1,66 @@
+-- The texts of places are UTF-8, and what they are read as.
+use Rattle.std.proofs.Common.{◌≢◌, ℕ, ◌^◌, ◌<◌, List, [], ◌∷◌, ◌++◌, subst, sym, arith}
+use Rattle.std.specs.Prelude.{codes, decimal, flat_map}
+use Rattle.std.specs.List.{All}
+use Rattle.std.specs.Str.{IsUtf8}
+use Rattle.std.proofs.lemmas.Fmt.{IsAscii-decimal}
+use Rattle.std.proofs.lemmas.List.Elements.{All-cons, All-head, All-nil, All-tail}
+use Rattle.std.proofs.lemmas.Str.{IsUtf8-append, IsUtf8-from_ascii, IsUtf8-nil}
+use Rattle.std.proofs.lemmas.Str.Ascii.{IsAscii-from_all}
+use Rattle.fax_walk.specs.declared.cursor.Cursor.{Cursor}
+use Rattle.fax_walk.specs.Pages.{IsCursor, IsLongCursor, LongPlace, cursor_text, long_cursor_text, runs_text}
+
+decimal_utf8 : (n : ℕ) → n < 2 ^ 32 → IsUtf8 (decimal n)
+decimal_utf8 n short = IsUtf8-from_ascii (decimal n) (IsAscii-decimal n (omega (arith, short)))
+
+-- one character of ASCII
+one_utf8 : (b : ℕ) → b < 128 → IsUtf8 (b ∷ [])
+one_utf8 b short = IsUtf8-from_ascii (b ∷ []) (IsAscii-from_all (b ∷ []) (All-cons (λ n. n < 128) b [] short (All-nil (λ n. n < 128))))
+
+colon : IsUtf8 (codes ":")
+colon = one_utf8 58 (omega arith)
+
+-- what the texts begin with
+first_kind : IsUtf8 (codes "1:")
+first_kind = IsUtf8-append (49 ∷ []) (58 ∷ []) (one_utf8 49 (omega arith)) colon
+
+second_kind : IsUtf8 (codes "2:")
+second_kind = IsUtf8-append (50 ∷ []) (58 ∷ []) (one_utf8 50 (omega arith)) colon
+
+-- a text with a colon and a number after it
+with_number : (text : List ℕ) (n : ℕ) → IsUtf8 text → n < 2 ^ 32 → IsUtf8 (text ++ codes ":" ++ decimal n)
+with_number text n utf8 short =
+    IsUtf8-append (text ++ codes ":") (decimal n) (IsUtf8-append text (codes ":") utf8 colon) (decimal_utf8 n short)
+
+pub cursor_text_utf8 : (at : Cursor) → IsCursor at → IsUtf8 (cursor_text at)
+cursor_text_utf8 at is =
+    let begin = IsUtf8-append (codes "1:") (decimal at.page) first_kind (decimal_utf8 at.page is.page) in
+    with_number (codes "1:" ++ decimal at.page) at.row begin is.row
+
+more_runs_utf8 : (runs : List ℕ) → All (λ run. run < 2 ^ 32) runs → IsUtf8 (flat_map (λ run. codes "," ++ decimal run) runs)
+more_runs_utf8 [] all = IsUtf8-nil
+more_runs_utf8 (run ∷ runs) all =
+    IsUtf8-append (codes "," ++ decimal run) (flat_map (λ run. codes "," ++ decimal run) runs)
+    (IsUtf8-append (codes ",") (decimal run) (one_utf8 44 (omega arith)) (decimal_utf8 run (All-head (λ n. n < 2 ^ 32) run runs all)))
+    (more_runs_utf8 runs (All-tail (λ n. n < 2 ^ 32) run runs all))
+
+runs_text_utf8 : (runs : List ℕ) → All (λ run. run < 2 ^ 32) runs → IsUtf8 (runs_text runs)
+runs_text_utf8 [] all = IsUtf8-nil
+runs_text_utf8 (run ∷ runs) all =
+    IsUtf8-append (decimal run) (flat_map (λ run. codes "," ++ decimal run) runs) (decimal_utf8 run (All-head (λ n. n < 2 ^ 32) run runs all)) (more_runs_utf8 runs (All-tail (λ n. n < 2 ^ 32) run runs all))
+
+pub long_cursor_text_utf8 : (place : LongPlace) → IsLongCursor place → IsUtf8 (long_cursor_text place)
+long_cursor_text_utf8 place is =
+    let begin = IsUtf8-append (codes "2:") (decimal place.at.page) second_kind (decimal_utf8 place.at.page is.cursor.page) in
+    let row = with_number (codes "2:" ++ decimal place.at.page) place.at.row begin is.cursor.row in
+    let bits = with_number (codes "2:" ++ decimal place.at.page ++ codes ":" ++ decimal place.at.row) place.bits row is.bits in
+    let colons = IsUtf8-append (codes "2:" ++ decimal place.at.page ++ codes ":" ++ decimal place.at.row ++ codes ":" ++ decimal place.bits) (codes ":") bits colon in
+    IsUtf8-append (codes "2:" ++ decimal place.at.page ++ codes ":" ++ decimal place.at.row ++ codes ":" ++ decimal place.bits ++ codes ":") (runs_text place.runs) colons
+    (runs_text_utf8 place.runs is.runs)
+
+-- bytes that are no UTF-8 are the text of no cursor
+pub no_cursor : (text : List ℕ) → (IsUtf8 text → ⊥) → (at : Cursor) → IsCursor at → text ≢ cursor_text at
+no_cursor text not at is same = not (subst IsUtf8 (sym same) (cursor_text_utf8 at is))
+
+pub no_long_cursor : (text : List ℕ) → (IsUtf8 text → ⊥) → (place : LongPlace) → IsLongCursor place → text ≢ long_cursor_text place
+no_long_cursor text not place is same = not (subst IsUtf8 (sym same) (long_cursor_text_utf8 place is))

@@ -1,0 +1,14 @@
+use Rattle.std.proofs.Common.{◌-◌, length}
+use Rattle.fax_walk.specs.laws.Tails.{BeginningsHaveOneTail}
+use Rattle.fax_c.proofs.FillLemmas.{AreRowsWritten}
+use Rattle.fax_c.proofs.rows.fill.Given as goal
+
+abbrev pub invariant-loop-count : goal.invariant-loop-count
+invariant-loop-count g l = record {
+  law : BeginningsHaveOneTail;
+  so_far : AreRowsWritten g.F.RowFormat.numbers l.initial.walk.file l.initial.walk.begun l.walk l.count l.used l.initial.rows l.rows
+      l.initial.out l.out;
+}
+
+abbrev pub decreases-loop-count : goal.decreases-loop-count
+decreases-loop-count g l = length l.initial.rows - l.count

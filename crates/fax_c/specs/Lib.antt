@@ -1,0 +1,10 @@
+pub mod Faults
+pub mod Numbers
+pub mod Texts
+pub mod Changes
+pub mod Forms
+pub mod Told
+pub mod Checked
+pub mod Converted
+pub mod views
+pub mod code

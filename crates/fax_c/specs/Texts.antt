@@ -1,0 +1,36 @@
+-- Texts, written in memory of the caller.
+-- A definition without a citation is this project's profile.
+use Rattle.std.specs.Prelude.{◌≡◌, ℕ, ◌<◌, ◌≤◌, ◌⊎◌, List, ◌++◌, codes, length, drop}
+use Rattle.fax_files.specs.declared.Cause.{Cause}
+use Rattle.fax_files.specs.FaultNames.{fault_name}
+use Rattle.fax_files.specs.declared.pbm.PbmFault.{PbmFault}
+use Rattle.fax_files.specs.Pbm.{pbm_fault_name}
+use Rattle.fax_c.specs.Faults.{fault_number, output_too_large_number, pbm_fault_number}
+use Rattle.fax_c.specs.Faults.{unknown_input_number}
+
+-- a text is written where it has room, and nothing else is changed; how many bytes it has is told
+pub record IsTextPut (text old : List ℕ) (len : ℕ) (new : List ℕ) : Type 0 where
+  pub len_is : len ≡ length text
+  pub written : length text ≤ length old → new ≡ text ++ drop (length text) old
+  pub no_room : length old < length text → new ≡ old
+
+-- faults with this number have this name
+abbrev pub IsNameOf : ℕ → List ℕ → Type 0
+IsNameOf number name =
+    ((cause : Cause) × (fault_number cause ≡ number) × (name ≡ fault_name cause))
+    ⊎ ((fault : PbmFault) × (pbm_fault_number fault ≡ number) × (name ≡ pbm_fault_name fault))
+    ⊎ ((unknown_input_number ≡ number) × (name ≡ codes "UnknownInput"))
+    ⊎ ((output_too_large_number ≡ number) × (name ≡ codes "OutputTooLarge"))
+
+-- the name of the faults with this number is written, or no fault has it
+abbrev pub NamesFault : ℕ → List ℕ → ℕ → List ℕ → Type 0
+NamesFault number old len new =
+    ((name : List ℕ) × IsNameOf number name × IsTextPut name old len new)
+    ⊎ (((name : List ℕ) → IsNameOf number name → ⊥) × (len ≡ 0) × (new ≡ old))
+
+-- the version, and its number
+abbrev pub version : List ℕ
+version = codes "1.1.0"
+
+abbrev pub version_number : ℕ
+version_number = 10100

@@ -1,0 +1,58 @@
+-- What a call tells: how much it wrote, where to go on, why it wrote no more, and the fault.
+-- A definition without a citation is this project's profile.
+use Rattle.std.specs.Prelude.{◌≡◌, ℕ, unwrap_or}
+use Rattle.fax_files.specs.FaultNames.{fault_tag}
+use Rattle.fax_files.specs.declared.Cause.{Cause}
+use Rattle.fax_walk.specs.declared.end.End.{End}
+use Rattle.fax_walk.specs.declared.end.End.TheVariants.{Proper, Fault, Outside}
+use Rattle.fax_c.specs.declared.faults.FaxFault.{FaxFault}
+use Rattle.fax_c.specs.declared.filled.Stop.{Stop}
+use Rattle.fax_c.specs.declared.filled.Stop.TheVariants.{Done, Ended, Memory, NoRoom}
+use Rattle.fax_c.specs.declared.filled.Filled.{Filled}
+use Rattle.fax_c.specs.declared.told.FaxTold.{FaxTold}
+use Rattle.fax_c.specs.Faults.{fault_number}
+
+-- no fault
+abbrev pub no_fault : FaxFault
+no_fault = record { number = 0; tag = 0; page = 0; row = 0 }
+
+-- a fault where this row of a page was due
+abbrev pub fault_of_cause : ℕ → ℕ → Cause → FaxFault
+fault_of_cause page row cause = record {
+  number = fault_number cause;
+  tag = unwrap_or (fault_tag cause) 0;
+  page = page;
+  row = row;
+}
+
+-- the fault of an end
+abbrev pub fault_of_end : End → FaxFault
+fault_of_end Proper = no_fault
+fault_of_end (Fault page row cause) = fault_of_cause page row cause
+fault_of_end Outside = no_fault
+
+-- the fault that is told
+abbrev pub fault_of : Stop → FaxFault
+fault_of Done = no_fault
+fault_of (Ended end) = fault_of_end end
+fault_of Memory = no_fault
+fault_of NoRoom = no_fault
+
+-- the number that a call answers: all that was asked for is written, there is no more, as the end
+-- says, memory was refused, the next row has no room
+abbrev pub status_of : Stop → ℕ
+status_of Done = 0
+status_of (Ended Proper) = 1
+status_of (Ended (Fault page row cause)) = 2
+status_of (Ended Outside) = 3
+status_of Memory = 4
+status_of NoRoom = 5
+
+-- what was written is told, and the number answered
+pub record IsTold (filled : Filled) (told : FaxTold) (status : ℕ) : Type 0 where
+  pub count : told.count ≡ filled.count
+  pub used : told.used ≡ filled.used
+  pub page : told.page ≡ filled.cursor.page
+  pub row : told.row ≡ filled.cursor.row
+  pub fault : told.fault ≡ fault_of filled.stop
+  pub answer : status ≡ status_of filled.stop

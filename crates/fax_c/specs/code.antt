@@ -1,0 +1,3 @@
+-- What speaks of this code alone: one step of a call.
+pub mod Put
+pub mod Conversion

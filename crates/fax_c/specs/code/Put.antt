@@ -1,0 +1,73 @@
+-- One step of a call: an item is written, or why it is not.
+use Rattle.std.specs.Prelude.{◌≡◌, ◌≢◌, ℕ, ◌+◌, ◌<◌, ◌≤◌, ◌⊎◌, List, ◌++◌, length, take, drop}
+use Rattle.std.specs.Prelude.{Option, Some, None, Result, Ok, Err, Bool, true, false}
+use Rattle.fax_rows.specs.Rows.{Colour}
+use Rattle.fax_walk.specs.declared.end.End.{End}
+use Rattle.fax_files.specs.declared.PageForm.{PageForm}
+use Rattle.fax_walk.specs.Pages.{FormItem, LongPlace}
+use Rattle.fax_walk.specs.declared.end.End.TheVariants.{Fault, Outside}
+use Rattle.fax_walk.specs.declared.end.WalkFault.{WalkFault}
+use Rattle.fax_walk.specs.declared.end.WalkFault.TheVariants.{AtRow, CursorOutside}
+use Rattle.fax_walk.specs.declared.end.WalkFault.TheVariants.{Memory as Refused}
+use Rattle.fax_walk.specs.Rows.{RowItem}
+use Rattle.fax_walk.specs.views.Pages.{PagesView, HandsOutPage, PagesHaveEnded}
+use Rattle.fax_walk.specs.views.Walk.{EntersPage, WalkView, HandsOut, HasEndedAs}
+use Rattle.fax_c.specs.declared.filled.Filled.{Filled}
+use Rattle.fax_c.specs.declared.filled.Stop.{Stop}
+use Rattle.fax_c.specs.declared.filled.Stop.TheVariants.{Done, Ended, Memory, NoRoom}
+use Rattle.fax_c.specs.declared.places.FaxPlace.{FaxPlace}
+use Rattle.fax_c.specs.declared.rows.FaxRow.{FaxRow}
+use Rattle.fax_c.specs.views.Filled.{row_at}
+use Rattle.fax_c.specs.views.Places.{long_place_of}
+use Rattle.fax_c.specs.views.PlaceTexts.{HasNoRoom}
+
+-- why a reader hands out nothing more
+abbrev pub stop_of : WalkFault → Stop
+stop_of (AtRow page row cause) = Ended (Fault page row cause)
+stop_of CursorOutside = Ended Outside
+stop_of Refused = Memory
+
+-- the form of the page that is handed out, or the end in its place
+abbrev pub IsFormAnswered : PagesView → Result PageForm End → PagesView → Type 0
+IsFormAnswered old (Ok form) new =
+    (item : FormItem) × HandsOutPage old item new × (form ≡ item.form)
+IsFormAnswered old (Err end) new = PagesHaveEnded old end new
+
+-- these numbers are written at a place, and where they end is answered, or they have no room
+abbrev pub IsPutAt : {N : Type 0} → List N → List N → ℕ → Option ℕ → List N → Type 0
+IsPutAt numbers old at None new = (new ≡ old) × (length old < at + length numbers)
+IsPutAt numbers old at (Some to) new =
+    (to ≡ at + length numbers) × (to ≤ length old) × (new ≡ take at old ++ numbers ++ drop to old)
+
+-- the row that is handed out is written at a place, or why it is not
+abbrev pub IsPut : {N : Type 0} → (List Colour → List N) → WalkView → List N → ℕ
+    → Result FaxRow Stop → WalkView → List N → Type 0
+IsPut numbers walk old at (Ok row) new_walk new =
+    (item : RowItem) × HandsOut walk item new_walk × (row ≡ row_at numbers at item)
+    × IsPutAt (numbers item.pels) old at (Some (at + length (numbers item.pels))) new
+IsPut numbers walk old at (Err NoRoom) new_walk new =
+    (item : RowItem) × HandsOut walk item new_walk × IsPutAt (numbers item.pels) old at None new
+IsPut numbers walk old at (Err (Ended end)) new_walk new =
+    HasEndedAs walk end new_walk × (new ≡ old)
+IsPut numbers walk old at (Err Memory) new_walk new =
+    EntersPage walk.file walk.begun walk.given × (new_walk ≡ walk) × (new ≡ old)
+IsPut numbers walk old at (Err Done) new_walk new = ⊥
+
+-- a walk after so many of its rows were written: one row further where that one has no room
+pub record IsWalkAfter (old : WalkView) (filled : Filled) (new : WalkView) : Type 0 where
+  pub same_file : new.file ≡ old.file
+  pub same_begun : new.begun ≡ old.begun
+  pub given : filled.stop ≢ NoRoom → new.given ≡ filled.count
+
+-- a place has runs, and they are there
+abbrev pub HasRuns : FaxPlace → List ℕ → Type 0
+HasRuns place runs = (0 < place.runs) × (place.runs ≤ length runs)
+
+-- a place inside a strip is told with its runs, or these are none or have no room; no other run is
+-- changed
+abbrev pub IsPlaceTold : LongPlace → FaxPlace → List ℕ → Bool → FaxPlace → List ℕ → Type 0
+IsPlaceTold found old old_runs told new runs =
+    ((told ≡ false) × (new ≡ old) × (runs ≡ old_runs)
+    × ((length found.runs ≡ 0) ⊎ HasNoRoom found old_runs))
+    ⊎ ((told ≡ true) × HasRuns new runs × (long_place_of new runs ≡ found)
+    × (drop new.runs runs ≡ drop new.runs old_runs))

@@ -1,0 +1,79 @@
+-- Rows that are written one after another, each as numbers.
+-- A definition without a citation is this project's profile.
+use Rattle.std.specs.Prelude.{◌≡◌, ℕ, ◌+◌, ◌<◌, ◌≤◌, List, [], ◌∷◌, ◌++◌, length, take, drop}
+use Rattle.std.specs.Prelude.{flat_map, slice_get, Some}
+use Rattle.fax_rows.specs.Rows.{Colour}
+use Rattle.fax_walk.specs.declared.begun.Begun.{Begun}
+use Rattle.fax_walk.specs.declared.cursor.Cursor.{Cursor}
+use Rattle.fax_walk.specs.declared.end.End.{End}
+use Rattle.fax_walk.specs.Rows.{RowItem, IsTailFrom, begins_at, cursor_after}
+use Rattle.fax_walk.specs.views.Walk.{EntersPage}
+use Rattle.fax_c.specs.declared.filled.Filled.{Filled}
+use Rattle.fax_c.specs.declared.filled.Stop.{Stop}
+use Rattle.fax_c.specs.declared.filled.Stop.TheVariants.{Done, Ended, Memory, NoRoom}
+use Rattle.fax_c.specs.declared.rows.FaxRow.{FaxRow}
+use Rattle.fax_c.specs.declared.told.FaxTold.{FaxTold}
+use Rattle.fax_c.specs.Told.{IsTold}
+
+-- the numbers of rows, one after another
+abbrev pub all_numbers : {N : Type 0} → (List Colour → List N) → List RowItem → List N
+all_numbers numbers = flat_map (λ item. numbers item.pels)
+
+-- where a row lies whose numbers begin at a place
+abbrev pub row_at : {N : Type 0} → (List Colour → List N) → ℕ → RowItem → FaxRow
+row_at numbers at item = record {
+  at = at;
+  len = length (numbers item.pels);
+  page = item.page;
+  row = item.row;
+  width = length item.pels;
+}
+
+-- where each of these rows lies, from a place on
+abbrev pub rows_at : {N : Type 0} → (List Colour → List N) → ℕ → List RowItem → List FaxRow
+rows_at numbers at [] = []
+rows_at numbers at (item ∷ items) =
+    row_at numbers at item ∷ rows_at numbers (at + length (numbers item.pels)) items
+
+-- the cursor after rows, which began so
+abbrev pub cursor_after_rows : Cursor → List RowItem → Cursor
+cursor_after_rows from [] = from
+cursor_after_rows from (item ∷ items) = cursor_after_rows (cursor_after item) items
+
+-- so many of these rows are written, of which so many were asked for, in so many numbers of so
+-- many: all of them, or there are no more, or the next one has no room, or memory was refused
+-- where a page is entered
+abbrev pub StopsAfterRows : {N : Type 0} → (List Colour → List N) → List ℕ → Begun → List RowItem
+    → End → ℕ → ℕ → ℕ → ℕ → Stop → Type 0
+StopsAfterRows numbers file begun items end asked room count used Done = count ≡ asked
+StopsAfterRows numbers file begun items end asked room count used (Ended met) =
+    (count ≡ length items) × (met ≡ end)
+StopsAfterRows numbers file begun items end asked room count used NoRoom =
+    (item : RowItem) × (slice_get items count ≡ Some item)
+    × (room < used + length (numbers item.pels))
+StopsAfterRows numbers file begun items end asked room count used Memory =
+    EntersPage file begun count
+
+-- the first rows of what a walk hands out that begins so are written, one after another, and where
+-- each lies, and nothing else is changed
+pub record AreRowsFilled {N : Type 0} (numbers : List Colour → List N) (file : List ℕ)
+    (begun : Begun) (old_rows : List FaxRow) (old_out : List N) (filled : Filled)
+    (rows : List FaxRow) (out : List N) : Type 0 where
+  pub items : List RowItem
+  pub end : End
+  pub tail : IsTailFrom file begun items end
+  pub few : filled.count ≤ length items
+  pub asked : filled.count ≤ length old_rows
+  pub used : filled.used ≡ length (all_numbers numbers (take filled.count items))
+  pub lie : rows ≡ rows_at numbers 0 (take filled.count items) ++ drop filled.count old_rows
+  pub written : out ≡ all_numbers numbers (take filled.count items) ++ drop filled.used old_out
+  pub cursor : filled.cursor ≡ cursor_after_rows (begins_at begun) (take filled.count items)
+  pub stops : StopsAfterRows numbers file begun items end (length old_rows) (length old_out)
+      filled.count filled.used filled.stop
+
+-- rows are written and told
+abbrev pub TellsRows : {N : Type 0} → (List Colour → List N) → List ℕ → Begun → List FaxRow → List N
+    → List FaxRow → List N → FaxTold → ℕ → Type 0
+TellsRows numbers file begun old_rows old_out rows out told status =
+    (filled : Filled) × AreRowsFilled numbers file begun old_rows old_out filled rows out
+    × IsTold filled told status

@@ -1,0 +1,100 @@
+//! What is worth a note in a file.
+ghost use Rattle.std.specs.Prelude.{◌≡◌, ◌≤◌, length};
+ghost use Rattle.fax_c.specs.Checked as Spec;
+
+use crate::faults::FaxFault;
+use fax_walk::{Note, Report, check};
+use std::alloc::Global;
+
+/// A note on a page, or on a strip of it.
+#[repr(C)]
+#[derive(Clone, Copy)]
+pub struct FaxNote {
+    /// The page, from 0.
+    pub page: u32,
+    /// The strip of the page, from 0, or 4,294,967,295 where the note is on the page's directory.
+    pub strip: u32,
+    /// What is noted: 1 to 5, as N1 to N5.
+    pub kind: u32,
+}
+
+/// What was found in a file up to its first fault.
+#[repr(C)]
+#[derive(Clone, Copy)]
+pub struct FaxReport {
+    /// How many pages were read wholly.
+    pub pages: u64,
+    /// How many rows were read.
+    pub rows: u64,
+    /// How many notes there are.
+    pub notes: usize,
+    pub fault: FaxFault,
+}
+
+impl FaxNote {
+    ghost use Rattle.fax_c.specs.Checked.{note_of};
+
+    /// A note as it stands in memory of the caller.
+    fn of(note: &Note) -> Self
+        ensures { result ≡ note_of note.now }
+    {
+        FaxNote {
+            page: note.page,
+            strip: note.strip.unwrap_or(u32::MAX),
+            kind: u32::from(note.kind.number()),
+        }
+    }
+}
+
+impl FaxReport {
+    ghost use Rattle.fax_c.specs.Checked.{report_of};
+
+    /// A report as it stands in memory of the caller, without its notes.
+    fn of(report: &Report) -> Self
+        ensures { result ≡ report_of report.now }
+    {
+        FaxReport {
+            pages: report.pages,
+            rows: report.rows,
+            notes: report.notes.len(),
+            fault: match report.fault {
+                Some((place, cause)) => FaxFault::of_cause(place.page, place.row, cause),
+                None => FaxFault::none(),
+            },
+        }
+    }
+}
+
+/// Writes the first notes, as many as have room.
+fn put_notes(found: &[Note], notes: &mut [FaxNote])
+    ensures { Spec.AreNotesPut found.now notes.old notes.new }
+{
+    let count = found.len().min(notes.len());
+    for i in 0..count {
+        notes[i] = FaxNote::of(&found[i]);
+    }
+}
+
+/// Reads a file wholly up to its first fault, and writes the first notes, as many as have room, and
+/// what else is reported.
+#[unsafe(no_mangle)]
+pub extern "C" fn faxpages_check(
+    alloc: Global,
+    file: &[u8],
+    notes: &mut [FaxNote],
+    report: &mut FaxReport,
+) -> u32
+    ensures { Spec.TellsReport file.now notes.old notes.new report.old report.new result }
+{
+    match check(alloc, file) {
+        Ok(found) => {
+            put_notes(&found.notes, notes);
+            *report = FaxReport::of(&found);
+            match found.fault {
+                Some(_) => 2,
+                None => 1,
+            }
+        }
+        Err(_) => 4,
+    }
+}

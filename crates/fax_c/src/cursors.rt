@@ -1,0 +1,75 @@
+//! Places as text and back.
+ghost use Rattle.fax_c.specs.views.PlaceTexts as Spec;
+
+use crate::places::{FaxPlace, begun_at, tell_place};
+use crate::text::put_text;
+use fax_walk::{Begun, Cursor, LongCursor, LongFault};
+use std::alloc::Global;
+
+/// Writes a text where it has room, tells how many bytes it has, and answers whether it had room.
+fn put_counted(text: &[u8], out: &mut [u8], len: &mut usize) -> u32
+    ensures { Spec.IsTextTold text.now out.old out.new len.new result }
+{
+    *len = put_text(text, out);
+    if *len <= out.len() { 0 } else { 5 }
+}
+
+/// Writes a place as text where it has room: as `1:P:R`, or inside a strip as `2:P:R:B:n,n,..`; and
+/// tells how many bytes it has.
+#[unsafe(no_mangle)]
+pub extern "C" fn faxpages_place_text(
+    alloc: Global,
+    place: &FaxPlace,
+    runs: &[u32],
+    text: &mut [u8],
+    len: &mut usize,
+) -> u32
+    ensures { Spec.TellsPlaceText place.now runs.now text.old text.new len.new result }
+{
+    *len = 0;
+    let mut written = String::new(alloc);
+    let made = match begun_at(alloc, place, runs) {
+        Some(Begun::At(cursor)) => cursor.put_text(&mut written),
+        Some(Begun::Inside(found)) => found.put_text(&mut written),
+        None => return 4,
+    };
+    match made {
+        Ok(()) => put_counted(written.as_bytes(), text, len),
+        Err(_) => 4,
+    }
+}
+
+/// Reads a place from its text.
+#[unsafe(no_mangle)]
+pub extern "C" fn faxpages_place_parse(
+    alloc: Global,
+    text: &[u8],
+    place: &mut FaxPlace,
+    runs: &mut [u32],
+) -> u32
+    ensures { Spec.ReadsPlace text.now place.old runs.old place.new runs.new result }
+{
+    let Ok(text) = str::from_utf8(text) else {
+        return 6;
+    };
+    if let Ok(cursor) = Cursor::parse(text) {
+        *place = FaxPlace {
+            page: cursor.page,
+            row: cursor.row,
+            bits: 0,
+            runs: 0,
+        };
+        return 0;
+    }
+    match LongCursor::parse(alloc, text) {
+        Ok(found) => {
+            if tell_place(&found, place, runs) {
+                0
+            } else {
+                5
+            }
+        }
+        Err(LongFault::NotACursor) => 6,
+        Err(LongFault::Memory) => 4,
+    }
+}

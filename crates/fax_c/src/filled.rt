@@ -1,0 +1,86 @@
+//! How far a call has written, and why it wrote no more.
+ghost use Rattle.std.specs.Prelude.{◌≡◌};
+
+use crate::faults::FaxFault;
+use crate::told::FaxTold;
+use fax_walk::{Cursor, End, WalkFault};
+
+/// Why no more was written.
+#[derive(Clone, Copy)]
+pub(crate) enum Stop {
+    /// All that was asked for is written.
+    Done,
+    /// There is no more of it.
+    Ended(End),
+    /// A growth was refused.
+    Memory,
+    /// The next row has no room.
+    NoRoom,
+}
+
+/// What was written: so many pages or rows, in so many numbers, and where to go on.
+#[derive(Clone, Copy)]
+pub(crate) struct Filled {
+    pub(crate) cursor: Cursor,
+    pub(crate) count: usize,
+    pub(crate) used: usize,
+    pub(crate) stop: Stop,
+}
+
+impl Stop {
+    ghost use Rattle.fax_c.specs.Told.{fault_of, status_of};
+    ghost use Rattle.fax_c.specs.code.Put.{stop_of};
+
+    /// Why nothing more is handed out.
+    pub(crate) fn of_fault(fault: WalkFault) -> Self
+        ensures { result ≡ stop_of fault }
+    {
+        match fault {
+            WalkFault::AtRow { page, row, cause } => Stop::Ended(End::Fault { page, row, cause }),
+            WalkFault::CursorOutside => Stop::Ended(End::Outside),
+            WalkFault::Memory => Stop::Memory,
+        }
+    }
+
+    /// The number that a call answers.
+    fn status(self) -> u32
+        ensures { result ≡ status_of self }
+    {
+        match self {
+            Stop::Done => 0,
+            Stop::Ended(End::Proper) => 1,
+            Stop::Ended(End::Fault { .. }) => 2,
+            Stop::Ended(End::Outside) => 3,
+            Stop::Memory => 4,
+            Stop::NoRoom => 5,
+        }
+    }
+
+    /// The fault that is told.
+    fn fault(self) -> FaxFault
+        ensures { result ≡ fault_of self }
+    {
+        match self {
+            Stop::Ended(end) => FaxFault::of_end(end),
+            Stop::Done | Stop::Memory | Stop::NoRoom => FaxFault::none(),
+        }
+    }
+}
+
+impl Filled {
+    ghost use Rattle.fax_c.specs.Told.{IsTold};
+
+    /// Tells what was written, and answers how the call ended.
+    pub(crate) fn tell(&self, told: &mut FaxTold) -> u32
+        ensures { IsTold self.now told.new result }
+    {
+        *told = FaxTold {
+            count: self.count,
+            used: self.used,
+            page: self.cursor.page,
+            row: self.cursor.row,
+            fault: self.stop.fault(),
+        };
+        self.stop.status()
+    }
+}

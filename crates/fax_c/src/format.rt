@@ -1,0 +1,99 @@
+//! How a row is written in memory of the caller: as numbers, one after another.
+ghost use Rattle.std.specs.Prelude.{◌≡◌, ◌+◌, ◌≤◌, ◌^◌, ◌++◌, length, take, drop};
+ghost use Rattle.fax_rows.specs.Coded.{packed_row};
+ghost use Rattle.fax_rows.specs.Rows.{runs_of};
+ghost use Rattle.fax_c.specs.Changes.{changes_of};
+ghost use Rattle.fax_c.specs.code.Put.{IsPutAt};
+
+use fax_rows::{LongestRuns, Row};
+
+/// How a row is written.
+pub(crate) trait RowFormat {
+    ghost use Rattle.std.specs.Prelude.{List};
+    ghost use Rattle.fax_bits.specs.declared.Colour.{Colour};
+
+    /// What it is written in.
+    type Number: Copy;
+
+    /// The numbers of a row.
+    ghost numbers: { List Colour → List Self.Number };
+
+    /// Writes those of a row at a place, where they have room, and answers where they end.
+    fn put(row: &Row, out: &mut [Self::Number], at: usize) -> Option<usize>
+        requires { at ≤ length out.old }
+        ensures put { IsPutAt (numbers row.now) out.old at result out.new }
+        ensures few { length (numbers row.now) ≤ 2 ^ 16 };
+}
+
+/// As packed bytes: the highest bit first, 1 for black, with zeros up to a whole byte.
+pub(crate) struct Packed;
+
+impl RowFormat for Packed {
+    type Number = u8;
+
+    ghost numbers = { packed_row };
+
+    #[tactic(auto, using(crate::proofs::PackedLemmas::has_packed_len))]
+    fn put(row: &Row, out: &mut [u8], at: usize) -> Option<usize> {
+        let len = ((row.width() + 7) / 8) as usize;
+        if out.len() - at < len {
+            return None;
+        }
+        let to = at + len;
+        row.to_packed(&mut out[at..to]);
+        Some(to)
+    }
+}
+
+/// As the lengths of its longest runs, white first: the first one is 0 where the row begins black.
+pub(crate) struct Runs;
+
+/// Writes the runs that are left at a place where they have room.
+fn put_runs(runs: &mut LongestRuns, out: &mut [u32], at: usize)
+    requires { at + length runs.old ≤ length out.old }
+    ensures { out.new ≡ take at out.old ++ runs.old ++ drop (at + length runs.old) out.old }
+{
+    let mut to = at;
+    while let Some(run) = runs.next_run() {
+        out[to] = run;
+        to += 1;
+    }
+}
+
+impl RowFormat for Runs {
+    type Number = u32;
+
+    ghost numbers = { runs_of };
+
+    fn put(row: &Row, out: &mut [u32], at: usize) -> Option<usize> {
+        let mut runs = LongestRuns::of_row(row);
+        let len = runs.len();
+        if out.len() - at < len {
+            return None;
+        }
+        put_runs(&mut runs, out, at);
+        Some(at + len)
+    }
+}
+
+/// As the places of its changing elements: the pels, from 0, of another colour than the pel before
+/// them, where white stands before the first.
+pub(crate) struct Changes;
+
+impl RowFormat for Changes {
+    type Number = u32;
+
+    ghost numbers = { changes_of };
+
+    #[tactic(auto, using(crate::proofs::FormatLemmas::has_few_changes))]
+    fn put(row: &Row, out: &mut [u32], at: usize) -> Option<usize> {
+        let _width = row.width();
+        let changes = row.changes();
+        if out.len() - at < changes.len() {
+            return None;
+        }
+        let to = at + changes.len();
+        out[at..to].copy_from_slice(changes);
+        Some(to)
+    }
+}

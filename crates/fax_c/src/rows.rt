@@ -1,0 +1,167 @@
+//! The rows of a file, written one after another.
+ghost use Rattle.std.specs.Prelude.{◌≡◌, ◌≤◌, length};
+ghost use Rattle.fax_rows.specs.Coded.{packed_row};
+ghost use Rattle.fax_walk.specs.declared.begun.Begun.TheVariants.{At};
+ghost use Rattle.fax_c.specs.code.Put as Code;
+ghost use Rattle.fax_c.specs.views.Filled as Spec;
+ghost use Rattle.fax_c.specs.views.Places as PlaceSpec;
+
+use crate::filled::{Filled, Stop};
+use crate::format::{Packed, RowFormat};
+use crate::places::{FaxPlace, begun_at, place_after};
+use crate::told::FaxTold;
+use fax_walk::{Cursor, End, Walk};
+use std::alloc::Global;
+
+/// A row that was written: where its numbers lie, and its place.
+#[repr(C)]
+#[derive(Clone, Copy)]
+pub struct FaxRow {
+    /// Where its numbers begin in `out`.
+    pub at: usize,
+    /// How many numbers it has there.
+    pub len: u32,
+    /// Its page and its number there, both from 0.
+    pub page: u32,
+    pub row: u32,
+    /// How many pels it has.
+    pub width: u32,
+}
+
+/// Writes the next row of a walk at a place, and answers where it lies.
+fn put_next<F: RowFormat>(walk: &mut Walk, out: &mut [F::Number], at: usize) -> Result<FaxRow, Stop>
+    requires { at ≤ length out.old }
+    ensures { Code.IsPut F.numbers walk.old out.old at result walk.new out.new }
+{
+    match walk.next_row() {
+        Ok(Some((place, row))) => match F::put(row, out, at) {
+            Some(to) => Ok(FaxRow {
+                at,
+                len: (to - at) as u32,
+                page: place.page,
+                row: place.row,
+                width: row.width(),
+            }),
+            None => Err(Stop::NoRoom),
+        },
+        Ok(None) => Err(Stop::Ended(End::Proper)),
+        Err(fault) => Err(Stop::of_fault(fault)),
+    }
+}
+
+/// Writes the first rows of a walk, as many as are asked for and have room, and where each lies.
+fn fill<F: RowFormat>(walk: &mut Walk, rows: &mut [FaxRow], out: &mut [F::Number]) -> Filled
+    requires { walk.old.given ≡ 0 }
+    ensures filled { Spec.AreRowsFilled F.numbers walk.old.file walk.old.begun rows.old out.old
+        result rows.new out.new }
+    ensures walk { Code.IsWalkAfter walk.old result walk.new }
+{
+    fax_walk::laws::beginnings_have_one_tail();
+    let mut count = 0;
+    let mut used = 0;
+    while count < rows.len() {
+        let cursor = walk.cursor();
+        match put_next::<F>(walk, out, used) {
+            Ok(row) => {
+                rows[count] = row;
+                count += 1;
+                used += row.len as usize;
+            }
+            Err(stop) => {
+                return Filled {
+                    cursor,
+                    count,
+                    used,
+                    stop,
+                };
+            }
+        }
+    }
+    Filled {
+        cursor: walk.cursor(),
+        count,
+        used,
+        stop: Stop::Done,
+    }
+}
+
+/// Writes the rows of a file from a cursor on.
+pub(crate) fn fill_at<F: RowFormat>(
+    alloc: Global,
+    file: &[u8],
+    cursor: Cursor,
+    rows: &mut [FaxRow],
+    out: &mut [F::Number],
+    told: &mut FaxTold,
+) -> u32
+    ensures { Spec.TellsRows F.numbers file.now (At cursor) rows.old out.old rows.new out.new
+        told.new result }
+{
+    let mut walk = Walk::resume(alloc, file, cursor);
+    fill::<F>(&mut walk, rows, out).tell(told)
+}
+
+/// Writes the rows of a file from a place on, which is then the one after them.
+pub(crate) fn fill_from<F: RowFormat>(
+    alloc: Global,
+    file: &[u8],
+    place: &mut FaxPlace,
+    runs: &mut [u32],
+    rows: &mut [FaxRow],
+    out: &mut [F::Number],
+    told: &mut FaxTold,
+) -> u32
+    ensures { PlaceSpec.GoesOn F.numbers file.now place.old runs.old rows.old out.old place.new
+        runs.new rows.new out.new told.new result }
+{
+    fax_walk::laws::beginnings_have_one_tail();
+    let cursor = place.cursor();
+    let Some(begun) = begun_at(alloc, place, runs) else {
+        let refused = Filled {
+            cursor,
+            count: 0,
+            used: 0,
+            stop: Stop::Memory,
+        };
+        return refused.tell(told);
+    };
+    let mut walk = Walk::begin(alloc, file, begun);
+    let filled = fill::<F>(&mut walk, rows, out);
+    place_after(alloc, &walk, &filled, place, runs);
+    filled.tell(told)
+}
+
+/// Writes rows of a file from a cursor on as packed bytes, one after another, at most as many as
+/// `rows` has room for, and there where each lies.
+#[unsafe(no_mangle)]
+pub extern "C" fn faxpages_rows(
+    alloc: Global,
+    file: &[u8],
+    page: u32,
+    row: u32,
+    rows: &mut [FaxRow],
+    out: &mut [u8],
+    told: &mut FaxTold,
+) -> u32
+    ensures { Spec.TellsRows packed_row file.now (At (record { page = page; row = row })) rows.old
+        out.old rows.new out.new told.new result }
+{
+    fill_at::<Packed>(alloc, file, Cursor { page, row }, rows, out, told)
+}
+
+/// Writes rows of a file from a place on, as `faxpages_rows`; the place is then the one after them.
+#[unsafe(no_mangle)]
+pub extern "C" fn faxpages_rows_from(
+    alloc: Global,
+    file: &[u8],
+    place: &mut FaxPlace,
+    runs: &mut [u32],
+    rows: &mut [FaxRow],
+    out: &mut [u8],
+    told: &mut FaxTold,
+) -> u32
+    ensures { PlaceSpec.GoesOn packed_row file.now place.old runs.old rows.old out.old place.new
+        runs.new rows.new out.new told.new result }
+{
+    fill_from::<Packed>(alloc, file, place, runs, rows, out, told)
+}

@@ -1,0 +1,256 @@
+/* faxpages.h: fax pages in TIFF-F files, read from bytes in memory.
+ *
+ * Each call reads the bytes of a file and keeps nothing: there is nothing to open or to free, and
+ * calls may run at the same time in any threads, each on buffers of its own. Pages and rows are
+ * numbered from 0. A call answers a status, and tells the rest in the caller's memory.
+ *
+ * What a caller owes:
+ * - A pointer is not null and is aligned as C has it, also where the length beside it is 0.
+ * - The length beside a pointer says how many items it points to: bytes of `file`, and of the
+ *   others the type that is pointed to.
+ * - Nothing that a call writes overlaps anything else that it is given, and nobody changes it, or
+ *   the file, while the call runs.
+ * - No call is made from a signal handler, nor in a child of a fork of a process with threads.
+ *
+ * The calls use malloc, realloc and free of the program, and nothing else of the system. They need
+ * some 12 KB of stack. They run on x86-64 processors with SSE4.2.
+ *
+ * What may grow: new calls, statuses and numbers of faults. What is here keeps its meaning and its
+ * size in all libfaxpages.so.1. */
+#ifndef FAXPAGES_H
+#define FAXPAGES_H
+
+#include <stddef.h>
+#include <stdint.h>
+
+#ifdef __cplusplus
+extern "C" {
+#endif
+
+/* How a call ended. */
+enum faxpages_status {
+    FAXPAGES_DONE = 0,    /* all that was asked for is there; there may be more */
+    FAXPAGES_END = 1,     /* the file has no more than was written */
+    FAXPAGES_FAULT = 2,   /* what was written ends at a fault of the file, which is told */
+    FAXPAGES_OUTSIDE = 3, /* the file has no such page, row or place */
+    FAXPAGES_MEMORY = 4,  /* malloc refused; the call may go on from the place that is told */
+    FAXPAGES_NO_ROOM = 5, /* what comes next does not fit in what is left of `out` */
+    FAXPAGES_NO_PLACE = 6, /* the text is no place's */
+    FAXPAGES_NO_OPTIONS = 7 /* the numbers are no options */
+};
+
+/* The faults: of a file, where those from 7 to 10 have the tag of a field; from 101 on of a strip's
+ * data; and from 201 on of a conversion. */
+enum faxpages_fault_number {
+    FAXPAGES_NO_FAULT = 0,
+    FAXPAGES_SHORT_HEADER = 1,
+    FAXPAGES_BYTE_ORDER = 2,
+    FAXPAGES_MAGIC = 3,
+    FAXPAGES_NO_DIRECTORY = 4,
+    FAXPAGES_DIRECTORY_OUTSIDE = 5,
+    FAXPAGES_DIRECTORY_LOOP = 6,
+    FAXPAGES_MISSING_FIELD = 7,
+    FAXPAGES_BAD_FIELD = 8,
+    FAXPAGES_UNSUPPORTED = 9,
+    FAXPAGES_OUT_OF_LIMITS = 10,
+    FAXPAGES_STRIP_OUTSIDE = 11,
+    FAXPAGES_DATA_ENDS = 101,
+    FAXPAGES_BAD_CODE = 102,
+    FAXPAGES_EXTENSION = 103,
+    FAXPAGES_RUN_TOO_LONG = 104,
+    FAXPAGES_OUT_OF_ROW = 105,
+    FAXPAGES_MISSING_EOL = 106,
+    FAXPAGES_END_MARKER = 107,
+    FAXPAGES_PBM_BAD_HEADER = 201,
+    FAXPAGES_PBM_OUT_OF_LIMITS = 202,
+    FAXPAGES_PBM_SHORT_RASTER = 203,
+    FAXPAGES_UNKNOWN_INPUT = 301,
+    FAXPAGES_OUTPUT_TOO_LARGE = 302
+};
+
+/* A fault, with the page and the row that was due there: row 0 for a fault of the header, of a
+ * directory or of a field. All 0 where there is none. */
+struct faxpages_fault {
+    uint32_t number; /* enum faxpages_fault_number */
+    uint32_t tag;    /* the tag of the field at fault (TIFF 6.0), or 0 */
+    uint32_t page;
+    uint32_t row;
+};
+
+/* What a call wrote, and where to go on: at the page and the row that are due. */
+struct faxpages_told {
+    size_t count;  /* how many forms or rows were written */
+    size_t used;   /* how many numbers of `out` were written */
+    uint32_t page; /* where to go on, or where the call began, if it wrote nothing */
+    uint32_t row;
+    struct faxpages_fault fault;
+};
+
+/* The form of a page. */
+struct faxpages_form {
+    uint32_t width;          /* pels of a row, 1 to 65535 */
+    uint32_t rows;           /* 1 to 1000000 */
+    uint32_t coding;         /* 1 MH, 2 MR, 3 MMR */
+    uint32_t order;          /* which bit of a byte is first: 1 the highest, 2 the lowest */
+    uint32_t aligned;        /* 1 where each EOL ends on a byte boundary, else 0 */
+    uint32_t exchanged;      /* 1 where black is coded as white and white as black, else 0 */
+    uint32_t rows_per_strip; /* of each strip but the last, which may have fewer */
+    uint32_t strips;
+    uint32_t x_numerator, x_denominator; /* pels of a row in a unit, as a fraction */
+    uint32_t y_numerator, y_denominator; /* rows in a unit */
+    uint32_t unit;                       /* 1 none, 2 inch, 3 centimetre */
+};
+
+/* Writes the forms of pages from `page` on, at most `forms_room`. `count` of `told` says how many:
+ * forms[i] is that of page `page` + i. DONE, END, FAULT or OUTSIDE. The time is in proportion to
+ * the pages up to the last of them, so list many at once. */
+uint32_t faxpages_forms(const uint8_t *file, size_t file_len, uint32_t page,
+                        struct faxpages_form *forms, size_t forms_room,
+                        struct faxpages_told *told);
+
+/* Where a row lies that was written: `len` numbers of `out` from out[at] on. */
+struct faxpages_row {
+    size_t at;
+    uint32_t len;
+    uint32_t page;
+    uint32_t row;
+    uint32_t width; /* its pels, 1 to 65535 */
+};
+
+/* Writes rows from a page and a row on, over pages, up to the end of the file: at most `rows_room`
+ * of them, and as many as fit in `out`. Each is written in (width + 7) / 8 bytes, the highest bit
+ * first, 1 for black, with zeros after the last pel; one row after another, with nothing between
+ * them. rows[i] says where each lies. The row after a page's last is the next page's first, so
+ * page 3, row 0 begins at page 3, and so does page 2 with the number of its rows.
+ *
+ * A strip is read from its beginning: where a call begins inside one, its rows before that are read
+ * once more. Read whole pages by this call, and parts of pages by faxpages_rows_from. */
+uint32_t faxpages_rows(const uint8_t *file, size_t file_len, uint32_t page, uint32_t row,
+                       struct faxpages_row *rows, size_t rows_room, uint8_t *out, size_t out_room,
+                       struct faxpages_told *told);
+
+/* Where to go on: a page and a row. Where `runs` is not 0 it is a place inside a strip, after so
+ * many bits of it, and after a row of so many runs, which stand in a buffer beside it. {0, 0, 0, 0}
+ * is the beginning of a file, and {page, row, 0, 0} any row. */
+struct faxpages_place {
+    uint32_t page;
+    uint32_t row;
+    uint32_t bits;
+    uint32_t runs;
+};
+
+/* So many runs hold those of any row. */
+#define FAXPAGES_RUNS 65536
+
+/* The same from a place on, which is then the one after the rows that were written, so that the
+ * next call reads no row again. `runs` has the runs of the place, before the call and after it;
+ * let runs_room be FAXPAGES_RUNS. The place is a page and a row alone where a strip begins there,
+ * where its runs have no room, where malloc refused, and after NO_ROOM. A place that no call told,
+ * for the same file, may be OUTSIDE, or give other rows. */
+uint32_t faxpages_rows_from(const uint8_t *file, size_t file_len, struct faxpages_place *place,
+                            uint32_t *runs, size_t runs_room, struct faxpages_row *rows,
+                            size_t rows_room, uint8_t *out, size_t out_room,
+                            struct faxpages_told *told);
+
+/* The runs of rows, in place of their bytes: out[at], out[at + 1] .. are the lengths in pels of a
+ * row's longest runs of one colour, white first; the first is 0 where a row begins black, and no
+ * other is. A row has at most `width` + 1 runs: with room for so many of each row there is no
+ * NO_ROOM, after which the next call reads a part of a strip again. */
+uint32_t faxpages_runs(const uint8_t *file, size_t file_len, uint32_t page, uint32_t row,
+                       struct faxpages_row *rows, size_t rows_room, uint32_t *out, size_t out_room,
+                       struct faxpages_told *told);
+uint32_t faxpages_runs_from(const uint8_t *file, size_t file_len, struct faxpages_place *place,
+                            uint32_t *runs, size_t runs_room, struct faxpages_row *rows,
+                            size_t rows_room, uint32_t *out, size_t out_room,
+                            struct faxpages_told *told);
+
+/* The changing elements of rows: the numbers of the pels, from 0, that have another colour than the
+ * pel before them, where white stands before the first (T.4, 4.2.1.3.1). At most `width`. */
+uint32_t faxpages_changes(const uint8_t *file, size_t file_len, uint32_t page, uint32_t row,
+                          struct faxpages_row *rows, size_t rows_room, uint32_t *out,
+                          size_t out_room, struct faxpages_told *told);
+uint32_t faxpages_changes_from(const uint8_t *file, size_t file_len, struct faxpages_place *place,
+                               uint32_t *runs, size_t runs_room, struct faxpages_row *rows,
+                               size_t rows_room, uint32_t *out, size_t out_room,
+                               struct faxpages_told *told);
+
+/* Writes a place as text where it has room, and tells in `len` how many bytes the text has: a page
+ * and a row as 1:P:R, a place inside a strip as 2:P:R:B:n,n,.. with its bits and its runs, as the
+ * program faxpages prints them. DONE; NO_ROOM, where it is longer than text_room; or MEMORY. The
+ * text of a place that a call told has at most 131102 bytes, that of a page and a row 23. */
+uint32_t faxpages_place_text(const struct faxpages_place *place, const uint32_t *runs,
+                             size_t runs_room, uint8_t *text, size_t text_room, size_t *len);
+
+/* Reads a place from such a text. DONE; NO_PLACE; NO_ROOM, where `runs` has no room for its runs;
+ * or MEMORY. Where it is not DONE nothing is changed. */
+uint32_t faxpages_place_parse(const uint8_t *text, size_t text_len, struct faxpages_place *place,
+                              uint32_t *runs, size_t runs_room);
+
+/* What is worth a note in a file that is read. */
+enum faxpages_note_kind {
+    FAXPAGES_NO_END_OF_BLOCK = 1,      /* N1: a strip of MMR without the end of its block */
+    FAXPAGES_RETURN_TO_CONTROL = 2,    /* N2: a strip of MH or MR with a return to control */
+    FAXPAGES_DATA_AFTER_END = 3,       /* N3: a strip with a 1 after its last row and end mark */
+    FAXPAGES_NOT_T4_CHOICE = 4,        /* N4: a strip with a row in other codes than T.4's choice */
+    FAXPAGES_ENTRIES_OUT_OF_ORDER = 5  /* N5: a directory whose entries do not ascend */
+};
+
+/* A note on a page, or on a strip of it. */
+struct faxpages_note {
+    uint32_t page;
+    uint32_t strip; /* from 0, or FAXPAGES_NO_STRIP where the note is on the page's directory */
+    uint32_t kind;  /* enum faxpages_note_kind */
+};
+
+#define FAXPAGES_NO_STRIP 4294967295u
+
+/* What was found in a file up to its first fault. */
+struct faxpages_report {
+    uint64_t pages; /* how many pages were read wholly */
+    uint64_t rows;  /* how many rows were read */
+    size_t notes;   /* how many notes there are, which may be more than have room */
+    struct faxpages_fault fault;
+};
+
+/* Reads all rows of a file up to its first fault, and writes the first notes, as many as have room:
+ * those of a page together, first the one on its directory, then those on its strips in order. END,
+ * FAULT, or MEMORY, where nothing is written. */
+uint32_t faxpages_check(const uint8_t *file, size_t file_len, struct faxpages_note *notes,
+                        size_t notes_room, struct faxpages_report *report);
+
+/* How a file is written. For PBM only the target is looked at, but the others have to be in range. */
+struct faxpages_options {
+    uint32_t target;  /* 0 raw PBM; TIFF-F in 1 MH, 2 MR, 3 MMR */
+    uint32_t order;   /* which bit of a byte is first: 1 the highest, 2 the lowest */
+    uint32_t k;       /* in MR, a row in this many is coded by itself; at least 1 */
+    uint32_t strip;   /* the rows of a strip, or 0 where a page is one strip */
+    uint32_t aligned; /* in MH and MR, 1 where each EOL is to end on a byte boundary, else 0 */
+};
+
+/* How long the output is, or why there is none. */
+struct faxpages_converted {
+    size_t len;     /* how many bytes the output has, also where it has no room */
+    uint64_t image; /* the image of a PBM at fault, from 0 */
+    struct faxpages_fault fault;
+};
+
+/* Turns a file into another: raw PBM where it begins with P4, and TIFF-F where it begins with II or
+ * MM, into raw PBM or TIFF-F. DONE; NO_ROOM, where `len` tells how much is wanted; FAULT, where
+ * there is no output; NO_OPTIONS; or MEMORY. The output has at most 268435456 bytes. */
+uint32_t faxpages_convert(const uint8_t *file, size_t file_len,
+                          const struct faxpages_options *options, uint8_t *out, size_t out_room,
+                          struct faxpages_converted *converted);
+
+/* Writes the name of a fault by its number, as `DataEnds`, without a 0 after it, where it has room:
+ * 16 bytes are enough. Answers how many bytes the name has, 0 where no fault has this number. */
+size_t faxpages_fault_name(uint32_t number, uint8_t *name, size_t name_room);
+
+/* The version as a number, 10100 for 1.1.0; and as text, as faxpages_fault_name writes names. */
+uint32_t faxpages_version(void);
+size_t faxpages_version_text(uint8_t *text, size_t text_room);
+
+#ifdef __cplusplus
+}
+#endif
+
+#endif

@@ -1,0 +1,90 @@
+"""libfaxpages by ctypes: its structs and its calls, as faxpages.h has them."""
+
+from __future__ import annotations
+
+import ctypes
+import os
+
+DONE, END, FAULT, OUTSIDE, MEMORY, NO_ROOM, NOT_A_PLACE, BAD_OPTIONS = range(8)
+NO_STRIP = 0xFFFFFFFF
+RUNS = 65536
+
+U32, U64, SIZE = ctypes.c_uint32, ctypes.c_uint64, ctypes.c_size_t
+
+
+class Fault(ctypes.Structure):
+    _fields_ = [("number", U32), ("tag", U32), ("page", U32), ("row", U32)]
+
+
+class Told(ctypes.Structure):
+    _fields_ = [("count", SIZE), ("used", SIZE), ("page", U32), ("row", U32), ("fault", Fault)]
+
+
+class Form(ctypes.Structure):
+    _fields_ = [(name, U32) for name in (
+        "width", "rows", "coding", "order", "aligned", "exchanged", "rows_per_strip", "strips", "x_numerator",
+        "x_denominator", "y_numerator", "y_denominator", "unit")]
+
+
+class Row(ctypes.Structure):
+    _fields_ = [("at", SIZE), ("len", U32), ("page", U32), ("row", U32), ("width", U32)]
+
+
+class Place(ctypes.Structure):
+    _fields_ = [("page", U32), ("row", U32), ("bits", U32), ("runs", U32)]
+
+
+class Note(ctypes.Structure):
+    _fields_ = [("page", U32), ("strip", U32), ("kind", U32)]
+
+
+class Report(ctypes.Structure):
+    _fields_ = [("pages", U64), ("rows", U64), ("notes", SIZE), ("fault", Fault)]
+
+
+class Options(ctypes.Structure):
+    _fields_ = [("target", U32), ("order", U32), ("k", U32), ("strip", U32), ("aligned", U32)]
+
+
+class Converted(ctypes.Structure):
+    _fields_ = [("len", SIZE), ("image", U64), ("fault", Fault)]
+
+
+FILE = [ctypes.c_char_p, SIZE]
+NUMBERS = [ctypes.c_void_p, SIZE]
+CALLS = {
+    "faxpages_forms": (U32, FILE + [U32, ctypes.c_void_p, SIZE, ctypes.POINTER(Told)]),
+    "faxpages_rows_from": (U32, FILE + [ctypes.POINTER(Place)] + NUMBERS * 3 + [ctypes.POINTER(Told)]),
+    "faxpages_runs_from": (U32, FILE + [ctypes.POINTER(Place)] + NUMBERS * 3 + [ctypes.POINTER(Told)]),
+    "faxpages_changes_from": (U32, FILE + [ctypes.POINTER(Place)] + NUMBERS * 3 + [ctypes.POINTER(Told)]),
+    "faxpages_check": (U32, FILE + [ctypes.c_void_p, SIZE, ctypes.POINTER(Report)]),
+    "faxpages_convert": (U32, FILE + [ctypes.POINTER(Options), ctypes.c_void_p, SIZE, ctypes.POINTER(Converted)]),
+    "faxpages_place_text": (U32, [ctypes.POINTER(Place)] + NUMBERS * 2 + [ctypes.POINTER(SIZE)]),
+    "faxpages_place_parse": (U32, FILE + [ctypes.POINTER(Place)] + NUMBERS),
+    "faxpages_fault_name": (SIZE, [U32] + NUMBERS),
+    "faxpages_version": (U32, []),
+    "faxpages_version_text": (SIZE, NUMBERS),
+}
+
+
+def _load() -> ctypes.CDLL:
+    """The library: the one that FAXPAGES_LIBRARY names, one beside this module, or an installed one."""
+    named = os.environ.get("FAXPAGES_LIBRARY")
+    name = "libfaxpages.so.1"
+    here = os.path.join(os.path.dirname(os.path.abspath(__file__)), name)
+    tried = [named] if named else [here, name, os.path.expanduser(f"~/.local/lib/{name}"), f"/usr/local/lib/{name}"]
+    for path in tried:
+        try:
+            library = ctypes.CDLL(path)
+            break
+        except OSError:
+            continue
+    else:
+        raise ImportError(f"{name} is not installed; FAXPAGES_LIBRARY can name it. Tried: {', '.join(tried)}")
+    for call, (result, arguments) in CALLS.items():
+        function = getattr(library, call)
+        function.restype, function.argtypes = result, arguments
+    return library
+
+
+library = _load()

@@ -1,0 +1,124 @@
+//! The calls and the structs of `faxpages.h`.
+
+#[repr(C)]
+#[derive(Clone, Copy, Debug, Default)]
+pub struct Fault {
+    pub number: u32,
+    pub tag: u32,
+    pub page: u32,
+    pub row: u32,
+}
+
+#[repr(C)]
+#[derive(Clone, Copy, Debug, Default)]
+pub struct Told {
+    pub count: usize,
+    pub used: usize,
+    pub page: u32,
+    pub row: u32,
+    pub fault: Fault,
+}
+
+#[repr(C)]
+#[derive(Clone, Copy, Debug, Default)]
+pub struct Form {
+    pub width: u32,
+    pub rows: u32,
+    pub coding: u32,
+    pub order: u32,
+    pub aligned: u32,
+    pub exchanged: u32,
+    pub rows_per_strip: u32,
+    pub strips: u32,
+    pub x: [u32; 2],
+    pub y: [u32; 2],
+    pub unit: u32,
+}
+
+#[repr(C)]
+#[derive(Clone, Copy, Debug, Default)]
+pub struct Row {
+    pub at: usize,
+    pub len: u32,
+    pub page: u32,
+    pub row: u32,
+    pub width: u32,
+}
+
+#[repr(C)]
+#[derive(Clone, Copy, Debug, Default)]
+pub struct Place {
+    pub page: u32,
+    pub row: u32,
+    pub bits: u32,
+    pub runs: u32,
+}
+
+#[repr(C)]
+#[derive(Clone, Copy, Debug, Default)]
+pub struct Note {
+    pub page: u32,
+    pub strip: u32,
+    pub kind: u32,
+}
+
+#[repr(C)]
+#[derive(Clone, Copy, Debug, Default)]
+pub struct Report {
+    pub pages: u64,
+    pub rows: u64,
+    pub notes: usize,
+    pub fault: Fault,
+}
+
+#[repr(C)]
+#[derive(Clone, Copy, Debug, Default)]
+pub struct Options {
+    pub target: u32,
+    pub order: u32,
+    pub k: u32,
+    pub strip: u32,
+    pub aligned: u32,
+}
+
+#[repr(C)]
+#[derive(Clone, Copy, Debug, Default)]
+pub struct Converted {
+    pub len: usize,
+    pub image: u64,
+    pub fault: Fault,
+}
+
+extern "C" {
+    pub fn faxpages_forms(
+        file: *const u8,
+        len: usize,
+        page: u32,
+        forms: *mut Form,
+        room: usize,
+        told: *mut Told,
+    ) -> u32;
+    pub fn faxpages_rows_from(
+        file: *const u8,
+        len: usize,
+        place: *mut Place,
+        runs: *mut u32,
+        runs_room: usize,
+        rows: *mut Row,
+        rows_room: usize,
+        out: *mut u8,
+        out_room: usize,
+        told: *mut Told,
+    ) -> u32;
+    pub fn faxpages_check(file: *const u8, len: usize, notes: *mut Note, room: usize, report: *mut Report) -> u32;
+    pub fn faxpages_convert(
+        file: *const u8,
+        len: usize,
+        options: *const Options,
+        out: *mut u8,
+        room: usize,
+        converted: *mut Converted,
+    ) -> u32;
+    pub fn faxpages_fault_name(number: u32, name: *mut u8, room: usize) -> usize;
+    pub fn faxpages_version() -> u32;
+}

@@ -1,0 +1,143 @@
+#!/usr/bin/env python3
+"""Compares the Python module with the program over files, and over damaged ones that it makes.
+
+    module.py PROGRAM FILE..
+
+FAXPAGES_LIBRARY names the library. Ends with 'module: N passed, N failed'."""
+
+import os
+import random
+import subprocess
+import sys
+
+TOP = os.path.dirname(os.path.dirname(os.path.dirname(os.path.abspath(__file__))))
+sys.path.insert(0, os.path.join(TOP, "python"))
+
+import faxpages  # noqa: E402
+
+PROGRAM = sys.argv[1]
+# How many damaged files are made.
+DAMAGED = 2000
+TARGETS = [("pbm", []), ("mh", ["--order", "2"]), ("mr", ["--k", "2", "--strip", "3"]), ("mmr", [])]
+
+
+def said(*words, data):
+    """What the program says: its output, its error stream, its status."""
+    ran = subprocess.run([PROGRAM, *words], input=data, capture_output=True, check=False, timeout=60)
+    return ran.stdout, ran.stderr.decode(), ran.returncode
+
+
+def rows_by_module(data):
+    """The same by the module."""
+    lines, error, last = [], "", faxpages.Cursor()
+    try:
+        for row in faxpages.open(data).rows():
+            lines.append(f"row {row.page} {row.number} {' '.join(map(str, row.runs()))}\n")
+            last = faxpages.Cursor(row.page, row.number + 1)
+        lines.append("end\n")
+    except faxpages.Fault as fault:
+        lines.append(f"next {last}\n")
+        error = f"fault {fault}\n"
+    return "".join(lines).encode(), error, 1 if error else 0
+
+
+def pages_by_module(data):
+    """The rows, by pages one after another, and each once more by itself."""
+    fax, lines, error = faxpages.open(data), [], ""
+    try:
+        for page in fax.pages:
+            once = [f"row {row.page} {row.number} {' '.join(map(str, row.runs()))}\n" for row in page]
+            lines += once
+            if len(once) != page.rows or list(fax.page(page.number)) != list(page):
+                return ["another page"]
+    except faxpages.Fault as fault:
+        error = f"fault {fault}\n"
+    return lines, error
+
+
+def check_by_module(data):
+    """The report, as the program prints it."""
+    report = faxpages.check(data)
+    lines = [f"note {note}\n" for note in report.notes] + [f"pages {report.pages} rows {report.rows}\n"]
+    error = "" if report.ok else f"fault {report.fault}\n"
+    return "".join(lines).encode(), error, 0 if report.ok else 1
+
+
+def is_converted(data, target, words):
+    """Whether the module converts as the program does, or refuses where it does."""
+    output, error, status = said("convert", "-o", target, *words, data=data)
+    options = dict(zip(words[::2], words[1::2]))
+    try:
+        made = faxpages.convert(
+            data, target, order=int(options.get("--order", 1)), k=int(options.get("--k", 4)),
+            strip=int(options["--strip"]) if "--strip" in options else None)
+    except faxpages.FaxError as fault:
+        return status == 1 and (error == f"fault {fault}\n" or not isinstance(fault, faxpages.Fault))
+    return status == 0 and made == output
+
+
+def batches(data):
+    """All rows in batches of three, each from the cursor of the one before, through its text."""
+    fax, cursor, found = faxpages.open(data), faxpages.Cursor(), []
+    try:
+        while True:
+            rows, cursor = fax.read_rows(faxpages.Cursor.parse(str(cursor)), 3)
+            if not rows:
+                return found
+            found += rows
+    except faxpages.Fault:
+        return found
+
+
+def claims(name, data):
+    """What is claimed of a file: whether it is so, and a name."""
+    wanted = said("rows", data=data)
+    yield f"rows of {name}", rows_by_module(data) == wanted
+    lines = [line + "\n" for line in wanted[0].decode().splitlines() if line.startswith("row ")]
+    by_pages = pages_by_module(data)
+    yield f"pages of {name}", by_pages[1:] == (wanted[1],) and lines[:len(by_pages[0])] == by_pages[0]
+    yield f"report on {name}", check_by_module(data) == said("check", data=data)
+
+
+def damaged(files):
+    """Files with a few bytes changed, or cut."""
+    draw = random.Random(47)
+    for number in range(DAMAGED):
+        data = bytearray(draw.choice(files))
+        for _ in range(draw.randrange(1, 4)):
+            if data:
+                data[draw.randrange(len(data))] = draw.randrange(256)
+        yield f"damaged file {number}", bytes(data[:draw.randrange(len(data) + 1)] if draw.randrange(4) == 0 else data)
+
+
+def main():
+    files = {name: open(name, "rb").read() for name in sys.argv[2:]}
+    passed, failed = 0, 0
+
+    def see(name, fine):
+        nonlocal passed, failed
+        passed, failed = passed + fine, failed + (not fine)
+        if not fine:
+            print(f"FAILED: {name}")
+
+    for name, data in files.items():
+        for claim in claims(name, data):
+            see(*claim)
+        see(f"batches of {name}", len(batches(data)) == said("rows", data=data)[0].count(b"row "))
+        for target, words in TARGETS:
+            see(f"{name} as {target}", is_converted(data, target, words))
+    small = [data for data in files.values() if len(data) < 3000]
+    for name, data in damaged(small):
+        see(f"rows of {name}", rows_by_module(data) == said("rows", data=data))
+    for text in ("", "1:0", "1:00:0", "2:0:0:0:", "3:0:0", "1:0:4294967296", "1:0:0 ", "é"):
+        try:
+            faxpages.Cursor.parse(text)
+            see(f"cursor {text!r}", False)
+        except faxpages.NotACursorError:
+            see(f"cursor {text!r}", True)
+    see("the version", faxpages.version() == open(os.path.join(TOP, "VERSION")).read().strip())
+    print(f"module: {passed} passed, {failed} failed")
+    return 1 if failed else 0
+
+
+sys.exit(main())
