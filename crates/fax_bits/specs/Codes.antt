@@ -40,8 +40,8 @@ Spells table b [] rest = b ≡ rest
 Spells table b (meaning ∷ meanings) rest =
     (middle : List Bool) × Takes table b meaning middle × Spells table middle meanings rest
 
--- the bits begin with a run of n pels: any number of make-up codes, in any order, then one
--- terminating code
+-- the bits begin with a run of n pels: make-up codes and then one terminating code (that there may
+-- be any number of make-up codes, in any order, is this project's profile)
 pub record IsRun (colour : Colour) (b : List Bool) (n : ℕ) (rest : List Bool) : Type 0 where
   pub make_up : List ℕ
   pub last : ℕ

@@ -1,4 +1,5 @@
--- The form of a page, from the fields of its directory, and the bytes of its strips.
+-- The form of a page, from the fields of its directory (TIFF 6.0, sections 8 and 11), and the bytes
+-- of its strips.
 -- A definition without a citation is this project's profile.
 use Rattle.std.specs.Prelude.{ℕ, ◌+◌, ◌-◌, ◌*◌, ◌/◌, ◌%◌, ◌^◌, min, Bool, true, nat_le, nat_lt}
 use Rattle.std.specs.Prelude.{◌==◌, ◌&&◌, if◌then◌else◌, List, take, drop, Option, Some}

@@ -1,4 +1,4 @@
--- TIFF files as they are written (TIFF 6.0, RFC 2306's profile F, and this project's profile).
+-- TIFF files as they are written (TIFF 6.0, sections 2, 8, 11 and 12; RFC 2306, profile F).
 -- A definition without a citation is this project's profile.
 use Rattle.std.specs.Prelude.{ℕ, ◌+◌, ◌*◌, ◌%◌, Bool, if◌then◌else◌, List, [], ◌∷◌, ◌++◌, length}
 use Rattle.std.specs.Prelude.{map, take, drop, replicate, flat_map, codes}

@@ -36,8 +36,9 @@ BeginsBelowEleven b =
     (zeros : ℕ) × (zeros < 11)
     × ((after : List Bool) × (b ≡ replicate zeros false ++ true ∷ after))
 
--- what stands before the first code of row i of a strip: in MH an EOL, which row 0 may lack, in MR
--- an EOL and a tag bit, nothing in MMR (T.4, sections 4.1.2 and 4.2.2; T.6, section 2.2.1)
+-- what stands before the first code of row i of a strip: in MH an EOL, in MR an EOL and a tag bit,
+-- nothing in MMR (T.4, sections 4.1.2 and 4.2.2; T.6, section 2.2.1; that row 0 of MH may lack its
+-- EOL is this project's profile)
 abbrev pub IsStart : Coding → ℕ → List Bool → Dimension → List Bool → Type 0
 IsStart Mh i b dimension rest =
     (dimension ≡ OneDimensional)

@@ -30,7 +30,7 @@ pub enum Coding {
 pub enum Dimension {
     /// One-dimensional coding (T.4, section 4.1.1).
     OneDimensional,
-    /// Two-dimensional coding, over the row before it (T.4, section 4.2.1.3.3; T.6, section 2.2.3).
+    /// Two-dimensional coding, over the row before it (T.4, section 4.2.1.3.3; T.6, section 2.2.4).
     TwoDimensional,
 }
 

@@ -1,5 +1,5 @@
 -- Rows as they are written: in T.4's own choice of codes (T.4, sections 4.1.1 and 4.2.1.3.3; T.6,
--- section 2.2.3), and as packed bytes, as in a raw PBM (the netpbm format, P4).
+-- section 2.2.4), and as packed bytes, as in a raw PBM (the netpbm format, P4).
 use Rattle.std.specs.Prelude.{ℕ, zero, suc, ◌+◌, ◌-◌, ◌/◌, pos, ◌-ℤ◌, nat_abs, Bool, true, false}
 use Rattle.std.specs.Prelude.{nat_lt, nat_le, nat_eq, if◌then◌else◌, List, [], ◌∷◌, ◌++◌, length}
 use Rattle.std.specs.Prelude.{map, take, Option, Some, None, unwrap_or}
@@ -42,7 +42,7 @@ step_bits (suc limit) reference row a0 =
     else (step.0 ++ step_bits limit reference row (Some step.1))
 
 -- a row as it is written in two-dimensional coding over its reference; each step moves a0, so that
--- a row has at most one step more than it has pels (T.4, section 4.2.1.3.3; T.6, section 2.2.3)
+-- a row has at most one step more than it has pels (T.4, section 4.2.1.3.3; T.6, section 2.2.4)
 abbrev pub two_dimensional_bits : List Colour → List Colour → List Bool
 two_dimensional_bits reference row = step_bits (length row + 1) reference row None
 

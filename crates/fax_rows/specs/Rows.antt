@@ -1,5 +1,6 @@
 -- Rows of pels, from left to right, and how bits code them in one and in two dimensions
--- (T.4, sections 4.1.1 and 4.2.1.3; T.6, section 2.2). The sections below are those of T.4.
+-- (T.4, sections 4.1.1 and 4.2.1.3.1 to 4.2.1.3.4; T.6, sections 2.2.2 to 2.2.5). The sections
+-- below are those of T.4. 'Ours' is this project's profile.
 use Rattle.std.specs.Prelude.{◌≡◌, ◌≢◌, ℕ, zero, suc, ◌+◌, ◌-◌, ◌<◌, ◌≤◌, nat_lt, ℤ, pos, negsuc}
 use Rattle.std.specs.Prelude.{◌+ℤ◌, ◌<ℤ◌, ◌≤ℤ◌, Bool, true, false, not, ◌&&◌, if◌then◌else◌, List}
 use Rattle.std.specs.Prelude.{[], ◌∷◌, ◌++◌, length, replicate, sum, take, slice_index_or, Option}
@@ -83,7 +84,8 @@ AreRuns colour b (n ∷ runs) rest =
     (middle : List Bool) × IsRun colour b n middle × AreRuns (other colour) middle runs rest
 
 -- the bits begin with this row in one-dimensional coding: runs of alternating colours, white first,
--- that make up the width, where no fewer of them do (section 4.1.1)
+-- that make up the width, where no fewer of them do (section 4.1.1; that a run of 0 may stand
+-- anywhere is ours)
 pub record IsOneDimensionalRow (width : ℕ) (b : List Bool) (row : List Colour)
     (rest : List Bool) : Type 0 where
   pub runs : List ℕ
@@ -146,7 +148,8 @@ pub record IsHorizontalStep (reference : List Colour) (old : Position) (b : List
     pels = old.pels ++ replicate first old.colour ++ replicate second (other old.colour);
   }
 
--- what a mode does, with the bits after its code (section 4.2.1.3.2)
+-- what a mode does, with the bits after its code (section 4.2.1.3.2; that pass mode may have b2 at
+-- the width is ours)
 abbrev pub IsStepBy : ModeCode → List Colour → Position → List Bool → Position → List Bool → Type 0
 IsStepBy Pass reference old b new rest =
     (new ≡ coloured_up_to old (b2 reference old.a0 old.colour)) × (b ≡ rest)
@@ -154,7 +157,8 @@ IsStepBy (Vertical d) reference old b new rest = IsVerticalStep reference old d 
 IsStepBy Horizontal reference old b new rest = IsHorizontalStep reference old b new rest
 IsStepBy Extension reference old b new rest = ⊥
 
--- the bits begin with one coding step from the old position to the new one (section 4.2.1.3.3)
+-- the bits begin with one coding step from the old position to the new one (section 4.2.1.3.3; that
+-- any mode is taken wherever it applies is ours)
 pub record IsStep (reference : List Colour) (old : Position) (b : List Bool) (new : Position)
     (rest : List Bool) : Type 0 where
   pub mode : ModeCode
@@ -172,7 +176,7 @@ AreSteps reference old b (next ∷ more) new rest =
     × IsStep reference old b next middle × AreSteps reference next middle more new rest
 
 -- the bits begin with this row in two-dimensional coding over the reference row: steps from the
--- row's beginning to its end (section 4.2.1.3.3; T.6, section 2.2.3)
+-- row's beginning to its end (section 4.2.1.3.3)
 pub record IsTwoDimensionalRow (reference : List Colour) (b : List Bool) (row : List Colour)
     (rest : List Bool) : Type 0 where
   pub positions : List Position

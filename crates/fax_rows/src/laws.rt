@@ -14,7 +14,7 @@ pub fn rows_are_read_in_one_way()
 
 /// Bits are read in one way as a row in two-dimensional coding over a reference row: they begin
 /// with one row and one rest follows it, or they have one fault, never both (T.4, section
-/// 4.2.1.3.3; T.6, section 2.2.3).
+/// 4.2.1.3.3; T.6, section 2.2.4).
 pub fn rows_over_a_reference_are_read_in_one_way()
     ensures { (reference : List Colour) → Law.ReadsRowsOverOneWay reference }
 {
@@ -39,7 +39,7 @@ pub fn one_dimensional_rows_are_read_as_nothing_else()
 }
 
 /// What `put_2d` appends is read over the same reference row as the row that was put, whatever bits
-/// follow it (T.4, section 4.2.1.3.3; T.6, section 2.2.3).
+/// follow it (T.4, section 4.2.1.3.3; T.6, section 2.2.4).
 pub fn two_dimensional_rows_are_read_back()
     ensures { Law.TwoDimensionalBitsAreRead }
 {
@@ -48,7 +48,7 @@ pub fn two_dimensional_rows_are_read_back()
 }
 
 /// What `put_2d` appends is read over the same reference row as no other row and with no other rest
-/// (T.4, section 4.2.1.3.3; T.6, section 2.2.3).
+/// (T.4, section 4.2.1.3.3; T.6, section 2.2.4).
 pub fn two_dimensional_rows_are_read_as_nothing_else()
     ensures { Law.TwoDimensionalBitsAreOneRow }
 {

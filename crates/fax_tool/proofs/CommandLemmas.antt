@@ -14,7 +14,7 @@ use Rattle.fax_tool.specs.declared.words.Command.TheVariants.{List as Forms, Row
 use Rattle.fax_tool.specs.declared.words.Part.{Part}
 use Rattle.fax_tool.specs.Run.{Counts, Input, Output, AreRowLines, HasReason, HasWorked, IsRead}
 use Rattle.fax_tool.specs.Run.{IsTextAfterMemory, IsTextOf, IsTextOfFirst, begun_of}
-use Rattle.fax_tool.specs.views.Streams.{input_after, output_after}
+use Rattle.fax_tool.specs.Streams.{input_after, output_after}
 use Rattle.fax_tool.specs.Text.{Line, Printed, next_line}
 use Rattle.fax_tool.specs.code.Outcome.{HasPrintReason, HasReadReason, IsDone, IsStopped, StopsAtBeginning, StopsPrinting, StopsWith}
 use Rattle.fax_tool.specs.code.Outcome.{WritesOutput}

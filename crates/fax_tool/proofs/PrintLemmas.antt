@@ -14,7 +14,7 @@ use Rattle.fax_bits.specs.laws.Codes.{IsOne}
 use Rattle.fax_walk.specs.Rows.{begins_at}
 use Rattle.fax_tool.specs.declared.refusal.Refusal.{Refusal}
 use Rattle.fax_tool.specs.Run.{Counts, IsTextOfFirst}
-use Rattle.fax_tool.specs.views.Streams.{output_after}
+use Rattle.fax_tool.specs.Streams.{output_after}
 use Rattle.fax_tool.specs.Text.{Line, named, next_after, next_line, texts_of}
 use Rattle.fax_tool.specs.code.Outcome.{StopsPrinting, StopsWith}
 use Rattle.fax_tool.specs.code.Printing.{IsLastLine, IsNextAfter, IsNextLine, PrintsLines}

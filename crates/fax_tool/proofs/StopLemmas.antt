@@ -6,7 +6,7 @@ use Rattle.std.proofs.KnownBytes.{Appends-trans}
 use Rattle.fax_tool.specs.declared.refusal.Refusal.{Refusal}
 use Rattle.fax_tool.specs.declared.refusal.Refusal.TheVariants.{Memory, Read, Write}
 use Rattle.fax_tool.specs.Run.{Counts, Output, LeavesText}
-use Rattle.fax_tool.specs.views.Streams.{output_after}
+use Rattle.fax_tool.specs.Streams.{output_after}
 use Rattle.fax_tool.specs.Text.{Printed}
 use Rattle.fax_tool.specs.Run.{LeavesText}
 use Rattle.fax_tool.specs.code.Outcome.{StopsPrinting}

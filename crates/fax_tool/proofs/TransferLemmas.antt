@@ -9,7 +9,7 @@ use Rattle.std.specs.Io.KnownBytes.{Appends}
 use Rattle.fax_tool.specs.declared.refusal.Refusal.{Refusal}
 use Rattle.fax_tool.specs.Run.{Counts, IsRead, most_interrupted}
 use Rattle.fax_files.specs.Directory.{max_file}
-use Rattle.fax_tool.specs.views.Streams.{capped_sum, input_after}
+use Rattle.fax_tool.specs.Streams.{capped_sum, input_after}
 use Rattle.fax_tool.specs.code.Transfers.{counted, IsGivenInPart}
 
 -- some front of the bytes is written

@@ -12,7 +12,7 @@ use Rattle.fax_walk.specs.declared.options.ConvertFault.TheVariants.{Memory as N
 use Rattle.fax_tool.specs.declared.refusal.Refusal.{Refusal}
 use Rattle.fax_tool.specs.declared.words.Command.TheVariants.{Convert, Check}
 use Rattle.fax_tool.specs.Run.{Counts, HasWorked, IsRead, IsTextOf}
-use Rattle.fax_tool.specs.views.Streams.{input_after, output_after}
+use Rattle.fax_tool.specs.Streams.{input_after, output_after}
 use Rattle.fax_tool.specs.Text.{Printed}
 use Rattle.fax_tool.specs.ReportText.{convert_fault_line, report_text}
 use Rattle.fax_tool.specs.code.ReportParts.{report_output}

@@ -2,7 +2,7 @@
 ghost use Rattle.std.specs.Prelude.{◌≡◌, ◌⊎◌, ◌<◌, IfErr, IfOk};
 ghost use Rattle.fax_tool.specs.code.Outcome.{IsDone, IsReported, IsSaid, IsStopped};
 ghost use Rattle.fax_tool.specs.Run.{IsRefused, WritesText};
-ghost use Rattle.fax_tool.specs.views.Streams.{input_after, no_faults, output_after};
+ghost use Rattle.fax_tool.specs.Streams.{input_after, no_faults, output_after};
 
 use crate::commands::check::check;
 use crate::commands::convert::convert;

@@ -3,8 +3,8 @@ ghost use Rattle.std.specs.Prelude.{◌≡◌, ℕ, ◌<◌, ◌≤◌, length, 
 ghost use Rattle.std.specs.Prelude.{OnOk, Result};
 ghost use Rattle.std.specs.Io.KnownBytes.{Appends, Consumes, IsAtEnd, Keeps};
 ghost use Rattle.fax_tool.specs.Run.{Counts};
-ghost use Rattle.fax_tool.specs.views.Streams.{GivesBytes, TakesBytes, counts_after, no_faults};
-ghost use Rattle.fax_tool.specs.views.Streams.{taken_after};
+ghost use Rattle.fax_tool.specs.Streams.{GivesBytes, TakesBytes, counts_after, no_faults};
+ghost use Rattle.fax_tool.specs.Streams.{taken_after};
 ghost use Rattle.fax_tool.specs.code.Adapters.{IsFaultOf};
 ghost use Rattle.std.specs.IoError.{error_kind};
 ghost use Rattle.fax_tool.specs.code.Adapters.{reader_of, writer_of};
@@ -70,7 +70,7 @@ struct FaultCounts {
 }
 
 impl FaultCounts {
-    ghost use Rattle.fax_tool.specs.views.Streams.{counts_of, counts_after};
+    ghost use Rattle.fax_tool.specs.Streams.{counts_of, counts_after};
 
     /// No call was interrupted, and none failed.
     const NONE: FaultCounts = FaultCounts {
@@ -136,7 +136,7 @@ impl<R: io::Read> FromRead<R> {
 }
 
 impl<R: io::Read> Source for FromRead<R> {
-    ghost use Rattle.fax_tool.specs.views.Streams.{counts_of};
+    ghost use Rattle.fax_tool.specs.Streams.{counts_of};
 
     ghost left = { λ s. R.remaining s.reader };
 
@@ -186,7 +186,7 @@ impl<W: io::Write> ToWrite<W> {
 }
 
 impl<W: io::Write> Sink for ToWrite<W> {
-    ghost use Rattle.fax_tool.specs.views.Streams.{counts_of};
+    ghost use Rattle.fax_tool.specs.Streams.{counts_of};
 
     ghost written = { λ s. W.contents s.writer };
 

@@ -15,7 +15,7 @@ ghost use Rattle.fax_tool.specs.Job.{IsCommandFault, IsFault, IsJob};
 ghost use Rattle.fax_tool.specs.Job.{IsNoCursor, IsNoLongCursor, IsPartOfPages, IsPartOfRows};
 ghost use Rattle.fax_tool.specs.Job.{number_in, order_by, target_in};
 ghost use Rattle.fax_tool.specs.Run.{HasFailed};
-ghost use Rattle.fax_tool.specs.views.Streams.{no_faults};
+ghost use Rattle.fax_tool.specs.Streams.{no_faults};
 ghost use Rattle.fax_tool.specs.Words.{words_status, words_text};
 ghost use Rattle.fax_tool.specs.code.Entries.{HasEntries, HasFlag, HasNumber, HasOptions};
 ghost use Rattle.fax_tool.specs.code.CommandLine.{check_app, convert_app, faxpages_app};

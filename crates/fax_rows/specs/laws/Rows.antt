@@ -34,13 +34,13 @@ OneDimensionalBitsAreOneRow =
     → (row ≡ another) × (more ≡ rest)
 
 -- a row that is written in two-dimensional coding is read back over its reference row, whatever
--- bits follow it (T.4, section 4.2.1.3.3; T.6, section 2.2.3)
+-- bits follow it (T.4, section 4.2.1.3.3; T.6, section 2.2.4)
 abbrev pub TwoDimensionalBitsAreRead : Type 0
 TwoDimensionalBitsAreRead =
     (reference row : List Colour) (more : List Bool) → HasWidth row → length reference ≡ length row
     → IsTwoDimensionalRow reference (two_dimensional_bits reference row ++ more) row more
 
--- and as nothing else (T.4, section 4.2.1.3.3; T.6, section 2.2.3)
+-- and as nothing else (T.4, section 4.2.1.3.3; T.6, section 2.2.4)
 abbrev pub TwoDimensionalBitsAreOneRow : Type 0
 TwoDimensionalBitsAreOneRow =
     (reference row another : List Colour) (more rest : List Bool) → HasWidth row
@@ -49,7 +49,7 @@ TwoDimensionalBitsAreOneRow =
     → (row ≡ another) × (more ≡ rest)
 
 -- bits are read in one way as a row over the reference row in two-dimensional coding
--- (T.4, section 4.2.1.3.3; T.6, section 2.2.3; the faults are this project's profile)
+-- (T.4, section 4.2.1.3.3; T.6, section 2.2.4; the faults are this project's profile)
 abbrev pub ReadsRowsOverOneWay : List Colour → Type 0
 ReadsRowsOverOneWay reference =
     IsReadInOneWay (IsTwoDimensionalRow reference) (IsTwoDimensionalFault reference)

@@ -4,7 +4,7 @@ use Rattle.std.specs.Io.KnownBytes.{Appends}
 use Rattle.fax_tool.specs.declared.refusal.Refusal.{Refusal}
 use Rattle.fax_tool.specs.declared.refusal.Refusal.TheVariants.{Write}
 use Rattle.fax_tool.specs.Run.{HasFailed, Counts}
-use Rattle.fax_tool.specs.views.Streams.{counts_of}
+use Rattle.fax_tool.specs.Streams.{counts_of}
 
 -- so many calls were interrupted, and none failed
 abbrev pub counted : ℕ → Counts

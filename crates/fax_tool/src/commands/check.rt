@@ -5,7 +5,7 @@ ghost use Rattle.fax_tool.specs.ReportText as Text;
 ghost use Rattle.fax_tool.specs.code.Outcome as Outcome;
 ghost use Rattle.fax_tool.specs.code.ReportParts as Parts;
 ghost use Rattle.fax_tool.specs.code.Outcome.{IsDone, IsStopped};
-ghost use Rattle.fax_tool.specs.views.Streams.{input_after, no_faults, output_after};
+ghost use Rattle.fax_tool.specs.Streams.{input_after, no_faults, output_after};
 ghost use Rattle.fax_tool.specs.declared.words.Command.TheVariants.{Check};
 
 use crate::refusal::Refusal;

@@ -1,7 +1,7 @@
 //! `convert`: the pages in another form.
 ghost use Rattle.std.specs.Prelude.{◌≡◌, IfErr, IfOk};
 ghost use Rattle.fax_tool.specs.code.Outcome.{IsDone, IsStopped};
-ghost use Rattle.fax_tool.specs.views.Streams.{input_after, no_faults, output_after};
+ghost use Rattle.fax_tool.specs.Streams.{input_after, no_faults, output_after};
 ghost use Rattle.fax_tool.specs.declared.words.Command.TheVariants.{Convert};
 
 use crate::refusal::Refusal;

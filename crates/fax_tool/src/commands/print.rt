@@ -7,7 +7,7 @@ ghost use Rattle.fax_tool.specs.code.Outcome.{IsDone, IsStopped, StopsAtBeginnin
 ghost use Rattle.fax_tool.specs.code.Outcome.{StopsWith, WritesOutput};
 ghost use Rattle.fax_tool.specs.code.Printing.{IsLastLine, IsNextLine, PrintsLines};
 ghost use Rattle.fax_tool.specs.code.Transfers.{IsGivenInPart, SendsPart, counted};
-ghost use Rattle.fax_tool.specs.views.Streams.{input_after, no_faults, output_after};
+ghost use Rattle.fax_tool.specs.Streams.{input_after, no_faults, output_after};
 ghost use Rattle.fax_tool.specs.Text.{Line, next_line};
 ghost use Rattle.fax_tool.specs.Run.{HasWorked, IsRead, IsTextOfFirst, IsTextOfLines, begun_of};
 ghost use Rattle.fax_files.specs.Directory.{max_file};

@@ -5,7 +5,7 @@ ghost use Rattle.std.specs.Io.KnownBytes.{Appends};
 ghost use Rattle.fax_tool.specs.declared.refusal.Refusal.TheVariants.{Memory};
 ghost use Rattle.fax_tool.specs.Run.{HasFailed, HasWorked, IsRead, most_interrupted};
 ghost use Rattle.fax_files.specs.Directory.{max_file};
-ghost use Rattle.fax_tool.specs.views.Streams.{counts_after, input_after, no_faults};
+ghost use Rattle.fax_tool.specs.Streams.{counts_after, input_after, no_faults};
 ghost use Rattle.fax_tool.specs.code.Outcome.{HasReadReason};
 ghost use Rattle.fax_tool.specs.code.Transfers.{IsGivenInPart, counted};
 

@@ -1,7 +1,7 @@
 use Rattle.std.proofs.Common.{◌≡◌, ℕ, List, [], Some, ◌∙◌}
 use Rattle.fax_tool.specs.declared.words.Command.{Command}
 use Rattle.fax_tool.specs.Run.{WritesText, Counts}
-use Rattle.fax_tool.specs.views.Streams.{input_after, output_after}
+use Rattle.fax_tool.specs.Streams.{input_after, output_after}
 use Rattle.fax_tool.specs.code.Caller.{IsPrinted}
 use Rattle.fax_tool.proofs.tests.caller.printed_by.Goals as goal
 

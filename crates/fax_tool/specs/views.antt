@@ -1,2 +1,0 @@
--- How contracts see streams.
-pub mod Streams
