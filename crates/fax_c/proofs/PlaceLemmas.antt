@@ -1,48 +1,66 @@
 -- The place after rows that were written.
-use Rattle.std.proofs.Common.{Bool, ◌≡◌, ℕ, List, length, drop, true, false, inl, inr, refl, ap, sym, subst, ◌∙◌}
+use Rattle.std.proofs.Common.{Bool, ◌≡◌, ◌≢◌, ℕ, ◌+◌, ◌<◌, List, [], ◌∷◌, ◌++◌, length, take, drop, true, false, inl, inr, refl, ap, sym}
+use Rattle.std.proofs.Common.{subst, ◌∙◌, arith}
 use Rattle.std.specs.Prelude.{Some, None, ◌&&◌, if◌then◌else◌, nat_le, nat_lt}
-use Rattle.std.proofs.lemmas.Bool.{le-leb, lt-ltb}
+use Rattle.std.proofs.lemmas.Bool.{ltb-true}
+use Rattle.std.proofs.lemmas.List.{take_at, drop_at}
+use Rattle.fax_rows.specs.Rows.{Colour, other, same_colour, runs_after, runs_of}
 use Rattle.fax_walk.specs.declared.begun.Begun.TheVariants.{At, Inside}
 use Rattle.fax_walk.specs.declared.cursor.Cursor.{Cursor}
-use Rattle.fax_walk.specs.Pages.{LongPlace}
+use Rattle.fax_walk.specs.declared.walk.PlaceInside.{PlaceInside}
 use Rattle.fax_walk.specs.Rows.{begins_at}
-use Rattle.fax_walk.specs.views.Walk.{IsLongOf, WalkView, begins_inside}
+use Rattle.fax_walk.specs.views.Walk.{IsLongOf, WalkView, begins_inside, place_inside}
 use Rattle.fax_c.specs.declared.filled.Filled.{Filled}
-use Rattle.fax_c.specs.declared.filled.Stop.TheVariants.{Memory}
+use Rattle.fax_c.specs.declared.filled.Stop.TheVariants.{NoRoom}
 use Rattle.fax_c.specs.declared.places.FaxPlace.{FaxPlace}
-use Rattle.fax_c.specs.views.Places.{IsAfter, begun_of, cursor_of, long_place_of}
-use Rattle.fax_c.specs.code.Put.{HasRuns, IsPlaceTold}
+use Rattle.fax_c.specs.views.Places.{IsAfter, begun_of, cursor_of, has_runs, long_place_of, place_at, walk_after}
+use Rattle.fax_c.specs.code.Put.{IsInsideTold, IsPutAt}
 
-pub told : (walk : WalkView) (filled : Filled) (found : LongPlace) (answer : Bool) (old new : FaxPlace) (old_runs runs : List ℕ)
-    → walk.given ≡ filled.count → IsLongOf walk (Some found) → old.runs ≡ 0 → cursor_of old ≡ filled.cursor
-    → IsPlaceTold found old old_runs answer new runs → IsAfter walk.file walk.begun filled old_runs new runs
-told walk filled found answer old new old_runs runs given long none at (inl (not_told, same, same_runs, why)) =
-    (ap (λ (l : List ℕ). drop new.runs l) same_runs, inl (ap (λ (p : FaxPlace). p.runs) same ∙ none, ap cursor_of same ∙ at))
-told walk filled found answer old new old_runs runs given long none at (inr (is_told, has, is, rest)) =
-    let here : IsLongOf walk (Some (long_place_of new runs)) = subst (λ p. IsLongOf walk (Some p)) (sym is) long in (
+-- a row has a run
+has_a_run : (colour : Colour) (n : ℕ) (pels : List Colour) → 0 < length (runs_after colour n pels)
+unfolding runs_after
+has_a_run colour n [] = omega arith
+has_a_run colour n (first ∷ pels) =
+    elim (same_colour first colour) as (λ b.
+    0 < length (if b then runs_after colour (n + 1) pels else (n ∷ runs_after (other colour) 1 pels))) [
+      | true ↦ has_a_run colour (n + 1) pels
+      | false ↦ omega arith
+    ]
+
+-- a place that is lent, and whose runs are written, is told
+pub inside_told : (walk : WalkView) (lent : PlaceInside) (count : ℕ) (old : FaxPlace) (old_runs runs : List ℕ)
+    → IsLongOf walk (place_inside (Some lent)) → IsPutAt (runs_of lent.reference.now) old_runs 0 (Some count) runs
+    → IsInsideTold walk old old_runs (record { page = lent.at.page; row = lent.at.row; bits = lent.bits; runs = count }) runs
+inside_told walk lent count old old_runs runs long (count_is, within, runs_are) =
+    let numbers = runs_of lent.reference.now in
+    let some = has_a_run Colour.White 0 lent.reference.now in
+    let same : take count runs ≡ numbers = ap (take count) runs_are ∙ take_at numbers (drop count old_runs) count (omega (arith, count_is)) in
+    let rest : drop count runs ≡ drop count old_runs = ap (drop count) runs_are ∙ drop_at numbers (drop count old_runs) count (omega (arith, count_is)) in
+    inr (
+      omega (arith, count_is, some),
+      subst (λ ns. IsLongOf walk (Some (record { at = lent.at; bits = lent.bits; runs = ns }))) (sym same) long,
       rest,
-      inr (
-        has.0,
-        subst (λ n. IsLongOf (record { file = walk.file; begun = walk.begun; given = n; told = None }) (Some (long_place_of new runs))) given here,
-      ),
     )
 
 -- a walk from a place begins at its cursor
 pub begins_at-begun_of : (place : FaxPlace) (runs : List ℕ) → cursor_of place ≡ begins_at (begun_of place runs)
 begins_at-begun_of place runs =
-    elim (nat_lt 0 place.runs && nat_le place.runs (length runs)) as (λ b. cursor_of place ≡ begins_at (if b then Inside (long_place_of place runs) else At (cursor_of place))) [
+    elim (has_runs place runs) as (λ b. cursor_of place ≡ begins_at (if b then Inside (long_place_of place runs) else At (cursor_of place))) [
       | true ↦ refl
       | false ↦ refl
     ]
 
--- a place with runs that are there is one inside a strip
-pub begun_is_inside : (place : FaxPlace) (runs : List ℕ) → HasRuns place runs → begun_of place runs ≡ Inside (long_place_of place runs)
-begun_is_inside place runs (some, there) =
-    let test : nat_lt 0 place.runs && nat_le place.runs (length runs) ≡ true =
-    rw (lt-ltb 0 place.runs some, le-leb place.runs (length runs) there) refl in
-    ap (λ b. if b then Inside (long_place_of place runs) else At (cursor_of place)) test
+begun_inside : (place : FaxPlace) (runs : List ℕ) (b : Bool) → has_runs place runs ≡ b
+    → begun_of place runs ≡ (if b then Inside (long_place_of place runs) else At (cursor_of place))
+begun_inside place runs b is = ap (λ b. if b then Inside (long_place_of place runs) else At (cursor_of place)) is
 
--- where memory is refused for the runs of a place, the place is as it was
-pub refused : (file : List ℕ) (place : FaxPlace) (runs : List ℕ) (at : Cursor) → HasRuns place runs
-    → IsAfter file (begun_of place runs) (record { cursor = at; count = 0; used = 0; stop = Memory }) runs place runs
-refused file place runs at has = (refl, inr (has.0, inl (refl, sym (ap begins_inside (begun_is_inside place runs has)))))
+first_true : (a b : Bool) → a && b ≡ true → a ≡ true
+first_true true b h = refl
+first_true false b h = cc
+
+-- where nothing was written, a place inside a strip stays
+pub stays : (file : List ℕ) (place : FaxPlace) (runs : List ℕ) (filled : Filled) → filled.count ≡ 0 → has_runs place runs ≡ true
+    → IsAfter file (begun_of place runs) filled runs place runs
+stays file place runs filled none has =
+    let is = begun_inside place runs true has in
+    (refl, inl (ltb-true 0 place.runs (first_true (nat_lt 0 place.runs) (nat_le place.runs (length runs)) has), inl (none, sym (ap begins_inside is))))

@@ -1,10 +1,11 @@
 //! Places inside strips, in memory of the caller.
-ghost use Rattle.std.specs.Prelude.{◌≡◌, ◌≢◌, ◌<◌, MatchOption};
+ghost use Rattle.std.specs.Prelude.{◌≡◌, ◌≢◌, ◌<◌, true, MatchOption};
 ghost use Rattle.fax_c.specs.declared.filled.Stop.TheVariants.{NoRoom};
 ghost use Rattle.fax_c.specs.views.Places as Spec;
 ghost use Rattle.fax_c.specs.code.Put as Code;
 
 use crate::filled::{Filled, Stop};
+use crate::format::{RowFormat, Runs};
 use fax_walk::{Begun, Cursor, LongCursor, Walk};
 use std::alloc::Global;
 
@@ -20,7 +21,27 @@ pub struct FaxPlace {
 }
 
 impl FaxPlace {
-    ghost use Rattle.fax_c.specs.views.Places.{cursor_of};
+    ghost use Rattle.fax_c.specs.views.Places.{cursor_of, place_at};
+
+    /// A cursor alone.
+    pub(crate) fn at(cursor: Cursor) -> Self
+        ensures { result ≡ place_at cursor }
+    {
+        FaxPlace {
+            page: cursor.page,
+            row: cursor.row,
+            bits: 0,
+            runs: 0,
+        }
+    }
+
+    /// Whether it is inside a strip: it has runs, and they are there.
+    fn has_runs(&self, runs: &[u32]) -> bool
+        ensures { result ≡ Spec.has_runs self.now runs.now }
+    {
+        let count = self.runs as usize;
+        0 < count && count <= runs.len()
+    }
 
     /// Its cursor.
     pub(crate) fn cursor(&self) -> Cursor
@@ -35,15 +56,14 @@ impl FaxPlace {
 
 /// What a walk begins with that goes on at a place, or none where memory was refused for its runs.
 pub(crate) fn begun_at(alloc: Global, place: &FaxPlace, runs: &[u32]) -> Option<Begun>
-    ensures { MatchOption result (Code.HasRuns place.now runs.now)
+    ensures { MatchOption result (Spec.has_runs place.now runs.now ≡ true)
         (λ begun. begun ≡ Spec.begun_of place.now runs.now) }
 {
     let at = place.cursor();
-    let count = place.runs as usize;
-    if !(0 < count && count <= runs.len()) {
+    if !place.has_runs(runs) {
         return Some(Begun::At(at));
     }
-    match Vec::from_slice(alloc, &runs[..count]) {
+    match Vec::from_slice(alloc, &runs[..place.runs as usize]) {
         Ok(runs) => Some(Begun::Inside(LongCursor {
             at,
             bits: place.bits,
@@ -71,40 +91,44 @@ pub(crate) fn tell_place(found: &LongCursor, place: &mut FaxPlace, runs: &mut [u
     true
 }
 
-/// Tells the place inside a strip after the rows that were written, where there is one.
-fn tell_inside(alloc: Global, walk: &Walk, filled: &Filled, place: &mut FaxPlace, runs: &mut [u32])
-    requires given { walk.now.given ≡ filled.now.count }
+/// Tells the place inside a strip after the rows that a walk has handed out, where there is one and
+/// its runs have room.
+fn tell_inside(walk: &Walk, place: &mut FaxPlace, runs: &mut [u32])
+    requires some { 0 < walk.now.given }
     requires none { place.old.runs ≡ 0 }
-    requires cursor { Spec.cursor_of place.old ≡ filled.now.cursor }
-    ensures { Spec.IsAfter walk.now.file walk.now.begun filled.now runs.old place.new runs.new }
+    ensures { Code.IsInsideTold walk.now place.old runs.old place.new runs.new }
 {
-    if let Ok(Some(found)) = walk.long_cursor(alloc) {
-        tell_place(&found, place, runs);
-    }
+    let Some(found) = walk.inside() else {
+        return;
+    };
+    let Some(count) = Runs::put(found.reference, runs, 0) else {
+        return;
+    };
+    *place = FaxPlace {
+        page: found.at.page,
+        row: found.at.row,
+        bits: found.bits,
+        runs: count as u32,
+    };
 }
 
-/// Tells the place after the rows that were written: where the next row had no room, the walk has
-/// passed it, and the place is the cursor.
-pub(crate) fn place_after(
-    alloc: Global,
-    walk: &Walk,
-    filled: &Filled,
-    place: &mut FaxPlace,
-    runs: &mut [u32],
-)
-    requires { filled.now.stop ≢ NoRoom → walk.now.given ≡ filled.now.count }
+/// Tells the place after the rows that were written: where none was, a place inside a strip stays;
+/// where the next row had no room, the walk has passed it, and the place is the cursor.
+pub(crate) fn place_after(walk: &Walk, filled: &Filled, place: &mut FaxPlace, runs: &mut [u32])
+    requires given { filled.now.stop ≢ NoRoom → walk.now.given ≡ filled.now.count }
+    requires begun { walk.now.begun ≡ Spec.begun_of place.old runs.old }
     ensures { Spec.IsAfter walk.now.file walk.now.begun filled.now runs.old place.new runs.new }
 {
-    *place = FaxPlace {
-        page: filled.cursor.page,
-        row: filled.cursor.row,
-        bits: 0,
-        runs: 0,
-    };
+    if filled.count == 0 && place.has_runs(runs) {
+        return;
+    }
+    *place = FaxPlace::at(filled.cursor);
     match filled.stop {
         Stop::NoRoom => {}
         Stop::Done | Stop::Ended(_) | Stop::Memory => {
-            tell_inside(alloc, walk, filled, place, runs);
+            if filled.count > 0 {
+                tell_inside(walk, place, runs);
+            }
         }
     }
 }

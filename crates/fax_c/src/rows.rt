@@ -127,7 +127,7 @@ pub(crate) fn fill_from<F: RowFormat>(
     };
     let mut walk = Walk::begin(alloc, file, begun);
     let filled = fill::<F>(&mut walk, rows, out);
-    place_after(alloc, &walk, &filled, place, runs);
+    place_after(&walk, &filled, place, runs);
     filled.tell(told)
 }
 

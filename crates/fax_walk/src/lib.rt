@@ -29,4 +29,4 @@ pub use fax_rows::Row;
 pub use long_cursor::{LongCursor, LongFault};
 pub use options::{ConvertFault, Options, Target};
 pub use pages::Pages;
-pub use walk::{Place, Walk};
+pub use walk::{Place, PlaceInside, Walk};

@@ -9,11 +9,12 @@ ghost use Rattle.fax_walk.specs.code.Places.{long_at};
 ghost use Rattle.fax_walk.specs.Rows.{IsInnerOn};
 ghost use Rattle.fax_walk.specs.code.Places.{strip_at};
 ghost use Rattle.fax_walk.specs.code.Opening.{IsFileChain, page_with};
+ghost use Rattle.fax_walk.specs.views.Walk.{place_inside};
 ghost use Rattle.fax_walk.specs.code.Stages as Spec;
 ghost use Rattle.fax_walk.specs.code.Stages.{place_of, row_of};
 
 use crate::opening::{DuePage, OpenFault};
-use crate::{Cursor, End, LongCursor};
+use crate::{Cursor, End, LongCursor, PlaceInside};
 use fax_bits::Memory;
 use fax_files::{Cause, Chain, PageForm, Strips};
 use fax_page::{StripForm, StripReader};
@@ -252,6 +253,26 @@ impl<'a> OpenPage<'a> {
 
     /// The place inside the strip after the row that was read last, if the strip goes on after
     /// it, and its bits have a number of 32 bits.
+    pub(crate) fn inside(&self) -> Option<PlaceInside<'_>>
+        ensures { let at = place_of self.now in
+            place_inside result ≡ long_at at.page at.row at.inner }
+    {
+        let place = self.strip.bit_place();
+        let row = self.row - self.number * self.form.rows_per_strip;
+        if row == 0 || row == self.form.strip_form(self.number).rows {
+            return None;
+        }
+        let Ok(bits) = u32::try_from(place) else {
+            return None;
+        };
+        Some(PlaceInside {
+            at: self.cursor(),
+            bits,
+            reference: self.strip.reference(),
+        })
+    }
+
+    /// The same, with the runs of the row before it.
     ///
     /// # Errors
     ///
@@ -260,18 +281,13 @@ impl<'a> OpenPage<'a> {
         ensures { IfOk result (λ place. let at = place_of self.now in
             place ≡ long_at at.page at.row at.inner) }
     {
-        let place = self.strip.bit_place();
-        let row = self.row - self.number * self.form.rows_per_strip;
-        if row == 0 || row == self.form.strip_form(self.number).rows {
-            return Ok(None);
-        }
-        let Ok(bits) = u32::try_from(place) else {
+        let Some(place) = self.inside() else {
             return Ok(None);
         };
         Ok(Some(LongCursor {
-            at: self.cursor(),
-            bits,
-            runs: self.strip.reference().runs(alloc)?,
+            at: place.at,
+            bits: place.bits,
+            runs: place.reference.runs(alloc)?,
         }))
     }
 

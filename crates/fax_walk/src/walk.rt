@@ -1,5 +1,5 @@
 //! The walk over a file's rows, in order of page and then of row.
-ghost use Rattle.std.specs.Prelude.{◌≡◌, List, None, IfErr, IfOk};
+ghost use Rattle.std.specs.Prelude.{◌≡◌, ◌<◌, List, None, IfErr, IfOk};
 ghost use Rattle.std.specs.Borrow.{sem};
 ghost use Rattle.fax_walk.specs.declared.begun.Begun.TheVariants.{At, Inside};
 ghost use Rattle.fax_walk.specs.laws.Left.{IsLeft};
@@ -21,6 +21,15 @@ use std::marker::Model;
 pub struct Place {
     pub page: u32,
     pub row: u32,
+}
+
+/// A place inside a strip, which a walk lends: a cursor, how many bits of the strip stand before its
+/// row, and the row before it as it was coded, before any exchange of colours.
+#[derive(Clone, Copy)]
+pub struct PlaceInside<'a> {
+    pub at: Cursor,
+    pub bits: u32,
+    pub reference: &'a Row,
 }
 
 /// A walk over the rows of a file. Contracts see its file, what it began with, how many rows it
@@ -146,6 +155,7 @@ fn go_on<'a>(
 impl<'a> Walk<'a> {
     ghost use Rattle.fax_walk.specs.views.Lent.{EndsAs};
     ghost use Rattle.fax_walk.specs.views.Walk.{IsNext, IsCursorOf, IsLongOf, AreRead, walk_start};
+    ghost use Rattle.fax_walk.specs.views.Walk.{place_inside};
 
     /// A walk over all rows of a file, from any bytes. Nothing is read yet.
     pub fn start(alloc: Global, file: &'a [u8]) -> Self
@@ -206,6 +216,18 @@ impl<'a> Walk<'a> {
         match &self.page {
             Some(page) if self.given > 0 => page.long_cursor(alloc),
             _ => self.begun.long_cursor(),
+        }
+    }
+
+    /// The place inside a strip after the last row that was handed out, as `long_cursor` has it
+    /// once a row was handed out, and `None` before that. It takes no memory.
+    pub fn inside(&self) -> Option<PlaceInside<'_>>
+        ensures place { 0 < self.now.given → IsLongOf self.now (place_inside result) }
+        ensures none { self.now.given ≡ 0 → result ≡ None }
+    {
+        match &self.page {
+            Some(page) if self.given > 0 => page.inside(),
+            _ => None,
         }
     }
 

@@ -11,7 +11,7 @@ use Rattle.fax_walk.specs.declared.end.WalkFault.TheVariants.{AtRow, CursorOutsi
 use Rattle.fax_walk.specs.declared.end.WalkFault.TheVariants.{Memory as Refused}
 use Rattle.fax_walk.specs.Rows.{RowItem}
 use Rattle.fax_walk.specs.views.Pages.{PagesView, HandsOutPage, PagesHaveEnded}
-use Rattle.fax_walk.specs.views.Walk.{EntersPage, WalkView, HandsOut, HasEndedAs}
+use Rattle.fax_walk.specs.views.Walk.{EntersPage, WalkView, HandsOut, HasEndedAs, IsLongOf}
 use Rattle.fax_c.specs.declared.filled.Filled.{Filled}
 use Rattle.fax_c.specs.declared.filled.Stop.{Stop}
 use Rattle.fax_c.specs.declared.filled.Stop.TheVariants.{Done, Ended, Memory, NoRoom}
@@ -62,6 +62,16 @@ pub record IsWalkAfter (old : WalkView) (filled : Filled) (new : WalkView) : Typ
 -- a place has runs, and they are there
 abbrev pub HasRuns : FaxPlace → List ℕ → Type 0
 HasRuns place runs = (0 < place.runs) × (place.runs ≤ length runs)
+
+-- the place inside a strip after the rows that a walk has handed out is told, or there is none, or
+-- its runs have no room; no other run is changed
+abbrev pub IsInsideTold : WalkView → FaxPlace → List ℕ → FaxPlace → List ℕ → Type 0
+IsInsideTold walk old old_runs new runs =
+    ((new ≡ old) × (runs ≡ old_runs)
+    × (IsLongOf walk None
+    ⊎ ((found : LongPlace) × IsLongOf walk (Some found) × (length old_runs < length found.runs))))
+    ⊎ ((0 < new.runs) × IsLongOf walk (Some (long_place_of new runs))
+    × (drop new.runs runs ≡ drop new.runs old_runs))
 
 -- a place inside a strip is told with its runs, or these are none or have no room; no other run is
 -- changed

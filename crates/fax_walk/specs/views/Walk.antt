@@ -11,6 +11,8 @@ use Rattle.fax_walk.specs.declared.end.End.TheVariants.{Proper, Fault, Outside}
 use Rattle.fax_walk.specs.declared.end.WalkFault.{WalkFault}
 use Rattle.fax_walk.specs.declared.end.WalkFault.TheVariants.{Memory, AtRow, CursorOutside}
 use Rattle.fax_walk.specs.declared.walk.Place.{Place}
+use Rattle.fax_walk.specs.declared.walk.PlaceInside.{PlaceInside}
+use Rattle.fax_rows.specs.Rows.{runs_of}
 use Rattle.fax_walk.specs.Pages.{start, LongPlace}
 use Rattle.fax_walk.specs.views.InOrder.{IsNumber, EndsAfter, HasToldNoOther}
 use Rattle.fax_walk.specs.Pages.{FilePage, IsOnPage, IsPageAt}
@@ -101,6 +103,12 @@ IsLongOf walk place =
     × IsItemNumber walk.file walk.begun before item
     × IsPageAt walk.file (record { page = item.page; row = item.row }) (Ok here)
     × (place ≡ long_after here.form item))
+
+-- a place inside a strip that is lent, if there is one, with the runs of the row before it
+abbrev pub place_inside : Option PlaceInside → Option LongPlace
+place_inside None = None
+place_inside (Some lent) =
+    Some (record { at = lent.at; bits = lent.bits; runs = runs_of lent.reference.now })
 
 -- how many rows are read before a beginning's
 abbrev pub dropped : {S : Type 0} → Result (S × ℕ) End → ℕ

@@ -1,6 +1,6 @@
-use Rattle.std.proofs.Common.{◌∙◌}
+use Rattle.std.proofs.Common.{◌∙◌, refl}
 use Rattle.fax_c.proofs.FillLemmas.{refused_at_once}
-use Rattle.fax_c.proofs.PlaceLemmas.{begins_at-begun_of, refused}
+use Rattle.fax_c.proofs.PlaceLemmas.{begins_at-begun_of, stays}
 use Rattle.fax_c.specs.declared.filled.Stop.TheVariants.{Memory}
 use Rattle.fax_c.specs.views.Places.{begun_of}
 use Rattle.fax_c.proofs.rows.fill_from.Goals as goal
@@ -14,7 +14,7 @@ returns-in_default g c =
       record { cursor = at; count = 0; used = 0; stop = Memory },
       refused_at_once g.F.RowFormat.numbers c.args.file.now (begun_of place runs) at c.args.rows.now c.args.out.now
           c.beginnings_have_one_tail.ensures begins,
-      refused c.args.file.now place runs at c.in_default.ensures,
+      stays c.args.file.now place runs (record { cursor = at; count = 0; used = 0; stop = Memory }) refl c.in_default.ensures,
       c.tell.ensures,
     )
 
