@@ -18,8 +18,8 @@ use crate::rows::PlacedRow;
 use crate::runs::{other, read_run};
 use crate::turns::close;
 use fax_bits::{BitSource, ModeCode, read_mode};
-use quick::read_quickly;
-use steps::{PlacedReached, after_runs, under_b2, vertical};
+use quick::{read_quickly, vertical};
+use steps::{PlacedReached, after_runs, under_b2};
 
 mod copied;
 mod quick;
@@ -79,7 +79,7 @@ fn step(
     match mode {
         ModeCode::Pass => Ok(under_b2(reference, places, at)),
         ModeCode::Horizontal => horizontal(source, reference, places, at),
-        ModeCode::Vertical(d) => match vertical(reference, places, at, d) {
+        ModeCode::Vertical(d) => match vertical::<false>(reference, places, at, d) {
             Some(next) => Ok(next),
             None => Err(RowFault::OutOfRow),
         },

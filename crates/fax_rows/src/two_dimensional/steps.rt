@@ -215,33 +215,6 @@ pub(crate) fn left_of_b1(
     })
 }
 
-/// Vertical mode: goes on to a1, which is `d` pels right of b1, where the colour changes (T.4,
-/// section 4.2.1.3.2). `None` where a1 is not right of a0 and in the row.
-#[inline(always)]
-pub(crate) fn vertical(
-    reference: PlacedRow,
-    places: &mut [u32],
-    at: PlacedReached,
-    d: i8,
-) -> Option<PlacedReached>
-    requires so_far { IsReadTo reference places.old at }
-    requires unfinished { reached_pel at.reached < reference.width }
-    ensures step { IfSome result (λ next. Spec.IsVerticalStep (placed_pels reference.entry)
-        (placed_position reference.entry.width places.old at) d
-        (placed_position reference.entry.width places.new next)) }
-    ensures so_far { IfSome result (λ next. IsReadTo reference.entry places.new next) }
-    ensures out { IfNone result (Spec.IsInRow (placed_pels reference.entry)
-        (placed_position reference.entry.width places.old at) d → ⊥) }
-    ensures first { slice_index places.new 0 ≡ 0 }
-    ensures same_len { length places.new ≡ length places.old }
-{
-    if d >= 0 {
-        right_of_b1(reference, places, at, d)
-    } else {
-        left_of_b1(reference, places, at, d)
-    }
-}
-
 /// Horizontal mode, after its two runs, the first of a0's colour, which stays (T.4, section
 /// 4.2.1.3.2).
 #[inline(always)]
