@@ -1,7 +1,7 @@
 //! Rows in two-dimensional coding (ITU-T T.4, section 4.2.1.3, and T.6, section 2.2), read into
 //! places of change over a reference row's places.
 ghost use Rattle.std.specs.Prelude.{◌≡◌, ◌+◌, ◌-◌, ◌≤◌, ◌<◌};
-ghost use Rattle.std.specs.Prelude.{◌++◌, false, length, slice_index, OnOk, IfOk, IfErr, IsTrue};
+ghost use Rattle.std.specs.Prelude.{◌++◌, length, slice_index, OnOk, IfOk, IfErr, IsTrue};
 ghost use Rattle.fax_bits.specs.views.Source.{KeepsEnd};
 ghost use Rattle.fax_rows.specs.Coded.{two_dimensional_bits};
 ghost use Rattle.fax_rows.specs.Rows as Spec;
@@ -18,8 +18,8 @@ use crate::rows::PlacedRow;
 use crate::runs::{other, read_run};
 use crate::turns::close;
 use fax_bits::{BitSource, ModeCode, read_mode};
-use quick::read_quickly;
-use steps::{PlacedReached, after_runs, under_b2, vertical};
+use quick::{read_quickly, vertical};
+use steps::{PlacedReached, after_runs, under_b2};
 
 mod copied;
 mod quick;
@@ -79,7 +79,7 @@ fn step(
     match mode {
         ModeCode::Pass => Ok(under_b2(reference, places, at)),
         ModeCode::Horizontal => horizontal(source, reference, places, at),
-        ModeCode::Vertical(d) => match vertical(reference, places, at, d) {
+        ModeCode::Vertical(d) => match vertical::<false>(reference, places, at, d) {
             Some(next) => Ok(next),
             None => Err(RowFault::OutOfRow),
         },
@@ -113,27 +113,88 @@ fn read_exactly(
     Ok(at.end)
 }
 
-/// Reads the modes of a row over the reference row, and answers where its places end.
-fn read_places(
+/// A row that is read into places of change.
+#[derive(Clone, Copy)]
+struct ReadRow {
+    /// The index after the last place.
+    end: usize,
+    /// Whether its codes are seen to be those that T.4 chooses.
+    is_chosen: bool,
+}
+
+/// Reads the modes of a row over the reference row: quickly, or else exactly.
+#[inline(always)]
+fn read_places<const CHOICE: bool>(
     source: &mut BitSource,
     reference: PlacedRow,
     places: &mut [u32],
-) -> Result<usize, RowFault>
+) -> Result<ReadRow, RowFault>
     requires room { length places.old ≡ reference.width + 4 }
     requires first { slice_index places.old 0 ≡ 0 }
-    ensures ok { IfOk result (λ end. Spec.IsTwoDimensionalRow (placed_pels reference.entry)
-        source.old.left (row_of places.new end reference.entry.width) source.new.left) }
-    ensures ascending { IfOk result (λ end. IsAscending places.new end) }
-    ensures last { IfOk result (λ end. slice_index places.new (end - 1) ≤ reference.entry.width) }
+    ensures ok { IfOk result (λ read. Spec.IsTwoDimensionalRow (placed_pels reference.entry)
+        source.old.left (row_of places.new read.end reference.entry.width) source.new.left) }
+    ensures chosen { IfOk result (λ read. IsTrue read.is_chosen
+        → source.old.left ≡ two_dimensional_bits (placed_pels reference.entry)
+        (row_of places.new read.end reference.entry.width) ++ source.new.left) }
+    ensures ascending { IfOk result (λ read. IsAscending places.new read.end) }
+    ensures last { IfOk result
+        (λ read. slice_index places.new (read.end - 1) ≤ reference.entry.width) }
     ensures err { IfErr result (λ fault. Fault.IsTwoDimensionalFault
         (placed_pels reference.entry) source.old.left fault) }
     ensures first { slice_index places.new 0 ≡ 0 }
     ensures same_len { length places.new ≡ length places.old }
     ensures same_end { KeepsEnd source.old source.new }
 {
-    match read_quickly::<false>(source, reference, places) {
-        Some(end) => Ok(end),
-        None => read_exactly(source, reference, places),
+    if CHOICE {
+        if let Some(end) = read_quickly::<true>(source, reference, places) {
+            return Ok(ReadRow {
+                end,
+                is_chosen: true,
+            });
+        }
+    }
+    if let Some(end) = read_quickly::<false>(source, reference, places) {
+        return Ok(ReadRow {
+            end,
+            is_chosen: false,
+        });
+    }
+    let end = read_exactly(source, reference, places)?;
+    Ok(ReadRow {
+        end,
+        is_chosen: false,
+    })
+}
+
+/// Reads a row, and answers whether its codes are seen to be those that T.4 chooses.
+#[inline(always)]
+fn read_row<const CHOICE: bool>(
+    source: &mut BitSource,
+    reference: &Row,
+    row: &mut Row,
+) -> Result<bool, RowFault>
+    requires width { length reference.now ≡ length row.old }
+    ensures ok { OnOk result
+        (Spec.IsTwoDimensionalRow reference.now source.old.left row.new source.new.left) }
+    ensures chosen { IfOk result (λ chosen. IsTrue chosen
+        → source.old.left ≡ two_dimensional_bits reference.now row.new ++ source.new.left) }
+    ensures err { IfErr result
+        (λ fault. Fault.IsTwoDimensionalFault reference.now source.old.left fault) }
+    ensures same_width { length row.new ≡ length row.old }
+    ensures same_end { KeepsEnd source.old source.new }
+{
+    let reference = reference.placed();
+    let width = row.width;
+    let places = row.places.as_mut_slice();
+    match read_places::<CHOICE>(source, reference, places) {
+        Ok(read) => {
+            row.end = close(places, read.end, width);
+            Ok(read.is_chosen)
+        }
+        Err(fault) => {
+            row.end = close(places, 1, width);
+            Err(fault)
+        }
     }
 }
 
@@ -156,47 +217,8 @@ pub fn read_2d(source: &mut BitSource, reference: &Row, row: &mut Row) -> Result
     // The source goes on in the same bits.
     ensures same_end { KeepsEnd source.old source.new }
 {
-    let reference = reference.placed();
-    let width = row.width;
-    let places = row.places.as_mut_slice();
-    match read_places(source, reference, places) {
-        Ok(end) => {
-            row.end = close(places, end, width);
-            Ok(())
-        }
-        Err(fault) => {
-            row.end = close(places, 1, width);
-            Err(fault)
-        }
-    }
-}
-
-/// Reads a row whose codes are seen to be T.4's choice, and answers whether it did. If not, the
-/// source is as it was, and nothing is said of the row.
-#[inline(always)]
-fn read_chosen(source: &mut BitSource, reference: &Row, row: &mut Row) -> bool
-    requires width { length reference.now ≡ length row.old }
-    ensures row { IsTrue result
-        → Spec.IsTwoDimensionalRow reference.now source.old.left row.new source.new.left }
-    ensures chosen { IsTrue result
-        → source.old.left ≡ two_dimensional_bits reference.now row.new ++ source.new.left }
-    ensures same_width { length row.new ≡ length row.old }
-    ensures same_end { KeepsEnd source.old source.new }
-    ensures unchanged { result ≡ false → source.new ≡ source.old }
-{
-    let reference = reference.placed();
-    let width = row.width;
-    let places = row.places.as_mut_slice();
-    match read_quickly::<true>(source, reference, places) {
-        Some(end) => {
-            row.end = close(places, end, width);
-            true
-        }
-        None => {
-            row.end = close(places, 1, width);
-            false
-        }
-    }
+    read_row::<false>(source, reference, row)?;
+    Ok(())
 }
 
 /// Reads a row as `read_2d` does, and answers whether its codes are seen to be those that T.4
@@ -223,9 +245,5 @@ pub fn read_2d_choice(
     // The source goes on in the same bits.
     ensures same_end { KeepsEnd source.old source.new }
 {
-    if read_chosen(source, reference, row) {
-        return Ok(true);
-    }
-    read_2d(source, reference, row)?;
-    Ok(false)
+    read_row::<true>(source, reference, row)
 }

@@ -2,7 +2,7 @@
 //! value. Each function gives up, with `None`, at any doubt, and the row is read again from its
 //! source.
 ghost use Rattle.std.specs.Prelude.{◌≡◌, ◌+◌, ◌-◌, ◌≤◌, ◌<◌, ◌^◌, ◌⊎◌, ◌++◌, IfSome};
-ghost use Rattle.std.specs.Prelude.{IsTrue, IsSome, length, true, None, slice_index};
+ghost use Rattle.std.specs.Prelude.{IfNone, IsTrue, IsSome, length, true, false, None, slice_index};
 ghost use Rattle.fax_bits.specs.views.Source.{KeepsEnd};
 ghost use Rattle.fax_rows.specs.Coded.{two_dimensional_bits};
 ghost use Rattle.fax_rows.specs.Rows.{b1, b2, is_right_of};
@@ -17,6 +17,7 @@ ghost use Rattle.fax_rows.specs.code.PlacedReached.{placed_position, IsReadTo};
 use super::copied::under_several;
 use super::steps::{PlacedReached, after_runs, left_of_b1, right_of_b1, under_b1, under_b2};
 use crate::rows::PlacedRow;
+use crate::runs::other;
 use crate::turns::colour_after;
 use fax_bits::{BitSource, Colour, ModeCode};
 
@@ -79,49 +80,30 @@ fn chooses_runs<const CHOICE: bool>(
 /// Whether a step is taken: it is seen to be T.4's choice, or that is not asked for.
 #[inline(always)]
 fn is_taken<const CHOICE: bool>(chosen: bool) -> bool
-    ensures { IsTrue result → IsTrue CHOICE → IsTrue chosen }
+    ensures taken { IsTrue result → IsTrue CHOICE → IsTrue chosen }
+    ensures asked { result ≡ false → IsTrue CHOICE }
 {
     chosen || !CHOICE
 }
 
-/// Reads a white run and a black one, at most so many pels together, and answers how many they
-/// have.
-#[inline(always)]
-fn white_and_black<const CHOICE: bool>(ahead: &mut BitSource, most: u32) -> Option<(u32, u32)>
-    ensures pair { IfSome result
-        (λ runs. Chosen.IsPair Colour.White ahead.old.left runs.0 runs.1 ahead.new.left) }
-    ensures few { IfSome result (λ runs. runs.0 + runs.1 ≤ most) }
-    ensures same_end { KeepsEnd ahead.old ahead.new }
-    ensures no_longer { IsSome result → length ahead.new.left ≤ length ahead.old.left }
-{
-    let first = ahead.run_within(Colour::White, most)?;
-    let second = ahead.run_within(Colour::Black, most - first)?;
-    Some((first, second))
-}
-
-/// Reads a black run and a white one, at most so many pels together, and answers how many they
-/// have.
-#[inline(always)]
-fn black_and_white<const CHOICE: bool>(ahead: &mut BitSource, most: u32) -> Option<(u32, u32)>
-    ensures pair { IfSome result
-        (λ runs. Chosen.IsPair Colour.Black ahead.old.left runs.0 runs.1 ahead.new.left) }
-    ensures few { IfSome result (λ runs. runs.0 + runs.1 ≤ most) }
-    ensures same_end { KeepsEnd ahead.old ahead.new }
-    ensures no_longer { IsSome result → length ahead.new.left ≤ length ahead.old.left }
-{
-    let first = ahead.run_within(Colour::Black, most)?;
-    let second = ahead.run_within(Colour::White, most - first)?;
-    Some((first, second))
-}
-
 /// Reads a run of the colour and a run of the other one, at most so many pels together, and answers
-/// how many they have: a white run and the black one after it mostly by one look-up.
+/// how many they have.
 #[inline(always)]
-fn two_runs<const CHOICE: bool>(
-    ahead: &mut BitSource,
-    colour: Colour,
-    most: u32,
-) -> Option<(u32, u32)>
+fn run_by_run(ahead: &mut BitSource, colour: Colour, most: u32) -> Option<(u32, u32)>
+    ensures pair { IfSome result
+        (λ runs. Chosen.IsPair colour ahead.old.left runs.0 runs.1 ahead.new.left) }
+    ensures few { IfSome result (λ runs. runs.0 + runs.1 ≤ most) }
+    ensures same_end { KeepsEnd ahead.old ahead.new }
+    ensures no_longer { IsSome result → length ahead.new.left ≤ length ahead.old.left }
+{
+    let first = ahead.run_within(colour, most)?;
+    let second = ahead.run_within(other(colour), most - first)?;
+    Some((first, second))
+}
+
+/// What `run_by_run` does: a white run and the black one after it mostly by one look-up.
+#[inline(always)]
+fn two_runs(ahead: &mut BitSource, colour: Colour, most: u32) -> Option<(u32, u32)>
     ensures pair { IfSome result
         (λ runs. Chosen.IsPair colour ahead.old.left runs.0 runs.1 ahead.new.left) }
     ensures few { IfSome result (λ runs. runs.0 + runs.1 ≤ most) }
@@ -131,9 +113,9 @@ fn two_runs<const CHOICE: bool>(
     match colour {
         Colour::White => match ahead.pair_within(0, most) {
             Some(pair) => Some((pair.white, pair.black)),
-            None => white_and_black::<CHOICE>(ahead, most),
+            None => run_by_run(ahead, Colour::White, most),
         },
-        Colour::Black => black_and_white::<CHOICE>(ahead, most),
+        Colour::Black => run_by_run(ahead, Colour::Black, most),
     }
 }
 
@@ -163,7 +145,7 @@ fn horizontal<const CHOICE: bool>(
 {
     let most = reference.width - at.reached.first_pel();
     let colour = colour_after(at.b1);
-    let (first, second) = two_runs::<CHOICE>(ahead, colour, most)?;
+    let (first, second) = two_runs(ahead, colour, most)?;
     let chosen = chooses_runs::<CHOICE>(reference, at, first, second);
     if !is_taken::<CHOICE>(chosen) {
         return None;
@@ -171,10 +153,12 @@ fn horizontal<const CHOICE: bool>(
     Some(after_runs(reference, places, at, first, second))
 }
 
-/// Vertical mode, where that is T.4's choice or this is not asked for. It always is where a1 is not
-/// right of b1 (T.4, section 4.2.1.3.3).
+/// Vertical mode: goes on to a1, which is `d` pels right of b1, where the colour changes (T.4,
+/// section 4.2.1.3.2). `None` where a1 is not right of a0 and in the row, and where T.4's choice is
+/// asked for and vertical mode is not seen to be so. It always is where a1 is not right of b1 (T.4,
+/// section 4.2.1.3.3).
 #[inline(always)]
-fn vertical<const CHOICE: bool>(
+pub(super) fn vertical<const CHOICE: bool>(
     reference: PlacedRow,
     places: &mut [u32],
     at: PlacedReached,
@@ -188,6 +172,8 @@ fn vertical<const CHOICE: bool>(
     ensures so_far { IfSome result (λ next. IsReadTo reference.entry places.new next) }
     ensures left { IfSome result (λ next. IsTrue CHOICE → reached_pel next.reached
         ≤ b2 (placed_pels reference.entry) at.reached.a0 at.reached.colour) }
+    ensures out { IfNone result (IsTrue CHOICE ⊎ (Spec.IsInRow (placed_pels reference.entry)
+        (placed_position reference.entry.width places.old at) d → ⊥)) }
     ensures first { slice_index places.new 0 ≡ 0 }
     ensures same_len { length places.new ≡ length places.old }
 {

@@ -1,13 +1,14 @@
 //! Steps of two-dimensional coding over a reference row, which the exact and the quick reader share
 //! (ITU-T T.4, section 4.2.1.3.2).
 ghost use Rattle.std.specs.Prelude.{◌≡◌, ◌+◌, ◌-◌, ◌≤◌, ◌<◌, ◌^◌, ◌+ℤ◌, ◌≤ℤ◌, ◌<ℤ◌, pos, negsuc};
-ghost use Rattle.std.specs.Prelude.{[], List, Bool, true, length, slice_index, IfSome, IfNone, IsTrue};
+ghost use Rattle.std.specs.Prelude.{ℤ, [], List, Bool, Some, true, length, slice_index, IfSome, IfNone};
+ghost use Rattle.std.specs.Prelude.{IsTrue};
 ghost use Rattle.fax_bits.specs.Codes.{IsRun};
 ghost use Rattle.fax_rows.specs.Rows.{other as other_than};
 ghost use Rattle.fax_rows.specs.Rows as Spec;
 ghost use Rattle.fax_rows.specs.code.Seen.{b2_from};
 ghost use Rattle.fax_rows.specs.code.Chosen.{after_pair};
-ghost use Rattle.fax_rows.specs.code.PlacedRow.{placed_pels};
+ghost use Rattle.fax_rows.specs.code.PlacedRow.{placed_pels, IsB1At};
 ghost use Rattle.fax_rows.specs.code.Reached.{reached_pel, position_of};
 ghost use Rattle.fax_rows.specs.code.PlacedReached.{placed_position, IsReadTo};
 
@@ -118,6 +119,41 @@ pub(crate) fn under_b2(reference: PlacedRow, places: &[u32], at: PlacedReached) 
     }
 }
 
+/// Goes on to the pel `a1`, which is right of a0 and in the row, where the colour changes (T.4,
+/// section 4.2.1.3.2). `b1` is the index of the next b1.
+#[inline(always)]
+fn turned_at(
+    reference: PlacedRow,
+    places: &mut [u32],
+    at: PlacedReached,
+    a1: u32,
+    b1: usize,
+) -> PlacedReached
+    requires so_far { IsReadTo reference places.old at }
+    requires unfinished { reached_pel at.reached < reference.width }
+    requires right { Spec.a0_number (position_of at.reached []) <ℤ pos a1 }
+    requires within { a1 ≤ reference.width }
+    requires b1 { a1 < reference.width
+        → IsB1At reference (Some a1) (other_than at.reached.colour) b1 }
+    ensures step { (d : ℤ) → pos a1 ≡ pos (slice_index reference.entry.places.now at.b1) +ℤ d
+        → Spec.IsVerticalStep (placed_pels reference.entry)
+        (placed_position reference.entry.width places.old at) d
+        (placed_position reference.entry.width places.new result) }
+    ensures so_far { IsReadTo reference.entry places.new result }
+    ensures first { slice_index places.new 0 ≡ 0 }
+    ensures same_len { length places.new ≡ length places.old }
+{
+    let end = turn_right(places, at.end, a1);
+    PlacedReached {
+        reached: Reached {
+            a0: Some(a1),
+            colour: other(at.reached.colour),
+        },
+        end,
+        b1,
+    }
+}
+
 /// What `vertical` does with a1 just under b1, which is always right of a0 and in the row (T.4,
 /// section 4.2.1.3.2). The next b1 is the reference row's next changing element.
 #[inline(always)]
@@ -131,16 +167,7 @@ pub(crate) fn under_b1(reference: PlacedRow, places: &mut [u32], at: PlacedReach
     ensures first { slice_index places.new 0 ≡ 0 }
     ensures same_len { length places.new ≡ length places.old }
 {
-    let place = reference.places[at.b1];
-    let end = turn_right(places, at.end, place);
-    PlacedReached {
-        reached: Reached {
-            a0: Some(place),
-            colour: other(at.reached.colour),
-        },
-        end,
-        b1: at.b1 + 1,
-    }
+    turned_at(reference, places, at, reference.places[at.b1], at.b1 + 1)
 }
 
 /// Vertical mode with a1 right of b1, by `d` pels (T.4, section 4.2.1.3.2). `None` where a1 is not
@@ -168,15 +195,8 @@ pub(crate) fn right_of_b1(
     if place > reference.width {
         return None;
     }
-    let end = turn_right(places, at.end, place);
-    Some(PlacedReached {
-        reached: Reached {
-            a0: Some(place),
-            colour: other(at.reached.colour),
-        },
-        end,
-        b1: reference.b1_after(at.b1 + 1, place),
-    })
+    let b1 = reference.b1_after(at.b1 + 1, place);
+    Some(turned_at(reference, places, at, place, b1))
 }
 
 /// Vertical mode with a1 left of b1, by `-d` pels (T.4, section 4.2.1.3.2). `None` where a1 is not
@@ -200,46 +220,9 @@ pub(crate) fn left_of_b1(
     ensures first { slice_index places.new 0 ≡ 0 }
     ensures same_len { length places.new ≡ length places.old }
 {
-    let b1 = reference.places[at.b1];
-    let Some(place) = at.reached.left_of(b1, d) else {
-        return None;
-    };
-    let end = turn_right(places, at.end, place);
-    Some(PlacedReached {
-        reached: Reached {
-            a0: Some(place),
-            colour: other(at.reached.colour),
-        },
-        end,
-        b1: reference.b1_before(at.b1, place),
-    })
-}
-
-/// Vertical mode: goes on to a1, which is `d` pels right of b1, where the colour changes (T.4,
-/// section 4.2.1.3.2). `None` where a1 is not right of a0 and in the row.
-#[inline(always)]
-pub(crate) fn vertical(
-    reference: PlacedRow,
-    places: &mut [u32],
-    at: PlacedReached,
-    d: i8,
-) -> Option<PlacedReached>
-    requires so_far { IsReadTo reference places.old at }
-    requires unfinished { reached_pel at.reached < reference.width }
-    ensures step { IfSome result (λ next. Spec.IsVerticalStep (placed_pels reference.entry)
-        (placed_position reference.entry.width places.old at) d
-        (placed_position reference.entry.width places.new next)) }
-    ensures so_far { IfSome result (λ next. IsReadTo reference.entry places.new next) }
-    ensures out { IfNone result (Spec.IsInRow (placed_pels reference.entry)
-        (placed_position reference.entry.width places.old at) d → ⊥) }
-    ensures first { slice_index places.new 0 ≡ 0 }
-    ensures same_len { length places.new ≡ length places.old }
-{
-    if d >= 0 {
-        right_of_b1(reference, places, at, d)
-    } else {
-        left_of_b1(reference, places, at, d)
-    }
+    let place = at.reached.left_of(reference.places[at.b1], d)?;
+    let b1 = reference.b1_before(at.b1, place);
+    Some(turned_at(reference, places, at, place, b1))
 }
 
 /// Horizontal mode, after its two runs, the first of a0's colour, which stays (T.4, section

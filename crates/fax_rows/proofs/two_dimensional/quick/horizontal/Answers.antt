@@ -12,7 +12,7 @@ returns-clause-step g c =
 
 pub returns-clause-chosen : goal.returns-clause-chosen
 returns-clause-chosen g c asked =
-    let is = c.is_taken.ensures c.if-not-is_taken.false asked in
+    let is = c.is_taken.ensures.taken c.if-not-is_taken.false asked in
     let read = c.in_ok-first in
     let colour = c.colour_after-colour.ensures ∙ (c.requires.so_far.b1 c.requires.unfinished).colour_is in
     let pair = subst (λ own. IsPair own c.args.ahead.now.left read.first read.second c.two_runs.new.ahead.left) colour read.ensures.pair in

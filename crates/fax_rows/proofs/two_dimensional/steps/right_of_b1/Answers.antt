@@ -1,63 +1,30 @@
-use Rattle.std.proofs.Common.{◌≡◌, ◌+◌, [], get_or, pos, ◌+ℤ◌, ◌≤ℤ◌, arith}
-use Rattle.std.specs.Prelude.{◌<ℤ◌}
+use Rattle.std.proofs.Common.{arith}
 use Rattle.std.proofs.lemmas.Int.{ints}
-use Rattle.fax_rows.specs.Rows.{other, a0_number}
-use Rattle.fax_rows.specs.code.Reached.{position_of}
+use Rattle.fax_rows.specs.Rows.{other}
 use Rattle.fax_rows.proofs.PlacedB1Lemmas.{right_start}
-use Rattle.fax_rows.proofs.PlacedStepLemmas.{b1_in_room, room_left, a1_ahead, a1_within, under_right, from_start, vertical_placed}
-use Rattle.fax_rows.proofs.PlacedStepLemmas.{turned_so_far, row_ends}
+use Rattle.fax_rows.proofs.PlacedStepLemmas.{b1_in_room, under_right, row_ends}
 use Rattle.fax_rows.proofs.two_dimensional.steps.right_of_b1.Goals as goal
 
 pub bounds-reference-at : goal.bounds-reference-at
 bounds-reference-at c =
     omega (arith, b1_in_room c.args.reference c.args.places.now c.args.at c.requires.so_far c.requires.unfinished)
 
-pub turn_right-end-requires-clause-room : goal.turn_right-end-requires-clause-room
-turn_right-end-requires-clause-room c =
-    omega (arith, room_left c.args.reference c.args.places.now c.args.at c.requires.so_far c.requires.unfinished)
-
 pub returns-then-place-reference-clause-out : goal.returns-then-place-reference-clause-out
 returns-then-place-reference-clause-out c = λ in_row.
     let ends = row_ends c.args.reference c.args.places.now c.args.at c.requires.so_far c.requires.unfinished c.args.d in_row in
     omega (arith, ints, ends, c.from.ensures, c.unsigned_abs.ensures.value, c.requires.right.le)
 
+pub turned_at-requires-clause-right : goal.turned_at-requires-clause-right
+turned_at-requires-clause-right c =
+    let under = under_right c.args.reference c.args.places.now c.args.at c.requires.so_far c.requires.unfinished in
+    omega (arith, ints, under)
+
+pub turned_at-requires-clause-b1 : goal.turned_at-requires-clause-b1
+turned_at-requires-clause-b1 c = λ h.
+    let at = c.args.at in
+    c.b1_after-b1.ensures h (other at.reached.colour)
+    (right_start c.args.reference at.reached.a0 at.reached.colour at.b1 _ (c.requires.so_far.b1 c.requires.unfinished) (omega arith) h)
+
 pub returns-clause-step : goal.returns-clause-step
 returns-clause-step c =
-    let reference = c.args.reference in
-    let places = c.args.places.now in
-    let at = c.args.at in
-    let so_far = c.requires.so_far in
-    let unfinished = c.requires.unfinished in
-    let place = get_or reference.places.now at.b1 0 + c.from.result in
-    let z = pos place in
-    let under = under_right reference places at so_far unfinished in
-    let z_is : z ≡ pos (get_or reference.places.now at.b1 0) +ℤ c.args.d =
-    omega (arith, ints, c.from.ensures, c.unsigned_abs.ensures.value, c.requires.right.le) in
-    let least = from_start at.reached in
-    let right : a0_number (position_of at.reached []) <ℤ z = omega (arith, ints, z_is, under, c.requires.right.le) in
-    let inside : z ≤ℤ pos reference.width = omega (arith, ints, c.if-place-reference.false) in
-    vertical_placed reference places at so_far unfinished c.args.d z z_is least right inside
-    c.turn_right-end.new.places c.turn_right-end.result c.b1_after.result c.other.result c.turn_right-end.ensures.turned c.other.ensures
-
-pub returns-clause-so_far : goal.returns-clause-so_far
-returns-clause-so_far c =
-    let reference = c.args.reference in
-    let places = c.args.places.now in
-    let at = c.args.at in
-    let so_far = c.requires.so_far in
-    let unfinished = c.requires.unfinished in
-    let place = get_or reference.places.now at.b1 0 + c.from.result in
-    let z = pos place in
-    let under = under_right reference places at so_far unfinished in
-    let z_is : z ≡ pos (get_or reference.places.now at.b1 0) +ℤ c.args.d =
-    omega (arith, ints, c.from.ensures, c.unsigned_abs.ensures.value, c.requires.right.le) in
-    let least = from_start at.reached in
-    let right : a0_number (position_of at.reached []) <ℤ z = omega (arith, ints, z_is, under, c.requires.right.le) in
-    let inside : z ≤ℤ pos reference.width = omega (arith, ints, c.if-place-reference.false) in
-    turned_so_far reference places at so_far unfinished c.turn_right-end.new.places c.turn_right-end.result place c.b1_after.result
-    (a1_ahead reference places at so_far unfinished c.args.d z z_is least right inside)
-    (a1_within reference places at so_far unfinished c.args.d z z_is least right inside)
-    c.turn_right-end.ensures.same_len c.turn_right-end.ensures.ascending c.turn_right-end.ensures.last c.turn_right-end.ensures.turned
-    (λ h. c.b1_after.ensures h (other at.reached.colour)
-    (right_start reference at.reached.a0 at.reached.colour at.b1 place (so_far.b1 unfinished) (omega arith) h))
-    c.other.result c.other.ensures
+    c.turned_at.ensures.step c.args.d (omega (arith, ints, c.from.ensures, c.unsigned_abs.ensures.value, c.requires.right.le))
