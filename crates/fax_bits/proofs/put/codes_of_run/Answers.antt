@@ -1,4 +1,4 @@
-use Rattle.std.proofs.Common.{◌++◌, ◌/◌, ◌%◌, ◌*◌, ap, ◌∙◌, arith}
+use Rattle.std.proofs.Common.{◌++◌, ◌/◌, ◌*◌, ap, ◌∙◌, arith}
 use Rattle.fax_bits.specs.declared.runs.RunCode.TheVariants.{MakeUp}
 use Rattle.fax_bits.specs.Written.{run_code_bits}
 use Rattle.fax_bits.proofs.PutLemmas.{short_bits, long_bits}

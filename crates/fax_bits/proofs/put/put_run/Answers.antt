@@ -1,8 +1,8 @@
-use Rattle.std.proofs.Common.{◌≡◌, ◌∙◌, ◌/◌, replicate, ap, subst, arith}
+use Rattle.std.proofs.Common.{◌≡◌, ◌∙◌, ◌/◌, replicate, subst, arith}
 use Rattle.std.proofs.lemmas.Result.{on_ok_weaker, on_err_weaker}
 use Rattle.fax_bits.specs.declared.runs.RunCode.TheVariants.{MakeUp}
 use Rattle.fax_bits.specs.views.Sink.{Appends}
-use Rattle.fax_bits.proofs.PutLemmas.{Put, put-more, put-prefix, first_codes, put-rest, on_err-of}
+use Rattle.fax_bits.proofs.PutLemmas.{Put, put-prefix, first_codes, put-rest, on_err-of}
 use Rattle.fax_bits.proofs.put.put_run.Goals as goal
 
 pub returns-clause-ok : goal.returns-clause-ok

@@ -1,5 +1,5 @@
 use Rattle.fax_bits.proofs.ModeLemmas.{vertical_bits, vertical_fits, vertical_short}
-use Rattle.std.proofs.Common.{◌∙◌, arith}
+use Rattle.std.proofs.Common.{arith}
 use Rattle.fax_bits.proofs.put.vertical_code.Goals as goal
 
 pub returns : goal.returns
