@@ -1,10 +1,12 @@
 -- A run table from its codes and their lengths.
-use Rattle.std.proofs.Common.{◌≡◌, ℕ, zero, suc, ◌+◌, ◌<◌, List, [], ◌∷◌, length, get_or, refl, arith}
+use Rattle.std.proofs.Common.{◌≡◌, ℕ, zero, suc, ◌+◌, ◌<◌, List, [], ◌∷◌, length, get_or, refl, arith, ap, ◌∙◌, zero-add}
 use Rattle.std.specs.Prelude.{Some, slice_get}
 use Rattle.fax_bits.specs.declared.codes.CodeEntry.{CodeEntry}
 use Rattle.fax_bits.specs.declared.runs.RunCode.{RunCode}
 use Rattle.fax_bits.specs.declared.runs.TheConstants.{WHITE_CODES, WHITE_LENS, BLACK_CODES, BLACK_LENS}
-use Rattle.fax_bits.specs.Tables.{white_runs, white_terminating, white_make_up, black_runs, black_terminating, black_make_up}
+use Rattle.fax_bits.specs.declared.Colour.{Colour}
+use Rattle.fax_bits.specs.declared.Colour.TheVariants.{White, Black}
+use Rattle.fax_bits.specs.Tables.{run_table, white_runs, white_terminating, white_make_up, black_runs, black_terminating, black_make_up}
 use Rattle.fax_bits.specs.Tables.{common_make_up}
 use Rattle.fax_bits.specs.code.Codes.{run_meaning}
 
@@ -23,10 +25,31 @@ slice_get-run_entries first (c ∷ codes) (l ∷ lens) zero h k =
 slice_get-run_entries first (c ∷ codes) (l ∷ lens) (suc i) h k =
     let e : first + suc i ≡ suc first + i = omega arith in rw e (slice_get-run_entries (suc first) codes lens i (omega arith) (omega arith))
 
-pub white_runs_are : white_runs ≡ run_entries 0 WHITE_CODES WHITE_LENS
-unfolding white_runs white_terminating white_make_up common_make_up
-white_runs_are = refl
+-- the codes of the run table of a colour, and their lengths
+abbrev pub codes_of : Colour → List ℕ
+codes_of White = WHITE_CODES
+codes_of Black = BLACK_CODES
 
-pub black_runs_are : black_runs ≡ run_entries 0 BLACK_CODES BLACK_LENS
-unfolding black_runs black_terminating black_make_up common_make_up
-black_runs_are = refl
+abbrev pub lens_of : Colour → List ℕ
+lens_of White = WHITE_LENS
+lens_of Black = BLACK_LENS
+
+pub length-codes_of : (colour : Colour) → (length (codes_of colour) ≡ 105) × (length (lens_of colour) ≡ 105)
+length-codes_of White = (refl, refl)
+length-codes_of Black = (refl, refl)
+
+pub run_table_is : (colour : Colour) → run_table colour ≡ run_entries 0 (codes_of colour) (lens_of colour)
+unfolding white_runs white_terminating white_make_up black_runs black_terminating black_make_up common_make_up
+run_table_is White = refl
+run_table_is Black = refl
+
+-- its entry at a place
+pub run_entry_at : (colour : Colour) (place : ℕ) → place < 105 → slice_get (run_table colour) place
+    ≡ Some (record { code = get_or (codes_of colour) place 0; len = get_or (lens_of colour) place 0; meaning = run_meaning place })
+run_entry_at colour place within =
+    let lengths = length-codes_of colour in
+    let entry : RunCode → CodeEntry RunCode =
+    λ meaning. record { code = get_or (codes_of colour) place 0; len = get_or (lens_of colour) place 0; meaning = meaning } in
+    ap (λ table. slice_get table place) (run_table_is colour)
+    ∙ slice_get-run_entries 0 (codes_of colour) (lens_of colour) place (omega (arith, lengths.0)) (omega (arith, lengths.1))
+    ∙ ap (λ i. Some (entry (run_meaning i))) (zero-add place)

@@ -19,7 +19,6 @@ pub mod OneLemmas
 pub mod TakeLemmas
 pub mod ReadLemmas
 pub mod PlaceLemmas
-pub mod RunPlaceLemmas
 pub mod AheadLemmas
 pub mod IndexLemmas
 pub mod WordLemmas

@@ -1,7 +1,7 @@
 -- The arrays of the pairs hold two codes each: a white terminating code and a black one after it.
 use Rattle.std.proofs.Common.{◌≡◌, ℕ, zero, suc, ◌+◌, ◌-◌, ◌*◌, ◌/◌, ◌%◌, ◌^◌, ◌<◌, ◌≤◌, List, [], ◌∷◌, ◌++◌, map, length, get_or, Bool, true, false}
 use Rattle.std.proofs.Common.{if◌then◌else◌, refl, ap, sym, ◌∙◌, subst, arith, zero-add}
-use Rattle.std.specs.Prelude.{◌&&◌, nat_lt, nat_le, nat_eq, Some, slice_get}
+use Rattle.std.specs.Prelude.{◌&&◌, nat_lt, nat_le, nat_eq}
 use Rattle.std.proofs.lemmas.Bool.{and_parts}
 use Rattle.std.proofs.lemmas.Bool.Decides.{nat_tests}
 use Rattle.std.proofs.lemmas.List.FromFn.{get_or-map-range_with_len}
@@ -10,19 +10,16 @@ use Rattle.std.proofs.Math.Nat.{div-div-eq-div-mul, pow-succ'}
 use Rattle.std.specs.List.{range_with_len}
 use Rattle.fax_bits.specs.declared.Colour.{Colour}
 use Rattle.fax_bits.specs.declared.Colour.TheVariants.{White, Black}
-use Rattle.fax_bits.specs.declared.codes.CodeEntry.{CodeEntry}
 use Rattle.fax_bits.specs.declared.indexes.TheConstants.{PAIRS}
 use Rattle.fax_bits.specs.declared.indexes.TheConstants.{WHITE_PAIR_CODES, WHITE_PAIR_LENS, BLACK_PAIR_CODES, BLACK_PAIR_LENS}
-use Rattle.fax_bits.specs.declared.runs.RunCode.{RunCode}
 use Rattle.fax_bits.specs.declared.runs.TheConstants.{WHITE_CODES, WHITE_LENS, BLACK_CODES, BLACK_LENS}
 use Rattle.fax_bits.specs.Bits.{code_bits}
-use Rattle.fax_bits.specs.Tables.{white_runs, black_runs}
+use Rattle.fax_bits.specs.Tables.{run_table}
 use Rattle.fax_bits.specs.Written.{run_bits, run_code_bits}
-use Rattle.fax_bits.specs.code.Codes.{run_meaning}
 use Rattle.fax_bits.specs.code.Pairs.{IsPairAhead}
 use Rattle.fax_bits.specs.code.TableLaws.{run_table_has_short_codes}
 use Rattle.fax_bits.specs.views.Pairs.{pair_bits}
-use Rattle.fax_bits.proofs.ArrayLemmas.{white_runs_are, black_runs_are, slice_get-run_entries}
+use Rattle.fax_bits.proofs.ArrayLemmas.{codes_of, lens_of, run_entry_at}
 use Rattle.fax_bits.proofs.CodeBitsLemmas.{code_bits-add}
 use Rattle.fax_bits.proofs.FindLemmas.{code_ahead}
 use Rattle.fax_bits.proofs.PutLemmas.{short_bits}
@@ -114,34 +111,18 @@ found number within some =
     (subst (λ n. is_pair n (get_or PAIRS.whites number 0) (get_or PAIRS.blacks number 0) (get_or PAIRS.lens number 0) ≡ true) e
     (pair_at 0 PAIRS.whites PAIRS.blacks PAIRS.lens number pairs_are within some))
 
--- the entry of a code at a place of each table
-abbrev white_entry : ℕ → CodeEntry RunCode
-white_entry n = record { code = get_or WHITE_CODES n 0; len = get_or WHITE_LENS n 0; meaning = run_meaning (0 + n) }
+-- the code of a run of fewer than 64 pels, and its length
+abbrev IsShortCode : Colour → ℕ → ℕ → ℕ → Type 0
+IsShortCode colour n code len = (len ≤ 13) × (code < 2 ^ len) × (code_bits len code ≡ run_bits colour n)
 
-abbrev black_entry : ℕ → CodeEntry RunCode
-black_entry n = record { code = get_or BLACK_CODES n 0; len = get_or BLACK_LENS n 0; meaning = run_meaning (0 + n) }
-
-white_found : (n : ℕ) → n < 64 → slice_get white_runs n ≡ Some (white_entry n)
-white_found n short =
-    ap (λ table. slice_get table n) white_runs_are ∙ slice_get-run_entries 0 WHITE_CODES WHITE_LENS n (omega arith) (omega arith)
-
-black_found : (n : ℕ) → n < 64 → slice_get black_runs n ≡ Some (black_entry n)
-black_found n short =
-    ap (λ table. slice_get table n) black_runs_are ∙ slice_get-run_entries 0 BLACK_CODES BLACK_LENS n (omega arith) (omega arith)
-
-white_bits : (n : ℕ) → n < 64 → code_bits (get_or WHITE_LENS n 0) (get_or WHITE_CODES n 0) ≡ run_bits White n
-white_bits n short =
-    sym (bits_at-found white_runs n (white_entry n) (white_found n short)) ∙ bits_at-run_table White n (omega arith)
-    ∙ ap (run_code_bits White) (run_meaning-terminating n short) ∙ short_bits White n short
-
-black_bits : (n : ℕ) → n < 64 → code_bits (get_or BLACK_LENS n 0) (get_or BLACK_CODES n 0) ≡ run_bits Black n
-black_bits n short =
-    sym (bits_at-found black_runs n (black_entry n) (black_found n short)) ∙ bits_at-run_table Black n (omega arith)
-    ∙ ap (run_code_bits Black) (run_meaning-terminating n short) ∙ short_bits Black n short
-
-black_fits : (n : ℕ) → n < 64 → get_or BLACK_CODES n 0 < 2 ^ get_or BLACK_LENS n 0
-black_fits n short =
-    (run_table_has_short_codes Black (black_entry n) (listed black_runs n (black_entry n) (black_found n short))).2
+short_code : (colour : Colour) (n : ℕ) → n < 64 → IsShortCode colour n (get_or (codes_of colour) n 0) (get_or (lens_of colour) n 0)
+short_code colour n short =
+    let table = run_table colour in
+    let found = run_entry_at colour n (omega arith) in
+    let is = run_table_has_short_codes colour _ (listed table n _ found) in
+    let bits = sym (bits_at-found table n _ found) ∙ bits_at-run_table colour n (omega arith)
+    ∙ ap (run_code_bits colour) (run_meaning-terminating n short) ∙ short_bits colour n short in
+    (is.1, is.2, bits)
 
 -- the two codes begin thirteen bits
 pub pair_is_ahead : (number : ℕ) → number < 2 ^ 13 → 0 < get_or PAIRS.lens (number / 2) 0
@@ -158,9 +139,9 @@ pair_is_ahead number fits some = record {
   spelled =
       ap (λ n. code_bits n code) is.len_is
       ∙ code_bits-add (get_or WHITE_LENS white 0) (get_or BLACK_LENS black 0) (get_or WHITE_CODES white 0) (get_or BLACK_CODES black 0)
-      (black_fits black is.black_short)
-      ∙ ap (λ b. b ++ code_bits (get_or BLACK_LENS black 0) (get_or BLACK_CODES black 0)) (white_bits white is.white_short)
-      ∙ ap (λ b. run_bits White white ++ b) (black_bits black is.black_short);
+      (short_code Black black is.black_short).1
+      ∙ ap (λ b. b ++ code_bits (get_or BLACK_LENS black 0) (get_or BLACK_CODES black 0)) (short_code White white is.white_short).2
+      ∙ ap (λ b. run_bits White white ++ b) (short_code Black black is.black_short).2;
 }
   where
     len : ℕ
@@ -191,17 +172,37 @@ pair_code codes others lens at = get_or codes (at / 16) 0 * 2 ^ get_or lens (at 
 abbrev pair_len : List ℕ → List ℕ → ℕ → ℕ
 pair_len lens others at = get_or lens (at / 16) 0 + get_or others (at % 16) 0
 
-white_pair_codes_are : WHITE_PAIR_CODES ≡ map (pair_code WHITE_CODES BLACK_CODES BLACK_LENS) (range_with_len 0 256)
-white_pair_codes_are = refl
+-- the other colour, and the arrays for pairs that a run of a colour begins
+abbrev other : Colour → Colour
+other White = Black
+other Black = White
 
-white_pair_lens_are : WHITE_PAIR_LENS ≡ map (pair_len WHITE_LENS BLACK_LENS) (range_with_len 0 256)
-white_pair_lens_are = refl
+abbrev pub pair_codes_of : Colour → List ℕ
+pair_codes_of White = WHITE_PAIR_CODES
+pair_codes_of Black = BLACK_PAIR_CODES
 
-black_pair_codes_are : BLACK_PAIR_CODES ≡ map (pair_code BLACK_CODES WHITE_CODES WHITE_LENS) (range_with_len 0 256)
-black_pair_codes_are = refl
+abbrev pub pair_lens_of : Colour → List ℕ
+pair_lens_of White = WHITE_PAIR_LENS
+pair_lens_of Black = BLACK_PAIR_LENS
 
-black_pair_lens_are : BLACK_PAIR_LENS ≡ map (pair_len BLACK_LENS WHITE_LENS) (range_with_len 0 256)
-black_pair_lens_are = refl
+-- the codes of a colour, those of the other, and their lengths
+abbrev pair_code_of : Colour → ℕ → ℕ
+pair_code_of colour = pair_code (codes_of colour) (codes_of (other colour)) (lens_of (other colour))
+
+abbrev pair_len_of : Colour → ℕ → ℕ
+pair_len_of colour = pair_len (lens_of colour) (lens_of (other colour))
+
+pair_codes_are : (colour : Colour) → pair_codes_of colour ≡ map (pair_code_of colour) (range_with_len 0 256)
+pair_codes_are White = refl
+pair_codes_are Black = refl
+
+pair_lens_are : (colour : Colour) → pair_lens_of colour ≡ map (pair_len_of colour) (range_with_len 0 256)
+pair_lens_are White = refl
+pair_lens_are Black = refl
+
+pair_bits_are : (colour : Colour) (first second : ℕ) → pair_bits colour first second ≡ run_bits colour first ++ run_bits (other colour) second
+pair_bits_are White first second = refl
+pair_bits_are Black first second = refl
 
 -- an array of them at two runs
 at_pair : (array : List ℕ) (f : ℕ → ℕ) (first second : ℕ) → array ≡ map f (range_with_len 0 256) → first < 16 → second < 16
@@ -209,20 +210,6 @@ at_pair : (array : List ℕ) (f : ℕ → ℕ) (first second : ℕ) → array �
 at_pair array f first second is short other_short =
     ap (λ xs. get_or xs (first * 16 + second) 0) is
     ∙ get_or-map-range_with_len f 0 256 (first * 16 + second) (first * 16 + second) 0 (omega arith) (omega arith)
-
--- the code of a short run and its length
-abbrev IsShortCode : Colour → ℕ → ℕ → ℕ → Type 0
-IsShortCode colour n code len = (len ≤ 13) × (code < 2 ^ len) × (code_bits len code ≡ run_bits colour n)
-
-white_code : (n : ℕ) → n < 64 → IsShortCode White n (get_or WHITE_CODES n 0) (get_or WHITE_LENS n 0)
-white_code n short =
-    let is = run_table_has_short_codes White (white_entry n) (listed white_runs n (white_entry n) (white_found n short)) in
-    (is.1, is.2, white_bits n short)
-
-black_code : (n : ℕ) → n < 64 → IsShortCode Black n (get_or BLACK_CODES n 0) (get_or BLACK_LENS n 0)
-black_code n short =
-    let is = run_table_has_short_codes Black (black_entry n) (listed black_runs n (black_entry n) (black_found n short)) in
-    (is.1, is.2, black_bits n short)
 
 -- two codes together
 pub record IsPairCode (code len : ℕ) (bits : List Bool) : Type 0 where
@@ -246,26 +233,16 @@ low_of : (first second : ℕ) → second < 16 → (first * 16 + second) % 16 ≡
 low_of first second short = omega arith
 
 -- what is looked up for two short runs
-pub white_pair : (first second : ℕ) → first < 16 → second < 16
-    → IsPairCode (get_or WHITE_PAIR_CODES (first * 16 + second) 0) (get_or WHITE_PAIR_LENS (first * 16 + second) 0)
-    (pair_bits White first second)
-white_pair first second short short' =
+pub short_pair : (colour : Colour) (first second : ℕ) → first < 16 → second < 16
+    → IsPairCode (get_or (pair_codes_of colour) (first * 16 + second) 0) (get_or (pair_lens_of colour) (first * 16 + second) 0)
+    (pair_bits colour first second)
+short_pair colour first second short short' =
     rw (
-      at_pair WHITE_PAIR_CODES (pair_code WHITE_CODES BLACK_CODES BLACK_LENS) first second white_pair_codes_are short short',
-      at_pair WHITE_PAIR_LENS (pair_len WHITE_LENS BLACK_LENS) first second white_pair_lens_are short short',
+      at_pair (pair_codes_of colour) (pair_code_of colour) first second (pair_codes_are colour) short short',
+      at_pair (pair_lens_of colour) (pair_len_of colour) first second (pair_lens_are colour) short short',
       high_of first second short',
       low_of first second short',
+      pair_bits_are colour first second,
     )
-    (two_codes White Black first second _ _ _ _ (white_code first (omega arith)) (black_code second (omega arith)))
-
-pub black_pair : (first second : ℕ) → first < 16 → second < 16
-    → IsPairCode (get_or BLACK_PAIR_CODES (first * 16 + second) 0) (get_or BLACK_PAIR_LENS (first * 16 + second) 0)
-    (pair_bits Black first second)
-black_pair first second short short' =
-    rw (
-      at_pair BLACK_PAIR_CODES (pair_code BLACK_CODES WHITE_CODES WHITE_LENS) first second black_pair_codes_are short short',
-      at_pair BLACK_PAIR_LENS (pair_len BLACK_LENS WHITE_LENS) first second black_pair_lens_are short short',
-      high_of first second short',
-      low_of first second short',
-    )
-    (two_codes Black White first second _ _ _ _ (black_code first (omega arith)) (white_code second (omega arith)))
+    (two_codes colour (other colour) first second _ _ _ _ (short_code colour first (omega arith))
+    (short_code (other colour) second (omega arith)))

@@ -1,29 +1,47 @@
 -- Bits that wait for a sink, and go to it word by word.
-use Rattle.std.proofs.Common.{◌≡◌, ℕ, ◌*◌, ◌/◌, ◌%◌, ◌<◌, ◌≤◌, List, [], ◌∷◌, ◌++◌, length, replicate, Bool, false, nat_eq, refl}
+use Rattle.std.proofs.Common.{◌≡◌, ℕ, ◌+◌, ◌*◌, ◌%◌, ◌^◌, ◌<◌, List, [], ◌++◌, length, Bool, refl}
 use Rattle.std.proofs.Common.{ap, sym, ◌∙◌, arith, append_assoc, append-nil}
-use Rattle.std.specs.Prelude.{flat_map}
-use Rattle.std.proofs.lemmas.Bool.Decides.{nat_tests}
+use Rattle.std.specs.Prelude.{bit_or, flat_map}
 use Rattle.std.proofs.lemmas.List.Concat.{flat_map-append}
 use Rattle.fax_bits.specs.declared.Colour.{Colour}
-use Rattle.fax_bits.specs.declared.runs.RunCode.TheVariants.{Terminating, MakeUp}
 use Rattle.fax_bits.specs.Bits.{code_bits}
 use Rattle.fax_bits.specs.Written.{run_codes, run_code_bits, run_bits}
-use Rattle.fax_bits.specs.code.Codes.{one_make_up}
-use Rattle.fax_bits.specs.views.Sink.{Sink, Appends, AppendsPrefix, AppendsCodes}
+use Rattle.fax_bits.specs.code.Sink.{AreWaiting}
+use Rattle.fax_bits.specs.views.Sink.{Sink, Appends, AppendsPrefix, AppendsAllBut, AppendsCodes}
 use Rattle.fax_bits.proofs.MeetingLemmas.{length-code_bits}
 use Rattle.fax_bits.proofs.PutLemmas.{appends-then}
+use Rattle.fax_bits.proofs.SinkLemmas.{joined-lt, joined_bits}
 
 -- how many bits wait
 pub length-waiting : (count number : ℕ) (b : List Bool) → code_bits count number ≡ b → length b ≡ count
 length-waiting count number b is = ap length (sym is) ∙ length-code_bits count number
 
--- where a growth was refused in the first of two parts, or in the second
-pub prefix-first : (old new : Sink) (first second : List Bool) → AppendsPrefix old first new → AppendsPrefix old (first ++ second) new
-prefix-first old new first second put = record {
-  done = put.done;
-  missing = put.missing ++ second;
-  appended = put.appended;
-  parts = ap (λ b. b ++ second) put.parts ∙ append_assoc put.done put.missing second;
+-- bits that wait, and the next ones, as one number
+module _ (count number next_count next_number : ℕ) (first : AreWaiting count number) (next : AreWaiting next_count next_number) where
+  pub both-lt : bit_or (number * 2 ^ next_count % 2 ^ 64) next_number < 2 ^ (count + next_count)
+  both-lt = joined-lt count number next_count next_number first.fits next.fits (omega (arith, first.few, next.few))
+
+  pub both_bits : (b c : List Bool) → code_bits count number ≡ b → code_bits next_count next_number ≡ c
+      → code_bits (count + next_count) (bit_or (number * 2 ^ next_count % 2 ^ 64) next_number) ≡ b ++ c
+  both_bits b c b_is c_is =
+      joined_bits count number next_count next_number first.fits next.fits (omega (arith, first.few, next.few))
+      ∙ ap (λ d. d ++ code_bits next_count next_number) b_is ∙ ap (λ d. b ++ d) c_is
+
+-- where all bits are left
+pub all_left : (sink : Sink) (all left : List Bool) → left ≡ all → AppendsAllBut sink all left sink
+all_left sink all left same = record {
+  done = [];
+  appended = ap (λ b. record { order = sink.order; bits = b }) (sym (append-nil sink.bits));
+  parts = sym same;
+}
+
+-- where a growth was refused before any bit was put, or in the second of two parts
+pub none_put : (old new : Sink) (all : List Bool) → new ≡ old → AppendsPrefix old all new
+none_put old new all same = record {
+  done = [];
+  missing = all;
+  appended = same ∙ ap (λ b. record { order = old.order; bits = b }) (sym (append-nil old.bits));
+  parts = refl;
 }
 
 pub prefix-second : (old mid new : Sink) (first second : List Bool) → Appends old first mid → AppendsPrefix mid second new
@@ -45,20 +63,3 @@ bits_of_codes colour n old new codes = record {
   appended = codes.appended;
   parts = ap (flat_map (run_code_bits colour)) codes.parts ∙ flat_map-append (run_code_bits colour) codes.done codes.missing;
 }
-
--- a run of one make-up code is two codes
-long_codes : (n : ℕ) → 64 ≤ n → n < 2560 → run_codes n ≡ MakeUp (64 * (n / 64)) ∷ Terminating (n % 64) ∷ []
-long_codes n long short =
-    let often : n / 2560 ≡ 0 = omega arith in
-    let all : n % 2560 ≡ n = omega arith in
-    let some : nat_eq (n / 64) 0 ≡ false = grind (arith, nat_tests) in
-    ap (λ k. replicate k (MakeUp 2560) ++ one_make_up (n % 2560 / 64) ++ Terminating (n % 64) ∷ []) often
-    ∙ ap (λ m. one_make_up (m / 64) ++ Terminating (n % 64) ∷ []) all
-    ∙ rw some refl
-
-pub long_bits : (colour : Colour) (n : ℕ) → 64 ≤ n → n < 2560
-    → run_code_bits colour (MakeUp (64 * (n / 64))) ++ run_code_bits colour (Terminating (n % 64)) ≡ run_bits colour n
-unfolding run_bits
-long_bits colour n long short =
-    sym (ap (flat_map (run_code_bits colour)) (long_codes n long short)
-    ∙ ap (λ b. run_code_bits colour (MakeUp (64 * (n / 64))) ++ b) (append-nil (run_code_bits colour (Terminating (n % 64)))))

@@ -6,17 +6,15 @@ use Rattle.std.proofs.lemmas.Bool.{cases_lt}
 use Rattle.std.proofs.lemmas.Bool.Decides.{nat_tests}
 use Rattle.fax_bits.specs.declared.codes.CodeEntry.{CodeEntry}
 use Rattle.fax_bits.specs.declared.Colour.{Colour}
-use Rattle.fax_bits.specs.declared.Colour.TheVariants.{White, Black}
 use Rattle.fax_bits.specs.declared.runs.RunCode.{RunCode}
 use Rattle.fax_bits.specs.declared.runs.RunCode.TheVariants.{Terminating, MakeUp, Extension}
-use Rattle.fax_bits.specs.declared.runs.TheConstants.{WHITE_CODES, WHITE_LENS, BLACK_CODES, BLACK_LENS}
 use Rattle.fax_bits.specs.Codes.{bits_of, Takes}
 use Rattle.fax_bits.specs.code.Codes.{bits_at}
 use Rattle.fax_bits.specs.Written.{same_run_code, code_for, run_code_bits}
-use Rattle.fax_bits.specs.Tables.{run_table, white_runs, black_runs}
+use Rattle.fax_bits.specs.Tables.{run_table}
 use Rattle.fax_bits.specs.code.Codes.{run_meaning}
 use Rattle.fax_bits.proofs.TableLemmas.{listed}
-use Rattle.fax_bits.proofs.ArrayLemmas.{run_entries, slice_get-run_entries, white_runs_are, black_runs_are}
+use Rattle.fax_bits.proofs.ArrayLemmas.{run_entries, codes_of, lens_of, length-codes_of, run_table_is, run_entry_at}
 
 pub bits_at-found : {M : Type 0} (table : List (CodeEntry M)) (place : ℕ) (entry : CodeEntry M) → slice_get table place ≡ Some entry
     → bits_at table place ≡ bits_of entry
@@ -92,33 +90,23 @@ code_for-run_entries first (c ∷ codes) (l ∷ lens) (suc i) h k within =
 pub bits_at-run_table : (colour : Colour) (place : ℕ) → place < 105 → bits_at (run_table colour) place
     ≡ run_code_bits colour (run_meaning place)
 unfolding run_code_bits
-bits_at-run_table White place within =
-    ap (λ table. bits_at table place) white_runs_are
-    ∙ sym (code_for-run_entries 0 WHITE_CODES WHITE_LENS place within within (omega arith))
-    ∙ ap (λ n. code_for (same_run_code (run_meaning n)) (run_entries 0 WHITE_CODES WHITE_LENS)) (zero-add place)
-    ∙ ap (code_for (same_run_code (run_meaning place))) (sym white_runs_are)
-bits_at-run_table Black place within =
-    ap (λ table. bits_at table place) black_runs_are
-    ∙ sym (code_for-run_entries 0 BLACK_CODES BLACK_LENS place within within (omega arith))
-    ∙ ap (λ n. code_for (same_run_code (run_meaning n)) (run_entries 0 BLACK_CODES BLACK_LENS)) (zero-add place)
-    ∙ ap (code_for (same_run_code (run_meaning place))) (sym black_runs_are)
+bits_at-run_table colour place within =
+    let lengths = length-codes_of colour in
+    let entries = run_entries 0 (codes_of colour) (lens_of colour) in
+    ap (λ table. bits_at table place) (run_table_is colour)
+    ∙ sym
+    (code_for-run_entries 0 (codes_of colour) (lens_of colour) place (omega (arith, lengths.0)) (omega (arith, lengths.1)) (omega arith))
+    ∙ ap (λ n. code_for (same_run_code (run_meaning n)) entries) (zero-add place)
+    ∙ ap (code_for (same_run_code (run_meaning place))) (sym (run_table_is colour))
 
 -- bits that begin with a run code
 pub takes_run_code : (colour : Colour) (place : ℕ) (more : List Bool) → place < 105
     → Takes (run_table colour) (run_code_bits colour (run_meaning place) ++ more) (run_meaning place) more
-takes_run_code White place more within =
-    let found = ap (λ table. slice_get table place) white_runs_are ∙ slice_get-run_entries 0 WHITE_CODES WHITE_LENS place within within in
+takes_run_code colour place more within =
+    let found = run_entry_at colour place within in
     record {
       entry = _;
-      listed = listed white_runs place _ found;
-      means = ap run_meaning (zero-add place);
-      spelled = ap (λ b. b ++ more) (sym (bits_at-run_table White place within) ∙ bits_at-found white_runs place _ found);
-    }
-takes_run_code Black place more within =
-    let found = ap (λ table. slice_get table place) black_runs_are ∙ slice_get-run_entries 0 BLACK_CODES BLACK_LENS place within within in
-    record {
-      entry = _;
-      listed = listed black_runs place _ found;
-      means = ap run_meaning (zero-add place);
-      spelled = ap (λ b. b ++ more) (sym (bits_at-run_table Black place within) ∙ bits_at-found black_runs place _ found);
+      listed = listed (run_table colour) place _ found;
+      means = refl;
+      spelled = ap (λ b. b ++ more) (sym (bits_at-run_table colour place within) ∙ bits_at-found (run_table colour) place _ found);
     }

@@ -1,22 +1,20 @@
 -- A run that is read by one make-up code at most has the bits that are written.
 use Rattle.std.proofs.Common.{◌≡◌, ℕ, suc, ◌+◌, ◌*◌, ◌-◌, ◌/◌, ◌%◌, ◌<◌, ◌≤◌, List, [], ◌∷◌, ◌++◌, length, Bool, refl, ap, sym, ◌∙◌}
-use Rattle.std.proofs.Common.{arith, inl, inr, append_assoc, append-nil, zero-add}
+use Rattle.std.proofs.Common.{arith, inl, inr, append_assoc, append-nil}
 use Rattle.std.specs.Prelude.{Some, slice_get, flat_map}
 use Rattle.std.proofs.lemmas.Bool.{cases_lt}
 use Rattle.std.proofs.Math.Nat.{eq-or-lt_of_le}
 use Rattle.std.proofs.lemmas.Option.{slice_get_read}
 use Rattle.fax_bits.specs.declared.codes.CodeEntry.{CodeEntry}
 use Rattle.fax_bits.specs.declared.Colour.{Colour}
-use Rattle.fax_bits.specs.declared.Colour.TheVariants.{White, Black}
 use Rattle.fax_bits.specs.declared.runs.RunCode.{RunCode}
 use Rattle.fax_bits.specs.declared.runs.RunCode.TheVariants.{Terminating, MakeUp}
-use Rattle.fax_bits.specs.declared.runs.TheConstants.{WHITE_CODES, WHITE_LENS, BLACK_CODES, BLACK_LENS}
 use Rattle.fax_bits.specs.Codes.{bits_of, Takes}
 use Rattle.fax_bits.specs.code.Codes.{run_meaning}
-use Rattle.fax_bits.specs.code.TableLaws.{length-white_runs, length-black_runs}
+use Rattle.fax_bits.specs.code.TableLaws.{length-run_table}
 use Rattle.fax_bits.specs.Written.{run_code_bits, run_codes, run_bits}
-use Rattle.fax_bits.specs.Tables.{run_table, white_runs, black_runs}
-use Rattle.fax_bits.proofs.ArrayLemmas.{slice_get-run_entries, white_runs_are, black_runs_are}
+use Rattle.fax_bits.specs.Tables.{run_table}
+use Rattle.fax_bits.proofs.ArrayLemmas.{run_entry_at}
 use Rattle.fax_bits.proofs.PutLemmas.{short_bits}
 use Rattle.fax_bits.proofs.ReadBackLemmas.{one_make_up-suc}
 use Rattle.fax_bits.proofs.RunCodeLemmas.{bits_at-found, bits_at-run_table, run_meaning-terminating, make_up-at, extension-at}
@@ -42,18 +40,12 @@ entry_at colour b code rest takes place entry within at found meaning =
 
 code_taken : (colour : Colour) (b : List Bool) (code : RunCode) (rest : List Bool) → Takes (run_table colour) b code rest
     → IsCodeAt colour b code rest
-code_taken White b code rest takes =
+code_taken colour b code rest takes =
+    let table = run_table colour in
     let place = takes.listed.0 in
-    let within : place < 105 = omega (arith, takes.listed.1, length-white_runs) in
-    let at = slice_get_read white_runs (length white_runs) place takes.entry refl takes.listed.1 (sym takes.listed.2) in
-    let found = ap (λ table. slice_get table place) white_runs_are ∙ slice_get-run_entries 0 WHITE_CODES WHITE_LENS place within within in
-    entry_at White b code rest takes place _ within at found (ap run_meaning (zero-add place))
-code_taken Black b code rest takes =
-    let place = takes.listed.0 in
-    let within : place < 105 = omega (arith, takes.listed.1, length-black_runs) in
-    let at = slice_get_read black_runs (length black_runs) place takes.entry refl takes.listed.1 (sym takes.listed.2) in
-    let found = ap (λ table. slice_get table place) black_runs_are ∙ slice_get-run_entries 0 BLACK_CODES BLACK_LENS place within within in
-    entry_at Black b code rest takes place _ within at found (ap run_meaning (zero-add place))
+    let within : place < 105 = omega (arith, takes.listed.1, length-run_table colour) in
+    let at = slice_get_read table (length table) place takes.entry refl takes.listed.1 (sym takes.listed.2) in
+    entry_at colour b code rest takes place _ within at (run_entry_at colour place within) refl
 
 short_means : (place n : ℕ) → place < 105 → run_meaning place ≡ Terminating n → n < 64
 short_means place n within means =

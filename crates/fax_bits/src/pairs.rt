@@ -1,12 +1,12 @@
 //! A white run and the black one after it, looked up at once, and any two short runs put at once.
-ghost use Rattle.std.specs.Prelude.{◌≡◌, ◌<◌, ◌≤◌, ◌^◌, IfSome};
+ghost use Rattle.std.specs.Prelude.{◌≡◌, ◌<◌, ◌^◌, IfSome};
 ghost use Rattle.fax_bits.specs.Bits.{code_bits};
 ghost use Rattle.fax_bits.specs.code.Pairs.{IsPairAhead};
 ghost use Rattle.fax_bits.specs.views.Pairs.{pair_bits};
 
-use crate::Colour;
 use crate::codes::LONGEST_CODE;
 use crate::indexes::{BLACK_PAIR_CODES, BLACK_PAIR_LENS, PAIRS, WHITE_PAIR_CODES, WHITE_PAIR_LENS};
+use crate::{Colour, PendingBits};
 
 /// Runs of fewer pels than this are short: two of them, one after the other, are put at once.
 pub const SHORT_RUN: u32 = 16;
@@ -39,22 +39,20 @@ pub(crate) fn find_pair(bits: u32) -> Option<(u32, Pair)>
 }
 
 /// The terminating codes of a short run of the colour and of a short run of the other colour after
-/// it, as one number, and how many bits they take.
+/// it.
 #[inline(always)]
-pub(crate) fn short_pair_code(colour: Colour, first: u32, second: u32) -> (u32, u32)
+pub(crate) fn short_pair_code(colour: Colour, first: u32, second: u32) -> PendingBits
     requires first { first < SHORT_RUN }
     requires second { second < SHORT_RUN }
-    ensures bits { code_bits result.1 result.0 ≡ pair_bits colour first second }
-    ensures fits { result.0 < 2 ^ result.1 }
-    ensures short { result.1 ≤ 32 }
+    ensures { result ≡ pair_bits colour first second }
 {
     let at = (first * SHORT_RUN + second) as usize;
     match colour {
-        Colour::White => (
+        Colour::White => PendingBits::of(
             u32::from(WHITE_PAIR_CODES[at]),
             u32::from(WHITE_PAIR_LENS[at]),
         ),
-        Colour::Black => (
+        Colour::Black => PendingBits::of(
             u32::from(BLACK_PAIR_CODES[at]),
             u32::from(BLACK_PAIR_LENS[at]),
         ),

@@ -1,8 +1,9 @@
 //! The codes of runs (ITU-T T.4, tables 2, 3a and 3b).
-ghost use Rattle.std.specs.Prelude.{◌≡◌, ◌<◌, ◌^◌, IfSome};
+ghost use Rattle.std.specs.Prelude.{◌≡◌, ◌<◌, ◌≤◌, ◌^◌, Some, IfSome, MatchOption, slice_get};
 ghost use Rattle.fax_bits.specs.Bits.{code_bits};
 ghost use Rattle.fax_bits.specs.views.Codes.{HasCodeAhead};
-ghost use Rattle.fax_bits.specs.Tables.{black_runs, run_table, white_runs};
+ghost use Rattle.fax_bits.specs.Codes.{HasNoCode};
+ghost use Rattle.fax_bits.specs.Tables.{run_table};
 ghost use Rattle.fax_bits.specs.code.Codes.{run_meaning};
 ghost use Rattle.fax_bits.specs.code.Places.{place_of};
 
@@ -281,23 +282,14 @@ impl CodeTable for WhiteRuns {
     ghost table = { white_runs };
 
     fn entry(i: usize) -> CodeEntry<RunCode> {
-        CodeEntry {
-            code: WHITE_CODES[i],
-            len: WHITE_LENS[i],
-            meaning: meaning_at(i as u16),
-        }
+        run_entry(Colour::White, i)
     }
 
     fn find(window: u32, n: u32) -> Option<(u32, RunCode)> {
-        let place = WhiteRuns::place(window << (LONGEST_CODE - n));
-        if place < RUN_ENTRIES {
-            within(Self::entry(place), n)
-        } else {
-            None
-        }
+        find_run(Colour::White, window, n)
     }
 
-    ghost counted = { Laws.length-white_runs };
+    ghost counted = { Laws.length-run_table White };
 
     ghost short_codes = { Laws.run_table_has_short_codes White };
 
@@ -321,94 +313,78 @@ impl CodeTable for BlackRuns {
     ghost table = { black_runs };
 
     fn entry(i: usize) -> CodeEntry<RunCode> {
-        CodeEntry {
-            code: BLACK_CODES[i],
-            len: BLACK_LENS[i],
-            meaning: meaning_at(i as u16),
-        }
+        run_entry(Colour::Black, i)
     }
 
     fn find(window: u32, n: u32) -> Option<(u32, RunCode)> {
-        let place = BlackRuns::place(window << (LONGEST_CODE - n));
-        if place < RUN_ENTRIES {
-            within(Self::entry(place), n)
-        } else {
-            None
-        }
+        find_run(Colour::Black, window, n)
     }
 
-    ghost counted = { Laws.length-black_runs };
+    ghost counted = { Laws.length-run_table Black };
 
     ghost short_codes = { Laws.run_table_has_short_codes Black };
 
     ghost prefix_free = { Laws.run_table_is_prefix_free Black };
 }
 
-impl WhiteRuns {
-    /// The place of the code that begins thirteen bits, or the number of codes where none does.
-    #[inline(always)]
-    fn place(bits: u32) -> usize
-        requires { bits < 2 ^ LONGEST_CODE }
-        ensures { result ≡ place_of white_runs LONGEST_CODE bits }
-    {
-        let bits = bits as usize;
-        if bits < 64 {
-            usize::from(WHITE_LONG[bits])
-        } else {
-            usize::from(WHITE_SHORT[bits >> 4])
-        }
-    }
-
-    /// The length and the place of the code of a run that begins thirteen bits, but for the
-    /// extension.
-    #[inline(always)]
-    fn find_place(bits: u32) -> Option<(u32, u32)>
-        requires { bits < 2 ^ LONGEST_CODE }
-        ensures { IfSome result (λ found. (found.1 < 104) × HasCodeAhead white_runs
-            (code_bits LONGEST_CODE bits) found.0 (run_meaning found.1)) }
-    {
-        let mut place = usize::from(WHITE_SHORT[(bits >> 4) as usize]);
-        if place >= EXTENSION {
-            place = WhiteRuns::place(bits);
-            if place >= EXTENSION {
-                return None;
-            }
-        }
-        Some((u32::from(WHITE_LENS[place]), place as u32))
+/// The entry at a place of the run table of a colour.
+#[inline(always)]
+fn run_entry(colour: Colour, i: usize) -> CodeEntry<RunCode>
+    requires { i < 105 }
+    ensures found { slice_get (run_table colour) i ≡ Some result }
+    ensures means { result.meaning ≡ run_meaning i }
+{
+    let (code, len) = match colour {
+        Colour::White => (WHITE_CODES[i], WHITE_LENS[i]),
+        Colour::Black => (BLACK_CODES[i], BLACK_LENS[i]),
+    };
+    CodeEntry {
+        code,
+        len,
+        meaning: meaning_at(i as u16),
     }
 }
 
-impl BlackRuns {
-    /// The place of the code that begins thirteen bits, or the number of codes where none does.
-    #[inline(always)]
-    fn place(bits: u32) -> usize
-        requires { bits < 2 ^ LONGEST_CODE }
-        ensures { result ≡ place_of black_runs LONGEST_CODE bits }
-    {
-        let bits = bits as usize;
-        if bits < 512 {
-            usize::from(BLACK_LONG[bits])
-        } else {
-            usize::from(BLACK_SHORT[bits >> 7])
-        }
+/// What `find` of the run table of a colour says.
+fn find_run(colour: Colour, window: u32, n: u32) -> Option<(u32, RunCode)>
+    requires few { n ≤ LONGEST_CODE }
+    requires fits { window < 2 ^ n }
+    ensures { MatchOption result (HasNoCode (run_table colour) (code_bits n window))
+        (λ found. HasCodeAhead (run_table colour) (code_bits n window) found.0 found.1) }
+{
+    let place = run_place(colour, window << (LONGEST_CODE - n));
+    if place < RUN_ENTRIES {
+        within(run_entry(colour, place), n)
+    } else {
+        None
     }
+}
 
-    /// The length and the place of the code of a run that begins thirteen bits, but for the
-    /// extension.
-    #[inline(always)]
-    fn find_place(bits: u32) -> Option<(u32, u32)>
-        requires { bits < 2 ^ LONGEST_CODE }
-        ensures { IfSome result (λ found. (found.1 < 104) × HasCodeAhead black_runs
-            (code_bits LONGEST_CODE bits) found.0 (run_meaning found.1)) }
-    {
-        let mut place = usize::from(BLACK_SHORT[(bits >> 7) as usize]);
-        if place >= EXTENSION {
-            place = BlackRuns::place(bits);
-            if place >= EXTENSION {
-                return None;
-            }
-        }
-        Some((u32::from(BLACK_LENS[place]), place as u32))
+/// The place of the code that begins thirteen bits in the run table of a colour, or the number of
+/// codes where none does.
+#[inline(always)]
+fn run_place(colour: Colour, bits: u32) -> usize
+    requires { bits < 2 ^ LONGEST_CODE }
+    ensures { result ≡ place_of (run_table colour) LONGEST_CODE bits }
+{
+    let at = bits as usize;
+    match colour {
+        Colour::White if at < 64 => usize::from(WHITE_LONG[at]),
+        Colour::White => usize::from(WHITE_SHORT[at >> 4]),
+        Colour::Black if at < 512 => usize::from(BLACK_LONG[at]),
+        Colour::Black => usize::from(BLACK_SHORT[at >> 7]),
+    }
+}
+
+/// That place where the array of the short codes has it, and else one that no code of a run has.
+#[inline(always)]
+fn short_place(colour: Colour, bits: u32) -> usize
+    requires { bits < 2 ^ LONGEST_CODE }
+    ensures { result < 104 → result ≡ place_of (run_table colour) LONGEST_CODE bits }
+{
+    match colour {
+        Colour::White => usize::from(WHITE_SHORT[(bits >> 4) as usize]),
+        Colour::Black => usize::from(BLACK_SHORT[(bits >> 7) as usize]),
     }
 }
 
@@ -420,10 +396,14 @@ pub(crate) fn find_run_code(colour: Colour, bits: u32) -> Option<(u32, u32)>
     ensures { IfSome result (λ found. (found.1 < 104) × HasCodeAhead (run_table colour)
         (code_bits LONGEST_CODE bits) found.0 (run_meaning found.1)) }
 {
-    match colour {
-        Colour::White => WhiteRuns::find_place(bits),
-        Colour::Black => BlackRuns::find_place(bits),
+    let mut place = short_place(colour, bits);
+    if place >= EXTENSION {
+        place = run_place(colour, bits);
+        if place >= EXTENSION {
+            return None;
+        }
     }
+    Some((u32::from(run_entry(colour, place).len), place as u32))
 }
 
 /// What the code at a place of a run table means.

@@ -125,14 +125,14 @@ impl BitSink {
         ahead.begins(self.pending, self.count)
     }
 
-    /// Puts the lowest `len` bits of `bits`, 0 to 24 of them, the highest first.
+    /// Puts the lowest `len` bits of `bits`, 0 to 32 of them, the highest first.
     ///
     /// # Errors
     ///
     /// Where a growth was refused. The sink is then as it was.
     #[inline(always)]
     pub fn put(&mut self, bits: u32, len: u32) -> Result<(), Memory>
-        requires short { len ≤ 24 }
+        requires short { len ≤ 32 }
         requires fits { bits < 2 ^ len }
         ensures ok { OnOk result (Appends self.old (code_bits len bits) self.new) }
         ensures err { OnErr result (self.new ≡ self.old) }

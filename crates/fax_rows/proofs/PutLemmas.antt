@@ -75,12 +75,6 @@ put_stops old mid new all pending left first missing so_far is more = record {
       ∙ sym (append_assoc so_far.done more.done (more.missing ++ missing));
 }
 
--- and where it was refused in the last of them
-pub put_stops_in_last : (old mid new : Sink) (all pending last : List Bool) → AppendsAllBut old all (pending ++ last) mid
-    → AppendsPrefix mid (pending ++ last) new → AppendsPrefix old all new
-put_stops_in_last old mid new all pending last so_far more =
-    put_stops old mid new all pending last last [] so_far (sym (append-nil last)) more
-
 -- none but the pending bits are missing, and they are put too
 pub put_pending : (old mid new : Sink) (all pending left : List Bool) → AppendsAllBut old all (pending ++ left) mid → left ≡ []
     → Appends mid pending new → Appends old all new
@@ -89,11 +83,10 @@ put_pending old mid new all pending left so_far none more =
     let appended = appends_two old mid new so_far.done pending so_far.appended more in
     cc
 
-pub pending_stops : (old mid new : Sink) (all pending left : List Bool) → AppendsAllBut old all (pending ++ left) mid → left ≡ []
-    → AppendsPrefix mid pending new → AppendsPrefix old all new
-pending_stops old mid new all pending left so_far none more =
-    put_stops_in_last old mid new all pending left so_far
-    (subst (λ b. AppendsPrefix mid b new) (sym (append-nil pending) ∙ ap (λ b. pending ++ b) (sym none)) more)
+-- and where a growth was refused for them
+pub pending_stops : (old mid new : Sink) (all left : List Bool) → AppendsAllBut old all left mid → new ≡ mid → AppendsPrefix old all new
+pending_stops old mid new all left so_far same =
+    record { done = so_far.done; missing = left; appended = same ∙ so_far.appended; parts = so_far.parts }
 
 -- a fact holds also where it is asked for after an error alone
 pub on_err : {T E P : Type 0} (r : Result T E) → P → OnErr r P

@@ -29,10 +29,8 @@ fn put_pair(
 ) -> Result<PendingBits, Memory>
     requires first { first < 2 ^ 16 }
     requires second { second < 2 ^ 16 }
-    requires few { length pending ≤ 32 }
     ensures ok { IfOk result (λ left. AppendsAllBut sink.old
         (pending ++ (run_bits colour first ++ run_bits (other_than colour) second)) left sink.new) }
-    ensures few { IfOk result (λ left. length left ≤ 32) }
     ensures err { OnErr result (AppendsPrefix sink.old
         (pending ++ (run_bits colour first ++ run_bits (other_than colour) second)) sink.new) }
 {
@@ -208,10 +206,8 @@ fn put_run_pair(
     requires a0 { unwrap_or ahead.a0 0 ≤ ahead.a1 }
     requires a1 { ahead.a1 ≤ ahead.a2 }
     requires short { ahead.a2 < 2 ^ 16 }
-    requires few { length pending ≤ 32 }
     ensures ok { IfOk result
         (λ left. AppendsAllBut sink.old (pending ++ Spec.run_pair ahead) left sink.new) }
-    ensures few { IfOk result (λ left. length left ≤ 32) }
     ensures err { OnErr result (AppendsPrefix sink.old (pending ++ Spec.run_pair ahead) sink.new) }
 {
     let first = ahead.a1 - ahead.a0.unwrap_or(0);
@@ -229,11 +225,9 @@ fn put_far_step(
 ) -> Result<(Written, PendingBits), Memory>
     requires places { Spec.IsAhead rows ahead }
     requires unfinished { unwrap_or ahead.a0 0 < rows.row.width }
-    requires few { length pending ≤ 32 }
     ensures ok { IfOk result (λ next. AppendsAllBut sink.old
         (pending ++ Spec.bits_from (placed_pels rows.entry.reference)
         (placed_pels rows.entry.row) ahead.a0) next.1 sink.new) }
-    ensures few { IfOk result (λ next. length next.1 ≤ 32) }
     ensures next { IfOk result (λ next. next.0.a0
         ≡ Some (Spec.place_from (placed_pels rows.entry.reference)
         (placed_pels rows.entry.row) ahead.a0)) }
@@ -271,11 +265,9 @@ fn put_step(
 ) -> Result<(Written, PendingBits), Memory>
     requires places { Spec.IsWrittenTo rows at }
     requires unfinished { unwrap_or at.a0 0 < rows.row.width }
-    requires few { length pending ≤ 32 }
     ensures ok { IfOk result (λ next. AppendsAllBut sink.old
         (pending ++ Spec.bits_from (placed_pels rows.entry.reference)
         (placed_pels rows.entry.row) at.a0) next.1 sink.new) }
-    ensures few { IfOk result (λ next. length next.1 ≤ 32) }
     ensures next { IfOk result (λ next. next.0.a0
         ≡ Some (Spec.place_from (placed_pels rows.entry.reference)
         (placed_pels rows.entry.row) at.a0)) }

@@ -22,5 +22,5 @@ pub record IsPending (count pending most bytes capacity : ℕ) : Type 0 where
 
 -- so many bits, which spell a number, wait for a sink
 pub record AreWaiting (count number : ℕ) : Type 0 where
-  pub few : count ≤ 64
+  pub few : count ≤ 32
   pub fits : number < 2 ^ count

@@ -45,13 +45,11 @@ modes_is_prefix_free = is_prefix_free modes prefix_free_test-modes
 pub modes_has_short_codes : HasShortCodes modes
 modes_has_short_codes = has_short_codes modes short_codes_test-modes
 
-pub length-white_runs : length white_runs ≡ 105
-unfolding white_runs white_terminating white_make_up common_make_up
-length-white_runs = refl
-
-pub length-black_runs : length black_runs ≡ 105
-unfolding black_runs black_terminating black_make_up common_make_up
-length-black_runs = refl
+pub length-run_table : (colour : Colour) → length (run_table colour) ≡ 105
+unfolding white_runs black_runs white_terminating black_terminating white_make_up
+    black_make_up common_make_up
+length-run_table White = refl
+length-run_table Black = refl
 
 pub length-modes : length modes ≡ 10
 unfolding modes

@@ -6,12 +6,12 @@ use Rattle.fax_rows.proofs.put.put_1d.Goals as goal
 pub returns-in_err-pending-clause-err : goal.returns-in_err-pending-clause-err
 returns-in_err-pending-clause-err c =
     on_err c.from_residual.result
-    (put_stops c.args.sink.now c.loop-white.sink _ _ _ _ _ _ c.loop-white.invariant.put
+    (put_stops c.args.sink.now c.loop-white.sink _ _ _ _ _ _ c.loop-white.invariant
     (row_bits_go_on White _ c.loop-white.runs _ c.in-Some.ensures.first) c.in_err-pending.ensures.err)
 
 pub returns-in_default-next_run-clause-ok : goal.returns-in_default-next_run-clause-ok
 returns-in_default-next_run-clause-ok c =
-    let white = put_goes_on c.args.sink.now c.loop-white.sink c.put_run.new.sink _ _ _ _ _ _ c.loop-white.invariant.put
+    let white = put_goes_on c.args.sink.now c.loop-white.sink c.put_run.new.sink _ _ _ _ _ _ c.loop-white.invariant
     (row_bits_go_on White _ c.loop-white.runs _ c.in-Some.ensures.first) c.in_ok-pending.ensures.ok in
     on_ok_weaker c.put_all.result
     (put_pending c.args.sink.now c.put_run.new.sink c.put_all.new.sink _ _ _ white
@@ -20,32 +20,28 @@ returns-in_default-next_run-clause-ok c =
 
 pub returns-in_default-next_run-clause-err : goal.returns-in_default-next_run-clause-err
 returns-in_default-next_run-clause-err c =
-    let white = put_goes_on c.args.sink.now c.loop-white.sink c.put_run.new.sink _ _ _ _ _ _ c.loop-white.invariant.put
+    let white = put_goes_on c.args.sink.now c.loop-white.sink c.put_run.new.sink _ _ _ _ _ _ c.loop-white.invariant
     (row_bits_go_on White _ c.loop-white.runs _ c.in-Some.ensures.first) c.in_ok-pending.ensures.ok in
     on_err_weaker c.put_all.result
-    (pending_stops c.args.sink.now c.put_run.new.sink c.put_all.new.sink _ _ _ white
-    (row_bits_end Black c.next_run.new.self c.in_default-next_run.ensures.first))
+    (pending_stops c.args.sink.now c.put_run.new.sink c.put_all.new.sink _ _ white)
     c.put_all.ensures.err
 
 pub returns-in_err-pending-2-clause-err : goal.returns-in_err-pending-2-clause-err
 returns-in_err-pending-2-clause-err c =
     on_err c.from_residual-in_err-pending-2.result
-    (put_stops c.args.sink.now c.loop-white.sink _ _ _ _ _ _ c.loop-white.invariant.put
+    (put_stops c.args.sink.now c.loop-white.sink _ _ _ _ _ _ c.loop-white.invariant
     (row_pair_goes_on _ _ c.loop-white.runs c.next_run.new.self _ c.in-Some.ensures.first c.in-Some-next_run.ensures.first)
     c.in_err-pending-2.ensures.err)
 
 pub loop-white-preserved : goal.loop-white-preserved
-loop-white-preserved c = record {
-  few = c.in_ok-pending-2.ensures.few;
-  put =
-      put_goes_on c.args.sink.now c.loop-white.sink c.put_pair.new.sink _ _ _ _ _ _ c.loop-white.invariant.put
-      (row_pair_goes_on _ _ c.loop-white.runs c.next_run.new.self _ c.in-Some.ensures.first c.in-Some-next_run.ensures.first)
-      c.in_ok-pending-2.ensures.ok;
-}
+loop-white-preserved c =
+    put_goes_on c.args.sink.now c.loop-white.sink c.put_pair.new.sink _ _ _ _ _ _ c.loop-white.invariant
+    (row_pair_goes_on _ _ c.loop-white.runs c.next_run.new.self _ c.in-Some.ensures.first c.in-Some-next_run.ensures.first)
+    c.in_ok-pending-2.ensures.ok
 
 pub returns-clause-ok : goal.returns-clause-ok
 returns-clause-ok c =
     on_ok_weaker c.put_all-2.result
-    (put_pending c.args.sink.now c.loop-white.sink c.put_all-2.new.sink _ _ _ c.loop-white.invariant.put
+    (put_pending c.args.sink.now c.loop-white.sink c.put_all-2.new.sink _ _ _ c.loop-white.invariant
     (row_bits_end White c.loop-white.runs c.in_default.ensures.first))
     c.put_all-2.ensures.ok

@@ -13,7 +13,6 @@ loop-at-init c =
     rw c.none-pending.ensures record {
       placed = place_begins (placed_pels c.args.rows.reference) (placed_pels c.args.rows.row) c.args.sink.now;
       places = starts c.args.rows;
-      few = omega arith;
     }
 
 pub returns-in_err-at-clause-err : goal.returns-in_err-at-clause-err
@@ -43,7 +42,6 @@ loop-at-preserved c =
           c.put_step.new.sink
           c.loop-at.at.a0 c.loop-at.pending c.loop-at.invariant.placed inside _ c.in_ok-at.field-0-1 refl c.in_ok-at.ensures.ok);
       places = c.in_ok-at.ensures.places;
-      few = c.in_ok-at.ensures.few;
     }
 
 pub returns-clause-ok : goal.returns-clause-ok
@@ -56,8 +54,7 @@ returns-clause-ok c =
 
 pub returns-clause-err : goal.returns-clause-err
 returns-clause-err c =
-    let over : length (placed_pels c.args.rows.row) ≤ first_of c.loop-at.at.a0 = omega (arith, written_width c.args.rows) in
     on_err_weaker c.put_all.result
     (place_ends_early (placed_pels c.args.rows.reference) (placed_pels c.args.rows.row) c.args.sink.now c.loop-at.sink c.put_all.new.sink
-    c.loop-at.at.a0 c.loop-at.pending c.loop-at.invariant.placed over)
+    c.loop-at.at.a0 c.loop-at.pending c.loop-at.invariant.placed)
     c.put_all.ensures.err

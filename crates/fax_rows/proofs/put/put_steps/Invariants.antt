@@ -1,4 +1,4 @@
-use Rattle.std.proofs.Common.{◌+◌, ◌-◌, ◌≤◌, length}
+use Rattle.std.proofs.Common.{◌+◌, ◌-◌}
 use Rattle.fax_rows.specs.code.Ahead.{IsWrittenTo}
 use Rattle.fax_rows.specs.code.PlacedRow.{placed_pels}
 use Rattle.fax_rows.proofs.ChoiceLemmas.{passed}
@@ -9,7 +9,6 @@ abbrev pub invariant-loop-at : goal.invariant-loop-at
 invariant-loop-at l = record {
   placed : IsPutToPlace (placed_pels l.rows.reference) (placed_pels l.rows.row) l.initial.sink l.at.a0 l.pending l.sink;
   places : IsWrittenTo l.rows l.at;
-  few : length l.pending ≤ 32;
 }
 
 abbrev pub decreases-loop-at : goal.decreases-loop-at

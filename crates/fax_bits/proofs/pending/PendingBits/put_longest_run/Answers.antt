@@ -1,11 +1,11 @@
 use Rattle.std.proofs.lemmas.Result.{on_ok_weaker, on_err_weaker}
 use Rattle.fax_bits.proofs.PutLemmas.{appends-then, on_err-of}
-use Rattle.fax_bits.proofs.PendingLemmas.{bits_of_codes, prefix-first, prefix-second}
+use Rattle.fax_bits.proofs.PendingLemmas.{bits_of_codes, none_put, prefix-second}
 use Rattle.fax_bits.proofs.pending.PendingBits.put_longest_run.Goals as goal
 
 pub returns-in_err-put_all-clause-err : goal.returns-in_err-put_all-clause-err
 returns-in_err-put_all-clause-err c =
-    on_err-of c.from_residual.result (prefix-first c.args.sink.now c.put_all.new.sink _ _ c.in_err-put_all.ensures.err)
+    on_err-of c.from_residual.result (none_put c.args.sink.now c.put_all.new.sink _ c.in_err-put_all.ensures.err)
 
 pub returns-clause-ok : goal.returns-clause-ok
 returns-clause-ok c =
