@@ -77,7 +77,8 @@ struct faxpages_fault {
     uint32_t row;
 };
 
-/* What a call wrote, and where to go on: at the page and the row that are due. */
+/* What a call wrote, and where to go on: at the page and the row that are due, which are those of
+ * the place too, where the call takes one. */
 struct faxpages_told {
     size_t count;  /* how many forms or rows were written */
     size_t used;   /* how many numbers of `out` were written */
@@ -102,8 +103,8 @@ struct faxpages_form {
 };
 
 /* Writes the forms of pages from `page` on, at most `forms_room`. `count` of `told` says how many:
- * forms[i] is that of page `page` + i. DONE, END, FAULT or OUTSIDE. The time is in proportion to
- * the pages up to the last of them, so list many at once. */
+ * forms[i] is that of page `page` + i. DONE, END, FAULT or OUTSIDE. Each call follows the file's
+ * chain of directories from its beginning: list many pages a call, not one. */
 uint32_t faxpages_forms(const uint8_t *file, size_t file_len, uint32_t page,
                         struct faxpages_form *forms, size_t forms_room,
                         struct faxpages_told *told);
@@ -117,14 +118,21 @@ struct faxpages_row {
     uint32_t width; /* its pels, 1 to 65535 */
 };
 
+/* So many bytes hold any row. */
+#define FAXPAGES_ROW_BYTES 8192
+
 /* Writes rows from a page and a row on, over pages, up to the end of the file: at most `rows_room`
  * of them, and as many as fit in `out`. Each is written in (width + 7) / 8 bytes, the highest bit
  * first, 1 for black, with zeros after the last pel; one row after another, with nothing between
  * them. rows[i] says where each lies. The row after a page's last is the next page's first, so
- * page 3, row 0 begins at page 3, and so does page 2 with the number of its rows.
+ * page 3, row 0 begins at page 3, and so does page 2 with the number of its rows. DONE, END, FAULT,
+ * OUTSIDE, MEMORY or NO_ROOM. A loop goes on after DONE and NO_ROOM, and ends in any file where
+ * rows_room is not 0 and `out` holds a row.
  *
  * A strip is read from its beginning: where a call begins inside one, its rows before that are read
- * once more. Read whole pages by this call, and parts of pages by faxpages_rows_from. */
+ * once more; and each call follows the chain of directories up to its page. So a file is read in a
+ * time in proportion to its length by faxpages_rows_from, with thousands of rows a call, over as
+ * many pages as they have; a page alone is read by this call. */
 uint32_t faxpages_rows(const uint8_t *file, size_t file_len, uint32_t page, uint32_t row,
                        struct faxpages_row *rows, size_t rows_room, uint8_t *out, size_t out_room,
                        struct faxpages_told *told);
@@ -143,10 +151,11 @@ struct faxpages_place {
 #define FAXPAGES_RUNS 65536
 
 /* The same from a place on, which is then the one after the rows that were written, so that the
- * next call reads no row again. `runs` has the runs of the place, before the call and after it;
- * let runs_room be FAXPAGES_RUNS. The place is a page and a row alone where a strip begins there,
- * where its runs have no room, where malloc refused, and after NO_ROOM. A place that no call told,
- * for the same file, may be OUTSIDE, or give other rows. */
+ * next call reads no row again: begin with {0, 0, 0, 0}, and call until END or FAULT. `runs` has
+ * the runs of the place, before the call and after it; let runs_room be FAXPAGES_RUNS. The place is
+ * a page and a row alone where a strip begins there, where its runs have no room, where malloc
+ * refused, and after NO_ROOM. A place that no call told, for the same file, may be OUTSIDE, or give
+ * other rows. */
 uint32_t faxpages_rows_from(const uint8_t *file, size_t file_len, struct faxpages_place *place,
                             uint32_t *runs, size_t runs_room, struct faxpages_row *rows,
                             size_t rows_room, uint8_t *out, size_t out_room,
@@ -154,8 +163,9 @@ uint32_t faxpages_rows_from(const uint8_t *file, size_t file_len, struct faxpage
 
 /* The runs of rows, in place of their bytes: out[at], out[at + 1] .. are the lengths in pels of a
  * row's longest runs of one colour, white first; the first is 0 where a row begins black, and no
- * other is. A row has at most `width` + 1 runs: with room for so many of each row there is no
- * NO_ROOM, after which the next call reads a part of a strip again. */
+ * other is. A row has at most `width` + 1 runs, so FAXPAGES_RUNS numbers hold any row. With room
+ * for so many of each row there is no NO_ROOM, after which the next call reads a part of a strip
+ * again. */
 uint32_t faxpages_runs(const uint8_t *file, size_t file_len, uint32_t page, uint32_t row,
                        struct faxpages_row *rows, size_t rows_room, uint32_t *out, size_t out_room,
                        struct faxpages_told *told);
@@ -218,7 +228,7 @@ struct faxpages_report {
 uint32_t faxpages_check(const uint8_t *file, size_t file_len, struct faxpages_note *notes,
                         size_t notes_room, struct faxpages_report *report);
 
-/* How a file is written. For PBM only the target is looked at, but the others have to be in range. */
+/* How a file is written. For PBM only the target matters, but the others have to be in range. */
 struct faxpages_options {
     uint32_t target;  /* 0 raw PBM; TIFF-F in 1 MH, 2 MR, 3 MMR */
     uint32_t order;   /* which bit of a byte is first: 1 the highest, 2 the lowest */

@@ -1,32 +1,37 @@
-# Finds the program that was built from the sources as they stand. For the scripts at the top, which set root before.
+# Finds the program, and the library for C, that were built from the sources as they stand. For the scripts at the top,
+# which set root before.
 #
-# Two folders may have one: shipped/, which the repository brings, and built/, where ./build puts what it built.
+# Two folders may have them: shipped/, which the repository brings, and built/, where ./build puts what it built.
 # Beside a program stands faxpages.txt: the version, the kit, the SHA-256 of the program, one SHA-256 over what it was
-# built from, and at last the SHA-256 of these lines.
+# built from, and at last the SHA-256 of these lines. Beside a library stands libfaxpages.txt, which says the same of
+# the shared library and of the archive.
 
 # Where it is kept that a program was seen to be of these sources, so that the next call need not read them all.
 readonly seen_here=$root/built/seen
 readonly seen_elsewhere=${XDG_CACHE_HOME:-${HOME:-/nonexistent}/.cache}/faxpages/seen
 
-# The crates that the program stands on, lowest first, and its own; and the folders of what it is built from.
+# The crates that one stands on, lowest first, and itself; and the paths of what it is built from: those of the program
+# by fax_tool, and of the library by fax_c.
 read_crates() {
-    local name
+    local top=$1 name uses wanted=
     crates=()
-    folders=()
-    while IFS=: read -r name _; do
-        case $name in
-        \#* | '') continue ;;
-        esac
-        crates+=("$name")
-        folders+=("crates/$name/"{src,specs,proofs})
-        [ "$name" != fax_tool ] || return 0
+    paths=(crates.txt)
+    while IFS=: read -r name uses; do
+        [ "${name% staticlib}" != "$top" ] || wanted="$uses $top "
     done <"$root/crates.txt"
+    while IFS=: read -r name _; do
+        name=${name% staticlib}
+        [[ -n $name && $wanted = *" $name "* ]] || continue
+        crates+=("$name")
+        paths+=("crates/$name/"{src,specs,proofs})
+    done <"$root/crates.txt"
+    [ "$top" != fax_c ] || paths+=(include/faxpages.h share/build-library)
 }
 
-# Finds the files that the program is built from, with these last words of find. Tests are no part of it.
+# Finds the files at these paths that count, with these last words of find. Tests do not.
 find_sources() {
-    (cd -- "$root" && find crates.txt "${folders[@]}" \( -name tests -o -name tests.rt \) -prune -o \
-        -type f \( -name '*.rt' -o -name '*.antt' -o -name crates.txt \) "$@")
+    (cd -- "$root" && find "${paths[@]}" \( -name tests -o -name tests.rt \) -prune -o -type f \
+        \( -name '*.rt' -o -name '*.antt' -o -name crates.txt -o -name faxpages.h -o -name build-library \) "$@")
 }
 
 digest_of() {
@@ -38,7 +43,7 @@ sources_digest() {
     find_sources -print0 | LC_ALL=C sort -z | (cd -- "$root" && xargs -0 sha256sum --) | digest_of
 }
 
-# The text that stands beside a program: these lines, and their digest.
+# The text that stands beside what was built: these lines, and their digest.
 text_of() {
     printf '%s\ntext %s\n' "$1" "$(printf '%s\n' "$1" | digest_of)"
 }
@@ -48,22 +53,43 @@ field() {
     sed -n "s/^$1 //p" "$2"
 }
 
-# The oldest GNU C library that has what a program calls, by the versions of its symbols.
+# The oldest GNU C library that has what a program or a library calls, by the versions of its symbols.
 c_library_of() {
     grep -aoE 'GLIBC_[0-9]+(\.[0-9]+)+' "$1" | sed 's/GLIBC_//' | sort -V | tail -n 1
 }
 
+# Whether the text of a program or of a library is as it was written, and of the sources with this digest; else why
+# says what is not so: is_text_of WHAT TEXT SOURCES.
+is_text_of() {
+    local text=$root/$2
+    why="$2 is not as it was written"
+    text_of "$(head -n -1 -- "$text")" | cmp -s - "$text" || return
+    why="the sources are not those of the $1 in ${2%/*}$(name_newer "$text")"
+    [ "$(field sources "$text")" = "$3" ]
+}
+
+# Whether a file is the one that the text beside it names by this word: is_named WORD WHAT FILE TEXT.
+is_named() {
+    why="$3 is not the $2 that $4 beside it names"
+    [ "$(field "$1" "$root/${3%/*}/$4")" = "$(digest_of <"$root/$3")" ]
+}
+
 # Whether the program in a folder is of the sources with this digest; else why says what is not so.
 is_of_sources() {
-    local sources=$2 program=$root/$1/faxpages text=$root/$1/faxpages.txt
+    local program=$1/faxpages
     why="there is no program in $1"
-    [ -x "$program" ] && [ -r "$text" ] || return
-    why="$1/faxpages.txt is not as it was written"
-    text_of "$(head -n 4 -- "$text")" | cmp -s - "$text" || return
-    why="the sources are not those of the program in $1$(name_newer "$text")"
-    [ "$(field sources "$text")" = "$sources" ] || return
-    why="$1/faxpages is not the program that faxpages.txt beside it names"
-    [ "$(field program "$text")" = "$(digest_of <"$program")" ]
+    [ -x "$root/$program" ] && [ -r "$root/$program.txt" ] && is_text_of program "$program.txt" "$2" &&
+        is_named program program "$program" faxpages.txt
+}
+
+# The same of the library in a folder.
+is_library_of_sources() {
+    local library=$1/libfaxpages
+    why="there is no library in $1"
+    [ -r "$root/$library.so.1" ] && [ -r "$root/$library.a" ] && [ -r "$root/$library.txt" ] &&
+        is_text_of library "$library.txt" "$2" &&
+        is_named shared library "$library.so.1" libfaxpages.txt &&
+        is_named archive archive "$library.a" libfaxpages.txt
 }
 
 # Names the source that was changed last, where that was after a file.
@@ -103,9 +129,9 @@ keep_seen() {
 # Sets program to one that is of these sources and fits this machine; else why says what is not so.
 find_program() {
     local folder state seen sources reason=
-    read_crates
+    read_crates fax_tool
     # Another number or time of one of these comes with each change of it.
-    state=$HOSTNAME$'\n'$(cd -- "$root" && find crates.txt {shipped,built}/faxpages{,.txt} "${folders[@]}" \
+    state=$HOSTNAME$'\n'$(cd -- "$root" && find {shipped,built}/faxpages{,.txt} "${paths[@]}" \
         -printf '%i %C@ %m\n' 2>/dev/null)
     for seen in "$seen_here" "$seen_elsewhere"; do
         [ -r "$seen" ] || continue
@@ -130,4 +156,24 @@ find_program() {
 need_program() {
     find_program && return
     "$root/build" && find_program
+}
+
+# Sets library to the folder of one that is of these sources; else why says what is not so.
+find_library() {
+    local folder sources reason=
+    read_crates fax_c
+    sources=$(sources_digest)
+    for folder in shipped built; do
+        library=$root/$folder
+        ! is_library_of_sources "$folder" "$sources" || return 0
+        reason=${reason:-$why}
+    done
+    why=$reason
+    return 1
+}
+
+# The same, where ./build makes one if there is none.
+need_library() {
+    find_library && return
+    "$root/build" && find_library
 }

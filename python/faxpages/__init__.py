@@ -23,7 +23,10 @@ page, the row, its name and the tag of the field at fault:
 from __future__ import annotations
 
 import ctypes
+import functools
+import itertools
 import os
+import struct
 from collections import deque
 from dataclasses import dataclass
 from fractions import Fraction
@@ -43,8 +46,10 @@ __all__ = [
 
 Source = Union[bytes, bytearray, memoryview, str, "os.PathLike[str]"]
 
-# How many rows and bytes are read at a time.
-_ROWS, _BYTES, _FORMS = 2048, 1 << 20, 512
+# How many rows and bytes are read at a time, and how many forms at most.
+_ROWS, _BYTES, _FORMS = 8192, 1 << 20, 65536
+# A row's place in the buffer and on its page, as _c.Row.
+_ROW = struct.Struct("@N4I")
 _CODINGS = {1: "mh", 2: "mr", 3: "mmr"}
 _TARGETS = {"pbm": 0, "mh": 1, "mr": 2, "mmr": 3}
 _NOTES = {1: "NoEndOfBlock", 2: "ReturnToControl", 3: "DataAfterEnd", 4: "NotT4Choice", 5: "EntriesOutOfOrder"}
@@ -80,6 +85,9 @@ def _bytes_of(source: Source) -> bytes:
 
 
 _open = open
+
+# Pages of a file have few resolutions.
+_fraction = functools.lru_cache(maxsize=64)(Fraction)
 
 
 def version() -> str:
@@ -197,8 +205,8 @@ class _Reader:
             _BYTES, told)
         if status not in (_c.DONE, _c.NO_ROOM):
             self.ended, self.stopped = status, _stopped(status, told.fault)
-        raw = self._out.raw[:told.used]
-        return [Row(row.page, row.row, row.width, raw[row.at:row.at + row.len]) for row in self._rows[:told.count]]
+        raw, table = ctypes.string_at(self._out, told.used), ctypes.string_at(self._rows, told.count * _ROW.size)
+        return [Row(page, row, width, raw[at:at + length]) for at, length, page, row, width in _ROW.iter_unpack(table)]
 
     def cursor(self) -> Cursor:
         """The cursor after the rows that were read."""
@@ -206,6 +214,63 @@ class _Reader:
         cursor._place = _c.Place(self._place.page, self._place.row, self._place.bits, self._place.runs)
         cursor._keep(self._runs)
         return cursor
+
+
+class _Ahead:
+    """Rows from a page on, read many at a time, over pages."""
+
+    def __init__(self, data: bytes, page: int) -> None:
+        self._reader = _Reader(data, Cursor(page, 0))
+        self._rows: Deque[Row] = deque()
+        # The page whose first row comes next, or -1 inside a page.
+        self._due = page
+
+    def goes_on_at(self, page: int) -> bool:
+        """Whether a page's first row is the next, without the rows of pages before it, which are dropped."""
+        while self._rows and self._rows[0].page < page:
+            self._rows.popleft()
+        if self._rows:
+            return (self._rows[0].page, self._rows[0].number) == (page, 0)
+        return self._due == page
+
+    def rows_of(self, page: int, count: int) -> Iterator[Row]:
+        """The rows of the page that is next."""
+        self._due = -1
+        for _ in range(count):
+            if not self._rows:
+                self._rows.extend(self._reader.read())
+            if not self._rows:
+                raise self._reader.stopped or OutsideError("the file has no such row")
+            yield self._rows.popleft()
+        self._due = page + 1
+
+
+class _Forms:
+    """The forms of pages: more at a time, twice as many each, where they are asked for in order."""
+
+    def __init__(self, data: bytes) -> None:
+        self._data = data
+        self._first, self._most = 0, 1
+        self._read: List[_c.Form] = []
+        self._stopped: Optional[Exception] = None
+
+    def at(self, page: int) -> "Optional[_c.Form]":
+        """The form of a page, or None where it has none."""
+        if not 0 <= page - self._first < len(self._read):
+            self._read_from(page)
+        return self._read[page - self._first] if self._read else None
+
+    def why_none(self) -> Optional[Exception]:
+        """Why the page that was asked for last has no form, or None at the end of the file."""
+        return self._stopped
+
+    def _read_from(self, page: int) -> None:
+        in_order = self._read and page == self._first + len(self._read)
+        self._most = min(2 * self._most, _FORMS) if in_order else 1
+        forms, told = (_c.Form * self._most)(), _c.Told()
+        status = _c.library.faxpages_forms(self._data, len(self._data), page, forms, self._most, told)
+        self._first, self._read = page, forms[:told.count]
+        self._stopped = _stopped(status, told.fault)
 
 
 @dataclass(frozen=True)
@@ -281,8 +346,9 @@ class Fax:
 
     def __init__(self, data: bytes) -> None:
         self._data = data
-        # The rows that were read ahead, the first of which is that page's first, and the reader after them.
-        self._ahead: Optional[Tuple[int, _Reader, Deque[Row]]] = None
+        self._forms = _Forms(data)
+        # What was read ahead by the last page whose rows were asked for.
+        self._ahead: Optional[_Ahead] = None
 
     def __enter__(self) -> "Fax":
         return self
@@ -293,47 +359,38 @@ class Fax:
     @property
     def pages(self) -> Iterator[Page]:
         """The pages in order. A fault is raised after the pages before it."""
-        number = 0
-        forms, told = (_c.Form * _FORMS)(), _c.Told()
-        while True:
-            status = _c.library.faxpages_forms(self._data, len(self._data), number, forms, _FORMS, told)
-            for form in list(forms[:told.count]):
-                yield self._page(number, form)
-                number += 1
-            if status != _c.DONE:
-                stopped = _stopped(status, told.fault)
+        for number in itertools.count():
+            form = self._forms.at(number)
+            if form is None:
+                stopped = self._forms.why_none()
                 if stopped:
                     raise stopped
                 return
+            yield self._page(number, form)
 
     def page(self, number: int) -> Page:
         """A page by its number."""
-        form, told = _c.Form(), _c.Told()
-        status = _c.library.faxpages_forms(self._data, len(self._data), number, ctypes.byref(form), 1, told)
-        if told.count:
-            return self._page(number, form)
-        raise _stopped(status, told.fault) or OutsideError(f"the file has no page {number}")
+        form = self._forms.at(number)
+        if form is None:
+            raise self._forms.why_none() or OutsideError(f"the file has no page {number}")
+        return self._page(number, form)
 
     def _page(self, number: int, form: "_c.Form") -> Page:
         return Page(
             self, number, form.width, form.rows, _CODINGS[form.coding], form.order, bool(form.aligned),
-            bool(form.exchanged), form.rows_per_strip, form.strips, Fraction(form.x_numerator, form.x_denominator),
-            Fraction(form.y_numerator, form.y_denominator), form.unit)
+            bool(form.exchanged), form.rows_per_strip, form.strips, _fraction(form.x_numerator, form.x_denominator),
+            _fraction(form.y_numerator, form.y_denominator), form.unit)
 
-    def _rows_of(self, page: int, count: int) -> Iterator[Row]:
-        """The rows of a page. Where pages are read in order, those that were read ahead are taken."""
-        if self._ahead is not None and self._ahead[0] == page:
-            _, reader, rows = self._ahead
-        else:
-            reader, rows = _Reader(self._data, Cursor(page, 0)), deque()
-        self._ahead = None
-        for _ in range(count):
-            if not rows:
-                rows.extend(reader.read())
-            if not rows:
-                raise reader.stopped or OutsideError("the file has no such row")
-            yield rows.popleft()
-        self._ahead = page + 1, reader, rows
+    def _rows_of(self, page: int, rows: int) -> Iterator[Row]:
+        """The rows of a page. Where pages are read in order, those that were read ahead are taken; meanwhile another
+        page's rows are read by themselves."""
+        ahead, self._ahead = self._ahead, None
+        if ahead is None or not ahead.goes_on_at(page):
+            ahead = _Ahead(self._data, page)
+        try:
+            yield from ahead.rows_of(page, rows)
+        finally:
+            self._ahead = ahead
 
     def rows(self, cursor: Optional[Cursor] = None) -> Iterator[Row]:
         """All rows from a cursor on, page by page. A fault is raised after the rows before it."""

@@ -20,10 +20,11 @@ use std::collections::VecDeque;
 use std::error;
 use std::fmt;
 
-/// How many rows, bytes and forms are read at a time.
-const ROWS: usize = 1024;
+/// How many rows and bytes are read at a time, and how many forms at first and at most.
+const ROWS: usize = 8192;
 const BYTES: usize = 1 << 20;
-const FORMS: usize = 256;
+const FORMS: usize = 64;
+const MOST_FORMS: usize = 65_536;
 /// So many runs hold those of any row.
 const RUNS: usize = 65_536;
 
@@ -239,7 +240,7 @@ impl<'a> Fax<'a> {
 
     /// The forms of its pages.
     pub fn forms(&self) -> Forms<'a> {
-        Forms { file: self.file, page: 0, ready: VecDeque::new(), ended: None }
+        Forms { file: self.file, page: 0, most: FORMS, ready: VecDeque::new(), ended: None }
     }
 
     /// All its rows, page by page.
@@ -354,13 +355,16 @@ pub fn version() -> u32 {
 pub struct Forms<'a> {
     file: &'a [u8],
     page: u32,
+    most: usize,
     ready: VecDeque<Form>,
     ended: Option<Option<Error>>,
 }
 
 impl Forms<'_> {
+    /// Reads twice as many as the time before, so that all take a time in proportion to their number.
     fn read(&mut self) {
-        let mut forms = vec![calls::Form::default(); FORMS];
+        let mut forms = vec![calls::Form::default(); self.most];
+        self.most = MOST_FORMS.min(2 * self.most);
         let mut told = calls::Told::default();
         // SAFETY: each pointer is to as many items as the length beside it says, of its own slice.
         let status = unsafe {
