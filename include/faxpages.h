@@ -152,10 +152,10 @@ struct faxpages_place {
 
 /* The same from a place on, which is then the one after the rows that were written, so that the
  * next call reads no row again: begin with {0, 0, 0, 0}, and call until END or FAULT. `runs` has
- * the runs of the place, before the call and after it; let runs_room be FAXPAGES_RUNS. The place is
- * a page and a row alone where a strip begins there, where its runs have no room, where malloc
- * refused, and after NO_ROOM. A place that no call told, for the same file, may be OUTSIDE, or give
- * other rows. */
+ * the runs of the place, before the call and after it; let runs_room be FAXPAGES_RUNS. Where no row
+ * was written, the place stays. Else it is a page and a row alone just where a strip begins there
+ * or has more than 4294967295 bits before it, where its runs have no room, and after NO_ROOM. A
+ * place that no call told, for the same file, may be OUTSIDE, or give other rows. */
 uint32_t faxpages_rows_from(const uint8_t *file, size_t file_len, struct faxpages_place *place,
                             uint32_t *runs, size_t runs_room, struct faxpages_row *rows,
                             size_t rows_room, uint8_t *out, size_t out_room,
