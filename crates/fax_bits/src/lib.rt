@@ -17,7 +17,7 @@ mod window;
 
 pub use codes::{CodeEntry, CodeFault, CodeTable, read_code};
 pub use lanes::reverse_bits;
-pub use modes::{ModeCode, Modes, read_mode};
+pub use modes::{ModeCode, Modes};
 pub use pairs::{Pair, SHORT_RUN};
 pub use pending::PendingBits;
 pub use put::{put_mode, put_run};

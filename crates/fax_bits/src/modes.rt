@@ -1,14 +1,11 @@
 //! The modes of two-dimensional coding (ITU-T T.4, table 4).
-ghost use Rattle.std.specs.Prelude.{◌≡◌, ◌<◌, ◌^◌, length, IfOk, IfErr, IfSome, OnOk, OnErr};
+ghost use Rattle.std.specs.Prelude.{◌≡◌, ◌<◌, ◌^◌, IfSome};
 ghost use Rattle.fax_bits.specs.Bits.{code_bits};
 ghost use Rattle.fax_bits.specs.views.Codes.{HasCodeAhead};
-ghost use Rattle.fax_bits.specs.Codes.{Takes, IsFaultOf};
 ghost use Rattle.fax_bits.specs.Tables.{modes};
 ghost use Rattle.fax_bits.specs.code.Places.{place_of};
-ghost use Rattle.fax_bits.specs.views.Source.{KeepsEnd};
 
-use crate::BitSource;
-use crate::codes::{CodeEntry, CodeFault, CodeTable, LONGEST_CODE, read_code, within};
+use crate::codes::{CodeEntry, CodeTable, LONGEST_CODE, within};
 use crate::indexes::{MODE_PLACES, VERTICAL_MODES};
 
 /// What a code of the mode table means (T.4, section 4.2.1.3.2).
@@ -171,26 +168,4 @@ pub(crate) fn find_mode(bits: u32) -> Option<(u32, ModeCode)>
         return Some(found);
     }
     None
-}
-
-/// Reads a mode: what `read_code` does, without a look-up where a1 is under b1.
-///
-/// # Errors
-///
-/// `DataEnds` where the bits end within a code, `BadCode` where no code begins so. The source is
-/// then as it was.
-pub fn read_mode(source: &mut BitSource) -> Result<ModeCode, CodeFault>
-    ensures ok { IfOk result (λ mode. Takes modes source.old.left mode source.new.left) }
-    ensures err { IfErr result (λ fault. IsFaultOf modes source.old.left fault) }
-    ensures unchanged { OnErr result (source.new ≡ source.old) }
-
-    // The source goes on in the same bits, and a mode takes at least one of them.
-    ensures same_end { KeepsEnd source.old source.new }
-    ensures shorter { OnOk result (length source.new.left < length source.old.left) }
-{
-    if source.remaining() > 0 && source.peek(1) == 1 {
-        source.skip(1);
-        return Ok(ModeCode::Vertical(0));
-    }
-    read_code::<Modes>(source)
 }

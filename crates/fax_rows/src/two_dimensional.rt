@@ -17,7 +17,7 @@ use crate::pels::Row;
 use crate::rows::PlacedRow;
 use crate::runs::{other, read_run};
 use crate::turns::close;
-use fax_bits::{BitSource, ModeCode, read_mode};
+use fax_bits::{BitSource, ModeCode, Modes, read_code};
 use quick::{read_quickly, vertical};
 use steps::{PlacedReached, after_runs, under_b2};
 
@@ -75,7 +75,7 @@ fn step(
     ensures same_end { KeepsEnd source.old source.new }
     ensures shorter { OnOk result (length source.new.left < length source.old.left) }
 {
-    let mode = read_mode(source)?;
+    let mode = read_code::<Modes>(source)?;
     match mode {
         ModeCode::Pass => Ok(under_b2(reference, places, at)),
         ModeCode::Horizontal => horizontal(source, reference, places, at),
@@ -87,7 +87,7 @@ fn step(
     }
 }
 
-/// What `read_places` does, mode by mode: also where the row has a fault.
+/// Reads a row mode by mode, and answers where its places end: also where it has a fault.
 #[inline(never)]
 fn read_exactly(
     source: &mut BitSource,

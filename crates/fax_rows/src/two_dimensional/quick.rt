@@ -101,9 +101,14 @@ fn run_by_run(ahead: &mut BitSource, colour: Colour, most: u32) -> Option<(u32, 
     Some((first, second))
 }
 
-/// What `run_by_run` does: a white run and the black one after it mostly by one look-up.
+/// What `run_by_run` does: a white run and the black one after it mostly by one look-up. Each of
+/// the reader's two forms has its own.
 #[inline(always)]
-fn two_runs(ahead: &mut BitSource, colour: Colour, most: u32) -> Option<(u32, u32)>
+fn two_runs<const CHOICE: bool>(
+    ahead: &mut BitSource,
+    colour: Colour,
+    most: u32,
+) -> Option<(u32, u32)>
     ensures pair { IfSome result
         (λ runs. Chosen.IsPair colour ahead.old.left runs.0 runs.1 ahead.new.left) }
     ensures few { IfSome result (λ runs. runs.0 + runs.1 ≤ most) }
@@ -145,7 +150,7 @@ fn horizontal<const CHOICE: bool>(
 {
     let most = reference.width - at.reached.first_pel();
     let colour = colour_after(at.b1);
-    let (first, second) = two_runs(ahead, colour, most)?;
+    let (first, second) = two_runs::<CHOICE>(ahead, colour, most)?;
     let chosen = chooses_runs::<CHOICE>(reference, at, first, second);
     if !is_taken::<CHOICE>(chosen) {
         return None;
