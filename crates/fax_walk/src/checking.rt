@@ -233,44 +233,29 @@ fn check_pages(alloc: Global, tiff: Tiff) -> Result<Report, Memory>
 {
     fax_files::laws::files_have_one_chain();
     let mut chain = Chain::new(tiff);
-    let mut notes = Vec::new(alloc);
-    let mut rows: u64 = 0;
+    let mut report = Report {
+        notes: Vec::new(alloc),
+        pages: 0,
+        rows: 0,
+        fault: None,
+    };
     loop {
         let page = chain.given();
-        let pages = u64::from(page);
+        report.pages = u64::from(page);
         let directory = match chain.next() {
             Ok(Some(directory)) => directory,
-            Ok(None) => {
-                return Ok(Report {
-                    notes,
-                    pages,
-                    rows,
-                    fault: None,
-                });
-            }
+            Ok(None) => return Ok(report),
             Err(fault) => {
-                let fault = Some((Place { page, row: 0 }, Cause::File(fault)));
-                return Ok(Report {
-                    notes,
-                    pages,
-                    rows,
-                    fault,
-                });
+                report.fault = Some((Place { page, row: 0 }, Cause::File(fault)));
+                return Ok(report);
             }
         };
-        let read = check_page(alloc, page, &directory, &mut notes)?;
-        rows += u64::from(read.rows);
+        let read = check_page(alloc, page, &directory, &mut report.notes)?;
+        report.rows += u64::from(read.rows);
         if let Some(cause) = read.fault {
-            let place = Place {
-                page,
-                row: read.rows,
-            };
-            return Ok(Report {
-                notes,
-                pages,
-                rows,
-                fault: Some((place, cause)),
-            });
+            let row = read.rows;
+            report.fault = Some((Place { page, row }, cause));
+            return Ok(report);
         }
     }
 }

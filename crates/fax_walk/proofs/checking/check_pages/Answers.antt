@@ -33,9 +33,9 @@ returns-in-Ok-None c =
     let count : length one.offsets ≡ at.chain.given = omega (arith, few, before.within one.offsets one.end one.is) in
     let proper =
     proper_there at.chain.tiff one.offsets one.end (ap header before.file_is ∙ before.head) one.is at.chain.given ended.0 count ended.1 in
-    let pages = c.from-pages.ensures ∙ c.given-page.ensures in
+    let pages = c.from.ensures ∙ c.given-page.ensures in
     last_report c.args.tiff.file at.chain.given _ _ at.invariant.read (rw before.file_is at proper)
-    (rw (pages, ← before.file_is) (proper, refl))
+    (rw (pages, ← before.file_is) (proper, at.invariant.none))
 
 pub returns-in-Err : goal.returns-in-Err
 returns-in-Err c =
@@ -50,7 +50,7 @@ returns-in-Err c =
     count
     ended.1 in
     last_report c.args.tiff.file at.chain.given _ _ at.invariant.read (rw before.file_is at stops) (
-      c.from-pages.ensures ∙ c.given-page.ensures,
+      c.from.ensures ∙ c.given-page.ensures,
       ap (λ p. Some (record { page = p; row = 0 }, File c.in-Err.fault)) c.given-page.ensures,
     )
 
@@ -63,11 +63,11 @@ returns-in-Some c =
     let one = c.files_have_one_chain.ensures at.chain.tiff.head at.chain.tiff.file in
     let there = due_some at.chain c.next.result c.next.ensures.answer directory is one.offsets one.end one.is in
     let file_is = ap (λ (d : TiffDirectory). d.file) there.1 ∙ before.file_is in
-    let read : IsRestChecked c.args.tiff.file (before_page at.chain.given) at.chain.given at.notes.items c.check_page.new.notes.items
+    let read : IsRestChecked c.args.tiff.file (before_page at.chain.given) at.chain.given at.report.notes.items c.check_page.new.notes.items
     c.in_ok-read.read = rw (file_is, c.given-page.ensures) at c.in_ok-read.ensures in
-    stop_report c.args.tiff.file at.chain.given at.rows at.notes.items c.in_ok-read.read c.in-Some.cause _ at.invariant.read read
-    c.in-Some.is (ap (λ r. at.rows + r) c.from-rows.ensures) (
-      c.from-pages.ensures ∙ c.given-page.ensures,
+    stop_report c.args.tiff.file at.chain.given at.report.rows at.report.notes.items c.in_ok-read.read c.in-Some.cause _ at.invariant.read read
+    c.in-Some.is (ap (λ r. at.report.rows + r) c.from-in-loop-directory.ensures) (
+      c.from.ensures ∙ c.given-page.ensures,
       ap (λ p. Some (record { page = p; row = c.in_ok-read.read.rows }, c.in-Some.cause)) c.given-page.ensures,
     )
 
@@ -80,7 +80,7 @@ loop-directory-preserved c =
     let one = c.files_have_one_chain.ensures at.chain.tiff.head at.chain.tiff.file in
     let there = due_some at.chain c.next.result c.next.ensures.answer directory is one.offsets one.end one.is in
     let file_is = ap (λ (d : TiffDirectory). d.file) there.1 ∙ before.file_is in
-    let read : IsRestChecked c.args.tiff.file (before_page at.chain.given) at.chain.given at.notes.items c.check_page.new.notes.items
+    let read : IsRestChecked c.args.tiff.file (before_page at.chain.given) at.chain.given at.report.notes.items c.check_page.new.notes.items
     c.in_ok-read.read = rw (file_is, c.given-page.ensures) at c.in_ok-read.ensures in
     let counted : c.next.new.self ≡ record at.chain { given = at.chain.given + 1 } = rw is at c.next.ensures.counted in
     let given : c.next.new.self.given ≡ at.chain.given + 1 = ap (λ (s : ChainState). s.given) counted in
@@ -90,10 +90,11 @@ loop-directory-preserved c =
           (goes_on c.args.tiff.file at.chain.given at.chain c.next.new.self c.next.result directory before c.next.ensures.answer is
           c.next.ensures.counted);
       read =
-          subst (λ n. ArePagesChecked c.args.tiff.file n (at.rows + c.from-rows.result) c.check_page.new.notes.items) (sym given)
-          (rw c.from-rows.ensures
-          (page_after c.args.tiff.file at.chain.given at.rows at.notes.items c.check_page.new.notes.items c.in_ok-read.read
+          subst (λ n. ArePagesChecked c.args.tiff.file n (at.report.rows + c.from-in-loop-directory.result) c.check_page.new.notes.items) (sym given)
+          (rw c.from-in-loop-directory.ensures
+          (page_after c.args.tiff.file at.chain.given at.report.rows at.report.notes.items c.check_page.new.notes.items c.in_ok-read.read
           at.invariant.read read c.in_default.is));
+      none = at.invariant.none;
     }
 
 pub loop-directory-init : goal.loop-directory-init
@@ -108,6 +109,7 @@ loop-directory-init c =
         within = λ offsets fault chained. omega (arith, given);
       };
       read =
-          subst (λ n. ArePagesChecked c.args.tiff.file n 0 c.new-notes.result.items) (sym given)
-          (none_checked c.args.tiff.file c.new-notes.result.items c.new-notes.ensures.items);
+          subst (λ n. ArePagesChecked c.args.tiff.file n 0 c.new.result.items) (sym given)
+          (none_checked c.args.tiff.file c.new.result.items c.new.ensures.items);
+      none = refl;
     }
