@@ -18,6 +18,8 @@ import faxpages  # noqa: E402
 PROGRAM = sys.argv[1]
 # How many damaged files are made.
 DAMAGED = 2000
+# How many pages a file of many has.
+MANY = 10000
 TARGETS = [("pbm", []), ("mh", ["--order", "2"]), ("mr", ["--k", "2", "--strip", "3"]), ("mmr", [])]
 
 
@@ -99,6 +101,41 @@ def claims(name, data):
     yield f"report on {name}", check_by_module(data) == said("check", data=data)
 
 
+class Counted:
+    """A library whose calls are counted."""
+
+    def __init__(self, library):
+        self.library, self.calls = library, 0
+
+    def __getattr__(self, name):
+        self.calls += 1
+        return getattr(self.library, name)
+
+
+def many_pages():
+    """All pages of a file of many, and their rows, are read by few calls, each by its number too; pages that are read
+    in part, or two at once, are the same."""
+    small = b"P4\n64 8\n" + bytes([0x0F, 0xF0, 0, 0, 0xFF, 0, 0xFF, 0]) * 8
+    fax = faxpages.open(faxpages.convert(small * MANY, "mmr"))
+    library = faxpages._c.library
+    ways = {
+        "forms": lambda: sum(page.rows for page in fax.pages),
+        "forms by number": lambda: sum(fax.page(number).rows for number in range(MANY)),
+        "rows of pages": lambda: sum(1 for page in fax.pages for row in page),
+        "first rows of pages": lambda: 8 * sum(next(iter(page)).number == 0 for page in fax.pages),
+        "rows": lambda: sum(1 for row in fax.rows()),
+        "each second page": lambda: 2 * sum(1 for page in fax.pages if page.number % 2 for row in page),
+    }
+    for name, way in ways.items():
+        faxpages._c.library = counted = Counted(library)
+        found = way()
+        faxpages._c.library = library
+        yield f"{MANY} pages: {name} by {counted.calls} calls", found == 8 * MANY and counted.calls < 64
+    first, second = fax.page(5), fax.page(6)
+    both = list(zip(first, second))
+    yield "two pages at once", [row for row, _ in both] == list(first) and [row for _, row in both] == list(second)
+
+
 def damaged(files):
     """Files with a few bytes changed, or cut."""
     draw = random.Random(47)
@@ -126,6 +163,8 @@ def main():
         see(f"batches of {name}", len(batches(data)) == said("rows", data=data)[0].count(b"row "))
         for target, words in TARGETS:
             see(f"{name} as {target}", is_converted(data, target, words))
+    for claim in many_pages():
+        see(*claim)
     small = [data for data in files.values() if len(data) < 3000]
     for name, data in damaged(small):
         see(f"rows of {name}", rows_by_module(data) == said("rows", data=data))
