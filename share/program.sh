@@ -4,7 +4,7 @@
 # Two folders may have them: shipped/, which the repository brings, and built/, where ./build puts what it built.
 # Beside a program stands faxpages.txt: the version, the kit, the SHA-256 of the program, one SHA-256 over what it was
 # built from, and at last the SHA-256 of these lines. Beside a library stands libfaxpages.txt, which says the same of
-# the shared library and of the archive.
+# the shared library and of the archive, and has the version of objcopy.
 
 # Where it is kept that a program was seen to be of these sources, so that the next call need not read them all.
 readonly seen_here=$root/built/seen
@@ -46,6 +46,11 @@ sources_digest() {
 # The text that stands beside what was built: these lines, and their digest.
 text_of() {
     printf '%s\ntext %s\n' "$1" "$(printf '%s\n' "$1" | digest_of)"
+}
+
+# The objcopy at hand, by which the archive is made: another version may give other bytes.
+objcopy_version() {
+    LC_ALL=C objcopy --version | head -n 1
 }
 
 # What a text says: `field NAME FILE`.
