@@ -1,5 +1,5 @@
 -- A row of a strip that is put, and a strip that is finished.
-use Rattle.std.proofs.Common.{◌≡◌, ℕ, suc, ◌+◌, ◌<◌, List, [], ◌∷◌, ◌++◌, length, replicate, Bool, false, refl, sym, ap, ◌∙◌, subst, arith}
+use Rattle.std.proofs.Common.{◌≡◌, ℕ, suc, ◌+◌, ◌<◌, List, [], ◌∷◌, ◌++◌, length, replicate, Bool, false, refl, sym, ap, ◌∙◌, arith}
 use Rattle.std.proofs.Common.{append_assoc, append-nil, length-append}
 use Rattle.std.specs.Prelude.{All}
 use Rattle.fax_bits.specs.declared.Colour.{Colour}
@@ -22,16 +22,15 @@ appended old middle new first second put more =
     more ∙ ap (λ (s : Sink). record { order = s.order; bits = s.bits ++ second }) put
     ∙ ap (λ (b : List Bool). record { order = old.order; bits = b }) (append_assoc old.bits first second)
 
--- a row that is put: what stands before its codes, and then its codes
-pub line_put : (form : StripForm) (k before i : ℕ) (reference row : List Colour) (dimension another : Dimension) (old middle new : Sink)
-    → dimension ≡ written_dimension form.coding k i → dimension ≡ another
-    → Appends old (start_bits form.coding form.aligned before dimension) middle
-    → Appends middle (row_bits another reference row) new → Appends old (coded_line form k before i reference row) new
+-- a row that is put as it is written at its place in a strip
+pub line_put : (form : StripForm) (k before i : ℕ) (reference row : List Colour) (dimension : Dimension) (old new : Sink)
+    → dimension ≡ written_dimension form.coding k i
+    → Appends old (start_bits form.coding form.aligned before dimension ++ row_bits dimension reference row) new
+    → new.bits ≡ old.bits ++ coded_line form k before i reference row
 unfolding coded_line
-line_put form k before i reference row dimension another old middle new written is start codes =
-    subst (λ d. Appends old (start_bits form.coding form.aligned before d ++ row_bits d reference row) new) written
-    (appended old middle new (start_bits form.coding form.aligned before dimension) (row_bits dimension reference row) start
-    (subst (λ d. Appends middle (row_bits d reference row) new) (sym is) codes))
+line_put form k before i reference row dimension old new written put =
+    ap (λ (s : Sink). s.bits) put
+    ∙ ap (λ d. old.bits ++ (start_bits form.coding form.aligned before d ++ row_bits d reference row)) written
 
 -- a strip that is finished: what stands after its last row, and zeros
 pub finished : (order : FillOrder) (start middle padded : Sink) (end : List Bool) (bytes : List ℕ) → PacksOneWay → start.order ≡ order

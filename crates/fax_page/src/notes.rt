@@ -1,19 +1,16 @@
 //! What is worth a note in a strip that has all its rows.
 ghost use Rattle.std.specs.Prelude.{◌≡◌, ◌≤◌, List, length, IfOk, IfErr, IsTrue, OnOk};
 ghost use Rattle.fax_bits.specs.Bits.{bits};
-ghost use Rattle.fax_bits.specs.views.Sink.{Appends};
 ghost use Rattle.fax_bits.specs.declared.Colour.{Colour};
-ghost use Rattle.fax_page.specs.Strip.{row_bits};
 ghost use Rattle.fax_page.specs.Lines.{IsRowFaultIn, IsRowIn};
 ghost use Rattle.fax_page.specs.Strip as Spec;
 ghost use Rattle.fax_page.specs.views.Strip.{IsNotesFault, IsStripForm};
 ghost use Rattle.fax_page.specs.code.Notes as Code;
 
 use crate::lines::{read_eol, read_line, read_start, stop};
+use crate::writer::put_codes;
 use crate::{Coding, Dimension, StripFault, StripForm};
-use fax_rows::{
-    BitSink, BitSource, Memory, Row, RowFault, put_1d, put_2d, read_1d_choice, read_2d_choice,
-};
+use fax_rows::{BitSink, BitSource, Memory, Row, RowFault, read_1d_choice, read_2d_choice};
 use std::alloc::Global;
 use std::mem::swap;
 use thiserror::Error;
@@ -61,23 +58,6 @@ impl From<Memory> for NotesFault {
 
     fn from(_refused: Memory) -> Self {
         NotesFault::Memory
-    }
-}
-
-/// Puts the codes of a row that T.4 chooses where it is coded so.
-fn put_codes(
-    sink: &mut BitSink,
-    dimension: Dimension,
-    reference: &Row,
-    row: &Row,
-) -> Result<(), Memory>
-    requires same_width { length reference.now ≡ length row.now }
-    ensures { OnOk result
-        (Appends sink.old (row_bits dimension reference.now row.now) sink.new) }
-{
-    match dimension {
-        Dimension::OneDimensional => put_1d(row, sink),
-        Dimension::TwoDimensional => put_2d(reference, row, sink),
     }
 }
 

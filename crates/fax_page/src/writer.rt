@@ -61,29 +61,41 @@ fn put_start(sink: &mut BitSink, form: StripForm, dimension: Dimension) -> Resul
     }
 }
 
-/// Puts row `i` of a strip over the row before it: what stands before its codes, and its codes in
-/// T.4's own choice.
-fn put_line(
+/// Puts the codes of a row that T.4 chooses where it is coded so.
+pub(crate) fn put_codes(
     sink: &mut BitSink,
-    form: StripForm,
-    k: u32,
-    i: u32,
+    dimension: Dimension,
     reference: &Row,
     row: &Row,
 ) -> Result<(), Memory>
-    requires some_k { 0 < k }
     requires same_width { length reference.now ≡ length row.now }
     ensures ok { OnOk result
-        (Appends sink.old
-        (Coded.coded_line form k (length sink.old.bits) i reference.now row.now) sink.new) }
+        (Appends sink.old (Coded.row_bits dimension reference.now row.now) sink.new) }
     ensures same_order { sink.new.order ≡ sink.old.order }
 {
-    let dimension = written_dimension(form.coding, k, i);
-    put_start(sink, form, dimension)?;
     match dimension {
         Dimension::OneDimensional => put_1d(row, sink),
         Dimension::TwoDimensional => put_2d(reference, row, sink),
     }
+}
+
+/// Puts a row that is coded so over the row before it: what stands before its codes, and its codes
+/// in T.4's own choice.
+fn put_line(
+    sink: &mut BitSink,
+    form: StripForm,
+    dimension: Dimension,
+    reference: &Row,
+    row: &Row,
+) -> Result<(), Memory>
+    requires same_width { length reference.now ≡ length row.now }
+    ensures ok { OnOk result (Appends sink.old
+        (Coded.start_bits form.coding form.aligned (length sink.old.bits) dimension
+        ++ Coded.row_bits dimension reference.now row.now) sink.new) }
+    ensures same_order { sink.new.order ≡ sink.old.order }
+{
+    put_start(sink, form, dimension)?;
+    put_codes(sink, dimension, reference, row)
 }
 
 /// Puts what stands after a strip's last row: the end of the facsimile block in MMR, two EOLs
@@ -174,7 +186,8 @@ impl StripWriter {
         if self.refused {
             return Err(Memory);
         }
-        match put_line(&mut self.sink, self.form, self.k, self.row, &self.last, row) {
+        let dimension = written_dimension(self.form.coding, self.k, self.row);
+        match put_line(&mut self.sink, self.form, dimension, &self.last, row) {
             Ok(()) => {
                 self.last.set_from(row);
                 self.row += 1;

@@ -7,9 +7,11 @@ ghost use Rattle.fax_bits.specs.declared.FillOrder.TheVariants.{MsbFirst};
 ghost use Rattle.fax_rows.specs.Coded as Spec;
 ghost use Rattle.fax_rows.specs.code.PackedByte.{packed_byte};
 ghost use Rattle.fax_rows.specs.code.PackedWord.{IsPackedWord};
-ghost use Rattle.fax_rows.specs.code.Turns.{row_of, ArePlaces, HasPassed, IsAscending};
+ghost use Rattle.fax_rows.specs.code.PlacedRow.{placed_pels};
+ghost use Rattle.fax_rows.specs.code.Turns.{HasPassed};
 
 use crate::pels::Row;
+use crate::rows::PlacedRow;
 use crate::turns::close;
 use crate::unpacked::places_of_bits;
 use fax_bits::Memory;
@@ -58,29 +60,27 @@ impl Row {
         requires { length out.old ≡ Spec.packed_len (length self.now) }
         ensures { out.new ≡ Spec.packed_row self.now }
     {
-        pack_places(&self.places, self.end, self.width, out);
+        pack_row(self.placed(), out);
     }
 }
 
-/// Writes the pels of a row as bytes, by its places of change.
-fn pack_places(places: &[u32], end: usize, width: u32, out: &mut [u8])
-    requires row { ArePlaces places.now end width }
-    requires whole { length out.old ≡ Spec.packed_len width }
-    ensures { out.new ≡ Spec.packed_row (row_of places.now end width) }
+/// Writes the pels of a row as bytes, the highest bit of each first.
+fn pack_row(row: PlacedRow, out: &mut [u8])
+    requires { length out.old ≡ Spec.packed_len row.width }
+    ensures { out.new ≡ Spec.packed_row (placed_pels row.entry) }
 {
-    let words = (width / WORD) as usize;
-    let passed = pack_words(places, end, width, words, out);
-    pack_rest(places, end, width, 8 * words, passed, out);
+    let words = (row.width / WORD) as usize;
+    let passed = pack_words(row, words, out);
+    pack_rest(row, 8 * words, passed, out);
 }
 
 /// Writes so many words of 64 pels, and answers how many places of change are passed after them.
-fn pack_words(places: &[u32], end: usize, width: u32, words: usize, out: &mut [u8]) -> usize
-    requires row { ArePlaces places.now end width }
-    requires within { words ≡ width / 64 }
+fn pack_words(row: PlacedRow, words: usize, out: &mut [u8]) -> usize
+    requires within { words ≡ row.width / 64 }
     requires room { 8 * words ≤ length out.old }
     ensures written { (i : ℕ) → i < 8 * words
-        → slice_index out.new i ≡ packed_byte (row_of places.now end width) (8 * i) }
-    ensures so_far { HasPassed places.now end (64 * words) result }
+        → slice_index out.new i ≡ packed_byte (placed_pels row.entry) (8 * i) }
+    ensures so_far { HasPassed row.entry.places.now row.entry.end (64 * words) result }
     ensures same_len { length out.new ≡ length out.old }
 {
     bits_stand_by_place();
@@ -88,14 +88,14 @@ fn pack_words(places: &[u32], end: usize, width: u32, words: usize, out: &mut [u
     let mut passed = 1;
     let mut k = 0;
     while k < words {
-        let change = (places[passed] / WORD) as usize;
+        let change = (row.places[passed] / WORD) as usize;
         if k < change {
             // No colour changes in the words before that of the next change.
             let byte = if passed % 2 == 1 { 0x00 } else { 0xFF };
             fill(out, 8 * k, 8 * change, byte);
             k = change;
         } else {
-            let (word, after) = packed_word(places, end, width, k as u32, passed);
+            let (word, after) = packed_word(row, k as u32, passed);
             write_word(out, 8 * k, word);
             passed = after;
             k += 1;
@@ -107,18 +107,17 @@ fn pack_words(places: &[u32], end: usize, width: u32, words: usize, out: &mut [u
 /// Word `k` of 64 pels, before which so many places of change are passed; and how many are passed
 /// after it.
 #[inline(always)]
-fn packed_word(places: &[u32], end: usize, width: u32, k: u32, passed: usize) -> (u64, usize)
-    requires row { ArePlaces places.now end width }
-    requires within { 64 * k + 64 ≤ width }
-    requires so_far { HasPassed places.now end (64 * k) passed }
-    ensures word { IsPackedWord (row_of places.now end width) (64 * k) result.0 }
-    ensures so_far { HasPassed places.now end (64 * k + 64) result.1 }
+fn packed_word(row: PlacedRow, k: u32, passed: usize) -> (u64, usize)
+    requires within { 64 * k + 64 ≤ row.width }
+    requires so_far { HasPassed row.places.now row.end (64 * k) passed }
+    ensures word { IsPackedWord (placed_pels row.entry) (64 * k) result.0 }
+    ensures so_far { HasPassed row.entry.places.now row.entry.end (64 * k + 64) result.1 }
 {
     let to = WORD * k + WORD;
     let mut word = if passed % 2 == 1 { 0 } else { u64::MAX };
     let mut after = passed;
-    while places[after] < to {
-        word ^= u64::MAX >> (places[after] % WORD);
+    while row.places[after] < to {
+        word ^= u64::MAX >> (row.places[after] % WORD);
         after += 1;
     }
     (word, after)
@@ -145,26 +144,25 @@ fn write_word(out: &mut [u8], at: usize, word: u64)
 }
 
 /// Writes the bytes of a row from one on, where so many places of change are passed before it.
-fn pack_rest(places: &[u32], end: usize, width: u32, from: usize, passed: usize, out: &mut [u8])
-    requires row { ArePlaces places.now end width }
-    requires whole { length out.old ≡ Spec.packed_len width }
+fn pack_rest(row: PlacedRow, from: usize, passed: usize, out: &mut [u8])
+    requires whole { length out.old ≡ Spec.packed_len row.width }
     requires written { (i : ℕ) → i < from
-        → slice_index out.old i ≡ packed_byte (row_of places.now end width) (8 * i) }
+        → slice_index out.old i ≡ packed_byte (placed_pels row) (8 * i) }
     requires within { from ≤ length out.old }
-    requires so_far { HasPassed places.now end (8 * from) passed }
-    ensures { out.new ≡ Spec.packed_row (row_of places.now end width) }
+    requires so_far { HasPassed row.places.now row.end (8 * from) passed }
+    ensures { out.new ≡ Spec.packed_row (placed_pels row.entry) }
 {
     let mut passed = passed;
     let mut k = from;
     while k < out.len() {
-        let change = (places[passed] / 8) as usize;
+        let change = (row.places[passed] / 8) as usize;
         if k < change {
             // No colour changes in the bytes before that of the next change.
             let byte = if passed % 2 == 1 { 0x00 } else { 0xFF };
             fill(out, k, change, byte);
             k = change;
         } else {
-            let (byte, after) = packed_byte(places, end, width, 8 * k as u32, passed);
+            let (byte, after) = packed_byte(row, 8 * k as u32, passed);
             out[k] = byte;
             passed = after;
             k += 1;
@@ -187,19 +185,18 @@ fn fill(out: &mut [u8], from: usize, to: usize, byte: u8)
 
 /// The byte of the eight pels from a place on, with zeros after the last pel, where so many places
 /// of change are passed; and how many are passed after it.
-fn packed_byte(places: &[u32], end: usize, width: u32, from: u32, passed: usize) -> (u8, usize)
-    requires row { ArePlaces places.now end width }
-    requires within { from < width }
-    requires so_far { HasPassed places.now end from passed }
-    ensures byte { result.0 ≡ packed_byte (row_of places.now end width) from }
-    ensures so_far { HasPassed places.now end (from + 8) result.1 }
+fn packed_byte(row: PlacedRow, from: u32, passed: usize) -> (u8, usize)
+    requires within { from < row.width }
+    requires so_far { HasPassed row.places.now row.end from passed }
+    ensures byte { result.0 ≡ packed_byte (placed_pels row.entry) from }
+    ensures so_far { HasPassed row.entry.places.now row.entry.end (from + 8) result.1 }
 {
-    let to = width.min(from + 8);
+    let to = row.width.min(from + 8);
     let mut byte = 0;
     let mut at = from;
     let mut after = passed;
     while at < to {
-        let next = to.min(places[after]);
+        let next = to.min(row.places[after]);
         byte = with_run(byte, next - at, after % 2 == 0);
         at = next;
         if at < to {

@@ -18,7 +18,7 @@ returns-clause-ok c =
     let fits : HasWidth row =
     record { some = omega (arith, width, c.requires.limits.some_pels); short = omega (arith, width, c.requires.limits.short_rows) } in
     let put : c.put_codes.new.sink.bits ≡ row_bits c.in-Ok.dimension c.args.reference.now row =
-    ap (λ (s : Sink). s.bits) c.in_ok-put_codes.ensures
+    ap (λ (s : Sink). s.bits) c.in_ok-put_codes.ensures.ok
     ∙ ap (λ (s : Sink). s.bits ++ row_bits c.in-Ok.dimension c.args.reference.now row) c.clear.ensures in
     let begins : IsTrue c.begins.result ↔ BeginsWith c.read_start.new.source.left c.put_codes.new.sink.bits =
     subst (λ (s : Source). IsTrue c.begins.result ↔ BeginsWith s.left c.put_codes.new.sink.bits) c.again-codes.ensures c.begins.ensures in

@@ -5,8 +5,8 @@ use Rattle.fax_rows.proofs.packed.pack_rest.Given as goal
 
 abbrev pub invariant-loop-k : goal.invariant-loop-k
 invariant-loop-k l = record {
-  done : (i : ℕ) → i < l.k → get_or l.out i 0 ≡ packed_byte (row_of l.places l.end l.width) (8 * i);
-  so_far : HasPassed l.places l.end (8 * l.k) l.passed;
+  done : (i : ℕ) → i < l.k → get_or l.out i 0 ≡ packed_byte (row_of l.row.places.now l.row.end l.row.width) (8 * i);
+  so_far : HasPassed l.row.places.now l.row.end (8 * l.k) l.passed;
   len : length l.out ≡ length l.initial.out;
 }
 

@@ -6,8 +6,8 @@ use Rattle.fax_rows.proofs.packed.pack_words.Given as goal
 abbrev pub invariant-loop-k : goal.invariant-loop-k
 invariant-loop-k l = record {
   within : l.k ≤ l.words;
-  done : (i : ℕ) → i < 8 * l.k → get_or l.out i 0 ≡ packed_byte (row_of l.places l.end l.width) (8 * i);
-  so_far : HasPassed l.places l.end (64 * l.k) l.passed;
+  done : (i : ℕ) → i < 8 * l.k → get_or l.out i 0 ≡ packed_byte (row_of l.row.places.now l.row.end l.row.width) (8 * i);
+  so_far : HasPassed l.row.places.now l.row.end (64 * l.k) l.passed;
   len : length l.out ≡ length l.initial.out;
 }
 

@@ -8,10 +8,10 @@ abbrev pub invariant-loop-at : goal.invariant-loop-at
 invariant-loop-at l = record {
   from : l.from ≤ l.at;
   within : l.at ≤ l.to;
-  number : l.byte ≡ bits_number (take (l.at - l.from) (drop l.from (padded_bits (row_of l.places l.end l.width))));
+  number : l.byte ≡ bits_number (take (l.at - l.from) (drop l.from (padded_bits (row_of l.row.places.now l.row.end l.row.width))));
   fits : l.byte < 2 ^ (l.at - l.from);
-  so_far : HasPassed l.places l.end l.at l.after;
+  so_far : HasPassed l.row.places.now l.row.end l.at l.after;
 }
 
 abbrev pub decreases-loop-at : goal.decreases-loop-at
-decreases-loop-at l = l.to - l.at + (l.end - l.after)
+decreases-loop-at l = l.to - l.at + (l.row.end - l.after)
