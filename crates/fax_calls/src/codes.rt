@@ -115,7 +115,8 @@ fn looked_up_mode(alloc: Global, bits: &str) -> Result<String, WrongLine> {
     Ok(format!(in alloc; "{mode:?} {}", source.place())?)
 }
 
-/// How many ones are next, how many of them are gone past, and the place after those.
+/// After a mode, which loads bits: how many ones are next, how many of them are gone past, and the
+/// place after those.
 fn past_ones(alloc: Global, bits: &str, most: &str) -> Result<String, WrongLine> {
     let most = words::number(most)?;
     let bytes = words::bytes(alloc, bits)?;
@@ -123,6 +124,7 @@ fn past_ones(alloc: Global, bits: &str, most: &str) -> Result<String, WrongLine>
     if most > 32 {
         return Err(WrongLine::OutOfLimits);
     }
+    let _mode = source.mode();
     let ones = source.ones();
     let count = source.past_ones(most);
     Ok(format!(in alloc; "{ones} {count} {}", source.place())?)
