@@ -1,6 +1,6 @@
 -- Steps over places of change that T.4 would have chosen.
 use Rattle.std.proofs.Common.{◌≡◌, ℕ, ◌<◌, ◌≤◌, List, length, take, Bool, ℤ, pos, ◌≤ℤ◌, ap, sym, ◌∙◌, subst, arith, length-take-le}
-use Rattle.std.specs.Prelude.{Option, Some, None, IfSome}
+use Rattle.std.specs.Prelude.{Option, Some, None, IfSome, ok_or, Result, Ok, Err, IfOk}
 use Rattle.std.proofs.lemmas.Int.{ints}
 use Rattle.fax_bits.specs.declared.Colour.TheVariants.{White, Black}
 use Rattle.fax_bits.specs.declared.modes.ModeCode.TheVariants.{Pass, Horizontal, Vertical}
@@ -23,14 +23,19 @@ use Rattle.fax_rows.proofs.TakenModeLemmas.{mode_taken}
 use Rattle.fax_rows.proofs.TurnLemmas.{length-pels_by}
 
 -- what holds of a value that is there, by what else holds of it
-pub map_some : {A : Type 0} {P Q : A → Type 0} (found : Option A) → IfSome found P → ((x : A) → P x → Q x) → IfSome found Q
-map_some None h f = tt
-map_some (Some x) h f = f x h
+pub map_ok : {A E : Type 0} {P Q : A → Type 0} (found : Result A E) → IfOk found P → ((x : A) → P x → Q x) → IfOk found Q
+map_ok (Ok x) p f = f x p
+map_ok (Err e) p f = tt
 
-pub map_both : {A : Type 0} {P Q R : A → Type 0} (found : Option A) → IfSome found P → IfSome found Q → ((x : A) → P x → Q x → R x)
-    → IfSome found R
-map_both None p q f = tt
-map_both (Some x) p q f = f x p q
+pub map_found : {A E : Type 0} {P Q : A → Type 0} (found : Option A) (e : E) → IfSome found P → ((x : A) → P x → Q x)
+    → IfOk (ok_or found e) Q
+map_found None e p f = tt
+map_found (Some x) e p f = f x p
+
+pub map_both : {A E : Type 0} {P Q R : A → Type 0} (found : Result A E) → IfOk found P → IfOk found Q → ((x : A) → P x → Q x → R x)
+    → IfOk found R
+map_both (Ok x) p q f = f x p q
+map_both (Err e) p q f = tt
 
 module _ (reference : PlacedRow) (places : List ℕ) (at : PlacedReached) (so_far : IsReadTo reference places at)
     (unfinished : reached_pel at.reached < reference.width) where

@@ -1,5 +1,5 @@
 -- A row in two-dimensional coding, step by step.
-use Rattle.std.proofs.Common.{◌≡◌, ◌≢◌, ℕ, ◌<◌, List, [], ◌∷◌, ◌++◌, length, Option, Some, None, Bool, pos, negsuc, ◌+ℤ◌, ◌≤ℤ◌, ℤ}
+use Rattle.std.proofs.Common.{◌≡◌, ℕ, ◌<◌, List, [], length, Option, Some, None, Bool, pos, negsuc, ◌+ℤ◌, ◌≤ℤ◌, ℤ}
 use Rattle.std.proofs.Common.{refl, ap, ◌∙◌, arith}
 use Rattle.std.specs.Prelude.{unwrap_or, nat_abs}
 use Rattle.std.proofs.lemmas.Int.{ints}
@@ -7,9 +7,9 @@ use Rattle.fax_bits.specs.declared.Colour.{Colour}
 use Rattle.fax_bits.specs.declared.Colour.TheVariants.{White}
 use Rattle.fax_rows.specs.declared.two_dimensional.steps.Reached.{Reached}
 use Rattle.fax_rows.specs.Rows.{other, Position, beginning, coloured_up_to, IsInRow, IsVerticalStep}
-use Rattle.fax_rows.specs.Rows.{IsStep, AreSteps}
+use Rattle.fax_rows.specs.Rows.{AreSteps}
 use Rattle.fax_rows.specs.code.Seen.{b1_from}
-use Rattle.fax_rows.specs.code.Reached.{position_of, reached_pel}
+use Rattle.fax_rows.specs.code.Reached.{position_of}
 
 -- a place that is not negative
 pub abs-same : (z sum : ℤ) → pos 0 ≤ℤ z → z ≡ sum → pos (nat_abs z) ≡ sum
@@ -38,15 +38,6 @@ vertical_step reference old new at next d a1 colour in_row a1_is coloured turn =
   new_is = turned at next old new a1 colour coloured turn;
 }
 
-AreSteps-push : (reference : List Colour) (old : Position) (b : List Bool) (positions : List Position) (at new : Position)
-    (mid rest : List Bool)
-    → AreSteps reference old b positions at mid → (at.a0 ≢ Some (length reference)) → IsStep reference at mid new rest
-    → AreSteps reference old b (positions ++ new ∷ []) new rest
-AreSteps-push reference old b [] at new mid rest steps unfinished step =
-    (rw (← steps.0) unfinished, rest, rw (← steps.0, steps.1) step, (refl, refl))
-AreSteps-push reference old b (next ∷ more) at new mid rest steps unfinished step =
-    (steps.0, steps.1, steps.2, AreSteps-push reference next steps.1 more at new mid rest steps.3 unfinished step)
-
 -- steps of a row so far
 pub record AreStepsSoFar (reference : List Colour) (b : List Bool) (at : Position) (rest : List Bool) : Type 0 where
   pub positions : List Position
@@ -60,13 +51,3 @@ steps_begin reference row b = record { positions = []; steps = (refl, refl) }
 pub unfinished_below : (reference : List Colour) (o : Option ℕ) → unwrap_or o 0 < length reference → o ≡ Some (length reference) → ⊥
 unfinished_below reference None less e = cc
 unfinished_below reference (Some a) less e = let same : a ≡ length reference = cc in omega arith
-
-pub steps_go_on : (reference : List Colour) (b : List Bool) (at next : Reached) (old new : List Colour) (mid rest : List Bool)
-    → AreStepsSoFar reference b (position_of at old) mid → reached_pel at < length reference
-    → IsStep reference (position_of at old) mid (position_of next new) rest
-    → AreStepsSoFar reference b (position_of next new) rest
-steps_go_on reference b at next old new mid rest so_far less step = record {
-  positions = so_far.positions ++ position_of next new ∷ [];
-  steps = AreSteps-push reference beginning b so_far.positions (position_of at old) (position_of next new) mid rest so_far.steps
-      (unfinished_below reference at.a0 less) step;
-}

@@ -1,9 +1,12 @@
--- A row in one-dimensional coding whose next run has a fault.
+-- A row in one-dimensional coding whose next run has a fault, and why a row in two-dimensional coding is not read on.
 use Rattle.std.proofs.Common.{ℕ, ◌<◌, List, Bool, subst, arith}
 use Rattle.std.specs.Prelude.{sum}
 use Rattle.fax_bits.specs.declared.Colour.{Colour}
 use Rattle.fax_rows.specs.declared.RowFault.{RowFault}
+use Rattle.fax_rows.specs.declared.two_dimensional.codes.Stop.{Stop}
+use Rattle.fax_rows.specs.declared.two_dimensional.codes.Stop.TheVariants.{Doubt, Fault}
 use Rattle.fax_rows.specs.Faults.{IsOneDimensionalFault, IsRunFault}
+use Rattle.fax_rows.specs.code.Stop.{IsStopOf}
 use Rattle.fax_rows.proofs.PlacedReadLemmas.{HasRead}
 
 pub row_stops : (width : ℕ) (b : List Bool) (total : ℕ) (colour : Colour) (places : List ℕ) (end : ℕ) (left : List Bool) (fault : RowFault)
@@ -20,3 +23,9 @@ row_stops width b total colour places end left fault read unfinished stops =
           subst (λ c. IsRunFault c width (sum so_far.runs) left fault) so_far.colour_is
           (subst (λ n. IsRunFault colour width n left fault) so_far.sum_is stops);
     }
+
+-- a fault of some is one of others
+pub stop_as : (choice exact : Bool) {faults others : RowFault → Type 0} (stop : Stop) → IsStopOf choice exact faults stop
+    → ((fault : RowFault) → faults fault → others fault) → IsStopOf choice exact others stop
+stop_as choice exact Doubt is all = is
+stop_as choice exact (Fault fault) is all = all fault is

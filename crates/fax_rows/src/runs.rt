@@ -78,7 +78,12 @@ pub(crate) fn read_run(
 
 /// What `read_run` does for a source that stands in a value: only a copy of it is lent.
 #[inline(always)]
-fn long_run(source: &mut BitSource, colour: Colour, width: u32, from: u32) -> Result<u32, RowFault>
+pub(crate) fn long_run(
+    source: &mut BitSource,
+    colour: Colour,
+    width: u32,
+    from: u32,
+) -> Result<u32, RowFault>
     requires width { width < 2 ^ 16 }
     requires from { from ≤ width }
     ensures ok { IfOk result (λ n. IsRun colour source.old.left n source.new.left) }

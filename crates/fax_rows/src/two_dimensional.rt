@@ -1,95 +1,41 @@
 //! Rows in two-dimensional coding (ITU-T T.4, section 4.2.1.3, and T.6, section 2.2), read into
 //! places of change over a reference row's places.
-ghost use Rattle.std.specs.Prelude.{◌≡◌, ◌+◌, ◌-◌, ◌≤◌, ◌<◌};
+ghost use Rattle.std.specs.Prelude.{◌≡◌, ◌+◌, ◌-◌, ◌≤◌};
 ghost use Rattle.std.specs.Prelude.{◌++◌, length, slice_index, OnOk, IfOk, IfErr, IsTrue};
 ghost use Rattle.fax_bits.specs.views.Source.{KeepsEnd};
 ghost use Rattle.fax_rows.specs.Coded.{two_dimensional_bits};
 ghost use Rattle.fax_rows.specs.Rows as Spec;
 ghost use Rattle.fax_rows.specs.Faults as Fault;
-ghost use Rattle.fax_rows.specs.code.RowFaults.{IsHorizontalFault};
 ghost use Rattle.fax_rows.specs.code.PlacedRow.{placed_pels};
 ghost use Rattle.fax_rows.specs.code.Turns.{row_of, IsAscending};
-ghost use Rattle.fax_rows.specs.code.Reached.{reached_pel};
-ghost use Rattle.fax_rows.specs.code.PlacedReached.{placed_position, IsReadTo};
 
 use crate::RowFault;
 use crate::pels::Row;
 use crate::rows::PlacedRow;
-use crate::runs::{other, read_run};
 use crate::turns::close;
-use fax_bits::{BitSource, ModeCode, Modes, read_code};
-use quick::{read_quickly, vertical};
-use steps::{PlacedReached, after_runs, under_b2};
+use codes::Stop;
+use fax_bits::BitSource;
+use modes::read_modes;
 
+mod choices;
+mod codes;
 mod copied;
-mod quick;
+mod modes;
 mod steps;
 
-/// Horizontal mode: two runs from a0 on, the first of a0's colour, which stays (T.4, section
-/// 4.2.1.3.2).
-fn horizontal(
-    source: &mut BitSource,
-    reference: PlacedRow,
-    places: &mut [u32],
-    at: PlacedReached,
-) -> Result<PlacedReached, RowFault>
-    requires so_far { IsReadTo reference places.old at }
-    requires unfinished { reached_pel at.reached < reference.width }
-    ensures ok { IfOk result (λ next. Spec.IsHorizontalStep (placed_pels reference.entry)
-        (placed_position reference.entry.width places.old at) source.old.left
-        (placed_position reference.entry.width places.new next) source.new.left) }
-    ensures so_far { IfOk result (λ next. IsReadTo reference.entry places.new next) }
-    ensures err { IfErr result (λ fault. IsHorizontalFault (placed_pels reference.entry)
-        (placed_position reference.entry.width places.old at) source.old.left fault) }
-    ensures first { slice_index places.new 0 ≡ 0 }
-    ensures same_len { length places.new ≡ length places.old }
-    ensures same_end { KeepsEnd source.old source.new }
-    ensures no_longer { OnOk result (length source.new.left ≤ length source.old.left) }
-{
-    let width = reference.width;
-    let colour = at.reached.colour;
-    let from = at.reached.first_pel();
-    let first = read_run(source, colour, width, from)?;
-    let second = read_run(source, other(colour), width, from + first)?;
-    Ok(after_runs(reference, places, at, first, second))
+/// A row that is read into places of change.
+#[derive(Clone, Copy)]
+struct ReadRow {
+    /// The index after the last place.
+    end: usize,
+    /// Whether its codes are seen to be those that T.4 chooses.
+    is_chosen: bool,
 }
 
-/// Reads one mode, and goes on by what it says (T.4, section 4.2.1.3.3).
+/// Reads the modes of a row over the reference row, whose codes need not be those that T.4 chooses,
+/// and answers where its places end.
 #[inline(always)]
-fn step(
-    source: &mut BitSource,
-    reference: PlacedRow,
-    places: &mut [u32],
-    at: PlacedReached,
-) -> Result<PlacedReached, RowFault>
-    requires so_far { IsReadTo reference places.old at }
-    requires unfinished { reached_pel at.reached < reference.width }
-    ensures ok { IfOk result (λ next. Spec.IsStep (placed_pels reference.entry)
-        (placed_position reference.entry.width places.old at) source.old.left
-        (placed_position reference.entry.width places.new next) source.new.left) }
-    ensures so_far { IfOk result (λ next. IsReadTo reference.entry places.new next) }
-    ensures err { IfErr result (λ fault. Fault.IsStepFault (placed_pels reference.entry)
-        (placed_position reference.entry.width places.old at) source.old.left fault) }
-    ensures first { slice_index places.new 0 ≡ 0 }
-    ensures same_len { length places.new ≡ length places.old }
-    ensures same_end { KeepsEnd source.old source.new }
-    ensures shorter { OnOk result (length source.new.left < length source.old.left) }
-{
-    let mode = read_code::<Modes>(source)?;
-    match mode {
-        ModeCode::Pass => Ok(under_b2(reference, places, at)),
-        ModeCode::Horizontal => horizontal(source, reference, places, at),
-        ModeCode::Vertical(d) => match vertical::<false>(reference, places, at, d) {
-            Some(next) => Ok(next),
-            None => Err(RowFault::OutOfRow),
-        },
-        ModeCode::Extension => Err(RowFault::Extension),
-    }
-}
-
-/// Reads a row mode by mode, and answers where its places end: also where it has a fault.
-#[inline(never)]
-fn read_exactly(
+fn read_any(
     source: &mut BitSource,
     reference: PlacedRow,
     places: &mut [u32],
@@ -106,23 +52,20 @@ fn read_exactly(
     ensures same_len { length places.new ≡ length places.old }
     ensures same_end { KeepsEnd source.old source.new }
 {
-    let mut at = PlacedReached::BEGINNING;
-    while at.reached.first_pel() < reference.width {
-        at = step(source, reference, places, at)?;
+    match read_modes::<false, false>(source, reference, places) {
+        Ok(end) => return Ok(end),
+        Err(Stop::Fault(fault)) => return Err(fault),
+        Err(Stop::Doubt) => {}
     }
-    Ok(at.end)
+    match read_modes::<false, true>(source, reference, places) {
+        Ok(end) => Ok(end),
+        Err(Stop::Fault(fault)) => Err(fault),
+        Err(Stop::Doubt) => unreachable!(),
+    }
 }
 
-/// A row that is read into places of change.
-#[derive(Clone, Copy)]
-struct ReadRow {
-    /// The index after the last place.
-    end: usize,
-    /// Whether its codes are seen to be those that T.4 chooses.
-    is_chosen: bool,
-}
-
-/// Reads the modes of a row over the reference row: quickly, or else exactly.
+/// Reads the modes of a row over the reference row: as T.4 chooses them, where that is asked for, or
+/// else as any.
 #[inline(always)]
 fn read_places<const CHOICE: bool>(
     source: &mut BitSource,
@@ -146,20 +89,18 @@ fn read_places<const CHOICE: bool>(
     ensures same_end { KeepsEnd source.old source.new }
 {
     if CHOICE {
-        if let Some(end) = read_quickly::<true>(source, reference, places) {
-            return Ok(ReadRow {
-                end,
-                is_chosen: true,
-            });
+        match read_modes::<true, false>(source, reference, places) {
+            Ok(end) => {
+                return Ok(ReadRow {
+                    end,
+                    is_chosen: true,
+                });
+            }
+            Err(Stop::Fault(fault)) => return Err(fault),
+            Err(Stop::Doubt) => {}
         }
     }
-    if let Some(end) = read_quickly::<false>(source, reference, places) {
-        return Ok(ReadRow {
-            end,
-            is_chosen: false,
-        });
-    }
-    let end = read_exactly(source, reference, places)?;
+    let end = read_any(source, reference, places)?;
     Ok(ReadRow {
         end,
         is_chosen: false,

@@ -47,14 +47,12 @@ pub record GoesOnAsChosen (reference : List Colour) (old : Position) (b : List B
   pub positions : List Position
   pub steps : AreChosenSteps reference old b positions new rest
 
--- the bits begin with a run of the colour and one of the other, and are as they are written
--- (T.4, section 4.1.1)
-pub record IsPair (colour : Colour) (b : List Bool) (first second : ℕ) (rest : List Bool) : Type 0
-  where
-    pub middle : List Bool
-    pub first_run : IsRun colour b first middle
-    pub second_run : IsRun (other colour) middle second rest
-    pub bits : b ≡ (run_bits colour first ++ run_bits (other colour) second) ++ rest
+-- the bits begin with a run of the colour and one of the other
+pub record AreTwoRuns (colour : Colour) (b : List Bool) (first second : ℕ) (rest : List Bool)
+    : Type 0 where
+  pub middle : List Bool
+  pub first_run : IsRun colour b first middle
+  pub second_run : IsRun (other colour) middle second rest
 
 -- where two runs of so many pels end, the first of a0's colour (T.4, section 4.2.1.3.2)
 abbrev pub after_pair : Position → ℕ → ℕ → Position

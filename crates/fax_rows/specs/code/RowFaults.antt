@@ -16,11 +16,16 @@ IsAtRunCode colour width so_far b fault =
     ⊎ ((code : RunCode) × (after : List Bool) × Takes (run_table colour) b code after
     × IsRunCodeFault width so_far code fault)
 
--- horizontal mode with a fault in its first run, or with a first run within the row and a fault in
--- its second
+-- a fault in a run from the pel `from` on, or after a first run within the row in the run of the
+-- other colour after it
+abbrev pub IsPairFault : Colour → ℕ → ℕ → List Bool → RowFault → Type 0
+IsPairFault colour width from b fault =
+    IsRunFault colour width from b fault
+    ⊎ ((first : ℕ) × (middle : List Bool)
+    × IsRun colour b first middle × (from + first ≤ width)
+    × IsRunFault (other colour) width (from + first) middle fault)
+
+-- horizontal mode with a fault in one of its runs
 abbrev pub IsHorizontalFault : List Colour → Position → List Bool → RowFault → Type 0
 IsHorizontalFault reference at b fault =
-    IsRunFault at.colour (length reference) (first_pel at) b fault
-    ⊎ ((first : ℕ) × (middle : List Bool)
-    × IsRun at.colour b first middle × (first_pel at + first ≤ length reference)
-    × IsRunFault (other at.colour) (length reference) (first_pel at + first) middle fault)
+    IsPairFault at.colour (length reference) (first_pel at) b fault

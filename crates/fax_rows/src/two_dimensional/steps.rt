@@ -1,5 +1,5 @@
-//! Steps of two-dimensional coding over a reference row, which the exact and the quick reader share
-//! (ITU-T T.4, section 4.2.1.3.2).
+//! Steps of two-dimensional coding over a reference row, after their codes (ITU-T T.4, section
+//! 4.2.1.3.2).
 ghost use Rattle.std.specs.Prelude.{◌≡◌, ◌+◌, ◌-◌, ◌≤◌, ◌<◌, ◌^◌, ◌+ℤ◌, ◌≤ℤ◌, ◌<ℤ◌, pos, negsuc};
 ghost use Rattle.std.specs.Prelude.{ℤ, [], List, Bool, Some, true, length, slice_index, IfSome, IfNone};
 ghost use Rattle.std.specs.Prelude.{IsTrue};
@@ -154,7 +154,7 @@ fn turned_at(
     }
 }
 
-/// What `vertical` does with a1 just under b1, which is always right of a0 and in the row (T.4,
+/// Vertical mode with a1 just under b1, which is always right of a0 and in the row (T.4,
 /// section 4.2.1.3.2). The next b1 is the reference row's next changing element.
 #[inline(always)]
 pub(crate) fn under_b1(reference: PlacedRow, places: &mut [u32], at: PlacedReached) -> PlacedReached

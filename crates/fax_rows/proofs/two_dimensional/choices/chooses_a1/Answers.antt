@@ -1,7 +1,7 @@
 use Rattle.std.proofs.Common.{arith}
 use Rattle.std.proofs.lemmas.Bool.Decides.{nat_tests}
 use Rattle.fax_rows.proofs.PlacedB1Lemmas.{b1_index, b2_is}
-use Rattle.fax_rows.proofs.two_dimensional.quick.chooses_a1.Goals as goal
+use Rattle.fax_rows.proofs.two_dimensional.choices.chooses_a1.Goals as goal
 
 pub bounds-reference-at : goal.bounds-reference-at
 bounds-reference-at g c = omega (arith, b1_index c.args.reference c.args.at.b1 c.requires.b1.within)

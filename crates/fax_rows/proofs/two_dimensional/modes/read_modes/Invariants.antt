@@ -3,7 +3,7 @@ use Rattle.fax_rows.specs.code.PlacedRow.{placed_pels}
 use Rattle.fax_rows.specs.code.PlacedReached.{placed_position, IsReadTo}
 use Rattle.fax_rows.proofs.ChosenRowLemmas.{IsChosenSoFar}
 use Rattle.fax_rows.proofs.StepLemmas.{AreStepsSoFar}
-use Rattle.fax_rows.proofs.two_dimensional.quick.read_quickly.Given as goal
+use Rattle.fax_rows.proofs.two_dimensional.modes.read_modes.Given as goal
 
 abbrev pub invariant-loop-ahead : goal.invariant-loop-ahead
 invariant-loop-ahead g l = record {
