@@ -32,40 +32,7 @@ struct ReadRow {
     is_chosen: bool,
 }
 
-/// Reads the modes of a row over the reference row, whose codes need not be those that T.4 chooses,
-/// and answers where its places end.
-#[inline(always)]
-fn read_any(
-    source: &mut BitSource,
-    reference: PlacedRow,
-    places: &mut [u32],
-) -> Result<usize, RowFault>
-    requires room { length places.old ≡ reference.width + 4 }
-    requires first { slice_index places.old 0 ≡ 0 }
-    ensures ok { IfOk result (λ end. Spec.IsTwoDimensionalRow (placed_pels reference.entry)
-        source.old.left (row_of places.new end reference.entry.width) source.new.left) }
-    ensures ascending { IfOk result (λ end. IsAscending places.new end) }
-    ensures last { IfOk result (λ end. slice_index places.new (end - 1) ≤ reference.entry.width) }
-    ensures err { IfErr result (λ fault. Fault.IsTwoDimensionalFault
-        (placed_pels reference.entry) source.old.left fault) }
-    ensures first { slice_index places.new 0 ≡ 0 }
-    ensures same_len { length places.new ≡ length places.old }
-    ensures same_end { KeepsEnd source.old source.new }
-{
-    match read_modes::<false, false>(source, reference, places) {
-        Ok(end) => return Ok(end),
-        Err(Stop::Fault(fault)) => return Err(fault),
-        Err(Stop::Doubt) => {}
-    }
-    match read_modes::<false, true>(source, reference, places) {
-        Ok(end) => Ok(end),
-        Err(Stop::Fault(fault)) => Err(fault),
-        Err(Stop::Doubt) => unreachable!(),
-    }
-}
-
-/// Reads the modes of a row over the reference row: as T.4 chooses them, where that is asked for, or
-/// else as any.
+/// Reads the modes of a row over the reference row. After a doubt it reads them once more, exactly.
 #[inline(always)]
 fn read_places<const CHOICE: bool>(
     source: &mut BitSource,
@@ -88,23 +55,24 @@ fn read_places<const CHOICE: bool>(
     ensures same_len { length places.new ≡ length places.old }
     ensures same_end { KeepsEnd source.old source.new }
 {
-    if CHOICE {
-        match read_modes::<true, false>(source, reference, places) {
-            Ok(end) => {
-                return Ok(ReadRow {
-                    end,
-                    is_chosen: true,
-                });
-            }
-            Err(Stop::Fault(fault)) => return Err(fault),
-            Err(Stop::Doubt) => {}
+    match read_modes::<CHOICE, false>(source, reference, places) {
+        Ok(end) => {
+            return Ok(ReadRow {
+                end,
+                is_chosen: CHOICE,
+            });
         }
+        Err(Stop::Fault(fault)) => return Err(fault),
+        Err(Stop::Doubt) => {}
     }
-    let end = read_any(source, reference, places)?;
-    Ok(ReadRow {
-        end,
-        is_chosen: false,
-    })
+    match read_modes::<false, true>(source, reference, places) {
+        Ok(end) => Ok(ReadRow {
+            end,
+            is_chosen: false,
+        }),
+        Err(Stop::Fault(fault)) => Err(fault),
+        Err(Stop::Doubt) => unreachable!(),
+    }
 }
 
 /// Reads a row, and answers whether its codes are seen to be those that T.4 chooses.
