@@ -1,19 +1,17 @@
 -- The place after rows that were written.
-use Rattle.std.proofs.Common.{Bool, ◌≡◌, ◌≢◌, ℕ, ◌+◌, ◌<◌, List, [], ◌∷◌, ◌++◌, length, take, drop, true, false, inl, inr, refl, ap, sym}
+use Rattle.std.proofs.Common.{Bool, ◌≡◌, ℕ, ◌+◌, ◌<◌, List, [], ◌∷◌, length, take, drop, true, false, inl, inr, refl, ap, sym}
 use Rattle.std.proofs.Common.{subst, ◌∙◌, arith}
-use Rattle.std.specs.Prelude.{Some, None, ◌&&◌, if◌then◌else◌, nat_le, nat_lt}
+use Rattle.std.specs.Prelude.{Some, ◌&&◌, if◌then◌else◌, nat_le, nat_lt}
 use Rattle.std.proofs.lemmas.Bool.{ltb-true}
 use Rattle.std.proofs.lemmas.List.{take_at, drop_at}
 use Rattle.fax_rows.specs.Rows.{Colour, other, same_colour, runs_after, runs_of}
 use Rattle.fax_walk.specs.declared.begun.Begun.TheVariants.{At, Inside}
-use Rattle.fax_walk.specs.declared.cursor.Cursor.{Cursor}
 use Rattle.fax_walk.specs.declared.walk.PlaceInside.{PlaceInside}
 use Rattle.fax_walk.specs.Rows.{begins_at}
 use Rattle.fax_walk.specs.views.Walk.{IsLongOf, WalkView, begins_inside, place_inside}
 use Rattle.fax_c.specs.declared.filled.Filled.{Filled}
-use Rattle.fax_c.specs.declared.filled.Stop.TheVariants.{NoRoom}
 use Rattle.fax_c.specs.declared.places.FaxPlace.{FaxPlace}
-use Rattle.fax_c.specs.views.Places.{IsAfter, begun_of, cursor_of, has_runs, long_place_of, place_at, walk_after}
+use Rattle.fax_c.specs.views.Places.{IsAfter, begun_of, cursor_of, has_runs, long_place_of}
 use Rattle.fax_c.specs.code.Put.{IsInsideTold, IsPutAt}
 
 -- a row has a run

@@ -10,7 +10,7 @@ use Rattle.fax_bits.specs.Bits.{code_bits}
 use Rattle.fax_bits.specs.views.Source.{HasZerosAhead}
 use Rattle.fax_bits.specs.Codes.{bits_of, Takes, Spells}
 use Rattle.fax_bits.specs.Tables.{run_table, modes, white_runs, white_terminating, white_make_up, common_make_up}
-use Rattle.fax_rows.specs.Rows.{pels_of, AreRuns, Position, beginning, AreSteps}
+use Rattle.fax_rows.specs.Rows.{AreRuns, Position, beginning, AreSteps}
 use Rattle.fax_page.specs.declared.Dimension.{Dimension}
 use Rattle.fax_page.specs.declared.Dimension.TheVariants.{OneDimensional, TwoDimensional}
 use Rattle.fax_page.specs.Lines.{BeginsBelowEleven, IsRowIn}
@@ -68,13 +68,9 @@ run_begins : (make_up : List ℕ) (last : ℕ) (b rest : List Bool)
 run_begins [] last b rest spelled = taken_begins (run_table White) b (Terminating last) spelled.0 all_have_one-white spelled.1
 run_begins (n ∷ make_up) last b rest spelled = taken_begins (run_table White) b (MakeUp n) spelled.0 all_have_one-white spelled.1
 
-runs_begin : (width : ℕ) (row : List Colour) (runs : List ℕ) (b rest : List Bool) → 0 < width → row ≡ pels_of White runs
-    → length row ≡ width
-    → AreRuns White b runs rest → BeginsBelowEleven b
-runs_begin width row [] b rest some pels whole coded =
-    absurd (omega (arith, ap (λ (xs : List Colour). length xs) pels, whole, some))
-runs_begin width row (n ∷ runs) b rest some pels whole coded =
-    run_begins coded.1.make_up coded.1.last b coded.0 coded.1.spelled
+runs_begin : (width : ℕ) (runs : List ℕ) (b rest : List Bool) → 0 < width → AreRuns width White 0 b runs rest → BeginsBelowEleven b
+runs_begin width [] b rest some coded = absurd (omega (arith, coded.0, some))
+runs_begin width (n ∷ runs) b rest some coded = run_begins coded.2.make_up coded.2.last b coded.1 coded.2.spelled
 
 steps_begin : (reference : List Colour) (b : List Bool) (positions : List Position) (last : Position) (rest : List Bool)
     → AreSteps reference beginning b positions last rest → last.a0 ≡ Some (length reference) → BeginsBelowEleven b
@@ -88,7 +84,6 @@ steps_begin reference b (next ∷ positions) last rest steps ends =
 pub row_begins : (dimension : Dimension) (width : ℕ) (reference : List Colour) (b : List Bool) (row : List Colour) (rest : List Bool)
     → 0 < width
     → IsRowIn dimension width reference b row rest → BeginsBelowEleven b
-row_begins OneDimensional width reference b row rest some is =
-    runs_begin width row is.runs b rest some is.pels is.whole is.coded
+row_begins OneDimensional width reference b row rest some is = runs_begin width is.runs b rest some is.coded
 row_begins TwoDimensional width reference b row rest some is =
     steps_begin reference b is.positions is.last rest is.steps is.ends

@@ -50,10 +50,12 @@ run_rest : (colour : Colour) (b : List Bool) (n : ℕ) (rest : List Bool) → Is
 run_rest colour b n rest run =
     spelled_rest (run_table colour) (map MakeUp run.make_up ++ Terminating run.last ∷ []) b rest run.spelled
 
-runs_rest : (colour : Colour) (runs : List ℕ) (b rest : List Bool) → AreRuns colour b runs rest → EndsWith b rest
-runs_rest colour [] b rest coded = same b rest coded
-runs_rest colour (n ∷ runs) b rest coded =
-    onwards b coded.0 rest (run_rest colour b n coded.0 coded.1) (runs_rest (other colour) runs coded.0 rest coded.2)
+runs_rest : (width : ℕ) (colour : Colour) (from : ℕ) (runs : List ℕ) (b rest : List Bool) → AreRuns width colour from b runs rest
+    → EndsWith b rest
+runs_rest width colour from [] b rest coded = same b rest coded.1
+runs_rest width colour from (n ∷ runs) b rest coded =
+    onwards b coded.1 rest (run_rest colour b n coded.1 coded.2)
+    (runs_rest width (other colour) (from + n) runs coded.1 rest coded.3)
 
 step_rest : (mode : ModeCode) (reference : List Colour) (old : Position) (b : List Bool) (new : Position) (rest : List Bool)
     → IsStepBy mode reference old b new rest → EndsWith b rest
@@ -75,7 +77,7 @@ steps_rest reference old (next ∷ more) b new rest steps =
 
 row_rest : (dimension : Dimension) (width : ℕ) (reference : List Colour) (b : List Bool) (row : List Colour) (rest : List Bool)
     → IsRowIn dimension width reference b row rest → EndsWith b rest
-row_rest OneDimensional width reference b row rest is = runs_rest White is.runs b rest is.coded
+row_rest OneDimensional width reference b row rest is = runs_rest width White 0 is.runs b rest is.coded
 row_rest TwoDimensional width reference b row rest is = steps_rest reference beginning is.positions b is.last rest is.steps
 
 eol_rest : (b rest : List Bool) → IsEndOfLine b rest → EndsWith b rest

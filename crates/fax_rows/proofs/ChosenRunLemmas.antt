@@ -10,7 +10,7 @@ use Rattle.fax_bits.specs.declared.Colour.TheVariants.{White}
 use Rattle.fax_bits.specs.Written.{run_bits}
 use Rattle.fax_rows.specs.Coded.{alternating_bits, one_dimensional_bits}
 use Rattle.fax_rows.specs.Rows.{other, pels_of, runs_of, IsOneDimensionalRow}
-use Rattle.fax_rows.specs.Faults.{colour_after_runs}
+use Rattle.fax_rows.proofs.CodedRunLemmas.{colour_after_runs}
 use Rattle.fax_rows.specs.laws.Rows.{OneDimensionalBitsAreOneRow}
 use Rattle.fax_rows.proofs.GivenRunLemmas.{longest_are_back}
 use Rattle.fax_rows.proofs.RowLaws.{length-pels_of}

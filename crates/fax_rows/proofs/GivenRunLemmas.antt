@@ -10,7 +10,7 @@ use Rattle.std.proofs.lemmas.List.Sums.{sum_by-take-le}
 use Rattle.fax_bits.specs.declared.Colour.{Colour}
 use Rattle.fax_bits.specs.declared.Colour.TheVariants.{White, Black}
 use Rattle.fax_rows.specs.Rows.{other, pels_of, runs_after, runs_of}
-use Rattle.fax_rows.specs.Faults.{colour_after_runs}
+use Rattle.fax_rows.proofs.CodedRunLemmas.{colour_after_runs}
 use Rattle.fax_rows.specs.code.LongestRuns.{AreLongest}
 use Rattle.fax_rows.specs.code.Turns.{turned, pels_by, IsTurnedFrom}
 use Rattle.fax_rows.proofs.PlacedRowLemmas.{turned-first, take-first}

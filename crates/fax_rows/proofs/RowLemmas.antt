@@ -10,16 +10,16 @@ use Rattle.std.proofs.lemmas.List.{append-nil, get_or-replicate, take-append-le}
 use Rattle.fax_bits.specs.declared.Colour.{Colour}
 use Rattle.fax_bits.specs.declared.Colour.TheVariants.{White}
 use Rattle.fax_bits.specs.Codes.{IsRun}
-use Rattle.fax_rows.specs.Rows.{other, pels_of, AreRuns, IsOneDimensionalRow}
-use Rattle.fax_rows.specs.Faults.{colour_after_runs}
+use Rattle.fax_rows.specs.Rows.{other, pels_of, IsOneDimensionalRow}
+use Rattle.fax_rows.proofs.CodedRunLemmas.{AreCodedRuns, colour_after_runs, runs_from}
 use Rattle.fax_rows.proofs.RowLaws.{length-pels_of}
 use Rattle.fax_rows.proofs.RunLemmas.{sum-push}
 
-AreRuns-push : (c : Colour) (b : List Bool) (runs : List ℕ) (n : ℕ) (mid rest : List Bool)
-    → AreRuns c b runs mid → IsRun (colour_after_runs c runs) mid n rest → AreRuns c b (runs ++ n ∷ []) rest
-AreRuns-push c b [] n mid rest coded run = (rest, subst (λ x. IsRun c x n rest) (sym coded) run, refl)
-AreRuns-push c b (m ∷ runs) n mid rest coded run =
-    (coded.0, coded.1, AreRuns-push (other c) coded.0 runs n mid rest coded.2 run)
+AreCodedRuns-push : (c : Colour) (b : List Bool) (runs : List ℕ) (n : ℕ) (mid rest : List Bool)
+    → AreCodedRuns c b runs mid → IsRun (colour_after_runs c runs) mid n rest → AreCodedRuns c b (runs ++ n ∷ []) rest
+AreCodedRuns-push c b [] n mid rest coded run = (rest, subst (λ x. IsRun c x n rest) (sym coded) run, refl)
+AreCodedRuns-push c b (m ∷ runs) n mid rest coded run =
+    (coded.0, coded.1, AreCodedRuns-push (other c) coded.0 runs n mid rest coded.2 run)
 
 pub colour_after_runs-push : (c : Colour) (runs : List ℕ) (n : ℕ) → colour_after_runs c (runs ++ n ∷ []) ≡ other (colour_after_runs c runs)
 colour_after_runs-push c [] n = refl
@@ -43,7 +43,7 @@ same_pels (x ∷ xs) (y ∷ ys) len each =
 -- runs of a row so far
 pub record IsRowSoFar (width : ℕ) (b : List Bool) (total : ℕ) (colour : Colour) (row : List Colour) (rest : List Bool) : Type 0 where
   pub runs : List ℕ
-  pub coded : AreRuns White b runs rest
+  pub coded : AreCodedRuns White b runs rest
   pub sum_is : total ≡ sum runs
   pub colour_is : colour ≡ colour_after_runs White runs
   pub pels : (k : ℕ) → k < total → get_or row k White ≡ get_or (pels_of White runs) k White
@@ -79,7 +79,7 @@ pub row_goes_on : (width : ℕ) (b : List Bool) (total n : ℕ) (colour : Colour
     → IsRowSoFar width b (total + n) (other colour) new rest
 row_goes_on width b total n colour old new mid rest so_far unfinished run before painted = record {
   runs = so_far.runs ++ n ∷ [];
-  coded = AreRuns-push White b so_far.runs n mid rest so_far.coded (subst (λ c. IsRun c mid n rest) so_far.colour_is run);
+  coded = AreCodedRuns-push White b so_far.runs n mid rest so_far.coded (subst (λ c. IsRun c mid n rest) so_far.colour_is run);
   sum_is = omega (arith, sum-push so_far.runs n, so_far.sum_is);
   colour_is = ap other so_far.colour_is ∙ sym (colour_after_runs-push White so_far.runs n);
   pels = λ k h. pel_at k h (cases_lt k total);
@@ -108,10 +108,9 @@ pub row_done : (width : ℕ) (b : List Bool) (total : ℕ) (colour : Colour) (ro
     → IsRowSoFar width b total colour row rest → total ≡ width → length row ≡ width → IsOneDimensionalRow width b row rest
 row_done width b total colour row rest so_far done len = record {
   runs = so_far.runs;
-  coded = so_far.coded;
+  coded = runs_from width White 0 b so_far.runs rest so_far.coded (omega (arith, so_far.sum_is, done))
+      (λ k h. omega (arith, so_far.below k h));
   pels = same_pels row (pels_of White so_far.runs)
       (len ∙ sym done ∙ so_far.sum_is ∙ sym (length-pels_of White so_far.runs))
       (λ k h. so_far.pels k (omega arith));
-  whole = len;
-  ends = λ k h e. absurd (omega (arith, so_far.below k h));
 }

@@ -1,12 +1,13 @@
 -- A row in one-dimensional coding whose next run has a fault, and why a row in two-dimensional coding is not read on.
 use Rattle.std.proofs.Common.{ℕ, ◌<◌, List, Bool, subst, arith}
-use Rattle.std.specs.Prelude.{sum}
 use Rattle.fax_bits.specs.declared.Colour.{Colour}
+use Rattle.fax_bits.specs.declared.Colour.TheVariants.{White}
 use Rattle.fax_rows.specs.declared.RowFault.{RowFault}
 use Rattle.fax_rows.specs.declared.two_dimensional.codes.Stop.{Stop}
 use Rattle.fax_rows.specs.declared.two_dimensional.codes.Stop.TheVariants.{Doubt, Fault}
 use Rattle.fax_rows.specs.Faults.{IsOneDimensionalFault, IsRunFault}
 use Rattle.fax_rows.specs.code.Stop.{IsStopOf}
+use Rattle.fax_rows.proofs.CodedRunLemmas.{stop_from}
 use Rattle.fax_rows.proofs.PlacedReadLemmas.{HasRead}
 
 pub row_stops : (width : ℕ) (b : List Bool) (total : ℕ) (colour : Colour) (places : List ℕ) (end : ℕ) (left : List Bool) (fault : RowFault)
@@ -16,12 +17,8 @@ row_stops width b total colour places end left fault read unfinished stops =
     let so_far = read.so_far in
     record {
       runs = so_far.runs;
-      left = left;
-      coded = so_far.coded;
-      unfinished = omega (arith, so_far.sum_is, unfinished);
-      at_run =
-          subst (λ c. IsRunFault c width (sum so_far.runs) left fault) so_far.colour_is
-          (subst (λ n. IsRunFault colour width n left fault) so_far.sum_is stops);
+      stops = stop_from width White 0 total b so_far.runs left fault so_far.coded (omega (arith, so_far.sum_is)) unfinished
+          (subst (λ c. IsRunFault c width total left fault) so_far.colour_is stops);
     }
 
 -- a fault of some is one of others

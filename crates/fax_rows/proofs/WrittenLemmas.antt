@@ -15,7 +15,7 @@ use Rattle.fax_bits.specs.Codes.{Takes}
 use Rattle.fax_bits.specs.laws.Codes.{RunBitsAreRead, ModeBitsAreRead}
 use Rattle.fax_bits.specs.Written.{mode_bits}
 use Rattle.fax_bits.specs.Tables.{modes}
-use Rattle.fax_rows.specs.Rows.{other, pels_of, runs_after, runs_of, AreRuns, IsOneDimensionalRow}
+use Rattle.fax_rows.specs.Rows.{other, pels_of, runs_after, runs_of, IsOneDimensionalRow}
 use Rattle.fax_rows.specs.Rows.{Position, AreSteps, IsTwoDimensionalRow}
 use Rattle.fax_rows.specs.laws.Rows.{HasWidth}
 use Rattle.fax_rows.specs.Coded.{chosen_step, step_bits, two_dimensional_bits, alternating_bits}
@@ -24,6 +24,7 @@ use Rattle.fax_rows.specs.Coded.{one_dimensional_bits}
 use Rattle.fax_rows.proofs.ChangeLemmas.{first_of}
 use Rattle.fax_rows.proofs.RowLaws.{length-pels_of}
 use Rattle.fax_rows.proofs.RunLaws.{sum-cons}
+use Rattle.fax_rows.proofs.CodedRunLemmas.{AreCodedRuns, runs_from}
 use Rattle.fax_rows.proofs.ChoiceLemmas.{here, passed, colour_after, IsChosen, chosen}
 
 -- the bits begin with steps from a position to the row's end, and the row is what they make
@@ -225,7 +226,7 @@ fewer_runs Black n (White ∷ pels) some (suc k) h =
 
 -- written runs are read back
 runs_back : RunBitsAreRead → (colour : Colour) (runs : List ℕ) (more : List Bool) → sum runs < 2 ^ 16
-    → AreRuns colour (alternating_bits colour runs ++ more) runs more
+    → AreCodedRuns colour (alternating_bits colour runs ++ more) runs more
 unfolding alternating_bits
 runs_back runs_read colour [] more short = refl
 runs_back runs_read colour (n ∷ runs) more short = (
@@ -243,8 +244,8 @@ one_dimensional_back runs_read row limits more =
     sym (length-pels_of White (runs_of row)) ∙ ap (λ (xs : List Colour). length xs) (sym pels) in
     record {
       runs = runs_of row;
-      coded = runs_back runs_read White (runs_of row) more (omega (arith, sum_is, limits.short));
+      coded = runs_from (length row) White 0 (one_dimensional_bits row ++ more) (runs_of row) more
+          (runs_back runs_read White (runs_of row) more (omega (arith, sum_is, limits.short))) (omega (arith, sum_is))
+          (λ k h. omega (arith, fewer_runs White 0 row (omega (arith, limits.some)) k h));
       pels = pels;
-      whole = refl;
-      ends = λ k h e. absurd (omega (arith, fewer_runs White 0 row (omega (arith, limits.some)) k h));
     }

@@ -2,7 +2,7 @@
 -- A definition without a citation is this project's profile.
 use Rattle.std.specs.Prelude.{◌≡◌, ◌≢◌, ℕ, ◌+◌, ◌<◌, ◌≤◌, ◌⊎◌, Bool, List, [], ◌∷◌, map, sum}
 use Rattle.std.specs.Prelude.{length, Some}
-use Rattle.fax_rows.specs.Rows.{Colour, White, ModeCode, AreRuns, AreSteps, IsInRow, Position}
+use Rattle.fax_rows.specs.Rows.{Colour, White, ModeCode, AreSteps, IsInRow, Position}
 use Rattle.fax_rows.specs.Rows.{beginning, first_pel, other}
 use Rattle.fax_bits.specs.declared.codes.CodeEntry.{CodeEntry}
 use Rattle.fax_bits.specs.declared.codes.CodeFault.{CodeFault}
@@ -43,18 +43,18 @@ pub record IsRunFault (colour : Colour) (width from : ℕ) (b : List Bool)
       ⊎ ((code : RunCode) × (after : List Bool) × Takes (run_table colour) left code after
       × IsRunCodeFault width (from + sum make_up) code fault)
 
--- the colour of the run after these runs (T.4, section 4.1.1)
-abbrev pub colour_after_runs : Colour → List ℕ → Colour
-colour_after_runs colour [] = colour
-colour_after_runs colour (n ∷ runs) = colour_after_runs (other colour) runs
+-- from the pel `from` on the bits are whole runs of these lengths in alternating colours (T.4,
+-- section 4.1.1), and then a run with this fault, each of them begun before the width
+abbrev pub StopsAtRun : ℕ → Colour → ℕ → List Bool → List ℕ → RowFault → Type 0
+StopsAtRun width colour from b [] fault = (from < width) × IsRunFault colour width from b fault
+StopsAtRun width colour from b (n ∷ runs) fault =
+    (from < width) × (middle : List Bool) × IsRun colour b n middle
+    × StopsAtRun width (other colour) (from + n) middle runs fault
 
--- the bits begin with whole runs that do not make up the width, and then a run with this fault
+-- the bits begin with whole runs, white first, and then a run with this fault
 pub record IsOneDimensionalFault (width : ℕ) (b : List Bool) (fault : RowFault) : Type 0 where
   pub runs : List ℕ
-  pub left : List Bool
-  pub coded : AreRuns White b runs left
-  pub unfinished : sum runs < width
-  pub at_run : IsRunFault (colour_after_runs White runs) width (sum runs) left fault
+  pub stops : StopsAtRun width White 0 b runs fault
 
 -- the fault of a mode, with the bits after its code; in horizontal mode it stands in the first run,
 -- or after a first run within the row in the second

@@ -3,7 +3,7 @@
 -- below are those of T.4. 'Ours' is this project's profile.
 use Rattle.std.specs.Prelude.{◌≡◌, ◌≢◌, ℕ, zero, suc, ◌+◌, ◌-◌, ◌<◌, ◌≤◌, nat_lt, ℤ, pos, negsuc}
 use Rattle.std.specs.Prelude.{◌+ℤ◌, ◌<ℤ◌, ◌≤ℤ◌, Bool, true, false, not, ◌&&◌, if◌then◌else◌, List}
-use Rattle.std.specs.Prelude.{[], ◌∷◌, ◌++◌, length, replicate, sum, take, slice_index_or, Option}
+use Rattle.std.specs.Prelude.{[], ◌∷◌, ◌++◌, length, replicate, slice_index_or, Option}
 use Rattle.std.specs.Prelude.{Some, None, unwrap_or}
 use Rattle.fax_bits.specs.declared.modes.ModeCode.TheVariants.{Pass, Horizontal, Vertical}
 use Rattle.fax_bits.specs.declared.modes.ModeCode.TheVariants.{Extension}
@@ -77,22 +77,21 @@ runs_after colour n (first ∷ pels) =
 abbrev pub runs_of : List Colour → List ℕ
 runs_of row = runs_after White 0 row
 
--- the bits are runs of these lengths in alternating colours, and the rest follows them
-abbrev pub AreRuns : Colour → List Bool → List ℕ → List Bool → Type 0
-AreRuns colour b [] rest = b ≡ rest
-AreRuns colour b (n ∷ runs) rest =
-    (middle : List Bool) × IsRun colour b n middle × AreRuns (other colour) middle runs rest
+-- from the pel `from` on the bits are runs of these lengths in alternating colours, each of them
+-- begun before the width and the last one ended at it, and the rest follows them (section 4.1.1;
+-- that a run of 0 may stand anywhere is ours)
+abbrev pub AreRuns : ℕ → Colour → ℕ → List Bool → List ℕ → List Bool → Type 0
+AreRuns width colour from b [] rest = (from ≡ width) × (b ≡ rest)
+AreRuns width colour from b (n ∷ runs) rest =
+    (from < width) × (middle : List Bool) × IsRun colour b n middle
+    × AreRuns width (other colour) (from + n) middle runs rest
 
--- the bits begin with this row in one-dimensional coding: runs of alternating colours, white first,
--- that make up the width, where no fewer of them do (section 4.1.1; that a run of 0 may stand
--- anywhere is ours)
+-- the bits begin with this row in one-dimensional coding: runs, white first (section 4.1.1)
 pub record IsOneDimensionalRow (width : ℕ) (b : List Bool) (row : List Colour)
     (rest : List Bool) : Type 0 where
   pub runs : List ℕ
-  pub coded : AreRuns White b runs rest
+  pub coded : AreRuns width White 0 b runs rest
   pub pels : row ≡ pels_of White runs
-  pub whole : length row ≡ width
-  pub ends : (k : ℕ) → k < length runs → sum (take k runs) ≢ width
 
 -- how far a row is read: the place a0, where None is just before the first pel, a0's colour, and
 -- the pels before a0 (section 4.2.1.3.1)

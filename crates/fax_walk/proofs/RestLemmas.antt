@@ -35,10 +35,11 @@ spelled_rest table b (meaning ∷ meanings) rest (middle, taken, more) =
 run_rest : (colour : Colour) (b : List Bool) (n : ℕ) (rest : List Bool) → IsRun colour b n rest → IsRestOf rest b
 run_rest colour b n rest run = spelled_rest _ b _ rest run.spelled
 
-runs_rest : (colour : Colour) (b : List Bool) (runs : List ℕ) (rest : List Bool) → AreRuns colour b runs rest → IsRestOf rest b
-runs_rest colour b [] rest e = all_of b rest e
-runs_rest colour b (n ∷ runs) rest (middle, run, more) =
-    through b middle rest (run_rest colour b n middle run) (runs_rest (other colour) middle runs rest more)
+runs_rest : (width : ℕ) (colour : Colour) (from : ℕ) (b : List Bool) (runs : List ℕ) (rest : List Bool)
+    → AreRuns width colour from b runs rest → IsRestOf rest b
+runs_rest width colour from b [] rest ended = all_of b rest ended.1
+runs_rest width colour from b (n ∷ runs) rest (unfinished, middle, run, more) =
+    through b middle rest (run_rest colour b n middle run) (runs_rest width (other colour) (from + n) middle runs rest more)
 
 step_rest : (mode : ModeCode) (reference : List Colour) (old : Position) (b : List Bool) (new : Position) (rest : List Bool)
     → IsStepBy mode reference old b new rest → IsRestOf rest b
@@ -60,7 +61,7 @@ steps_rest reference old b (next ∷ more) new rest (unfinished, middle, step, s
 
 row_rest : (dimension : Dimension) (width : ℕ) (reference : List Colour) (b : List Bool) (row : List Colour) (rest : List Bool)
     → IsRowIn dimension width reference b row rest → IsRestOf rest b
-row_rest OneDimensional width reference b row rest is = runs_rest _ b is.runs rest is.coded
+row_rest OneDimensional width reference b row rest is = runs_rest width _ 0 b is.runs rest is.coded
 row_rest TwoDimensional width reference b row rest is = steps_rest reference _ b is.positions is.last rest is.steps
 
 eol_rest : (b rest : List Bool) → IsEndOfLine b rest → IsRestOf rest b

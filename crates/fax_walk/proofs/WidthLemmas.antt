@@ -6,11 +6,12 @@ use Rattle.std.proofs.lemmas.Int.{ints}
 use Rattle.std.proofs.lemmas.List.{length-replicate}
 use Rattle.std.proofs.lemmas.Bool.Decides.{nat_tests}
 use Rattle.fax_bits.specs.declared.Colour.{Colour}
+use Rattle.fax_bits.specs.declared.Colour.TheVariants.{White}
 use Rattle.fax_bits.specs.declared.modes.ModeCode.{ModeCode}
 use Rattle.fax_bits.specs.declared.modes.ModeCode.TheVariants.{Pass, Horizontal, Vertical, Extension}
 use Rattle.fax_rows.specs.Rows.{other, is_changing, same_colour, pel, is_right_of, first_place}
 use Rattle.fax_rows.specs.Rows.{next_change, b1, Position, beginning, first_pel, IsStepBy}
-use Rattle.fax_rows.specs.Rows.{AreSteps}
+use Rattle.fax_rows.specs.Rows.{pels_of, AreRuns, AreSteps}
 use Rattle.fax_rows.specs.code.Seen.{b1_from, b2_from}
 use Rattle.fax_page.specs.declared.Dimension.{Dimension}
 use Rattle.fax_page.specs.declared.Dimension.TheVariants.{OneDimensional, TwoDimensional}
@@ -112,9 +113,17 @@ steps_paint reference old b (next ∷ positions) new rest painted steps =
     steps_paint reference next steps.1 positions new rest (step_paints step.mode reference old step.after next steps.1 painted step.step)
     steps.3
 
+runs_paint : (width : ℕ) (colour : Colour) (from : ℕ) (b : List Bool) (runs : List ℕ) (rest : List Bool)
+    → AreRuns width colour from b runs rest → from + length (pels_of colour runs) ≡ width
+runs_paint width colour from b [] rest ended = omega (arith, ended.0)
+runs_paint width colour from b (n ∷ runs) rest (unfinished, middle, run, more) =
+    let after = length-append (replicate n colour) (pels_of (other colour) runs) in
+    omega (arith, after, length-replicate n colour, runs_paint width (other colour) (from + n) middle runs rest more)
+
 pub row_in : (dimension : Dimension) (width : ℕ) (reference : List Colour) (b : List Bool) (row : List Colour) (rest : List Bool)
     → length reference ≡ width → IsRowIn dimension width reference b row rest → length row ≡ width
-row_in OneDimensional width reference b row rest wide is = is.whole
+row_in OneDimensional width reference b row rest wide is =
+    ap length is.pels ∙ omega (arith, runs_paint width White 0 b is.runs rest is.coded)
 row_in TwoDimensional width reference b row rest wide is =
     let painted = steps_paint reference beginning b is.positions is.last rest (refl, omega arith) is.steps in
     ap length is.pels ∙ painted.0 ∙ ap (λ (o : Option ℕ). unwrap_or o 0) is.ends ∙ wide

@@ -69,6 +69,17 @@ loop-runs-preserved-in-Some c =
       same_end = omega (arith, c.in-Some.ensures.same_end, loop.invariant.same_end);
     }
 
+pub returns-in_err-read_on-clause-err : goal.returns-in_err-read_on-clause-err
+returns-in_err-read_on-clause-err c =
+    let loop = c.loop-runs in
+    let same = c.in_default.ensures.unchanged refl in
+    let left = c.from_residual in
+    let p = err_from_is_err_and left.result left.ensures.1 in
+    rw (p.1, p.2)
+    (row_stops c.args.width c.args.source.now.left loop.runs.total loop.invariant.colour loop.places loop.runs.end loop.ahead.left
+    c.in_err-read_on.field-0.0 loop.invariant.read c.loop-runs-test.true
+    (rw (loop.invariant.white c.loop-runs-test.true, ← same) c.in_err-read_on.ensures.err))
+
 pub returns-in_err-read_on-2-clause-err : goal.returns-in_err-read_on-2-clause-err
 returns-in_err-read_on-2-clause-err c =
     let loop = c.loop-runs in
