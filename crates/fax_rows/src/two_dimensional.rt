@@ -32,7 +32,7 @@ struct ReadRow {
     is_chosen: bool,
 }
 
-/// Reads the modes of a row over the reference row. After a doubt it reads them once more, exactly.
+/// Reads the modes of a row over the reference row. After a doubt it reads them again, with `EXACT`.
 #[inline(always)]
 fn read_places<const CHOICE: bool>(
     source: &mut BitSource,
