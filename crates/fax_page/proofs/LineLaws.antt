@@ -1,5 +1,5 @@
 -- A row of a strip is read in one way, where rows are.
-use Rattle.std.proofs.Common.{◌≡◌, ℕ, List, Bool, refl, ap, sym, ◌∙◌, subst, inl, inr}
+use Rattle.std.proofs.Common.{◌≡◌, ℕ, List, Bool, refl, ap, sym, ◌∙◌, subst, inl, inr, Ok}
 use Rattle.std.specs.Prelude.{◌⊎◌}
 use Rattle.fax_bits.specs.declared.Colour.{Colour}
 use Rattle.fax_rows.specs.declared.RowFault.{RowFault}
@@ -8,20 +8,28 @@ use Rattle.fax_page.specs.declared.Dimension.{Dimension}
 use Rattle.fax_page.specs.declared.Dimension.TheVariants.{OneDimensional, TwoDimensional}
 use Rattle.fax_page.specs.declared.StripForm.{StripForm}
 use Rattle.fax_page.specs.declared.StripFault.{StripFault}
-use Rattle.fax_page.specs.Lines.{BeginsBelowEleven, IsStart, IsRowIn, IsRowFaultIn, IsNoFirstCode}
+use Rattle.fax_page.specs.Lines.{BeginsBelowEleven, IsStart, IsRowIn, IsRowFaultIn}
 use Rattle.fax_page.specs.Lines.{IsStopInCodes, strip_fault, IsLine, IsCause}
 use Rattle.fax_page.specs.code.Starts.{IsFirstCodeFault}
 use Rattle.fax_page.specs.laws.Strips.{ReadsLinesOneWay}
+use Rattle.fax_page.proofs.BegunLemmas.{start_is, fault_is, started, start_fault}
 use Rattle.fax_page.proofs.StartLaws.{one_start, start_or_fault, start_has_no_fault, one_start_fault, first_code_or_fault}
 use Rattle.fax_page.proofs.StartLaws.{first_code_has_no_fault, one_first_code_fault}
 
 -- what holds of the codes after one start holds of those after another
 same_codes : (form : StripForm) (i : ℕ) (b : List Bool) (dimension another : Dimension) (codes others : List Bool)
-    → IsStart form.coding i b dimension codes → IsStart form.coding i b another others
+    → IsStart form.coding i b (Ok (dimension, codes)) → IsStart form.coding i b (Ok (another, others))
     → (P : Dimension → List Bool → Type 0) → P another others → P dimension codes
 same_codes form i b dimension another codes others first second P holds =
-    let same = one_start form.coding i b dimension another codes others first second in
+    let same = one_start form.coding i b dimension another codes others (started form.coding i b dimension codes first)
+    (started form.coding i b another others second) in
     subst (λ d. P d codes) (sym same.0) (subst (λ c. P another c) (sym same.1) holds)
+
+-- no first code is a stop in the codes
+no_first_code : (dimension : Dimension) (width : ℕ) (reference : List Colour) (b : List Bool) (fault : StripFault) → IsFirstCodeFault b fault
+    → IsStopInCodes dimension width reference b fault
+no_first_code dimension width reference b fault (inl marker) = inl marker
+no_first_code dimension width reference b fault (inr short) = inr (inl short)
 
 module _ (rows : (width : ℕ) → ReadsRowsOneWay width) (rows_over : (reference : List Colour) → ReadsRowsOverOneWay reference) where
   -- the codes of a row, by how it is coded
@@ -54,7 +62,7 @@ module _ (rows : (width : ℕ) → ReadsRowsOneWay width) (rows_over : (referenc
       → (row ≡ another) × (rest ≡ remaining)
   one_line form i reference b row another rest remaining first second =
       one_row first.dimension form.width reference first.codes row another rest remaining first.coded
-      (same_codes form i b first.dimension second.dimension first.codes second.codes first.begin.start second.begin.start
+      (same_codes form i b first.dimension second.dimension first.codes second.codes first.start second.start
       (λ dimension codes. IsRowIn dimension form.width reference codes another remaining) second.coded)
 
   line_or_cause : (form : StripForm) (i : ℕ) (reference : List Colour) (b : List Bool)
@@ -62,85 +70,85 @@ module _ (rows : (width : ℕ) → ReadsRowsOneWay width) (rows_over : (referenc
       ⊎ ((fault : StripFault) × IsCause form i reference b fault)
   line_or_cause form i reference b =
       elim (start_or_fault form.coding i b) [
-        | inr fault ↦ inr (fault.0, inl fault.1)
-        | inl start ↦ elim (first_code_or_fault start.1) [
-          | inr fault ↦ inr (
-            fault.0,
-            inr (inl record { dimension = start.0; codes = start.1; start = start.2; at_first_code = fault.1 }),
-          )
-          | inl first ↦ elim (row_or_fault start.0 form.width reference start.1) [
-            | inl row ↦ inl (
-              row.0,
-              row.1,
-              record {
-                dimension = start.0;
-                codes = start.1;
-                begin = record { start = start.2; first_code = first };
-                coded = row.2;
-              },
-            )
-            | inr stop ↦ inr (
-              strip_fault stop.0,
-              inr (inr record {
-                dimension = start.0;
-                codes = start.1;
-                begin = record { start = start.2; first_code = first };
-                cause = stop.0;
-                in_codes = stop.1;
-                fault_is = refl;
-              }),
-            )
-          ]
-        ]
+        | inr fault ↦ inr (fault.0, inl (fault_is form.coding i b fault.0 fault.1))
+        | inl start ↦
+            let begun = start_is form.coding i b start.0 start.1 start.2 in
+            elim (first_code_or_fault start.1) [
+              | inr fault ↦ inr (
+                fault.0,
+                inr (start.0, start.1, begun, no_first_code start.0 form.width reference start.1 fault.0 fault.1),
+              )
+              | inl first ↦ elim (row_or_fault start.0 form.width reference start.1) [
+                | inl row ↦ inl (
+                  row.0,
+                  row.1,
+                  record { dimension = start.0; codes = start.1; start = begun; first_code = first; coded = row.2 },
+                )
+                | inr stop ↦ inr (
+                  strip_fault stop.0,
+                  inr (start.0, start.1, begun, inr (inr (first, stop.0, stop.1, refl))),
+                )
+              ]
+            ]
       ]
+
+  -- a row has no stop in its codes
+  row_has_no_stop : (dimension : Dimension) (width : ℕ) (reference : List Colour) (b : List Bool) (row : List Colour) (rest : List Bool)
+      (fault : StripFault) → BeginsBelowEleven b → IsRowIn dimension width reference b row rest
+      → IsStopInCodes dimension width reference b fault → ⊥
+  row_has_no_stop dimension width reference b row rest fault first coded (inl marker) =
+      first_code_has_no_fault b fault first (inl marker)
+  row_has_no_stop dimension width reference b row rest fault first coded (inr (inl short)) =
+      first_code_has_no_fault b fault first (inr short)
+  row_has_no_stop dimension width reference b row rest fault first coded (inr (inr stop)) =
+      row_has_no_fault dimension width reference b row rest stop.1 coded stop.2
 
   line_has_no_cause : (form : StripForm) (i : ℕ) (reference : List Colour) (b : List Bool) (row : List Colour) (rest : List Bool)
       (fault : StripFault) → IsLine form i reference b row rest → IsCause form i reference b fault → ⊥
   line_has_no_cause form i reference b row rest fault line (inl stop) =
-      start_has_no_fault form.coding i b line.dimension line.codes fault line.begin.start stop
-  line_has_no_cause form i reference b row rest fault line (inr (inl none)) =
-      first_code_has_no_fault line.codes fault line.begin.first_code
-      (same_codes form i b line.dimension none.dimension line.codes none.codes line.begin.start none.start
-      (λ dimension codes. IsFirstCodeFault codes fault) none.at_first_code)
-  line_has_no_cause form i reference b row rest fault line (inr (inr stop)) =
-      row_has_no_fault line.dimension form.width reference line.codes row rest stop.cause line.coded
-      (same_codes form i b line.dimension stop.dimension line.codes stop.codes line.begin.start stop.begin.start
-      (λ dimension codes. IsRowFaultIn dimension form.width reference codes stop.cause) stop.in_codes)
+      start_has_no_fault form.coding i b line.dimension line.codes fault
+      (started form.coding i b line.dimension line.codes line.start) (start_fault form.coding i b fault stop)
+  line_has_no_cause form i reference b row rest fault line (inr stop) =
+      row_has_no_stop line.dimension form.width reference line.codes row rest fault line.first_code line.coded
+      (same_codes form i b line.dimension stop.0 line.codes stop.1 line.start stop.2
+      (λ dimension codes. IsStopInCodes dimension form.width reference codes fault) stop.3)
 
-  -- no first code, and codes that stop
-  none_or_stop : (form : StripForm) (i : ℕ) (reference : List Colour) (b : List Bool) (fault another : StripFault)
-      → IsNoFirstCode form i b fault → IsStopInCodes form i reference b another → ⊥
-  none_or_stop form i reference b fault another none stop =
-      first_code_has_no_fault none.codes fault
-      (same_codes form i b none.dimension stop.dimension none.codes stop.codes none.start stop.begin.start
-      (λ dimension codes. BeginsBelowEleven codes) stop.begin.first_code)
-      none.at_first_code
+  -- codes stop with one fault
+  one_stop : (dimension : Dimension) (width : ℕ) (reference : List Colour) (b : List Bool) (fault another : StripFault)
+      → IsStopInCodes dimension width reference b fault → IsStopInCodes dimension width reference b another → fault ≡ another
+  one_stop dimension width reference b fault another (inl marker) (inl other) =
+      one_first_code_fault b fault another (inl marker) (inl other)
+  one_stop dimension width reference b fault another (inl marker) (inr (inl short)) =
+      one_first_code_fault b fault another (inl marker) (inr short)
+  one_stop dimension width reference b fault another (inl marker) (inr (inr stop)) =
+      absurd (first_code_has_no_fault b fault stop.0 (inl marker))
+  one_stop dimension width reference b fault another (inr (inl short)) (inl marker) =
+      one_first_code_fault b fault another (inr short) (inl marker)
+  one_stop dimension width reference b fault another (inr (inl short)) (inr (inl other)) =
+      one_first_code_fault b fault another (inr short) (inr other)
+  one_stop dimension width reference b fault another (inr (inl short)) (inr (inr stop)) =
+      absurd (first_code_has_no_fault b fault stop.0 (inr short))
+  one_stop dimension width reference b fault another (inr (inr stop)) (inl marker) =
+      absurd (first_code_has_no_fault b another stop.0 (inl marker))
+  one_stop dimension width reference b fault another (inr (inr stop)) (inr (inl short)) =
+      absurd (first_code_has_no_fault b another stop.0 (inr short))
+  one_stop dimension width reference b fault another (inr (inr stop)) (inr (inr other)) =
+      stop.3 ∙ ap strip_fault (one_fault dimension width reference b stop.1 other.1 stop.2 other.2) ∙ sym other.3
 
   one_cause : (form : StripForm) (i : ℕ) (reference : List Colour) (b : List Bool) (fault another : StripFault)
       → IsCause form i reference b fault → IsCause form i reference b another → fault ≡ another
-  one_cause form i reference b fault another (inl stop) (inl other) = one_start_fault form.coding i b fault another stop other
-  one_cause form i reference b fault another (inl stop) (inr (inl none)) =
-      absurd (start_has_no_fault form.coding i b none.dimension none.codes fault none.start stop)
-  one_cause form i reference b fault another (inl stop) (inr (inr other)) =
-      absurd (start_has_no_fault form.coding i b other.dimension other.codes fault other.begin.start stop)
-  one_cause form i reference b fault another (inr (inl none)) (inl stop) =
-      absurd (start_has_no_fault form.coding i b none.dimension none.codes another none.start stop)
-  one_cause form i reference b fault another (inr (inr other)) (inl stop) =
-      absurd (start_has_no_fault form.coding i b other.dimension other.codes another other.begin.start stop)
-  one_cause form i reference b fault another (inr (inl none)) (inr (inl other)) =
-      one_first_code_fault none.codes fault another none.at_first_code
-      (same_codes form i b none.dimension other.dimension none.codes other.codes none.start other.start
-      (λ dimension codes. IsFirstCodeFault codes another) other.at_first_code)
-  one_cause form i reference b fault another (inr (inl none)) (inr (inr stop)) =
-      absurd (none_or_stop form i reference b fault another none stop)
-  one_cause form i reference b fault another (inr (inr stop)) (inr (inl none)) =
-      absurd (none_or_stop form i reference b another fault none stop)
-  one_cause form i reference b fault another (inr (inr stop)) (inr (inr other)) =
-      stop.fault_is
-      ∙ ap strip_fault (one_fault stop.dimension form.width reference stop.codes stop.cause other.cause stop.in_codes
-      (same_codes form i b stop.dimension other.dimension stop.codes other.codes stop.begin.start other.begin.start
-      (λ dimension codes. IsRowFaultIn dimension form.width reference codes other.cause) other.in_codes))
-      ∙ sym other.fault_is
+  one_cause form i reference b fault another (inl stop) (inl other) =
+      one_start_fault form.coding i b fault another (start_fault form.coding i b fault stop) (start_fault form.coding i b another other)
+  one_cause form i reference b fault another (inl stop) (inr other) =
+      absurd (start_has_no_fault form.coding i b other.0 other.1 fault (started form.coding i b other.0 other.1 other.2)
+      (start_fault form.coding i b fault stop))
+  one_cause form i reference b fault another (inr stop) (inl other) =
+      absurd (start_has_no_fault form.coding i b stop.0 stop.1 another (started form.coding i b stop.0 stop.1 stop.2)
+      (start_fault form.coding i b another other))
+  one_cause form i reference b fault another (inr stop) (inr other) =
+      one_stop stop.0 form.width reference stop.1 fault another stop.3
+      (same_codes form i b stop.0 other.0 stop.1 other.1 stop.2 other.2
+      (λ dimension codes. IsStopInCodes dimension form.width reference codes another) other.3)
 
   -- a row of a strip is read in one way
   pub line_reads_one_way : (form : StripForm) (i : ℕ) (reference : List Colour) → ReadsLinesOneWay form i reference

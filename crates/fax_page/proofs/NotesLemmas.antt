@@ -13,7 +13,7 @@ use Rattle.fax_page.specs.declared.StripFault.{StripFault}
 use Rattle.fax_page.specs.declared.notes.NotesFault.{NotesFault}
 use Rattle.fax_page.specs.declared.notes.NotesFault.TheVariants.{Memory, Strip}
 use Rattle.fax_page.specs.declared.notes.StripNotes.{StripNotes}
-use Rattle.fax_page.specs.Lines.{IsBegin, IsCause, IsLine, IsRowIn, white_row}
+use Rattle.fax_page.specs.Lines.{BeginsBelowEleven, IsCause, IsLine, IsRowIn, white_row}
 use Rattle.fax_page.specs.Strip.{AreLines, EndsAt, IsStrip}
 use Rattle.fax_page.specs.Strip.{row_bits}
 use Rattle.fax_page.specs.laws.Strips.{ReadsLinesOneWay}
@@ -21,6 +21,8 @@ use Rattle.fax_page.specs.Strip.{HasOtherChoice, IsNotedAs}
 use Rattle.fax_page.specs.code.Notes.{IsChosen}
 use Rattle.fax_page.specs.views.Strip.{IsNotesFault}
 use Rattle.fax_page.specs.code.Notes.{IsLineRead, IsLineNoted, IsLineFault, AreRowsRead, AreNotesAfter}
+use Rattle.fax_page.specs.code.Starts.{IsStarted}
+use Rattle.fax_page.proofs.BegunLemmas.{start_is, started}
 use Rattle.fax_page.proofs.StartLaws.{one_start}
 
 -- what follows the codes that T.4 chooses is what follows the row
@@ -40,11 +42,18 @@ module _ (one : OneDimensionalBitsAreOneRow) (two : TwoDimensionalBitsAreOneRow)
   -- a row that was read, and whether the codes that T.4 chooses begin where its codes do
   pub line_read : (form : StripForm) (i : ℕ) (reference row : List Colour) (b codes rest put : List Bool) (dimension : Dimension)
       (chosen : Bool)
-      → HasWidth row → length row ≡ form.width → length reference ≡ form.width → IsBegin form i b dimension codes
+      → HasWidth row → length row ≡ form.width → length reference ≡ form.width
+      → IsStarted form.coding i b dimension codes → BeginsBelowEleven codes
       → IsRowIn dimension form.width reference codes row rest → put ≡ row_bits dimension reference row
       → IsTrue chosen ↔ BeginsWith codes put → IsLineRead form i reference b row rest chosen
-  line_read form i reference row b codes rest put dimension chosen fits is_width reference_width begin read put_is begins = record {
-    line = record { dimension = dimension; codes = codes; begin = begin; coded = read };
+  line_read form i reference row b codes rest put dimension chosen fits is_width reference_width start first read put_is begins = record {
+    line = record {
+      dimension = dimension;
+      codes = codes;
+      start = start_is form.coding i b dimension codes start;
+      first_code = first;
+      coded = read;
+    };
     choice = (
       λ yes.
           let here = begins.0 yes in
@@ -68,7 +77,8 @@ module _ (reads : (form : StripForm) (i : ℕ) (reference : List Colour) → Rea
       (line : IsLine form i reference b row rest)
       (other : IsLine form i reference b row remaining) → IsSameLine form i reference row b rest remaining line other
   same_line form i reference row b rest remaining line other =
-      let start = one_start form.coding i b line.dimension other.dimension line.codes other.codes line.begin.start other.begin.start in
+      let start = one_start form.coding i b line.dimension other.dimension line.codes other.codes
+      (started form.coding i b line.dimension line.codes line.start) (started form.coding i b other.dimension other.codes other.start) in
       let after = ((reads form i reference).one_answer b row row rest remaining line other).1 in
       record {
         same_after = after;
@@ -133,10 +143,16 @@ line_compared form i reference row b rest other false none read = record {
 
 -- a row whose codes are seen to be chosen
 pub line_seen : (form : StripForm) (i : ℕ) (reference row : List Colour) (b codes rest : List Bool) (dimension : Dimension)
-    → IsBegin form i b dimension codes → IsRowIn dimension form.width reference codes row rest
+    → IsStarted form.coding i b dimension codes → BeginsBelowEleven codes → IsRowIn dimension form.width reference codes row rest
     → IsChosen dimension reference codes row rest → IsLineRead form i reference b row rest true
-line_seen form i reference row b codes rest dimension begin read chosen = record {
-  line = record { dimension = dimension; codes = codes; begin = begin; coded = read };
+line_seen form i reference row b codes rest dimension start first read chosen = record {
+  line = record {
+    dimension = dimension;
+    codes = codes;
+    start = start_is form.coding i b dimension codes start;
+    first_code = first;
+    coded = read;
+  };
   choice = (λ yes. chosen, λ is. refl);
 }
 

@@ -20,7 +20,10 @@ use Rattle.fax_page.specs.declared.Dimension.TheVariants.{OneDimensional, TwoDim
 use Rattle.fax_page.specs.declared.Coding.{Coding}
 use Rattle.fax_page.specs.declared.Coding.TheVariants.{Mh, Mr, Mmr}
 use Rattle.fax_page.specs.declared.StripForm.{StripForm}
-use Rattle.fax_page.specs.Lines.{tag_bit, IsEndOfLine, IsStart, IsRowIn, IsLine}
+use Rattle.fax_page.specs.declared.StripFault.{StripFault}
+use Rattle.fax_page.specs.Lines.{tag_bit, IsEndOfLine, IsRowIn, IsLine, IsCause}
+use Rattle.fax_page.specs.code.Starts.{IsStarted}
+use Rattle.fax_page.proofs.BegunLemmas.{started}
 
 -- bits that end with this rest
 record EndsWith (b rest : List Bool) : Type 0 where
@@ -86,7 +89,7 @@ eol_rest b rest eol = record {
   parts = eol.2 ∙ sym (append_assoc (replicate eol.0 false) (true ∷ []) rest);
 }
 
-start_rest : (coding : Coding) (i : ℕ) (b : List Bool) (dimension : Dimension) (rest : List Bool) → IsStart coding i b dimension rest
+start_rest : (coding : Coding) (i : ℕ) (b : List Bool) (dimension : Dimension) (rest : List Bool) → IsStarted coding i b dimension rest
     → EndsWith b rest
 start_rest Mh i b dimension rest start =
     elim start.1 [ inl eol ↦ eol_rest b rest eol | inr none ↦ same b rest none.2 ]
@@ -98,7 +101,8 @@ start_rest Mmr i b dimension rest start = same b rest start.1
 line_rest : (form : StripForm) (i : ℕ) (reference : List Colour) (b : List Bool) (row : List Colour) (rest : List Bool)
     → IsLine form i reference b row rest → EndsWith b rest
 line_rest form i reference b row rest line =
-    onwards b line.codes rest (start_rest form.coding i b line.dimension line.codes line.begin.start)
+    onwards b line.codes rest (start_rest form.coding i b line.dimension line.codes
+    (started form.coding i b line.dimension line.codes line.start))
     (row_rest line.dimension form.width reference line.codes row rest line.coded)
 
 -- a source that goes on in the bits of some bytes stands there where their rest begins
@@ -133,6 +137,13 @@ pub line_between : (form : StripForm) (i : ℕ) (reference row : List Colour) (b
 line_between form i reference row bytes place after old new here there line =
     subst (λ (s : Source). IsLine form i reference s.left row (drop after (bits form.order bytes))) here
     (subst (λ (s : Source). IsLine form i reference old.left row s.left) there line)
+
+-- the cause why there is no row at a place of a source
+pub cause_there : (form : StripForm) (i : ℕ) (reference : List Colour) (bytes : List ℕ) (place : ℕ) (old : Source) (fault : StripFault)
+    → old ≡ source_of form.order bytes place → IsCause form i reference old.left fault
+    → IsCause form i reference (drop place (bits form.order bytes)) fault
+cause_there form i reference bytes place old fault here cause =
+    subst (λ (s : Source). IsCause form i reference s.left fault) here cause
 
 -- after a row, the place still lies in the bytes
 pub placed_after : (order : FillOrder) (bytes : List ℕ) (place after : ℕ) (old new : Source)

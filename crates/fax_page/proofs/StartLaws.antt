@@ -12,8 +12,8 @@ use Rattle.fax_page.specs.declared.Coding.{Coding}
 use Rattle.fax_page.specs.declared.Coding.TheVariants.{Mh, Mr, Mmr}
 use Rattle.fax_page.specs.declared.StripFault.{StripFault}
 use Rattle.fax_page.specs.declared.StripFault.TheVariants.{DataEnds, MissingEol, EndMarker}
-use Rattle.fax_page.specs.Lines.{tag_bit, IsEndOfLine, BeginsBelowEleven, IsStart, IsStartFault}
-use Rattle.fax_page.specs.code.Starts.{IsFirstCodeFault}
+use Rattle.fax_page.specs.Lines.{tag_bit, IsEndOfLine, BeginsBelowEleven}
+use Rattle.fax_page.specs.code.Starts.{IsStarted, IsStartFault, IsFirstCodeFault}
 use Rattle.fax_page.proofs.StartLemmas.{eleven_ahead, eleven_alone}
 
 -- a 1 after zeros stands at one place
@@ -84,7 +84,7 @@ same_tag TwoDimensional TwoDimensional rest remaining h = (refl, cc)
 
 -- a row begins in one way
 pub one_start : (coding : Coding) (i : ℕ) (b : List Bool) (dimension another : Dimension) (rest remaining : List Bool)
-    → IsStart coding i b dimension rest → IsStart coding i b another remaining → (dimension ≡ another) × (rest ≡ remaining)
+    → IsStarted coding i b dimension rest → IsStarted coding i b another remaining → (dimension ≡ another) × (rest ≡ remaining)
 one_start Mh i b dimension another rest remaining first second =
     (first.0 ∙ sym second.0, same first.1 second.1)
   where
@@ -100,7 +100,7 @@ one_start Mmr i b dimension another rest remaining first second = (first.0 ∙ s
 
 abbrev StartOrFault : Coding → ℕ → List Bool → Type 0
 StartOrFault coding i b =
-    ((dimension : Dimension) × (rest : List Bool) × IsStart coding i b dimension rest)
+    ((dimension : Dimension) × (rest : List Bool) × IsStarted coding i b dimension rest)
     ⊎ ((fault : StripFault) × IsStartFault coding i b fault)
 
 start_in_mh : (i : ℕ) (b : List Bool) → EolOrNone b → StartOrFault Mh i b
@@ -124,7 +124,7 @@ start_or_fault Mmr i b = inl (TwoDimensional, b, (refl, refl))
 
 -- never both
 pub start_has_no_fault : (coding : Coding) (i : ℕ) (b : List Bool) (dimension : Dimension) (rest : List Bool) (fault : StripFault)
-    → IsStart coding i b dimension rest → IsStartFault coding i b fault → ⊥
+    → IsStarted coding i b dimension rest → IsStartFault coding i b fault → ⊥
 start_has_no_fault Mh i b dimension rest fault start stop = apart start.1 stop
   where
     apart : (IsEndOfLine b rest ⊎ ((i ≡ 0) × BeginsBelowEleven b × (b ≡ rest))) → IsStartFault Mh i b fault → ⊥

@@ -13,7 +13,9 @@ use Rattle.fax_page.specs.declared.Dimension.TheVariants.{OneDimensional, TwoDim
 use Rattle.fax_page.specs.declared.Coding.{Coding}
 use Rattle.fax_page.specs.declared.Coding.TheVariants.{Mh, Mr, Mmr}
 use Rattle.fax_page.specs.declared.StripForm.{StripForm}
-use Rattle.fax_page.specs.Lines.{tag_bit, IsStart, IsRowIn, IsLine, white_row}
+use Rattle.fax_page.specs.Lines.{tag_bit, IsRowIn, IsLine, white_row}
+use Rattle.fax_page.specs.code.Starts.{IsStarted}
+use Rattle.fax_page.proofs.BegunLemmas.{start_is}
 use Rattle.fax_page.specs.views.Strip.{IsStripForm}
 use Rattle.fax_page.specs.Strip.{AreLines}
 use Rattle.fax_page.specs.Strip.{written_dimension, row_bits, fill_zeros, start_bits, coded_line, coded_lines, coded_bits, end_bits}
@@ -24,7 +26,7 @@ use Rattle.fax_page.proofs.FirstCodeLemmas.{row_begins}
 -- a written row begins as it is to
 start_back : (coding : Coding) (aligned : Bool) (before k i : ℕ) (reference row : List Colour) (more : List Bool)
     → let dimension = written_dimension coding k i in
-    IsStart coding i ((start_bits coding aligned before dimension ++ row_bits dimension reference row) ++ more) dimension
+    IsStarted coding i ((start_bits coding aligned before dimension ++ row_bits dimension reference row) ++ more) dimension
     (row_bits dimension reference row ++ more)
 start_back Mh aligned before k i reference row more =
     (refl, inl (end_of_line_back (fill_zeros aligned before) [] (one_dimensional_bits row) more))
@@ -55,10 +57,8 @@ module _ (one_read : OneDimensionalBitsAreRead) (two_read : TwoDimensionalBitsAr
       record {
         dimension = dimension;
         codes = codes;
-        begin = record {
-          start = start_back form.coding form.aligned before k i reference row more;
-          first_code = row_begins dimension form.width reference codes row more limits.some_pels coded;
-        };
+        start = start_is form.coding i _ dimension codes (start_back form.coding form.aligned before k i reference row more);
+        first_code = row_begins dimension form.width reference codes row more limits.some_pels coded;
         coded = coded;
       }
 

@@ -1,7 +1,7 @@
 -- How a row begins in a strip, and what keeps it from being read.
 -- A definition without a citation is this project's profile.
 use Rattle.std.specs.Prelude.{◌≡◌, ◌≢◌, ℕ, ◌<◌, ◌≤◌, ◌⊎◌, Bool, true, false, List, [], ◌∷◌, ◌++◌}
-use Rattle.std.specs.Prelude.{replicate}
+use Rattle.std.specs.Prelude.{replicate, Result, Ok, Err}
 use Rattle.fax_bits.specs.Bits.{IsAllZeros}
 use Rattle.fax_rows.specs.Rows.{Colour, White, IsOneDimensionalRow, IsTwoDimensionalRow}
 use Rattle.fax_rows.specs.declared.RowFault.{RowFault}
@@ -26,31 +26,34 @@ abbrev pub tag_bit : Dimension → Bool
 tag_bit OneDimensional = true
 tag_bit TwoDimensional = false
 
--- fill and an EOL: eleven zeros or more, and a 1 (T.4, sections 4.1.2, 4.1.3 and 4.2.3)
+-- fill and an EOL: the next 1 stands after eleven zeros or more (T.4, sections 4.1.2, 4.1.3 and
+-- 4.2.3)
 abbrev pub IsEndOfLine : List Bool → List Bool → Type 0
 IsEndOfLine b rest = (zeros : ℕ) × (11 ≤ zeros) × (b ≡ replicate zeros false ++ true ∷ rest)
 
--- a 1 stands after fewer than eleven zeros: the bits begin with no EOL (T.4, section 4.1.2)
+-- it stands after fewer: the bits may begin with a code, and with no EOL (T.4, section 4.1.2)
 abbrev pub BeginsBelowEleven : List Bool → Type 0
 BeginsBelowEleven b =
     (zeros : ℕ) × (zeros < 11)
     × ((after : List Bool) × (b ≡ replicate zeros false ++ true ∷ after))
 
--- what stands before the first code of row i of a strip: in MH an EOL, in MR an EOL and a tag bit,
--- nothing in MMR (T.4, sections 4.1.2 and 4.2.2; T.6, section 2.2.1; that row 0 of MH may lack its
--- EOL is this project's profile)
-abbrev pub IsStart : Coding → ℕ → List Bool → Dimension → List Bool → Type 0
-IsStart Mh i b dimension rest =
-    (dimension ≡ OneDimensional)
-    × (IsEndOfLine b rest ⊎ ((i ≡ 0) × BeginsBelowEleven b × (b ≡ rest)))
-IsStart Mr i b dimension rest = IsEndOfLine b (tag_bit dimension ∷ rest)
-IsStart Mmr i b dimension rest = (dimension ≡ TwoDimensional) × (b ≡ rest)
-
--- a row of the strip begins in the bits, coded so, and its first code begins the rest
-pub record IsBegin (form : StripForm) (i : ℕ) (b : List Bool) (dimension : Dimension)
-    (rest : List Bool) : Type 0 where
-  pub start : IsStart form.coding i b dimension rest
-  pub first_code : BeginsBelowEleven rest
+-- what stands before the codes of row i of a strip: in MH an EOL, in MR an EOL and a tag bit,
+-- nothing in MMR. How the row is coded, with its codes, or the fault, by the zeros before the next 1
+-- (T.4, sections 4.1.2 and 4.2.2; T.6, section 2.2.1; that row 0 of MH may lack its EOL is this
+-- project's profile)
+abbrev pub IsStart : Coding → ℕ → List Bool → Result (Dimension × List Bool) StripFault → Type 0
+IsStart Mh i b start =
+    (IsAllZeros b × (start ≡ Err DataEnds))
+    ⊎ (BeginsBelowEleven b × (i ≡ 0) × (start ≡ Ok (OneDimensional, b)))
+    ⊎ (BeginsBelowEleven b × (i ≢ 0) × (start ≡ Err MissingEol))
+    ⊎ ((codes : List Bool) × IsEndOfLine b codes × (start ≡ Ok (OneDimensional, codes)))
+IsStart Mr i b start =
+    (IsAllZeros b × (start ≡ Err DataEnds))
+    ⊎ (BeginsBelowEleven b × (start ≡ Err MissingEol))
+    ⊎ (IsEndOfLine b [] × (start ≡ Err DataEnds))
+    ⊎ ((dimension : Dimension) × (codes : List Bool) × IsEndOfLine b (tag_bit dimension ∷ codes)
+    × (start ≡ Ok (dimension, codes)))
+IsStart Mmr i b start = start ≡ Ok (TwoDimensional, b)
 
 -- the bits begin with this row, coded so (T.4, sections 4.1.1 and 4.2.1.3.3)
 abbrev pub IsRowIn : Dimension → ℕ → List Colour → List Bool → List Colour → List Bool → Type 0
@@ -62,7 +65,8 @@ pub record IsLine (form : StripForm) (i : ℕ) (reference : List Colour) (b : Li
     (row : List Colour) (rest : List Bool) : Type 0 where
   pub dimension : Dimension
   pub codes : List Bool
-  pub begin : IsBegin form i b dimension codes
+  pub start : IsStart form.coding i b (Ok (dimension, codes))
+  pub first_code : BeginsBelowEleven codes
   pub coded : IsRowIn dimension form.width reference codes row rest
 
 -- a strip's name for the fault of a row
@@ -73,43 +77,23 @@ strip_fault in_row.Extension = Extension
 strip_fault in_row.RunTooLong = RunTooLong
 strip_fault in_row.OutOfRow = OutOfRow
 
--- no 1 is left where an EOL is due, or another row than an MH strip's first begins with none, or in
--- MR the tag bit is missing
-abbrev pub IsStartFault : Coding → ℕ → List Bool → StripFault → Type 0
-IsStartFault Mh i b fault =
-    (IsAllZeros b × (fault ≡ DataEnds)) ⊎ ((i ≢ 0) × BeginsBelowEleven b × (fault ≡ MissingEol))
-IsStartFault Mr i b fault =
-    (IsAllZeros b × (fault ≡ DataEnds)) ⊎ (IsEndOfLine b [] × (fault ≡ DataEnds))
-    ⊎ (BeginsBelowEleven b × (fault ≡ MissingEol))
-IsStartFault Mmr i b fault = ⊥
-
 -- the codes of a row, coded so, stop with this fault
 abbrev pub IsRowFaultIn : Dimension → ℕ → List Colour → List Bool → RowFault → Type 0
 IsRowFaultIn OneDimensional width reference b fault = IsOneDimensionalFault width b fault
 IsRowFaultIn TwoDimensional width reference b fault = IsTwoDimensionalFault reference b fault
 
--- the first code of row i of a strip is not there: eleven zeros are, or the bits end after fewer
-pub record IsNoFirstCode (form : StripForm) (i : ℕ) (b : List Bool)
-    (fault : StripFault) : Type 0 where
-  pub dimension : Dimension
-  pub codes : List Bool
-  pub start : IsStart form.coding i b dimension codes
-  pub at_first_code :
-      ((after : List Bool) × (codes ≡ replicate 11 false ++ after) × (fault ≡ EndMarker))
-      ⊎ ((zeros : ℕ) × (zeros < 11) × (codes ≡ replicate zeros false) × (fault ≡ DataEnds))
+-- where a row's first code is due stand eleven zeros, or fewer and nothing after them, or the code,
+-- and the codes stop
+abbrev pub IsStopInCodes : Dimension → ℕ → List Colour → List Bool → StripFault → Type 0
+IsStopInCodes dimension width reference b fault =
+    ((after : List Bool) × (b ≡ replicate 11 false ++ after) × (fault ≡ EndMarker))
+    ⊎ ((zeros : ℕ) × (zeros < 11) × (b ≡ replicate zeros false) × (fault ≡ DataEnds))
+    ⊎ (BeginsBelowEleven b × (cause : RowFault) × IsRowFaultIn dimension width reference b cause
+    × (fault ≡ strip_fault cause))
 
--- row i of a strip begins, and its codes stop with a fault
-pub record IsStopInCodes (form : StripForm) (i : ℕ) (reference : List Colour) (b : List Bool)
-    (fault : StripFault) : Type 0 where
-  pub dimension : Dimension
-  pub codes : List Bool
-  pub begin : IsBegin form i b dimension codes
-  pub cause : RowFault
-  pub in_codes : IsRowFaultIn dimension form.width reference codes cause
-  pub fault_is : fault ≡ strip_fault cause
-
--- row i of a strip is not there, for this cause: at its start, at its first code, or in its codes
+-- row i of a strip is not there, for this cause: before its first code, or from there on
 abbrev pub IsCause : StripForm → ℕ → List Colour → List Bool → StripFault → Type 0
 IsCause form i reference b fault =
-    IsStartFault form.coding i b fault ⊎ IsNoFirstCode form i b fault
-    ⊎ IsStopInCodes form i reference b fault
+    IsStart form.coding i b (Err fault)
+    ⊎ ((dimension : Dimension) × (codes : List Bool) × IsStart form.coding i b (Ok (dimension, codes))
+    × IsStopInCodes dimension form.width reference codes fault)

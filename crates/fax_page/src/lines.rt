@@ -3,6 +3,7 @@ ghost use Rattle.std.specs.Prelude.{◌≡◌, ◌<◌, ◌∷◌, [], length, O
 ghost use Rattle.fax_bits.specs.views.Source.{KeepsEnd};
 ghost use Rattle.fax_page.specs.Lines as Lines;
 ghost use Rattle.fax_page.specs.code.Starts.{HasEol, HasNoEol, IsFirstCodeFault, IsStop};
+ghost use Rattle.fax_page.specs.code.Starts.{IsStarted, IsStartFault};
 
 use crate::{Coding, Dimension, StripFault, StripForm};
 use fax_rows::{BitSource, Row, RowFault, read_1d, read_2d};
@@ -59,8 +60,8 @@ pub(crate) fn read_start(
     i: u32,
 ) -> Result<Dimension, StripFault>
     ensures ok { IfOk result (λ dimension.
-        Lines.IsStart coding i source.old.left dimension source.new.left) }
-    ensures err { IfErr result (λ fault. Lines.IsStartFault coding i source.old.left fault) }
+        IsStarted coding i source.old.left dimension source.new.left) }
+    ensures err { IfErr result (λ fault. IsStartFault coding i source.old.left fault) }
     ensures same_end { KeepsEnd source.old source.new }
 {
     match coding {

@@ -174,7 +174,7 @@ module _ (page : PageState) (limits : IsPageForm page.form) (strip_is : IsStripO
         its.here (row_of page),
         rw (numbers.0, strip_is.bytes_are) (
           fault,
-          rw (numbers.0, numbers.1, stands.bits_are, stands.reference_is) (rw strip_is.form_is at meets.cause),
+          rw (numbers.1, stands.bits_are, stands.reference_is) (rw strip_is.form_is at meets.cause),
           refl,
         ),
       ))

@@ -1,6 +1,6 @@
 -- The rest after a row stands at the end of the bits that the row begins.
 use Rattle.std.proofs.Common.{◌≡◌, ℕ, ◌+◌, ◌≤◌, inl, inr, Bool, true, List, [], ◌∷◌, ◌++◌, length, take, drop, replicate, refl, sym, ap}
-use Rattle.std.proofs.Common.{◌∙◌, arith, append_assoc, length-append}
+use Rattle.std.proofs.Common.{◌∙◌, subst, arith, append_assoc, length-append, Result, Ok, Err}
 use Rattle.std.proofs.lemmas.List.{drop_at, take-append-drop}
 use Rattle.fax_bits.specs.declared.Colour.{Colour}
 use Rattle.fax_bits.specs.declared.codes.CodeEntry.{CodeEntry}
@@ -13,6 +13,7 @@ use Rattle.fax_page.specs.declared.Coding.TheVariants.{Mh, Mr, Mmr}
 use Rattle.fax_page.specs.declared.Dimension.{Dimension}
 use Rattle.fax_page.specs.declared.Dimension.TheVariants.{OneDimensional, TwoDimensional}
 use Rattle.fax_page.specs.declared.StripForm.{StripForm}
+use Rattle.fax_page.specs.declared.StripFault.{StripFault}
 use Rattle.fax_page.specs.Lines.{IsEndOfLine, IsStart, IsRowIn, IsLine, tag_bit}
 
 -- the rest stands at the end of the bits
@@ -67,18 +68,38 @@ row_rest TwoDimensional width reference b row rest is = steps_rest reference _ b
 eol_rest : (b rest : List Bool) → IsEndOfLine b rest → IsRestOf rest b
 eol_rest b rest (zeros, enough, e) = (replicate zeros _ ++ true ∷ [], e ∙ sym (append_assoc (replicate zeros _) (true ∷ []) rest))
 
-start_rest : (coding : Coding) (i : ℕ) (b : List Bool) (dimension : Dimension) (rest : List Bool) → IsStart coding i b dimension rest
-    → IsRestOf rest b
-start_rest Mh i b dimension rest (one, inl eol) = eol_rest b rest eol
-start_rest Mh i b dimension rest (one, inr first) = all_of b rest first.2
-start_rest Mr i b dimension rest eol =
-    through b (tag_bit dimension ∷ rest) rest (eol_rest b (tag_bit dimension ∷ rest) eol) (tag_bit dimension ∷ [], refl)
-start_rest Mmr i b dimension rest (two, e) = all_of b rest e
+abbrev begun : Dimension × List Bool → Result (Dimension × List Bool) StripFault
+begun start = Ok start
+
+same_start : (start another : Dimension × List Bool) → begun start ≡ begun another → start ≡ another
+same_start start another same = cc
+
+same_codes : (dimension another : Dimension) (codes others : List Bool) → begun (dimension, codes) ≡ begun (another, others)
+    → codes ≡ others
+same_codes dimension another codes others same =
+    ap (λ (start : Dimension × List Bool). start.1) (same_start (dimension, codes) (another, others) same)
+
+start_rest : (coding : Coding) (i : ℕ) (b : List Bool) (dimension : Dimension) (rest : List Bool)
+    → IsStart coding i b (Ok (dimension, rest)) → IsRestOf rest b
+start_rest Mh i b dimension rest (inl all) = absurd (cc (all.1))
+start_rest Mh i b dimension rest (inr (inl none)) = all_of b rest (sym (same_codes dimension OneDimensional rest b none.2))
+start_rest Mh i b dimension rest (inr (inr (inl missing))) = absurd (cc (missing.2))
+start_rest Mh i b dimension rest (inr (inr (inr eol))) =
+    let same = same_codes dimension OneDimensional rest eol.0 eol.2 in
+    eol_rest b rest (subst (IsEndOfLine b) (sym same) eol.1)
+start_rest Mr i b dimension rest (inl all) = absurd (cc (all.1))
+start_rest Mr i b dimension rest (inr (inl missing)) = absurd (cc (missing.1))
+start_rest Mr i b dimension rest (inr (inr (inl cut))) = absurd (cc (cut.1))
+start_rest Mr i b dimension rest (inr (inr (inr eol))) =
+    let same = same_codes dimension eol.0 rest eol.1 eol.3 in
+    let tag = tag_bit eol.0 in
+    through b (tag ∷ rest) rest (eol_rest b (tag ∷ rest) (subst (λ c. IsEndOfLine b (tag ∷ c)) (sym same) eol.2)) (tag ∷ [], refl)
+start_rest Mmr i b dimension rest same = all_of b rest (sym (same_codes dimension TwoDimensional rest b same))
 
 line_rest : (form : StripForm) (i : ℕ) (reference : List Colour) (b : List Bool) (row : List Colour) (rest : List Bool)
     → IsLine form i reference b row rest → IsRestOf rest b
 line_rest form i reference b row rest line =
-    through b line.codes rest (start_rest form.coding i b line.dimension line.codes line.begin.start)
+    through b line.codes rest (start_rest form.coding i b line.dimension line.codes line.start)
     (row_rest line.dimension form.width reference line.codes row rest line.coded)
 
 -- so many bits stand before the rest after a row

@@ -136,7 +136,7 @@ module _ (by_place : AreBitsByPlace) (file : List ℕ) (endian : Endian) (q : �
         let number = numbers r i r_is within in
         let none : r + 0 ≡ r = omega arith in
         let is : IsInStrip form (place_at r inner) (Some bytes) (Err (Fault p r (Strip fault))) =
-        (fault, rw (number.0, number.1) lines.1.1, refl) in
+        (fault, rw number.1 lines.1.1, refl) in
         stays (place_at r inner) r (Reaches (Some fault) (r + 0))
         (rw none (row_at r inner (Some bytes) (Err (Fault p r (Strip fault))) (rw number.0 bytes_are) is))
     lines_from inner r i (row ∷ rows) stop left r_is within (rest, due, line, more) =

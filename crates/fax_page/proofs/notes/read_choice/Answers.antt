@@ -1,11 +1,12 @@
-use Rattle.std.proofs.Common.{◌≡◌, ◌++◌, ◌↔◌, length, IsTrue, subst, ◌∙◌, ap, arith, rules}
+use Rattle.std.proofs.Common.{◌≡◌, ◌++◌, ◌↔◌, length, IsTrue, refl, subst, ◌∙◌, ap, arith, rules}
 use Prim.{search}
 use Rattle.fax_bits.specs.views.Sink.{Sink}
 use Rattle.fax_bits.specs.views.Source.{Source}
 use Rattle.fax_bits.specs.Bits.{BeginsWith}
 use Rattle.fax_rows.specs.laws.Rows.{HasWidth}
-use Rattle.fax_page.specs.Lines.{IsBegin, IsRowIn}
+use Rattle.fax_page.specs.Lines.{IsRowIn, IsRowFaultIn}
 use Rattle.fax_page.specs.Strip.{row_bits}
+use Rattle.fax_page.proofs.BegunLemmas.{cause_in_codes}
 use Rattle.fax_page.proofs.FirstCodeLemmas.{row_begins}
 use Rattle.fax_page.proofs.NotesLemmas.{line_read, line_seen}
 use Rattle.fax_page.proofs.notes.read_choice.Goals as goal
@@ -24,13 +25,10 @@ returns-clause-ok c =
     subst (λ (s : Source). IsTrue c.begins.result ↔ BeginsWith s.left c.put_codes.new.sink.bits) c.again-codes.ensures c.begins.ensures in
     let coded = subst (λ n. IsRowIn c.in-Ok.dimension n c.args.reference.now c.read_start.new.source.left row c.read_seen.new.source.left)
     c.requires.width c.in-Ok-false.ensures.ok in
-    let begin : IsBegin form c.args.i c.args.source.now.left c.in-Ok.dimension c.read_start.new.source.left = record {
-      start = c.in-Ok.ensures.ok;
-      first_code = row_begins c.in-Ok.dimension form.width c.args.reference.now c.read_start.new.source.left row
-          c.read_seen.new.source.left c.requires.limits.some_pels coded;
-    } in
+    let first = row_begins c.in-Ok.dimension form.width c.args.reference.now c.read_start.new.source.left row
+    c.read_seen.new.source.left c.requires.limits.some_pels coded in
     line_read c.one_dimensional_rows_are_read_as_nothing_else.ensures c.two_dimensional_rows_are_read_as_nothing_else.ensures
-    form c.args.i c.args.reference.now row c.args.source.now.left _ _ _ _ _ fits width c.requires.reference_width begin coded put begins
+    form c.args.i c.args.reference.now row c.args.source.now.left _ _ _ _ _ fits width c.requires.reference_width c.in-Ok.ensures.ok first coded put begins
 
 pub returns-in-Ok-true-clause-ok : goal.returns-in-Ok-true-clause-ok
 returns-in-Ok-true-clause-ok c =
@@ -39,9 +37,18 @@ returns-in-Ok-true-clause-ok c =
     let codes = c.read_start.new.source.left in
     let rest = c.read_seen.new.source.left in
     let coded = subst (λ n. IsRowIn c.in-Ok.dimension n c.args.reference.now codes row rest) c.requires.width c.in-Ok-true.ensures.ok in
-    let begin : IsBegin form c.args.i c.args.source.now.left c.in-Ok.dimension codes = record {
-      start = c.in-Ok.ensures.ok;
-      first_code = row_begins c.in-Ok.dimension form.width c.args.reference.now codes row rest c.requires.limits.some_pels coded;
-    } in
-    line_seen form c.args.i c.args.reference.now row c.args.source.now.left codes rest c.in-Ok.dimension begin coded
+    let first = row_begins c.in-Ok.dimension form.width c.args.reference.now codes row rest c.requires.limits.some_pels coded in
+    line_seen form c.args.i c.args.reference.now row c.args.source.now.left codes rest c.in-Ok.dimension c.in-Ok.ensures.ok first coded
     (c.in-Ok-true.ensures.chosen (search rules))
+
+pub returns-in-Err-read_seen-clause-err : goal.returns-in-Err-read_seen-clause-err
+returns-in-Err-read_seen-clause-err c =
+    let dimension = c.in-Ok.dimension in
+    let reference = c.args.reference.now in
+    let codes = c.read_start.new.source.left in
+    let cause = c.in-Err-read_seen.cause in
+    let in_codes = subst (λ n. IsRowFaultIn dimension n reference codes cause) c.requires.width c.in-Err-read_seen.ensures.err in (
+      refl,
+      cause_in_codes c.args.form c.args.i reference c.args.source.now.left dimension codes cause c.stop-fault.result
+          c.in-Ok.ensures.ok (rw c.again-codes.ensures at c.stop-fault.ensures) in_codes,
+    )

@@ -1,5 +1,5 @@
-use Rattle.std.proofs.Common.{rules}
-use Rattle.fax_page.proofs.RestLemmas.{row_after, line_between, placed_after}
+use Rattle.std.proofs.Common.{rules, inr}
+use Rattle.fax_page.proofs.RestLemmas.{row_after, line_between, placed_after, cause_there}
 use Rattle.fax_page.proofs.reader.StripReader.advance.Goals as goal
 
 pub invariant_of-self : goal.invariant_of-self
@@ -32,3 +32,11 @@ returns-in-Ok c =
       same_bytes = search rules;
       still_no_fault = search rules;
     })
+
+pub returns-in-Err : goal.returns-in-Err
+returns-in-Err c =
+    let cause =
+    cause_there c.self.inside.form c.self.inside.row c.self.inside.reference c.self.inside.bytes.now c.self.inside.place
+    c.self.inside.source c.in-Err.fault (c.self.invariant.at_row c.in_default.is) c.in-Err.ensures.err in
+    rw (← c.self.view_is)
+    (inr (record { no_fault = search rules; due = search rules; cause = cause; told = search rules }))
