@@ -70,28 +70,28 @@ usage_or_no_cursor words (inr refused) no_cursor =
     ]
 
 -- a part that begins at a text's cursor has one
-begins_at : (o : Option Text) (text : Text) (part : Part) → o ≡ Some text → IsCursor part.cursor → BeginsAt o part → IsNoCursor text → ⊥
-begins_at None text part given in_range begins none = cc
-begins_at (Some t) text part given in_range begins none =
+begun_cursor : (o : Option Text) (text : Text) (part : Part) → o ≡ Some text → IsCursor part.cursor → BeginsAt o part → IsNoCursor text → ⊥
+begun_cursor None text part given in_range begins none = cc
+begun_cursor (Some t) text part given in_range begins none =
     let same : text ≡ t = cc in
     none part.cursor in_range (same ∙ begins.0)
 
-begins_inside : (o : Option Text) (text : Text) (part : Part) → o ≡ Some text → IfSome part.from IsLongCursor → BeginsInside o part
+begun_place : (o : Option Text) (text : Text) (part : Part) → o ≡ Some text → IfSome part.from IsLongCursor → BeginsInside o part
     → IsNoLongCursor text → ⊥
-begins_inside None text part given in_range begins none = begins
-begins_inside (Some t) text part given in_range (place, is, at, from) none =
+begun_place None text part given in_range begins none = begins
+begun_place (Some t) text part given in_range (place, is, at, from) none =
     let same : text ≡ t = cc in
     none place (subst (λ (o : Option LongPlace). IfSome o IsLongCursor) from in_range) (same ∙ is)
 
 command_or_no_cursor : (name : Text) (given : Given) (command : Command) → HasCursors command → IsCommand name given command
     → HasNoCursor name given → ⊥
 command_or_no_cursor name given (Forms part) in_range is none =
-    begins_at (given (codes "cursor")) none.text part none.is in_range is.1.begins none.none
+    begun_cursor (given (codes "cursor")) none.text part none.is in_range is.1.begins none.none
 command_or_no_cursor name given (Rows part) in_range is none = elim is.1.begins [
-  | inl at ↦ begins_at (given (codes "cursor")) none.text part none.is in_range.0 at none.none
+  | inl at ↦ begun_cursor (given (codes "cursor")) none.text part none.is in_range.0 at none.none
   | inr inside ↦ elim none.command [
     | inl list ↦ one_name name (codes "rows") (codes "list") is.0 list refl
-    | inr rows ↦ begins_inside (given (codes "cursor")) none.text part none.is in_range.1 inside rows.1
+    | inr rows ↦ begun_place (given (codes "cursor")) none.text part none.is in_range.1 inside rows.1
   ]
 ]
 command_or_no_cursor name given (Convert options) in_range is none = elim none.command [

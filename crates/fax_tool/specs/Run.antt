@@ -8,7 +8,7 @@ use Rattle.fax_files.specs.Directory.{max_file}
 use Rattle.fax_tool.specs.Text.{Begun, At, Cursor, End, Line, Printed, begun_at, ended_text}
 use Rattle.fax_tool.specs.Text.{line_of_page, line_of_row, text_of}
 use Rattle.fax_walk.specs.Pages.{FilePage, FormItem, IsFormTail, IsPageAt}
-use Rattle.fax_walk.specs.Rows.{RowItem, IsTailFrom}
+use Rattle.fax_walk.specs.Items.{RowItem, IsTailFrom}
 use Rattle.fax_tool.specs.declared.refusal.Refusal.{Refusal}
 use Rattle.fax_tool.specs.declared.refusal.Refusal.TheVariants.{Memory, Read, Write}
 use Rattle.fax_tool.specs.declared.words.Command.{Command}

@@ -9,7 +9,7 @@ use Rattle.fax_walk.specs.Pages.{Cause, PageForm, FormItem}
 use Rattle.fax_files.specs.FaultNames.{fault_name, fault_tag}
 use Rattle.fax_walk.specs.declared.end.End.TheVariants.{Proper, Fault, Outside}
 use Rattle.fax_walk.specs.Pages.{LongPlace, cursor_text, long_cursor_text}
-use Rattle.fax_walk.specs.Rows.{RowItem, begins_at, cursor_after, long_after}
+use Rattle.fax_walk.specs.Items.{RowItem, begun_cursor, cursor_after, long_after}
 pub use Rattle.fax_walk.specs.declared.end.End.{End}
 pub use Rattle.fax_walk.specs.declared.begun.Begun.{Begun}
 pub use Rattle.fax_walk.specs.declared.begun.Begun.TheVariants.{At, Inside}
@@ -84,7 +84,7 @@ fault_line page row cause =
 -- what `next` names of what a run begins with: with long cursors all of it, else its cursor
 abbrev pub named : Bool → Begun → Begun
 named true begun = begun
-named false begun = At (begins_at begun)
+named false begun = At (begun_cursor begun)
 
 -- how what a run begins with is named: `2:P:R:B:n,n,..` inside a strip, else `1:P:R`
 abbrev pub begun_text : Begun → List ℕ

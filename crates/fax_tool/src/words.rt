@@ -67,12 +67,12 @@ pub struct Part {
 }
 
 impl Part {
-    ghost use Rattle.fax_walk.specs.Rows.{begins_at};
+    ghost use Rattle.fax_walk.specs.Items.{begun_cursor};
     ghost use Rattle.fax_tool.specs.Run.{begun_of};
 
     /// The cursor to begin at, of the long cursor where one is named.
     pub fn begin(&self) -> Cursor
-        ensures { result ≡ begins_at (begun_of self.now) }
+        ensures { result ≡ begun_cursor (begun_of self.now) }
     {
         match &self.from {
             Some(from) => from.at,
