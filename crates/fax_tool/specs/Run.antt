@@ -116,8 +116,7 @@ IsTextAfterMemory (Forms part) file =
     IsTextOfFirst (ArePageLines file part.cursor) part.max (At part.cursor)
 IsTextAfterMemory (Rows part) file =
     IsTextOfFirst (AreRowLines file (begun_of part)) part.max (begun_of part)
-IsTextAfterMemory (Convert options) file = λ output. output ≡ []
-IsTextAfterMemory Check file = λ output. output ≡ []
+IsTextAfterMemory other file = λ output. output ≡ []
 
 -- what a refusal leaves of such a text, of which so much is written where memory is refused: after
 -- Memory that, after Read nothing, and after Write a front of either
