@@ -8,7 +8,7 @@ use Rattle.fax_rows.specs.Rows.{Colour}
 use Rattle.fax_walk.specs.declared.begun.Begun.{Begun}
 use Rattle.fax_walk.specs.declared.cursor.Cursor.{Cursor}
 use Rattle.fax_walk.specs.declared.end.End.{End}
-use Rattle.fax_walk.specs.Rows.{RowItem, IsTailFrom, begins_at, cursor_after}
+use Rattle.fax_walk.specs.Items.{RowItem, IsTailFrom, begun_cursor, cursor_after}
 use Rattle.fax_walk.specs.views.InOrder.{IsNumber}
 use Rattle.fax_walk.specs.views.Walk.{EntersPage, WalkView, IsCursorOf}
 use Rattle.fax_walk.specs.laws.Tails.{BeginningsHaveOneTail}
@@ -99,15 +99,15 @@ module _ {N : Type 0} (numbers : List Colour → List N) (file : List ℕ) (begu
   next_is : (item : RowItem) → IsNumber (IsTailFrom walk.file walk.begun) walk.given item → slice_get so_far.items count ≡ Some item
   next_is item number = subst (λ n. slice_get so_far.items n ≡ Some item) so_far.given (item_is walk.given item number)
 
-  pub cursor_is : (at : Cursor) → IsCursorOf walk at → at ≡ cursor_after_rows (begins_at begun) (take count so_far.items)
+  pub cursor_is : (at : Cursor) → IsCursorOf walk at → at ≡ cursor_after_rows (begun_cursor begun) (take count so_far.items)
   cursor_is at (inl (none, is)) =
       let zero_rows : count ≡ 0 = sym so_far.given ∙ none in
       rw (zero_rows, is, so_far.same_begun) refl
   cursor_is at (inr (before, item, given, number, is)) =
       let count_is : count ≡ before + 1 = sym so_far.given ∙ given in
       rw (count_is, is)
-      (sym (ap (cursor_after_rows (begins_at begun)) (take_at so_far.items before item (item_is before item number))
-      ∙ cursor-push (begins_at begun) (take before so_far.items) item))
+      (sym (ap (cursor_after_rows (begun_cursor begun)) (take_at so_far.items before item (item_is before item number))
+      ∙ cursor-push (begun_cursor begun) (take before so_far.items) item))
 
   pub one_more : (row : FaxRow) (new : WalkView) (new_out : List N) → count < length old_rows → IsPut numbers walk out used (Ok row) new new_out
       → AreRowsWritten numbers file begun new (count + 1) (used + row.len) old_rows (set rows count row) old new_out
@@ -234,7 +234,7 @@ module _ {N : Type 0} (numbers : List Colour → List N) (file : List ℕ) (begu
 
 -- where memory is refused before a walk begins, nothing is written
 pub refused_at_once : {N : Type 0} (numbers : List Colour → List N) (file : List ℕ) (begun : Begun) (at : Cursor) (rows : List FaxRow) (out : List N)
-    → BeginningsHaveOneTail → at ≡ begins_at begun
+    → BeginningsHaveOneTail → at ≡ begun_cursor begun
     → AreRowsFilled numbers file begun rows out (record { cursor = at; count = 0; used = 0; stop = Memory }) rows out
 refused_at_once numbers file begun at rows out one is =
     let tail = one file begun in

@@ -7,8 +7,8 @@ use Rattle.std.proofs.lemmas.List.{take_at, drop_at}
 use Rattle.fax_rows.specs.Rows.{Colour, other, same_colour, runs_after, runs_of}
 use Rattle.fax_walk.specs.declared.begun.Begun.TheVariants.{At, Inside}
 use Rattle.fax_walk.specs.declared.walk.PlaceInside.{PlaceInside}
-use Rattle.fax_walk.specs.Rows.{begins_at}
-use Rattle.fax_walk.specs.views.Walk.{IsLongOf, WalkView, begins_inside, place_inside}
+use Rattle.fax_walk.specs.Items.{begun_cursor}
+use Rattle.fax_walk.specs.views.Walk.{IsLongOf, WalkView, begun_place, place_inside}
 use Rattle.fax_c.specs.declared.filled.Filled.{Filled}
 use Rattle.fax_c.specs.declared.places.FaxPlace.{FaxPlace}
 use Rattle.fax_c.specs.views.Places.{IsAfter, begun_of, cursor_of, has_runs, long_place_of}
@@ -41,9 +41,9 @@ inside_told walk lent count old old_runs runs long (count_is, within, runs_are) 
     )
 
 -- a walk from a place begins at its cursor
-pub begins_at-begun_of : (place : FaxPlace) (runs : List ℕ) → cursor_of place ≡ begins_at (begun_of place runs)
-begins_at-begun_of place runs =
-    elim (has_runs place runs) as (λ b. cursor_of place ≡ begins_at (if b then Inside (long_place_of place runs) else At (cursor_of place))) [
+pub begun_cursor-begun_of : (place : FaxPlace) (runs : List ℕ) → cursor_of place ≡ begun_cursor (begun_of place runs)
+begun_cursor-begun_of place runs =
+    elim (has_runs place runs) as (λ b. cursor_of place ≡ begun_cursor (if b then Inside (long_place_of place runs) else At (cursor_of place))) [
       | true ↦ refl
       | false ↦ refl
     ]
@@ -61,4 +61,4 @@ pub stays : (file : List ℕ) (place : FaxPlace) (runs : List ℕ) (filled : Fil
     → IsAfter file (begun_of place runs) filled runs place runs
 stays file place runs filled none has =
     let is = begun_inside place runs true has in
-    (refl, inl (ltb-true 0 place.runs (first_true (nat_lt 0 place.runs) (nat_le place.runs (length runs)) has), inl (none, sym (ap begins_inside is))))
+    (refl, inl (ltb-true 0 place.runs (first_true (nat_lt 0 place.runs) (nat_le place.runs (length runs)) has), inl (none, sym (ap begun_place is))))

@@ -1,12 +1,12 @@
 -- What the entries of a parse give is what the uses give that the words make.
-use Rattle.std.proofs.Common.{◌∙◌, ◌⊎◌, ap, inl, inr, subst, sym, ℕ, List, Option}
+use Rattle.std.proofs.Common.{◌≡◌, ◌∙◌, ap, codes, false, inl, inr, refl, subst, sym, ℕ, Bool, List, Option}
 use Rattle.std.specs.Prelude.{option_and_then, option_map, unwrap_or}
 use Rattle.std.specs.Str.Parse.{digits_value, without_leading_plus}
 use Rattle.clap.specs.Walk.{Row}
 use Rattle.fax_tool.specs.Grammar.{Text, Use, text_in}
-use Rattle.fax_tool.specs.Job.{AreOptions, BeginsAt, BeginsInside, HasNoTarget, IsCommand, IsCommandFault, IsPartOfPages}
-use Rattle.fax_tool.specs.Job.{IsPartOfRows, order_by, target_of}
-use Rattle.fax_tool.specs.code.Entries.{given_by}
+use Rattle.fax_tool.specs.Job.{AreOptions, HasNoTarget, IsBegunBy, IsCommand, IsPart, is_set, order_by, target_of}
+use Rattle.fax_tool.specs.Run.{begun_of}
+use Rattle.fax_tool.specs.code.Entries.{IsCommandFault, given_by}
 use Rattle.fax_tool.specs.declared.words.Command.{Command}
 use Rattle.fax_tool.specs.declared.words.Command.TheVariants.{Check, Convert, List as Forms, Rows}
 use Rattle.fax_tool.specs.declared.words.Part.{Part}
@@ -19,18 +19,12 @@ abbrev as_number : Option Text → Option ℕ
 as_number = option_map (λ text. digits_value 10 (without_leading_plus text))
 
 module _ (entries : List Row) (uses : List Use) (agrees : Agrees entries uses) where
-  pages_agree : (part : Part) → IsPartOfPages (given_by entries) part → IsPartOfPages (text_in uses) part
-  pages_agree part is = record {
-    begins = subst (λ (o : Option Text). BeginsAt o part) agrees.cursor is.begins;
+  part_agrees : (long now : Bool) (part : Part) → long ≡ now → IsPart (given_by entries) long part → IsPart (text_in uses) now part
+  part_agrees long now part same is = record {
+    begins = subst (λ (o : Option Text). IsBegunBy o (begun_of part)) agrees.cursor is.begins;
+    cursor = is.cursor;
     max = is.max ∙ ap as_number agrees.max;
-    long = is.long;
-  }
-
-  rows_agree : (part : Part) → IsPartOfRows (given_by entries) part → IsPartOfRows (text_in uses) part
-  rows_agree part is = record {
-    begins = subst (λ (o : Option Text). BeginsAt o part ⊎ BeginsInside o part) agrees.cursor is.begins;
-    max = is.max ∙ ap as_number agrees.max;
-    long = is.long ∙ agrees.long;
+    long_is = is.long_is ∙ same;
   }
 
   options_agree : (options : Options) → AreOptions (given_by entries) options → AreOptions (text_in uses) options
@@ -43,8 +37,11 @@ module _ (entries : List Row) (uses : List Use) (agrees : Agrees entries uses) w
   }
 
   pub command_agrees : (name : Text) (command : Command) → IsCommand name (given_by entries) command → IsCommand name (text_in uses) command
-  command_agrees name (Forms part) is = (is.0, pages_agree part is.1)
-  command_agrees name (Rows part) is = (is.0, rows_agree part is.1)
+  command_agrees name (Forms part) is = (is.0, part_agrees false false part refl is.1, is.2)
+  command_agrees name (Rows part) is = (
+    is.0,
+    part_agrees (is_set (codes "long") (given_by entries)) (is_set (codes "long") (text_in uses)) part agrees.long is.1,
+  )
   command_agrees name (Convert options) is = (is.0, options_agree options is.1)
   command_agrees name Check is = is
 

@@ -12,8 +12,12 @@ use Rattle.fax_walk.specs.Pages.{IsCursor, IsLongCursor, LongPlace}
 use Rattle.fax_tool.specs.Text.{Cursor}
 use Rattle.fax_walk.specs.declared.options.Options.{Options}
 use Rattle.fax_walk.specs.declared.options.Target.TheVariants.{Mmr, Pbm}
-use Rattle.fax_tool.specs.Job.{AreOptions, BeginsAt, BeginsInside, HasNoCursor, HasNoTarget, IsCommand, IsFault, IsJob, IsNoCursor}
-use Rattle.fax_tool.specs.Job.{Given, HasCursors, IsNoLongCursor, IsPartOfRows}
+use Rattle.fax_tool.specs.Job.{AreOptions, Given, HasCursors, HasNoCursor, HasNoTarget, IsBegunBy, IsCommand, IsFault, IsJob, IsPart}
+use Rattle.fax_tool.specs.Job.{is_set}
+use Rattle.fax_tool.specs.Run.{begun_of}
+use Rattle.fax_walk.specs.Items.{begun_cursor}
+use Rattle.fax_tool.specs.code.Entries.{IsNoCursor, IsNoLongCursor}
+use Rattle.fax_tool.proofs.BeginLemmas.{BeginsAt, BeginsInside, at_cursor, named_by}
 use Rattle.fax_tool.specs.Program.{file_name}
 use Rattle.fax_tool.specs.laws.Words.{AskTheSame, WordsHaveOneAnswer}
 use Rattle.fax_walk.specs.laws.Cursors.{TextsNameOne}
@@ -70,28 +74,35 @@ usage_or_no_cursor words (inr refused) no_cursor =
     ]
 
 -- a part that begins at a text's cursor has one
-begins_at : (o : Option Text) (text : Text) (part : Part) → o ≡ Some text → IsCursor part.cursor → BeginsAt o part → IsNoCursor text → ⊥
-begins_at None text part given in_range begins none = cc
-begins_at (Some t) text part given in_range begins none =
+at_no_cursor : (o : Option Text) (text : Text) (part : Part) → o ≡ Some text → IsCursor part.cursor → BeginsAt o part.cursor part.from
+    → IsNoCursor text → ⊥
+at_no_cursor None text part given in_range begins none = cc
+at_no_cursor (Some t) text part given in_range begins none =
     let same : text ≡ t = cc in
     none part.cursor in_range (same ∙ begins.0)
 
-begins_inside : (o : Option Text) (text : Text) (part : Part) → o ≡ Some text → IfSome part.from IsLongCursor → BeginsInside o part
-    → IsNoLongCursor text → ⊥
-begins_inside None text part given in_range begins none = begins
-begins_inside (Some t) text part given in_range (place, is, at, from) none =
+at_no_place : (o : Option Text) (text : Text) (part : Part) → o ≡ Some text → IfSome part.from IsLongCursor
+    → BeginsInside o part.cursor part.from → IsNoLongCursor text → ⊥
+at_no_place None text part given in_range begins none = begins
+at_no_place (Some t) text part given in_range (place, is, at, from) none =
     let same : text ≡ t = cc in
     none place (subst (λ (o : Option LongPlace). IfSome o IsLongCursor) from in_range) (same ∙ is)
+
+begins_so : (given : Given) (part : Part) → IsBegunBy (given (codes "cursor")) (begun_of part)
+    → part.cursor ≡ begun_cursor (begun_of part)
+    → BeginsAt (given (codes "cursor")) part.cursor part.from ⊎ BeginsInside (given (codes "cursor")) part.cursor part.from
+begins_so given part begins cursor = named_by (given (codes "cursor")) part.cursor part.from (begins, cursor)
 
 command_or_no_cursor : (name : Text) (given : Given) (command : Command) → HasCursors command → IsCommand name given command
     → HasNoCursor name given → ⊥
 command_or_no_cursor name given (Forms part) in_range is none =
-    begins_at (given (codes "cursor")) none.text part none.is in_range is.1.begins none.none
-command_or_no_cursor name given (Rows part) in_range is none = elim is.1.begins [
-  | inl at ↦ begins_at (given (codes "cursor")) none.text part none.is in_range.0 at none.none
+    at_no_cursor (given (codes "cursor")) none.text part none.is in_range
+    (at_cursor (given (codes "cursor")) part.cursor part.from is.2 (is.1.begins, is.1.cursor)) none.none
+command_or_no_cursor name given (Rows part) in_range is none = elim (begins_so given part is.1.begins is.1.cursor) [
+  | inl at ↦ at_no_cursor (given (codes "cursor")) none.text part none.is in_range.0 at none.none
   | inr inside ↦ elim none.command [
     | inl list ↦ one_name name (codes "rows") (codes "list") is.0 list refl
-    | inr rows ↦ begins_inside (given (codes "cursor")) none.text part none.is in_range.1 inside rows.1
+    | inr rows ↦ at_no_place (given (codes "cursor")) none.text part none.is in_range.1 inside rows.1
   ]
 ]
 command_or_no_cursor name given (Convert options) in_range is none = elim none.command [
@@ -110,21 +121,22 @@ job_or_no_cursor words job in_range is none =
     (subst (λ (c : Text × List Use). HasNoCursor c.0 (text_in c.1)) same none.command)
 
 -- two parts that begin with the same text begin at the same place
-one_cursor : TextsNameOne → (o : Option Text) (part other : Part) → IsCursor part.cursor → IsCursor other.cursor → BeginsAt o part
-    → BeginsAt o other → (part.cursor ≡ other.cursor) × (part.from ≡ other.from)
+one_cursor : TextsNameOne → (o : Option Text) (part other : Part) → IsCursor part.cursor → IsCursor other.cursor
+    → BeginsAt o part.cursor part.from → BeginsAt o other.cursor other.from → (part.cursor ≡ other.cursor) × (part.from ≡ other.from)
 one_cursor names None part other in_range in_range' first second = (first.0 ∙ sym second.0, first.1 ∙ sym second.1)
 one_cursor names (Some text) part other in_range in_range' first second =
     (names.cursors part.cursor other.cursor in_range in_range' (sym first.0 ∙ second.0), first.1 ∙ sym second.1)
 
 one_place : TextsNameOne → (o : Option Text) (part other : Part) → IfSome part.from IsLongCursor → IfSome other.from IsLongCursor
-    → BeginsInside o part → BeginsInside o other → (part.cursor ≡ other.cursor) × (part.from ≡ other.from)
+    → BeginsInside o part.cursor part.from → BeginsInside o other.cursor other.from → (part.cursor ≡ other.cursor) × (part.from ≡ other.from)
 one_place names None part other in_range in_range' first second = absurd first
 one_place names (Some text) part other in_range in_range' (place, is, at, from) (place', is', at', from') =
     let same = names.places place place' (subst (λ (o : Option LongPlace). IfSome o IsLongCursor) from in_range)
     (subst (λ (o : Option LongPlace). IfSome o IsLongCursor) from' in_range') (sym is ∙ is') in
     (at ∙ ap (λ (p : LongPlace). p.at) same ∙ sym at', from ∙ ap (λ (p : LongPlace). Some p) same ∙ sym from')
 
-not_both : TextsNameOne → (o : Option Text) (part other : Part) → BeginsAt o part → BeginsInside o other → ⊥
+not_both : TextsNameOne → (o : Option Text) (part other : Part) → BeginsAt o part.cursor part.from
+    → BeginsInside o other.cursor other.from → ⊥
 not_both names None part other first second = second
 not_both names (Some text) part other first (place, is, at, from) = names.apart part.cursor place (sym first.0 ∙ is)
 
@@ -137,13 +149,14 @@ same_part part other begins max long =
     ap (λ at. part_of at part.max part.long part.from) begins.0 ∙ ap (λ most. part_of other.cursor most part.long part.from) max
     ∙ ap (λ flag. part_of other.cursor other.max flag part.from) long ∙ ap (part_of other.cursor other.max other.long) begins.1
 
-one_part : TextsNameOne → (given : Given) (part other : Part) → HasCursors (Rows part) → HasCursors (Rows other) → IsPartOfRows given part
-    → IsPartOfRows given other → part ≡ other
-one_part names given part other in_range in_range' first second =
-    same_part part other (both first.begins second.begins) (first.max ∙ sym second.max) (first.long ∙ sym second.long)
+one_part : TextsNameOne → (given : Given) (long : Bool) (part other : Part) → HasCursors (Rows part) → HasCursors (Rows other)
+    → IsPart given long part → IsPart given long other → part ≡ other
+one_part names given long part other in_range in_range' first second =
+    same_part part other (both (begins_so given part first.begins first.cursor) (begins_so given other second.begins second.cursor))
+    (first.max ∙ sym second.max) (first.long_is ∙ sym second.long_is)
   where
-    both : BeginsAt (given (codes "cursor")) part ⊎ BeginsInside (given (codes "cursor")) part
-        → BeginsAt (given (codes "cursor")) other ⊎ BeginsInside (given (codes "cursor")) other
+    both : BeginsAt (given (codes "cursor")) part.cursor part.from ⊎ BeginsInside (given (codes "cursor")) part.cursor part.from
+        → BeginsAt (given (codes "cursor")) other.cursor other.from ⊎ BeginsInside (given (codes "cursor")) other.cursor other.from
         → (part.cursor ≡ other.cursor) × (part.from ≡ other.from)
     both (inl at) (inl at') = one_cursor names (given (codes "cursor")) part other in_range.0 in_range'.0 at at'
     both (inl at) (inr inside) = absurd (not_both names (given (codes "cursor")) part other at inside)
@@ -177,8 +190,10 @@ one_command : TextsNameOne → (name : Text) (given : Given) (command other : Co
     → IsCommand name given command → IsCommand name given other → command ≡ other
 one_command names name given (Forms part) (Forms other) in_range in_range' first second =
     ap (λ (p : Part). Forms p) (same_part part other
-    (one_cursor names (given (codes "cursor")) part other in_range in_range' first.1.begins second.1.begins)
-    (first.1.max ∙ sym second.1.max) (first.1.long ∙ sym second.1.long))
+    (one_cursor names (given (codes "cursor")) part other in_range in_range'
+    (at_cursor (given (codes "cursor")) part.cursor part.from first.2 (first.1.begins, first.1.cursor))
+    (at_cursor (given (codes "cursor")) other.cursor other.from second.2 (second.1.begins, second.1.cursor)))
+    (first.1.max ∙ sym second.1.max) (first.1.long_is ∙ sym second.1.long_is))
 one_command names name given (Forms part) (Rows other) in_range in_range' first second =
     absurd (one_name name (codes "list") (codes "rows") first.0 second.0 refl)
 one_command names name given (Forms part) (Convert other) in_range in_range' first second =
@@ -188,7 +203,7 @@ one_command names name given (Forms part) Check in_range in_range' first second 
 one_command names name given (Rows part) (Forms other) in_range in_range' first second =
     absurd (one_name name (codes "rows") (codes "list") first.0 second.0 refl)
 one_command names name given (Rows part) (Rows other) in_range in_range' first second =
-    ap (λ (p : Part). Rows p) (one_part names given part other in_range in_range' first.1 second.1)
+    ap (λ (p : Part). Rows p) (one_part names given (is_set (codes "long") given) part other in_range in_range' first.1 second.1)
 one_command names name given (Rows part) (Convert other) in_range in_range' first second =
     absurd (one_name name (codes "rows") (codes "convert") first.0 second.0 refl)
 one_command names name given (Rows part) Check in_range in_range' first second =

@@ -6,7 +6,7 @@ use Rattle.fax_walk.specs.declared.begun.Begun.{Begun}
 use Rattle.fax_walk.specs.declared.begun.Begun.TheVariants.{At}
 use Rattle.fax_walk.specs.declared.end.End.{End}
 use Rattle.fax_walk.specs.laws.Tails.{BeginningsHaveOneTail, CursorsHaveOneFormTail}
-use Rattle.fax_walk.specs.Rows.{begins_at}
+use Rattle.fax_walk.specs.Items.{begun_cursor}
 use Rattle.fax_tool.specs.declared.refusal.Refusal.{Refusal}
 use Rattle.fax_tool.specs.declared.refusal.Refusal.TheVariants.{Memory, Read, Write}
 use Rattle.fax_tool.specs.declared.words.Command.{Command}
@@ -34,7 +34,7 @@ no_lines (Some limit) = omega arith
 
 -- the text of no line: where to go on
 of_none : (are : List Line → End → Type 0) (max : Option ℕ) (begun : Begun) → ((lines : List Line) × (end : End) × are lines end)
-    → (text : List ℕ) → text ≡ next_line (At (begins_at begun)) → IsTextOfFirst are max begun text
+    → (text : List ℕ) → text ≡ next_line (At (begun_cursor begun)) → IsTextOfFirst are max begun text
 of_none are max begun all text is = (all.0, all.1, all.2, 0, omega arith, no_lines max, is)
 
 -- the input was not read
@@ -94,10 +94,10 @@ module _ (command : Command) (bytes : Option (List ℕ)) (taken : ℕ) (counts :
 -- rows were not read, and where to go on was to be written
 pub rows_unread : BeginningsHaveOneTail → (part : Part) (refusal : Refusal) (bytes : Option (List ℕ)) (taken : ℕ) (counts : Counts)
     (output : Output)
-    → StopsAtBeginning (next_line (At (begins_at (begun_of part)))) refusal (input_after bytes taken counts) output
+    → StopsAtBeginning (next_line (At (begun_cursor (begun_of part)))) refusal (input_after bytes taken counts) output
     → IsStopped (Rows part) refusal (input_after bytes taken counts) output
 rows_unread tails part refusal bytes taken counts output stops =
-    stopped_first (Rows part) bytes taken counts output (next_line (At (begins_at (begun_of part)))) refusal (λ file text is.
+    stopped_first (Rows part) bytes taken counts output (next_line (At (begun_cursor (begun_of part)))) refusal (λ file text is.
     let one = tails file (begun_of part) in
     let lines = row_lines file (begun_of part) one.items one.end one.is in
     of_none (AreRowLines file (begun_of part)) part.max (begun_of part) (lines.0, one.end, lines.1) text is) stops
@@ -105,11 +105,11 @@ rows_unread tails part refusal bytes taken counts output stops =
 -- the part's beginning was refused
 pub rows_unbegun : BeginningsHaveOneTail → (part : Part) (refusal : Refusal) (bytes : Option (List ℕ)) (taken : ℕ) (counts : Counts)
     (output : Output) → IsRead (input_after bytes taken counts)
-    → StopsWith (next_line (At (begins_at (begun_of part)))) refusal output
+    → StopsWith (next_line (At (begun_cursor (begun_of part)))) refusal output
     → IsStopped (Rows part) refusal (input_after bytes taken counts) output
 rows_unbegun tails part refusal bytes taken counts output read stops =
     rows_unread tails part refusal bytes taken counts output
-    (unread_for_memory (next_line (At (begins_at (begun_of part)))) refusal (input_after bytes taken counts) output read stops)
+    (unread_for_memory (next_line (At (begun_cursor (begun_of part)))) refusal (input_after bytes taken counts) output read stops)
 
 -- pages were not read, and where to go on was to be written
 pub pages_unread : CursorsHaveOneFormTail → (part : Part) (refusal : Refusal) (bytes : Option (List ℕ)) (taken : ℕ) (counts : Counts)

@@ -2,6 +2,7 @@ pub mod TransferLemmas
 mod NumberLemmas
 mod EightLemmas
 mod BuildLemmas
+mod BeginLemmas
 mod EntryLemmas
 mod EntryReadLemmas
 mod GetterLemmas

@@ -22,12 +22,12 @@ use Rattle.fax_walk.specs.Pages.{LongPlace}
 use Rattle.fax_walk.specs.Pages.{AreFrom, AreBegun, FilePage, FormItem, IsFormTail, IsPageAt}
 use Rattle.fax_walk.specs.views.InOrder.{IsNumber, EndsAfter}
 use Rattle.fax_bits.specs.laws.Codes.{IsOne}
-use Rattle.fax_walk.specs.views.Walk.{WalkView, HasEndedAs, IsNext, IsCursorOf, IsItemNumber, IsLongOf, begins_inside}
+use Rattle.fax_walk.specs.views.Walk.{WalkView, HasEndedAs, IsNext, IsCursorOf, IsItemNumber, IsLongOf, begun_place}
 use Rattle.fax_walk.specs.views.Pages.{PagesView, HandsOutPage, IsCursorOf as IsPageCursor, IsNextPage, PagesHaveEnded}
 use Rattle.fax_walk.specs.laws.Tails.{BeginningsHaveOneTail, CursorsHaveOneFormTail, CursorsNameOnePage}
 use Rattle.fax_walk.specs.Pages.{FilePage, FormItem, IsFormTail, IsPageAt}
-use Rattle.fax_walk.specs.Rows.{RowItem as Item, RowPlace as Place, IsInStrip, IsRow, IsTailFrom, begins_at, cursor_after, exchanged}
-use Rattle.fax_walk.specs.Rows.{Inner, first_at, long_after}
+use Rattle.fax_walk.specs.Items.{RowItem as Item, RowPlace as Place, IsInStrip, IsRow, IsTailFrom, begun_cursor, cursor_after, exchanged}
+use Rattle.fax_walk.specs.Items.{Inner, first_at, long_after}
 use Rattle.fax_tool.specs.Run.{AreRowLines, ArePageLines, IsRowLine}
 use Rattle.fax_tool.specs.Text.{Line, begun_at, line_of_page, line_of_row, next_after, page_line_of, row_line_of}
 use Rattle.fax_tool.specs.code.Printing.{IsLinePut, IsNextAfter, end_of}
@@ -97,19 +97,19 @@ inner_after form item =
     record { page = item.page; row = item.row + 1; inner = Some (record { bits = item.bits; reference = exchanged form item.pels }) }
 
 begins_if : (test : Bool) (place : LongPlace) (at : Cursor) → place.at ≡ at
-    → begins_at (begun_at (if test then Some place else None) at) ≡ at
+    → begun_cursor (begun_at (if test then Some place else None) at) ≡ at
 begins_if true place at same = same
 begins_if false place at same = refl
 
 -- the cursor of what goes on after a row is the one after it: on the page after, at the page's next strip, or inside its strip
 after_tests : (form : PageForm) (item : Item) (within first : Bool)
-    → begins_at (begun_at (long_at_place (if within then (if first then first_at item.page (item.row + 1) else inner_after form item)
+    → begun_cursor (begun_at (long_at_place (if within then (if first then first_at item.page (item.row + 1) else inner_after form item)
     else first_at (item.page + 1) 0)) (cursor_after item)) ≡ cursor_after item
 after_tests form item true true = refl
 after_tests form item true false = begins_if _ _ (cursor_after item) refl
 after_tests form item false first = refl
 
-pub begins_after : (form : PageForm) (item : Item) → begins_at (begun_at (long_after form item) (cursor_after item)) ≡ cursor_after item
+pub begins_after : (form : PageForm) (item : Item) → begun_cursor (begun_at (long_after form item) (cursor_after item)) ≡ cursor_after item
 begins_after form item = after_tests form item (nat_lt (item.row + 1) form.rows) ((item.row + 1) % form.rows_per_strip == 0)
 
 module _ (file : List ℕ) where
@@ -206,8 +206,8 @@ module _ (file : List ℕ) where
       )
 
   -- what goes on after an item has the cursor after it
-  pub cursor_of : (begun : Begun) (n : ℕ) (item : Item) → (of : IsLineOf begun n item) → begins_at of.line.next ≡ cursor_after item
-  cursor_of begun n item of = ap (λ (l : Line). begins_at l.next) of.line_is ∙ begins_after of.here.form item
+  pub cursor_of : (begun : Begun) (n : ℕ) (item : Item) → (of : IsLineOf begun n item) → begun_cursor of.line.next ≡ cursor_after item
+  cursor_of begun n item of = ap (λ (l : Line). begun_cursor l.next) of.line_is ∙ begins_after of.here.form item
 
   pub page_number : (at : Cursor) (n : ℕ) (item : FormItem) → IsNumber (IsFormTail file at) n item
       → IsNumber (ArePageLines file at) n (line_of_page item)
@@ -259,7 +259,7 @@ row_put file begun given new_given item page row pels text new_text number page_
 
 -- the cursor after so many rows
 pub row_cursor : BeginningsHaveOneTail → (walk : WalkView) (at : Cursor) → IsCursorOf walk at
-    → (next : Begun) × IsNextAfter (AreRowLines walk.file walk.begun) walk.begun walk.given next × (at ≡ begins_at next)
+    → (next : Begun) × IsNextAfter (AreRowLines walk.file walk.begun) walk.begun walk.given next × (at ≡ begun_cursor next)
 row_cursor tails walk at (inl (none, is)) =
     let one = tails walk.file walk.begun in
     let lines = row_lines walk.file walk.begun one.items one.end one.is in (
@@ -271,13 +271,13 @@ row_cursor tails walk at (inr (before, item, count, number, is)) =
     let of = line_of walk.file walk.begun before item number in
     (of.line.next, rw count of.next, is ∙ sym (cursor_of walk.file walk.begun before item of))
 
-inside_of : (place : Option LongPlace) (at : Cursor) → begins_inside (begun_at place at) ≡ place
+inside_of : (place : Option LongPlace) (at : Cursor) → begun_place (begun_at place at) ≡ place
 inside_of None at = refl
 inside_of (Some place) at = refl
 
 -- the place inside a strip after so many rows
 row_place : BeginningsHaveOneTail → CursorsNameOnePage → (walk : WalkView) (place : Option LongPlace) → IsLongOf walk place
-    → (next : Begun) × IsNextAfter (AreRowLines walk.file walk.begun) walk.begun walk.given next × (place ≡ begins_inside next)
+    → (next : Begun) × IsNextAfter (AreRowLines walk.file walk.begun) walk.begun walk.given next × (place ≡ begun_place next)
 row_place tails pages walk place (inl (none, is)) =
     (walk.begun, none_given walk.begun (one_rows walk.file tails pages walk.begun) walk.given none, is)
 row_place tails pages walk place (inr (before, item, here, count, number, page, is)) =
@@ -285,13 +285,13 @@ row_place tails pages walk place (inr (before, item, here, count, number, page, 
     let same = one_line walk.file pages item of.line (line_of_row here.form item) (of.here, of.page, of.line_is) (here, page, refl) in (
       of.line.next,
       rw count of.next,
-      is ∙ sym (ap (λ (l : Line). begins_inside l.next) same ∙ inside_of (long_after here.form item) (cursor_after item)),
+      is ∙ sym (ap (λ (l : Line). begun_place l.next) same ∙ inside_of (long_after here.form item) (cursor_after item)),
     )
 
 pub row_places : BeginningsHaveOneTail → CursorsNameOnePage → (walk : WalkView) (answer : Result (Option LongPlace) NoMemory)
     → IfOk answer (IsLongOf walk)
     → IfOk answer (λ place. (next : Begun) × IsNextAfter (AreRowLines walk.file walk.begun) walk.begun walk.given next
-    × (place ≡ begins_inside next))
+    × (place ≡ begun_place next))
 row_places tails pages walk (Ok place) is = row_place tails pages walk place is
 row_places tails pages walk (Err memory) is = tt
 

@@ -11,7 +11,7 @@ use Rattle.fax_walk.specs.declared.cursor.Cursor.{Cursor}
 use Rattle.fax_walk.specs.declared.end.End.{End}
 use Rattle.fax_walk.specs.views.InOrder.{IsNumber, EndsAfter}
 use Rattle.fax_bits.specs.laws.Codes.{IsOne}
-use Rattle.fax_walk.specs.Rows.{begins_at}
+use Rattle.fax_walk.specs.Items.{begun_cursor}
 use Rattle.fax_tool.specs.declared.refusal.Refusal.{Refusal}
 use Rattle.fax_tool.specs.Run.{Counts, IsTextOfFirst}
 use Rattle.fax_tool.specs.Streams.{output_after}
@@ -176,7 +176,7 @@ module _ (tail now : List Line → End → Type 0) (one : IsOne tail) (given : �
     -- memory was refused, and the lines so far and where to go on were to be written
     pub stopped_for_memory : (now_begun : Begun) (cursor : Cursor) (new_written : Option (List ℕ)) (shown line : List ℕ) (counts : Counts)
         (refusal : Refusal) → now_begun ≡ begun
-        → ((from : Begun) × IsNextAfter now now_begun given from × (cursor ≡ begins_at from)) → shown ≡ text
+        → ((from : Begun) × IsNextAfter now now_begun given from × (cursor ≡ begun_cursor from)) → shown ≡ text
         → line ≡ next_line (At cursor)
         → StopsWith (shown ++ line) refusal (output_after written new_written counts)
         → StopsPrinting NoText (IsTextOfFirst tail max begun) refusal (output_after output new_written counts)
@@ -194,7 +194,7 @@ module _ (tail now : List Line → End → Type 0) (one : IsOne tail) (given : �
 
 -- where to go on at the cursor after so many lines
 pub next_of_cursor : (tail : List Line → End → Type 0) (begun : Begun) (given : ℕ) (cursor : Cursor) (line : List ℕ)
-    → ((next : Begun) × IsNextAfter tail begun given next × (cursor ≡ begins_at next)) → line ≡ next_line (At cursor)
+    → ((next : Begun) × IsNextAfter tail begun given next × (cursor ≡ begun_cursor next)) → line ≡ next_line (At cursor)
     → IsNextLine tail begun given false line
 next_of_cursor tail begun given cursor line (next, after, at) line_is = (next, after, line_is ∙ ap (λ (c : Cursor). next_line (At c)) at)
 

@@ -16,13 +16,13 @@ use Rattle.fax_walk.specs.Pages.{IsCursor, LongPlace}
 use Rattle.fax_walk.specs.laws.Cursors.{CursorsAreShort, PlacesAreShort, TextsNameOne}
 use Rattle.fax_walk.specs.laws.Tails.{BeginningsHaveOneTail, CursorsNameOnePage, IsReached, LongTailsGoOn, PlacesAreReached, TailsGoOn}
 use Rattle.fax_walk.specs.Pages.{FilePage, IsPageAt}
-use Rattle.fax_walk.specs.Rows.{RowItem as Item, IsTailFrom, cursor_after, long_after}
+use Rattle.fax_walk.specs.Items.{RowItem as Item, IsTailFrom, cursor_after, long_after}
 use Rattle.fax_tool.specs.Run.{AreRowLines, IsRowLine}
 use Rattle.fax_tool.specs.Text.{Line, Printed, begun_at, begun_text, named, next_after, next_line, text_of, end_text, ended_text}
-use Rattle.fax_tool.specs.Text.{texts_of}
+use Rattle.fax_tool.specs.Text.{is_cut, texts_of, up_to}
 use Rattle.fax_tool.specs.laws.Runs.{AreAsOneRun, AreRunsOfRows, CutRunsAreReadOn, IsBegun, IsReadAfter, IsRunOfRows, MayBegin, RunsGoOn}
-use Rattle.fax_tool.specs.laws.Runs.{is_cut, up_to}
 use Rattle.fax_tool.proofs.LineLemmas.{begins_after, one_rows}
+use Rattle.fax_tool.proofs.TextLemmas.{all_taken}
 
 -- all lines and their end; the first ones, and where to go on; the last line of an end
 abbrev whole_text : Bool → Begun → List Line → End → Printed
@@ -64,7 +64,9 @@ parts (Some limit) lines = take-append-drop limit lines
 not_cut : (long : Bool) (max : Option ℕ) (begun : Begun) (lines : List Line) (end : End) → is_cut max lines ≡ false
     → text_of long max begun lines end ≡ whole_text long begun lines end
 not_cut long None begun lines end whole = refl
-not_cut long (Some limit) begun lines end whole = let no : nat_le limit (length lines) ≡ false = whole in rw no refl
+not_cut long (Some limit) begun lines end whole =
+    let no : nat_le limit (length lines) ≡ false = whole in
+    let all : take limit lines ≡ lines = all_taken limit lines (grind (arith, nat_tests)) in rw (no, all) refl
 
 -- one run is a beginning of a run without a limit
 alone : (lines : List Line) (max : Option ℕ) (rows : List ℕ) (last whole : Printed) (cut : Bool)
@@ -126,10 +128,6 @@ same_last rows Outside begun next e =
     let first : ◌≡◌ {A = ℕ} 0 110 = ap (λ (l : List ℕ). get_or l 0 0) line in
     absurd (omega arith)
 
-all_taken : {A : Type 0} (n : ℕ) (xs : List A) → length xs ≤ n → take n xs ≡ xs
-all_taken n xs within =
-    sym (append-nil (take n xs)) ∙ ap (λ l. take n xs ++ l) (sym (drop_all n xs within)) ∙ take-append-drop n xs
-
 -- what stands after `next` after these lines is the text of what goes on after them
 next_told : (long : Bool) (max : Option ℕ) (begun : Begun) (lines : List Line) (end : End) (next : Begun)
     → (text_of long max begun lines end).output ≡ texts_of (up_to max lines) ++ next_line next
@@ -142,13 +140,7 @@ next_told long (Some limit) begun lines end next e = by_test (nat_le limit (leng
     by_test true cut =
         same_text (texts_of (take limit lines)) (named long (next_after begun (take limit lines))) next (rw cut at e)
     by_test false whole =
-        let all : take limit lines ≡ lines = all_taken limit lines (grind (arith, nat_tests)) in
-        let text : texts_of lines ++ last_line end (named long (next_after begun lines)) ≡ texts_of (take limit lines) ++ next_line next =
-        rw whole at e in
-        let same : texts_of lines ++ last_line end (named long (next_after begun lines)) ≡ texts_of lines ++ next_line next =
-        text ∙ ap (λ (l : List Line). texts_of l ++ next_line next) all in
-        ap (λ (l : List Line). begun_text (named long (next_after begun l))) all
-        ∙ same_last (texts_of lines) end (named long (next_after begun lines)) next same
+        same_last (texts_of (take limit lines)) end (named long (next_after begun (take limit lines))) next (rw whole at e)
 
 module _ (tails : BeginningsHaveOneTail) (pages : CursorsNameOnePage) (go_on : TailsGoOn) (long_go_on : LongTailsGoOn)
     (places : PlacesAreReached) (short : CursorsAreShort) (long_short : PlacesAreShort) (names : TextsNameOne) (file : List ℕ)

@@ -1,6 +1,7 @@
 -- The text of lines that are printed up to a limit or to their end.
 use Rattle.std.proofs.Common.{◌≡◌, ℕ, ◌<◌, ◌≤◌, List, ◌++◌, length, take, refl, ap, sym, ◌∙◌, arith, true, false}
-use Rattle.std.proofs.Common.{Bool, ◌↔◌}
+use Rattle.std.proofs.Common.{Bool, ◌↔◌, append-nil, take-append-drop}
+use Rattle.std.proofs.lemmas.List.{drop_all}
 use Rattle.std.proofs.Math.Seq.{take-length}
 use Rattle.std.proofs.lemmas.Bool.{le-leb, lt-leb}
 use Rattle.std.proofs.KnownBytes.{Appends-trans}
@@ -17,6 +18,10 @@ use Rattle.fax_tool.specs.Text.{Line, end_text, named, next_after, next_line, te
 use Rattle.fax_tool.specs.code.Outcome.{StopsPrinting, WritesOutput, end_line, error_of, status_of}
 use Rattle.fax_tool.specs.code.Printing.{EndsWith, IsLastLine, IsNextAfter, IsNextLine, PrintsLines}
 use Rattle.fax_tool.proofs.StopLemmas.{NoText, stops_after, stops_more}
+
+pub all_taken : {A : Type 0} (n : ℕ) (xs : List A) → length xs ≤ n → take n xs ≡ xs
+all_taken n xs within =
+    sym (append-nil (take n xs)) ∙ ap (λ l. take n xs ++ l) (sym (drop_all n xs within)) ∙ take-append-drop n xs
 
 error_is : (end : End) (next : Begun) → (end_text (Some end) next).error ≡ error_of (end_line (Some end))
 error_is Proper next = refl
@@ -53,10 +58,11 @@ whole_ended lines end long None begun few = record {
 }
 whole_ended lines end long (Some limit) begun few =
     let no : nat_le limit (length lines) ≡ false = lt-leb limit (length lines) few in
+    let all : take limit lines ≡ lines = all_taken limit lines (omega arith) in
     record {
-      output = rw (no, take-length) refl;
-      error = rw no (error_is end (named long (next_after begun lines)));
-      status = rw no (status_is end (named long (next_after begun lines)));
+      output = rw (no, all, take-length) refl;
+      error = rw (no, all) (error_is end (named long (next_after begun lines)));
+      status = rw (no, all) (status_is end (named long (next_after begun lines)));
       within = omega arith;
       some = omega arith;
     }

@@ -29,6 +29,13 @@ pub data Item : Type 0 where
   -- a word that is no option
   file : Item
 
+-- the most lines that are asked for; and the most rows of a strip, and the greatest k
+abbrev pub most_lines : ℕ
+most_lines = 4294967295
+
+abbrev pub most_rows : ℕ
+most_rows = 1000000
+
 -- the name by which the text of an item is asked for
 abbrev pub name_of : Item → Text
 name_of (text name) = name
@@ -39,15 +46,15 @@ name_of file = codes "FILE"
 
 -- what may stand after `list`, and after `rows` with a flag more
 abbrev pub part : List Item
-part = text (codes "cursor") ∷ number (codes "max") 4294967295 ∷ file ∷ []
+part = text (codes "cursor") ∷ number (codes "max") most_lines ∷ file ∷ []
 
 -- each command's name, and what may stand after it, in any order; 111 is `o`
 abbrev pub commands : List (Text × List Item)
 commands = (codes "list", part) ∷ (codes "rows", part ++ flag (codes "long") ∷ [])
     ∷ (
       codes "convert",
-      letter 111 ∷ number (codes "order") 2 ∷ number (codes "k") 1000000
-          ∷ number (codes "strip") 1000000 ∷ flag (codes "align") ∷ file ∷ [],
+      letter 111 ∷ number (codes "order") 2 ∷ number (codes "k") most_rows
+          ∷ number (codes "strip") most_rows ∷ flag (codes "align") ∷ file ∷ [],
     )
     ∷ (codes "check", file ∷ []) ∷ []
 

@@ -9,13 +9,16 @@ use Rattle.std.specs.Str.Parse.{digits_value, without_leading_plus}
 use Rattle.std.specs.String.{string_bytes}
 use Rattle.fax_bits.specs.declared.FillOrder.{FillOrder}
 use Rattle.fax_bits.specs.declared.FillOrder.TheVariants.{LsbFirst, MsbFirst}
-use Rattle.fax_tool.specs.Text.{Cursor}
+use Rattle.fax_tool.specs.Run.{begun_of}
+use Rattle.fax_tool.specs.Text.{At, Begun, Cursor, begun_text}
+use Rattle.fax_walk.specs.Items.{begun_cursor}
 use Rattle.fax_walk.specs.declared.options.Options.{Options}
 use Rattle.fax_walk.specs.declared.options.Target.{Target}
 use Rattle.fax_walk.specs.declared.options.Target.TheVariants.{Mh, Mmr, Mr, Pbm}
 use Rattle.fax_walk.specs.Pages.{IsCursor, cursor_text, start, IsLongCursor, LongPlace}
 use Rattle.fax_walk.specs.Pages.{long_cursor_text}
-use Rattle.fax_tool.specs.Grammar.{AreOfCommand, AreOfNoCommand, Text, Use, text_in}
+use Rattle.fax_tool.specs.Grammar.{AreOfCommand, AreOfNoCommand, Text, Use, most_lines, most_rows}
+use Rattle.fax_tool.specs.Grammar.{text_in}
 use Rattle.fax_tool.specs.declared.words.Command.{Command}
 use Rattle.fax_tool.specs.declared.words.Command.TheVariants.{Check, Convert, List as Forms, Rows}
 use Rattle.fax_tool.specs.declared.words.Job.{Job}
@@ -52,30 +55,17 @@ target_in given = option_and_then target_of (given (codes "o"))
 abbrev pub order_by : Option ℕ → FillOrder
 order_by number = if unwrap_or number 1 == 2 then LsbFirst else MsbFirst
 
--- the part of a file's pages or rows begins at the cursor of this text, or at the first one where
--- there is no text
-abbrev pub BeginsAt : Option Text → Part → Type 0
-BeginsAt None part = (part.cursor ≡ start) × (part.from ≡ None)
-BeginsAt (Some text) part = (text ≡ cursor_text part.cursor) × (part.from ≡ None)
+-- this text, where there is one, names what a run begins with; else it begins at the first cursor
+abbrev pub IsBegunBy : Option Text → Begun → Type 0
+IsBegunBy None begun = begun ≡ At start
+IsBegunBy (Some text) begun = text ≡ begun_text begun
 
--- it begins at the long cursor of this text
-abbrev pub BeginsInside : Option Text → Part → Type 0
-BeginsInside None part = ⊥
-BeginsInside (Some text) part = (place : LongPlace) × (text ≡ long_cursor_text place)
-    × (part.cursor ≡ place.at) × (part.from ≡ Some place)
-
--- what is given after `list` gives this part
-pub record IsPartOfPages (given : Given) (part : Part) : Type 0 where
-  pub begins : BeginsAt (given (codes "cursor")) part
+-- what is given after `list` or `rows` gives this part, with long cursors or without
+pub record IsPart (given : Given) (long : Bool) (part : Part) : Type 0 where
+  pub begins : IsBegunBy (given (codes "cursor")) (begun_of part)
+  pub cursor : part.cursor ≡ begun_cursor (begun_of part)
   pub max : part.max ≡ number_in (codes "max") given
-  pub long : part.long ≡ false
-
--- what is given after `rows` gives this part
-pub record IsPartOfRows (given : Given) (part : Part) : Type 0 where
-  pub begins : BeginsAt (given (codes "cursor")) part
-      ⊎ BeginsInside (given (codes "cursor")) part
-  pub max : part.max ≡ number_in (codes "max") given
-  pub long : part.long ≡ is_set (codes "long") given
+  pub long_is : part.long ≡ long
 
 -- what is given after `convert` gives these options
 pub record AreOptions (given : Given) (options : Options) : Type 0 where
@@ -87,8 +77,10 @@ pub record AreOptions (given : Given) (options : Options) : Type 0 where
 
 -- a command's name and what is given after it give this command
 abbrev pub IsCommand : Text → Given → Command → Type 0
-IsCommand name given (Forms part) = (name ≡ codes "list") × IsPartOfPages given part
-IsCommand name given (Rows part) = (name ≡ codes "rows") × IsPartOfRows given part
+IsCommand name given (Forms part) =
+    (name ≡ codes "list") × IsPart given false part × (part.from ≡ None)
+IsCommand name given (Rows part) =
+    (name ≡ codes "rows") × IsPart given (is_set (codes "long") given) part
 IsCommand name given (Convert options) = (name ≡ codes "convert") × AreOptions given options
 IsCommand name given Check = name ≡ codes "check"
 
@@ -106,38 +98,27 @@ HasNoTarget given = (target_in given ≡ None)
     ⊎ ((is_set (codes "align") given ≡ true)
     × ((target_in given ≡ Some Pbm) ⊎ (target_in given ≡ Some Mmr)))
 
-abbrev pub IsNoCursor : Text → Type 0
-IsNoCursor text = (at : Cursor) → IsCursor at → text ≢ cursor_text at
-
-abbrev pub IsNoLongCursor : Text → Type 0
-IsNoLongCursor text = (place : LongPlace) → IsLongCursor place → text ≢ long_cursor_text place
-
 -- the text of `--cursor` is that of no cursor that the command takes
 pub record HasNoCursor (name : Text) (given : Given) : Type 0 where
   pub text : Text
   pub is : given (codes "cursor") ≡ Some text
-  pub none : IsNoCursor text
-  pub command : (name ≡ codes "list") ⊎ ((name ≡ codes "rows") × IsNoLongCursor text)
+  pub none : (at : Cursor) → IsCursor at → text ≢ cursor_text at
+  pub command : (name ≡ codes "list") ⊎ ((name ≡ codes "rows")
+      × ((place : LongPlace) → IsLongCursor place → text ≢ long_cursor_text place))
 
--- a command's name and what is given after it give no command, but this fault; of Memory nothing
--- can be said but that a growth was refused
-abbrev pub IsCommandFault : Text → Given → WordsFault → Type 0
-IsCommandFault name given Usage = (name ≡ codes "convert") × HasNoTarget given
-IsCommandFault name given NotACursor = HasNoCursor name given
-IsCommandFault name given Memory = Unit {0}
-
--- the words are those of a command, which is refused with this fault
-pub record IsRefusedCommand (words : List Text) (fault : WordsFault) : Type 0 where
+-- the words are those of a command, and this is so of its name and of what is given after it
+pub record AreRefused (words : List Text) (why : Text → Given → Type 0) : Type 0 where
   pub name : Text
   pub uses : List Use
   pub named : AreOfCommand words name uses
-  pub command : IsCommandFault name (text_in uses) fault
+  pub command : why name (text_in uses)
 
 -- the words give no job, but this fault: Usage also where they are those of no command, and so
--- before any other
+-- before any other; of Memory nothing can be said but that a growth was refused
 abbrev pub IsFault : List Text → WordsFault → Type 0
-IsFault words Usage = AreOfNoCommand words ⊎ IsRefusedCommand words Usage
-IsFault words NotACursor = IsRefusedCommand words NotACursor
+IsFault words Usage = AreOfNoCommand words
+    ⊎ AreRefused words (λ name given. (name ≡ codes "convert") × HasNoTarget given)
+IsFault words NotACursor = AreRefused words HasNoCursor
 IsFault words Memory = Unit {0}
 
 -- the numbers of a command are in their ranges
@@ -145,15 +126,14 @@ abbrev pub IsInRange : ℕ → ℕ → Type 0
 IsInRange most number = (0 < number) × (number ≤ most)
 
 abbrev pub HasRanges : Command → Type 0
-HasRanges (Forms part) = IfSome part.max (IsInRange 4294967295)
-HasRanges (Rows part) = IfSome part.max (IsInRange 4294967295)
+HasRanges (Forms part) = IfSome part.max (IsInRange most_lines)
+HasRanges (Rows part) = IfSome part.max (IsInRange most_lines)
 HasRanges (Convert options) =
-    IsInRange 1000000 options.k × IfSome options.strip (IsInRange 1000000)
+    IsInRange most_rows options.k × IfSome options.strip (IsInRange most_rows)
 HasRanges Check = Unit {0}
 
 -- a command's cursor is one, and so is its long cursor, which has a run
 abbrev pub HasCursors : Command → Type 0
 HasCursors (Forms part) = IsCursor part.cursor
 HasCursors (Rows part) = IsCursor part.cursor × IfSome part.from IsLongCursor
-HasCursors (Convert options) = Unit {0}
-HasCursors Check = Unit {0}
+HasCursors other = Unit {0}

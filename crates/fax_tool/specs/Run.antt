@@ -8,7 +8,7 @@ use Rattle.fax_files.specs.Directory.{max_file}
 use Rattle.fax_tool.specs.Text.{Begun, At, Cursor, End, Line, Printed, begun_at, ended_text}
 use Rattle.fax_tool.specs.Text.{line_of_page, line_of_row, text_of}
 use Rattle.fax_walk.specs.Pages.{FilePage, FormItem, IsFormTail, IsPageAt}
-use Rattle.fax_walk.specs.Rows.{RowItem, IsTailFrom}
+use Rattle.fax_walk.specs.Items.{RowItem, IsTailFrom}
 use Rattle.fax_tool.specs.declared.refusal.Refusal.{Refusal}
 use Rattle.fax_tool.specs.declared.refusal.Refusal.TheVariants.{Memory, Read, Write}
 use Rattle.fax_tool.specs.declared.words.Command.{Command}
@@ -116,8 +116,7 @@ IsTextAfterMemory (Forms part) file =
     IsTextOfFirst (ArePageLines file part.cursor) part.max (At part.cursor)
 IsTextAfterMemory (Rows part) file =
     IsTextOfFirst (AreRowLines file (begun_of part)) part.max (begun_of part)
-IsTextAfterMemory (Convert options) file = λ output. output ≡ []
-IsTextAfterMemory Check file = λ output. output ≡ []
+IsTextAfterMemory other file = λ output. output ≡ []
 
 -- what a refusal leaves of such a text, of which so much is written where memory is refused: after
 -- Memory that, after Read nothing, and after Write a front of either

@@ -5,15 +5,14 @@ use Rattle.std.specs.Prelude.{◌+◌, flat_map, length, take, Option, Some, Non
 use Rattle.std.specs.Option.{option_map_or}
 use Rattle.fax_rows.specs.Rows.{runs_of}
 use Rattle.fax_files.specs.Page.{Coding, Mh, Mr, Mmr, fill_order_of}
-use Rattle.fax_walk.specs.Pages.{Cause, PageForm, FormItem}
 use Rattle.fax_files.specs.FaultNames.{fault_name, fault_tag}
 use Rattle.fax_walk.specs.declared.end.End.TheVariants.{Proper, Fault, Outside}
-use Rattle.fax_walk.specs.Pages.{LongPlace, cursor_text, long_cursor_text}
-use Rattle.fax_walk.specs.Rows.{RowItem, begins_at, cursor_after, long_after}
+use Rattle.fax_walk.specs.Pages.{Cause, PageForm, FormItem, LongPlace, cursor_text, long_cursor_text}
+use Rattle.fax_walk.specs.Items.{RowItem, begun_cursor, cursor_after, long_after}
+pub use Rattle.fax_walk.specs.declared.cursor.Cursor.{Cursor}
 pub use Rattle.fax_walk.specs.declared.end.End.{End}
 pub use Rattle.fax_walk.specs.declared.begun.Begun.{Begun}
 pub use Rattle.fax_walk.specs.declared.begun.Begun.TheVariants.{At, Inside}
-pub use Rattle.fax_walk.specs.declared.cursor.Cursor.{Cursor}
 
 -- a blank and the number
 abbrev pub and_number : ℕ → List ℕ
@@ -84,7 +83,7 @@ fault_line page row cause =
 -- what `next` names of what a run begins with: with long cursors all of it, else its cursor
 abbrev pub named : Bool → Begun → Begun
 named true begun = begun
-named false begun = At (begins_at begun)
+named false begun = At (begun_cursor begun)
 
 -- how what a run begins with is named: `2:P:R:B:n,n,..` inside a strip, else `1:P:R`
 abbrev pub begun_text : Begun → List ℕ
@@ -117,10 +116,14 @@ ended_text long begun lines end =
     let last = end_text end (named long (next_after begun lines)) in
     record last { output = texts_of lines ++ last.output }
 
--- what is written of lines and their end: with a limit, and at least so many lines, the first ones
--- up to it and where to go on, also if these are all; else all of them and their end
+-- the lines up to a limit, if there is one; and whether the limit cuts them: also if these are all
+abbrev pub up_to : Option ℕ → List Line → List Line
+up_to max lines = option_map_or (λ limit. take limit lines) max lines
+
+abbrev pub is_cut : Option ℕ → List Line → Bool
+is_cut max lines = option_map_or (λ limit. nat_le limit (length lines)) max false
+
+-- what is written of lines and their end, up to a limit, if there is one
 abbrev pub text_of : Bool → Option ℕ → Begun → List Line → End → Printed
-text_of long None begun lines end = ended_text long begun lines (Some end)
-text_of long (Some limit) begun lines end =
-    if nat_le limit (length lines) then ended_text long begun (take limit lines) None
-    else ended_text long begun lines (Some end)
+text_of long max begun lines end =
+    ended_text long begun (up_to max lines) (if is_cut max lines then None else Some end)

@@ -11,8 +11,7 @@ ghost use Rattle.fax_tool.specs.declared.words.WordsFault.TheVariants.{Usage as 
 ghost use Rattle.fax_tool.specs.Grammar.{Text, texts};
 ghost use Rattle.fax_walk.specs.Pages.{IsCursor, IsLongCursor};
 ghost use Rattle.fax_tool.specs.Job.{AreOptions, HasCursors, HasNoTarget, HasRanges, IsCommand};
-ghost use Rattle.fax_tool.specs.Job.{IsCommandFault, IsFault, IsJob};
-ghost use Rattle.fax_tool.specs.Job.{IsNoCursor, IsNoLongCursor, IsPartOfPages, IsPartOfRows};
+ghost use Rattle.fax_tool.specs.Job.{IsFault, IsJob, IsPart, is_set};
 ghost use Rattle.fax_tool.specs.Job.{number_in, order_by, target_in};
 ghost use Rattle.fax_tool.specs.Run.{HasFailed};
 ghost use Rattle.fax_tool.specs.Streams.{no_faults};
@@ -20,7 +19,8 @@ ghost use Rattle.fax_tool.specs.Words.{words_status, words_text};
 ghost use Rattle.fax_tool.specs.code.Entries.{HasEntries, HasFlag, HasNumber, HasOptions};
 ghost use Rattle.fax_tool.specs.code.CommandLine.{check_app, convert_app, faxpages_app};
 ghost use Rattle.fax_tool.specs.code.CommandLine.{printing_app, rows_app, value_rule};
-ghost use Rattle.fax_tool.specs.code.Entries.{IsApp, entries_of, given_by};
+ghost use Rattle.fax_tool.specs.code.Entries.{IsApp, IsCommandFault, IsNoCursor, IsNoLongCursor};
+ghost use Rattle.fax_tool.specs.code.Entries.{entries_of, given_by};
 
 use crate::streams::Sink;
 use crate::streams::transfer::{Interruptions, give_all};
@@ -67,12 +67,12 @@ pub struct Part {
 }
 
 impl Part {
-    ghost use Rattle.fax_walk.specs.Rows.{begins_at};
+    ghost use Rattle.fax_walk.specs.Items.{begun_cursor};
     ghost use Rattle.fax_tool.specs.Run.{begun_of};
 
     /// The cursor to begin at, of the long cursor where one is named.
     pub fn begin(&self) -> Cursor
-        ensures { result ≡ begins_at (begun_of self.now) }
+        ensures { result ≡ begun_cursor (begun_of self.now) }
     {
         match &self.from {
             Some(from) => from.at,
@@ -293,7 +293,8 @@ fn file_of(alloc: Global, matches: &ArgMatches) -> Result<Option<String>, AllocE
 /// The part of a file's pages that the words after `list` name.
 fn pages_of(matches: &ArgMatches) -> Result<Part, NotACursor>
     requires { HasNumber (codes "max") 4294967295 (entries_of matches.now) }
-    ensures ok { IfOk result (λ part. IsPartOfPages (given_by (entries_of matches.now)) part) }
+    ensures ok { IfOk result (λ part. IsPart (given_by (entries_of matches.now)) false part
+        × (part.from ≡ None)) }
     ensures cursor { IfOk result (λ part. IsCursor part.cursor) }
     ensures err { OnErr result ((text : Text)
         × (first_of (codes "cursor") (entries_of matches.now) ≡ Some text) × IsNoCursor text) }
@@ -314,7 +315,8 @@ fn pages_of(matches: &ArgMatches) -> Result<Part, NotACursor>
 fn rows_of(alloc: Global, matches: &ArgMatches) -> Result<Part, WordsFault>
     requires max { HasNumber (codes "max") 4294967295 (entries_of matches.now) }
     requires long { HasFlag (codes "long") (entries_of matches.now) }
-    ensures ok { IfOk result (λ part. IsPartOfRows (given_by (entries_of matches.now)) part) }
+    ensures ok { IfOk result (λ part. IsPart (given_by (entries_of matches.now))
+        (is_set (codes "long") (given_by (entries_of matches.now))) part) }
     ensures cursor { IfOk result (λ part. IsCursor part.cursor) }
     ensures from { IfOk result (λ part. IfSome part.from IsLongCursor) }
     ensures err { IfErr result (λ fault. (fault ≢ BadWords)

@@ -5,7 +5,7 @@ use Rattle.std.proofs.lemmas.List.Concat.{flat_map-append}
 use Rattle.fax_walk.specs.declared.checking.Note.{Note}
 use Rattle.fax_walk.specs.declared.end.End.{End}
 use Rattle.fax_walk.specs.Report.{IsNoted}
-use Rattle.fax_walk.specs.Rows.{IsRow}
+use Rattle.fax_walk.specs.Items.{IsRow}
 use Rattle.fax_walk.specs.code.Check.{CheckPlace, HasChecked, IsCheckedTo}
 use Rattle.fax_walk.proofs.InOrderLemmas.{joined, leads_both}
 

@@ -13,7 +13,7 @@ use Rattle.fax_walk.specs.declared.opening.OpenFault.{OpenFault}
 use Rattle.fax_walk.specs.declared.opening.OpenFault.TheVariants.{Memory, Ended}
 use Rattle.fax_walk.specs.Pages.{LongPlace}
 use Rattle.fax_walk.specs.views.Walk.{EndsBefore}
-use Rattle.fax_walk.specs.Rows.{IsInnerOn, IsRow, RowItem, RowPlace, begins_at, first_at, inner_at}
+use Rattle.fax_walk.specs.Items.{IsInnerOn, IsRow, RowItem, RowPlace, begun_cursor, first_at, inner_at}
 use Rattle.fax_walk.specs.code.Places.{row_in_strip, strip_at}
 use Rattle.fax_walk.specs.code.Places.{Begins}
 use Rattle.fax_walk.specs.code.Opening.{EndsAt, IsFilePage, IsNamed, PageDue, page_with}
@@ -33,7 +33,7 @@ no_beginning file begun end begins = record {
 
 -- a walk whose first place has no row
 no_row : (file : List ℕ) (begun : Begun) (end : End) (at : RowPlace) (n : ℕ) → Begins file begun (Ok (at, n)) → IsRow file at (Err end)
-    → (n ≡ 0) ⊎ EndsBefore end (begins_at begun) → HasNoRows file begun end
+    → (n ≡ 0) ⊎ EndsBefore end (begun_cursor begun) → HasNoRows file begun end
 no_row file begun end at n begins stop before = record {
   tail = (Ok (at, n), begins, ([], stop, sym (none_dropped n)));
   read = record {
@@ -132,9 +132,9 @@ module _ (file : List ℕ) (place : LongPlace) where
   no_page_inside end ends = no_beginning file (Inside place) end (ends_inside end ends)
 
   module _ (due : PageDue) (named : IsNamed file place.at (Some due)) where
-    begins_inside : IsInnerOn due.directory.file (page_with due.directory due.form) place → Begins file (Inside place)
+    begun_place : IsInnerOn due.directory.file (page_with due.directory due.form) place → Begins file (Inside place)
         (Ok (inner_at place, 0))
-    begins_inside inner = inr (page_with due.directory due.form, named.3, inl (rw (named.0) at inner, refl))
+    begun_place inner = inr (page_with due.directory due.form, named.3, inl (rw (named.0) at inner, refl))
 
     pub opened_inside : (result : Result PageState OpenFault) → IfOk result (IsOpenedAt due.directory.file (inner_at place) 0 0)
         → OnOk result (IsInnerOn due.directory.file (page_with due.directory due.form) place) → IfOk result
@@ -142,7 +142,7 @@ module _ (file : List ℕ) (place : LongPlace) where
     opened_inside (Ok page) opened inner = record {
       first = inner_at place;
       dropped = 0;
-      begins = begins_inside inner;
+      begins = begun_place inner;
       from = record { opened = rw (named.0) at opened; named = λ some. absurd (omega (arith, some)) };
     }
     opened_inside (Err fault) opened inner = opened
@@ -152,7 +152,7 @@ module _ (file : List ℕ) (place : LongPlace) where
     refused_inside (Ok page) refused = refused
     refused_inside (Err Memory) refused = tt
     refused_inside (Err (Ended end)) (inl (inner, stop)) =
-        no_row file (Inside place) end (inner_at place) 0 (begins_inside inner) (rw (named.0) at stop) (inl refl)
+        no_row file (Inside place) end (inner_at place) 0 (begun_place inner) (rw (named.0) at stop) (inl refl)
     refused_inside (Err (Ended end)) (inr (not, end_is)) =
         no_beginning file (Inside place) end
         (inr (page_with due.directory due.form, named.3, inr (λ inner. not (rw (sym named.0) at inner), rw end_is refl)))

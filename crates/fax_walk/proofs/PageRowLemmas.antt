@@ -14,7 +14,7 @@ use Rattle.fax_files.specs.Page.{strip_form}
 use Rattle.fax_files.specs.laws.Files.{IsWholeForm}
 use Rattle.fax_walk.specs.laws.InOrder.{LeadTo}
 use Rattle.fax_walk.specs.Pages.{IsPageAt}
-use Rattle.fax_walk.specs.Rows.{RowPlace, first_at, IsRow}
+use Rattle.fax_walk.specs.Items.{RowPlace, first_at, IsRow}
 use Rattle.fax_walk.specs.laws.Written.{WalkedRow, walked, numbered}
 use Rattle.fax_walk.proofs.InOrderLemmas.{leads_both}
 use Rattle.fax_walk.proofs.StripPlaceLemmas.{shown_length, strip_count}

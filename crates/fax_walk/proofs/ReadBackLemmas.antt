@@ -27,7 +27,7 @@ use Rattle.fax_walk.specs.declared.options.Options.{Options}
 use Rattle.fax_walk.specs.declared.options.Target.{Target}
 use Rattle.fax_walk.specs.declared.options.Target.TheVariants as To
 use Rattle.fax_walk.specs.Pages.{AreFrom, FilePage, FormItem, IsForm, IsPageAt}
-use Rattle.fax_walk.specs.Rows.{AreItems, IsRow, RowItem, RowPlace, first_at}
+use Rattle.fax_walk.specs.Items.{AreItems, IsRow, RowItem, RowPlace, first_at}
 use Rattle.fax_walk.specs.Converted.{IsSource, IsTiff, IsTooLarge, SourcePage, pages_of, target_bytes}
 use Rattle.fax_walk.specs.code.Opening.{IsPageUnder, page_or_end, page_over}
 use Rattle.fax_walk.specs.code.Sources.{page_of_form, page_of_image, pels_of}

@@ -27,11 +27,11 @@ use Rattle.fax_walk.specs.declared.end.End.{End}
 use Rattle.fax_walk.specs.declared.end.End.TheVariants.{Fault, Outside}
 use Rattle.fax_walk.specs.Pages.{LongPlace}
 use Rattle.fax_walk.specs.Pages.{AreBegun, FilePage, IsPageAt}
-use Rattle.fax_walk.specs.Rows.{RowItem, Inner, RowPlace, first_at, exchanged}
+use Rattle.fax_walk.specs.Items.{RowItem, Inner, RowPlace, first_at, exchanged}
 use Rattle.fax_walk.specs.code.Places.{strip_at, row_in_strip}
-use Rattle.fax_walk.specs.Rows.{before, place_after, IsInStrip, IsRow}
+use Rattle.fax_walk.specs.Items.{before, place_after, IsInStrip, IsRow}
 use Rattle.fax_walk.specs.code.Places.{IsItem}
-use Rattle.fax_walk.specs.Rows.{IsInnerOn, inner_at, BeginsOn, begins_at}
+use Rattle.fax_walk.specs.Items.{IsInnerOn, inner_at, IsBegunOn, begun_cursor}
 use Rattle.fax_walk.specs.code.Places.{first_row, FitsStrip}
 use Rattle.fax_walk.specs.code.Places.{cursor_at}
 use Rattle.fax_walk.specs.laws.Tails.{BeginningsHaveOneTail}
@@ -286,19 +286,19 @@ module _ (file : List ℕ) (here : FilePage) where
   ]
 
   by_inner : (place : LongPlace) → IsInnerOn file here place ⊎ (IsInnerOn file here place → ⊥)
-      → IsOneAnswer (BeginsOn file (Inside place) here)
+      → IsOneAnswer (IsBegunOn file (Inside place) here)
   by_inner place (inl is) = record { it = Ok (inner_at place, 0); is = inl (is, refl); one = only }
     where
-      only : (other : Result (RowPlace × ℕ) End) → BeginsOn file (Inside place) here other → other ≡ Ok (inner_at place, 0)
+      only : (other : Result (RowPlace × ℕ) End) → IsBegunOn file (Inside place) here other → other ≡ Ok (inner_at place, 0)
       only other (inl (is_too, e)) = e
       only other (inr (not, e)) = absurd (not is)
   by_inner place (inr not) = record { it = Err Outside; is = inr (not, refl); one = only }
     where
-      only : (other : Result (RowPlace × ℕ) End) → BeginsOn file (Inside place) here other → other ≡ Err Outside
+      only : (other : Result (RowPlace × ℕ) End) → IsBegunOn file (Inside place) here other → other ≡ Err Outside
       only other (inl (is, e)) = absurd (not is)
       only other (inr (not_too, e)) = e
 
-  one_beginning : (begun : Begun) → IsOneAnswer (BeginsOn file begun here)
+  one_beginning : (begun : Begun) → IsOneAnswer (IsBegunOn file begun here)
   one_beginning (At at) = record { it = first_row at here.form; is = refl; one = λ other same. same }
   one_beginning (Inside place) = let only = by_inner place (inner_or_not place) in record { it = only.it; is = only.is; one = only.one }
 
@@ -312,7 +312,7 @@ module _ (by_place : AreBitsByPlace) (lines_read : LinesAreRead) (chains : Files
 
 pub one_tail_from : AreBitsByPlace → LinesAreRead → FilesHaveOneChain → BeginningsHaveOneTail
 one_tail_from by_place lines_read chains file begun =
-    let begin = one_on_page chains file (begins_at begun) (BeginsOn file begun) (λ here. one_beginning file here begun) in
+    let begin = one_on_page chains file (begun_cursor begun) (IsBegunOn file begun) (λ here. one_beginning file here begun) in
     let all = one_begun (IsRow file) (one_row by_place lines_read chains file) begin.it
     (λ at n e. rows_listed by_place lines_read chains file at (header file) refl) in
     record {

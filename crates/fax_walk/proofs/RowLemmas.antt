@@ -22,7 +22,7 @@ use Rattle.fax_walk.specs.views.InOrder.{EndsAfter}
 use Rattle.fax_walk.specs.laws.InOrder.{LeadTo}
 use Rattle.fax_walk.specs.views.Walk.{IsItemNumber}
 use Rattle.fax_walk.specs.laws.Tails.{TailOfStart}
-use Rattle.fax_walk.specs.Rows.{RowItem, RowPlace, first_at, IsRow, IsTailFrom}
+use Rattle.fax_walk.specs.Items.{RowItem, RowPlace, first_at, IsRow, IsTailFrom}
 use Rattle.fax_walk.specs.views.Walk.{WalkView, IsNext}
 use Rattle.fax_walk.specs.code.Output.{IsPartWritten, PutsRow}
 use Rattle.fax_walk.specs.code.Sources.{part_of, PutsRows, pels_of, IsFaultAt, IsBeforePage, EndsWith, source_fault}

@@ -17,7 +17,7 @@ use Rattle.fax_walk.specs.Pages.{IsLongCursor}
 use Rattle.fax_walk.specs.Pages.{FilePage, IsPageAt}
 use Rattle.fax_walk.specs.code.Opening.{page_over}
 use Rattle.fax_walk.specs.code.Opening.{IsPageUnder}
-use Rattle.fax_walk.specs.Rows.{exchanged}
+use Rattle.fax_walk.specs.Items.{exchanged}
 use Rattle.fax_walk.specs.laws.Cursors.{CursorsAreShort, PlacesAreShort}
 use Rattle.fax_walk.proofs.TailLawLemmas.{facts, here_from, inner, long_of, pels_are, read, split_at_number}
 use Rattle.fax_walk.proofs.TailLawLemmas.{this, whole_page}

@@ -17,9 +17,9 @@ use Rattle.fax_files.specs.laws.Files.{IsWholeForm}
 use Rattle.fax_walk.specs.declared.end.End.{End}
 use Rattle.fax_walk.specs.declared.end.End.TheVariants.{Fault}
 use Rattle.fax_walk.specs.Pages.{IsPageAt}
-use Rattle.fax_walk.specs.Rows.{RowItem, Inner, RowPlace, first_at, exchanged, before, place_after}
+use Rattle.fax_walk.specs.Items.{RowItem, Inner, RowPlace, first_at, exchanged, before, place_after}
 use Rattle.fax_walk.specs.code.Places.{strip_at}
-use Rattle.fax_walk.specs.Rows.{IsInStrip, IsRow}
+use Rattle.fax_walk.specs.Items.{IsInStrip, IsRow}
 use Rattle.fax_walk.specs.code.Places.{IsItem}
 use Rattle.fax_walk.specs.code.Sources.{HasRows}
 use Rattle.fax_walk.proofs.RowLawLemmas.{LinesAreRead, one_in_strip, cases_after}

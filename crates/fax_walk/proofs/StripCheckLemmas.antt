@@ -29,7 +29,7 @@ use Rattle.fax_walk.specs.declared.end.End.{End}
 use Rattle.fax_walk.specs.declared.end.End.TheVariants.{Fault}
 use Rattle.fax_walk.specs.laws.InOrder.{LeadTo}
 use Rattle.fax_walk.specs.Pages.{IsPageAt}
-use Rattle.fax_walk.specs.Rows.{RowPlace, first_at, IsRow}
+use Rattle.fax_walk.specs.Items.{RowPlace, first_at, IsRow}
 use Rattle.fax_walk.specs.Report.{notes_on_strip, IsStripNoted, IsNoted}
 use Rattle.fax_walk.specs.code.Check.{before_page, before_strip, HasChecked, IsCheckedTo, IsDirectoryOfPage}
 use Rattle.fax_walk.specs.code.Check.{AreStripsChecked, IsRestChecked, IsRowInside, IsReadTo}

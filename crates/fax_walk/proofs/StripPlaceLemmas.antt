@@ -11,7 +11,7 @@ use Rattle.fax_page.specs.declared.StripFault.{StripFault}
 use Rattle.fax_page.specs.Strip.{AreLines, IsStrip}
 use Rattle.fax_files.specs.declared.PageForm.{PageForm}
 use Rattle.fax_files.specs.laws.Files.{shown}
-use Rattle.fax_walk.specs.Rows.{exchanged}
+use Rattle.fax_walk.specs.Items.{exchanged}
 
 -- row e of a page, row k of strip s
 pub in_strip : (m s k e : ℕ) → k < m → e ≡ s * m + k → (e / m ≡ s) × (e % m ≡ k)

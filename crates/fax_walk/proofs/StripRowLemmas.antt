@@ -22,9 +22,9 @@ use Rattle.fax_walk.specs.declared.end.End.{End}
 use Rattle.fax_walk.specs.declared.end.End.TheVariants.{Fault}
 use Rattle.fax_walk.specs.laws.InOrder.{LeadTo}
 use Rattle.fax_walk.specs.Pages.{IsPageAt}
-use Rattle.fax_walk.specs.Rows.{RowItem, Inner, RowPlace, first_at, exchanged, before, place_after}
+use Rattle.fax_walk.specs.Items.{RowItem, Inner, RowPlace, first_at, exchanged, before, place_after}
 use Rattle.fax_walk.specs.code.Places.{strip_at, row_in_strip}
-use Rattle.fax_walk.specs.Rows.{IsInStrip, IsRow}
+use Rattle.fax_walk.specs.Items.{IsInStrip, IsRow}
 use Rattle.fax_walk.specs.code.Places.{IsItem}
 use Rattle.fax_walk.specs.laws.Written.{WalkedRow, walked, numbered}
 use Rattle.fax_walk.proofs.RestLemmas.{rest_at}

@@ -22,7 +22,7 @@ use Rattle.fax_walk.specs.Pages.{LongPlace}
 use Rattle.fax_walk.specs.views.Walk.{AreRead, EndsBefore, EntersPage, HasEndedAs, HandsOut, IsCursorOf, IsItemNumber, IsLongOf, IsNext}
 use Rattle.fax_walk.specs.laws.Left.{IsLeft}
 use Rattle.fax_walk.specs.views.Walk.{WalkView}
-use Rattle.fax_walk.specs.Rows.{IsRow, IsTailFrom, RowItem, RowPlace, begins_at, first_at, place_after}
+use Rattle.fax_walk.specs.Items.{IsRow, IsTailFrom, RowItem, RowPlace, begun_cursor, first_at, place_after}
 use Rattle.fax_walk.specs.code.Places.{long_at}
 use Rattle.fax_walk.specs.laws.Tails.{BeginningsHaveOneTail}
 use Rattle.fax_walk.specs.code.Opening.{page_with}
@@ -39,7 +39,7 @@ use Rattle.fax_walk.proofs.TailLawLemmas.{any_row}
 
 module _ (file : List ℕ) (begun : Begun) (given : ℕ) (cursor : Cursor) where
   -- the first page is open
-  pub goes_first : (page : PageState) → (given ≡ 0) × (cursor ≡ begins_at begun) → IsOpenedFirst file begun page
+  pub goes_first : (page : PageState) → (given ≡ 0) × (cursor ≡ begun_cursor begun) → IsOpenedFirst file begun page
       → GoesOnFrom file begun given cursor (Some page)
   goes_first page (none, at_is) first =
       let opened = first.from.opened in (
@@ -140,7 +140,7 @@ module _ (file : List ℕ) (begun : Begun) (given : ℕ) (cursor : Cursor) where
 pub refused_next : (file : List ℕ) (begun : Begun) (old new : Option PageState) (fault : OpenFault)
     → IsEntered file begun old (Err fault) new → IsReadNext file begun old (Err fault) new
 refused_next file begun old new Memory is =
-    (same_page file begun 0 (begins_at begun) old new is, λ given cursor from. enters file begun given cursor old new is from)
+    (same_page file begun 0 (begun_cursor begun) old new is, λ given cursor from. enters file begun given cursor old new is from)
 refused_next file begun old new (Ended end) is = λ given cursor from. refused file begun given cursor old new end is from
 
 -- the page that was entered has a row that is due
@@ -271,7 +271,7 @@ module _ (file : List ℕ) (begun : Begun) (given : ℕ) (cursor : Cursor) (old 
       let same = no_items items (omega (arith, left, nothing)) none.skips.lead in
       inr (subst (λ (t : RowPlace). IsAfterItem file begun given cursor t) (sym same) last)
 
-  named_on : 0 < skipped new → (new.page ≡ (begins_at begun).page) × (new.first ≡ (begins_at begun).row)
+  named_on : 0 < skipped new → (new.page ≡ (begun_cursor begun).page) × (new.first ≡ (begun_cursor begun).row)
   named_on some =
       let named = reads.named (omega (arith, some, left)) in
       (none.skips.same.page ∙ named.0, none.skips.same.first ∙ named.1)
@@ -348,7 +348,7 @@ module _ (walk : WalkView) (cursor : Cursor) (page : Option PageState) where
 
   -- where the cursor stands
   stands_on : (page : Option PageState) (told : Option End) → IsSound file begun walk.given cursor page told
-      → ((walk.given ≡ 0) × (cursor ≡ begins_at begun))
+      → ((walk.given ≡ 0) × (cursor ≡ begun_cursor begun))
       ⊎ ((at : PageState) × (page ≡ Some at) × IsAfterItem file begun walk.given cursor (place_of at))
   stands_on None None sound = inl sound.0
   stands_on None (Some end) sound = inl (sound.0, sound.1)
@@ -383,13 +383,13 @@ module _ (walk : WalkView) (cursor : Cursor) (page : Option PageState) where
   -- how many rows were read
   read_on : (at : PageState) (told : Option End) → IsSound file begun walk.given cursor (Some at) told
       → HasReadTo file begun walk.given cursor at
-      × ((end : End) → told ≡ Some end → (skipped at ≡ 0) ⊎ EndsBefore end (begins_at begun))
+      × ((end : End) → told ≡ Some end → (skipped at ≡ 0) ⊎ EndsBefore end (begun_cursor begun))
   read_on at None sound = (sound.0.1, λ end is. absurd cc)
   read_on at (Some told) sound = (
     sound.0,
     λ end is.
         let same : told ≡ end = cc in
-        subst (λ (e : End). (skipped at ≡ 0) ⊎ EndsBefore e (begins_at begun)) same sound.2,
+        subst (λ (e : End). (skipped at ≡ 0) ⊎ EndsBefore e (begun_cursor begun)) same sound.2,
   )
 
   pub are_read : (at : PageState) → page ≡ Some at → Sound walk.told → AreRead walk at.read

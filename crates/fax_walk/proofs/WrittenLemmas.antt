@@ -13,7 +13,7 @@ use Rattle.fax_walk.specs.declared.cursor.Cursor.{Cursor}
 use Rattle.fax_walk.specs.declared.end.End.TheVariants.{Proper}
 use Rattle.fax_walk.specs.Pages.{AreFrom, IsPageAt, IsForm}
 use Rattle.fax_walk.specs.code.Opening.{end_past_chain}
-use Rattle.fax_walk.specs.Rows.{RowItem, first_at, IsRow}
+use Rattle.fax_walk.specs.Items.{RowItem, first_at, IsRow}
 use Rattle.fax_walk.specs.laws.Written.{WalkedRow, walked, numbered, HoldsRows, rows_of, forms_of, WrittenFilesAreWalked}
 use Rattle.fax_walk.proofs.InOrderLemmas.{joined}
 use Rattle.fax_walk.proofs.PageLawLemmas.{no_page, some_page, next_dropped, proper_end}

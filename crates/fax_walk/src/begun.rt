@@ -14,12 +14,12 @@ pub enum Begun {
 
 impl Begun {
     ghost use Rattle.std.specs.Prelude.{◌≡◌, IfOk};
-    ghost use Rattle.fax_walk.specs.views.Walk.{begins_inside};
-    ghost use Rattle.fax_walk.specs.Rows.{begins_at};
+    ghost use Rattle.fax_walk.specs.views.Walk.{begun_place};
+    ghost use Rattle.fax_walk.specs.Items.{begun_cursor};
 
     /// The cursor of what it begins with.
     pub(crate) fn cursor(&self) -> Cursor
-        ensures { result ≡ begins_at self.now }
+        ensures { result ≡ begun_cursor self.now }
     {
         match self {
             Begun::At(cursor) => *cursor,
@@ -33,7 +33,7 @@ impl Begun {
     ///
     /// `Memory` where a growth was refused.
     pub(crate) fn long_cursor(&self) -> Result<Option<LongCursor>, Memory>
-        ensures { IfOk result (λ place. place ≡ begins_inside self.now) }
+        ensures { IfOk result (λ place. place ≡ begun_place self.now) }
     {
         match self {
             Begun::At(_) => Ok(None),

@@ -9,7 +9,7 @@ ghost use Rattle.fax_walk.specs.laws.Tails as PageLaws;
 ghost use Rattle.fax_walk.specs.laws.Left.{IsLeft};
 ghost use Rattle.fax_walk.specs.laws.Printed as PrintedLaws;
 ghost use Rattle.fax_walk.specs.laws.ReadBack as ReadBackLaws;
-ghost use Rattle.fax_walk.specs.Rows.{RowItem};
+ghost use Rattle.fax_walk.specs.Items.{RowItem};
 ghost use Rattle.fax_walk.specs.laws.Written as WrittenLaws;
 ghost use Rattle.fax_walk.specs.declared.end.End.{End};
 

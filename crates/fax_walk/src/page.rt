@@ -3,10 +3,10 @@ ghost use Rattle.std.specs.Prelude.{◌≡◌, ◌*◌, ◌<◌, ◌≤◌, fals
 ghost use Rattle.std.specs.Prelude.{OnErr, OnOk, Err};
 ghost use Rattle.fax_page.specs.views.Strip.{IsStripForm};
 ghost use Rattle.fax_files.specs.views.Page.{IsPageForm};
-ghost use Rattle.fax_walk.specs.Rows.{IsRow, exchanged, first_at, inner_at};
+ghost use Rattle.fax_walk.specs.Items.{IsRow, exchanged, first_at, inner_at};
 ghost use Rattle.fax_walk.specs.code.Places.{row_in_strip};
 ghost use Rattle.fax_walk.specs.code.Places.{long_at};
-ghost use Rattle.fax_walk.specs.Rows.{IsInnerOn};
+ghost use Rattle.fax_walk.specs.Items.{IsInnerOn};
 ghost use Rattle.fax_walk.specs.code.Places.{strip_at};
 ghost use Rattle.fax_walk.specs.code.Opening.{IsFileChain, page_with};
 ghost use Rattle.fax_walk.specs.views.Walk.{place_inside};

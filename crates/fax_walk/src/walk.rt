@@ -4,7 +4,7 @@ ghost use Rattle.std.specs.Borrow.{sem};
 ghost use Rattle.fax_walk.specs.declared.begun.Begun.TheVariants.{At, Inside};
 ghost use Rattle.fax_walk.specs.laws.Left.{IsLeft};
 ghost use Rattle.fax_walk.specs.views.Walk.{walk_from};
-ghost use Rattle.fax_walk.specs.Rows.{RowItem};
+ghost use Rattle.fax_walk.specs.Items.{RowItem};
 ghost use Rattle.fax_walk.specs.code.Stages.{IsRefusal};
 ghost use Rattle.fax_walk.specs.code.Walk as Spec;
 

@@ -9,7 +9,7 @@ use Rattle.fax_walk.specs.declared.end.End.TheVariants.{Fault, Outside}
 use Rattle.fax_walk.specs.declared.end.WalkFault.{WalkFault}
 use Rattle.fax_walk.specs.declared.end.WalkFault.TheVariants.{AtRow, CursorOutside}
 use Rattle.fax_walk.specs.declared.end.WalkFault.TheVariants.{Memory as Refused}
-use Rattle.fax_walk.specs.Rows.{RowItem}
+use Rattle.fax_walk.specs.Items.{RowItem}
 use Rattle.fax_walk.specs.views.Pages.{PagesView, HandsOutPage, PagesHaveEnded}
 use Rattle.fax_walk.specs.views.Walk.{EntersPage, WalkView, HandsOut, HasEndedAs, IsLongOf}
 use Rattle.fax_c.specs.declared.filled.Filled.{Filled}

@@ -6,7 +6,7 @@ use Rattle.fax_rows.specs.Rows.{Colour}
 use Rattle.fax_walk.specs.declared.begun.Begun.{Begun}
 use Rattle.fax_walk.specs.declared.cursor.Cursor.{Cursor}
 use Rattle.fax_walk.specs.declared.end.End.{End}
-use Rattle.fax_walk.specs.Rows.{RowItem, IsTailFrom, begins_at, cursor_after}
+use Rattle.fax_walk.specs.Items.{RowItem, IsTailFrom, begun_cursor, cursor_after}
 use Rattle.fax_walk.specs.views.Walk.{EntersPage}
 use Rattle.fax_c.specs.declared.filled.Filled.{Filled}
 use Rattle.fax_c.specs.declared.filled.Stop.{Stop}
@@ -67,7 +67,7 @@ pub record AreRowsFilled {N : Type 0} (numbers : List Colour → List N) (file :
   pub used : filled.used ≡ length (all_numbers numbers (take filled.count items))
   pub lie : rows ≡ rows_at numbers 0 (take filled.count items) ++ drop filled.count old_rows
   pub written : out ≡ all_numbers numbers (take filled.count items) ++ drop filled.used old_out
-  pub cursor : filled.cursor ≡ cursor_after_rows (begins_at begun) (take filled.count items)
+  pub cursor : filled.cursor ≡ cursor_after_rows (begun_cursor begun) (take filled.count items)
   pub stops : StopsAfterRows numbers file begun items end (length old_rows) (length old_out)
       filled.count filled.used filled.stop
 

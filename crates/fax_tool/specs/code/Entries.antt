@@ -1,5 +1,5 @@
 -- What a reader of the entries of a command line may rely on: it speaks of this code alone.
-use Rattle.std.specs.Prelude.{◌≡◌, ◌⊎◌, ◌||◌, ℕ, true, false, List, Option, Some}
+use Rattle.std.specs.Prelude.{◌≡◌, ◌≢◌, ◌⊎◌, ◌||◌, ℕ, true, false, List, Option, Some}
 use Rattle.std.specs.Prelude.{None, codes}
 use Rattle.std.specs.Option.{ForSome}
 use Rattle.std.specs.Str.{bytes_eq}
@@ -10,6 +10,11 @@ use Rattle.clap.specs.declared.builder.command.Command.{Command}
 use Rattle.clap.specs.declared.builder.command.Command.TheViews.{out-Command}
 use Rattle.clap.specs.declared.parser.matches.ArgMatches.{ArgMatches}
 use Rattle.fax_tool.specs.Grammar.{IsNumberText}
+use Rattle.fax_tool.specs.Job.{Given, HasNoCursor, HasNoTarget}
+use Rattle.fax_tool.specs.declared.words.WordsFault.{WordsFault}
+use Rattle.fax_tool.specs.declared.words.WordsFault.TheVariants.{Memory, NotACursor, Usage}
+use Rattle.fax_tool.specs.Text.{Cursor}
+use Rattle.fax_walk.specs.Pages.{IsCursor, IsLongCursor, LongPlace, cursor_text, long_cursor_text}
 
 -- a parse reads the command as this one
 abbrev pub IsApp : Command → App → Type 0
@@ -49,3 +54,16 @@ pub record HasEntries (name : Text) (entries : List Row) : Type 0 where
   pub convert : bytes_eq name (codes "convert") ≡ true → HasOptions entries
   pub known : (bytes_eq name (codes "list") || (bytes_eq name (codes "rows")
       || (bytes_eq name (codes "convert") || bytes_eq name (codes "check")))) ≡ true
+
+-- a text is that of no cursor, of no long one
+abbrev pub IsNoCursor : Text → Type 0
+IsNoCursor text = (at : Cursor) → IsCursor at → text ≢ cursor_text at
+
+abbrev pub IsNoLongCursor : Text → Type 0
+IsNoLongCursor text = (place : LongPlace) → IsLongCursor place → text ≢ long_cursor_text place
+
+-- a command's name and what is given after it give no command, but this fault
+abbrev pub IsCommandFault : Text → Given → WordsFault → Type 0
+IsCommandFault name given Usage = (name ≡ codes "convert") × HasNoTarget given
+IsCommandFault name given NotACursor = HasNoCursor name given
+IsCommandFault name given Memory = Unit {0}

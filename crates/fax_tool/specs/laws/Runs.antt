@@ -1,25 +1,15 @@
 -- Laws of runs, which the functions of the module `laws` prove.
 -- A definition without a citation is this project's profile.
-use Rattle.std.specs.Prelude.{◌≡◌, ℕ, ◌≤◌, Bool, false, true, nat_le, List, [], ◌∷◌, ◌++◌, length}
-use Rattle.std.specs.Prelude.{take, Option, Some, None}
+use Rattle.std.specs.Prelude.{◌≡◌, ℕ, ◌≤◌, Bool, false, true, List, [], ◌∷◌, ◌++◌, length, Option}
+use Rattle.std.specs.Prelude.{None}
 use Rattle.fax_walk.specs.declared.begun.Begun.{Begun}
 use Rattle.fax_walk.specs.declared.begun.Begun.TheVariants.{At, Inside}
 use Rattle.fax_walk.specs.declared.end.End.{End}
 use Rattle.fax_walk.specs.Pages.{IsCursor, IsLongCursor}
 use Rattle.fax_walk.specs.laws.Tails.{IsReachedPlace}
-use Rattle.fax_tool.specs.Text.{Line, Printed, next_line, texts_of, text_of}
+use Rattle.fax_tool.specs.Text.{Line, Printed, is_cut, next_line, texts_of, text_of, up_to}
 use Rattle.fax_tool.specs.Run.{AreRowLines}
 use Rattle.fax_files.specs.Directory.{max_file}
-
--- the lines that are printed of these, up to a limit, if there is one
-abbrev pub up_to : Option ℕ → List Line → List Line
-up_to None lines = lines
-up_to (Some limit) lines = take limit lines
-
--- printing is cut by a limit
-abbrev pub is_cut : Option ℕ → List Line → Bool
-is_cut None lines = false
-is_cut (Some limit) lines = nat_le limit (length lines)
 
 -- a run of `rows` over a file from what it begins with, with long cursors or without, and with a
 -- limit or with none: what it writes, the lines of rows at the beginning of that, and whether the

@@ -1,8 +1,8 @@
 //! What is printed line by line: the rows of a file, or its pages.
 ghost use Rattle.std.specs.Prelude.{◌≡◌, ◌<◌, ◌↔◌, ℕ, List, IfOk, None};
 ghost use Rattle.fax_bits.specs.laws.Codes.{IsOne};
-ghost use Rattle.fax_walk.specs.views.Walk.{begins_inside};
-ghost use Rattle.fax_walk.specs.Rows.{begins_at};
+ghost use Rattle.fax_walk.specs.views.Walk.{begun_place};
+ghost use Rattle.fax_walk.specs.Items.{begun_cursor};
 ghost use Rattle.fax_walk.specs.declared.begun.Begun.{Begun};
 ghost use Rattle.fax_walk.specs.declared.end.End.{End as TheEnd};
 ghost use Rattle.fax_tool.specs.Text.{Line};
@@ -32,14 +32,14 @@ pub trait Lines {
     fn cursor(&self) -> Cursor
         ensures { (next : Begun)
             × IsNextAfter (tail self.now) (begun self.now) (given self.now) next
-            × (result ≡ begins_at next) };
+            × (result ≡ begun_cursor next) };
 
     /// The place inside a strip after what the last line told, or the one that the lines began
     /// with, if there is one.
     fn long_cursor(&self, alloc: Global) -> Result<Option<LongCursor>, Memory>
         ensures { IfOk result (λ place. (next : Begun)
             × IsNextAfter (tail self.now) (begun self.now) (given self.now) next
-            × (place ≡ begins_inside next)) };
+            × (place ≡ begun_place next)) };
 
     /// Collects the next line after the text, or answers how the lines ended. Where memory is
     /// refused the text is as it was.

@@ -11,7 +11,7 @@ ghost use Rattle.fax_tool.specs.Streams.{input_after, no_faults, output_after};
 ghost use Rattle.fax_tool.specs.Text.{Line, next_line};
 ghost use Rattle.fax_tool.specs.Run.{HasWorked, IsRead, IsTextOfFirst, IsTextOfLines, begun_of};
 ghost use Rattle.fax_files.specs.Directory.{max_file};
-ghost use Rattle.fax_walk.specs.Rows.{begins_at};
+ghost use Rattle.fax_walk.specs.Items.{begun_cursor};
 ghost use Rattle.fax_walk.specs.declared.begun.Begun.TheVariants.{At};
 ghost use Rattle.fax_walk.specs.declared.end.End.{End as TheEnd};
 ghost use Rattle.fax_tool.specs.declared.words.Command.TheVariants.{List as Forms, Rows};
@@ -310,7 +310,7 @@ fn begin_or_stop<W: Sink>(part: &Part, out: &mut W) -> Result<Begun, Refusal>
     ensures ok { IfOk result (λ begun. begun ≡ begun_of part.now) }
     ensures unwritten { OnOk result (out.new ≡ out.old) }
     ensures err { IfErr result (λ refusal. StopsWith
-        (next_line (At (begins_at (begun_of part.now)))) refusal
+        (next_line (At (begun_cursor (begun_of part.now)))) refusal
         (output_after (W.written out.old) (W.written out.new) (W.counts out.new))) }
 {
     match part.begun() {

@@ -14,7 +14,7 @@ use Rattle.fax_walk.specs.declared.end.End.TheVariants.{Fault}
 use Rattle.fax_walk.specs.Pages.{AreFrom, IsPageAt}
 use Rattle.fax_walk.specs.code.Opening.{page_or_end}
 use Rattle.fax_walk.specs.laws.InOrder.{LeadTo}
-use Rattle.fax_walk.specs.Rows.{RowItem, RowPlace, first_at, IsRow}
+use Rattle.fax_walk.specs.Items.{RowItem, RowPlace, first_at, IsRow}
 use Rattle.fax_walk.specs.Report.{IsNoted}
 use Rattle.fax_walk.specs.code.Stages.{most_rows}
 

@@ -14,8 +14,8 @@ use Rattle.fax_walk.specs.declared.end.End.{End}
 use Rattle.fax_walk.specs.declared.end.End.TheVariants.{Outside}
 use Rattle.fax_walk.specs.Pages.{LongPlace}
 use Rattle.fax_walk.specs.Pages.{IsOnPage}
-use Rattle.fax_walk.specs.Rows.{BeginsOn, Inner, RowItem, RowPlace, before, begins_at, exchanged}
-use Rattle.fax_walk.specs.Rows.{first_at}
+use Rattle.fax_walk.specs.Items.{IsBegunOn, Inner, RowItem, RowPlace, before, begun_cursor, exchanged}
+use Rattle.fax_walk.specs.Items.{first_at}
 
 -- the cursor of a place
 abbrev pub cursor_at : RowPlace → Cursor
@@ -64,7 +64,7 @@ FitsStrip width found place = IfSome found (λ bytes. IsInner width bytes place)
 
 -- where a walk begins in a file
 abbrev pub Begins : List ℕ → Begun → Result (RowPlace × ℕ) End → Type 0
-Begins file begun = IsOnPage file (begins_at begun) (BeginsOn file begun)
+Begins file begun = IsOnPage file (begun_cursor begun) (IsBegunOn file begun)
 
 -- the place inside a strip at a place, as a long cursor names it, if its bits have 32 bits
 abbrev pub long_at : ℕ → ℕ → Option Inner → Option LongPlace

@@ -22,9 +22,9 @@ use Rattle.fax_walk.specs.declared.opening.OpenFault.TheVariants.{Memory, Ended}
 use Rattle.fax_walk.specs.Pages.{LongPlace}
 use Rattle.fax_walk.specs.laws.InOrder.{LeadTo}
 use Rattle.fax_walk.specs.Pages.{IsPageAt}
-use Rattle.fax_walk.specs.Rows.{RowItem, RowPlace, IsInnerOn, IsRow, place_after, first_at}
+use Rattle.fax_walk.specs.Items.{RowItem, RowPlace, IsInnerOn, IsRow, place_after, first_at}
 use Rattle.fax_walk.specs.code.Places.{IsInner}
-use Rattle.fax_walk.specs.Rows.{inner_at}
+use Rattle.fax_walk.specs.Items.{inner_at}
 use Rattle.fax_walk.specs.code.Places.{strip_at}
 use Rattle.fax_walk.specs.code.Places.{place_on}
 use Rattle.fax_walk.specs.code.Opening.{IsFilePage, PageDue, page_with}

@@ -12,9 +12,9 @@ use Rattle.fax_walk.specs.declared.opening.OpenFault.{OpenFault}
 use Rattle.fax_walk.specs.declared.opening.OpenFault.TheVariants.{Memory as NoMemory, Ended}
 use Rattle.fax_walk.specs.laws.InOrder.{LeadTo}
 use Rattle.fax_walk.specs.Pages.{FilePage, IsPageAt}
-use Rattle.fax_walk.specs.Rows.{RowItem, RowPlace, IsRow, IsTailFrom, begins_at, cursor_after}
+use Rattle.fax_walk.specs.Items.{RowItem, RowPlace, IsRow, IsTailFrom, begun_cursor, cursor_after}
 use Rattle.fax_walk.specs.code.Places.{Begins}
-use Rattle.fax_walk.specs.Rows.{place_after}
+use Rattle.fax_walk.specs.Items.{place_after}
 use Rattle.fax_walk.specs.views.Walk.{WalkView, IsItemNumber, EntersPage, HasEndedAs, AreRead}
 use Rattle.fax_walk.specs.views.Walk.{EndsBefore}
 use Rattle.fax_walk.specs.views.Walk.{walk_from}
@@ -26,7 +26,7 @@ pub record IsOpenedFirst (file : List ℕ) (begun : Begun) (page : PageState) : 
   pub first : RowPlace
   pub dropped : ℕ
   pub begins : Begins file begun (Ok (first, dropped))
-  pub from : IsOpenedFrom file first dropped (begins_at begun) page
+  pub from : IsOpenedFrom file first dropped (begun_cursor begun) page
 
 -- a walk that begins so hands out no row, and none is read
 pub record HasNoRows (file : List ℕ) (begun : Begun) (end : End) : Type 0 where
@@ -89,7 +89,7 @@ pub record IsAfterItem (file : List ℕ) (begun : Begun) (given : ℕ) (cursor :
 -- the cursor stands where the walk began, or after the item that was handed out last
 abbrev pub StandsAt : List ℕ → Begun → ℕ → Cursor → RowPlace → Type 0
 StandsAt file begun given cursor to =
-    ((given ≡ 0) × (cursor ≡ begins_at begun)) ⊎ IsAfterItem file begun given cursor to
+    ((given ≡ 0) × (cursor ≡ begun_cursor begun)) ⊎ IsAfterItem file begun given cursor to
 
 -- a walk that handed out so many rows has come as far as this page, of which it skips rows only
 -- before its first
@@ -99,11 +99,11 @@ pub record HasReadTo (file : List ℕ) (begun : Begun) (given : ℕ) (cursor : C
   pub come : HasCome file begun given page.read (skipped page) (place_of page)
   pub stands : StandsAt file begun given cursor (place_of page)
   pub named : 0 < skipped page
-      → (page.page ≡ (begins_at begun).page) × (page.first ≡ (begins_at begun).row)
+      → (page.page ≡ (begun_cursor begun).page) × (page.first ≡ (begun_cursor begun).row)
 
 -- a walk that handed out so many rows goes on from here: it has opened no page, or this one
 abbrev pub GoesOnFrom : List ℕ → Begun → ℕ → Cursor → Option PageState → Type 0
-GoesOnFrom file begun given cursor None = (given ≡ 0) × (cursor ≡ begins_at begun)
+GoesOnFrom file begun given cursor None = (given ≡ 0) × (cursor ≡ begun_cursor begun)
 GoesOnFrom file begun given cursor (Some page) = IsOpen page × HasReadTo file begun given cursor
     page
 
@@ -121,10 +121,10 @@ ShowsLast file begun given cursor (Some page) = IsShown file begun given cursor 
 -- the rows have ended so, on this page, if one is open
 abbrev pub HasEndedOn : List ℕ → Begun → ℕ → Cursor → Option PageState → End → Type 0
 HasEndedOn file begun given cursor None end =
-    (given ≡ 0) × (cursor ≡ begins_at begun) × HasNoRows file begun end
+    (given ≡ 0) × (cursor ≡ begun_cursor begun) × HasNoRows file begun end
 HasEndedOn file begun given cursor (Some page) end =
     HasReadTo file begun given cursor page × IsRow file (place_of page) (Err end)
-    × ((skipped page ≡ 0) ⊎ EndsBefore end (begins_at begun))
+    × ((skipped page ≡ 0) ⊎ EndsBefore end (begun_cursor begun))
 
 -- what a walk that handed out so many rows reads next: item number `given`, or how the rows end
 abbrev pub IsReadNext : List ℕ → Begun → Option PageState → Result Cursor OpenFault

@@ -6,7 +6,7 @@ use Rattle.fax_walk.specs.declared.cursor.Cursor.{Cursor}
 use Rattle.fax_walk.specs.declared.end.End.{End}
 use Rattle.fax_walk.specs.Pages.{IsCursor, cursor_text, IsLongCursor, LongPlace, long_cursor_text}
 use Rattle.fax_walk.specs.Pages.{FilePage, IsPageAt}
-use Rattle.fax_walk.specs.Rows.{RowItem, IsTailFrom, cursor_after, long_after}
+use Rattle.fax_walk.specs.Items.{RowItem, IsTailFrom, cursor_after, long_after}
 use Rattle.fax_walk.specs.laws.Tails.{IsReached}
 
 -- the numbers of the cursor after item number n have 32 bits, where those of the file's length do

@@ -2,7 +2,7 @@
 use Rattle.std.specs.Prelude.{List}
 use Rattle.fax_walk.specs.declared.end.End.{End}
 use Rattle.fax_walk.specs.laws.InOrder.{IsLeftOf}
-use Rattle.fax_walk.specs.Rows.{RowItem}
+use Rattle.fax_walk.specs.Items.{RowItem}
 use Rattle.fax_walk.specs.views.Walk.{IsTailOf, WalkView}
 
 -- what a walk still hands out: these items in order, and then this end

@@ -15,7 +15,7 @@ use Rattle.fax_walk.specs.declared.end.WalkFault.{WalkFault}
 use Rattle.fax_walk.specs.declared.end.WalkFault.TheVariants.{Memory, AtRow, CursorOutside}
 use Rattle.fax_walk.specs.declared.walk.Place.{Place}
 use Rattle.fax_walk.specs.Pages.{End, Fault, FilePage, IsPageAt, LongPlace, Outside, Proper, start}
-use Rattle.fax_walk.specs.Rows.{AreItems, RowItem, cursor_after, long_after}
+use Rattle.fax_walk.specs.Items.{AreItems, RowItem, cursor_after, long_after}
 use Rattle.fax_walk.specs.laws.InOrder.{IsTold}
 use Rattle.fax_walk.specs.laws.Left.{IsLeft}
 use Rattle.fax_walk.specs.views.Walk.{AreRead, IsCursorOf, IsLent, IsLongOf, IsNext, WalkView}

@@ -16,8 +16,8 @@ use Rattle.fax_rows.specs.Rows.{runs_of}
 use Rattle.fax_walk.specs.Pages.{start, LongPlace}
 use Rattle.fax_walk.specs.views.InOrder.{IsNumber, EndsAfter, HasToldNoOther}
 use Rattle.fax_walk.specs.Pages.{FilePage, IsOnPage, IsPageAt}
-use Rattle.fax_walk.specs.Rows.{BeginsOn, RowItem, RowPlace, IsTailFrom, begins_at, cursor_after}
-use Rattle.fax_walk.specs.Rows.{long_after}
+use Rattle.fax_walk.specs.Items.{IsBegunOn, RowItem, RowPlace, IsTailFrom, begun_cursor, cursor_after}
+use Rattle.fax_walk.specs.Items.{long_after}
 
 -- a walk: its file, what it began with, how many rows it handed out, and how the rows ended, once
 -- it told that
@@ -52,11 +52,16 @@ EntersPage file begun n =
     × IsItemNumber file begun before item
     × IsPageAt file (cursor_after item) (Ok here) × (item.row + 1 ≡ here.form.rows))
 
+-- fewer rows than these are handed out: a file has no more pages than bytes, and a page at most
+-- 1,000,000 rows
+abbrev pub row_limit : ℕ
+row_limit = 2 ^ 53
+
 -- this item is handed out: it is number `given` of what the walk hands out
 pub record HandsOut (old : WalkView) (item : RowItem) (new : WalkView) : Type 0 where
   pub untold : old.told ≡ None
   pub number : IsItemNumber old.file old.begun old.given item
-  pub few : old.given + 1 < 2 ^ 53
+  pub few : old.given + 1 < row_limit
   pub new_is : new ≡ record old { given = old.given + 1 }
 
 -- the rows have ended so
@@ -84,21 +89,21 @@ IsNext old (Err Memory) new =
 -- the cursor after the row that was handed out last, or the one that the walk began with
 abbrev pub IsCursorOf : WalkView → Cursor → Type 0
 IsCursorOf walk at =
-    ((walk.given ≡ 0) × (at ≡ begins_at walk.begun))
+    ((walk.given ≡ 0) × (at ≡ begun_cursor walk.begun))
     ⊎ ((before : ℕ) × (item : RowItem) × (walk.given ≡ before + 1)
     × IsItemNumber walk.file walk.begun before item
     × (at ≡ cursor_after item))
 
 -- the place inside a strip that a walk began with, if it did
-abbrev pub begins_inside : Begun → Option LongPlace
-begins_inside (At at) = None
-begins_inside (Inside place) = Some place
+abbrev pub begun_place : Begun → Option LongPlace
+begun_place (At at) = None
+begun_place (Inside place) = Some place
 
 -- the place inside a strip after the row that was handed out last, or the one that the walk began
 -- with, if there is one
 abbrev pub IsLongOf : WalkView → Option LongPlace → Type 0
 IsLongOf walk place =
-    ((walk.given ≡ 0) × (place ≡ begins_inside walk.begun))
+    ((walk.given ≡ 0) × (place ≡ begun_place walk.begun))
     ⊎ ((before : ℕ) × (item : RowItem) × (here : FilePage) × (walk.given ≡ before + 1)
     × IsItemNumber walk.file walk.begun before item
     × IsPageAt walk.file (record { page = item.page; row = item.row }) (Ok here)
@@ -126,8 +131,8 @@ EndsBefore (Fault page row cause) at = (page ≡ at.page) × (row < at.row)
 -- but where one of these cannot be read
 pub record AreRead (walk : WalkView) (read : ℕ) : Type 0 where
   pub begin : Result (RowPlace × ℕ) End
-  pub begins : IsOnPage walk.file (begins_at walk.begun) (BeginsOn walk.file walk.begun) begin
+  pub begins : IsOnPage walk.file (begun_cursor walk.begun) (IsBegunOn walk.file walk.begun) begin
   pub most : read ≤ walk.given + dropped begin
   pub all : 0 < walk.given → read ≡ walk.given + dropped begin
   pub told : (end : End) → walk.told ≡ Some end
-      → (read ≡ walk.given + dropped begin) ⊎ EndsBefore end (begins_at walk.begun)
+      → (read ≡ walk.given + dropped begin) ⊎ EndsBefore end (begun_cursor walk.begun)

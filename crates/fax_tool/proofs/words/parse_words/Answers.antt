@@ -11,8 +11,8 @@ use Rattle.clap.specs.declared.error.Error.{Error}
 use Rattle.clap.specs.declared.error.kind.ErrorKind.TheVariants.{OutOfMemory}
 use Rattle.fax_tool.specs.Grammar.{Text, texts}
 use Rattle.fax_tool.specs.code.CommandLine.{faxpages_app}
-use Rattle.fax_tool.specs.code.Entries.{entries_of, given_by}
-use Rattle.fax_tool.specs.Job.{IsCommandFault, IsFault, target_of}
+use Rattle.fax_tool.specs.code.Entries.{IsCommandFault, entries_of, given_by}
+use Rattle.fax_tool.specs.Job.{IsFault, target_of}
 use Rattle.fax_tool.specs.declared.words.WordsFault.{WordsFault}
 use Rattle.fax_tool.specs.declared.words.WordsFault.TheVariants.{Memory, NotACursor, Usage}
 use Rattle.fax_tool.proofs.AgreeLemmas.{command_agrees, fault_agrees}

@@ -5,8 +5,7 @@ use Rattle.std.specs.Prelude.{IfSome}
 use Rattle.fax_walk.specs.Pages.{cursor_text, IsLongCursor, LongPlace}
 use Rattle.fax_walk.specs.declared.cursor.Cursor.{Cursor}
 use Rattle.fax_tool.specs.code.Entries.{entries_of}
-use Rattle.fax_tool.specs.Job.{BeginsAt, BeginsInside}
-use Rattle.fax_tool.specs.declared.words.Part.{Part}
+use Rattle.fax_tool.proofs.BeginLemmas.{BeginsAt, BeginsInside, begins_by}
 use Rattle.fax_tool.proofs.EntryReadLemmas.{flag_read, u32_read}
 use Rattle.fax_tool.proofs.GetterLemmas.{long_err, none_given, text_given}
 use Rattle.fax_tool.proofs.words.rows_of.Goals as goal
@@ -20,21 +19,20 @@ returns-in_err-from-in-Err-clause-err c =
 
 pub returns-clause-ok : goal.returns-clause-ok
 returns-clause-ok c =
-    let part = λ (q : Cursor × Option LongPlace).
-    let it : Part = record { cursor = q.0; max = c.get_one.result; long = c.get_flag.result; from = q.1 } in it in
     let entries = entries_of c.args.matches.now in
-    let begins : BeginsAt (first_of (codes "cursor") entries) (part c.match-get_str.from)
-    ⊎ BeginsInside (first_of (codes "cursor") entries) (part c.match-get_str.from) = elim c.match-get_str.branch [
+    let q = c.match-get_str.from in
+    let begins : BeginsAt (first_of (codes "cursor") entries) q.0 q.1
+    ⊎ BeginsInside (first_of (codes "cursor") entries) q.0 q.1 = elim c.match-get_str.branch [
       | in-Some+in-Ok w ↦
           let given = text_given (found_of c.args.matches.now) (codes "cursor") _ w.in-Some.text c.get_str.ensures w.in-Some.is in
-          inl (subst (λ (o : Option Text). BeginsAt o (part c.match-get_str.from)) (sym given) (
+          inl (subst (λ (o : Option Text). BeginsAt o q.0 q.1) (sym given) (
             w.in-Ok.ensures.ok ∙ ap (λ (q : Cursor × Option LongPlace). cursor_text q.0) (sym w.from-is),
             ap
                 (λ (q : Cursor × Option LongPlace). q.1) w.from-is,
           ))
       | in-Some+in-Err+in_ok-from-in-Err w ↦
           let given = text_given (found_of c.args.matches.now) (codes "cursor") _ w.in-Some.text c.get_str.ensures w.in-Some.is in
-          inr (subst (λ (o : Option Text). BeginsInside o (part c.match-get_str.from)) (sym given) (
+          inr (subst (λ (o : Option Text). BeginsInside o q.0 q.1) (sym given) (
             w.in_ok-from-in-Err.from,
             w.in_ok-from-in-Err.ensures.ok,
             ap (λ (q : Cursor × Option LongPlace). q.0) w.from-is
@@ -43,14 +41,16 @@ returns-clause-ok c =
           ))
       | in-None w ↦
           let given = none_given (found_of c.args.matches.now) (codes "cursor") _ c.get_str.ensures w.in-None.is in
-          inl (subst (λ (o : Option Text). BeginsAt o (part c.match-get_str.from)) (sym given)
+          inl (subst (λ (o : Option Text). BeginsAt o q.0 q.1) (sym given)
           (ap (λ (q : Cursor × Option LongPlace). q.0) w.from-is, ap (λ (q : Cursor × Option LongPlace). q.1) w.from-is))
     ] in
+    let begun = begins_by (first_of (codes "cursor") entries) q.0 q.1 begins in
     record {
-      begins = begins;
+      begins = begun.0;
+      cursor = begun.1;
       max = u32_read (found_of c.args.matches.now) (codes "max") 4294967295 c.get_one.result c.requires.max (lit< tt)
           c.get_one.ensures.none c.get_one.ensures.value;
-      long = flag_read (found_of c.args.matches.now) (codes "long") c.get_flag.result c.requires.long
+      long_is = flag_read (found_of c.args.matches.now) (codes "long") c.get_flag.result c.requires.long
           c.get_flag.ensures.none c.get_flag.ensures.value c.get_flag.ensures.other;
     }
 

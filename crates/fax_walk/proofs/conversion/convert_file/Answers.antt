@@ -2,7 +2,7 @@ use Rattle.std.proofs.Common.{refl, sym, ◌∙◌, subst}
 use Rattle.std.proofs.lemmas.List.{length-map}
 use Rattle.std.proofs.lemmas.Result.{err_from_is_err_and}
 use Rattle.fax_walk.specs.Pages.{FormItem}
-use Rattle.fax_walk.specs.Rows.{RowItem}
+use Rattle.fax_walk.specs.Items.{RowItem}
 use Rattle.fax_walk.specs.Converted.{IsNotConverted}
 use Rattle.fax_walk.specs.code.Output.{no_rows, form_sheet, IsPartWritten}
 use Rattle.fax_walk.specs.code.Sources.{IsBeforePage, ConvertsRows, part_of, pels_of}

@@ -1,5 +1,5 @@
 use Rattle.std.proofs.Common.{List, ◌<◌}
-use Rattle.fax_walk.specs.Rows.{RowItem}
+use Rattle.fax_walk.specs.Items.{RowItem}
 use Rattle.fax_walk.specs.code.Stages.{HasSkipped, IsOpen, row_of, skipped}
 use Rattle.fax_walk.proofs.page.OpenPage.next.Given as goal
 

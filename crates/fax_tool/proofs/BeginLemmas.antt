@@ -1,0 +1,44 @@
+-- What a part begins with, as the text of a cursor or of a long cursor names it.
+use Rattle.std.proofs.Common.{◌≡◌, ◌⊎◌, inl, inr, refl, ap, Option, Some, None}
+use Rattle.fax_walk.specs.Items.{begun_cursor}
+use Rattle.fax_walk.specs.Pages.{LongPlace, cursor_text, long_cursor_text, start}
+use Rattle.fax_tool.specs.Grammar.{Text}
+use Rattle.fax_tool.specs.Job.{IsBegunBy}
+use Rattle.fax_tool.specs.Text.{At, Cursor, begun_at}
+
+-- a text names this cursor, or no text the first one, and no place inside a strip
+abbrev pub BeginsAt : Option Text → Cursor → Option LongPlace → Type 0
+BeginsAt None at from = (at ≡ start) × (from ≡ None)
+BeginsAt (Some text) at from = (text ≡ cursor_text at) × (from ≡ None)
+
+-- a text names this place inside a strip, with its cursor
+abbrev pub BeginsInside : Option Text → Cursor → Option LongPlace → Type 0
+BeginsInside None at from = ⊥
+BeginsInside (Some text) at from =
+    (place : LongPlace) × (text ≡ long_cursor_text place) × (at ≡ place.at) × (from ≡ Some place)
+
+abbrev pub Begins : Option Text → Cursor → Option LongPlace → Type 0
+Begins o at from = IsBegunBy o (begun_at from at) × (at ≡ begun_cursor (begun_at from at))
+
+pub begins_by : (o : Option Text) (at : Cursor) (from : Option LongPlace) → BeginsAt o at from ⊎ BeginsInside o at from → Begins o at from
+begins_by None at from (inl (is, none)) = rw none (ap At is, refl)
+begins_by (Some text) at from (inl (is, none)) = rw none (is, refl)
+begins_by None at from (inr inside) = absurd inside
+begins_by (Some text) at from (inr (place, is, at_is, from_is)) = rw from_is (is, at_is)
+
+pub named_by : (o : Option Text) (at : Cursor) (from : Option LongPlace) → Begins o at from → BeginsAt o at from ⊎ BeginsInside o at from
+named_by None at None (is, same) = inl (cc, refl)
+named_by None at (Some place) (is, same) = absurd cc
+named_by (Some text) at None (is, same) = inl (is, refl)
+named_by (Some text) at (Some place) (is, same) = inr (place, is, same, refl)
+
+no_place : (o : Option Text) (at : Cursor) (from : Option LongPlace) → from ≡ None → BeginsInside o at from → ⊥
+no_place None at from none inside = inside
+no_place (Some text) at from none (place, is, at_is, from_is) = cc
+
+-- a part with no place inside a strip
+pub at_cursor : (o : Option Text) (at : Cursor) (from : Option LongPlace) → from ≡ None → Begins o at from → BeginsAt o at from
+at_cursor o at from none begins = elim (named_by o at from begins) [
+  | inl named ↦ named
+  | inr inside ↦ absurd (no_place o at from none inside)
+]
