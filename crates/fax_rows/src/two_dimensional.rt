@@ -32,7 +32,8 @@ struct ReadRow {
     is_chosen: bool,
 }
 
-/// Reads the modes of a row over the reference row. After a doubt it reads them again, with `EXACT`.
+/// Reads the modes of a row over the reference row. After a doubt it reads them again, with
+/// `EXACT`; and where they are not T.4's choice, for their pels alone.
 #[inline(always)]
 fn read_places<const CHOICE: bool>(
     source: &mut BitSource,
@@ -56,12 +57,18 @@ fn read_places<const CHOICE: bool>(
     ensures same_end { KeepsEnd source.old source.new }
 {
     match read_modes::<CHOICE, false>(source, reference, places) {
-        Ok(end) => {
-            return Ok(ReadRow {
-                end,
-                is_chosen: CHOICE,
-            });
-        }
+        Ok(end) => return Ok(ReadRow {
+            end,
+            is_chosen: CHOICE,
+        }),
+        Err(Stop::Fault(fault)) => return Err(fault),
+        Err(Stop::Doubt) => {}
+    }
+    match read_modes::<CHOICE, true>(source, reference, places) {
+        Ok(end) => return Ok(ReadRow {
+            end,
+            is_chosen: CHOICE,
+        }),
         Err(Stop::Fault(fault)) => return Err(fault),
         Err(Stop::Doubt) => {}
     }
