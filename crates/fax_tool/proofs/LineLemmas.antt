@@ -3,15 +3,12 @@ use Rattle.std.proofs.Common.{◌≡◌, ℕ, zero, suc, ◌+◌, inl, inr, Bool
 use Rattle.std.proofs.Common.{Option, Some, None, Result, Ok, Err, refl, sym, ap, ◌∙◌, subst, arith}
 use Rattle.std.proofs.lemmas.Option.{slice_get_within, slice_get-map}
 use Rattle.std.proofs.lemmas.List.{length-map}
-use Rattle.std.proofs.lemmas.Slice.Zip.{AllZip-long}
 use Rattle.std.specs.Prelude.{slice_get, if◌then◌else◌, nat_lt, nat_le, ◌==◌, ◌/◌, ◌%◌}
 use Rattle.std.specs.Prelude.{option_map, IfOk}
-use Rattle.std.specs.List.{AllZip}
 use Rattle.fax_bits.specs.declared.Colour.{Colour}
 use Rattle.fax_bits.specs.declared.Memory.{Memory as NoMemory}
 use Rattle.fax_rows.specs.Rows.{runs_of}
 use Rattle.fax_files.specs.declared.PageForm.{PageForm}
-use Rattle.fax_files.specs.Page.{strip_bytes}
 use Rattle.fax_walk.specs.declared.begun.Begun.{Begun}
 use Rattle.fax_walk.specs.declared.begun.Begun.TheVariants.{At}
 use Rattle.fax_walk.specs.declared.cursor.Cursor.{Cursor}
@@ -19,16 +16,15 @@ use Rattle.fax_walk.specs.declared.end.End.{End}
 use Rattle.fax_walk.specs.declared.end.WalkFault.{WalkFault}
 use Rattle.fax_walk.specs.declared.end.WalkFault.TheVariants.{Memory, AtRow, CursorOutside}
 use Rattle.fax_walk.specs.Pages.{LongPlace}
-use Rattle.fax_walk.specs.Pages.{AreFrom, AreBegun, FilePage, FormItem, IsFormTail, IsPageAt}
 use Rattle.fax_walk.specs.views.InOrder.{IsNumber, EndsAfter}
 use Rattle.fax_bits.specs.laws.Codes.{IsOne}
 use Rattle.fax_walk.specs.views.Walk.{WalkView, HasEndedAs, IsNext, IsCursorOf, IsItemNumber, IsLongOf, begun_place}
 use Rattle.fax_walk.specs.views.Pages.{PagesView, HandsOutPage, IsCursorOf as IsPageCursor, IsNextPage, PagesHaveEnded}
-use Rattle.fax_walk.specs.laws.Tails.{BeginningsHaveOneTail, CursorsHaveOneFormTail, CursorsNameOnePage}
-use Rattle.fax_walk.specs.Pages.{FilePage, FormItem, IsFormTail, IsPageAt}
-use Rattle.fax_walk.specs.Items.{RowItem as Item, RowPlace as Place, IsInStrip, IsRow, IsTailFrom, begun_cursor, cursor_after, exchanged}
+use Rattle.fax_walk.specs.laws.Tails.{BeginningsHaveOneTail, CursorsHaveOneFormTail}
+use Rattle.fax_walk.specs.Pages.{FormItem, IsFormTail}
+use Rattle.fax_walk.specs.Items.{RowItem as Item, RowPlace as Place, IsTailFrom, begun_cursor, cursor_after, exchanged}
 use Rattle.fax_walk.specs.Items.{Inner, first_at, long_after}
-use Rattle.fax_tool.specs.Run.{AreRowLines, ArePageLines, IsRowLine}
+use Rattle.fax_tool.specs.Run.{AreRowLines, ArePageLines}
 use Rattle.fax_tool.specs.Text.{Line, begun_at, line_of_page, line_of_row, next_after, page_line_of, row_line_of}
 use Rattle.fax_tool.specs.code.Printing.{IsLinePut, IsNextAfter, end_of}
 
@@ -37,32 +33,6 @@ pub take_at : {A : Type 0} (xs : List A) (n : ℕ) (x : A) → slice_get xs n �
 take_at [] n x e = absurd cc
 take_at (y ∷ xs) zero x e = let same : y ≡ x = cc in ap (λ i. i ∷ []) same
 take_at (y ∷ xs) (suc n) x e = let m : suc n + 1 ≡ suc (n + 1) = omega arith in rw m (ap (λ l. y ∷ l) (take_at xs n x e))
-
-zip_get : {A B : Type 0} (R : A → B → Type 0) (xs : List A) (ys : List B) (n : ℕ) (x : A) → AllZip R xs ys → slice_get xs n ≡ Some x
-    → (y : B) × (slice_get ys n ≡ Some y) × R x y
-zip_get R [] [] n x zip e = absurd cc
-zip_get R [] (y ∷ ys) n x zip e = absurd zip
-zip_get R (z ∷ xs) [] n x zip e = absurd zip
-zip_get R (z ∷ xs) (y ∷ ys) zero x (first, zip) e = let same : z ≡ x = cc in (y, refl, subst (λ i. R i y) same first)
-zip_get R (z ∷ xs) (y ∷ ys) (suc n) x (first, zip) e = zip_get R xs ys n x zip e
-
-zip_drop : {A B : Type 0} (R : A → B → Type 0) (xs : List A) (ys : List B) (n : ℕ) → AllZip R xs ys → AllZip R (drop n xs) (drop n ys)
-zip_drop R xs ys zero zip = zip
-zip_drop R [] [] (suc n) zip = zip
-zip_drop R [] (y ∷ ys) (suc n) zip = absurd zip
-zip_drop R (x ∷ xs) [] (suc n) zip = absurd zip
-zip_drop R (x ∷ xs) (y ∷ ys) (suc n) (first, zip) = zip_drop R xs ys n zip
-
-zip_same : {A B : Type 0} (R : A → B → Type 0) → ((x : A) (y z : B) → R x y → R x z → y ≡ z) → (xs : List A) (ys zs : List B)
-    → AllZip R xs ys → AllZip R xs zs → ys ≡ zs
-zip_same R one [] [] [] left right = refl
-zip_same R one [] [] (z ∷ zs) left right = absurd right
-zip_same R one [] (y ∷ ys) zs left right = absurd left
-zip_same R one (x ∷ xs) [] zs left right = absurd left
-zip_same R one (x ∷ xs) (y ∷ ys) [] left right = absurd right
-zip_same R one (x ∷ xs) (y ∷ ys) (z ∷ zs) (first, left) (other, right) =
-    let same : y ≡ z = one x y z first other in
-    let rest : ys ≡ zs = zip_same R one xs ys zs left right in cc
 
 next_after-push : (begun : Begun) (lines : List Line) (line : Line) → next_after begun (lines ++ line ∷ []) ≡ line.next
 next_after-push begun [] line = refl
@@ -109,60 +79,24 @@ after_tests form item true true = refl
 after_tests form item true false = begins_if _ _ (cursor_after item) refl
 after_tests form item false first = refl
 
-pub begins_after : (form : PageForm) (item : Item) → begun_cursor (begun_at (long_after form item) (cursor_after item)) ≡ cursor_after item
-begins_after form item = after_tests form item (nat_lt (item.row + 1) form.rows) ((item.row + 1) % form.rows_per_strip == 0)
+pub begins_after : (item : Item) → begun_cursor (begun_at (long_after item) (cursor_after item)) ≡ cursor_after item
+begins_after item =
+    after_tests item.form item (nat_lt (item.row + 1) item.form.rows) ((item.row + 1) % item.form.rows_per_strip == 0)
 
 module _ (file : List ℕ) where
-  row_has_line : (at : Place) (item : Item) (to : Place) → IsRow file at (Ok (item, to)) → (line : Line) × IsRowLine file item line
-  row_has_line at item to (inl (end, page, e)) = absurd cc
-  row_has_line at item to (inr (here, page, is)) = in_bytes (strip_bytes here.endian file here.offset (at.row / here.form.rows_per_strip)) is
-    where
-      in_bytes : (found : Option (List ℕ)) → IsInStrip here.form at found (Ok (item, to)) → (line : Line) × IsRowLine file item line
-      in_bytes None e = absurd cc
-      in_bytes (Some bytes) read = (line_of_row here.form item, (here, rw (read.0, read.1) page, refl))
-
-  lines_from : (at : Place) (items : List Item) (end : End) → AreFrom (IsRow file) at items end
-      → (lines : List Line) × AllZip (IsRowLine file) items lines
-  lines_from at [] end are = ([], tt)
-  lines_from at (item ∷ items) end (to, step, rest) =
-      let first = row_has_line at item to step in
-      let later = lines_from to items end rest in (first.0 ∷ later.0, (first.1, later.1))
-
-  have_lines : (begun : Begun) (items : List Item) (end : End) → IsTailFrom file begun items end
-      → (lines : List Line) × AllZip (IsRowLine file) items lines
-  have_lines begun items end (begin, begins, are) = by_begin begin are
-    where
-      by_begin : (begin : Result (Place × ℕ) End) → AreBegun (IsRow file) begin items end
-          → (lines : List Line) × AllZip (IsRowLine file) items lines
-      by_begin (Err none) (none_left, end_is) = rw none_left ([], tt)
-      by_begin (Ok (at, n)) (all, from, rest) =
-          let lines = lines_from at all end from in rw rest (drop n lines.0, zip_drop (IsRowLine file) all lines.0 n lines.1)
-
   pub row_lines : (begun : Begun) (items : List Item) (end : End) → IsTailFrom file begun items end
       → (lines : List Line) × AreRowLines file begun lines end
-  row_lines begun items end tail =
-      let lines = have_lines begun items end tail in (lines.0, record { items = items; tail = tail; lines_are = lines.1 })
+  row_lines begun items end tail = (map line_of_row items, record { items = items; tail = tail; lines_are = refl })
 
-  pub one_line : CursorsNameOnePage → (item : Item) (line other : Line) → IsRowLine file item line → IsRowLine file item other
-      → line ≡ other
-  one_line pages item line other (here, page, is) (there, page_too, is_too) =
-      let same = pages file (record { page = item.page; row = item.row }) here there page page_too in
-      is ∙ ap (λ (h : FilePage). line_of_row h.form item) same ∙ sym is_too
-
-  pub one_rows : BeginningsHaveOneTail → CursorsNameOnePage → (begun : Begun) → IsOne (AreRowLines file begun)
-  one_rows tails pages begun =
+  pub one_rows : BeginningsHaveOneTail → (begun : Begun) → IsOne (AreRowLines file begun)
+  one_rows tails begun =
       let one = tails file begun in
-      let lines = have_lines begun one.items one.end one.is in
       record {
-        items = lines.0;
+        items = map line_of_row one.items;
         end = one.end;
-        is = record { items = one.items; tail = one.is; lines_are = lines.1 };
+        is = record { items = one.items; tail = one.is; lines_are = refl };
         one = λ others other are.
-            let same = one.one are.items other are.tail in (
-              zip_same (IsRowLine file) (one_line pages) one.items others lines.0
-                  (subst (λ (l : List Item). AllZip (IsRowLine file) l others) same.0 are.lines_are) lines.1,
-              same.1,
-            );
+            let same = one.one are.items other are.tail in (are.lines_are ∙ ap (map line_of_row) same.0, same.1);
       }
 
   -- the line of an item, and what goes on after it
@@ -170,44 +104,35 @@ module _ (file : List ℕ) where
     pub line : Line
     pub number : IsNumber (AreRowLines file begun) n line
     pub next : IsNextAfter (AreRowLines file begun) begun (n + 1) line.next
-    pub here : FilePage
-    pub page : IsPageAt file (record { page = item.page; row = item.row }) (Ok here)
-    pub line_is : line ≡ line_of_row here.form item
+    pub line_is : line ≡ line_of_row item
 
   pub line_of : (begun : Begun) (n : ℕ) (item : Item) → IsItemNumber file begun n item → IsLineOf begun n item
   line_of begun n item (all, end, tail, there) =
-      let lines = have_lines begun all end tail in
-      let are : AreRowLines file begun lines.0 end = record { items = all; tail = tail; lines_are = lines.1 } in
-      let got = zip_get (IsRowLine file) all lines.0 n item lines.1 there in
-      let within = slice_get_within lines.0 n got.0 got.1 in
+      let lines = map line_of_row all in
+      let are : AreRowLines file begun lines end = record { items = all; tail = tail; lines_are = refl } in
+      let got : slice_get lines n ≡ Some (line_of_row item) = slice_get-map line_of_row all n ∙ ap (option_map line_of_row) there in
+      let within = slice_get_within lines n (line_of_row item) got in
       record {
-        line = got.0;
-        number = (lines.0, end, are, got.1);
+        line = line_of_row item;
+        number = (lines, end, are, got);
         next = record {
-          lines = lines.0;
+          lines = lines;
           end = end;
           is = are;
           within = omega (arith, within);
-          next_is = sym (next_at begun lines.0 n got.0
-              got.1);
+          next_is = sym (next_at begun lines n (line_of_row item) got);
         };
-        here = got.2.0;
-        page = got.2.1;
-        line_is = got.2.2;
+        line_is = refl;
       }
 
   pub rows_end : (begun : Begun) (given : ℕ) (end : End) → EndsAfter (IsTailFrom file begun) given end
       → EndsAfter (AreRowLines file begun) given end
   rows_end begun given end (all, tail, count) =
-      let lines = have_lines begun all end tail in (
-        lines.0,
-        record { items = all; tail = tail; lines_are = lines.1 },
-        AllZip-long (IsRowLine file) all lines.0 lines.1 ∙ count,
-      )
+      (map line_of_row all, record { items = all; tail = tail; lines_are = refl }, length-map all line_of_row ∙ count)
 
   -- what goes on after an item has the cursor after it
   pub cursor_of : (begun : Begun) (n : ℕ) (item : Item) → (of : IsLineOf begun n item) → begun_cursor of.line.next ≡ cursor_after item
-  cursor_of begun n item of = ap (λ (l : Line). begun_cursor l.next) of.line_is ∙ begins_after of.here.form item
+  cursor_of begun n item of = ap (λ (l : Line). begun_cursor l.next) of.line_is ∙ begins_after item
 
   pub page_number : (at : Cursor) (n : ℕ) (item : FormItem) → IsNumber (IsFormTail file at) n item
       → IsNumber (ArePageLines file at) n (line_of_page item)
@@ -276,24 +201,23 @@ inside_of None at = refl
 inside_of (Some place) at = refl
 
 -- the place inside a strip after so many rows
-row_place : BeginningsHaveOneTail → CursorsNameOnePage → (walk : WalkView) (place : Option LongPlace) → IsLongOf walk place
+row_place : BeginningsHaveOneTail → (walk : WalkView) (place : Option LongPlace) → IsLongOf walk place
     → (next : Begun) × IsNextAfter (AreRowLines walk.file walk.begun) walk.begun walk.given next × (place ≡ begun_place next)
-row_place tails pages walk place (inl (none, is)) =
-    (walk.begun, none_given walk.begun (one_rows walk.file tails pages walk.begun) walk.given none, is)
-row_place tails pages walk place (inr (before, item, here, count, number, page, is)) =
-    let of = line_of walk.file walk.begun before item number in
-    let same = one_line walk.file pages item of.line (line_of_row here.form item) (of.here, of.page, of.line_is) (here, page, refl) in (
+row_place tails walk place (inl (none, is)) =
+    (walk.begun, none_given walk.begun (one_rows walk.file tails walk.begun) walk.given none, is)
+row_place tails walk place (inr (before, item, count, number, is)) =
+    let of = line_of walk.file walk.begun before item number in (
       of.line.next,
       rw count of.next,
-      is ∙ sym (ap (λ (l : Line). begun_place l.next) same ∙ inside_of (long_after here.form item) (cursor_after item)),
+      is ∙ sym (ap (λ (l : Line). begun_place l.next) of.line_is ∙ inside_of (long_after item) (cursor_after item)),
     )
 
-pub row_places : BeginningsHaveOneTail → CursorsNameOnePage → (walk : WalkView) (answer : Result (Option LongPlace) NoMemory)
+pub row_places : BeginningsHaveOneTail → (walk : WalkView) (answer : Result (Option LongPlace) NoMemory)
     → IfOk answer (IsLongOf walk)
     → IfOk answer (λ place. (next : Begun) × IsNextAfter (AreRowLines walk.file walk.begun) walk.begun walk.given next
     × (place ≡ begun_place next))
-row_places tails pages walk (Ok place) is = row_place tails pages walk place is
-row_places tails pages walk (Err memory) is = tt
+row_places tails walk (Ok place) is = row_place tails walk place is
+row_places tails walk (Err memory) is = tt
 
 -- the cursor after so many pages
 pub page_cursor : CursorsHaveOneFormTail → (pages : PagesView) (at : Cursor) → IsPageCursor pages at

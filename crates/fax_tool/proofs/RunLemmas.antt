@@ -1,12 +1,11 @@
 -- Runs that go on where the one before them was cut.
 use Rattle.std.proofs.Common.{codes, ◌≡◌, ℕ, zero, suc, List, [], ◌∷◌, ◌++◌, length}
-use Rattle.std.proofs.Common.{take, drop, refl, ap, sym, ◌∙◌, subst, append_assoc, append-nil}
+use Rattle.std.proofs.Common.{map, take, drop, refl, ap, sym, ◌∙◌, subst, append_assoc, append-nil}
 use Rattle.std.proofs.Common.{true, false, Bool, take-append-drop, get_or, ◌≤◌, ◌^◌, arith}
 use Rattle.std.proofs.Math.Seq.{take-length}
 use Rattle.std.proofs.lemmas.Bool.Decides.{nat_tests}
 use Rattle.std.proofs.lemmas.List.{append_cancel_left, append_cancel_right, drop_all}
 use Rattle.std.specs.Prelude.{Option, Some, None, nat_le, Ok}
-use Rattle.std.specs.List.{AllZip}
 use Rattle.fax_walk.specs.declared.begun.Begun.{Begun}
 use Rattle.fax_walk.specs.declared.begun.Begun.TheVariants.{At, Inside}
 use Rattle.fax_walk.specs.declared.cursor.Cursor.{Cursor}
@@ -14,12 +13,11 @@ use Rattle.fax_walk.specs.declared.end.End.{End}
 use Rattle.fax_walk.specs.declared.end.End.TheVariants.{Fault, Outside, Proper}
 use Rattle.fax_walk.specs.Pages.{IsCursor, LongPlace}
 use Rattle.fax_walk.specs.laws.Cursors.{CursorsAreShort, PlacesAreShort, TextsNameOne}
-use Rattle.fax_walk.specs.laws.Tails.{BeginningsHaveOneTail, CursorsNameOnePage, IsReached, LongTailsGoOn, PlacesAreReached, TailsGoOn}
-use Rattle.fax_walk.specs.Pages.{FilePage, IsPageAt}
+use Rattle.fax_walk.specs.laws.Tails.{BeginningsHaveOneTail, IsReached, LongTailsGoOn, PlacesAreReached, TailsGoOn}
 use Rattle.fax_walk.specs.Items.{RowItem as Item, IsTailFrom, cursor_after, long_after}
-use Rattle.fax_tool.specs.Run.{AreRowLines, IsRowLine}
+use Rattle.fax_tool.specs.Run.{AreRowLines}
 use Rattle.fax_tool.specs.Text.{Line, Printed, begun_at, begun_text, named, next_after, next_line, text_of, end_text, ended_text}
-use Rattle.fax_tool.specs.Text.{is_cut, texts_of, up_to}
+use Rattle.fax_tool.specs.Text.{is_cut, line_of_row, texts_of, up_to}
 use Rattle.fax_tool.specs.laws.Runs.{AreAsOneRun, AreRunsOfRows, CutRunsAreReadOn, IsBegun, IsReadAfter, IsRunOfRows, MayBegin, RunsGoOn}
 use Rattle.fax_tool.proofs.LineLemmas.{begins_after, one_rows}
 use Rattle.fax_tool.proofs.TextLemmas.{all_taken}
@@ -142,7 +140,7 @@ next_told long (Some limit) begun lines end next e = by_test (nat_le limit (leng
     by_test false whole =
         same_last (texts_of (take limit lines)) end (named long (next_after begun (take limit lines))) next (rw whole at e)
 
-module _ (tails : BeginningsHaveOneTail) (pages : CursorsNameOnePage) (go_on : TailsGoOn) (long_go_on : LongTailsGoOn)
+module _ (tails : BeginningsHaveOneTail) (go_on : TailsGoOn) (long_go_on : LongTailsGoOn)
     (places : PlacesAreReached) (short : CursorsAreShort) (long_short : PlacesAreShort) (names : TextsNameOne) (file : List ℕ)
     (limit_kept : length file ≤ 2 ^ 32) where
   reached : (long : Bool) (begun : Begun) → MayBegin file long begun → IsReached file begun
@@ -165,30 +163,30 @@ module _ (tails : BeginningsHaveOneTail) (pages : CursorsNameOnePage) (go_on : T
     tail : IsTailFrom file next items end
     may : MayBegin file long next
 
-  after_item : (long : Bool) (begun : Begun) (item : Item) (items : List Item) (end : End) (here : FilePage) → MayBegin file long begun
-      → IsTailFrom file begun (item ∷ items) end → IsPageAt file (record { page = item.page; row = item.row }) (Ok here)
-      → GoesOn long (named long (begun_at (long_after here.form item) (cursor_after item))) items end
-  after_item false begun item items end here may tail page =
+  after_item : (long : Bool) (begun : Begun) (item : Item) (items : List Item) (end : End) → MayBegin file long begun
+      → IsTailFrom file begun (item ∷ items) end
+      → GoesOn long (named long (begun_at (long_after item) (cursor_after item))) items end
+  after_item false begun item items end may tail =
       let at_cursor : IsTailFrom file (At (cursor_after item)) items end =
       go_on file begun (item ∷ items) end 0 item (reached false begun may) tail refl in
       record {
-        tail = subst (λ (c : Cursor). IsTailFrom file (At c) items end) (sym (begins_after here.form item)) at_cursor;
-        may = subst IsCursor (sym (begins_after here.form item))
+        tail = subst (λ (c : Cursor). IsTailFrom file (At c) items end) (sym (begins_after item)) at_cursor;
+        may = subst IsCursor (sym (begins_after item))
             (short file begun (item ∷ items) end 0 item limit_kept (reached false begun may) tail refl);
       }
-  after_item true begun item items end here may tail page = by_place (long_after here.form item) refl
+  after_item true begun item items end may tail = by_place (long_after item) refl
     where
-      by_place : (place : Option LongPlace) → long_after here.form item ≡ place
+      by_place : (place : Option LongPlace) → long_after item ≡ place
           → GoesOn true (begun_at place (cursor_after item)) items end
       by_place None is = record {
         tail = go_on file begun (item ∷ items) end 0 item (reached true begun may) tail refl;
         may = short file begun (item ∷ items) end 0 item limit_kept (reached true begun may) tail refl;
       }
       by_place (Some place) is = record {
-        tail = long_go_on file begun (item ∷ items) end 0 item here place tail refl page is;
+        tail = long_go_on file begun (item ∷ items) end 0 item place tail refl is;
         may = (
-          long_short file begun (item ∷ items) end 0 item here place limit_kept tail refl page is,
-          places file begun (item ∷ items) end 0 item here place (reached true begun may) tail refl page is,
+          long_short file begun (item ∷ items) end 0 item place limit_kept tail refl is,
+          places file begun (item ∷ items) end 0 item place (reached true begun may) tail refl is,
         );
       }
 
@@ -201,13 +199,15 @@ module _ (tails : BeginningsHaveOneTail) (pages : CursorsNameOnePage) (go_on : T
       → AreRowLines file begun (line ∷ lines) end → LinesGoOn long (named long line.next) lines end
   after_line long begun line lines end may are = by_items are.items are.lines_are are.tail
     where
-      by_items : (items : List Item) → AllZip (IsRowLine file) items (line ∷ lines) → IsTailFrom file begun items end
+      by_items : (items : List Item) → line ∷ lines ≡ map line_of_row items → IsTailFrom file begun items end
           → LinesGoOn long (named long line.next) lines end
-      by_items [] zip tail = absurd zip
-      by_items (item ∷ items) ((here, page, is), zip) tail =
-          let goes = after_item long begun item items end here may tail page in
+      by_items [] lines_are tail = absurd cc
+      by_items (item ∷ items) lines_are tail =
+          let is : line ≡ line_of_row item = cc in
+          let rest : lines ≡ map line_of_row items = cc in
+          let goes = after_item long begun item items end may tail in
           subst (λ (l : Line). LinesGoOn long (named long l.next) lines end) (sym is) (record {
-            are = record { items = items; tail = goes.tail; lines_are = zip };
+            are = record { items = items; tail = goes.tail; lines_are = rest };
             may = goes.may;
           })
 
@@ -231,7 +231,7 @@ module _ (tails : BeginningsHaveOneTail) (pages : CursorsNameOnePage) (go_on : T
   same_lines : (begun : Begun) (lines others : List Line) (end other : End) → AreRowLines file begun lines end
       → AreRowLines file begun others other → (others ≡ lines) × (other ≡ end)
   same_lines begun lines others end other are again =
-      let one = one_rows file tails pages begun in
+      let one = one_rows file tails begun in
       let first = one.one lines end are in
       let second = one.one others other again in (second.0 ∙ sym first.0, second.1 ∙ sym first.1)
 
@@ -282,16 +282,16 @@ module _ (tails : BeginningsHaveOneTail) (pages : CursorsNameOnePage) (go_on : T
       cut_text None is = absurd cc
       cut_text (Some limit) is = let cut : nat_le limit (length run.lines) ≡ true = sym is in rw cut refl
 
-pub cut_runs_are_read_on : BeginningsHaveOneTail → CursorsNameOnePage → TailsGoOn → LongTailsGoOn → PlacesAreReached → CursorsAreShort
+pub cut_runs_are_read_on : BeginningsHaveOneTail → TailsGoOn → LongTailsGoOn → PlacesAreReached → CursorsAreShort
     → PlacesAreShort → TextsNameOne → CutRunsAreReadOn
-cut_runs_are_read_on tails pages go_on long_go_on places short long_short names file long begun max text rows within may run =
-    cut_next tails pages go_on long_go_on places short long_short names file (omega arith) long begun max text rows may run
+cut_runs_are_read_on tails go_on long_go_on places short long_short names file long begun max text rows within may run =
+    cut_next tails go_on long_go_on places short long_short names file (omega arith) long begun max text rows may run
 
-pub runs_go_on : BeginningsHaveOneTail → CursorsNameOnePage → TailsGoOn → LongTailsGoOn → PlacesAreReached → CursorsAreShort
+pub runs_go_on : BeginningsHaveOneTail → TailsGoOn → LongTailsGoOn → PlacesAreReached → CursorsAreShort
     → PlacesAreShort → TextsNameOne → RunsGoOn
-runs_go_on tails pages go_on long_go_on places short long_short names file long begun limits max before rows last cut whole lines was_cut
+runs_go_on tails go_on long_go_on places short long_short names file long begun limits max before rows last cut whole lines was_cut
     within may runs run =
-    let all = all_runs tails pages go_on long_go_on places short long_short names file (omega arith) limits long begun max before rows last
+    let all = all_runs tails go_on long_go_on places short long_short names file (omega arith) limits long begun max before rows last
     cut run.lines run.end may run.are runs in
     subst (λ (text : Printed). AreAsOneRun before rows last cut lines text) (sym run.text_is)
     (subst (λ (l : List ℕ). AreAsOneRun before rows last cut l (whole_text long begun run.lines run.end)) (sym run.rows_are) all)

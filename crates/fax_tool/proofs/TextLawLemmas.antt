@@ -8,7 +8,7 @@ use Rattle.fax_walk.specs.declared.checking.Note.{Note}
 use Rattle.fax_walk.specs.declared.options.Options.{Options}
 use Rattle.fax_walk.specs.declared.walk.Place.{Place}
 use Rattle.fax_walk.specs.laws.Answers.{BytesAreConvertedInOneWay, FilesHaveOneReport}
-use Rattle.fax_walk.specs.laws.Tails.{BeginningsHaveOneTail, CursorsHaveOneFormTail, CursorsNameOnePage}
+use Rattle.fax_walk.specs.laws.Tails.{BeginningsHaveOneTail, CursorsHaveOneFormTail}
 use Rattle.fax_tool.specs.ReportText.{IsCheckText, IsConversionText, convert_fault_line, note_line}
 use Rattle.fax_tool.specs.Run.{ArePageLines, AreRowLines, IsTextOfLines, begun_of}
 use Rattle.fax_tool.specs.Text.{Begun, At, End, Line, Printed, and_number, fault_line, text_of}
@@ -55,15 +55,15 @@ one_report reports file printed other (report, first, is) (report', second, is')
     ∙ ap (λ rows. text_of_parts report'.notes.items report'.pages rows report.fault) same.rows
     ∙ ap (text_of_parts report'.notes.items report'.pages report'.rows) same.fault ∙ sym is'
 
-pub texts_are_one : BeginningsHaveOneTail → CursorsNameOnePage → CursorsHaveOneFormTail → BytesAreConvertedInOneWay
+pub texts_are_one : BeginningsHaveOneTail → CursorsHaveOneFormTail → BytesAreConvertedInOneWay
     → FilesHaveOneReport → TextsAreOne
-texts_are_one tails pages forms ways reports (Forms part) file printed other first second =
+texts_are_one tails forms ways reports (Forms part) file printed other first second =
     one_of_lines (ArePageLines file part.cursor) (one_pages file forms part.cursor) false part.max (At part.cursor) printed other first
     second
-texts_are_one tails pages forms ways reports (Rows part) file printed other first second =
-    one_of_lines (AreRowLines file (begun_of part)) (one_rows file tails pages (begun_of part)) part.long part.max (begun_of part) printed
+texts_are_one tails forms ways reports (Rows part) file printed other first second =
+    one_of_lines (AreRowLines file (begun_of part)) (one_rows file tails (begun_of part)) part.long part.max (begun_of part) printed
     other first second
-texts_are_one tails pages forms ways reports (Convert options) file printed other first second =
+texts_are_one tails forms ways reports (Convert options) file printed other first second =
     one_conversion ways options file printed other first second
-texts_are_one tails pages forms ways reports Check file printed other first second =
+texts_are_one tails forms ways reports Check file printed other first second =
     one_report reports file printed other first second

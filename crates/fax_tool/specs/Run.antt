@@ -1,13 +1,12 @@
 -- What a run leaves on its streams.
 -- A definition without a citation is this project's profile.
 use Rattle.std.specs.Prelude.{◌≡◌, ℕ, ◌<◌, ◌≤◌, ◌⊎◌, Bool, false, List, [], ◌++◌, length, map, take}
-use Rattle.std.specs.Prelude.{Option, None, IfSome, Ok, codes, ⊤}
+use Rattle.std.specs.Prelude.{Option, None, IfSome, codes, ⊤}
 use Rattle.std.specs.Io.KnownBytes.{Appends}
-use Rattle.std.specs.List.{AllZip}
 use Rattle.fax_files.specs.Directory.{max_file}
 use Rattle.fax_tool.specs.Text.{Begun, At, Cursor, End, Line, Printed, begun_at, ended_text}
 use Rattle.fax_tool.specs.Text.{line_of_page, line_of_row, text_of}
-use Rattle.fax_walk.specs.Pages.{FilePage, FormItem, IsFormTail, IsPageAt}
+use Rattle.fax_walk.specs.Pages.{FormItem, IsFormTail}
 use Rattle.fax_walk.specs.Items.{RowItem, IsTailFrom}
 use Rattle.fax_tool.specs.declared.refusal.Refusal.{Refusal}
 use Rattle.fax_tool.specs.declared.refusal.Refusal.TheVariants.{Memory, Read, Write}
@@ -63,18 +62,12 @@ HasReason Read input output =
     (HasFailed input.counts ⊎ (max_file < input.taken)) × HasWorked output.counts
 HasReason Write input output = IsRead input × HasFailed output.counts
 
--- the line of a row of a file: it names what follows the row by the form of the row's page
-abbrev pub IsRowLine : List ℕ → RowItem → Line → Type 0
-IsRowLine file item line =
-    (here : FilePage) × IsPageAt file (record { page = item.page; row = item.row }) (Ok here)
-    × (line ≡ line_of_row here.form item)
-
 -- these lines and this end are what a walk hands out that begins so: the lines of its rows
 pub record AreRowLines (file : List ℕ) (begun : Begun) (lines : List Line)
     (end : End) : Type 0 where
   pub items : List RowItem
   pub tail : IsTailFrom file begun items end
-  pub lines_are : AllZip (IsRowLine file) items lines
+  pub lines_are : lines ≡ map line_of_row items
 
 -- these lines and this end are what follows a cursor in a file: the lines of its pages
 pub record ArePageLines (file : List ℕ) (at : Cursor) (lines : List Line) (end : End) : Type 0 where
@@ -97,7 +90,7 @@ IsTextOfFirst are max begun output =
     × IfSome max (λ limit. count ≤ limit)
     × (output ≡ (ended_text false begun (take count lines) None).output)
 
--- what the rows of a part begin with
+-- what a part begins with
 abbrev pub begun_of : Part → Begun
 begun_of part = begun_at part.from part.cursor
 

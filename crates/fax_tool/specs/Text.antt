@@ -52,11 +52,11 @@ pub record Line : Type 0 where
   pub text : List ℕ
   pub next : Begun
 
--- the line of a row of a page of this form
-abbrev pub line_of_row : PageForm → RowItem → Line
-line_of_row form item = record {
+-- the line of a row
+abbrev pub line_of_row : RowItem → Line
+line_of_row item = record {
   text = row_line_of item.page item.row (runs_of item.pels);
-  next = begun_at (long_after form item) (cursor_after item);
+  next = begun_at (long_after item) (cursor_after item);
 }
 
 -- the line of a page

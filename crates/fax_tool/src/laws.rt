@@ -17,7 +17,6 @@ pub fn runs_go_on()
     fax_walk::laws::beginnings_have_one_tail();
     fax_walk::laws::tails_go_on();
     fax_walk::laws::cursors_are_named();
-    fax_walk::laws::cursors_name_one_page();
 }
 
 /// What a command writes of a file is one text.
@@ -25,7 +24,6 @@ pub fn texts_are_one()
     ensures { TextsAreOne }
 {
     fax_walk::laws::beginnings_have_one_tail();
-    fax_walk::laws::cursors_name_one_page();
     fax_walk::laws::form_tails_are_one();
     fax_walk::laws::answers_are_one();
 }

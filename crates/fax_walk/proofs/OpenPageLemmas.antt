@@ -136,7 +136,7 @@ module _ (page : PageState) (limits : IsPageForm page.form) (strip_is : IsStripO
           (pels_are : pels ≡ exchanged page.form strip.reference)
           (within : strip.place ≤ 8 * length strip.bytes) where
         abbrev item : RowItem
-        item = record { page = page.page; row = row_of page; pels = pels; bits = strip.place }
+        item = record { page = page.page; form = page.form; row = row_of page; pels = pels; bits = strip.place }
 
         twice : exchanged page.form pels ≡ strip.reference
         twice = ap (exchanged page.form) pels_are ∙ exchanged_twice page.form strip.reference
@@ -155,6 +155,7 @@ module _ (page : PageState) (limits : IsPageForm page.form) (strip_is : IsStripO
             refl,
             rw reads.same_bytes at within,
             rw (numbers.0, numbers.1, stands.bits_are, stands.reference_is, twice) line,
+            refl,
             refl,
           ),
         ))
@@ -259,9 +260,9 @@ module _ (old page : PageState) (keeps : KeepsPlace old page) where
       let new : PageState = record page { strip = strip; shown = shown; read = page.read + 1 } in
       let due = reads.due in
       let same = keeps.same in
-      let item : RowItem = record { page = page.page; row = row_of page; pels = shown; bits = strip.place } in
+      let item : RowItem = record { page = page.page; form = page.form; row = row_of page; pels = shown; bits = strip.place } in
       let its_item : RowItem = item_of old (row_of old) new in
-      let item_is : item ≡ its_item = rw (same.page, keeps.row) refl in
+      let item_is : item ≡ its_item = rw (same.page, keeps.row, same.form) refl in
       let step = row_read page limits strip_is due its strip shown reads shown_is within in
       let after = place_next page limits strip_is due its strip shown reads shown_is within in
       let read : IsRow page.directory.file (place_of page) (Ok (its_item, place_of new)) =
@@ -334,7 +335,7 @@ module _ (old now new : PageState) (items : List RowItem) (skips : HasSkipped ol
   row_given its due past few =
       let count : length items ≡ skipped old = omega (arith, past, skips.few, skips.rows, reads.next_row, same_on.first) in
       let item_is : its_item ≡ item_of old (row_of old + skipped old) new =
-      rw (← skips.same.page, ← count, skips.rows) refl in
+      rw (← skips.same.page, ← count, skips.rows, skips.same.form) refl in
       record {
         same = same_on;
         still_open = reads.still_open;

@@ -56,12 +56,13 @@ by_exchange false row = refl
 pub exchanged_twice : (form : PageForm) (row : List Colour) → exchanged form (exchanged form row) ≡ row
 exchanged_twice form row = by_exchange form.exchanged row
 
-same_items : (item another : RowItem) → item.page ≡ another.page → item.row ≡ another.row → item.pels ≡ another.pels
+same_items : (item another : RowItem) → item.page ≡ another.page → item.form ≡ another.form → item.row ≡ another.row → item.pels ≡ another.pels
     → item.bits ≡ another.bits
     → item ≡ another
-same_items item another pages rows pels bits =
-    ap (λ (p : ℕ). record item { page = p }) pages ∙ ap (λ (r : ℕ). record item { page = another.page; row = r }) rows
-    ∙ ap (λ (l : List Colour). record item { page = another.page; row = another.row; pels = l }) pels
+same_items item another pages forms rows pels bits =
+    ap (λ (p : ℕ). record item { page = p }) pages ∙ ap (λ (f : PageForm). record item { page = another.page; form = f }) forms
+    ∙ ap (λ (r : ℕ). record item { page = another.page; form = another.form; row = r }) rows
+    ∙ ap (λ (l : List Colour). record item { page = another.page; form = another.form; row = another.row; pels = l }) pels
     ∙ ap (λ (n : ℕ). record another { bits = n }) bits
 
 -- as many bits stand before one rest
@@ -96,17 +97,17 @@ module _ (by_place : AreBitsByPlace) (lines_read : LinesAreRead) where
         let pels : another.pels ≡ item.pels =
         sym (exchanged_twice form another.pels) ∙ ap (exchanged form) same.0 ∙ exchanged_twice form item.pels in
         let place : another.bits ≡ item.bits = one_place by_place form.order bytes another.bits item.bits is_too.2 is.2 same.1 in
-        same_items another item (is_too.0 ∙ sym is.0) (is_too.1 ∙ sym is.1) pels place
+        same_items another item (is_too.0 ∙ sym is.0) (is_too.4 ∙ sym is.4) (is_too.1 ∙ sym is.1) pels place
 
     by_line : ((row : List Colour) × (rest : List Bool) × IsLine strip i reference b row rest)
         ⊎ ((fault : StripFault) × IsCause strip i reference b fault)
         → IsOneAnswer (IsInStrip form at (Some bytes))
     by_line (inl (row, rest, line)) =
         let from = rest_at strip i reference all (before form.width at.inner).bits row rest line in
-        let item : RowItem = record { page = at.page; row = at.row; pels = exchanged form row; bits = from.0 } in
+        let item : RowItem = record { page = at.page; form = form; row = at.row; pels = exchanged form row; bits = from.0 } in
         let is : IsItem form bytes at item =
-        (refl, refl, omega (arith, from.1, by_place.count form.order bytes), rw (from.2, exchanged_twice form row) line) in
-        record { it = Ok (item, place_after form item); is = (is.0, is.1, is.2, is.3, refl); one = only_item item is }
+        (refl, refl, omega (arith, from.1, by_place.count form.order bytes), rw (from.2, exchanged_twice form row) line, refl) in
+        record { it = Ok (item, place_after form item); is = (is.0, is.1, is.2, is.3, refl, is.4); one = only_item item is }
       where
         only_item : (item : RowItem) → IsItem form bytes at item → (other : Result (RowItem × RowPlace) End)
             → IsInStrip form at (Some bytes) other
@@ -114,7 +115,7 @@ module _ (by_place : AreBitsByPlace) (lines_read : LinesAreRead) where
         only_item item is (Err end) (fault, stop, end_is) =
             absurd ((lines_read strip i reference).answer_has_no_fault b _ _ fault is.3 stop)
         only_item item is (Ok (another, to)) is_too =
-            let same = one_item item another is (is_too.0, is_too.1, is_too.2, is_too.3) in
+            let same = one_item item another is (is_too.0, is_too.1, is_too.2, is_too.3, is_too.5) in
             rw (is_too.4, same) refl
     by_line (inr (fault, stop)) =
         record { it = Err (Fault at.page at.row (Strip fault)); is = (fault, stop, refl); one = only_stop }

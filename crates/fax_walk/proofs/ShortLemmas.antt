@@ -75,16 +75,16 @@ cursors_are_short forms chains file begun all end n item short reached tail ther
     }
 
 pub places_are_short : FormsAreWhole → FilesHaveOneChain → PlacesAreShort
-places_are_short forms chains file begun all end n item here place short tail there page long =
+places_are_short forms chains file begun all end n item place short tail there long =
     let after = drop (n + 1) all in
     let split = split_at_number file begun all end n item tail there in
-    let row = this forms chains file begun item after end split here page place long in
-    let fact = facts forms chains file begun item after end split here page place long in
+    let row = this forms chains file begun item after end split place long in
+    let fact = facts forms chains file begun item after end split place long in
     let whole = whole_page file forms (record { page = split.at.page; row = split.at.row }) row.here row.page in
     let few = page_few chains file (record { page = split.at.page; row = split.at.row }) row.here row.page in
     let wide : length (exchanged row.here.form item.pels) ≡ row.here.form.width =
-    ap (λ (l : List Colour). length l) (sym (pels_are forms chains file begun item after end split here page place long))
-    ∙ (inner forms chains file begun item after end split here page place long).1 in
+    ap (λ (l : List Colour). length l) (sym (pels_are forms chains file begun item after end split place long))
+    ∙ (inner forms chains file begun item after end split place long).1 in
     let runs : All (λ run. run < 2 ^ 32) (runs_of (exchanged row.here.form item.pels)) =
     runs_short White 0 (2 ^ 32) (exchanged row.here.form item.pels) (omega (arith, wide, whole.width)) in
     let bits : item.bits < 2 ^ 32 = by_test fact.bits in

@@ -106,7 +106,7 @@ module _ (by_place : AreBitsByPlace) (lines_read : LinesAreRead) (file : List â„
     by_found inner wide (Some bytes) (Err end) (fault, stop, end_is) row =
         stops r (rows + 1) inner r (Strip fault) (omega arith) (rw end_is at row)
     by_found inner wide (Some bytes) (Ok (item, to)) is row =
-        let item_is = item_wide r inner bytes item wide (is.0, is.1, is.2, is.3) in
+        let item_is = item_wide r inner bytes item wide (is.0, is.1, is.2, is.3, is.5) in
         one_more r rows inner item to (sym (exchanged_length form item.pels) âˆ™ item_is) row
         (rw is.4 (after item is.0 is.1 item_is))
 

@@ -142,16 +142,17 @@ module _ (by_place : AreBitsByPlace) (file : List ℕ) (endian : Endian) (q : �
     lines_from inner r i (row ∷ rows) stop left r_is within (rest, due, line, more) =
         let number = numbers r i r_is within in
         let from = rest_at strip i (before form.width inner).reference all (before form.width inner).bits row rest line in
-        let item : RowItem = record { page = p; row = r; pels = exchanged form row; bits = from.0 } in
+        let item : RowItem = record { page = p; form = form; row = r; pels = exchanged form row; bits = from.0 } in
         let is : IsItem form bytes (place_at r inner) item = (
           refl,
           refl,
           omega (arith, from.1, by_place.count form.order bytes),
           rw (number.0, number.1, from.2, exchanged_twice form row) line,
+          refl,
         ) in
         let count : r + length (row ∷ rows) ≡ r + 1 + length rows = omega arith in
         let step : IsRow file (place_at r inner) (Ok (item, place_after form item)) =
-        row_at r inner (Some bytes) (Ok (item, place_after form item)) (rw number.0 bytes_are) (is.0, is.1, is.2, is.3, refl) in
+        row_at r inner (Some bytes) (Ok (item, place_after form item)) (rw number.0 bytes_are) (is.0, is.1, is.2, is.3, refl, refl) in
         elim (cases_lt (i + 1) strip.rows) [
           | inl less ↦
               let next = numbers (r + 1) (i + 1) (omega (arith, r_is)) less in

@@ -8,6 +8,7 @@ use Rattle.fax_bits.specs.declared.Colour.{Colour}
 use Rattle.fax_bits.specs.laws.Codes.{AreBitsByPlace}
 use Rattle.fax_files.specs.Directory.{header}
 use Rattle.fax_files.specs.laws.Files.{FilesHaveOneChain}
+use Rattle.fax_files.specs.declared.PageForm.{PageForm}
 use Rattle.fax_files.specs.views.Tiff.{TiffDirectory}
 use Rattle.fax_walk.specs.declared.begun.Begun.{Begun}
 use Rattle.fax_walk.specs.declared.cursor.Cursor.{Cursor}
@@ -213,6 +214,7 @@ module _ (by_place : AreBitsByPlace) (lines_read : LinesAreRead) (chains : Files
             let pages : new.page ≡ gives.item.page = gives.same.page ∙ ap (λ (i : RowItem). i.page) (sym gives.item_is) in
             after_is ∙ rw (rows, pages) refl;
         to_is = gives.after;
+        form_is = ap (λ (i : RowItem). i.form) gives.item_is;
       }
 
       pub gone_on : GoesOnFrom file begun (given + 1) after (Some new) × ShowsLast file begun (given + 1) after (Some new)
@@ -368,14 +370,13 @@ module _ (walk : WalkView) (cursor : Cursor) (page : Option PageState) where
     | inl first ↦ absurd (omega (arith, some, first.0))
     | inr (on, is, last) ↦
         let same : on ≡ at = cc in
-        let to : place_of at ≡ place_after last.here.form last.item = ap place_of (sym same) ∙ last.to_is in
+        let to : place_of at ≡ place_after last.item.form last.item =
+        ap place_of (sym same) ∙ last.to_is ∙ ap (λ (f : PageForm). place_after f last.item) (sym last.form_is) in
         inr (
           last.before,
           last.item,
-          last.here,
           last.count,
           last.number,
-          last.page,
           place_is ∙ ap (λ (t : RowPlace). long_at t.page t.row t.inner) to,
         )
   ]

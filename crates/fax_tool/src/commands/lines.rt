@@ -87,7 +87,6 @@ impl Lines for Walk<'_> {
 
     fn long_cursor(&self, alloc: Global) -> Result<Option<LongCursor>, Memory> {
         fax_walk::laws::beginnings_have_one_tail();
-        fax_walk::laws::cursors_name_one_page();
         Walk::long_cursor(self, alloc)
     }
 
@@ -104,7 +103,6 @@ impl Lines for Walk<'_> {
 
     fn are_one(&self) {
         fax_walk::laws::beginnings_have_one_tail();
-        fax_walk::laws::cursors_name_one_page();
     }
 }
 

@@ -15,7 +15,7 @@ use Rattle.fax_walk.specs.declared.end.End.TheVariants.{Outside}
 use Rattle.fax_walk.specs.Pages.{LongPlace}
 use Rattle.fax_walk.specs.Pages.{IsOnPage}
 use Rattle.fax_walk.specs.Items.{IsBegunOn, Inner, RowItem, RowPlace, before, begun_cursor, exchanged}
-use Rattle.fax_walk.specs.Items.{first_at}
+use Rattle.fax_walk.specs.Items.{first_at, place_after}
 
 -- the cursor of a place
 abbrev pub cursor_at : RowPlace → Cursor
@@ -44,6 +44,7 @@ IsItem form bytes at item =
     (before form.width at.inner).reference
     (drop (before form.width at.inner).bits (bits form.order bytes)) (exchanged form item.pels)
     (drop item.bits (bits form.order bytes))
+    × (item.form ≡ form)
 
 -- where a walk from a cursor begins, and how many rows it reads before the cursor's
 abbrev pub first_row : Cursor → PageForm → Result (RowPlace × ℕ) End
@@ -75,3 +76,7 @@ long_at p r (Some inner) =
       bits = inner.bits;
       runs = runs_of inner.reference;
     })) else None
+
+-- the place inside a strip after a row of a page of this form, if there is one
+abbrev pub long_over : PageForm → RowItem → Option LongPlace
+long_over form item = let after = place_after form item in long_at after.page after.row after.inner

@@ -166,7 +166,7 @@ EndsAtRow page end = (cause : Cause) × (end ≡ Fault page.page (row_of page) c
 -- the row that is due is an item
 abbrev pub item_of : PageState → ℕ → PageState → RowItem
 item_of old r new =
-    record { page = old.page; row = r; pels = new.shown; bits = new.strip.place }
+    record { page = old.page; form = old.form; row = r; pels = new.shown; bits = new.strip.place }
 
 -- the same page, as far as another row of it
 pub record IsSamePage (old new : PageState) : Type 0 where

@@ -85,6 +85,7 @@ pub record IsAfterItem (file : List ℕ) (begun : Begun) (given : ℕ) (cursor :
   pub within : item.row < here.form.rows
   pub cursor_is : cursor ≡ cursor_after item
   pub to_is : to ≡ place_after here.form item
+  pub form_is : item.form ≡ here.form
 
 -- the cursor stands where the walk began, or after the item that was handed out last
 abbrev pub StandsAt : List ℕ → Begun → ℕ → Cursor → RowPlace → Type 0

@@ -1,11 +1,10 @@
 -- Laws of cursors and of their texts, which the functions of the module `laws` prove.
 -- A definition without a citation is this project's profile.
-use Rattle.std.specs.Prelude.{◌≡◌, ℕ, ◌^◌, ◌≤◌, List, length, Some, Ok, slice_get}
+use Rattle.std.specs.Prelude.{◌≡◌, ℕ, ◌^◌, ◌≤◌, List, length, Some, slice_get}
 use Rattle.fax_walk.specs.declared.begun.Begun.{Begun}
 use Rattle.fax_walk.specs.declared.cursor.Cursor.{Cursor}
 use Rattle.fax_walk.specs.declared.end.End.{End}
 use Rattle.fax_walk.specs.Pages.{IsCursor, cursor_text, IsLongCursor, LongPlace, long_cursor_text}
-use Rattle.fax_walk.specs.Pages.{FilePage, IsPageAt}
 use Rattle.fax_walk.specs.Items.{RowItem, IsTailFrom, cursor_after, long_after}
 use Rattle.fax_walk.specs.laws.Tails.{IsReached}
 
@@ -20,10 +19,9 @@ CursorsAreShort =
 abbrev pub PlacesAreShort : Type 0
 PlacesAreShort =
     (file : List ℕ) (begun : Begun) (all : List RowItem) (end : End) (n : ℕ) (item : RowItem)
-    (here : FilePage) (place : LongPlace)
+    (place : LongPlace)
     → length file ≤ 2 ^ 32 → IsTailFrom file begun all end → slice_get all n ≡ Some item
-    → IsPageAt file (record { page = item.page; row = item.row }) (Ok here)
-    → long_after here.form item ≡ Some place → IsLongCursor place
+    → long_after item ≡ Some place → IsLongCursor place
 
 -- the texts of cursors differ, and those of long cursors, and no text is that of both
 pub record TextsNameOne : Type 0 where

@@ -22,19 +22,17 @@ use Rattle.fax_walk.specs.views.Walk.{AreRead, IsCursorOf, IsLent, IsLongOf, IsN
 use Rattle.fax_walk.specs.views.Walk.{walk_from}
 
 -- what is printed after an item: its cursor, or its place inside a strip, if there is one
-abbrev pub IsPrintedAfter : List ℕ → RowItem → Begun → Type 0
-IsPrintedAfter file item (At at) = at ≡ cursor_after item
-IsPrintedAfter file item (Inside place) =
-    (here : FilePage) × IsPageAt file (record { page = item.page; row = item.row }) (Ok here)
-    × (long_after here.form item ≡ Some place)
+abbrev pub IsPrintedAfter : RowItem → Begun → Type 0
+IsPrintedAfter item (At at) = at ≡ cursor_after item
+IsPrintedAfter item (Inside place) = long_after item ≡ Some place
 
 -- what is printed where n of these items were handed out: the first cursor where none was, and else
 -- what is printed after the last of them
-abbrev pub IsPrinted : List ℕ → List RowItem → ℕ → Begun → Type 0
-IsPrinted file items n begun =
+abbrev pub IsPrinted : List RowItem → ℕ → Begun → Type 0
+IsPrinted items n begun =
     ((n ≡ 0) × (begun ≡ At start))
     ⊎ ((before : ℕ) × (item : RowItem) × (n ≡ before + 1) × (slice_get items before ≡ Some item)
-    × IsPrintedAfter file item begun)
+    × IsPrintedAfter item begun)
 
 -- what a call for the next row answers
 abbrev pub Answer : Type 0
@@ -72,7 +70,7 @@ pub record HandOut (answers : List Answer) (items : List RowItem) (end : End) : 
 -- them, and handed out the others; and it has told this end, after all of them, or none
 pub record StandsAfter (items : List RowItem) (end : End) (n : ℕ) (walk : WalkView) : Type 0 where
   pub began : ℕ
-  pub printed : IsPrinted walk.file items began walk.begun
+  pub printed : IsPrinted items began walk.begun
   pub count : n ≡ began + walk.given
   pub within : n ≤ length items
   pub told : IsTold walk.told (drop n items) end
@@ -134,7 +132,7 @@ abbrev pub WalksHandOutTheRest : Type 0
 WalksHandOutTheRest =
     (file : List ℕ) (items : List RowItem) (end : End) (n : ℕ) (begun : Begun)
     (answers : List Answer) (new : WalkView)
-    → AreItems file items end → IsPrinted file items n begun
+    → AreItems file items end → IsPrinted items n begun
     → AreAnswers (walk_from file begun) answers new
     → HandOut answers (drop n items) end × StandsAfter items end (n + length (rows_in answers)) new
 
@@ -142,7 +140,7 @@ WalksHandOutTheRest =
 abbrev pub WalksBeginThere : Type 0
 WalksBeginThere =
     (file : List ℕ) (items : List RowItem) (end : End) (n : ℕ) (begun : Begun)
-    → AreItems file items end → IsPrinted file items n begun
+    → AreItems file items end → IsPrinted items n begun
     → StandsAfter items end n (walk_from file begun)
 
 -- a walk that stands after n items hands out item number n, or after the last the end, again and
@@ -171,14 +169,14 @@ abbrev pub CursorsArePrinted : Type 0
 CursorsArePrinted =
     (items : List RowItem) (end : End) (n : ℕ) (walk : WalkView) (at : Cursor)
     → AreItems walk.file items end → StandsAfter items end n walk → IsCursorOf walk at
-    → IsPrinted walk.file items n (At at)
+    → IsPrinted items n (At at)
 
 -- and so is its place inside a strip, if it has one
 abbrev pub PlacesArePrinted : Type 0
 PlacesArePrinted =
     (items : List RowItem) (end : End) (n : ℕ) (walk : WalkView) (place : LongPlace)
     → AreItems walk.file items end → StandsAfter items end n walk → IsLongOf walk (Some place)
-    → IsPrinted walk.file items n (Inside place)
+    → IsPrinted items n (Inside place)
 
 -- how many rows such a walk has read: as many as it handed out, and those before its beginning in
 -- its strip; no more than these where it has neither handed out a row nor told the end

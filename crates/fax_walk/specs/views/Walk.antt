@@ -104,10 +104,9 @@ begun_place (Inside place) = Some place
 abbrev pub IsLongOf : WalkView → Option LongPlace → Type 0
 IsLongOf walk place =
     ((walk.given ≡ 0) × (place ≡ begun_place walk.begun))
-    ⊎ ((before : ℕ) × (item : RowItem) × (here : FilePage) × (walk.given ≡ before + 1)
+    ⊎ ((before : ℕ) × (item : RowItem) × (walk.given ≡ before + 1)
     × IsItemNumber walk.file walk.begun before item
-    × IsPageAt walk.file (record { page = item.page; row = item.row }) (Ok here)
-    × (place ≡ long_after here.form item))
+    × (place ≡ long_after item))
 
 -- a place inside a strip that is lent, if there is one, with the runs of the row before it
 abbrev pub place_inside : Option PlaceInside → Option LongPlace

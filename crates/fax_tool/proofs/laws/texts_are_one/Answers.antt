@@ -3,5 +3,5 @@ use Rattle.fax_tool.proofs.laws.texts_are_one.Goals as goal
 
 pub returns : goal.returns
 returns c =
-    texts_are_one c.beginnings_have_one_tail.ensures c.cursors_name_one_page.ensures c.form_tails_are_one.ensures.one
+    texts_are_one c.beginnings_have_one_tail.ensures c.form_tails_are_one.ensures.one
     c.answers_are_one.ensures.conversions c.answers_are_one.ensures.reports
