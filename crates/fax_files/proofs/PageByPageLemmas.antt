@@ -2,7 +2,7 @@
 use Rattle.std.proofs.Common.{◌≡◌, ℕ, suc, ◌+◌, List, [], ◌∷◌, ◌++◌, length, Vec, refl, sym, ap, ◌∙◌, arith, length-append}
 use Rattle.std.specs.declared.alloc.Global.{Global}
 use Rattle.fax_files.specs.declared.PageForm.{PageForm}
-use Rattle.fax_files.specs.Written.{Written, WrittenPage, with_page, with_pages, file_of}
+use Rattle.fax_files.specs.Layout.{Written, WrittenPage, with_page, with_pages, file_of}
 use Rattle.fax_files.specs.views.Writing.{empty_file}
 use Rattle.fax_files.specs.views.Writing.{Writing, contents, with_one_more}
 use Rattle.fax_files.specs.laws.Files.{HasAdded}

@@ -9,7 +9,7 @@ use Rattle.byteorder.specs.Numbers.{little_number-reads_back}
 use Rattle.fax_files.specs.declared.Endian.TheVariants.{Little}
 use Rattle.fax_files.specs.Directory.{is_inside, number_at}
 use Rattle.fax_files.specs.code.Steps.{bytes_at}
-use Rattle.fax_files.specs.Written.{four}
+use Rattle.fax_files.specs.Layout.{four}
 use Rattle.fax_files.specs.code.Parts.{with_four_at}
 
 -- these bytes stand at a place of a file

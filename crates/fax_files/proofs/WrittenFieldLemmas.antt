@@ -13,7 +13,7 @@ use Rattle.fax_files.specs.declared.Endian.TheVariants.{Little}
 use Rattle.fax_files.specs.views.Page.{IsGoodRational}
 use Rattle.fax_files.specs.Page.{rational_of}
 use Rattle.fax_files.specs.code.Steps.{good_rational}
-use Rattle.fax_files.specs.Written.{two, four, WrittenField, field_bytes}
+use Rattle.fax_files.specs.Layout.{two, four, WrittenField, field_bytes}
 use Rattle.fax_files.specs.code.Parts.{long_field, short_field, rational_field, rational_bytes}
 use Rattle.fax_files.proofs.PlaceLemmas.{HasBytesAt, at_place, at_left, at_right, at_inside, number_there}
 use Rattle.fax_files.specs.declared.tags.TheConstants as Tags

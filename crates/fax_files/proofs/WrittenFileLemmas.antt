@@ -7,15 +7,15 @@ use Rattle.std.proofs.lemmas.List.Elements.{All-nil, All-cons, All-weaker}
 use Rattle.std.specs.List.{All, AllZip, list_any}
 use Rattle.std.proofs.lemmas.List.Folds.{list_any_none}
 use Rattle.std.specs.Prelude.{◌==◌, replicate, codes, bytes_eq, nat_le, if◌then◌else◌}
-use Rattle.fax_files.specs.declared.FileFault.TheVariants as Fault
+use Rattle.fax_files.specs.declared.FileFault.TheVariants as file_fault
 use Rattle.fax_files.specs.Directory.{is_inside, number_at, is_directory, next_offset}
 use Rattle.fax_files.specs.Directory.{Endian, Little, Big, FileFault}
 use Rattle.fax_files.specs.Directory.{header, IsChainFrom}
-use Rattle.fax_files.specs.Written.{to_link, two, four, offsets_from}
+use Rattle.fax_files.specs.Layout.{to_link, two, four, offsets_from}
 use Rattle.fax_files.specs.code.Parts.{to_x, to_offsets, lengths_of, fields_bytes, values_bytes}
-use Rattle.fax_files.specs.Written.{directory_place, page_bytes, Written, with_page, with_pages, WrittenPage}
+use Rattle.fax_files.specs.Layout.{directory_place, page_bytes, Written, with_page, with_pages, WrittenPage}
 use Rattle.fax_files.specs.code.Parts.{joined_strips, with_four_at}
-use Rattle.fax_files.specs.Written.{file_of, array_bytes}
+use Rattle.fax_files.specs.Layout.{file_of, array_bytes}
 use Rattle.fax_files.specs.code.Parts.{longs, rational_bytes}
 use Rattle.fax_files.specs.views.Writing.{empty_file}
 use Rattle.fax_files.specs.laws.Files.{IsWritable, AreWritable, IsReadAt, AppendedPagesAreRead, WrittenFilesAreRead}
@@ -28,7 +28,7 @@ use Rattle.fax_files.proofs.WrittenPageLemmas.{page_fields, IsPageAt, length-pag
 -- II is little-endian, MM is big-endian
 abbrev endian_of : List ℕ → Result Endian FileFault
 endian_of bytes =
-    if bytes_eq bytes (codes "II") then (Ok Little) else (if bytes_eq bytes (codes "MM") then (Ok Big) else (Err Fault.ByteOrder))
+    if bytes_eq bytes (codes "II") then (Ok Little) else (if bytes_eq bytes (codes "MM") then (Ok Big) else (Err file_fault.ByteOrder))
 
 -- a file whose last link is still 0
 abbrev pub HasOpenLink : Written → Type 0

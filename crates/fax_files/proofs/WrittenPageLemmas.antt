@@ -22,14 +22,14 @@ use Rattle.fax_files.specs.Page.{page, strip_bytes}
 use Rattle.fax_files.specs.code.Steps.{page_coding}
 use Rattle.fax_files.specs.Page.{fill_order_of}
 use Rattle.fax_files.specs.views.Page.{strip_count}
-use Rattle.fax_files.specs.Written.{to_link, two, WrittenField}
+use Rattle.fax_files.specs.Layout.{to_link, two, WrittenField}
 use Rattle.fax_files.specs.code.Parts.{field_count, to_x, to_y, to_offsets}
-use Rattle.fax_files.specs.Written.{field_bytes, compression_of, options_field}
+use Rattle.fax_files.specs.Layout.{field_bytes, compression_of, options_field}
 use Rattle.fax_files.specs.code.Parts.{short_field}
-use Rattle.fax_files.specs.Written.{offsets_from, array_bytes}
+use Rattle.fax_files.specs.Layout.{offsets_from, array_bytes}
 use Rattle.fax_files.specs.code.Parts.{lengths_of, rational_bytes}
 use Rattle.fax_files.specs.code.Parts.{fields_of, fields_bytes, values_bytes, joined_strips}
-use Rattle.fax_files.specs.Written.{WrittenPage}
+use Rattle.fax_files.specs.Layout.{WrittenPage}
 use Rattle.fax_files.specs.laws.Files.{IsWritable, IsReadAt}
 use Rattle.fax_files.proofs.PlaceLemmas.{HasBytesAt, at_place, at_left, at_right, at_inside, number_there}
 use Rattle.fax_files.proofs.WrittenFieldLemmas.{AllFit, fits, all_fit, length-fields, read_fields, HasValues, written_field, entries_there}

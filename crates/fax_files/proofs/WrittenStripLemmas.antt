@@ -7,7 +7,7 @@ use Rattle.fax_files.specs.Directory.{Entry, is_inside, field, needed, values_pl
 use Rattle.fax_files.specs.Directory.{has_integers}
 use Rattle.fax_files.specs.declared.Endian.TheVariants.{Little}
 use Rattle.fax_files.specs.code.Steps.{strip_field, placed_bytes}
-use Rattle.fax_files.specs.Written.{four, WrittenField, offsets_from, one_or_place, array_bytes}
+use Rattle.fax_files.specs.Layout.{four, WrittenField, offsets_from, one_or_place, array_bytes}
 use Rattle.fax_files.specs.code.Parts.{long_field, lengths_of, longs}
 use Rattle.fax_files.specs.code.Parts.{joined_strips}
 use Rattle.fax_files.proofs.PlaceLemmas.{HasBytesAt, at_place, at_left, at_right, at_inside, number_there, bytes_there}

@@ -5,7 +5,7 @@ use Rattle.std.specs.Prelude.{◌||◌, not, if◌then◌else◌, List, [], ◌�
 use Rattle.std.specs.Prelude.{Option, Some, None, Result, Ok, Err, codes, bytes_eq}
 use Rattle.std.specs.List.{list_any}
 use Rattle.byteorder.specs.Endian.{little_number, big_number}
-use Rattle.fax_files.specs.declared.FileFault.TheVariants as Fault
+use Rattle.fax_files.specs.declared.FileFault.TheVariants as file_fault
 use Rattle.fax_files.specs.declared.tags.TheConstants as Tags
 pub use Rattle.fax_files.specs.declared.Endian.{Endian}
 pub use Rattle.fax_files.specs.declared.Endian.TheVariants.{Little, Big}
@@ -43,11 +43,11 @@ pub record Header : Type 0 where
 -- a file's header, or its first fault: II is little-endian, MM is big-endian
 unfoldable pub header : List ℕ → Result Header FileFault
 header file = do
-  _ ← check (is_inside file 0 8) Fault.ShortHeader
+  _ ← check (is_inside file 0 8) file_fault.ShortHeader
   endian ← if bytes_eq (take 2 file) (codes "II") then (Ok Little)
-      else (if bytes_eq (take 2 file) (codes "MM") then (Ok Big) else (Err Fault.ByteOrder))
-  _ ← check (number_at endian 2 file 2 == 42) Fault.Magic
-  _ ← check (not (number_at endian 4 file 4 == 0)) Fault.NoDirectory
+      else (if bytes_eq (take 2 file) (codes "MM") then (Ok Big) else (Err file_fault.ByteOrder))
+  _ ← check (number_at endian 2 file 2 == 42) file_fault.Magic
+  _ ← check (not (number_at endian 4 file 4 == 0)) file_fault.NoDirectory
   Ok (record { endian = endian; first = number_at endian 4 file 4 })
 
 -- an entry of a directory: its tag, the type of its values, how many there are, and where its last
@@ -112,7 +112,7 @@ has_integers endian file entry n =
 -- the entry of a tag, which has to be there (ours)
 abbrev pub needed : List Entry → ℕ → Result Entry FileFault
 needed fields tag =
-    elim (field fields tag) [ None ↦ Err (Fault.MissingField tag) | Some entry ↦ Ok entry ]
+    elim (field fields tag) [ None ↦ Err (file_fault.MissingField tag) | Some entry ↦ Ok entry ]
 
 -- A scalar: the first value of the entry of a tag. Where the tag is absent, the number that stands
 -- for it, if there is one. A number that does not pass the test is this fault of the tag (ours)
@@ -120,9 +120,9 @@ unfoldable pub scalar : Endian → List ℕ → List Entry → ℕ → Option �
     → (ℕ → FileFault) → Result ℕ FileFault
 scalar endian file fields tag absent test fault = do
   number ← elim (field fields tag) [
-    | None ↦ elim absent [ None ↦ Err (Fault.MissingField tag) | Some number ↦ Ok number ]
+    | None ↦ elim absent [ None ↦ Err (file_fault.MissingField tag) | Some number ↦ Ok number ]
     | Some entry ↦ if has_integers endian file entry 1 then (Ok (value_at endian file entry 0))
-        else (Err (Fault.BadField entry.tag))
+        else (Err (file_fault.BadField entry.tag))
   ]
   _ ← check (test number) (fault tag)
   Ok number
@@ -139,8 +139,8 @@ ascend (entry ∷ next ∷ entries) = nat_lt entry.tag next.tag && ascend (next 
 abbrev pub chain_stop : Endian → List ℕ → List ℕ → ℕ → Option (Option FileFault)
 chain_stop endian file before due =
     if due == 0 then (Some None)
-    else (if list_any (λ q. due == q) before then (Some (Some Fault.DirectoryLoop))
-    else (if is_directory endian file due then None else (Some (Some Fault.DirectoryOutside))))
+    else (if list_any (λ q. due == q) before then (Some (Some file_fault.DirectoryLoop))
+    else (if is_directory endian file due then None else (Some (Some file_fault.DirectoryOutside))))
 
 -- from the offset that is due on, after these directories, the last one first, the chain goes over
 -- these offsets to this end

@@ -1,7 +1,7 @@
 pub mod Directory
 pub mod Page
 pub mod FaultNames
-pub mod Written
+pub mod Layout
 pub mod Pbm
 pub mod code
 pub mod laws

@@ -17,6 +17,13 @@ pub use Rattle.fax_page.specs.declared.Coding.{Coding}
 pub use Rattle.fax_page.specs.declared.Coding.TheVariants.{Mh, Mr, Mmr}
 pub use Rattle.fax_files.specs.declared.PageForm.{PageForm}
 
+-- the most pels of a row, and the most rows of a page
+abbrev pub most_pels : ℕ
+most_pels = 65535
+
+abbrev pub most_rows : ℕ
+most_rows = 1000000
+
 -- the number lies between these two
 abbrev pub is_between : ℕ → ℕ → ℕ → Bool
 is_between low high n = nat_le low n && nat_le n high
@@ -60,8 +67,8 @@ resolution_of _ _ _ = usual_resolution
 unfoldable pub page : Endian → List ℕ → ℕ → Result PageForm FileFault
 page endian file q = do
   let fields = entries endian file q
-  width ← scalar endian file fields Tags.IMAGE_WIDTH None (is_between 1 65535) OutOfLimits
-  rows ← scalar endian file fields Tags.IMAGE_LENGTH None (is_between 1 1000000) OutOfLimits
+  width ← scalar endian file fields Tags.IMAGE_WIDTH None (is_between 1 most_pels) OutOfLimits
+  rows ← scalar endian file fields Tags.IMAGE_LENGTH None (is_between 1 most_rows) OutOfLimits
   _ ← scalar endian file fields Tags.BITS_PER_SAMPLE (Some 1) (is_between 1 1) Unsupported
   compression ← scalar endian file fields Tags.COMPRESSION None (is_between 3 4) Unsupported
   -- the value of a white pel: where it is 1, black is coded as white, and white as black

@@ -7,7 +7,7 @@ use Rattle.fax_rows.specs.Rows.{Colour}
 use Rattle.fax_rows.specs.Coded.{packed_len, packed_row, unpacked_row}
 use Rattle.fax_files.specs.declared.pbm.PbmFault.{PbmFault}
 use Rattle.fax_files.specs.declared.pbm.PbmFault.TheVariants.{BadHeader, OutOfLimits, ShortRaster}
-use Rattle.fax_files.specs.Page.{is_between}
+use Rattle.fax_files.specs.Page.{is_between, most_pels, most_rows}
 
 -- an image: its width, and its rows from the top one to the bottom one
 pub record Image : Type 0 where
@@ -61,7 +61,7 @@ pub record IsHead (bytes : List ℕ) (width height : ℕ) (rest : List ℕ) : Ty
 
 -- a width and a height that are read (ours)
 abbrev pub is_within_limits : ℕ → ℕ → Bool
-is_within_limits width height = is_between 1 65535 width && is_between 1 1000000 height
+is_within_limits width height = is_between 1 most_pels width && is_between 1 most_rows height
 
 -- the rows that these bytes hold, of which each row takes whole bytes
 abbrev pub raster_rows : ℕ → ℕ → List ℕ → List (List Colour)

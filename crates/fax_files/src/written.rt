@@ -4,7 +4,7 @@ ghost use Rattle.std.specs.Prelude.{◌≡◌, ◌+◌, ◌%◌, ◌<◌, ◌≤
 ghost use Rattle.std.specs.Prelude.{IfSome};
 ghost use Rattle.std.specs.Option.{IfNone};
 ghost use Rattle.fax_files.specs.Page.{fill_order_of};
-ghost use Rattle.fax_files.specs.Written as Spec;
+ghost use Rattle.fax_files.specs.Layout as Spec;
 ghost use Rattle.fax_files.specs.code.Parts as Parts;
 ghost use Rattle.fax_files.specs.Directory.{max_file};
 ghost use Rattle.fax_files.specs.code.Writing.{IsLayout, laid_out_fields, tail_bytes};
@@ -78,7 +78,7 @@ struct Field {
 }
 
 impl Model for Field {
-    ghost use Rattle.fax_files.specs.Written.{WrittenField};
+    ghost use Rattle.fax_files.specs.Layout.{WrittenField};
 
     ghost Value = { WrittenField };
 
@@ -170,7 +170,7 @@ pub(crate) struct Layout {
 }
 
 /// Appends the entry of a field.
-#[tactic(auto, unfolding(crate::specs::Written::field_bytes))]
+#[tactic(auto, unfolding(crate::specs::Layout::field_bytes))]
 fn put_field(out: &mut Vec<u8>, field: &Field) -> Result<(), AllocError>
     ensures { OnOk result (out.new.items ≡ out.old.items ++ Spec.field_bytes field.now) }
 {

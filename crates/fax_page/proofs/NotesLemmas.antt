@@ -14,7 +14,8 @@ use Rattle.fax_page.specs.declared.notes.NotesFault.{NotesFault}
 use Rattle.fax_page.specs.declared.notes.NotesFault.TheVariants.{Memory, Strip}
 use Rattle.fax_page.specs.declared.notes.StripNotes.{StripNotes}
 use Rattle.fax_page.specs.Lines.{BeginsBelowEleven, IsCause, IsLine, IsRowIn, white_row}
-use Rattle.fax_page.specs.Strip.{AreLines, EndsAt, IsStrip}
+use Rattle.fax_page.specs.Strip.{AreLines, IsStrip}
+use Rattle.fax_page.proofs.StripLaws.{EndsAt, no_rows}
 use Rattle.fax_page.specs.Strip.{row_bits}
 use Rattle.fax_page.specs.laws.Strips.{ReadsLinesOneWay}
 use Rattle.fax_page.specs.Strip.{HasOtherChoice, IsNotedAs}
@@ -173,7 +174,7 @@ stopped : (form : StripForm) (b left : List Bool) (i : ℕ) (reference : List Co
     → AreLines form 0 (white_row form.width) b so_far.before end left
 stopped form b left i reference other end so_far stop =
     subst (λ rows. AreLines form 0 (white_row form.width) b rows end left) (append-nil so_far.before)
-    (so_far.lines [] end left (refl, stop))
+    (so_far.lines [] end left (no_rows form i reference left end stop))
 
 -- a row that cannot be read
 fault_met : (form : StripForm) (b left : List Bool) (i : ℕ) (reference : List Colour) (other : Bool) (fault : StripFault) (row : ℕ)

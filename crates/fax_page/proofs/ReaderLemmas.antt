@@ -6,7 +6,8 @@ use Rattle.fax_bits.specs.Bits.{bits}
 use Rattle.fax_page.specs.declared.StripForm.{StripForm}
 use Rattle.fax_page.specs.declared.StripFault.{StripFault}
 use Rattle.fax_page.specs.Lines.{IsLine, IsCause}
-use Rattle.fax_page.specs.Strip.{EndsAt, AreLines, IsStrip}
+use Rattle.fax_page.specs.Strip.{AreLines, IsStrip}
+use Rattle.fax_page.proofs.StripLaws.{EndsAt, no_rows}
 use Rattle.fax_page.specs.views.Reader.{StripState, bits_left, strip_after, ReadsRow, IsAtEnd, MeetsFault, IsAdvance}
 use Rattle.fax_page.specs.laws.Reader.{HasRead, HasReadFrom}
 
@@ -34,7 +35,8 @@ stopped_on : (start : StripState) (rows : List (List Colour)) (state : StripStat
     → AreLines start.form start.row start.reference (bits_left start) rows end (bits_left state)
 stopped_on start rows state end so_far stop =
     subst (λ them. AreLines start.form start.row start.reference (bits_left start) them end (bits_left state)) (append-nil rows)
-    (so_far.followed [] end (bits_left state) (refl, stop))
+    (so_far.followed [] end (bits_left state)
+    (no_rows start.form state.row state.reference (bits_left state) end stop))
 
 ended_before : (start : StripState) (rows : List (List Colour)) (old new : StripState) → HasReadFrom start rows old → IsAtEnd old new
     → AreLines start.form start.row start.reference (bits_left start) rows None (bits_left old)

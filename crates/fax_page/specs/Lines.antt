@@ -38,8 +38,8 @@ BeginsBelowEleven b =
     × ((after : List Bool) × (b ≡ replicate zeros false ++ true ∷ after))
 
 -- what stands before the codes of row i of a strip: in MH an EOL, in MR an EOL and a tag bit,
--- nothing in MMR. How the row is coded, with its codes, or the fault, by the zeros before the next 1
--- (T.4, sections 4.1.2 and 4.2.2; T.6, section 2.2.1; that row 0 of MH may lack its EOL is this
+-- nothing in MMR. How the row is coded, and its codes, or the fault, by the zeros before the next
+-- 1 (T.4, sections 4.1.2 and 4.2.2; T.6, section 2.2.1; that row 0 of MH may lack its EOL is this
 -- project's profile)
 abbrev pub IsStart : Coding → ℕ → List Bool → Result (Dimension × List Bool) StripFault → Type 0
 IsStart Mh i b start =
@@ -95,5 +95,6 @@ IsStopInCodes dimension width reference b fault =
 abbrev pub IsCause : StripForm → ℕ → List Colour → List Bool → StripFault → Type 0
 IsCause form i reference b fault =
     IsStart form.coding i b (Err fault)
-    ⊎ ((dimension : Dimension) × (codes : List Bool) × IsStart form.coding i b (Ok (dimension, codes))
+    ⊎ ((dimension : Dimension) × (codes : List Bool)
+    × IsStart form.coding i b (Ok (dimension, codes))
     × IsStopInCodes dimension form.width reference codes fault)

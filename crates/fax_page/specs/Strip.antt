@@ -12,16 +12,13 @@ use Rattle.fax_page.specs.Lines.{StripForm, StripFault, IsCause, IsEndOfLine, Is
 use Rattle.fax_page.specs.Lines.{white_row}
 use Rattle.fax_page.specs.declared.notes.StripNotes.{StripNotes}
 
--- a strip ends before row i: it has all its rows, or the cause is in the way of that row
-abbrev pub EndsAt : StripForm → ℕ → List Colour → List Bool → Option StripFault → Type 0
-EndsAt form i reference b None = i ≡ form.rows
-EndsAt form i reference b (Some fault) = (i < form.rows) × IsCause form i reference b fault
-
--- from row i on, over this reference, the bits are these rows, each over the row before it, then
--- this end, and then the bits that are left
+-- from row i on, over this reference, the bits are these rows, each over the row before it, and
+-- then those that are left: the strip has all its rows, or this fault is in the way of the next
 abbrev pub AreLines : StripForm → ℕ → List Colour → List Bool → List (List Colour)
     → Option StripFault → List Bool → Type 0
-AreLines form i reference b [] end left = (b ≡ left) × EndsAt form i reference b end
+AreLines form i reference b [] None left = (b ≡ left) × (i ≡ form.rows)
+AreLines form i reference b [] (Some fault) left =
+    (b ≡ left) × (i < form.rows) × IsCause form i reference b fault
 AreLines form i reference b (row ∷ rows) end left =
     (rest : List Bool) × (i < form.rows) × IsLine form i reference b row rest
     × AreLines form (i + 1) row rest rows end left

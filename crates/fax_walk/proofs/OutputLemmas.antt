@@ -22,10 +22,10 @@ use Rattle.fax_files.specs.declared.PageForm.{PageForm}
 use Rattle.fax_files.specs.Pbm.{Image, pbm_of}
 use Rattle.fax_files.specs.views.Pbm.{head_bytes}
 use Rattle.fax_files.specs.laws.Pbm.{AreOfWidth}
-use Rattle.fax_files.specs.Written.{Written, WrittenPage, four}
+use Rattle.fax_files.specs.Layout.{Written, WrittenPage, four}
 use Rattle.fax_files.specs.views.Writing.{empty_file}
-use Rattle.fax_files.specs.Written.{page_bytes, directory_place, with_page}
-use Rattle.fax_files.specs.Written.{with_pages, file_of}
+use Rattle.fax_files.specs.Layout.{page_bytes, directory_place, with_page}
+use Rattle.fax_files.specs.Layout.{with_pages, file_of}
 use Rattle.fax_files.specs.Directory.{max_file}
 use Rattle.fax_files.specs.views.Writing.{Writing, with_one_more, length_with, contents}
 use Rattle.fax_walk.specs.declared.options.Options.{Options}

@@ -16,7 +16,7 @@ use Rattle.fax_files.specs.declared.PageForm.{PageForm}
 use Rattle.fax_files.specs.Directory.{Header, header, max_file}
 use Rattle.fax_files.specs.Page.{page}
 use Rattle.fax_files.specs.Pbm.{AreImages, Image, IsImage, is_within_limits}
-use Rattle.fax_files.specs.Written.{file_of}
+use Rattle.fax_files.specs.Layout.{file_of}
 use Rattle.fax_files.specs.laws.Files.{FilesHaveOneChain, FormsAreWhole, FormsAreWithinLimits}
 use Rattle.fax_files.specs.laws.Pbm.{AreOfWidth, AreWritableImages, IsWritableImage, WrittenImagesAreRead}
 use Rattle.fax_files.specs.views.Page.{IsPageForm}

@@ -1,6 +1,6 @@
 -- The rest after a row stands at the end of the bits that the row begins.
 use Rattle.std.proofs.Common.{◌≡◌, ℕ, ◌+◌, ◌≤◌, inl, inr, Bool, true, List, [], ◌∷◌, ◌++◌, length, take, drop, replicate, refl, sym, ap}
-use Rattle.std.proofs.Common.{◌∙◌, subst, arith, append_assoc, length-append, Result, Ok, Err}
+use Rattle.std.proofs.Common.{◌∙◌, subst, arith, append_assoc, length-append, Result, Ok}
 use Rattle.std.proofs.lemmas.List.{drop_at, take-append-drop}
 use Rattle.fax_bits.specs.declared.Colour.{Colour}
 use Rattle.fax_bits.specs.declared.codes.CodeEntry.{CodeEntry}

@@ -33,7 +33,7 @@ use Rattle.fax_walk.specs.Items.{RowPlace, first_at, IsRow}
 use Rattle.fax_walk.specs.Report.{notes_on_strip, IsStripNoted, IsNoted}
 use Rattle.fax_walk.specs.code.Check.{before_page, before_strip, HasChecked, IsCheckedTo, IsDirectoryOfPage}
 use Rattle.fax_walk.specs.code.Check.{AreStripsChecked, IsRestChecked, IsRowInside, IsReadTo}
-use Rattle.fax_walk.specs.code.Stages.{most_rows}
+use Rattle.fax_files.specs.Page.{most_rows}
 use Rattle.fax_walk.proofs.CheckLemmas.{nothing_checked, checked_on, checked_to, ends_at}
 use Rattle.fax_walk.proofs.InOrderLemmas.{ended_at}
 use Rattle.fax_walk.proofs.StripPlaceLemmas.{in_strip, shown_length, strip_count}

@@ -49,7 +49,7 @@ counted : (form : StripForm) (i : ℕ) (reference : List Colour) (b : List Bool)
     (left : List Bool)
     → AreLines form i reference b rows end left → IsCount end (i + length rows) form.rows
 counted form i reference b [] None left lines = omega (arith, lines.1)
-counted form i reference b [] (Some fault) left lines = omega (arith, lines.1.0)
+counted form i reference b [] (Some fault) left lines = omega (arith, lines.1)
 counted form i reference b (row ∷ rows) end left lines =
     let n : i + 1 + length rows ≡ i + length (row ∷ rows) = omega arith in
     subst (λ (k : ℕ). IsCount end k form.rows) n (counted form (i + 1) row lines.0 rows end left lines.3)

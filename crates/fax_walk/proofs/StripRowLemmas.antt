@@ -118,7 +118,7 @@ module _ (by_place : AreBitsByPlace) (file : List ℕ) (endian : Endian) (q : �
     ended : (i : ℕ) (row : List Colour) (b : List Bool) (rows : List (List Colour)) (stop : Option StripFault) (left : List Bool)
         → strip.rows ≤ i → AreLines strip i row b rows stop left → (rows ≡ []) × (stop ≡ None)
     ended i row b [] None left last lines = (refl, refl)
-    ended i row b [] (Some fault) left last lines = absurd (omega (arith, last, lines.1.0))
+    ended i row b [] (Some fault) left last lines = absurd (omega (arith, last, lines.1))
     ended i row b (next ∷ rows) stop left last lines = absurd (omega (arith, last, lines.1))
 
     -- no rows are read
@@ -136,7 +136,7 @@ module _ (by_place : AreBitsByPlace) (file : List ℕ) (endian : Endian) (q : �
         let number = numbers r i r_is within in
         let none : r + 0 ≡ r = omega arith in
         let is : IsInStrip form (place_at r inner) (Some bytes) (Err (Fault p r (Strip fault))) =
-        (fault, rw number.1 lines.1.1, refl) in
+        (fault, rw number.1 lines.2, refl) in
         stays (place_at r inner) r (Reaches (Some fault) (r + 0))
         (rw none (row_at r inner (Some bytes) (Err (Fault p r (Strip fault))) (rw number.0 bytes_are) is))
     lines_from inner r i (row ∷ rows) stop left r_is within (rest, due, line, more) =

@@ -7,7 +7,7 @@ use Rattle.fax_bits.specs.laws.Codes.{AreBitsByPlace}
 use Rattle.fax_files.specs.declared.Endian.TheVariants.{Little}
 use Rattle.fax_files.specs.Directory.{Header, header, IsChain}
 use Rattle.fax_files.specs.laws.Files.{ArePageRows}
-use Rattle.fax_files.specs.Written.{WrittenPage, file_of}
+use Rattle.fax_files.specs.Layout.{WrittenPage, file_of}
 use Rattle.fax_files.specs.laws.Files.{IsWritable, AreWritable, IsReadAt, WrittenFilesAreRead, WrittenRowsAreRead, FormsAreWhole}
 use Rattle.fax_walk.specs.declared.cursor.Cursor.{Cursor}
 use Rattle.fax_walk.specs.declared.end.End.TheVariants.{Proper}

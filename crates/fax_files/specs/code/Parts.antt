@@ -1,8 +1,8 @@
 -- The parts of a written page, as the code puts them one after the other.
 use Rattle.std.specs.Prelude.{ℕ, ◌+◌, ◌*◌, List, ◌++◌, length, map, take, drop, flat_map}
 use Rattle.fax_files.specs.Page.{PageForm}
-use Rattle.fax_files.specs.Written.{two, four, WrittenField, field_of, field_bytes, array_bytes}
-use Rattle.fax_files.specs.Written.{to_link, one_or_place, fields_with}
+use Rattle.fax_files.specs.Layout.{two, four, WrittenField, field_of, field_bytes, array_bytes}
+use Rattle.fax_files.specs.Layout.{to_link, one_or_place, fields_with}
 use Rattle.fax_files.specs.declared.tags.TheConstants as Tags
 
 -- one SHORT, which stands left in the value's four bytes

@@ -12,7 +12,7 @@ use Rattle.fax_files.specs.Directory.{values_place, ◌>>=◌}
 use Rattle.fax_files.specs.declared.FileFault.TheVariants.{BadField, Unsupported, OutOfLimits}
 use Rattle.fax_files.specs.declared.tags.TheConstants as Tags
 use Rattle.fax_files.specs.Page.{Coding, Mh, Mr, Mmr, PageForm, Resolution, is_between}
-use Rattle.fax_files.specs.Page.{rational_of, usual_resolution}
+use Rattle.fax_files.specs.Page.{most_pels, most_rows, rational_of, usual_resolution}
 
 -- an entry's first value
 unfoldable pub first_value : Endian → List ℕ → Entry → Result ℕ FileFault
@@ -33,9 +33,9 @@ scalar_or endian file fields tag absent =
 unfoldable pub page_size : Endian → List ℕ → List Entry → Result (ℕ × ℕ) FileFault
 page_size endian file fields = do
   width ← needed_scalar endian file fields Tags.IMAGE_WIDTH
-  _ ← check (is_between 1 65535 width) (OutOfLimits Tags.IMAGE_WIDTH)
+  _ ← check (is_between 1 most_pels width) (OutOfLimits Tags.IMAGE_WIDTH)
   rows ← needed_scalar endian file fields Tags.IMAGE_LENGTH
-  _ ← check (is_between 1 1000000 rows) (OutOfLimits Tags.IMAGE_LENGTH)
+  _ ← check (is_between 1 most_rows rows) (OutOfLimits Tags.IMAGE_LENGTH)
   Ok (width, rows)
 
 -- whether black is coded as white, and white as black (TIFF 6.0, PhotometricInterpretation)

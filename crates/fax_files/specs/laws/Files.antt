@@ -12,7 +12,7 @@ use Rattle.fax_files.specs.declared.Cause.{Cause}
 use Rattle.fax_files.specs.declared.Cause.TheVariants.{File, Strip}
 use Rattle.fax_files.specs.declared.PageForm.{PageForm}
 use Rattle.fax_files.specs.declared.Endian.{Endian}
-use Rattle.fax_files.specs.Page.{strip_bytes, strip_form, page}
+use Rattle.fax_files.specs.Page.{most_pels, most_rows, strip_bytes, strip_form, page}
 use Rattle.std.specs.Prelude.{◌≡◌, ℕ, ◌+◌, ◌*◌, ◌≤◌, ◌<◌, ◌⊎◌, false, List, [], ◌∷◌, length, take}
 use Rattle.std.specs.Prelude.{drop, slice_index_or, Option, Some, None, Ok, IsTrue, All}
 use Rattle.std.specs.List.{AllZip}
@@ -21,8 +21,8 @@ use Rattle.fax_files.specs.declared.Endian.TheVariants.{Little}
 use Rattle.fax_files.specs.Directory.{Header, number_at, is_directory, next_offset, header, IsChain}
 use Rattle.fax_files.specs.Directory.{max_file}
 use Rattle.fax_files.specs.views.Page.{IsPageForm}
-use Rattle.fax_files.specs.Written.{four, directory_place, Written, with_page, WrittenPage, file_of}
-use Rattle.fax_files.specs.Written.{with_pages}
+use Rattle.fax_files.specs.Layout.{four, directory_place, Written, with_page, WrittenPage, file_of}
+use Rattle.fax_files.specs.Layout.{with_pages}
 use Rattle.fax_files.specs.views.Writing.{empty_file}
 use Rattle.std.specs.Prelude.{◌≡◌, ◌≤◌, ℕ, ◌+◌, ◌*◌, if◌then◌else◌, List, [], ◌∷◌}
 use Rattle.std.specs.Prelude.{◌++◌, length, Vec}
@@ -154,9 +154,9 @@ FilesHaveOneChain = (head : Header) (file : List ℕ) → HasOneChain head file
 -- some, and each but the last as many as the others (TIFF 6.0, RowsPerStrip)
 pub record IsWholeForm (form : PageForm) : Type 0 where
   pub some_width : 1 ≤ form.width
-  pub width : form.width ≤ 65535
+  pub width : form.width ≤ most_pels
   pub some_rows : 1 ≤ form.rows
-  pub rows : form.rows ≤ 1000000
+  pub rows : form.rows ≤ most_rows
   pub some_in_strip : 1 ≤ form.rows_per_strip
   pub enough : form.rows ≤ form.strips * form.rows_per_strip
   pub needed : (s : ℕ) → s < form.strips → s * form.rows_per_strip < form.rows

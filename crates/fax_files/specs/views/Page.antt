@@ -2,6 +2,7 @@
 -- A definition without a citation is this project's profile.
 use Rattle.std.specs.Prelude.{◌≡◌, ◌≢◌, ℕ, ◌<◌, ◌≤◌, true}
 use Rattle.fax_page.specs.declared.Coding.TheVariants.{Mmr}
+use Rattle.fax_files.specs.Page.{most_pels, most_rows}
 use Rattle.fax_files.specs.declared.PageForm.{PageForm}
 use Rattle.std.specs.Int.{div_ceil}
 
@@ -19,9 +20,9 @@ pub record IsGoodRational (value : ℕ × ℕ) : Type 0 where
 -- the limits of a page's form; EOLs are aligned only where rows have them
 pub record IsPageForm (form : PageForm) : Type 0 where
   pub some_width : 1 ≤ form.width
-  pub width : form.width ≤ 65535
+  pub width : form.width ≤ most_pels
   pub some_rows : 1 ≤ form.rows
-  pub rows : form.rows ≤ 1000000
+  pub rows : form.rows ≤ most_rows
   pub some_rows_per_strip : 1 ≤ form.rows_per_strip
   pub rows_per_strip : form.rows_per_strip ≤ form.rows
   pub strips : form.strips ≡ strip_count form.rows form.rows_per_strip

@@ -3,7 +3,7 @@ use Rattle.std.specs.Prelude.{ℕ, ◌+◌, List, [], ◌∷◌}
 use Rattle.std.specs.Prelude.{◌++◌, length, codes, Vec}
 use Rattle.std.specs.declared.alloc.Global.{Global}
 use Rattle.fax_files.specs.declared.PageForm.{PageForm}
-use Rattle.fax_files.specs.Written.{two, four, Written, with_page}
+use Rattle.fax_files.specs.Layout.{two, four, Written, with_page}
 
 -- the eight bytes of a little-endian header whose first offset is still 0
 abbrev pub empty_file : Written

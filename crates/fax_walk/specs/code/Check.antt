@@ -16,7 +16,7 @@ use Rattle.fax_walk.specs.code.Opening.{page_or_end}
 use Rattle.fax_walk.specs.laws.InOrder.{LeadTo}
 use Rattle.fax_walk.specs.Items.{RowItem, RowPlace, first_at, IsRow}
 use Rattle.fax_walk.specs.Report.{IsNoted}
-use Rattle.fax_walk.specs.code.Stages.{most_rows}
+use Rattle.fax_files.specs.Page.{most_rows}
 
 -- how far a file is checked: what is checked next, and the row that is due
 pub record CheckPlace : Type 0 where

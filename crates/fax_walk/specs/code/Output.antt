@@ -11,7 +11,7 @@ use Rattle.fax_files.specs.views.Page.{IsGoodRational, strip_count}
 use Rattle.fax_files.specs.Pbm.{pbm_of}
 use Rattle.fax_files.specs.views.Pbm.{head_bytes}
 use Rattle.fax_files.specs.laws.Pbm.{AreOfWidth}
-use Rattle.fax_files.specs.Written.{with_pages}
+use Rattle.fax_files.specs.Layout.{with_pages}
 use Rattle.fax_files.specs.views.Writing.{empty_file}
 use Rattle.fax_files.specs.Directory.{max_file}
 use Rattle.fax_files.specs.views.Writing.{Writing}
@@ -25,15 +25,16 @@ use Rattle.fax_walk.specs.declared.open_strips.OpenStrips.{OpenStrips}
 use Rattle.fax_walk.specs.declared.output.Output.{Output}
 use Rattle.fax_walk.specs.declared.output.Output.TheVariants.{Images, File, TooLarge}
 use Rattle.fax_walk.specs.declared.sheet.Sheet.{Sheet}
+use Rattle.fax_files.specs.Page.{most_pels, most_rows}
 use Rattle.fax_walk.specs.Converted.{SourcePage, written_page, target_bytes, IsTooLarge}
 use Rattle.fax_walk.specs.code.OpenStrips.{HasPutRows}
 
 -- a sheet within the limits of a page
 pub record IsSheet (sheet : Sheet) : Type 0 where
   pub some_width : 1 ≤ sheet.width
-  pub width : sheet.width ≤ 65535
+  pub width : sheet.width ≤ most_pels
   pub some_rows : 1 ≤ sheet.rows
-  pub rows : sheet.rows ≤ 1000000
+  pub rows : sheet.rows ≤ most_rows
   pub x : IsGoodRational sheet.x
   pub y : IsGoodRational sheet.y
   pub some_unit : 1 ≤ sheet.unit

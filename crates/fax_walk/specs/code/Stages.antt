@@ -11,7 +11,7 @@ use Rattle.fax_page.specs.views.Reader.{StripState}
 use Rattle.fax_files.specs.declared.PageForm.{PageForm}
 use Rattle.fax_files.specs.declared.Cause.{Cause}
 use Rattle.fax_files.specs.views.Page.{IsPageForm}
-use Rattle.fax_files.specs.Page.{strip_form}
+use Rattle.fax_files.specs.Page.{most_rows, strip_form}
 use Rattle.fax_files.specs.views.Chain.{ChainState}
 use Rattle.fax_files.specs.views.Tiff.{TiffDirectory, PageStrips, bytes_of}
 use Rattle.fax_walk.specs.declared.cursor.Cursor.{Cursor}
@@ -68,10 +68,6 @@ row_shown strip (Some row) = row
 abbrev pub IsRoomFor : PageForm → Option (List Colour) → Type 0
 IsRoomFor form None = form.exchanged ≡ false
 IsRoomFor form (Some row) = (form.exchanged ≡ true) × (length row ≡ form.width)
-
--- the most rows of a page
-abbrev pub most_rows : ℕ
-most_rows = 1000000
 
 -- a strip is one of the page's, of its bytes, and no bit stands before its first row, whose
 -- reference is white

@@ -1,6 +1,6 @@
 use Rattle.std.proofs.Common.{◌≡◌, ◌%◌, [], ◌++◌, length, refl, sym, ◌∙◌, append-nil, arith}
 use Rattle.std.specs.Prelude.{replicate}
-use Rattle.fax_files.specs.Written.{offsets_from, array_bytes}
+use Rattle.fax_files.specs.Layout.{offsets_from, array_bytes}
 use Rattle.fax_files.specs.code.Parts.{lengths_of}
 use Rattle.fax_files.specs.views.Writing.{contents}
 use Rattle.fax_files.proofs.WrittenStripLemmas.{length-offsets_from, length-lengths_of}

@@ -1,6 +1,6 @@
 use Rattle.std.proofs.Common.{◌≡◌, ◌++◌, take}
 use Rattle.std.specs.Prelude.{flat_map}
-use Rattle.fax_files.specs.Written.{field_bytes}
+use Rattle.fax_files.specs.Layout.{field_bytes}
 use Rattle.fax_files.proofs.written.put_directory.Given as goal
 
 abbrev pub invariant-loop-field : goal.invariant-loop-field
