@@ -1,5 +1,5 @@
 -- How commands end, by what was read and what was written.
-use Rattle.std.proofs.Common.{◌≡◌, ◌≢◌, ℕ, ◌≤◌, List, [], inl, refl, arith}
+use Rattle.std.proofs.Common.{◌≡◌, ◌≢◌, ℕ, ◌≤◌, List, [], inl, refl, arith, ◌∙◌, sym}
 use Rattle.std.specs.Prelude.{Option, Some, None, IfSome, IfOk, IfErr, OnOk, Result, Ok, Err}
 use Rattle.std.proofs.KnownBytes.{Appends-nil}
 use Rattle.fax_walk.specs.declared.begun.Begun.{Begun}
@@ -21,6 +21,7 @@ use Rattle.fax_tool.specs.code.Outcome.{WritesOutput}
 use Rattle.fax_tool.specs.code.Transfers.{IsGivenInPart}
 use Rattle.fax_tool.proofs.LineLemmas.{one_pages, row_lines}
 use Rattle.fax_tool.proofs.StopLemmas.{NoText, if_same, if_some, leaves_more, stops_in_part}
+use Rattle.fax_tool.proofs.TextLemmas.{first_text}
 
 reason_of : (refusal : Refusal) (input : Input) (output : Output) → IsRead input → HasPrintReason refusal output.counts
     → HasReason refusal input output
@@ -35,7 +36,7 @@ no_lines (Some limit) = omega arith
 -- the text of no line: where to go on
 of_none : (are : List Line → End → Type 0) (max : Option ℕ) (begun : Begun) → ((lines : List Line) × (end : End) × are lines end)
     → (text : List ℕ) → text ≡ next_line (At (begun_cursor begun)) → IsTextOfFirst are max begun text
-of_none are max begun all text is = (all.0, all.1, all.2, 0, omega arith, no_lines max, is)
+of_none are max begun all text is = (all.0, all.1, all.2, 0, omega arith, no_lines max, is ∙ sym (first_text begun 0 all.0 all.1 (omega arith)))
 
 -- the input was not read
 pub unread : (text : List ℕ) (refusal : Refusal) (input : Input) (old : Option (List ℕ)) (counts : Counts) → refusal ≢ Memory

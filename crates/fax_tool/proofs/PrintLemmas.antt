@@ -21,6 +21,7 @@ use Rattle.fax_tool.specs.code.Printing.{IsLastLine, IsNextAfter, IsNextLine, Pr
 use Rattle.fax_tool.specs.code.Transfers.{IsGivenInPart, SendsPart}
 use Rattle.fax_tool.proofs.LineLemmas.{take_at}
 use Rattle.fax_tool.proofs.StopLemmas.{NoText, stops_after, stops_at, stops_in_front, stops_in_part, stops_more}
+use Rattle.fax_tool.proofs.TextLemmas.{first_text}
 
 -- the limit is so much above what is left of it, where there is one
 abbrev pub IsLeftOf : Option ℕ → Option ℕ → ℕ → Type 0
@@ -158,7 +159,8 @@ module _ (tail now : List Line → End → Type 0) (one : IsOne tail) (given : �
       given,
       some.within,
       within_limit max left given some.limit,
-      sym (append_assoc some.sent text next) ∙ ap (λ xs. xs ++ next) (sym some.collected),
+      sym (append_assoc some.sent text next) ∙ ap (λ xs. xs ++ next) (sym some.collected)
+          ∙ sym (first_text begun given some.lines some.end some.within),
     )
 
     -- a write of collected text was refused

@@ -16,11 +16,16 @@ use Rattle.fax_walk.specs.laws.Cursors.{CursorsAreShort, PlacesAreShort, TextsNa
 use Rattle.fax_walk.specs.laws.Tails.{BeginningsHaveOneTail, IsReached, LongTailsGoOn, PlacesAreReached, TailsGoOn}
 use Rattle.fax_walk.specs.Items.{RowItem as Item, IsTailFrom, cursor_after, long_after}
 use Rattle.fax_tool.specs.Run.{AreRowLines}
-use Rattle.fax_tool.specs.Text.{Line, Printed, begun_at, begun_text, named, next_after, next_line, text_of, end_text, ended_text}
+use Rattle.fax_tool.specs.Text.{Line, Printed, begun_at, begun_text, named, next_after, next_line, text_of, end_text}
 use Rattle.fax_tool.specs.Text.{is_cut, line_of_row, texts_of, up_to}
 use Rattle.fax_tool.specs.laws.Runs.{AreAsOneRun, AreRunsOfRows, CutRunsAreReadOn, IsBegun, IsReadAfter, IsRunOfRows, MayBegin, RunsGoOn}
 use Rattle.fax_tool.proofs.LineLemmas.{begins_after, one_rows}
 use Rattle.fax_tool.proofs.TextLemmas.{all_taken}
+
+-- what is written of these lines and their end, or of lines and where to go on
+abbrev ended_text : Bool → Begun → List Line → Option End → Printed
+ended_text long begun lines end =
+    let last = end_text end (named long (next_after begun lines)) in record last { output = texts_of lines ++ last.output }
 
 -- all lines and their end; the first ones, and where to go on; the last line of an end
 abbrev whole_text : Bool → Begun → List Line → End → Printed

@@ -33,6 +33,13 @@ status_is Proper next = refl
 status_is (Fault page row cause) next = refl
 status_is Outside next = refl
 
+-- the text up to a limit that cuts the lines
+pub first_text : (begun : Begun) (count : ℕ) (lines : List Line) (end : End) → count ≤ length lines
+    → (text_of false (Some count) begun lines end).output
+    ≡ texts_of (take count lines) ++ next_line (named false (next_after begun (take count lines)))
+first_text begun count lines end some =
+    let yes : nat_le count (length lines) ≡ true = le-leb count (length lines) some in rw yes refl
+
 -- what is printed after lines where printing ended so: at a limit where to go on
 abbrev ending_text : Option End → Begun → List ℕ
 ending_text ending next = (end_text ending next).output
@@ -114,7 +121,7 @@ module _ (tail now : List Line → End → Type 0) (one : IsOne tail) (same : (a
     count,
     ended.some,
     ended.within,
-    ap (λ (l : List ℕ). texts ++ l) (next_line_is line false is),
+    ap (λ (l : List ℕ). texts ++ l) (next_line_is line false is) ∙ sym (first_text begun count prints.lines prints.end ended.some),
   )
 
   -- the lines and the last line are printed

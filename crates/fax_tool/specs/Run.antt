@@ -1,10 +1,10 @@
 -- What a run leaves on its streams.
 -- A definition without a citation is this project's profile.
-use Rattle.std.specs.Prelude.{◌≡◌, ℕ, ◌<◌, ◌≤◌, ◌⊎◌, Bool, false, List, [], ◌++◌, length, map, take}
-use Rattle.std.specs.Prelude.{Option, None, IfSome, codes, ⊤}
+use Rattle.std.specs.Prelude.{◌≡◌, ℕ, ◌<◌, ◌≤◌, ◌⊎◌, Bool, false, List, [], ◌++◌, length, map}
+use Rattle.std.specs.Prelude.{Option, Some, None, IfSome, codes, ⊤}
 use Rattle.std.specs.Io.KnownBytes.{Appends}
 use Rattle.fax_files.specs.Directory.{max_file}
-use Rattle.fax_tool.specs.Text.{Begun, At, Cursor, End, Line, Printed, begun_at, ended_text}
+use Rattle.fax_tool.specs.Text.{Begun, At, Cursor, End, Line, Printed, begun_at}
 use Rattle.fax_tool.specs.Text.{line_of_page, line_of_row, text_of}
 use Rattle.fax_walk.specs.Pages.{FormItem, IsFormTail}
 use Rattle.fax_walk.specs.Items.{RowItem, IsTailFrom}
@@ -82,13 +82,13 @@ IsTextOfLines are long max begun printed =
     (lines : List Line) × (end : End) × are lines end
     × (printed ≡ text_of long max begun lines end)
 
--- what is written of such lines where memory is refused: the first of them, up to a limit at most,
--- and where to go on
+-- what is written of such lines where memory is refused: that with a limit of so many lines, which
+-- are all of them at most, and no more than its own limit
 abbrev pub IsTextOfFirst : (List Line → End → Type 0) → Option ℕ → Begun → List ℕ → Type 0
 IsTextOfFirst are max begun output =
     (lines : List Line) × (end : End) × are lines end × (count : ℕ) × (count ≤ length lines)
     × IfSome max (λ limit. count ≤ limit)
-    × (output ≡ (ended_text false begun (take count lines) None).output)
+    × (output ≡ (text_of false (Some count) begun lines end).output)
 
 -- what a part begins with
 abbrev pub begun_of : Part → Begun

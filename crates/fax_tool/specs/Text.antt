@@ -110,12 +110,6 @@ end_text (Some (Fault page row cause)) next =
 end_text (Some Outside) next =
     record { output = []; error = codes "fault cursor: CursorOutside\n"; status = 1 }
 
--- what is written of these lines, which began so, and their end, with long cursors or without
-abbrev pub ended_text : Bool → Begun → List Line → Option End → Printed
-ended_text long begun lines end =
-    let last = end_text end (named long (next_after begun lines)) in
-    record last { output = texts_of lines ++ last.output }
-
 -- the lines up to a limit, if there is one; and whether the limit cuts them: also if these are all
 abbrev pub up_to : Option ℕ → List Line → List Line
 up_to max lines = option_map_or (λ limit. take limit lines) max lines
@@ -123,7 +117,10 @@ up_to max lines = option_map_or (λ limit. take limit lines) max lines
 abbrev pub is_cut : Option ℕ → List Line → Bool
 is_cut max lines = option_map_or (λ limit. nat_le limit (length lines)) max false
 
--- what is written of lines and their end, up to a limit, if there is one
+-- what is written of lines, which began so, and their end, up to a limit, if there is one, with
+-- long cursors or without
 abbrev pub text_of : Bool → Option ℕ → Begun → List Line → End → Printed
 text_of long max begun lines end =
-    ended_text long begun (up_to max lines) (if is_cut max lines then None else Some end)
+    let next = named long (next_after begun (up_to max lines)) in
+    let last = end_text (if is_cut max lines then None else Some end) next in
+    record last { output = texts_of (up_to max lines) ++ last.output }

@@ -16,7 +16,7 @@ use Rattle.fax_walk.specs.declared.end.End.{End}
 use Rattle.fax_walk.specs.declared.end.End.TheVariants.{Proper, Fault, Outside}
 use Rattle.fax_walk.specs.declared.opening.OpenFault.{OpenFault}
 use Rattle.fax_walk.specs.declared.opening.OpenFault.TheVariants.{Memory, Ended}
-use Rattle.fax_walk.specs.Pages.{AreFrom, IsPageAt}
+use Rattle.fax_walk.specs.Pages.{AreFrom}
 use Rattle.fax_walk.specs.views.InOrder.{EndsAfter, HasToldNoOther}
 use Rattle.fax_walk.specs.laws.InOrder.{LeadTo, IsLeftOf}
 use Rattle.fax_walk.specs.Pages.{LongPlace}
@@ -26,7 +26,6 @@ use Rattle.fax_walk.specs.views.Walk.{WalkView}
 use Rattle.fax_walk.specs.Items.{IsRow, IsTailFrom, RowItem, RowPlace, begun_cursor, first_at, place_after}
 use Rattle.fax_walk.specs.code.Places.{long_at}
 use Rattle.fax_walk.specs.laws.Tails.{BeginningsHaveOneTail}
-use Rattle.fax_walk.specs.code.Opening.{page_with}
 use Rattle.fax_walk.specs.code.Stages.{GivesNone, GivesRow, IsOpen, IsOpenedAt, PageState, place_of, row_of, skipped}
 use Rattle.fax_walk.specs.declared.end.WalkFault.{WalkFault}
 use Rattle.fax_walk.specs.declared.end.WalkFault.TheVariants.{Memory as NoMemory, AtRow, CursorOutside}
@@ -36,7 +35,6 @@ use Rattle.fax_walk.specs.code.Walk.{IsReadNext, IsSound, ShowsLast, StandsAt}
 use Rattle.fax_walk.proofs.InOrderLemmas.{IsListed, joined, leads_both, number_dropped}
 use Rattle.fax_walk.proofs.OpenPageLemmas.{at_end}
 use Rattle.fax_walk.proofs.RowLawLemmas.{LinesAreRead, cases_after, rows_listed}
-use Rattle.fax_walk.proofs.TailLawLemmas.{any_row}
 
 module _ (file : List ℕ) (begun : Begun) (given : ℕ) (cursor : Cursor) where
   -- the first page is open
@@ -106,12 +104,12 @@ module _ (file : List ℕ) (begun : Begun) (given : ℕ) (cursor : Cursor) where
 
   -- memory was refused for it
   at_page_end : (old : PageState) (last : IsAfterItem file begun given cursor (place_of old)) → row_of old ≡ old.form.rows
-      → last.item.row + 1 ≡ last.here.form.rows
+      → last.item.row + 1 ≡ last.item.form.rows
   at_page_end old last all =
       let within = last.within in
-      let next : first_at (old.page + 1) 0 ≡ place_after last.here.form last.item =
+      let next : first_at (old.page + 1) 0 ≡ place_after last.item.form last.item =
       sym (at_end old.form old.page (row_of old) _ all) ∙ last.to_is in
-      elim (cases_after last.here.form last.item) [
+      elim (cases_after last.item.form last.item) [
         | inl (past, is) ↦ omega (arith, past, within)
         | inr (inl (less, first, is)) ↦ let rows = ap (λ (t : RowPlace). t.row) (next ∙ is) in absurd (omega (arith, rows))
         | inr (inr (less, inside, is)) ↦ let rows = ap (λ (t : RowPlace). t.row) (next ∙ is) in absurd (omega (arith, rows))
@@ -125,10 +123,8 @@ module _ (file : List ℕ) (begun : Begun) (given : ℕ) (cursor : Cursor) where
     | inr last ↦ inr (
       last.before,
       last.item,
-      last.here,
       last.count,
       last.number,
-      any_row file (record { page = last.item.page; row = last.item.row }) (last.item.row + 1) last.here last.page,
       at_page_end old last all,
     )
   ]
@@ -203,19 +199,18 @@ module _ (by_place : AreBitsByPlace) (lines_read : LinesAreRead) (chains : Files
       last = record {
         before = given;
         item = gives.item;
-        here = page_with old.directory old.form;
         count = refl;
         number = number;
-        page = subst (λ (f : List ℕ). IsPageAt f (record { page = gives.item.page; row = gives.item.row })
-            (Ok (page_with old.directory old.form))) reads.file_is gives.here;
-        within = gives.within;
+        within = subst (λ (f : PageForm). gives.item.row < f.rows) (sym form_same) gives.within;
         cursor_is =
             let rows : row_of new ≡ gives.item.row + 1 = gives.next_row ∙ ap (λ (i : RowItem). i.row + 1) (sym gives.item_is) in
             let pages : new.page ≡ gives.item.page = gives.same.page ∙ ap (λ (i : RowItem). i.page) (sym gives.item_is) in
             after_is ∙ rw (rows, pages) refl;
-        to_is = gives.after;
-        form_is = ap (λ (i : RowItem). i.form) gives.item_is;
+        to_is = gives.after ∙ ap (λ (f : PageForm). place_after f gives.item) (sym form_same);
       }
+        where
+          form_same : gives.item.form ≡ old.form
+          form_same = ap (λ (i : RowItem). i.form) gives.item_is
 
       pub gone_on : GoesOnFrom file begun (given + 1) after (Some new) × ShowsLast file begun (given + 1) after (Some new)
       unfolding last
@@ -370,8 +365,7 @@ module _ (walk : WalkView) (cursor : Cursor) (page : Option PageState) where
     | inl first ↦ absurd (omega (arith, some, first.0))
     | inr (on, is, last) ↦
         let same : on ≡ at = cc in
-        let to : place_of at ≡ place_after last.item.form last.item =
-        ap place_of (sym same) ∙ last.to_is ∙ ap (λ (f : PageForm). place_after f last.item) (sym last.form_is) in
+        let to : place_of at ≡ place_after last.item.form last.item = ap place_of (sym same) ∙ last.to_is in
         inr (
           last.before,
           last.item,

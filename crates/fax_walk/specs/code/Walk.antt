@@ -11,7 +11,6 @@ use Rattle.fax_walk.specs.declared.end.WalkFault.TheVariants.{Memory, AtRow, Cur
 use Rattle.fax_walk.specs.declared.opening.OpenFault.{OpenFault}
 use Rattle.fax_walk.specs.declared.opening.OpenFault.TheVariants.{Memory as NoMemory, Ended}
 use Rattle.fax_walk.specs.laws.InOrder.{LeadTo}
-use Rattle.fax_walk.specs.Pages.{FilePage, IsPageAt}
 use Rattle.fax_walk.specs.Items.{RowItem, RowPlace, IsRow, IsTailFrom, begun_cursor, cursor_after}
 use Rattle.fax_walk.specs.code.Places.{Begins}
 use Rattle.fax_walk.specs.Items.{place_after}
@@ -78,14 +77,11 @@ pub record IsAfterItem (file : List ℕ) (begun : Begun) (given : ℕ) (cursor :
     (to : RowPlace) : Type 0 where
   pub before : ℕ
   pub item : RowItem
-  pub here : FilePage
   pub count : given ≡ before + 1
   pub number : IsItemNumber file begun before item
-  pub page : IsPageAt file (record { page = item.page; row = item.row }) (Ok here)
-  pub within : item.row < here.form.rows
+  pub within : item.row < item.form.rows
   pub cursor_is : cursor ≡ cursor_after item
-  pub to_is : to ≡ place_after here.form item
-  pub form_is : item.form ≡ here.form
+  pub to_is : to ≡ place_after item.form item
 
 -- the cursor stands where the walk began, or after the item that was handed out last
 abbrev pub StandsAt : List ℕ → Begun → ℕ → Cursor → RowPlace → Type 0

@@ -8,7 +8,7 @@ use Rattle.fax_walk.specs.declared.end.End.TheVariants.{Proper, Fault, Outside}
 use Rattle.fax_walk.specs.declared.end.WalkFault.{WalkFault}
 use Rattle.fax_walk.specs.declared.end.WalkFault.TheVariants.{Memory, AtRow, CursorOutside}
 use Rattle.fax_walk.specs.Pages.{start}
-use Rattle.fax_walk.specs.views.InOrder.{IsNumber, EndsAfter, HasToldNoOther}
+use Rattle.fax_walk.specs.views.InOrder.{IsAfterLast, IsNumber, EndsAfter, HasToldNoOther}
 use Rattle.fax_walk.specs.Pages.{FormItem, IsFormTail}
 
 -- a reader of pages: its file, the cursor that it began with, how many pages it handed out, and how
@@ -31,12 +31,16 @@ pages_start file = pages_from file start
 abbrev pub IsTailOf : PagesView → List FormItem → End → Type 0
 IsTailOf pages = IsFormTail pages.file pages.begun
 
+-- fewer pages than these are handed out: their number has 32 bits
+abbrev pub page_limit : ℕ
+page_limit = 2 ^ 32
+
 -- this page is handed out: it is number `given` of what the reader hands out
 pub record HandsOutPage (old : PagesView) (item : FormItem) (new : PagesView) : Type 0 where
   pub untold : old.told ≡ None
   pub number : IsNumber (IsTailOf old) old.given item
   pub limits : IsPageForm item.form
-  pub few : old.given + 1 < 2 ^ 32
+  pub few : old.given + 1 < page_limit
   pub new_is : new ≡ record old { given = old.given + 1 }
 
 -- the pages end so after those that were handed out, and no other end was told
@@ -56,7 +60,6 @@ IsNextPage old (Err Memory) new = ⊥
 
 -- the cursor after the page that was handed out last, or the one that the reader began with
 abbrev pub IsCursorOf : PagesView → Cursor → Type 0
-IsCursorOf pages at =
-    ((pages.given ≡ 0) × (at ≡ pages.begun))
-    ⊎ ((before : ℕ) × (item : FormItem) × (pages.given ≡ before + 1)
-    × IsNumber (IsTailOf pages) before item × (at ≡ record { page = item.page + 1; row = 0 }))
+IsCursorOf pages =
+    IsAfterLast (IsTailOf pages) pages.given pages.begun
+    (λ item. record { page = item.page + 1; row = 0 })

@@ -14,8 +14,8 @@ use Rattle.fax_walk.specs.declared.walk.Place.{Place}
 use Rattle.fax_walk.specs.declared.walk.PlaceInside.{PlaceInside}
 use Rattle.fax_rows.specs.Rows.{runs_of}
 use Rattle.fax_walk.specs.Pages.{start, LongPlace}
-use Rattle.fax_walk.specs.views.InOrder.{IsNumber, EndsAfter, HasToldNoOther}
-use Rattle.fax_walk.specs.Pages.{FilePage, IsOnPage, IsPageAt}
+use Rattle.fax_walk.specs.views.InOrder.{IsAfterLast, IsNumber, EndsAfter, HasToldNoOther}
+use Rattle.fax_walk.specs.Pages.{IsOnPage}
 use Rattle.fax_walk.specs.Items.{IsBegunOn, RowItem, RowPlace, IsTailFrom, begun_cursor, cursor_after}
 use Rattle.fax_walk.specs.Items.{long_after}
 
@@ -48,9 +48,8 @@ IsItemNumber file begun n item = IsNumber (IsTailFrom file begun) n item
 abbrev pub EntersPage : List ℕ → Begun → ℕ → Type 0
 EntersPage file begun n =
     (n ≡ 0)
-    ⊎ ((before : ℕ) × (item : RowItem) × (here : FilePage) × (n ≡ before + 1)
-    × IsItemNumber file begun before item
-    × IsPageAt file (cursor_after item) (Ok here) × (item.row + 1 ≡ here.form.rows))
+    ⊎ ((before : ℕ) × (item : RowItem) × (n ≡ before + 1)
+    × IsItemNumber file begun before item × (item.row + 1 ≡ item.form.rows))
 
 -- fewer rows than these are handed out: a file has no more pages than bytes, and a page at most
 -- 1,000,000 rows
@@ -88,11 +87,8 @@ IsNext old (Err Memory) new =
 
 -- the cursor after the row that was handed out last, or the one that the walk began with
 abbrev pub IsCursorOf : WalkView → Cursor → Type 0
-IsCursorOf walk at =
-    ((walk.given ≡ 0) × (at ≡ begun_cursor walk.begun))
-    ⊎ ((before : ℕ) × (item : RowItem) × (walk.given ≡ before + 1)
-    × IsItemNumber walk.file walk.begun before item
-    × (at ≡ cursor_after item))
+IsCursorOf walk =
+    IsAfterLast (IsTailOf walk) walk.given (begun_cursor walk.begun) cursor_after
 
 -- the place inside a strip that a walk began with, if it did
 abbrev pub begun_place : Begun → Option LongPlace
@@ -102,11 +98,7 @@ begun_place (Inside place) = Some place
 -- the place inside a strip after the row that was handed out last, or the one that the walk began
 -- with, if there is one
 abbrev pub IsLongOf : WalkView → Option LongPlace → Type 0
-IsLongOf walk place =
-    ((walk.given ≡ 0) × (place ≡ begun_place walk.begun))
-    ⊎ ((before : ℕ) × (item : RowItem) × (walk.given ≡ before + 1)
-    × IsItemNumber walk.file walk.begun before item
-    × (place ≡ long_after item))
+IsLongOf walk = IsAfterLast (IsTailOf walk) walk.given (begun_place walk.begun) long_after
 
 -- a place inside a strip that is lent, if there is one, with the runs of the row before it
 abbrev pub place_inside : Option PlaceInside → Option LongPlace
