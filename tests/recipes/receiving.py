@@ -261,7 +261,7 @@ def swept_again(room, commands, good):
     yield "it is killed", 3 <= before < good + 1, True
     files_of = [name for name in os.listdir(room.path + "/tmp")]
     for name in files_of:
-        shutil.rmtree(f"{room.path}/tmp/{name}")  # what SIGKILL leaves
+        shutil.rmtree(os.path.join(room.path, "tmp", name))  # what SIGKILL leaves
     with open(room(".faxpages-sweep/seen"), "ab") as file:
         file.write(b"1:2:3")  # a line that is cut
     _, shown, _ = room.bash(commands)

@@ -29,7 +29,7 @@ class Room:
 
     def __call__(self, name):
         """The place of a file."""
-        return f"{self.path}/work/{name}"
+        return os.path.join(self.path, "work", name)
 
     def environment(self, more):
         return dict(os.environ, PATH=f"{self.path}/bin:{os.environ['PATH']}", HOME=f"{self.path}/work",
