@@ -142,6 +142,12 @@ line_compared form i reference row b rest other false none read = record {
   none = λ h. absurd (cc h);
 }
 
+-- a row that is only read, since some row before it is coded otherwise
+pub line_only_read : (form : StripForm) (i : ℕ) (reference row : List Colour) (b rest : List Bool) (other : Bool) → other ≡ true
+    → IsLine form i reference b row rest → IsLineNoted form i reference b row rest other other
+line_only_read form i reference row b rest other is line =
+    record { line = line; kept = λ h. h; found = λ h. inl is; none = λ h. absurd (cc (sym is ∙ h)) }
+
 -- a row whose codes are seen to be chosen
 pub line_seen : (form : StripForm) (i : ℕ) (reference row : List Colour) (b codes rest : List Bool) (dimension : Dimension)
     → IsStarted form.coding i b dimension codes → BeginsBelowEleven codes → IsRowIn dimension form.width reference codes row rest

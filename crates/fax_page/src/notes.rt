@@ -84,73 +84,83 @@ fn read_seen(
     }
 }
 
-/// Reads row `i` of a strip into `row`, of which nothing is said after a fault, and answers whether
-/// its codes are those that T.4 chooses. Only where that is not seen while it is read, the row is
-/// written and compared. What was in the sink is forgotten then.
-fn read_choice(
-    source: &mut BitSource,
+/// A strip that is read for its notes, row by row.
+#[derive(Drop)]
+struct NotedStrip<'a> {
+    source: BitSource<'a>,
     form: StripForm,
-    i: u32,
-    reference: &Row,
-    row: &mut Row,
-    sink: &mut BitSink,
-) -> Result<bool, NotesFault>
-    requires reference_width { length reference.now ≡ form.width }
-    requires width { length row.old ≡ form.width }
-    requires limits { IsStripForm form }
-    ensures ok { IfOk result
-        (Code.IsLineRead form i reference.now source.old.left row.new source.new.left) }
-    ensures err { IfErr result (Code.IsLineFault form i reference.now source.old.left) }
-    ensures same_width { length row.new ≡ length row.old }
-{
-    fax_rows::laws::one_dimensional_rows_are_read_as_nothing_else();
-    fax_rows::laws::two_dimensional_rows_are_read_as_nothing_else();
-    let dimension = match read_start(source, form.coding, i) {
-        Ok(dimension) => dimension,
-        Err(fault) => return Err(NotesFault::Strip { row: i, fault }),
-    };
-    let codes = source.again();
-    match read_seen(source, dimension, reference, row) {
-        Ok(true) => return Ok(true),
-        Ok(false) => {}
-        Err(cause) => {
-            let fault = stop(&codes, cause);
-            return Err(NotesFault::Strip { row: i, fault });
-        }
-    }
-    sink.clear();
-    put_codes(sink, dimension, reference, row)?;
-    Ok(sink.begins(&codes))
+    /// The row before the one that is due, white before the first one.
+    reference: Row,
+    /// Where the row that is due is read to.
+    row: Row,
+    /// Where a row is written that is to be compared.
+    sink: BitSink,
+    /// Whether the codes of some row up to here are others than T.4 chooses.
+    not_t4_choice: bool,
 }
 
-/// Reads row `i` of a strip into `row`, of which nothing is said after a fault, and answers whether
-/// the codes of some row up to it are others than T.4 chooses, where it is told whether those of a
-/// row before it are. Then only the row is read.
-fn read_noted(
-    source: &mut BitSource,
-    form: StripForm,
-    i: u32,
-    reference: &Row,
-    row: &mut Row,
-    sink: &mut BitSink,
-    other: bool,
-) -> Result<bool, NotesFault>
-    requires reference_width { length reference.now ≡ form.width }
-    requires width { length row.old ≡ form.width }
-    requires limits { IsStripForm form }
-    ensures ok { IfOk result
-        (Code.IsLineNoted form i reference.now source.old.left row.new source.new.left other) }
-    ensures err { IfErr result (Code.IsLineFault form i reference.now source.old.left) }
-    ensures same_width { length row.new ≡ length row.old }
-{
-    if other {
-        return match read_line(source, form, i, reference, row) {
-            Ok(()) => Ok(true),
-            Err(fault) => Err(NotesFault::Strip { row: i, fault }),
+impl<'a> NotedStrip<'a> {
+    /// Reads row `i` into `row`, of which nothing is said after a fault, and answers whether its
+    /// codes are those that T.4 chooses. Only where that is not seen while it is read, the row is
+    /// written and compared.
+    fn read_choice(&mut self, i: u32) -> Result<bool, NotesFault>
+        requires { Code.IsNoting self.old }
+        ensures ok { IfOk result (Code.IsLineRead self.old.form i self.old.reference
+            self.old.source.left self.new.row self.new.source.left) }
+        ensures err { IfErr result
+            (Code.IsLineFault self.old.form i self.old.reference self.old.source.left) }
+        ensures same_width { length self.new.row ≡ length self.old.row }
+        ensures same_reference { self.new.reference ≡ self.old.reference }
+        ensures same_form { self.new.form ≡ self.old.form }
+    {
+        fax_rows::laws::one_dimensional_rows_are_read_as_nothing_else();
+        fax_rows::laws::two_dimensional_rows_are_read_as_nothing_else();
+        let dimension = match read_start(&mut self.source, self.form.coding, i) {
+            Ok(dimension) => dimension,
+            Err(fault) => return Err(NotesFault::Strip { row: i, fault }),
         };
+        let codes = self.source.again();
+        match read_seen(&mut self.source, dimension, &self.reference, &mut self.row) {
+            Ok(true) => return Ok(true),
+            Ok(false) => {}
+            Err(cause) => {
+                let fault = stop(&codes, cause);
+                return Err(NotesFault::Strip { row: i, fault });
+            }
+        }
+        self.sink.clear();
+        put_codes(&mut self.sink, dimension, &self.reference, &self.row)?;
+        Ok(self.sink.begins(&codes))
     }
-    let chosen = read_choice(source, form, i, reference, row, sink)?;
-    Ok(!chosen)
+
+    /// Reads row `i`, the one that is due. Once the codes of a row are others than T.4 chooses, rows
+    /// are only read.
+    fn read_row(&mut self, i: u32) -> Result<(), NotesFault>
+        requires { Code.IsNoting self.old }
+        ensures ok { OnOk result (Code.IsLineNoted self.old.form i self.old.reference
+            self.old.source.left self.new.reference self.new.source.left
+            self.old.not_t4_choice self.new.not_t4_choice) }
+        ensures err { IfErr result
+            (Code.IsLineFault self.old.form i self.old.reference self.old.source.left) }
+        ensures still { Code.IsNoting self.new }
+        ensures same_form { self.new.form ≡ self.old.form }
+    {
+        if self.not_t4_choice {
+            if let Err(fault) = read_line(
+                &mut self.source,
+                self.form,
+                i,
+                &self.reference,
+                &mut self.row,
+            ) {
+                return Err(NotesFault::Strip { row: i, fault });
+            }
+        } else {
+            self.not_t4_choice = !self.read_choice(i)?;
+        }
+        swap(&mut self.reference, &mut self.row);
+        Ok(())
+    }
 }
 
 /// Goes after an EOL of a return to control, and answers whether there is one (T.4, sections 4.1.4
@@ -233,22 +243,16 @@ pub fn strip_notes(alloc: Global, bytes: &[u8], form: StripForm) -> Result<Strip
     ensures err { IfErr result (IsNotesFault form (bits form.order bytes.now)) }
 {
     crate::laws::lines_are_read_in_one_way();
-    let mut source = BitSource::new(bytes, form.order);
-    let mut reference = Row::white(alloc, form.width)?;
-    let mut row = Row::white(alloc, form.width)?;
-    let mut sink = BitSink::new(alloc, form.order);
-    let mut not_t4_choice = false;
+    let mut strip = NotedStrip {
+        source: BitSource::new(bytes, form.order),
+        form,
+        reference: Row::white(alloc, form.width)?,
+        row: Row::white(alloc, form.width)?,
+        sink: BitSink::new(alloc, form.order),
+        not_t4_choice: false,
+    };
     for i in 0..form.rows {
-        not_t4_choice = read_noted(
-            &mut source,
-            form,
-            i,
-            &reference,
-            &mut row,
-            &mut sink,
-            not_t4_choice,
-        )?;
-        swap(&mut reference, &mut row);
+        strip.read_row(i)?;
     }
-    Ok(notes_after(&source, form.coding, not_t4_choice))
+    Ok(notes_after(&strip.source, form.coding, strip.not_t4_choice))
 }

@@ -186,6 +186,15 @@ impl<'a> StripReader<'a> {
         }
     }
 
+    /// The number of the row that is due in its strip, from 0, or how many rows the strip has, once
+    /// all are read. After a fault it is what it was before that call.
+    pub fn row(&self) -> u32
+        ensures row { result ≡ self.now.row }
+        ensures within { result ≤ self.now.form.rows }
+    {
+        self.row
+    }
+
     /// How many bits of the strip stand before the row that is due. After a fault they are what
     /// they were before that call.
     pub fn bit_place(&self) -> u64

@@ -19,7 +19,7 @@ use Rattle.fax_files.specs.declared.FileFault.TheVariants.{StripOutside}
 use Rattle.fax_files.specs.declared.Cause.TheVariants.{File, Strip}
 use Rattle.fax_files.specs.declared.PageForm.{PageForm}
 use Rattle.fax_files.specs.views.Page.{IsPageForm}
-use Rattle.fax_files.specs.Page.{strip_form}
+use Rattle.fax_files.specs.Page.{most_rows, strip_form}
 use Rattle.fax_files.specs.views.Chain.{ChainState}
 use Rattle.fax_files.specs.views.Tiff.{TiffDirectory, bytes_of}
 use Rattle.fax_walk.specs.declared.end.End.{End}
@@ -218,6 +218,13 @@ rows_within page limits within form_is within_strip =
     let begins = strip_begins page.form page.number limits within in
     omega (arith, count, begins, within_strip)
 
+-- so few rows are read that they can be counted
+pub few_read : (page : PageState) → IsPageForm page.form → page.number < page.form.strips → page.strip.form ≡ strip_form page.form page.number
+    → page.strip.row ≤ page.strip.form.rows → page.page < 2 ^ 32 → page.read ≤ page.page * most_rows + row_of page → page.read < 2 ^ 53
+few_read page limits within form_is within_strip some_page few =
+    let rows = rows_within page limits within form_is within_strip in
+    omega (arith, rows, limits.rows, some_page, few)
+
 -- a page that is open, as its fields have it
 abbrev pub state : ℕ → ChainState → TiffDirectory → PageForm → ℕ → ℕ → StripState → List Colour → ℕ → PageState
 state page chain directory form first number strip shown read = record {
@@ -235,12 +242,13 @@ state page chain directory form first number strip shown read = record {
 -- the next strip begins
 pub next_keeps : (page : PageState) (strip : StripState) (shown : List Colour) → IsPageForm page.form
     → IsStripOf page.form page.directory page.number page.strip → page.strip.row ≡ page.strip.form.rows → row_of page < page.form.rows
-    → strip.row ≡ 0 → KeepsPlace page (record page { number = page.number + 1; strip = strip; shown = shown })
-next_keeps page strip shown limits strip_is all_read due none = record {
+    → strip.row ≡ 0 → (read : ℕ) → read ≡ page.read
+    → KeepsPlace page (record page { number = page.number + 1; strip = strip; shown = shown; read = read })
+next_keeps page strip shown limits strip_is all_read due none now_read read_is = record {
   same = record { page = refl; form = refl; first = refl; directory = refl };
   row = next_row_is page limits strip_is all_read due strip none;
   place = next_place page limits strip_is all_read due strip none;
-  read = refl;
+  read = read_is;
 }
 
 -- the next strip is not there
@@ -255,16 +263,16 @@ module _ (old page : PageState) (keeps : KeepsPlace old page) where
   pub reads_kept : (strip : StripState) (shown : List Colour) → IsOpen old → IsPageForm page.form
       → IsStripOf page.form page.directory page.number page.strip
       → IsFilePage page.page page.chain page.directory page.form → ReadsRow page.strip strip → shown ≡ exchanged page.form strip.reference
-      → strip.place ≤ 8 * length strip.bytes → ReadsPageRow old (record page { strip = strip; shown = shown; read = page.read + 1 })
-  reads_kept strip shown is_open limits strip_is its reads shown_is within =
-      let new : PageState = record page { strip = strip; shown = shown; read = page.read + 1 } in
+      → (read : ℕ) → read ≡ page.read + 1 → ReadsPageRow old (record page { strip = strip; shown = shown; read = read })
+  reads_kept strip shown is_open limits strip_is its reads shown_is now_read read_is =
+      let new : PageState = record page { strip = strip; shown = shown; read = now_read } in
       let due = reads.due in
       let same = keeps.same in
       let item : RowItem = record { page = page.page; form = page.form; row = row_of page; pels = shown; bits = strip.place } in
       let its_item : RowItem = item_of old (row_of old) new in
       let item_is : item ≡ its_item = rw (same.page, keeps.row, same.form) refl in
-      let step = row_read page limits strip_is due its strip shown reads shown_is within in
-      let after = place_next page limits strip_is due its strip shown reads shown_is within in
+      let step = row_read page limits strip_is due its strip shown reads shown_is reads.within in
+      let after = place_next page limits strip_is due its strip shown reads shown_is reads.within in
       let read : IsRow page.directory.file (place_of page) (Ok (its_item, place_of new)) =
       subst (λ (i : RowItem). IsRow page.directory.file (place_of page) (Ok (i, place_of new))) item_is
       (subst (λ (t : RowPlace). IsRow page.directory.file (place_of page) (Ok (item, t))) (sym after) step) in
@@ -274,7 +282,7 @@ module _ (old page : PageState) (keeps : KeepsPlace old page) where
         step = subst (λ (d : TiffDirectory). IsRow d.file (place_of old) (Ok (its_item, place_of new))) same.directory
             (subst (λ (t : RowPlace). IsRow page.directory.file t (Ok (its_item, place_of new))) keeps.place read);
         next_row = omega (arith, reads.next_row, keeps.row);
-        one_more = omega (arith, keeps.read);
+        one_more = omega (arith, keeps.read, read_is);
         after = after ∙ ap (λ (f : PageForm). place_after f item) same.form ∙ ap (place_after old.form) item_is;
       }
 
@@ -284,13 +292,25 @@ module _ (old page : PageState) (keeps : KeepsPlace old page) where
     told = (stops.told.0, rw (keeps.same.page, keeps.row) at stops.told.1);
   }
 
+-- a fault leaves the reader of a strip at its row
+fault_row : (old new : StripState) (fault : StripFault) → IsAdvance old (Err fault) new → new.row ≡ old.row
+fault_row old new fault (inl again) = ap (λ (s : StripState). s.row) again.unchanged
+fault_row old new fault (inr meets) = ap (λ (s : StripState). s.row) meets.told
+
 -- a fault is met
-pub fault_stops : (page : PageState) (strip : StripState) (fault : StripFault) → IsOpen page → IsPageForm page.form
+fault_met : (page : PageState) (strip : StripState) (fault : StripFault) → IsOpen page → IsPageForm page.form
     → IsStripOf page.form page.directory page.number page.strip → IsFilePage page.page page.chain page.directory page.form
     → IsAdvance page.strip (Err fault) strip → StopsAtRow page (Fault page.page (row_of page) (Strip fault))
-fault_stops page strip fault is_open limits strip_is its (inl again) = absurd (cc (is_open.no_fault, again.told))
-fault_stops page strip fault is_open limits strip_is its (inr meets) =
+fault_met page strip fault is_open limits strip_is its (inl again) = absurd (cc (is_open.no_fault, again.told))
+fault_met page strip fault is_open limits strip_is its (inr meets) =
     record { stop = row_fault page limits strip_is meets.due its fault strip meets; told = (Strip fault, refl) }
+
+pub fault_stops : (page : PageState) (strip : StripState) (fault : StripFault) → IsOpen page → IsPageForm page.form
+    → IsStripOf page.form page.directory page.number page.strip → IsFilePage page.page page.chain page.directory page.form
+    → IsAdvance page.strip (Err fault) strip → (row : ℕ) → row ≡ page.number * page.form.rows_per_strip + strip.row
+    → StopsAtRow page (Fault page.page row (Strip fault))
+fault_stops page strip fault is_open limits strip_is its answers row due =
+    rw (due, fault_row page.strip strip fault answers) (fault_met page strip fault is_open limits strip_is its answers)
 
 -- rows that are not handed out
 pub none_skipped : (page : PageState) → HasSkipped page page []
@@ -380,10 +400,10 @@ module _ (due : PageDue) (first : ℕ) (its : IsFilePage due.page due.chain due.
     told = refl;
   }
 
-  pub is_opened : (strip : StripState) (shown : List Colour) (read : ℕ) → strip.row ≡ 0 → strip.fault ≡ None
-      → IsOpenedAt due.directory.file (first_at due.page begins) (row_in_strip due.form first) read
-      (state due.page due.chain due.directory due.form first number strip shown read)
-  is_opened strip shown read none no_fault =
+  pub is_opened : (strip : StripState) (shown : List Colour) (before : ℕ) → strip.row ≡ 0 → strip.fault ≡ None → strip.read ≡ 0
+      → IsOpenedAt due.directory.file (first_at due.page begins) (row_in_strip due.form first) before
+      (state due.page due.chain due.directory due.form first number strip shown (before + strip.read))
+  is_opened strip shown before none no_fault unread =
       let at : begins + strip.row ≡ begins = omega (arith, none) in
       let below : begins + strip.row < due.form.rows = omega (arith, at, begins_below, there) in
       record {
@@ -392,7 +412,7 @@ module _ (due : PageDue) (first : ℕ) (its : IsFilePage due.page due.chain due.
         row_due = below;
         place_is = rw at (at_first due.form due.page begins _ (omega (arith, begins_below, there)) begin_numbers.1);
         skips = ap (λ (r : ℕ). first - r) at ∙ sym (mod-eq-sub-div-mul first due.form.rows_per_strip);
-        read_is = refl;
+        read_is = omega (arith, unread);
       }
 
 -- the first row of a page is that of its first strip
@@ -465,10 +485,10 @@ module _ (due : PageDue) (place : LongPlace) (its : IsFilePage due.page due.chai
     no_place (Ended end) (end_is, not) = rw end_is (not_inner not)
 
     pub opened_inside : (strip : StripState) (shown : List Colour) → strip.row ≡ row_in_strip due.form place.at.row → strip.fault ≡ None
-        → strip.place ≡ place.bits → strip.reference ≡ pels_of White place.runs
+        → strip.place ≡ place.bits → strip.reference ≡ pels_of White place.runs → strip.read ≡ 0
         → IsOpenedAt due.directory.file (inner_at place) 0 0
-        (state due.page due.chain due.directory due.form place.at.row its_number strip shown 0)
-    opened_inside strip shown row no_fault bits_are reference_is =
+        (state due.page due.chain due.directory due.form place.at.row its_number strip shown (0 + strip.read))
+    opened_inside strip shown row no_fault bits_are reference_is unread =
         let parts = div-add-mod place.at.row due.form.rows_per_strip in
         let at : its_number * due.form.rows_per_strip + strip.row ≡ place.at.row = omega (arith, parts, row) in
         record {
@@ -477,7 +497,7 @@ module _ (due : PageDue) (place : LongPlace) (its : IsFilePage due.page due.chai
           row_due = omega (arith, at, below);
           place_is = rw (at, bits_are, reference_is, ← same_page) (at_inner due.form due.page place.at.row _ below some);
           skips = omega (arith, at);
-          read_is = refl;
+          read_is = omega (arith, unread);
         }
 
 -- the place inside the strip after the row that was read last
@@ -512,3 +532,7 @@ module _ (page : PageState) (limits : IsPageForm page.form) (within : page.numbe
     inside =
         at_inner page.form page.page (row_of page) _ (row_below page limits strip_is due)
         (omega (arith, some, (numbers page limits strip_is due).1))
+
+    pub long_some : (bits : ℕ) → bits ≡ page.strip.place → bits ≤ 4294967295
+        → Some (record { at = record { page = page.page; row = row_of page }; bits = bits; runs = runs_of page.strip.reference }) ≡ long_of
+    long_some bits is few = rw (inside, ← is) (grind (arith, nat_tests, few))

@@ -32,18 +32,17 @@ pub(crate) struct OpenPage<'a> {
     strips: Strips<'a>,
     /// The first row that is handed out. Those before it in its strip are read for it alone.
     first: u32,
-    /// The row that is due.
-    row: u32,
     /// The number of the strip that is read.
     number: u32,
     strip: StripReader<'a>,
     /// Where colours are exchanged, if they are: the row that was read last, as it is handed out.
     exchanged: Option<Row>,
-    /// How many rows the walk has read.
-    read: u64,
+    /// How many rows the walk read before it opened the page.
+    before: u64,
 }
 
 impl<'a> Model for OpenPage<'a> {
+    ghost use Rattle.std.specs.Prelude.{◌+◌};
     ghost use Rattle.fax_walk.specs.code.Stages.{PageState, IsReadingPage, row_shown};
 
     ghost Value = { PageState };
@@ -57,11 +56,11 @@ impl<'a> Model for OpenPage<'a> {
       number = p.number;
       strip = p.strip;
       shown = row_shown p.strip p.exchanged;
-      read = p.read;
+      read = p.before + p.strip.read;
     } };
 
     ghost invariant = { λ p.
-        IsReadingPage p.page p.chain p.form p.strips p.number p.row p.strip p.exchanged p.read };
+        IsReadingPage p.page p.chain p.form p.strips p.number p.strip p.exchanged p.before };
 }
 
 /// A row for colours that are exchanged, where they are.
@@ -82,13 +81,13 @@ pub(crate) fn open<'a>(
     alloc: Global,
     due: DuePage<'a>,
     first: u32,
-    read: u64,
+    before: u64,
 ) -> Result<OpenPage<'a>, OpenFault>
     requires there { first < due.form.rows }
-    requires few { read ≤ due.page * 1000000 }
+    requires few { before ≤ due.page * 1000000 }
     ensures opened { IfOk result (Spec.IsOpenedAt due.entry.directory.file
         (first_at due.entry.page (strip_at due.entry.form first * due.entry.form.rows_per_strip))
-        (row_in_strip due.entry.form first) read) }
+        (row_in_strip due.entry.form first) before) }
     ensures page { IfOk result (λ page. page.page ≡ due.entry.page) }
     ensures first { IfOk result (λ page. page.first ≡ first) }
     ensures refused { IfErr result (Spec.IsRefusal (Spec.IsNoStrip due.entry first)) }
@@ -109,11 +108,10 @@ pub(crate) fn open<'a>(
         form,
         strips,
         first,
-        row,
         number,
         strip,
         exchanged,
-        read,
+        before,
     })
 }
 
@@ -122,17 +120,17 @@ pub(crate) fn open<'a>(
 pub(crate) fn open_after<'a>(
     alloc: Global,
     chain: &Chain<'a>,
-    read: u64,
+    before: u64,
 ) -> Result<OpenPage<'a>, OpenFault>
     requires chain { IsFileChain chain.now }
-    requires few { read ≤ chain.now.given * 1000000 }
+    requires few { before ≤ chain.now.given * 1000000 }
     ensures opened { IfOk result
-        (Spec.IsOpenedAt chain.now.tiff.file (first_at chain.now.given 0) 0 read) }
+        (Spec.IsOpenedAt chain.now.tiff.file (first_at chain.now.given 0) 0 before) }
     ensures refused { IfErr result (Spec.IsRefusal (λ end.
         IsRow chain.now.tiff.file (first_at chain.now.given 0) (Err end))) }
 {
     match DuePage::after(chain.again())? {
-        Some(due) => open(alloc, due, 0, read),
+        Some(due) => open(alloc, due, 0, before),
         None => Err(OpenFault::Ended(End::Proper)),
     }
 }
@@ -206,11 +204,10 @@ pub(crate) fn open_inside<'a>(
         form,
         strips,
         first: row,
-        row,
         number,
         strip,
         exchanged,
-        read: 0,
+        before: 0,
     })
 }
 
@@ -223,7 +220,15 @@ impl<'a> OpenPage<'a> {
         ensures refused { IfErr result (Spec.IsRefusal (λ end.
             IsRow self.now.directory.file (place_of self.now) (Err end))) }
     {
-        open_after(alloc, &self.chain, self.read)
+        open_after(alloc, &self.chain, self.read())
+    }
+
+    /// The number of the row that is due, or how many rows the page has, once all are read.
+    fn due(&self) -> u32
+        ensures due { result ≡ row_of self.now }
+        ensures within { result ≤ self.now.form.rows }
+    {
+        self.number * self.form.rows_per_strip + self.strip.row()
     }
 
     /// Whether all rows of the page are read.
@@ -231,7 +236,7 @@ impl<'a> OpenPage<'a> {
         ensures read { result ≡ true → row_of self.now ≡ self.now.form.rows }
         ensures due { result ≡ false → row_of self.now < self.now.form.rows }
     {
-        self.row == self.form.rows
+        self.due() == self.form.rows
     }
 
     /// The place of the row that is due, or the one after the last row.
@@ -240,7 +245,7 @@ impl<'a> OpenPage<'a> {
     {
         Cursor {
             page: self.page,
-            row: self.row,
+            row: self.due(),
         }
     }
 
@@ -248,7 +253,7 @@ impl<'a> OpenPage<'a> {
     pub(crate) fn read(&self) -> u64
         ensures { result ≡ self.now.read }
     {
-        self.read
+        self.before + self.strip.rows_read()
     }
 
     /// The place inside the strip after the row that was read last, if the strip goes on after
@@ -258,7 +263,7 @@ impl<'a> OpenPage<'a> {
             place_inside result ≡ long_at at.page at.row at.inner }
     {
         let place = self.strip.bit_place();
-        let row = self.row - self.number * self.form.rows_per_strip;
+        let row = self.strip.row();
         if row == 0 || row == self.form.strip_form(self.number).rows {
             return None;
         }
@@ -308,7 +313,7 @@ impl<'a> OpenPage<'a> {
                 self.number = number;
                 Ok(())
             }
-            Err(fault) => Err(End::of_file(self.page, self.row, fault)),
+            Err(fault) => Err(End::of_file(self.page, self.due(), fault)),
         }
     }
 
@@ -334,9 +339,6 @@ impl<'a> OpenPage<'a> {
         'strips: loop {
             match self.strip.advance() {
                 Ok(true) => {
-                    let _bits = self.strip.bit_place();
-                    self.row += 1;
-                    self.read += 1;
                     self.exchange();
                     return Ok(());
                 }
@@ -344,7 +346,7 @@ impl<'a> OpenPage<'a> {
                 Err(fault) => {
                     return Err(End::Fault {
                         page: self.page,
-                        row: self.row,
+                        row: self.due(),
                         cause: Cause::Strip(fault),
                     });
                 }
@@ -361,7 +363,7 @@ impl<'a> OpenPage<'a> {
     {
         'rows: loop {
             self.advance()?;
-            if self.row > self.first {
+            if self.due() > self.first {
                 return Ok(());
             }
         }

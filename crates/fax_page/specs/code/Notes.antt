@@ -8,10 +8,12 @@ use Rattle.fax_page.specs.declared.Coding.{Coding}
 use Rattle.fax_page.specs.declared.Coding.TheVariants.{Mmr}
 use Rattle.fax_page.specs.declared.StripForm.{StripForm}
 use Rattle.fax_page.specs.declared.StripFault.{StripFault}
+use Rattle.fax_page.specs.declared.notes.NotedStrip.{NotedStrip}
 use Rattle.fax_page.specs.declared.notes.NotesFault.{NotesFault}
 use Rattle.fax_page.specs.declared.notes.NotesFault.TheVariants.{Memory, Strip}
 use Rattle.fax_page.specs.declared.notes.StripNotes.{StripNotes}
 use Rattle.fax_page.specs.declared.Dimension.{Dimension}
+use Rattle.fax_page.specs.views.Strip.{IsStripForm}
 use Rattle.fax_page.specs.Lines.{IsLine, IsCause, white_row}
 use Rattle.fax_page.specs.Strip.{row_bits}
 use Rattle.fax_page.specs.Strip.{AreLines}
@@ -21,6 +23,12 @@ use Rattle.fax_page.specs.Strip.{HasOtherChoice}
 -- a row's codes are those that T.4 chooses (T.4, sections 4.1.1 and 4.2.1.3.3)
 abbrev pub IsChosen : Dimension → List Colour → List Bool → List Colour → List Bool → Type 0
 IsChosen dimension reference codes row rest = codes ≡ row_bits dimension reference row ++ rest
+
+-- a strip is read for its notes: its form is within the limits, and both of its rows have its width
+pub record IsNoting (strip : NotedStrip) : Type 0 where
+  pub limits : IsStripForm strip.form
+  pub width : length strip.reference ≡ strip.form.width
+  pub row_width : length strip.row ≡ strip.form.width
 
 -- row i was read, and whether its codes are those that T.4 chooses
 pub record IsLineRead (form : StripForm) (i : ℕ) (reference : List Colour) (b : List Bool)

@@ -1,6 +1,6 @@
 -- A strip that is read row by row.
-use Rattle.std.specs.Prelude.{◌≡◌, ℕ, ◌+◌, ◌<◌, ◌⊎◌, min, Bool, true, false, List}
-use Rattle.std.specs.Prelude.{drop, Option, Some, None, Result, Ok, Err}
+use Rattle.std.specs.Prelude.{◌≡◌, ℕ, ◌+◌, ◌*◌, ◌<◌, ◌≤◌, ◌⊎◌, min, Bool, true, false, List}
+use Rattle.std.specs.Prelude.{length, drop, Option, Some, None, Result, Ok, Err}
 use Rattle.fax_bits.specs.declared.Colour.{Colour}
 use Rattle.fax_bits.specs.Bits.{bits}
 use Rattle.fax_page.specs.declared.StripForm.{StripForm}
@@ -70,6 +70,7 @@ pub record ReadsRow (old new : StripState) : Type 0 where
   pub same_form : new.form ≡ old.form
   pub same_bytes : new.bytes ≡ old.bytes
   pub still_no_fault : new.fault ≡ None
+  pub within : new.place ≤ 8 * length new.bytes
 
 -- all rows are read, and nothing changes
 pub record IsAtEnd (old new : StripState) : Type 0 where

@@ -81,17 +81,16 @@ pub record IsStripOf (form : PageForm) (directory : TiffDirectory) (number : ℕ
 -- a page that is read: it is its file's, of a form within the limits, and the strip is the one of
 -- that number
 pub record IsReadingPage (page : ℕ) (chain : ChainState) (form : PageForm) (strips : PageStrips)
-    (number row : ℕ) (strip : StripState) (exchanged : Option (List Colour))
-    (read : ℕ) : Type 0 where
+    (number : ℕ) (strip : StripState) (exchanged : Option (List Colour))
+    (before : ℕ) : Type 0 where
   pub its : IsFilePage page chain strips.directory form
   pub limits : IsPageForm form
   pub counted : strips.count ≡ form.strips
   pub within : number < form.strips
   pub strip_is : IsStripOf form strips.directory number strip
-  pub row_is : row ≡ number * form.rows_per_strip + strip.row
   pub room : IsRoomFor form exchanged
   pub some_page : page < 2 ^ 32
-  pub few : read ≤ page * most_rows + row
+  pub few : before + strip.read ≤ page * most_rows + (number * form.rows_per_strip + strip.row)
 
 -- a page whose rows can be read
 pub record IsOpen (page : PageState) : Type 0 where

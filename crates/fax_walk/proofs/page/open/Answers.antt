@@ -18,5 +18,5 @@ returns-clause-opened c =
     let d = c.due.inside in
     rw (← c.due.view_is, c.strips-strips.ensures.directory)
     (is_opened (record { page = d.page; chain = d.chain; directory = d.directory; form = d.form }) c.args.first c.due.invariant.its
-    c.due.invariant.limits there c.in_ok-strip.strip _ c.args.read (ap (λ (s : StripState). s.row) c.in_ok-strip.ensures)
-    (ap (λ (s : StripState). s.fault) c.in_ok-strip.ensures))
+    c.due.invariant.limits there c.in_ok-strip.strip _ c.args.before (ap (λ (s : StripState). s.row) c.in_ok-strip.ensures)
+    (ap (λ (s : StripState). s.fault) c.in_ok-strip.ensures) (ap (λ (s : StripState). s.read) c.in_ok-strip.ensures))

@@ -29,7 +29,7 @@ returns-clause-opened c =
     (opened_inside due (record { at = c.place.inside.at; bits = c.place.inside.bits; runs = c.place.inside.runs.items })
     c.due.invariant.its same_page (omega (arith, c.if-row-form.false)) (omega (arith, c.if-row-form-eq0.false))
     c.in-Ok.bytes.now there c.in_ok-strip.strip _ (ap (λ (s : StripState). s.row) at_place.1) (ap (λ (s : StripState). s.fault) at_place.1)
-    (ap (λ (s : StripState). s.place) at_place.1) (ap (λ (s : StripState). s.reference) at_place.1))
+    (ap (λ (s : StripState). s.place) at_place.1) (ap (λ (s : StripState). s.reference) at_place.1) (ap (λ (s : StripState). s.read) at_place.1))
 
 pub returns-clause-inner : goal.returns-clause-inner
 returns-clause-inner c =
@@ -63,7 +63,6 @@ invariant_of-result c = record {
   counted = c.strips-strips.ensures.count;
   within = search rules;
   strip_is = search rules;
-  row_is = search rules;
   room = c.in_ok-exchanged.ensures;
   some_page = search rules;
   few = search rules;

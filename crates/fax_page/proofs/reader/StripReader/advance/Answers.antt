@@ -31,6 +31,10 @@ returns-in-Ok c =
       same_form = search rules;
       same_bytes = search rules;
       still_no_fault = search rules;
+      within =
+          placed_after c.self.inside.form.order c.self.inside.bytes.now c.self.inside.place _ _ _
+          (c.bits_stand_by_place.ensures.count c.self.inside.form.order c.self.inside.bytes.now) c.self.invariant.placed
+          here c.in-Ok.ensures.same_end c.place-self-inside.ensures;
     })
 
 pub returns-in-Err : goal.returns-in-Err

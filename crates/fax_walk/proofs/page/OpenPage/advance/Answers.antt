@@ -1,33 +1,30 @@
-use Rattle.std.proofs.Common.{sym, arith}
+use Rattle.std.proofs.Common.{◌+◌, sym, arith}
 use Rattle.std.proofs.lemmas.Result.{err_from_is_err_and}
 use Rattle.fax_walk.specs.code.Stages.{row_shown}
-use Rattle.fax_walk.proofs.OpenPageLemmas.{fault_stops, reads_kept, stops_kept, state}
+use Rattle.fax_walk.proofs.OpenPageLemmas.{few_read, fault_stops, reads_kept, stops_kept, state}
 use Rattle.fax_walk.proofs.page.OpenPage.advance.Goals as goal
-
-pub overflow_add-self-in-Ok-true : goal.overflow_add-self-in-Ok-true
-overflow_add-self-in-Ok-true c = omega (arith, c.self.invariant.few, c.self.invariant.some_page)
 
 pub returns-in-Ok-true-clause-ok : goal.returns-in-Ok-true-clause-ok
 returns-in-Ok-true-clause-ok c =
     let keeps = rw (sym c.self.view_is) at c.strips.invariant.keeps in
     let reads = rw c.in-Ok-true.field-0-test at c.in-Ok-true.ensures in
     let p = c.self.inside in
-    let page = state p.page p.chain p.strips.directory p.form p.first p.number p.strip (row_shown p.strip p.exchanged) p.read in
+    let page = state p.page p.chain p.strips.directory p.form p.first p.number p.strip (row_shown p.strip p.exchanged) (p.before + p.strip.read) in
+    let inv = c.self.invariant in
+    let few = few_read page inv.limits inv.within inv.strip_is.form_is inv.strip_is.within inv.some_page inv.few in
     rw c.exchange.ensures.same
     (reads_kept _ page keeps c.advance.new.self c.exchange.new.self.shown c.requires.open c.self.invariant.limits c.self.invariant.strip_is
-    c.self.invariant.its reads c.exchange.ensures.shown
-    (rw c.bit_place-bits.ensures.place at c.bit_place-bits.ensures.within))
+    c.self.invariant.its reads c.exchange.ensures.shown _ (omega (arith, reads.read, few)))
 
 pub returns-in-Err-clause-err : goal.returns-in-Err-clause-err
 returns-in-Err-clause-err c =
     let keeps = rw (sym c.self.view_is) at c.strips.invariant.keeps in
     let is_open = rw (sym c.self.view_is) at c.strips.invariant.is_open in
     let p = c.self.inside in
-    let page = state p.page p.chain p.strips.directory p.form p.first p.number p.strip (row_shown p.strip p.exchanged) p.read in
+    let page = state p.page p.chain p.strips.directory p.form p.first p.number p.strip (row_shown p.strip p.exchanged) (p.before + p.strip.read) in
     stops_kept _ page keeps _
-    (rw (← c.self.invariant.row_is) at
     (fault_stops page c.advance.new.self c.in-Err.fault is_open c.self.invariant.limits c.self.invariant.strip_is
-    c.self.invariant.its c.in-Err.ensures))
+    c.self.invariant.its c.in-Err.ensures _ c.due.ensures.due)
 
 pub returns-in_err-next_strip-in-Ok-false-clause-err : goal.returns-in_err-next_strip-in-Ok-false-clause-err
 returns-in_err-next_strip-in-Ok-false-clause-err c =
@@ -36,5 +33,5 @@ returns-in_err-next_strip-in-Ok-false-clause-err c =
     let same = rw c.in-Ok-false.field-0-test at c.in-Ok-false.ensures in
     let stops = c.in_err-next_strip-in-Ok-false.ensures.err in
     let q = c.self.inside in
-    let page = state q.page q.chain q.strips.directory q.form q.first q.number q.strip (row_shown q.strip q.exchanged) q.read in
+    let page = state q.page q.chain q.strips.directory q.form q.first q.number q.strip (row_shown q.strip q.exchanged) (q.before + q.strip.read) in
     rw (p.1, p.2) (stops_kept _ page keeps _ (rw same.unchanged at stops))

@@ -1,31 +1,30 @@
-use Rattle.std.proofs.Common.{◌^◌, ◌<◌, ◌≤◌, sym, arith, ◌∙◌}
+use Rattle.std.proofs.Common.{◌+◌, ◌^◌, ◌<◌, ◌≤◌, sym, arith, ◌∙◌}
 use Rattle.std.proofs.lemmas.Result.{err_from_is_err_and}
 use Rattle.fax_walk.specs.code.Stages.{row_of, row_shown}
-use Rattle.fax_walk.proofs.OpenPageLemmas.{none_skipped, one_skipped, row_given, state}
+use Rattle.fax_walk.proofs.OpenPageLemmas.{few_read, none_skipped, one_skipped, row_given, state}
 use Rattle.fax_walk.proofs.page.OpenPage.next.Goals as goal
 
 pub rows-init : goal.rows-init
 rows-init c = record { items = _; skips = none_skipped c.args.self.now; is_open = c.requires.open; due = c.requires.due }
 
-pub returns-then-self-clause-ok : goal.returns-then-self-clause-ok
-returns-then-self-clause-ok c =
+pub returns-then-due-self-clause-ok : goal.returns-then-due-self-clause-ok
+returns-then-due-self-clause-ok c =
     let reads = rw (sym c.self.view_is) at c.in_ok-advance.ensures.ok in
-    let row_is = c.self.invariant.row_is in
-    let few : c.self.inside.read < 2 ^ 53 = omega (arith, c.self.invariant.few, c.self.invariant.some_page) in
+    let inv = c.self.invariant in
     let p = c.self.inside in
-    let page = state p.page p.chain p.strips.directory p.form p.first p.number p.strip (row_shown p.strip p.exchanged) p.read in
+    let page = state p.page p.chain p.strips.directory p.form p.first p.number p.strip (row_shown p.strip p.exchanged) (p.before + p.strip.read) in
     rw (← c.self.view_is)
-    (row_given c.args.self.now c.rows.self page c.rows.invariant.items c.rows.invariant.skips reads c.self.invariant.its
-    c.rows.invariant.due
-    (rw row_is at c.if-self.true) few)
+    (row_given c.args.self.now c.rows.self page c.rows.invariant.items c.rows.invariant.skips reads inv.its
+    c.rows.invariant.due (rw (c.due.ensures.due, sym c.self.view_is) at c.if-due-self.true)
+    (few_read page inv.limits inv.within inv.strip_is.form_is inv.strip_is.within inv.some_page inv.few))
 
 pub rows-preserved : goal.rows-preserved
 rows-preserved c =
     let reads = rw (sym c.self.view_is) at c.in_ok-advance.ensures.ok in
     let p = c.self.inside in
-    let page = state p.page p.chain p.strips.directory p.form p.first p.number p.strip (row_shown p.strip p.exchanged) p.read in
-    let row_is = c.self.invariant.row_is in
-    let before : row_of page ≤ page.first = omega (arith, row_is, c.if-self.false) in
+    let page = state p.page p.chain p.strips.directory p.form p.first p.number p.strip (row_shown p.strip p.exchanged) (p.before + p.strip.read) in
+    let due = rw (sym c.self.view_is) at c.due.ensures.due in
+    let before : row_of page ≤ page.first = omega (arith, due, c.if-due-self.false) in
     let first = reads.still_open.first in
     rw (← c.self.view_is) (record {
       items = _;
