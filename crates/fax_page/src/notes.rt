@@ -156,7 +156,8 @@ impl<'a> NotedStrip<'a> {
                 return Err(NotesFault::Strip { row: i, fault });
             }
         } else {
-            self.not_t4_choice = !self.read_choice(i)?;
+            let chosen = self.read_choice(i)?;
+            self.not_t4_choice = !chosen;
         }
         swap(&mut self.reference, &mut self.row);
         Ok(())
