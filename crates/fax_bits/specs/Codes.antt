@@ -23,7 +23,7 @@ abbrev pub HasNoCode : {M : Type 0} → List (CodeEntry M) → List Bool → Typ
 HasNoCode {M} table b =
     (entry : CodeEntry M) → Contains table entry → BeginsWith b (bits_of entry) → ⊥
 
--- the bits begin some code of the table, and are not all of it
+-- the bits are a front of some code of the table, and not all of it
 abbrev pub IsCutShort : {M : Type 0} → List (CodeEntry M) → List Bool → Type 0
 IsCutShort {M} table b =
     (entry : CodeEntry M) × Contains table entry

@@ -39,8 +39,8 @@ BeginsBelowEleven b =
 
 -- what stands before the codes of row i of a strip: in MH an EOL, in MR an EOL and a tag bit,
 -- nothing in MMR. How the row is coded, and its codes, or the fault, by the zeros before the next
--- 1 (T.4, sections 4.1.2 and 4.2.2; T.6, section 2.2.1; that row 0 of MH may lack its EOL is this
--- project's profile)
+-- 1; where no 1 is left the data ends, however many zeros there are (T.4, sections 4.1.2 and 4.2.2;
+-- T.6, section 2.2.1; that row 0 of MH may lack its EOL is this project's profile)
 abbrev pub IsStart : Coding → ℕ → List Bool → Result (Dimension × List Bool) StripFault → Type 0
 IsStart Mh i b start =
     (IsAllZeros b × (start ≡ Err DataEnds))
@@ -82,8 +82,8 @@ abbrev pub IsRowFaultIn : Dimension → ℕ → List Colour → List Bool → Ro
 IsRowFaultIn OneDimensional width reference b fault = IsOneDimensionalFault width b fault
 IsRowFaultIn TwoDimensional width reference b fault = IsTwoDimensionalFault reference b fault
 
--- where a row's first code is due stand eleven zeros, or fewer and nothing after them, or the code,
--- and the codes stop
+-- the fault where a row's first code is due: eleven zeros are an end marker, whatever follows them;
+-- after fewer, and nothing more, the data ends; else the codes stop with a fault of their own
 abbrev pub IsStopInCodes : Dimension → ℕ → List Colour → List Bool → StripFault → Type 0
 IsStopInCodes dimension width reference b fault =
     ((after : List Bool) × (b ≡ replicate 11 false ++ after) × (fault ≡ EndMarker))
