@@ -199,7 +199,7 @@ module _ (file : List ℕ) where
       subst (λ (l : List FormItem). AreFrom (IsForm file) p l end) (sym is.0) (subst (AreFrom (IsForm file) p []) (sym is.1) there)
   to_forms p forms end (Ok here, page, inl (first, are)) = are
   to_forms p forms end (Ok here, page, inr (inl (some, within, are))) = absurd (omega (arith, some))
-  to_forms p forms end (Ok here, page, inr (inr (past, is))) = absurd (omega (arith, past))
+  to_forms p forms end (Ok here, page, inr (inr (past, none, end_is))) = absurd (omega (arith, past))
 
   of_forms : (p : ℕ) (forms : List FormItem) (end : End) → AreFrom (IsForm file) p forms end
       → IsFormTail file (record { page = p; row = 0 }) forms end

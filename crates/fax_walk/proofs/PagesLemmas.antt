@@ -72,7 +72,7 @@ module _ (file : List ℕ) (at : Cursor) (due : PageDue) (named : IsNamed file a
 -- from a cursor on there are no pages
 pub no_forms : (file : List ℕ) (at : Cursor) (end : End) → EndsAt file at end → IsFormTail file at [] end
 no_forms file at end (inl none) = (Err end, none, (refl, refl))
-no_forms file at end (inr (here, page, above, end_is)) = (Ok here, page, inr (inr (above, (refl, end_is))))
+no_forms file at end (inr (here, page, above, end_is)) = (Ok here, page, inr (inr (above, refl, end_is)))
 
 no_other : (told : Option End) (end : End) → told ≡ None → HasToldNoOther told end
 no_other None end e = tt

@@ -9,8 +9,8 @@ use Rattle.fax_walk.specs.declared.begun.Begun.TheVariants.{At, Inside}
 use Rattle.fax_walk.specs.declared.cursor.Cursor.{Cursor}
 use Rattle.fax_walk.specs.declared.end.End.{End}
 use Rattle.fax_walk.specs.declared.end.End.TheVariants.{Outside}
-use Rattle.fax_walk.specs.Pages.{AreFrom, FilePage, FormItem, IsForm, IsFormTail}
-use Rattle.fax_walk.specs.Items.{IsRow, IsTailFrom, IsTailOn, RowItem, RowPlace, first_at, inner_at}
+use Rattle.fax_walk.specs.Pages.{AreFrom, FilePage, FormItem, IsForm, IsFormTail, IsPageAt}
+use Rattle.fax_walk.specs.Items.{IsRow, IsTailFrom, RowItem, RowPlace, first_at, inner_at}
 use Rattle.fax_walk.specs.views.Walk.{AreBeforeIt}
 use Rattle.fax_walk.specs.code.Pages.{IsFormsBegun, first_form}
 use Rattle.fax_walk.specs.code.Places.{AreBegun, Begins, IsBegunOn, IsTailBegun, dropped, first_row, row_in_strip, strip_at}
@@ -47,7 +47,7 @@ module _ (file : List ℕ) where
   -- a walk's items are those from the place where it begins
   pub begun_of_tail : (begun : Begun) (items : List RowItem) (end : End) → IsTailFrom file begun items end
       → IsTailBegun file begun items end
-  begun_of_tail begun items end (Err none, page, is) = (Err none, (Err none, page, refl), is)
+  begun_of_tail (At at) items end (Err none, page, is) = (Err none, (Err none, page, refl), is)
   begun_of_tail (At at) items end (Ok here, page, inl (below, all, are, items_are)) = (
     Ok (strip at here, row_in_strip here.form at.row),
     (Ok here, page, sym (first_below at here below)),
@@ -55,41 +55,49 @@ module _ (file : List ℕ) where
   )
   begun_of_tail (At at) items end (Ok here, page, inr (inl (last, are))) =
       (Ok (first_at (at.page + 1) 0, 0), (Ok here, page, sym (first_after at here last)), (items, are, refl))
-  begun_of_tail (At at) items end (Ok here, page, inr (inr (past, is))) =
-      (Err Outside, (Ok here, page, sym (first_past at here past)), is)
+  begun_of_tail (At at) items end (Ok here, page, inr (inr (past, none, end_is))) =
+      (Err Outside, (Ok here, page, sym (first_past at here past)), (none, end_is))
+  begun_of_tail (Inside place) items end (Err none, page, is) = (Err none, (Err none, page, refl), is)
   begun_of_tail (Inside place) items end (Ok here, page, inl (inner, are)) =
       (Ok (inner_at place, 0), (Ok here, page, inl (inner, refl)), (items, are, refl))
-  begun_of_tail (Inside place) items end (Ok here, page, inr (not, is)) =
-      (Err Outside, (Ok here, page, inr (not, refl)), is)
+  begun_of_tail (Inside place) items end (Ok here, page, inr (not, none, end_is)) =
+      (Err Outside, (Ok here, page, inr (not, refl)), (none, end_is))
 
-  on_page : (at : Cursor) (here : FilePage) (begin : Result (RowPlace × ℕ) End) (items : List RowItem) (end : End)
-      → begin ≡ first_row at here.form → AreBegun (IsRow file) begin items end → IsTailOn file here (At at) items end
-  on_page at here begin items end e are = elim (compared at.row here.form.rows) [
+  on_page : (at : Cursor) (here : FilePage) → IsPageAt file at (Ok here) → (begin : Result (RowPlace × ℕ) End) (items : List RowItem)
+      (end : End) → begin ≡ first_row at here.form → AreBegun (IsRow file) begin items end → IsTailFrom file (At at) items end
+  on_page at here page begin items end e are = elim (compared at.row here.form.rows) [
     | inl below ↦
         let there : AreBegun (IsRow file) (Ok (strip at here, row_in_strip here.form at.row)) items end =
         subst (λ (b : Result (RowPlace × ℕ) End). AreBegun (IsRow file) b items end) (e ∙ first_below at here below) are in
-        inl (below, there.0, there.1, there.2)
+        (Ok here, page, inl (below, there.0, there.1, there.2))
     | inr (inl last) ↦
         let there : AreBegun (IsRow file) (Ok (first_at (at.page + 1) 0, 0)) items end =
-        subst (λ (b : Result (RowPlace × ℕ) End). AreBegun (IsRow file) b items end) (e ∙ first_after at here last) are in
-        inr (inl (last, subst (λ (l : List RowItem). AreFrom (IsRow file) (first_at (at.page + 1) 0) l end) (sym there.2) there.1))
+        subst (λ (b : Result (RowPlace × ℕ) End). AreBegun (IsRow file) b items end) (e ∙ first_after at here last) are in (
+          Ok here,
+          page,
+          inr (inl (last, subst (λ (l : List RowItem). AreFrom (IsRow file) (first_at (at.page + 1) 0) l end) (sym there.2) there.1)),
+        )
     | inr (inr past) ↦
         let there : AreBegun (IsRow file) (Err Outside) items end =
         subst (λ (b : Result (RowPlace × ℕ) End). AreBegun (IsRow file) b items end) (e ∙ first_past at here past) are in
-        inr (inr (past, there))
+        (Ok here, page, inr (inr (past, there.0, there.1)))
   ]
 
   pub tail_of_begun : (begun : Begun) (items : List RowItem) (end : End) → IsTailBegun file begun items end
       → IsTailFrom file begun items end
-  tail_of_begun begun items end (begin, (Err none, page, e), are) =
+  tail_of_begun (At at) items end (begin, (Err none, page, e), are) =
       (Err none, page, subst (λ (b : Result (RowPlace × ℕ) End). AreBegun (IsRow file) b items end) e are)
-  tail_of_begun (At at) items end (begin, (Ok here, page, e), are) = (Ok here, page, on_page at here begin items end e are)
+  tail_of_begun (At at) items end (begin, (Ok here, page, e), are) = on_page at here page begin items end e are
+  tail_of_begun (Inside place) items end (begin, (Err none, page, e), are) =
+      (Err none, page, subst (λ (b : Result (RowPlace × ℕ) End). AreBegun (IsRow file) b items end) e are)
   tail_of_begun (Inside place) items end (begin, (Ok here, page, inl (inner, e)), are) =
       let there : AreBegun (IsRow file) (Ok (inner_at place, 0)) items end =
       subst (λ (b : Result (RowPlace × ℕ) End). AreBegun (IsRow file) b items end) e are in
       (Ok here, page, inl (inner, subst (λ (l : List RowItem). AreFrom (IsRow file) (inner_at place) l end) (sym there.2) there.1))
   tail_of_begun (Inside place) items end (begin, (Ok here, page, inr (not, e)), are) =
-      (Ok here, page, inr (not, subst (λ (b : Result (RowPlace × ℕ) End). AreBegun (IsRow file) b items end) e are))
+      let there : AreBegun (IsRow file) (Err Outside) items end =
+      subst (λ (b : Result (RowPlace × ℕ) End). AreBegun (IsRow file) b items end) e are in
+      (Ok here, page, inr (not, there.0, there.1))
 
   -- the rows that a beginning reads and drops are those before it in its strip
   dropped_on : (at : Cursor) (here : FilePage) (begin : Result (RowPlace × ℕ) End) → IsBegunOn file (At at) here begin
@@ -138,8 +146,8 @@ module _ (file : List ℕ) where
       (Ok (at.page, 0), (Ok here, page, sym (form_here at here first)), (forms, are, refl))
   begun_of_forms at forms end (Ok here, page, inr (inl (some, within, are))) =
       (Ok (at.page + 1, 0), (Ok here, page, sym (form_after at here some within)), (forms, are, refl))
-  begun_of_forms at forms end (Ok here, page, inr (inr (past, is))) =
-      (Err Outside, (Ok here, page, sym (form_past at here past)), is)
+  begun_of_forms at forms end (Ok here, page, inr (inr (past, none, end_is))) =
+      (Err Outside, (Ok here, page, sym (form_past at here past)), (none, end_is))
 
   pub forms_of_begun : (at : Cursor) (forms : List FormItem) (end : End) → IsFormsBegun file at forms end → IsFormTail file at forms end
   forms_of_begun at forms end (begin, (Err none, page, e), are) =
@@ -149,7 +157,7 @@ module _ (file : List ℕ) where
       | inl past ↦
           let there : AreBegun (IsForm file) (Err Outside) forms end =
           subst (λ (b : Result (ℕ × ℕ) End). AreBegun (IsForm file) b forms end) (e ∙ form_past at here past) are in
-          (Ok here, page, inr (inr (past, there)))
+          (Ok here, page, inr (inr (past, there.0, there.1)))
       | inr within ↦
           let there : AreBegun (IsForm file) (Ok (at.page + 1, 0)) forms end =
           subst (λ (b : Result (ℕ × ℕ) End). AreBegun (IsForm file) b forms end) (e ∙ form_after at here some within) are in (
