@@ -1,7 +1,7 @@
 -- What is converted has one output or one fault, and what is checked has one report.
 use Rattle.std.proofs.Common.{◌≡◌, ℕ, ◌+◌, ◌*◌, List, [], ◌∷◌, length, Option, Some, None, Result, Ok, Err, Bool, true, false}
 use Rattle.std.proofs.Common.{refl, ap, sym, ◌∙◌, subst, arith, inl, inr, codes}
-use Rattle.std.specs.Prelude.{◌==◌, ◌&&◌, flat_map, slice_get, map, if◌then◌else◌}
+use Rattle.std.specs.Prelude.{◌==◌, ◌&&◌, flat_map, slice_get, map, if◌then◌else◌, not}
 use Rattle.std.proofs.lemmas.Bool.Decides.{nat_tests}
 use Rattle.fax_bits.specs.Bits.{bits, BeginsWith}
 use Rattle.fax_bits.specs.declared.Colour.{Colour}
@@ -11,7 +11,7 @@ use Rattle.fax_files.specs.declared.Cause.{Cause}
 use Rattle.fax_files.specs.declared.Cause.TheVariants.{Strip}
 use Rattle.fax_files.specs.declared.PageForm.{PageForm}
 use Rattle.fax_files.specs.declared.pbm.PbmFault.{PbmFault}
-use Rattle.fax_files.specs.Directory.{Header, header}
+use Rattle.fax_files.specs.Directory.{Header, header, entries, ascend}
 use Rattle.fax_files.specs.Page.{page, strip_bytes, strip_form, usual_resolution}
 use Rattle.fax_files.specs.Pbm.{AreImages, Image}
 use Rattle.fax_files.specs.laws.Files.{FilesHaveOneChain}
@@ -30,7 +30,7 @@ use Rattle.fax_walk.specs.declared.options.Options.{Options}
 use Rattle.fax_walk.specs.declared.walk.Place.{Place}
 use Rattle.fax_walk.specs.Converted.{IsConverted, IsNotConverted, IsSource, IsTiff, IsTooLarge, SourcePage, pages_of, target_bytes}
 use Rattle.fax_walk.specs.Pages.{AreFrom, FilePage, IsOnPage}
-use Rattle.fax_walk.specs.Report.{IsNoted, IsReportedEnd, IsStripNoted, notes_on_strip}
+use Rattle.fax_walk.specs.Report.{IsNoted, IsReportedEnd, IsStripNoted, notes_on_strip, note_if}
 use Rattle.fax_walk.specs.Items.{AreItems, RowItem}
 use Rattle.fax_walk.specs.code.Opening.{IsPageUnder, page_or_end, page_over}
 use Rattle.fax_walk.specs.laws.Answers.{BytesAreConvertedInOneWay, FilesHaveOneReport}
@@ -38,6 +38,8 @@ use Rattle.fax_walk.specs.laws.Tails.{FilesHaveOneForms, FilesHaveOneItems}
 use Rattle.fax_walk.proofs.InOrderLemmas.{same_answer}
 use Rattle.fax_walk.proofs.PageLawLemmas.{one_page}
 use Rattle.fax_walk.proofs.ReadBackLemmas.{not_both}
+use Rattle.fax_walk.specs.Pages.{Step, goes_on, ends_as}
+use Rattle.fax_walk.specs.declared.checking.NoteKind.TheVariants.{EntriesOutOfOrder}
 
 -- two of which one thing holds are the same
 abbrev IsSingle : {A : Type 0} → (A → Type 0) → Type 0
@@ -188,49 +190,49 @@ module _ (chains : FilesHaveOneChain) (file : List ℕ) where
   one_end Outside pages others fault other first second = absurd first
 
   -- what is single on each page is single on the page that a cursor names
-  single_on_page : {A : Type 0} (at : Cursor) (asked : FilePage → Result A End → Type 0) → ((here : FilePage) → IsSingle (asked here))
-      → IsSingle (IsOnPage file at asked)
-  single_on_page {A} at asked single x y (inl (end, page_is, is)) (inl (other, page_is', is')) =
+  single_on_page : {A : Type 0} (at : Cursor) (asked : FilePage → A → Type 0) (ended : End → A) → ((here : FilePage) → IsSingle (asked here))
+      → IsSingle (λ (x : A). IsOnPage file at (λ here. asked here x) (λ end. x ≡ ended end))
+  single_on_page at asked ended single x y (Err end, page_is, is) (Err other, page_is', is') =
       let same : ◌≡◌ {A = Result FilePage End} (Err end) (Err other) =
       same_answer (one_page chains file at) (Err end) (Err other) page_is page_is' in
       let ends : end ≡ other = cc in
-      is ∙ ap (λ (e : End). Err e) ends ∙ sym is'
-  single_on_page {A} at asked single x y (inl (end, page_is, is)) (inr (there, page_is', is')) =
+      is ∙ ap ended ends ∙ sym is'
+  single_on_page at asked ended single x y (Err end, page_is, is) (Ok there, page_is', is') =
       let same : ◌≡◌ {A = Result FilePage End} (Err end) (Ok there) =
       same_answer (one_page chains file at) (Err end) (Ok there) page_is page_is' in
       absurd cc
-  single_on_page {A} at asked single x y (inr (here, page_is, is)) (inl (other, page_is', is')) =
+  single_on_page at asked ended single x y (Ok here, page_is, is) (Err other, page_is', is') =
       let same : ◌≡◌ {A = Result FilePage End} (Ok here) (Err other) =
       same_answer (one_page chains file at) (Ok here) (Err other) page_is page_is' in
       absurd cc
-  single_on_page {A} at asked single x y (inr (here, page_is, is)) (inr (there, page_is', is')) =
+  single_on_page at asked ended single x y (Ok here, page_is, is) (Ok there, page_is', is') =
       let same : ◌≡◌ {A = Result FilePage End} (Ok here) (Ok there) =
       same_answer (one_page chains file at) (Ok here) (Ok there) page_is page_is' in
       let pages : there ≡ here = cc in
       single here x y is (subst (λ (h : FilePage). asked h y) pages is')
 
 -- where each place has at most one answer, two lists from a place on are one
-single_from : {S A : Type 0} (next : S → Result (A × S) End → Type 0) → ((at : S) → IsSingle (next at)) → (at : S)
+single_from : {S A : Type 0} (next : S → Step A S → Type 0) → ((at : S) → IsSingle (next at)) → (at : S)
     (items others : List A) (end : End) → AreFrom next at items end → AreFrom next at others end → items ≡ others
 single_from next single at [] [] end first second = refl
 single_from next single at [] (y ∷ others) end first (to, second, rest) =
-    let same = single at (Err end) (Ok (y, to)) first second in absurd cc
+    let same = single at (ends_as end) (goes_on y to) first second in absurd cc
 single_from next single at (x ∷ items) [] end (to, first, rest) second =
-    let same = single at (Ok (x, to)) (Err end) first second in absurd cc
+    let same = single at (goes_on x to) (ends_as end) first second in absurd cc
 single_from {S} {A} next single at (x ∷ items) (y ∷ others) end (to, first, rest) (to', second, rest') =
-    let same : ◌≡◌ {A = Result (A × S) End} (Ok (x, to)) (Ok (y, to')) = single at (Ok (x, to)) (Ok (y, to')) first second in
+    let same : ◌≡◌ {A = Step A S} (goes_on x to) (goes_on y to') = single at (goes_on x to) (goes_on y to') first second in
     let item : x ≡ y = ap item_of same in
     let place : to ≡ to' = ap place_of same in
     let later = single_from next single to' items others end (subst (λ (p : S). AreFrom next p items end) place rest) rest' in
     ap (λ (i : A). i ∷ items) item ∙ ap (λ (l : List A). y ∷ l) later
   where
-    item_of : Result (A × S) End → A
-    item_of (Ok step) = step.0
-    item_of (Err end) = x
+    item_of : Step A S → A
+    item_of (goes_on item to) = item
+    item_of (ends_as end) = x
 
-    place_of : Result (A × S) End → S
-    place_of (Ok step) = step.1
-    place_of (Err end) = to
+    place_of : Step A S → S
+    place_of (goes_on item to) = to
+    place_of (ends_as end) = to
 
 module _ (strips_once : (form : StripForm) → ReadsStripsOneWay form) (noted_once : StripsAreNotedInOneWay) where
   -- a strip that has notes has no fault
@@ -243,30 +245,33 @@ module _ (strips_once : (form : StripForm) → ReadsStripsOneWay form) (noted_on
 
   single_strip : (form : PageForm) (p s : ℕ) (bytes : Option (List ℕ)) → IsSingle (IsStripNoted form p s bytes)
   single_strip form p s None x y first second = first ∙ sym second
-  single_strip form p s (Some bytes) (Ok (notes, to)) (Ok (others, place)) (rows, found, noted, is, to_is)
+  single_strip form p s (Some bytes) (goes_on notes to) (goes_on others place) (rows, found, noted, is, to_is)
       (rows', found', noted', is', to_is') =
       let same = noted_once (strip_form form s) (bits form.order bytes) rows rows' found found' noted noted' in
       let lists : notes ≡ others = is ∙ ap (notes_on_strip p s) same ∙ sym is' in
       let places : to ≡ place = to_is ∙ sym to_is' in
-      ap (λ l. Ok (l, to)) lists ∙ ap (λ t. Ok (others, t)) places
-  single_strip form p s (Some bytes) (Ok (notes, to)) (Err end) (rows, found, noted, is, to_is) (rows', fault, strip, is') =
+      ap (λ l. goes_on l to) lists ∙ ap (λ t. goes_on others t) places
+  single_strip form p s (Some bytes) (goes_on notes to) (ends_as end) (rows, found, noted, is, to_is) (rows', fault, strip, is') =
       absurd (noted_or_fault (strip_form form s) (bits form.order bytes) rows rows' found fault noted strip)
-  single_strip form p s (Some bytes) (Err end) (Ok (others, place)) (rows', fault, strip, is') (rows, found, noted, is, to_is) =
+  single_strip form p s (Some bytes) (ends_as end) (goes_on others place) (rows', fault, strip, is') (rows, found, noted, is, to_is) =
       absurd (noted_or_fault (strip_form form s) (bits form.order bytes) rows rows' found fault noted strip)
-  single_strip form p s (Some bytes) (Err end) (Err other) (rows, fault, strip, is) (rows', fault', strip', is') =
+  single_strip form p s (Some bytes) (ends_as end) (ends_as other) (rows, fault, strip, is) (rows', fault', strip', is') =
       let same = two_of (strips_once (strip_form form s) (bits form.order bytes)) rows rows' (Some fault) (Some fault') strip strip' in
       let faults : fault ≡ fault' = cc (same.1) in
       let ends : end ≡ other =
       is ∙ ap (λ (l : List (List Colour)). Fault p (s * form.rows_per_strip + length l) (Strip fault)) same.0
       ∙ ap (λ f. Fault p (s * form.rows_per_strip + length rows') (Strip f)) faults ∙ sym is' in
-      ap (λ e. Err e) ends
+      ap (λ e. ends_as e) ends
 
   module _ (chains : FilesHaveOneChain) (file : List ℕ) where
     single_noted : (at : ℕ × Option ℕ) → IsSingle (IsNoted file at)
     single_noted (p, None) =
-        single_on_page chains file (record { page = p; row = 0 }) _ (λ here x y first second. first ∙ sym second)
+        single_on_page chains file (record { page = p; row = 0 })
+        (λ here step. step ≡ goes_on (note_if (not (ascend (entries here.endian file here.offset))) p None EntriesOutOfOrder) (p, Some 0))
+        ends_as (λ here x y first second. first ∙ sym second)
     single_noted (p, Some s) =
-        single_on_page chains file (record { page = p; row = 0 }) _
+        single_on_page chains file (record { page = p; row = 0 })
+        (λ here. IsStripNoted here.form p s (strip_bytes here.endian file here.offset s)) ends_as
         (λ here. single_strip here.form p s (strip_bytes here.endian file here.offset s))
 
   pub files_have_one_report : FilesHaveOneChain → FilesHaveOneItems → FilesHaveOneReport

@@ -1,5 +1,5 @@
 -- What is noted in order, and the rows beside it.
-use Rattle.std.proofs.Common.{◌≡◌, ℕ, ◌+◌, List, [], ◌++◌, Err, refl, sym, ap, ◌∙◌, arith, length-append}
+use Rattle.std.proofs.Common.{◌≡◌, ℕ, ◌+◌, List, [], ◌++◌, refl, sym, ap, ◌∙◌, arith, length-append}
 use Rattle.std.specs.Prelude.{flat_map}
 use Rattle.std.proofs.lemmas.List.Concat.{flat_map-append}
 use Rattle.fax_walk.specs.declared.checking.Note.{Note}
@@ -8,6 +8,7 @@ use Rattle.fax_walk.specs.Report.{IsNoted}
 use Rattle.fax_walk.specs.Items.{IsRow}
 use Rattle.fax_walk.specs.code.Check.{CheckPlace, HasChecked, IsCheckedTo}
 use Rattle.fax_walk.proofs.InOrderLemmas.{joined, leads_both}
+use Rattle.fax_walk.specs.Pages.{ends_as}
 
 -- the notes on what is found before, and then on what is found after
 found_both : (found more : List (List Note)) (notes others : List Note) → notes ≡ flat_map (λ own. own) found
@@ -44,7 +45,7 @@ module _ (file : List ℕ) where
   }
 
   -- nothing is noted and no row is read where both end
-  pub ends_at : (at : CheckPlace) (end : End) → IsNoted file at.next (Err end) → IsRow file at.row (Err end)
+  pub ends_at : (at : CheckPlace) (end : End) → IsNoted file at.next (ends_as end) → IsRow file at.row (ends_as end)
       → IsCheckedTo file at [] 0 end
   ends_at at end noted row =
       record { found = []; are = noted; notes_are = refl; items = []; are_rows = row; count = refl }

@@ -19,6 +19,8 @@ use Rattle.fax_walk.specs.code.Places.{Begins}
 use Rattle.fax_walk.specs.code.Opening.{EndsAt, IsFilePage, IsNamed, PageDue, page_with}
 use Rattle.fax_walk.specs.code.Stages.{IsNoInner, IsNoStrip, IsOpenedAt, IsRefusal, PageState}
 use Rattle.fax_walk.specs.code.Walk.{HasNoRows, IsOpenedFirst}
+use Rattle.fax_walk.specs.Pages.{ends_as}
+use Rattle.fax_walk.proofs.TailLemmas.{before_begun, tail_of_begun}
 
 none_dropped : (n : ℕ) → drop n (let items : List RowItem = [] in items) ≡ []
 none_dropped zero = refl
@@ -27,18 +29,18 @@ none_dropped (suc n) = refl
 -- a walk that begins at no place of the file
 no_beginning : (file : List ℕ) (begun : Begun) (end : End) → Begins file begun (Err end) → HasNoRows file begun end
 no_beginning file begun end begins = record {
-  tail = (Err end, begins, (refl, refl));
-  read = record { begin = Err end; begins = begins; most = omega arith; all = λ some. omega arith; told = λ told is. inl refl };
+  tail = tail_of_begun file begun [] end (Err end, begins, (refl, refl));
+  read = record { before = 0; are_before = before_begun file begun (Err end) begins; most = omega arith; all = λ some. omega arith; told = λ told is. inl refl };
 }
 
 -- a walk whose first place has no row
-no_row : (file : List ℕ) (begun : Begun) (end : End) (at : RowPlace) (n : ℕ) → Begins file begun (Ok (at, n)) → IsRow file at (Err end)
+no_row : (file : List ℕ) (begun : Begun) (end : End) (at : RowPlace) (n : ℕ) → Begins file begun (Ok (at, n)) → IsRow file at (ends_as end)
     → (n ≡ 0) ⊎ EndsBefore end (begun_cursor begun) → HasNoRows file begun end
 no_row file begun end at n begins stop before = record {
-  tail = (Ok (at, n), begins, ([], stop, sym (none_dropped n)));
+  tail = tail_of_begun file begun [] end (Ok (at, n), begins, ([], stop, sym (none_dropped n)));
   read = record {
-    begin = Ok (at, n);
-    begins = begins;
+    before = n;
+    are_before = before_begun file begun (Ok (at, n)) begins;
     most = omega arith;
     all = λ some. absurd (omega (arith, some));
     told = λ told is. elim before [
@@ -50,11 +52,11 @@ no_row file begun end at n begins stop before = record {
 
 module _ (file : List ℕ) (at : Cursor) where
   ends_at : (end : End) → EndsAt file at end → Begins file (At at) (Err end)
-  ends_at end (inl none) = inl (end, none, refl)
+  ends_at end (inl none) = (Err end, none, refl)
   ends_at end (inr (here, page, above, end_is)) =
       let below : nat_lt at.row here.form.rows ≡ false = grind (arith, nat_tests, above) in
       let last : (at.row == here.form.rows) ≡ false = grind (arith, nat_tests, above) in
-      inr (here, page, rw (below, last, end_is) refl)
+      (Ok here, page, rw (below, last, end_is) refl)
 
   pub no_page : (end : End) → EndsAt file at end → HasNoRows file (At at) end
   no_page end ends = no_beginning file (At at) end (ends_at end ends)
@@ -66,7 +68,7 @@ module _ (file : List ℕ) (at : Cursor) where
     begins_on : at.row < due.form.rows → Begins file (At at) (Ok (here at.row, row_in_strip due.form at.row))
     begins_on below =
         let test : nat_lt at.row due.form.rows ≡ true = grind (arith, nat_tests, below) in
-        inr (page_with due.directory due.form, named.3, rw (test, named.1) refl)
+        (Ok (page_with due.directory due.form), named.3, rw (test, named.1) refl)
 
     pub opened_on : at.row < due.form.rows → (result : Result PageState OpenFault)
         → IfOk result (IsOpenedAt due.directory.file (here at.row) (row_in_strip due.form at.row) 0)
@@ -99,13 +101,13 @@ module _ (file : List ℕ) (at : Cursor) where
           let within = named.2 in
           let below : nat_lt at.row due.form.rows ≡ false = grind (arith, nat_tests, past) in
           let last : (at.row == due.form.rows) ≡ true = grind (arith, nat_tests, past, within) in
-          inr (page_with due.directory due.form, named.3, rw (below, last, its.after.given, named.1) refl)
+          (Ok (page_with due.directory due.form), named.3, rw (below, last, its.after.given, named.1) refl)
 
       its_file : due.chain.tiff.file ≡ file
       its_file = its.after.file_is ∙ named.0
 
       pub refused_next : due.form.rows ≤ at.row → (result : Result PageState OpenFault)
-          → IfErr result (IsRefusal (λ end. IsRow due.chain.tiff.file (first_at due.chain.given 0) (Err end)))
+          → IfErr result (IsRefusal (λ end. IsRow due.chain.tiff.file (first_at due.chain.given 0) (ends_as end)))
           → IfErr result (IsRefusal (HasNoRows file (At at)))
       refused_next past (Ok page) refused = refused
       refused_next past (Err Memory) refused = tt
@@ -124,9 +126,9 @@ module _ (file : List ℕ) (at : Cursor) where
 
 module _ (file : List ℕ) (place : LongPlace) where
   ends_inside : (end : End) → EndsAt file place.at end → Begins file (Inside place) (Err end)
-  ends_inside end (inl none) = inl (end, none, refl)
+  ends_inside end (inl none) = (Err end, none, refl)
   ends_inside end (inr (here, page, above, end_is)) =
-      inr (here, page, inr (λ inner. let row = inner.row in omega (arith, above, row), rw end_is refl))
+      (Ok here, page, inr (λ inner. let row = inner.row in omega (arith, above, row), rw end_is refl))
 
   pub no_page_inside : (end : End) → EndsAt file place.at end → HasNoRows file (Inside place) end
   no_page_inside end ends = no_beginning file (Inside place) end (ends_inside end ends)
@@ -134,7 +136,7 @@ module _ (file : List ℕ) (place : LongPlace) where
   module _ (due : PageDue) (named : IsNamed file place.at (Some due)) where
     begun_place : IsInnerOn due.directory.file (page_with due.directory due.form) place → Begins file (Inside place)
         (Ok (inner_at place, 0))
-    begun_place inner = inr (page_with due.directory due.form, named.3, inl (rw (named.0) at inner, refl))
+    begun_place inner = (Ok (page_with due.directory due.form), named.3, inl (rw (named.0) at inner, refl))
 
     pub opened_inside : (result : Result PageState OpenFault) → IfOk result (IsOpenedAt due.directory.file (inner_at place) 0 0)
         → OnOk result (IsInnerOn due.directory.file (page_with due.directory due.form) place) → IfOk result
@@ -155,4 +157,4 @@ module _ (file : List ℕ) (place : LongPlace) where
         no_row file (Inside place) end (inner_at place) 0 (begun_place inner) (rw (named.0) at stop) (inl refl)
     refused_inside (Err (Ended end)) (inr (not, end_is)) =
         no_beginning file (Inside place) end
-        (inr (page_with due.directory due.form, named.3, inr (λ inner. not (rw (sym named.0) at inner), rw end_is refl)))
+        (Ok (page_with due.directory due.form), named.3, inr (λ inner. not (rw (sym named.0) at inner), rw end_is refl))

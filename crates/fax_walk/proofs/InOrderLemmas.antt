@@ -4,9 +4,11 @@ use Rattle.std.proofs.Common.{subst, arith, append_assoc}
 use Rattle.std.proofs.lemmas.List.{take-append-drop}
 use Rattle.std.specs.Prelude.{slice_get}
 use Rattle.fax_walk.specs.declared.end.End.{End}
-use Rattle.fax_walk.specs.Pages.{AreFrom, AreBegun}
+use Rattle.fax_walk.specs.Pages.{AreFrom}
+use Rattle.fax_walk.specs.code.Places.{AreBegun}
 use Rattle.fax_walk.specs.laws.InOrder.{LeadTo}
 use Rattle.fax_bits.specs.laws.Codes.{IsOne}
+use Rattle.fax_walk.specs.Pages.{Step, goes_on, ends_as}
 
 -- there is one answer, and no other
 pub record IsOneAnswer {A : Type 0} (holds : A → Type 0) : Type 0 where
@@ -17,38 +19,38 @@ pub record IsOneAnswer {A : Type 0} (holds : A → Type 0) : Type 0 where
 pub same_answer : {A : Type 0} {holds : A → Type 0} → IsOneAnswer holds → (x y : A) → holds x → holds y → x ≡ y
 same_answer only x y is is_too = only.one x is ∙ sym (only.one y is_too)
 
-pub same_step : {S A : Type 0} {next : Result (A × S) End → Type 0} → IsOneAnswer next → (x y : A) (to place : S)
-    → next (Ok (x, to)) → next (Ok (y, place)) → (x ≡ y) × (to ≡ place)
+pub same_step : {S A : Type 0} {next : Step A S → Type 0} → IsOneAnswer next → (x y : A) (to place : S)
+    → next (goes_on x to) → next (goes_on y place) → (x ≡ y) × (to ≡ place)
 same_step {S} {A} only x y to place is is_too =
-    let same = same_answer only (Ok (x, to)) (Ok (y, place)) is is_too in
+    let same = same_answer only (goes_on x to) (goes_on y place) is is_too in
     (ap (item_of x) same, ap (place_of to) same)
   where
-    item_of : A → Result (A × S) End → A
-    item_of other (Err end) = other
-    item_of other (Ok step) = step.0
+    item_of : A → Step A S → A
+    item_of other (ends_as end) = other
+    item_of other (goes_on item to) = item
 
-    place_of : S → Result (A × S) End → S
-    place_of other (Err end) = other
-    place_of other (Ok step) = step.1
+    place_of : S → Step A S → S
+    place_of other (ends_as end) = other
+    place_of other (goes_on item to) = to
 
 -- what is handed out from a place on, if something is
-pub record IsListed {S A : Type 0} (next : S → Result (A × S) End → Type 0) (at : S) : Type 0 where
+pub record IsListed {S A : Type 0} (next : S → Step A S → Type 0) (at : S) : Type 0 where
   pub items : List A
   pub end : End
   pub is : AreFrom next at items end
 
-module _ {S A : Type 0} (next : S → Result (A × S) End → Type 0) (answers : (at : S) → IsOneAnswer (next at)) where
+module _ {S A : Type 0} (next : S → Step A S → Type 0) (answers : (at : S) → IsOneAnswer (next at)) where
   -- two lists from a place on are one
   pub one_from : (at : S) (items others : List A) (end other : End) → AreFrom next at items end → AreFrom next at others other
       → (items ≡ others) × (end ≡ other)
   one_from at [] [] end other is is_too =
-      let same = same_answer (answers at) (Err end) (Err other) is is_too in
+      let same = same_answer (answers at) (ends_as end) (ends_as other) is is_too in
       (refl, cc)
   one_from at [] (y ∷ others) end other is (to, is_too, rest) =
-      let same = same_answer (answers at) (Err end) (Ok (y, to)) is is_too in
+      let same = same_answer (answers at) (ends_as end) (goes_on y to) is is_too in
       absurd cc
   one_from at (x ∷ items) [] end other (to, is, rest) is_too =
-      let same = same_answer (answers at) (Err other) (Ok (x, to)) is_too is in
+      let same = same_answer (answers at) (ends_as other) (goes_on x to) is_too is in
       absurd cc
   one_from at (x ∷ items) (y ∷ others) end other (to, is, rest) (to', is_too, rest') =
       let same = same_step (answers at) x y to to' is is_too in
@@ -87,7 +89,7 @@ module _ {S A : Type 0} (next : S → Result (A × S) End → Type 0) (answers :
             (is.2 ∙ ap (drop n) same.0, same.1);
       }
 
-module _ {S A : Type 0} (next : S → Result (A × S) End → Type 0) where
+module _ {S A : Type 0} (next : S → Step A S → Type 0) where
   -- the first items of what is handed out lead to a place, and the others are handed out from there
   pub split_at : (at : S) (before after : List A) (end : End) → AreFrom next at (before ++ after) end
       → (to : S) × LeadTo next at before to × AreFrom next to after end
@@ -97,7 +99,7 @@ module _ {S A : Type 0} (next : S → Result (A × S) End → Type 0) where
       (later.0, (place, step, later.1), later.2)
 
   -- one more item
-  pub leads_on : (at to : S) (items : List A) (item : A) (later : S) → LeadTo next at items to → next to (Ok (item, later))
+  pub leads_on : (at to : S) (items : List A) (item : A) (later : S) → LeadTo next at items to → next to (goes_on item later)
       → LeadTo next at (items ++ item ∷ []) later
   leads_on at to [] item later to_is step = (later, rw (← to_is) step, refl)
   leads_on at to (x ∷ items) item later (place, first, leads) step = (place, first, leads_on place to items item later leads step)
@@ -115,12 +117,12 @@ module _ {S A : Type 0} (next : S → Result (A × S) End → Type 0) where
   joined at to (x ∷ items) after end (place, step, leads) rest = (place, step, joined place to items after end leads rest)
 
   -- items that lead to a place, and the end there
-  pub ended_at : (at to : S) (items : List A) (end : End) → LeadTo next at items to → next to (Err end) → AreFrom next at items end
+  pub ended_at : (at to : S) (items : List A) (end : End) → LeadTo next at items to → next to (ends_as end) → AreFrom next at items end
   ended_at at to [] end to_is ends = rw (← to_is) ends
   ended_at at to (x ∷ items) end (place, step, leads) ends = (place, step, ended_at place to items end leads ends)
 
   -- a fact that each step keeps holds where items lead
-  pub kept : (holds : S → Type 0) → ((at : S) (item : A) (to : S) → holds at → next at (Ok (item, to)) → holds to)
+  pub kept : (holds : S → Type 0) → ((at : S) (item : A) (to : S) → holds at → next at (goes_on item to) → holds to)
       → (at to : S) (items : List A) → LeadTo next at items to → holds at → holds to
   kept holds keeps at to [] to_is here = subst holds (sym to_is) here
   kept holds keeps at to (x ∷ items) (place, step, leads) here = kept holds keeps place to items leads (keeps at x place here step)
@@ -153,7 +155,7 @@ divided_at {A} (y ∷ xs) (suc n) x e =
     let m : suc n + 1 ≡ suc (n + 1) = omega arith in
     (y ∷ later.0, rw m (ap (λ (l : List A). y ∷ l) later.1), omega (arith, later.2))
 
-module _ {S A : Type 0} (next : S → Result (A × S) End → Type 0) where
+module _ {S A : Type 0} (next : S → Step A S → Type 0) where
   -- an item, the place where it was read, and what is handed out after it
   pub record IsSplit (begin : Result (S × ℕ) End) (item : A) (after : List A) (end : End) : Type 0 where
     pub from : S
@@ -163,7 +165,7 @@ module _ {S A : Type 0} (next : S → Result (A × S) End → Type 0) where
     pub at : S
     pub lead : LeadTo next from front at
     pub to : S
-    pub step : next at (Ok (item, to))
+    pub step : next at (goes_on item to)
     pub rest : AreFrom next to after end
 
   nothing : (n : ℕ) (item : A) → slice_get [] n ≡ Some item → ⊥

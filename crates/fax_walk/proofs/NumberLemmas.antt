@@ -1,22 +1,23 @@
 -- What stands at a number of what is handed out, by the items that lead there.
-use Rattle.std.proofs.Common.{◌≡◌, ℕ, zero, suc, ◌+◌, ◌<◌, List, [], ◌∷◌, ◌++◌, length, take, Some, Result, Ok, Err, refl, ap, ◌∙◌}
+use Rattle.std.proofs.Common.{◌≡◌, ℕ, zero, suc, ◌+◌, ◌<◌, List, [], ◌∷◌, ◌++◌, length, take, Some, refl, ap, ◌∙◌}
 use Rattle.std.proofs.Common.{subst, arith}
 use Rattle.std.specs.Prelude.{slice_get}
 use Rattle.fax_walk.specs.declared.end.End.{End}
 use Rattle.fax_walk.specs.Pages.{AreFrom}
 use Rattle.fax_walk.specs.laws.InOrder.{LeadTo}
 use Rattle.fax_walk.proofs.InOrderLemmas.{IsOneAnswer, same_step}
+use Rattle.fax_walk.specs.Pages.{Step, goes_on, ends_as}
 
 -- the item at a number, and the places before and after it
-pub record StandsAt {S A : Type 0} (next : S → Result (A × S) End → Type 0) (from : S) (items : List A) (n : ℕ) : Type 0 where
+pub record StandsAt {S A : Type 0} (next : S → Step A S → Type 0) (from : S) (items : List A) (n : ℕ) : Type 0 where
   pub item : A
   pub at : S
   pub later : S
   pub lead : LeadTo next from (take n items) at
-  pub step : next at (Ok (item, later))
+  pub step : next at (goes_on item later)
   pub one_more : take (n + 1) items ≡ take n items ++ item ∷ []
 
-module _ {S A : Type 0} (next : S → Result (A × S) End → Type 0) where
+module _ {S A : Type 0} (next : S → Step A S → Type 0) where
   pub stands_at : (from to : S) (items : List A) (n : ℕ) → LeadTo next from items to → n < length items → StandsAt next from items n
   stands_at from to [] n lead within = absurd (omega (arith, within))
   stands_at from to (x ∷ items) zero (place, step, lead) within =
@@ -36,7 +37,7 @@ module _ {S A : Type 0} (next : S → Result (A × S) End → Type 0) where
   module _ (answers : (at : S) → IsOneAnswer (next at)) where
     -- what is handed out after so many items that lead to a place is what the place has
     pub next_led : (from to : S) (front all : List A) (end : End) (item : A) → AreFrom next from all end → LeadTo next from front to
-        → slice_get all (length front) ≡ Some item → (later : S) × next to (Ok (item, later))
+        → slice_get all (length front) ≡ Some item → (later : S) × next to (goes_on item later)
     next_led from to [] [] end item are to_is there = absurd cc
     next_led from to (x ∷ front) [] end item are lead there = absurd cc
     next_led from to [] (y ∷ all) end item (place, step, rest) to_is there =
@@ -48,7 +49,7 @@ module _ {S A : Type 0} (next : S → Result (A × S) End → Type 0) where
 
     -- and where all are handed out the place has the end
     pub end_led : (from to : S) (front all : List A) (end : End) → AreFrom next from all end → LeadTo next from front to
-        → length all ≡ length front → next to (Err end)
+        → length all ≡ length front → next to (ends_as end)
     end_led from to [] [] end are to_is count = rw to_is are
     end_led from to (x ∷ front) [] end are lead count = absurd (omega (arith, count))
     end_led from to [] (y ∷ all) end are to_is count = absurd (omega (arith, count))

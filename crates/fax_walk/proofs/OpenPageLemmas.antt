@@ -28,7 +28,8 @@ use Rattle.fax_walk.specs.declared.opening.OpenFault.{OpenFault}
 use Rattle.fax_walk.specs.declared.opening.OpenFault.TheVariants.{Memory, Ended}
 use Rattle.fax_walk.specs.Pages.{LongPlace}
 use Rattle.fax_walk.specs.Items.{Inner, RowItem, RowPlace, IsRow, before, exchanged, first_at}
-use Rattle.fax_walk.specs.Items.{place_after, IsInnerOn, inner_at}
+use Rattle.fax_walk.specs.Items.{IsInnerOn, inner_at}
+use Rattle.fax_walk.specs.code.Places.{place_over}
 use Rattle.fax_walk.specs.code.Places.{IsInner, long_at}
 use Rattle.fax_walk.specs.code.Places.{row_in_strip, strip_at}
 use Rattle.fax_walk.specs.code.Places.{place_on}
@@ -42,6 +43,7 @@ use Rattle.fax_walk.proofs.InOrderLemmas.{leads_on}
 use Rattle.fax_walk.proofs.RunLemmas.{pels_after}
 use Rattle.fax_walk.proofs.StripPlaceLemmas.{in_strip}
 use Rattle.fax_walk.proofs.RowLawLemmas.{exchanged_twice}
+use Rattle.fax_walk.specs.Pages.{goes_on, ends_as}
 
 -- each strip of a page holds some of its rows
 pub strip_begins : (form : PageForm) (number : ℕ) → IsPageForm form → number < form.strips → number * form.rows_per_strip < form.rows
@@ -146,9 +148,9 @@ module _ (page : PageState) (limits : IsPageForm page.form) (strip_is : IsStripO
             (drop strip.place (bits page.form.order page.strip.bytes))
         line = rw (reads.same_form, reads.same_bytes, strip_is.form_is) at reads.line
 
-        pub row_read : IsRow page.directory.file (place_of page) (Ok (item, place_after page.form item))
-        row_read = rw stands.place_is (inr (
-          page_with page.directory page.form,
+        pub row_read : IsRow page.directory.file (place_of page) (goes_on item (place_over page.form item))
+        row_read = rw stands.place_is (
+          Ok (page_with page.directory page.form),
           its.here (row_of page),
           rw (numbers.0, strip_is.bytes_are) (
             refl,
@@ -158,27 +160,27 @@ module _ (page : PageState) (limits : IsPageForm page.form) (strip_is : IsStripO
             refl,
             refl,
           ),
-        ))
+        )
 
         pub place_next : place_on page.form page.page (page.number * n + strip.row)
             (record { bits = strip.place; reference = strip.reference })
-            ≡ place_after page.form item
+            ≡ place_over page.form item
         place_next =
             let next : page.number * n + strip.row ≡ row_of page + 1 = omega (arith, reads.next_row) in
             rw (next, ← twice) refl
 
       -- it is not there
       pub row_fault : (fault : StripFault) (strip : StripState) → MeetsFault page.strip fault strip
-          → IsRow page.directory.file (place_of page) (Err (Fault page.page (row_of page) (Strip fault)))
-      row_fault fault strip meets = rw stands.place_is (inr (
-        page_with page.directory page.form,
+          → IsRow page.directory.file (place_of page) (ends_as (Fault page.page (row_of page) (Strip fault)))
+      row_fault fault strip meets = rw stands.place_is (
+        Ok (page_with page.directory page.form),
         its.here (row_of page),
         rw (numbers.0, strip_is.bytes_are) (
           fault,
           rw (numbers.1, stands.bits_are, stands.reference_is) (rw strip_is.form_is at meets.cause),
           refl,
         ),
-      ))
+      )
 
   -- the strip is read to its end, and the page goes on
   module _ (all_read : page.strip.row ≡ page.strip.form.rows) (due : row_of page < page.form.rows) where
@@ -192,12 +194,12 @@ module _ (page : PageState) (limits : IsPageForm page.form) (strip_is : IsStripO
     first_there = at_first page.form page.page (row_of page) _ due next_numbers.1
 
     pub strip_outside : IsFilePage page.page page.chain page.directory page.form → bytes_of page.directory (page.number + 1) ≡ None
-        → IsRow page.directory.file (place_of page) (Err (Fault page.page (row_of page) (File StripOutside)))
-    strip_outside its outside = rw first_there (inr (
-      page_with page.directory page.form,
+        → IsRow page.directory.file (place_of page) (ends_as (Fault page.page (row_of page) (File StripOutside)))
+    strip_outside its outside = rw first_there (
+      Ok (page_with page.directory page.form),
       its.here (row_of page),
       rw (next_numbers.0, outside, next_numbers.0) (rw next_row refl),
-    ))
+    )
 
     pub next_row_is : (strip : StripState) → strip.row ≡ 0 → (page.number + 1) * n + strip.row ≡ row_of page
     next_row_is strip none = omega (arith, none, next_row)
@@ -273,17 +275,17 @@ module _ (old page : PageState) (keeps : KeepsPlace old page) where
       let item_is : item ≡ its_item = rw (same.page, keeps.row, same.form) refl in
       let step = row_read page limits strip_is due its strip shown reads shown_is reads.within in
       let after = place_next page limits strip_is due its strip shown reads shown_is reads.within in
-      let read : IsRow page.directory.file (place_of page) (Ok (its_item, place_of new)) =
-      subst (λ (i : RowItem). IsRow page.directory.file (place_of page) (Ok (i, place_of new))) item_is
-      (subst (λ (t : RowPlace). IsRow page.directory.file (place_of page) (Ok (item, t))) (sym after) step) in
+      let read : IsRow page.directory.file (place_of page) (goes_on its_item (place_of new)) =
+      subst (λ (i : RowItem). IsRow page.directory.file (place_of page) (goes_on i (place_of new))) item_is
+      (subst (λ (t : RowPlace). IsRow page.directory.file (place_of page) (goes_on item t)) (sym after) step) in
       record {
         same = record { page = same.page; form = same.form; first = same.first; directory = same.directory };
         still_open = record { no_fault = reads.still_no_fault; first = rw (same.first, same.form) is_open.first };
-        step = subst (λ (d : TiffDirectory). IsRow d.file (place_of old) (Ok (its_item, place_of new))) same.directory
-            (subst (λ (t : RowPlace). IsRow page.directory.file t (Ok (its_item, place_of new))) keeps.place read);
+        step = subst (λ (d : TiffDirectory). IsRow d.file (place_of old) (goes_on its_item (place_of new))) same.directory
+            (subst (λ (t : RowPlace). IsRow page.directory.file t (goes_on its_item (place_of new))) keeps.place read);
         next_row = omega (arith, reads.next_row, keeps.row);
         one_more = omega (arith, keeps.read, read_is);
-        after = after ∙ ap (λ (f : PageForm). place_after f item) same.form ∙ ap (place_after old.form) item_is;
+        after = after ∙ ap (λ (f : PageForm). place_over f item) same.form ∙ ap (place_over old.form) item_is;
       }
 
   pub stops_kept : (end : End) → StopsAtRow page end → StopsAtRow old end
@@ -336,7 +338,7 @@ module _ (old now new : PageState) (items : List RowItem) (skips : HasSkipped ol
 
   lead_on : LeadTo (IsRow old.directory.file) (place_of old) (items ++ its_item ∷ []) (place_of new)
   lead_on = leads_on (IsRow old.directory.file) (place_of old) (place_of now) items its_item (place_of new) skips.lead
-      (subst (λ (d : TiffDirectory). IsRow d.file (place_of now) (Ok (its_item, place_of new))) skips.same.directory reads.step)
+      (subst (λ (d : TiffDirectory). IsRow d.file (place_of now) (goes_on its_item (place_of new))) skips.same.directory reads.step)
 
   count_on : length (items ++ its_item ∷ []) ≡ length items + 1
   count_on = length-append items (its_item ∷ [])
@@ -368,7 +370,7 @@ module _ (old now new : PageState) (items : List RowItem) (skips : HasSkipped ol
         item_is = item_is;
         here = rw (same_on.directory, same_on.form, reads.same.page) at (its.here (row_of now));
         within = subst (λ (f : PageForm). row_of now < f.rows) skips.same.form due;
-        after = reads.after ∙ ap (λ (f : PageForm). place_after f its_item) skips.same.form;
+        after = reads.after ∙ ap (λ (f : PageForm). place_over f its_item) skips.same.form;
         next_row = omega (arith, reads.next_row, skips.rows, count);
         read = omega (arith, reads.one_more, skips.read, count);
         few = few;
@@ -391,8 +393,8 @@ module _ (due : PageDue) (first : ℕ) (its : IsFilePage due.page due.chain due.
 
   pub refused_strip : bytes_of due.directory number ≡ None → IsNoStrip due first (Fault due.page begins (File StripOutside))
   refused_strip outside = record {
-    stop = inr (
-      page_with due.directory due.form,
+    stop = (
+      Ok (page_with due.directory due.form),
       its.here begins,
       rw (begin_numbers.0, outside, begin_numbers.0) refl,
     );
@@ -440,11 +442,11 @@ opened_after file due p read (Err fault) page_is file_is opened = opened
 
 pub refused_after : (file : List ℕ) (due : PageDue) (p : ℕ) (result : Result PageState OpenFault) → due.page ≡ p
     → due.directory.file ≡ file → IfErr result (IsRefusal (IsNoStrip due 0))
-    → IfErr result (IsRefusal (λ end. IsRow file (first_at p 0) (Err end)))
+    → IfErr result (IsRefusal (λ end. IsRow file (first_at p 0) (ends_as end)))
 refused_after file due p (Ok page) page_is file_is refused = refused
 refused_after file due p (Err Memory) page_is file_is refused = tt
 refused_after file due p (Err (Ended end)) page_is file_is refused =
-    rw file_is at (subst (λ (t : RowPlace). IsRow due.directory.file t (Err end)) (page_first due p page_is) refused.stop)
+    rw file_is at (subst (λ (t : RowPlace). IsRow due.directory.file t (ends_as end)) (page_first due p page_is) refused.stop)
 
 -- runs that are those of a row are a place's
 pub inner_is : (width : ℕ) (bytes : List ℕ) (place : LongPlace) (reference : List Colour) → place.bits ≤ 8 * length bytes
@@ -469,7 +471,7 @@ module _ (due : PageDue) (place : LongPlace) (its : IsFilePage due.page due.chai
       → IsNoInner due place (Fault due.page (its_number * due.form.rows_per_strip) (File StripOutside))
   no_strip outside = inl (
     record { row = below; not_first = some; fits = rw outside tt },
-    inr (page_with due.directory due.form, its_here, rw outside (rw same_page refl)),
+    (Ok (page_with due.directory due.form), its_here, rw outside (rw same_page refl)),
   )
 
   module _ (bytes : List ℕ) (there : bytes_of due.directory its_number ≡ Some bytes) where

@@ -28,7 +28,7 @@ use Rattle.fax_walk.proofs.PageLawLemmas.{page_here}
 -- page p of a file ends the chain there
 ends_at_page : (file : List ℕ) (p : ℕ) (end : End) → IsPageAt file (record { page = p; row = 0 }) (Err end)
     → IsCheckedTo file (before_page p) [] 0 end
-ends_at_page file p end at = ends_at file (before_page p) end (inl (end, at, refl)) (inl (end, at, refl))
+ends_at_page file p end at = ends_at file (before_page p) end (Err end, at, refl) (Err end, at, refl)
 
 -- a page whose fields are refused
 pub refused_page : (directory : TiffDirectory) (p : ℕ) (old new : List Note) (fault : FileFault) → IsDirectoryOfPage directory p
@@ -62,7 +62,7 @@ module _ (directory : TiffDirectory) (form : PageForm) (p : ℕ) (some : IsWhole
       let zero : 0 * form.rows_per_strip ≡ 0 = omega arith in
       rw (test, zero) (record {
         found = on_entries ∷ [];
-        lead = ((p, Some 0), (inr (_, rw form_is at (here 0), refl)), refl);
+        lead = ((p, Some 0), (Ok _, rw form_is at (here 0), refl), refl);
         notes_are = sym (append-nil on_entries);
         items = [];
         lead_rows = refl;

@@ -13,7 +13,7 @@ use Rattle.fax_files.specs.laws.Files.{FilesHaveOneChain}
 use Rattle.fax_walk.specs.declared.cursor.Cursor.{Cursor}
 use Rattle.fax_walk.specs.declared.end.End.{End}
 use Rattle.fax_walk.specs.declared.end.End.TheVariants.{Fault, Proper}
-use Rattle.fax_walk.specs.Pages.{AreFrom, AreBegun, FormItem, FilePage}
+use Rattle.fax_walk.specs.Pages.{AreFrom, FormItem, FilePage}
 use Rattle.fax_walk.specs.code.Opening.{page_over}
 use Rattle.fax_walk.specs.code.Opening.{IsPageUnder}
 use Rattle.fax_walk.specs.Pages.{IsPageAt, IsOnPage, IsForm, IsFormTail}
@@ -21,7 +21,10 @@ use Rattle.fax_walk.specs.code.Pages.{first_form}
 use Rattle.fax_walk.specs.code.Opening.{end_past_chain, page_or_end}
 use Rattle.fax_walk.specs.laws.Tails.{FilesHaveOneForms, CursorsHaveOneFormTail, FormTailOfPage, FormTailOfStart, FormsStandByNumber}
 use Rattle.fax_walk.specs.laws.Tails.{FormTailsGoOn}
+use Rattle.fax_walk.specs.code.Places.{AreBegun}
+use Rattle.fax_walk.proofs.TailLemmas.{begun_of_forms, forms_of_begun}
 use Rattle.fax_walk.proofs.InOrderLemmas.{IsOneAnswer, IsListed, same_answer, same_step, one_list, one_begun, split_at_number}
+use Rattle.fax_walk.specs.Pages.{Step, goes_on, ends_as}
 
 -- an equation has one answer
 pub only_it : {A : Type 0} (it : A) → IsOneAnswer (λ (other : A). other ≡ it)
@@ -71,34 +74,40 @@ module _ (chains : FilesHaveOneChain) (file : List ℕ) where
   pub one_page : (at : Cursor) → IsOneAnswer (IsPageAt file at)
   one_page at = let only = page_under at (header file) in record { it = only.it; is = only.is; one = only.one }
 
-  asked_one : {A : Type 0} (at : Cursor) (asked : FilePage → Result A End → Type 0) → ((here : FilePage) → IsOneAnswer (asked here))
+  asked_one : {A : Type 0} (at : Cursor) (asked : FilePage → A → Type 0) (ended : End → A) → ((here : FilePage) → IsOneAnswer (asked here))
       → (found : Result FilePage End) → IsPageAt file at found
-      → ((other : Result FilePage End) → IsPageAt file at other → other ≡ found) → IsOneAnswer (IsOnPage file at asked)
-  asked_one {A} at asked answers (Err end) is only = record { it = Err end; is = inl (end, is, refl); one = one }
+      → ((other : Result FilePage End) → IsPageAt file at other → other ≡ found)
+      → IsOneAnswer (λ (answer : A). IsOnPage file at (λ here. asked here answer) (λ end. answer ≡ ended end))
+  asked_one {A} at asked ended answers (Err end) is only = record { it = ended end; is = (Err end, is, refl); one = one }
     where
-      one : (other : Result A End) → IsOnPage file at asked other → other ≡ Err end
-      one other (inl (its, page, e)) =
+      one : (other : A) → IsOnPage file at (λ here. asked here other) (λ end. other ≡ ended end) → other ≡ ended end
+      one other (Err its, page, e) =
           let err : ◌≡◌ {A = Result FilePage End} (Err its) (Err end) = only (Err its) page in
-          let same : its ≡ end = cc in e ∙ ap (λ (x : End). Err x) same
-      one other (inr (here, page, e)) =
+          let same : its ≡ end = cc in e ∙ ap ended same
+      one other (Ok here, page, e) =
           let none : ◌≡◌ {A = Result FilePage End} (Ok here) (Err end) = only (Ok here) page in absurd cc
-  asked_one {A} at asked answers (Ok here) is only =
-      record { it = (answers here).it; is = inr (here, is, (answers here).is); one = one }
+  asked_one {A} at asked ended answers (Ok here) is only =
+      record { it = (answers here).it; is = (Ok here, is, (answers here).is); one = one }
     where
-      one : (other : Result A End) → IsOnPage file at asked other → other ≡ (answers here).it
-      one other (inl (its, page, e)) =
+      one : (other : A) → IsOnPage file at (λ there. asked there other) (λ end. other ≡ ended end) → other ≡ (answers here).it
+      one other (Err its, page, e) =
           let none : ◌≡◌ {A = Result FilePage End} (Err its) (Ok here) = only (Err its) page in absurd cc
-      one other (inr (there, page, e)) =
+      one other (Ok there, page, e) =
           let ok : ◌≡◌ {A = Result FilePage End} (Ok there) (Ok here) = only (Ok there) page in
           let same : there ≡ here = cc in (answers here).one other (subst (λ (h : FilePage). asked h other) same e)
 
   -- what has one answer on each page has one on the page that a cursor names
-  pub one_on_page : {A : Type 0} (at : Cursor) (asked : FilePage → Result A End → Type 0) → ((here : FilePage) → IsOneAnswer (asked here))
-      → IsOneAnswer (IsOnPage file at asked)
-  one_on_page at asked answers = let found = one_page at in asked_one at asked answers found.it found.is found.one
+  pub one_on_page : {A : Type 0} (at : Cursor) (asked : FilePage → A → Type 0) (ended : End → A)
+      → ((here : FilePage) → IsOneAnswer (asked here))
+      → IsOneAnswer (λ (answer : A). IsOnPage file at (λ here. asked here answer) (λ end. answer ≡ ended end))
+  one_on_page at asked ended answers =
+      let found = one_page at in asked_one at asked ended answers found.it found.is found.one
 
   pub one_form : (p : ℕ) → IsOneAnswer (IsForm file p)
-  one_form p = one_on_page (record { page = p; row = 0 }) _ (λ here. only_it (Ok (record { page = p; form = here.form }, p + 1)))
+  one_form p =
+      let form_of : FilePage → Step FormItem ℕ = λ here. goes_on (record { page = p; form = here.form }) (p + 1) in
+      let only = one_on_page (record { page = p; row = 0 }) (λ here step. step ≡ form_of here) ends_as (λ here. only_it (form_of here)) in
+      record { it = only.it; is = only.is; one = only.one }
 
 -- the forms from page p on, with what is at the page
 abbrev pub FormsAt : List ℕ → ℕ → Result FilePage End → List FormItem → End → Type 0
@@ -111,17 +120,17 @@ module _ (chains : FilesHaveOneChain) (file : List ℕ) where
       → (forms : List FormItem) (end : End)
       → AreFrom (IsForm file) p forms end → FormsAt file p found forms end
   forms_at p (Err none) is [] end step =
-      let same = same_answer (one_form chains file p) (Err end) (Err none) step (inl (none, is, refl)) in
+      let same = same_answer (one_form chains file p) (ends_as end) (ends_as none) step (Err none, is, refl) in
       (refl, cc)
   forms_at p (Err none) is (x ∷ forms) end (to, step, rest) =
-      let same = same_answer (one_form chains file p) (Ok (x, to)) (Err none) step (inl (none, is, refl)) in
+      let same = same_answer (one_form chains file p) (goes_on x to) (ends_as none) step (Err none, is, refl) in
       absurd cc
   forms_at p (Ok here) is [] end step =
       let same =
-      same_answer (one_form chains file p) (Err end) (Ok (record { page = p; form = here.form }, p + 1)) step (inr (here, is, refl)) in
+      same_answer (one_form chains file p) (ends_as end) (goes_on (record { page = p; form = here.form }) (p + 1)) step (Ok here, is, refl) in
       absurd cc
   forms_at p (Ok here) is (x ∷ forms) end (to, step, rest) =
-      let same = same_step (one_form chains file p) x (record { page = p; form = here.form }) to (p + 1) step (inr (here, is, refl)) in
+      let same = same_step (one_form chains file p) x (record { page = p; form = here.form }) to (p + 1) step (Ok here, is, refl) in
       (forms, ap (λ (i : FormItem). i ∷ forms) same.0, subst (λ (n : ℕ). AreFrom (IsForm file) n forms end) same.1 rest)
 
 -- the pages after a directory that stands in the chain
@@ -140,11 +149,11 @@ module _ (file : List ℕ) (head : Header) (is_head : header file ≡ Ok head) (
   form_first : (p q : ℕ) → IsPageAt file (record { page = p; row = 0 }) (page_or_end head.endian q p (page head.endian file q))
       → IsListed (IsForm file) (p + 1) → (answer : Result PageForm FileFault) → page head.endian file q ≡ answer → IsListed (IsForm file) p
   form_first p q here more (Err refused) is =
-      record { items = []; end = Fault p 0 (File refused); is = (inl (Fault p 0 (File refused), rw is at here, refl)) }
+      record { items = []; end = Fault p 0 (File refused); is = (Err (Fault p 0 (File refused)), rw is at here, refl) }
   form_first p q here more (Ok form) is = record {
     items = record { page = p; form = form } ∷ more.items;
     end = more.end;
-    is = (p + 1, (inr (record { endian = head.endian; offset = q; form = form }, rw is at here, refl)), more.is);
+    is = (p + 1, (Ok (record { endian = head.endian; offset = q; form = form }), rw is at here, refl), more.is);
   }
 
   -- from each page on there are forms, up to the chain's end
@@ -152,7 +161,7 @@ module _ (file : List ℕ) (head : Header) (is_head : header file ≡ Ok head) (
   forms_after [] p e =
       let at : Cursor = record { page = p; row = 0 } in
       let none = end_past_chain (length offsets) fault at in
-      record { items = []; end = none; is = (inl (none, no_page at e, refl)) }
+      record { items = []; end = none; is = (Err none, no_page at e, refl) }
   forms_after (q ∷ later) p e =
       form_first p q (some_page (record { page = p; row = 0 }) q later e) (forms_after later (p + 1) (next_dropped p offsets q later e))
       (page head.endian file q) refl
@@ -160,7 +169,7 @@ module _ (file : List ℕ) (head : Header) (is_head : header file ≡ Ok head) (
 module _ (chains : FilesHaveOneChain) (file : List ℕ) where
   forms_listed : (p : ℕ) (answer : Result Header FileFault) → header file ≡ answer → IsListed (IsForm file) p
   forms_listed p (Err fault) e =
-      record { items = []; end = Fault 0 0 (File fault); is = (inl (Fault 0 0 (File fault), rw (e, IsPageAt) refl, refl)) }
+      record { items = []; end = Fault 0 0 (File fault); is = (Err (Fault 0 0 (File fault)), rw (e, IsPageAt) refl, refl) }
   forms_listed p (Ok head) e =
       let chain = chains head file in
       forms_after file head e chain.offsets chain.end chain.is (drop p chain.offsets) p refl
@@ -170,59 +179,59 @@ one_forms chains file = one_list (IsForm file) (one_form chains file) 0 (forms_l
 
 pub one_form_tail : FilesHaveOneChain → CursorsHaveOneFormTail
 one_form_tail chains file at =
-    let begin = one_on_page chains file at (λ here b. b ≡ first_form at here.form) (λ here. only_it (first_form at here.form)) in
+    let begin = one_on_page chains file at (λ here (b : Result (ℕ × ℕ) End). b ≡ first_form at here.form) Err
+    (λ here. only_it (first_form at here.form)) in
     let all = one_begun (IsForm file) (one_form chains file) begin.it (λ p n e. forms_listed chains file p (header file) refl) in
     record {
       items = all.items;
       end = all.end;
-      is = (begin.it, begin.is, all.is);
+      is = forms_of_begun file at all.items all.end (begin.it, begin.is, all.is);
       one = λ others other is.
-          all.one others other (subst (λ (b : Result (ℕ × ℕ) End). AreBegun (IsForm file) b others other) (begin.one is.0 is.1) is.2);
+          let was = begun_of_forms file at others other is in
+          all.one others other (subst (λ (b : Result (ℕ × ℕ) End). AreBegun (IsForm file) b others other) (begin.one was.0 was.1) was.2);
     }
 
 module _ (file : List ℕ) where
   to_forms : (p : ℕ) (forms : List FormItem) (end : End) → IsFormTail file (record { page = p; row = 0 }) forms end
       → AreFrom (IsForm file) p forms end
-  to_forms p forms end (begin, (inl (none, page, e)), are) =
-      let both : (forms ≡ []) × (end ≡ none) = subst (λ (b : Result (ℕ × ℕ) End). AreBegun (IsForm file) b forms end) e are in
-      rw (both.0, both.1) (inl (none, page, refl))
-  to_forms p forms end (begin, (inr (here, page, e)), are) =
-      let there : AreBegun (IsForm file) (Ok (p, 0)) forms end =
-      subst (λ (b : Result (ℕ × ℕ) End). AreBegun (IsForm file) b forms end) e are in
-      subst (λ (l : List FormItem). AreFrom (IsForm file) p l end) (sym there.2) there.1
+  to_forms p forms end (Err none, page, is) =
+      let there : AreFrom (IsForm file) p [] none = (Err none, page, refl) in
+      subst (λ (l : List FormItem). AreFrom (IsForm file) p l end) (sym is.0) (subst (AreFrom (IsForm file) p []) (sym is.1) there)
+  to_forms p forms end (Ok here, page, inl (first, are)) = are
+  to_forms p forms end (Ok here, page, inr (inl (some, within, are))) = absurd (omega (arith, some))
+  to_forms p forms end (Ok here, page, inr (inr (past, none, end_is))) = absurd (omega (arith, past))
 
   of_forms : (p : ℕ) (forms : List FormItem) (end : End) → AreFrom (IsForm file) p forms end
       → IsFormTail file (record { page = p; row = 0 }) forms end
-  of_forms p [] end (inl (none, page, e)) = let same : end ≡ none = cc in (Err none, (inl (none, page, refl)), (refl, same))
-  of_forms p [] end (inr (here, page, e)) = absurd cc
-  of_forms p (x ∷ forms) end (to, (inl (none, page, e)), rest) = absurd cc
-  of_forms p (x ∷ forms) end (to, (inr (here, page, e)), rest) =
-      (Ok (p, 0), (inr (here, page, refl)), (x ∷ forms, (to, (inr (here, page, e)), rest), refl))
+  of_forms p [] end (Err none, page, e) = let same : end ≡ none = cc in (Err none, page, (refl, same))
+  of_forms p [] end (Ok here, page, e) = absurd cc
+  of_forms p (x ∷ forms) end (to, (Err none, page, e), rest) = absurd cc
+  of_forms p (x ∷ forms) end (to, (Ok here, page, e), rest) = (Ok here, page, inl (refl, (to, (Ok here, page, e), rest)))
 
-  form_step : (p : ℕ) (item : FormItem) (to : ℕ) → IsForm file p (Ok (item, to)) → to ≡ item.page + 1
-  form_step p item to (inl (none, page, e)) = absurd cc
-  form_step p item to (inr (here, page, e)) = ap to_of e ∙ ap (λ (i : FormItem). i.page + 1) (sym (ap item_of e))
+  form_step : (p : ℕ) (item : FormItem) (to : ℕ) → IsForm file p (goes_on item to) → to ≡ item.page + 1
+  form_step p item to (Err none, page, e) = absurd cc
+  form_step p item to (Ok here, page, e) = ap to_of e ∙ ap (λ (i : FormItem). i.page + 1) (sym (ap item_of e))
     where
-      to_of : Result (FormItem × ℕ) End → ℕ
-      to_of (Ok step) = step.1
-      to_of (Err none) = to
+      to_of : Step FormItem ℕ → ℕ
+      to_of (goes_on item to) = to
+      to_of (ends_as none) = to
 
-      item_of : Result (FormItem × ℕ) End → FormItem
-      item_of (Ok step) = step.0
-      item_of (Err none) = item
+      item_of : Step FormItem ℕ → FormItem
+      item_of (goes_on item to) = item
+      item_of (ends_as none) = item
 
 module _ (file : List ℕ) where
-  form_page : (p : ℕ) (item : FormItem) (to : ℕ) → IsForm file p (Ok (item, to)) → (item.page ≡ p) × (to ≡ p + 1)
-  form_page p item to (inl (none, page, e)) = absurd cc
-  form_page p item to (inr (here, page, e)) = (ap (λ (i : FormItem). i.page) (ap item_of e), ap to_of e)
+  form_page : (p : ℕ) (item : FormItem) (to : ℕ) → IsForm file p (goes_on item to) → (item.page ≡ p) × (to ≡ p + 1)
+  form_page p item to (Err none, page, e) = absurd cc
+  form_page p item to (Ok here, page, e) = (ap (λ (i : FormItem). i.page) (ap item_of e), ap to_of e)
     where
-      to_of : Result (FormItem × ℕ) End → ℕ
-      to_of (Ok step) = step.1
-      to_of (Err none) = to
+      to_of : Step FormItem ℕ → ℕ
+      to_of (goes_on item to) = to
+      to_of (ends_as none) = to
 
-      item_of : Result (FormItem × ℕ) End → FormItem
-      item_of (Ok step) = step.0
-      item_of (Err none) = item
+      item_of : Step FormItem ℕ → FormItem
+      item_of (goes_on item to) = item
+      item_of (ends_as none) = item
 
   stand_by_number : (forms : List FormItem) (p n : ℕ) (item : FormItem) (end : End) → AreFrom (IsForm file) p forms end
       → slice_get forms n ≡ Some item
@@ -249,7 +258,8 @@ pub form_tail_of_page : FormTailOfPage
 form_tail_of_page file p forms end = (to_forms file p forms end, of_forms file p forms end)
 
 pub form_tails_go_on : FormTailsGoOn
-form_tails_go_on file at all end n item (begin, begins, are) there =
-    let split = split_at_number (IsForm file) begin all end n item are there in
+form_tails_go_on file at all end n item tail there =
+    let was = begun_of_forms file at all end tail in
+    let split = split_at_number (IsForm file) was.0 all end n item was.2 there in
     of_forms file (item.page + 1) (drop (n + 1) all) end
     (subst (λ (p : ℕ). AreFrom (IsForm file) p (drop (n + 1) all) end) (form_step file split.at item split.to split.step) split.rest)

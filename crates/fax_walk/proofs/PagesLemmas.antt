@@ -24,25 +24,27 @@ use Rattle.fax_walk.specs.laws.Forms.{AreFormsLeft}
 use Rattle.fax_walk.specs.laws.Tails.{CursorsHaveOneFormTail, FormTailOfPage}
 use Rattle.fax_walk.specs.code.Opening.{PageDue, IsPageDue, IsFilePage, IsChainBefore, IsNamed, EndsAt, page_with}
 use Rattle.fax_walk.proofs.InOrderLemmas.{joined, leads_on}
+use Rattle.fax_walk.proofs.TailLemmas.{forms_of_begun}
+use Rattle.fax_walk.specs.Pages.{goes_on, ends_as}
 
 -- a page of a file is the form of its number
 pub form_here : (p : ℕ) (chain : ChainState) (directory : TiffDirectory) (form : PageForm) → IsFilePage p chain directory form
-    → IsForm directory.file p (Ok (record { page = p; form = form }, p + 1))
-form_here p chain directory form its = inr (page_with directory form, its.here 0, refl)
+    → IsForm directory.file p (goes_on (record { page = p; form = form }) (p + 1))
+form_here p chain directory form its = (Ok (page_with directory form), its.here 0, refl)
 
 module _ (file : List ℕ) (at : Cursor) (due : PageDue) (named : IsNamed file at (Some due)) where
   -- a reader from a page's first row begins with that page
   pub begins_here : at.row ≡ 0 → IsFirstDue file at due
   begins_here first =
       let test : (at.row == 0) ≡ true = grind (arith, nat_tests, first) in
-      record { begins = (inr (page_with due.directory due.form, named.3, rw (test, named.1) refl)); file_is = named.0 }
+      record { begins = (Ok (page_with due.directory due.form), named.3, rw (test, named.1) refl); file_is = named.0 }
 
   begins_next : 0 < at.row → AreFormsBegun file at (Ok (at.page + 1, 0))
   begins_next some =
       let within = named.2 in
       let later : (at.row == 0) ≡ false = grind (arith, nat_tests, some) in
       let near : nat_le at.row due.form.rows ≡ true = grind (arith, nat_tests, within) in
-      inr (page_with due.directory due.form, named.3, rw (later, near) refl)
+      (Ok (page_with due.directory due.form), named.3, rw (later, near) refl)
 
 module _ (file : List ℕ) (at : Cursor) (due : PageDue) (named : IsNamed file at (Some due))
     (its : IsFilePage due.page due.chain due.directory due.form) where
@@ -61,35 +63,35 @@ module _ (file : List ℕ) (at : Cursor) (due : PageDue) (named : IsNamed file a
   begins_after some (Err end) after = after
 
   pub ends_after : 0 < at.row → (result : Result PageDue End)
-      → IfErr result (λ end. IsForm due.chain.tiff.file due.chain.given (Err end)) → IfErr result (IsFormTail file at [])
+      → IfErr result (λ end. IsForm due.chain.tiff.file due.chain.given (ends_as end)) → IfErr result (IsFormTail file at [])
   ends_after some (Ok next) after = after
-  ends_after some (Err end) after = (Ok (at.page + 1, 0), begins_next file at due named some, ([], rw (chain_file, number) at after, refl))
+  ends_after some (Err end) after =
+      forms_of_begun file at [] end
+      (Ok (at.page + 1, 0), begins_next file at due named some, ([], rw (chain_file, number) at after, refl))
 
 -- from a cursor on there are no pages
 pub no_forms : (file : List ℕ) (at : Cursor) (end : End) → EndsAt file at end → IsFormTail file at [] end
-no_forms file at end (inl none) = (Err end, (inl (end, none, refl)), (refl, refl))
-no_forms file at end (inr (here, page, above, end_is)) =
-    let later : (at.row == 0) ≡ false = grind (arith, nat_tests, above) in
-    let far : nat_le at.row here.form.rows ≡ false = grind (arith, nat_tests, above) in
-    (Err end, (inr (here, page, rw (later, far, end_is) refl)), (refl, refl))
+no_forms file at end (inl none) = (Err end, none, (refl, refl))
+no_forms file at end (inr (here, page, above, end_is)) = (Ok here, page, inr (inr (above, refl, end_is)))
 
 no_other : (told : Option End) (end : End) → told ≡ None → HasToldNoOther told end
 no_other None end e = tt
 no_other (Some told) end e = absurd cc
 
 -- after the forms that lead to a page the pages end
-ended_after : (file : List ℕ) (begun : Cursor) (given p : ℕ) (end : End) → HasGiven file begun given p → IsForm file p (Err end)
+ended_after : (file : List ℕ) (begun : Cursor) (given p : ℕ) (end : End) → HasGiven file begun given p → IsForm file p (ends_as end)
     → EndsAfter (IsFormTail file begun) given end
 ended_after file begun given p end come is = (
   come.forms ++ [],
-  (Ok (come.first, 0), come.begins, (come.forms ++ [], joined (IsForm file) come.first p come.forms [] end come.lead is, refl)),
+  forms_of_begun file begun (come.forms ++ []) end
+      (Ok (come.first, 0), come.begins, (come.forms ++ [], joined (IsForm file) come.first p come.forms [] end come.lead is, refl)),
   ap (λ (l : List FormItem). length l) (append-nil come.forms) ∙ come.count,
 )
 
 pub ends_later : (file : List ℕ) (begun : Cursor) (given : ℕ) (told : Option End) (chain : ChainState) (result : Result PageDue End)
     → told ≡ None
     → HasGiven file begun given chain.given × IsChainBefore file chain.given chain → IfErr result
-    (λ end. IsForm chain.tiff.file chain.given (Err end))
+    (λ end. IsForm chain.tiff.file chain.given (ends_as end))
     → IfErr result (EndsNow (record { file = file; begun = begun; given = given; told = told }))
 ends_later file begun given told chain (Ok due) untold sound after = after
 ends_later file begun given told chain (Err end) untold sound after =
@@ -125,6 +127,7 @@ module _ (tails : CursorsHaveOneFormTail) (of_page : FormTailOfPage) where
   all_of : (file : List ℕ) (begun : Cursor) (given p : ℕ) → (come : HasGiven file begun given p) → (forms : List FormItem) (end : End)
       → AreFrom (IsForm file) p forms end → IsFormTail file begun (come.forms ++ forms) end
   all_of file begun given p come forms end are =
+      forms_of_begun file begun (come.forms ++ forms) end
       (Ok (come.first, 0), come.begins, (come.forms ++ forms, joined (IsForm file) come.first p come.forms forms end come.lead are, refl))
 
   -- the page that is due is handed out

@@ -42,14 +42,15 @@ use Rattle.fax_walk.proofs.InOrderLemmas.{IsOneAnswer, ended_at, one_from, same_
 use Rattle.fax_walk.proofs.RowLawLemmas.{LinesAreRead, one_row}
 use Rattle.fax_walk.proofs.SourceLemmas.{page_rows}
 use Rattle.fax_walk.proofs.TailLawLemmas.{any_row, whole_page}
+use Rattle.fax_walk.specs.Pages.{Step, goes_on, ends_as}
 
 -- what is handed out after items that lead to a place
-after_led : {S A : Type 0} (next : S → Result (A × S) End → Type 0) → ((at : S) → IsOneAnswer (next at)) → (at to : S)
+after_led : {S A : Type 0} (next : S → Step A S → Type 0) → ((at : S) → IsOneAnswer (next at)) → (at to : S)
     (own items : List A) (end : End) → LeadTo next at own to → AreFrom next at items end
     → (others : List A) × (items ≡ own ++ others) × AreFrom next to others end
 after_led {S} {A} next answers at to [] items end to_is are = (items, refl, subst (λ (s : S). AreFrom next s items end) (sym to_is) are)
 after_led {S} {A} next answers at to (x ∷ own) [] end (place, step, lead) are =
-    let same = same_answer (answers at) (Err end) (Ok (x, place)) are step in
+    let same = same_answer (answers at) (ends_as end) (goes_on x place) are step in
     absurd cc
 after_led {S} {A} next answers at to (x ∷ own) (y ∷ items) end (place, step, lead) (place', step', rest) =
     let same = same_step (answers at) y x place' place step' step in
@@ -223,10 +224,10 @@ module _ (by_place : AreBitsByPlace) (lines_read : LinesAreRead) (chains : Files
     at_page : IsPageAt file page (Ok here)
     form_is : one.form ≡ here.form
 
-  first_page : (file : List ℕ) (p : ℕ) (one : FormItem) (next : ℕ) (items : List RowItem) → IsForm file p (Ok (one, next))
+  first_page : (file : List ℕ) (p : ℕ) (one : FormItem) (next : ℕ) (items : List RowItem) → IsForm file p (goes_on one next)
       → AreFrom (IsRow file) (first_at p 0) items Proper → IsFirstPage file p one next items
-  first_page file p one next items (inl (end, page, e)) rows_are = absurd cc
-  first_page file p one next items (inr (here, page, e)) rows_are =
+  first_page file p one next items (Err end, page, e) rows_are = absurd cc
+  first_page file p one next items (Ok here, page, e) rows_are =
       let k : Cursor = record { page = p; row = 0 } in
       let one_is : one.form ≡ here.form = ap form_in e in
       let next_is : next ≡ p + 1 = ap place_in e in
@@ -258,13 +259,13 @@ module _ (by_place : AreBitsByPlace) (lines_read : LinesAreRead) (chains : Files
             absurd cc
       ]
     where
-      form_in : Result (FormItem × ℕ) End → PageForm
-      form_in (Ok step) = step.0.form
-      form_in (Err none) = one.form
+      form_in : Step FormItem ℕ → PageForm
+      form_in (goes_on item to) = item.form
+      form_in (ends_as none) = one.form
 
-      place_in : Result (FormItem × ℕ) End → ℕ
-      place_in (Ok step) = step.1
-      place_in (Err none) = next
+      place_in : Step FormItem ℕ → ℕ
+      place_in (goes_on item to) = to
+      place_in (ends_as none) = next
 
   module _ (file : List ℕ) (p : ℕ) (one : FormItem) (next : ℕ) (items : List RowItem) (first : IsFirstPage file p one next items) where
     taken : take one.form.rows items ≡ first.own
@@ -296,7 +297,7 @@ module _ (by_place : AreBitsByPlace) (lines_read : LinesAreRead) (chains : Files
       → rows_of p (map (λ source. source.image.rows) (pages_of forms items)) ≡ map walked items
   items_kept file [] p items forms_are rows_are =
       let answers : (at : RowPlace) → IsOneAnswer (IsRow file at) = one_row by_place lines_read chains file in
-      let none : AreFrom (IsRow file) (first_at p 0) [] Proper = inl (Proper, not_there file p Proper forms_are, refl) in
+      let none : AreFrom (IsRow file) (first_at p 0) [] Proper = (Err Proper, not_there file p Proper forms_are, refl) in
       let same = one_from (IsRow file) answers (first_at p 0) items [] Proper Proper rows_are none in
       sym (ap (map walked) same.0)
   items_kept file (one ∷ forms) p items (next, step, rest) rows_are =

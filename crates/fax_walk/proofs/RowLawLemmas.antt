@@ -26,18 +26,23 @@ use Rattle.fax_walk.specs.declared.begun.Begun.TheVariants.{At, Inside}
 use Rattle.fax_walk.specs.declared.end.End.{End}
 use Rattle.fax_walk.specs.declared.end.End.TheVariants.{Fault, Outside}
 use Rattle.fax_walk.specs.Pages.{LongPlace}
-use Rattle.fax_walk.specs.Pages.{AreBegun, FilePage, IsPageAt}
+use Rattle.fax_walk.specs.Pages.{FilePage, IsPageAt}
 use Rattle.fax_walk.specs.Items.{RowItem, Inner, RowPlace, first_at, exchanged}
 use Rattle.fax_walk.specs.code.Places.{strip_at, row_in_strip}
-use Rattle.fax_walk.specs.Items.{before, place_after, IsInStrip, IsRow}
+use Rattle.fax_walk.specs.Items.{before, IsInStrip, IsRow}
+use Rattle.fax_walk.specs.code.Places.{place_over}
+use Rattle.fax_walk.specs.Items.{place_after}
 use Rattle.fax_walk.specs.code.Places.{IsItem}
-use Rattle.fax_walk.specs.Items.{IsInnerOn, inner_at, IsBegunOn, begun_cursor}
+use Rattle.fax_walk.specs.Items.{IsInnerOn, inner_at, begun_cursor}
+use Rattle.fax_walk.specs.code.Places.{AreBegun, IsBegunOn}
+use Rattle.fax_walk.proofs.TailLemmas.{begun_of_tail, tail_of_begun}
 use Rattle.fax_walk.specs.code.Places.{first_row, FitsStrip}
 use Rattle.fax_walk.specs.code.Places.{cursor_at}
 use Rattle.fax_walk.specs.laws.Tails.{BeginningsHaveOneTail}
 use Rattle.fax_walk.proofs.InOrderLemmas.{IsOneAnswer, IsListed, one_begun}
 use Rattle.fax_walk.proofs.PageLawLemmas.{one_on_page, no_page, some_page, next_dropped}
 use Rattle.fax_walk.proofs.RestLemmas.{rest_at}
+use Rattle.fax_walk.specs.Pages.{Step, goes_on, ends_as}
 
 abbrev pub LinesAreRead : Type 0
 LinesAreRead = (form : StripForm) (i : ℕ) (reference : List Colour) → ReadsLinesOneWay form i reference
@@ -107,25 +112,25 @@ module _ (by_place : AreBitsByPlace) (lines_read : LinesAreRead) where
         let item : RowItem = record { page = at.page; form = form; row = at.row; pels = exchanged form row; bits = from.0 } in
         let is : IsItem form bytes at item =
         (refl, refl, omega (arith, from.1, by_place.count form.order bytes), rw (from.2, exchanged_twice form row) line, refl) in
-        record { it = Ok (item, place_after form item); is = (is.0, is.1, is.2, is.3, refl, is.4); one = only_item item is }
+        record { it = goes_on item (place_after item); is = (is.0, is.1, is.2, is.3, refl, is.4); one = only_item item is }
       where
-        only_item : (item : RowItem) → IsItem form bytes at item → (other : Result (RowItem × RowPlace) End)
+        only_item : (item : RowItem) → IsItem form bytes at item → (other : Step RowItem RowPlace)
             → IsInStrip form at (Some bytes) other
-            → other ≡ Ok (item, place_after form item)
-        only_item item is (Err end) (fault, stop, end_is) =
+            → other ≡ goes_on item (place_after item)
+        only_item item is (ends_as end) (fault, stop, end_is) =
             absurd ((lines_read strip i reference).answer_has_no_fault b _ _ fault is.3 stop)
-        only_item item is (Ok (another, to)) is_too =
+        only_item item is (goes_on another to) is_too =
             let same = one_item item another is (is_too.0, is_too.1, is_too.2, is_too.3, is_too.5) in
             rw (is_too.4, same) refl
     by_line (inr (fault, stop)) =
-        record { it = Err (Fault at.page at.row (Strip fault)); is = (fault, stop, refl); one = only_stop }
+        record { it = ends_as (Fault at.page at.row (Strip fault)); is = (fault, stop, refl); one = only_stop }
       where
-        only_stop : (other : Result (RowItem × RowPlace) End) → IsInStrip form at (Some bytes) other
-            → other ≡ Err (Fault at.page at.row (Strip fault))
-        only_stop (Err end) (another, stop_too, end_is) =
+        only_stop : (other : Step RowItem RowPlace) → IsInStrip form at (Some bytes) other
+            → other ≡ ends_as (Fault at.page at.row (Strip fault))
+        only_stop (ends_as end) (another, stop_too, end_is) =
             let same = (lines_read strip i reference).one_fault b another fault stop_too stop in
-            ap (λ (e : End). Err e) (end_is ∙ ap (λ (f : StripFault). Fault at.page at.row (Strip f)) same)
-        only_stop (Ok (another, to)) is_too =
+            ap (λ (e : End). ends_as e) (end_is ∙ ap (λ (f : StripFault). Fault at.page at.row (Strip f)) same)
+        only_stop (goes_on another to) is_too =
             absurd ((lines_read strip i reference).answer_has_no_fault b _ _ fault is_too.3 stop)
 
     in_bytes : IsOneAnswer (IsInStrip form at (Some bytes))
@@ -134,7 +139,7 @@ module _ (by_place : AreBitsByPlace) (lines_read : LinesAreRead) where
   pub one_in_strip : (form : PageForm) (at : RowPlace) (found : Option (List ℕ)) → IsOneAnswer (IsInStrip form at found)
   one_in_strip form at None =
       record {
-        it = Err (Fault at.page (strip_at form at.row * form.rows_per_strip) (File StripOutside));
+        it = ends_as (Fault at.page (strip_at form at.row * form.rows_per_strip) (File StripOutside));
         is = refl;
         one =
             λ other same. same;
@@ -143,15 +148,22 @@ module _ (by_place : AreBitsByPlace) (lines_read : LinesAreRead) where
 
   module _ (chains : FilesHaveOneChain) (file : List ℕ) where
     pub one_row : (at : RowPlace) → IsOneAnswer (IsRow file at)
-    one_row at = one_on_page chains file (cursor_at at) _ (λ here. one_in_strip here.form at
-        (strip_bytes here.endian file here.offset (strip_at here.form at.row)))
+    one_row at =
+        let only = one_on_page chains file (cursor_at at)
+        (λ here. IsInStrip here.form at (strip_bytes here.endian file here.offset (strip_at here.form at.row))) ends_as
+        (λ here. one_in_strip here.form at (strip_bytes here.endian file here.offset (strip_at here.form at.row))) in
+        record { it = only.it; is = only.is; one = only.one }
+
+-- an item knows its page's form
+pub over_form : (item : RowItem) (form : PageForm) → item.form ≡ form → place_after item ≡ place_over form item
+over_form item form same = ap (λ (f : PageForm). place_over f item) same
 
 -- what the row at a place is, and what is after it
 pub step_of : (form : PageForm) (at : RowPlace) (found : Option (List ℕ)) (item : RowItem) (to : RowPlace)
-    → IsInStrip form at found (Ok (item, to))
-    → (item.page ≡ at.page) × (item.row ≡ at.row) × (to ≡ place_after form item)
+    → IsInStrip form at found (goes_on item to)
+    → (item.page ≡ at.page) × (item.row ≡ at.row) × (to ≡ place_over form item)
 step_of form at None item to is = absurd cc
-step_of form at (Some bytes) item to is = (is.0, is.1, is.4)
+step_of form at (Some bytes) item to is = (is.0, is.1, is.4 ∙ over_form item form is.5)
 
 -- the place inside its strip after an item
 abbrev pub inner_after : PageForm → RowItem → RowPlace
@@ -160,9 +172,9 @@ inner_after form item =
 
 -- after an item: on the page after, at the page's next strip, or inside its strip
 pub cases_after : (form : PageForm) (item : RowItem)
-    → ((form.rows ≤ item.row + 1) × (place_after form item ≡ first_at (item.page + 1) 0))
-    ⊎ ((item.row + 1 < form.rows) × (row_in_strip form (item.row + 1) ≡ 0) × (place_after form item ≡ first_at item.page (item.row + 1)))
-    ⊎ ((item.row + 1 < form.rows) × (0 < row_in_strip form (item.row + 1)) × (place_after form item ≡ inner_after form item))
+    → ((form.rows ≤ item.row + 1) × (place_over form item ≡ first_at (item.page + 1) 0))
+    ⊎ ((item.row + 1 < form.rows) × (row_in_strip form (item.row + 1) ≡ 0) × (place_over form item ≡ first_at item.page (item.row + 1)))
+    ⊎ ((item.row + 1 < form.rows) × (0 < row_in_strip form (item.row + 1)) × (place_over form item ≡ inner_after form item))
 cases_after form item = elim (cases_lt (item.row + 1) form.rows) [
   | inl less ↦
       let test : nat_lt (item.row + 1) form.rows ≡ true = grind (arith, nat_tests, less) in
@@ -185,14 +197,14 @@ module _ (by_place : AreBitsByPlace) (lines_read : LinesAreRead) (file : List �
   abbrev Listed : RowPlace → Type 0
   Listed at = IsListed (IsRow file) at
 
-  abbrev in_strip : ℕ → PageForm → RowPlace → Result (RowItem × RowPlace) End → Type 0
+  abbrev in_strip : ℕ → PageForm → RowPlace → Step RowItem RowPlace → Type 0
   in_strip q form at = IsInStrip form at (strip_bytes head.endian file q (strip_at form at.row))
 
   module _ (q : ℕ) (form : PageForm) (at : RowPlace) (here : IsPageAt file (cursor_at at)
       (Ok (record { endian = head.endian; offset = q; form = form }))) where
     row_after : (item : RowItem) → item.page ≡ at.page → item.row ≡ at.row
         → ((inner : Option Inner) → at.row + 1 < form.rows → Listed (record { page = at.page; row = at.row + 1; inner = inner }))
-        → Listed (first_at (at.page + 1) 0) → Listed (place_after form item)
+        → Listed (first_at (at.page + 1) 0) → Listed (place_over form item)
     row_after item same_page same_row next more = elim (cases_after form item) [
       | inl (last, is) ↦ rw (is, same_page) more
       | inr (inl (less, first, is)) ↦ rw (is, same_page, same_row) (next None (omega (arith, less, same_row)))
@@ -201,14 +213,14 @@ module _ (by_place : AreBitsByPlace) (lines_read : LinesAreRead) (file : List �
           (omega (arith, less, same_row)))
     ]
 
-    listed_row : (answer : Result (RowItem × RowPlace) End) → in_strip q form at answer
+    listed_row : (answer : Step RowItem RowPlace) → in_strip q form at answer
         → ((inner : Option Inner) → at.row + 1 < form.rows → Listed (record { page = at.page; row = at.row + 1; inner = inner }))
         → Listed (first_at (at.page + 1) 0) → Listed at
-    listed_row (Err end) is next more = record { items = []; end = end; is = inr (_, here, is) }
-    listed_row (Ok (item, to)) is next more =
+    listed_row (ends_as end) is next more = record { items = []; end = end; is = (Ok _, here, is) }
+    listed_row (goes_on item to) is next more =
         let step = step_of form at _ item to is in
         let rest : Listed to = rw step.2 (row_after item step.0 step.1 next more) in
-        record { items = item ∷ rest.items; end = rest.end; is = (to, inr (_, here, is), rest.is) }
+        record { items = item ∷ rest.items; end = rest.end; is = (to, (Ok _, here, is), rest.is) }
 
   rows_on : (fuel q : ℕ) (form : PageForm) (later : List ℕ) (at : RowPlace) → drop at.page offsets ≡ q ∷ later
       → page head.endian file q ≡ Ok form
@@ -229,12 +241,12 @@ module _ (by_place : AreBitsByPlace) (lines_read : LinesAreRead) (file : List �
       → Listed (first_at (at.page + 1) 0) → Listed at
   on_page q later at e (Err refused) is more =
       let here = rw is at (some_page file head is_head offsets fault chain (cursor_at at) q later e) in
-      record { items = []; end = Fault at.page 0 (File refused); is = inl (_, here, refl) }
+      record { items = []; end = Fault at.page 0 (File refused); is = (Err _, here, refl) }
   on_page q later at e (Ok form) is more = rows_on form.rows q form later at e is (omega arith) more
 
   -- from each place on there are items, up to an end
   pub rows_from : (later : List ℕ) (at : RowPlace) → drop at.page offsets ≡ later → Listed at
-  rows_from [] at e = record { items = []; end = _; is = inl (_, no_page file head is_head offsets fault chain (cursor_at at) e, refl) }
+  rows_from [] at e = record { items = []; end = _; is = (Err _, no_page file head is_head offsets fault chain (cursor_at at) e, refl) }
   rows_from (q ∷ later) at e =
       on_page q later at e (page head.endian file q) refl (rows_from later (first_at (at.page + 1) 0)
       (next_dropped at.page offsets q later e))
@@ -306,20 +318,21 @@ module _ (file : List ℕ) (here : FilePage) where
 module _ (by_place : AreBitsByPlace) (lines_read : LinesAreRead) (chains : FilesHaveOneChain) (file : List ℕ) where
   pub rows_listed : (at : RowPlace) (answer : Result Header FileFault) → header file ≡ answer → IsListed (IsRow file) at
   rows_listed at (Err fault) e =
-      record { items = []; end = Fault 0 0 (File fault); is = (inl (Fault 0 0 (File fault), rw (e, IsPageAt) refl, refl)) }
+      record { items = []; end = Fault 0 0 (File fault); is = (Err (Fault 0 0 (File fault)), rw (e, IsPageAt) refl, refl) }
   rows_listed at (Ok head) e =
       let chain = chains head file in
       rows_from by_place lines_read file head e chain.offsets chain.end chain.is (drop at.page chain.offsets) at refl
 
 pub one_tail_from : AreBitsByPlace → LinesAreRead → FilesHaveOneChain → BeginningsHaveOneTail
 one_tail_from by_place lines_read chains file begun =
-    let begin = one_on_page chains file (begun_cursor begun) (IsBegunOn file begun) (λ here. one_beginning file here begun) in
+    let begin = one_on_page chains file (begun_cursor begun) (IsBegunOn file begun) Err (λ here. one_beginning file here begun) in
     let all = one_begun (IsRow file) (one_row by_place lines_read chains file) begin.it
     (λ at n e. rows_listed by_place lines_read chains file at (header file) refl) in
     record {
       items = all.items;
       end = all.end;
-      is = (begin.it, begin.is, all.is);
+      is = tail_of_begun file begun all.items all.end (begin.it, begin.is, all.is);
       one = λ others other is.
-          all.one others other (subst (λ (b : Result (RowPlace × ℕ) End). AreBegun (IsRow file) b others other) (begin.one is.0 is.1) is.2);
+          let was = begun_of_tail file begun others other is in
+          all.one others other (subst (λ (b : Result (RowPlace × ℕ) End). AreBegun (IsRow file) b others other) (begin.one was.0 was.1) was.2);
     }

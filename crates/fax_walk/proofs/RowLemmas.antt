@@ -28,6 +28,7 @@ use Rattle.fax_walk.specs.code.Output.{IsPartWritten, PutsRow}
 use Rattle.fax_walk.specs.code.Sources.{part_of, PutsRows, pels_of, IsFaultAt, IsBeforePage, EndsWith, source_fault}
 use Rattle.fax_walk.proofs.InOrderLemmas.{IsOneAnswer, same_answer, same_step, leads_both}
 use Rattle.fax_walk.proofs.NumberLemmas.{StandsAt, stands_at, next_led, end_led}
+use Rattle.fax_walk.specs.Pages.{goes_on, ends_as}
 
 -- so many rows of the page were read and put
 pub record HasConverted (walk : WalkView) (output : Output) (sheet : Sheet) (count : ℕ) (new_walk : WalkView)
@@ -110,14 +111,14 @@ module _ (tail : TailOfStart) (answers : (file : List ℕ) (at : RowPlace) → I
 
   -- item number `given` is what a place has to which so many items lead
   next_at : (item : RowItem) → IsItemNumber old.file old.begun old.given item → (to : RowPlace) (front : List RowItem)
-      → LeadTo (IsRow walk.file) due.at front to → length front ≡ count → (later : RowPlace) × IsRow walk.file to (Ok (item, later))
+      → LeadTo (IsRow walk.file) due.at front to → length front ≡ count → (later : RowPlace) × IsRow walk.file to (goes_on item later)
   next_at item (all, end, is, number) to front lead all_read =
       let are = (tail walk.file all end).0 (from_file all end is) in
       next_led (IsRow walk.file) (answers walk.file) (first_at 0 0) to (due.before ++ front) all end item are (led to front lead)
       (rw (given_at front all_read) at number)
 
   ends_at : (end : End) → EndsAfter (IsTailFrom old.file old.begun) old.given end → (to : RowPlace) (front : List RowItem)
-      → LeadTo (IsRow walk.file) due.at front to → length front ≡ count → IsRow walk.file to (Err end)
+      → LeadTo (IsRow walk.file) due.at front to → length front ≡ count → IsRow walk.file to (ends_as end)
   ends_at end (all, is, number) to front lead all_read =
       let are = (tail walk.file all end).0 (from_file all end is) in
       end_led (IsRow walk.file) (answers walk.file) (first_at 0 0) to (due.before ++ front) all end are (led to front lead)

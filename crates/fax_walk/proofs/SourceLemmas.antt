@@ -1,6 +1,6 @@
 -- The rows of a page, in order, up to its end or to a fault.
-use Rattle.std.proofs.Common.{◌≡◌, ℕ, zero, suc, ◌+◌, ◌*◌, ◌<◌, inl, inr, Bool, true, false, List, [], ◌∷◌, map, length, Option, Some, None}
-use Rattle.std.proofs.Common.{Result, Ok, Err, refl, sym, ◌∙◌, arith}
+use Rattle.std.proofs.Common.{subst, ◌≡◌, ℕ, zero, suc, ◌+◌, ◌*◌, ◌<◌, inl, inr, Bool, true, false, List, [], ◌∷◌, map, length, Option, Some, None}
+use Rattle.std.proofs.Common.{Ok, refl, sym, ◌∙◌, arith}
 use Rattle.std.proofs.lemmas.List.{length-map, length-replicate}
 use Rattle.std.specs.Prelude.{if◌then◌else◌}
 use Rattle.fax_bits.specs.declared.Colour.{Colour}
@@ -17,13 +17,15 @@ use Rattle.fax_files.specs.laws.Files.{IsWholeForm}
 use Rattle.fax_walk.specs.declared.end.End.{End}
 use Rattle.fax_walk.specs.declared.end.End.TheVariants.{Fault}
 use Rattle.fax_walk.specs.Pages.{IsPageAt}
-use Rattle.fax_walk.specs.Items.{RowItem, Inner, RowPlace, first_at, exchanged, before, place_after}
+use Rattle.fax_walk.specs.Items.{RowItem, Inner, RowPlace, first_at, exchanged, before}
+use Rattle.fax_walk.specs.code.Places.{place_over}
 use Rattle.fax_walk.specs.code.Places.{strip_at}
 use Rattle.fax_walk.specs.Items.{IsInStrip, IsRow}
 use Rattle.fax_walk.specs.code.Places.{IsItem}
 use Rattle.fax_walk.specs.code.Sources.{HasRows}
-use Rattle.fax_walk.proofs.RowLawLemmas.{LinesAreRead, one_in_strip, cases_after}
+use Rattle.fax_walk.proofs.RowLawLemmas.{over_form, LinesAreRead, one_in_strip, cases_after}
 use Rattle.fax_walk.proofs.WidthLemmas.{row_in}
+use Rattle.fax_walk.specs.Pages.{Step, goes_on, ends_as}
 
 exchanged_length : (form : PageForm) (row : List Colour) → length (exchanged form row) ≡ length row
 exchanged_length form row = by_test form.exchanged
@@ -48,7 +50,7 @@ module _ (by_place : AreBitsByPlace) (lines_read : LinesAreRead) (file : List �
   first_wide = length-replicate form.width White
 
   -- no row is there
-  stops : (r rows : ℕ) (inner : Option Inner) (row : ℕ) (cause : Cause) → 0 < rows → IsRow file (place_at r inner) (Err (Fault p row cause))
+  stops : (r rows : ℕ) (inner : Option Inner) (row : ℕ) (cause : Cause) → 0 < rows → IsRow file (place_at r inner) (ends_as (Fault p row cause))
       → Rows (place_at r inner) rows
   stops r rows inner row cause some is = record {
     own = [];
@@ -60,7 +62,7 @@ module _ (by_place : AreBitsByPlace) (lines_read : LinesAreRead) (file : List �
 
   -- a row, and those after it
   one_more : (r rows : ℕ) (inner : Option Inner) (item : RowItem) (to : RowPlace) → length item.pels ≡ form.width
-      → IsRow file (place_at r inner) (Ok (item, to)) → Rows to rows → Rows (place_at r inner) (rows + 1)
+      → IsRow file (place_at r inner) (goes_on item to) → Rows to rows → Rows (place_at r inner) (rows + 1)
   one_more r rows inner item to wide step rest = record {
     own = item ∷ rest.own;
     to = rest.to;
@@ -83,7 +85,7 @@ module _ (by_place : AreBitsByPlace) (lines_read : LinesAreRead) (file : List �
 
   module _ (rows r : ℕ) (count : r + (rows + 1) ≡ form.rows)
       (next : (inner : Option Inner) → IsWide inner → 0 < rows → Rows (place_at (r + 1) inner) rows) where
-    after : (item : RowItem) → item.page ≡ p → item.row ≡ r → length (exchanged form item.pels) ≡ form.width → Rows (place_after form item)
+    after : (item : RowItem) → item.page ≡ p → item.row ≡ r → length (exchanged form item.pels) ≡ form.width → Rows (place_over form item)
         rows
     after item same_page same_row wide = elim (cases_after form item) [
       | inl (last, is) ↦
@@ -97,18 +99,20 @@ module _ (by_place : AreBitsByPlace) (lines_read : LinesAreRead) (file : List �
     ]
 
     -- by what the file has of the strip
-    by_found : (inner : Option Inner) → IsWide inner → (found : Option (List ℕ)) → (answer : Result (RowItem × RowPlace) End)
+    by_found : (inner : Option Inner) → IsWide inner → (found : Option (List ℕ)) → (answer : Step RowItem RowPlace)
         → IsInStrip form (place_at r inner) found answer → IsRow file (place_at r inner) answer → Rows (place_at r inner) (rows + 1)
-    by_found inner wide None (Ok (item, to)) is row = absurd cc
-    by_found inner wide None (Err end) is row =
+    by_found inner wide None (goes_on item to) is row = absurd cc
+    by_found inner wide None (ends_as end) is row =
         let same : end ≡ Fault p (strip_at form r * form.rows_per_strip) (File StripOutside) = cc in
-        stops r (rows + 1) inner _ (File StripOutside) (omega arith) (rw same at row)
-    by_found inner wide (Some bytes) (Err end) (fault, stop, end_is) row =
-        stops r (rows + 1) inner r (Strip fault) (omega arith) (rw end_is at row)
-    by_found inner wide (Some bytes) (Ok (item, to)) is row =
+        stops r (rows + 1) inner _ (File StripOutside) (omega arith)
+        (subst (λ (e : End). IsRow file (place_at r inner) (ends_as e)) same row)
+    by_found inner wide (Some bytes) (ends_as end) (fault, stop, end_is) row =
+        stops r (rows + 1) inner r (Strip fault) (omega arith)
+        (subst (λ (e : End). IsRow file (place_at r inner) (ends_as e)) end_is row)
+    by_found inner wide (Some bytes) (goes_on item to) is row =
         let item_is = item_wide r inner bytes item wide (is.0, is.1, is.2, is.3, is.5) in
         one_more r rows inner item to (sym (exchanged_length form item.pels) ∙ item_is) row
-        (rw is.4 (after item is.0 is.1 item_is))
+        (rw (is.4 ∙ over_form item form is.5) (after item is.0 is.1 item_is))
 
   -- from a place on
   pub rows_on : (rows r : ℕ) (inner : Option Inner) → r + rows ≡ form.rows → IsWide inner → 0 < rows → Rows (place_at r inner) rows
@@ -118,7 +122,7 @@ module _ (by_place : AreBitsByPlace) (lines_read : LinesAreRead) (file : List �
       let n : suc rows ≡ rows + 1 = omega arith in
       rw n
       (by_found rows r (omega (arith, count)) (λ later later_wide more. rows_on rows (r + 1) later (omega (arith, count)) later_wide more)
-      inner wide (strip_bytes endian file q (strip_at form r)) only.it only.is (inr (_, page r, only.is)))
+      inner wide (strip_bytes endian file q (strip_at form r)) only.it only.is (Ok _, page r, only.is))
 
   -- all rows of the page
   pub page_rows : IsWholeForm form → Rows (first_at p 0) form.rows

@@ -1,5 +1,5 @@
 -- The strips of a page that is checked.
-use Rattle.std.proofs.Common.{◌≡◌, ℕ, ◌+◌, ◌*◌, ◌<◌, ◌≤◌, List, [], ◌∷◌, ◌++◌, length, min, true, false, Some, None, Result, Ok, Err, refl}
+use Rattle.std.proofs.Common.{◌≡◌, ℕ, ◌+◌, ◌*◌, ◌<◌, ◌≤◌, List, [], ◌∷◌, ◌++◌, length, min, true, false, Some, None, Ok, refl}
 use Rattle.std.proofs.Common.{sym, ap, ◌∙◌}
 use Rattle.std.proofs.Common.{subst, arith, append_assoc, append-nil, inl, inr}
 use Rattle.std.proofs.lemmas.Bool.{cases_lt}
@@ -38,6 +38,7 @@ use Rattle.fax_walk.proofs.CheckLemmas.{nothing_checked, checked_on, checked_to,
 use Rattle.fax_walk.proofs.InOrderLemmas.{ended_at}
 use Rattle.fax_walk.proofs.StripPlaceLemmas.{in_strip, shown_length, strip_count}
 use Rattle.fax_walk.proofs.StripRowLemmas.{place_of, row_at, strip_rows, walked_length}
+use Rattle.fax_walk.specs.Pages.{Step, ends_as}
 
 module _ (by_place : AreBitsByPlace) (directory : TiffDirectory) (form : PageForm) (p : ℕ) (whole : IsWholeForm form)
     (form_is : form_of directory ≡ Ok form) (here : IsDirectoryOfPage directory p) where
@@ -68,9 +69,9 @@ module _ (by_place : AreBitsByPlace) (directory : TiffDirectory) (form : PageFor
   }
 
   -- what is found on a strip
-  noted_on : (s : ℕ) (answer : Result (List Note × (ℕ × Option ℕ)) End)
+  noted_on : (s : ℕ) (answer : Step (List Note) (ℕ × Option ℕ))
       → IsStripNoted form p s (bytes_of directory s) answer → IsNoted file ((p, Some s)) answer
-  noted_on s answer is = inr (_, page 0, is)
+  noted_on s answer is = (Ok _, page 0, is)
 
   -- the rows of a strip that is whole lead to the next one
   next_row : (s : ℕ) (count : ℕ) → s < form.strips → count ≡ (strip_form form s).rows
@@ -175,10 +176,10 @@ module _ (by_place : AreBitsByPlace) (directory : TiffDirectory) (form : PageFor
       let number = in_strip n s 0 (s * n) whole.some_in_strip (omega arith) in
       let end : End = Fault p (s * n) (File StripOutside) in
       let zero : s * n + 0 ≡ s * n = omega arith in
-      let row : IsRow file (first_at p (s * n)) (Err end) =
-      row_at by_place file directory.endian directory.offset form p page whole (s * n) None None (Err end) (rw number.0 none)
+      let row : IsRow file (first_at p (s * n)) (ends_as end) =
+      row_at by_place file directory.endian directory.offset form p page whole (s * n) None None (ends_as end) (rw number.0 none)
       (rw number.0 refl) in
-      let ends = ends_at file (record { next = (p, Some s); row = first_at p (s * n) }) end (noted_on s (Err end) (rw none refl)) row in
+      let ends = ends_at file (record { next = (p, Some s); row = first_at p (s * n) }) end (noted_on s (ends_as end) (rw none refl)) row in
       rw zero at
       (fault_after few s 0 (File StripOutside) old new due (omega (arith, whole.needed s due)) so_far (rw (at_strip s due, zero) ends))
 
@@ -201,7 +202,7 @@ module _ (by_place : AreBitsByPlace) (directory : TiffDirectory) (form : PageFor
       fault_after few s (length rows) (Strip fault) old new due (inside_page s bytes rows fault due strip) so_far
       (rw (at_strip s due) (record {
         found = [];
-        are = noted_on s (Err end) (rw there (rows, fault, strip, refl));
+        are = noted_on s (ends_as end) (rw there (rows, fault, strip, refl));
         notes_are = refl;
         items = read.items;
         are_rows = ended_at (IsRow file) (first_at p (s * n)) read.to read.items end read.lead read.there;

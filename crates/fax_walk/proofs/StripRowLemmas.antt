@@ -1,6 +1,6 @@
 -- The rows of a strip are rows that a walk hands out, one after another.
 use Rattle.std.proofs.Common.{◌≡◌, ℕ, ◌+◌, ◌*◌, ◌<◌, ◌≤◌, inl, inr, Bool, true, false, List, [], ◌∷◌, map, length, drop, Option, Some, None}
-use Rattle.std.proofs.Common.{Result, Ok, Err, refl, sym}
+use Rattle.std.proofs.Common.{Ok, refl, sym}
 use Rattle.std.proofs.Common.{ap, ◌∙◌, subst, arith}
 use Rattle.std.proofs.lemmas.Bool.{cases_lt}
 use Rattle.std.proofs.lemmas.Bool.Decides.{nat_tests}
@@ -18,11 +18,11 @@ use Rattle.fax_files.specs.declared.Endian.{Endian}
 use Rattle.fax_files.specs.Page.{strip_form, strip_bytes}
 use Rattle.fax_files.specs.laws.Files.{shown}
 use Rattle.fax_files.specs.laws.Files.{IsWholeForm}
-use Rattle.fax_walk.specs.declared.end.End.{End}
 use Rattle.fax_walk.specs.declared.end.End.TheVariants.{Fault}
 use Rattle.fax_walk.specs.laws.InOrder.{LeadTo}
 use Rattle.fax_walk.specs.Pages.{IsPageAt}
-use Rattle.fax_walk.specs.Items.{RowItem, Inner, RowPlace, first_at, exchanged, before, place_after}
+use Rattle.fax_walk.specs.Items.{RowItem, Inner, RowPlace, first_at, exchanged, before}
+use Rattle.fax_walk.specs.code.Places.{place_over}
 use Rattle.fax_walk.specs.code.Places.{strip_at, row_in_strip}
 use Rattle.fax_walk.specs.Items.{IsInStrip, IsRow}
 use Rattle.fax_walk.specs.code.Places.{IsItem}
@@ -30,6 +30,7 @@ use Rattle.fax_walk.specs.laws.Written.{WalkedRow, walked, numbered}
 use Rattle.fax_walk.proofs.RestLemmas.{rest_at}
 use Rattle.fax_walk.proofs.RowLawLemmas.{exchanged_twice, cases_after}
 use Rattle.fax_walk.proofs.StripPlaceLemmas.{in_strip, shown_none, shown_row}
+use Rattle.fax_walk.specs.Pages.{Step, goes_on, ends_as}
 
 -- these rows are read from a place on, the first of them with this number, and what they lead to is so
 pub record AreRead (file : List ℕ) (at : RowPlace) (r : ℕ) (rows : List (List Colour)) (reached : RowPlace → Type 0) : Type 0 where
@@ -52,7 +53,7 @@ walked_length file at r rows reached read =
 pub one_more : (file : List ℕ) (at : RowPlace) (r : ℕ) (rows : List (List Colour)) (reached : RowPlace
     → Type 0) (item : RowItem) (next : RowPlace)
     → walked item ≡ record { page = at.page; row = r; pels = item.pels } → next.page ≡ at.page
-    → IsRow file at (Ok (item, next))
+    → IsRow file at (goes_on item next)
     → AreRead file next (r + 1) rows reached → AreRead file at r (item.pels ∷ rows) reached
 one_more file at r rows reached item next item_is same_page step more = record {
   items = item ∷ more.items;
@@ -79,15 +80,15 @@ module _ (by_place : AreBitsByPlace) (file : List ℕ) (endian : Endian) (q : �
   place_of r = if nat_lt r form.rows then first_at p r else first_at (p + 1) 0
 
   -- what is at a place, by what the file has of its strip
-  pub row_at : (r : ℕ) (inner : Option Inner) (found : Option (List ℕ)) (answer : Result (RowItem × RowPlace) End)
+  pub row_at : (r : ℕ) (inner : Option Inner) (found : Option (List ℕ)) (answer : Step RowItem RowPlace)
       → strip_bytes endian file q (strip_at form r) ≡ found → IsInStrip form (place_at r inner) found answer
       → IsRow file (place_at r inner) answer
-  row_at r inner found answer e is = inr (_, page r, subst (λ (o : Option (List ℕ)). IsInStrip form (place_at r inner) o answer) (sym e) is)
+  row_at r inner found answer e is = (Ok _, page r, subst (λ (o : Option (List ℕ)). IsInStrip form (place_at r inner) o answer) (sym e) is)
 
   -- the rows of a strip lead to the next one, or to the row that is not there
   abbrev pub Reaches : Option StripFault → ℕ → RowPlace → Type 0
   Reaches None r to = to ≡ place_of r
-  Reaches (Some fault) r to = IsRow file to (Err (Fault p r (Strip fault)))
+  Reaches (Some fault) r to = IsRow file to (ends_as (Fault p r (Strip fault)))
 
   module _ (s : ℕ) (below : s * n < form.rows) (bytes : List ℕ) (bytes_are : strip_bytes endian file q s ≡ Some bytes) where
     abbrev strip : StripForm
@@ -100,7 +101,7 @@ module _ (by_place : AreBitsByPlace) (file : List ℕ) (endian : Endian) (q : �
     numbers r i r_is within = in_strip n s i r (omega (arith, within)) r_is
 
     -- after the strip's last row
-    after_strip : (item : RowItem) → item.page ≡ p → item.row + 1 ≡ s * n + strip.rows → place_after form item ≡ place_of (item.row + 1)
+    after_strip : (item : RowItem) → item.page ≡ p → item.row + 1 ≡ s * n + strip.rows → place_over form item ≡ place_of (item.row + 1)
     after_strip item page_is row_is = elim (cases_after form item) [
       | inl (last, is) ↦
           let test : nat_lt (item.row + 1) form.rows ≡ false = grind (arith, nat_tests, last) in
@@ -135,10 +136,11 @@ module _ (by_place : AreBitsByPlace) (file : List ℕ) (endian : Endian) (q : �
     lines_from inner r i [] (Some fault) left r_is within lines =
         let number = numbers r i r_is within in
         let none : r + 0 ≡ r = omega arith in
-        let is : IsInStrip form (place_at r inner) (Some bytes) (Err (Fault p r (Strip fault))) =
+        let is : IsInStrip form (place_at r inner) (Some bytes) (ends_as (Fault p r (Strip fault))) =
         (fault, rw number.1 lines.2, refl) in
         stays (place_at r inner) r (Reaches (Some fault) (r + 0))
-        (rw none (row_at r inner (Some bytes) (Err (Fault p r (Strip fault))) (rw number.0 bytes_are) is))
+        (subst (λ (k : ℕ). Reaches (Some fault) k (place_at r inner)) (sym none)
+        (row_at r inner (Some bytes) (ends_as (Fault p r (Strip fault))) (rw number.0 bytes_are) is))
     lines_from inner r i (row ∷ rows) stop left r_is within (rest, due, line, more) =
         let number = numbers r i r_is within in
         let from = rest_at strip i (before form.width inner).reference all (before form.width inner).bits row rest line in
@@ -151,12 +153,12 @@ module _ (by_place : AreBitsByPlace) (file : List ℕ) (endian : Endian) (q : �
           refl,
         ) in
         let count : r + length (row ∷ rows) ≡ r + 1 + length rows = omega arith in
-        let step : IsRow file (place_at r inner) (Ok (item, place_after form item)) =
-        row_at r inner (Some bytes) (Ok (item, place_after form item)) (rw number.0 bytes_are) (is.0, is.1, is.2, is.3, refl, refl) in
+        let step : IsRow file (place_at r inner) (goes_on item (place_over form item)) =
+        row_at r inner (Some bytes) (goes_on item (place_over form item)) (rw number.0 bytes_are) (is.0, is.1, is.2, is.3, refl, refl) in
         elim (cases_lt (i + 1) strip.rows) [
           | inl less ↦
               let next = numbers (r + 1) (i + 1) (omega (arith, r_is)) less in
-              let to : place_after form item ≡ place_at (r + 1) (Some (record { bits = from.0; reference = row })) =
+              let to : place_over form item ≡ place_at (r + 1) (Some (record { bits = from.0; reference = row })) =
               elim (cases_after form item) [
                 | inl (last, to_is) ↦ absurd (omega (arith, last, less, r_is))
                 | inr (inl (here, first, to_is)) ↦ absurd (omega (arith, next.1, first))
@@ -170,7 +172,7 @@ module _ (by_place : AreBitsByPlace) (file : List ℕ) (endian : Endian) (q : �
               rw (shown_row form row rows, count)
               (one_more file (place_at r inner) r (shown form rows) (Reaches stop (r + 1 + length rows)) item
               (place_at (r + 1) (Some (record { bits = from.0; reference = row }))) refl refl
-              (subst (λ (a : RowPlace). IsRow file (place_at r inner) (Ok (item, a))) to step) later)
+              (subst (λ (a : RowPlace). IsRow file (place_at r inner) (goes_on item a)) to step) later)
           | inr last ↦
               let none = ended (i + 1) row rest rows stop left last more in
               let to = after_strip item refl (omega (arith, r_is, last, due)) in
@@ -182,7 +184,7 @@ module _ (by_place : AreBitsByPlace) (file : List ℕ) (endian : Endian) (q : �
                 items = item ∷ [];
                 rows_are = refl;
                 to = place_of (r + 1);
-                lead = (place_of (r + 1), subst (λ (a : RowPlace). IsRow file (place_at r inner) (Ok (item, a))) to step, refl);
+                lead = (place_of (r + 1), subst (λ (a : RowPlace). IsRow file (place_at r inner) (goes_on item a)) to step, refl);
                 there = refl;
               })
         ]

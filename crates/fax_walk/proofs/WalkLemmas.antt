@@ -23,8 +23,9 @@ use Rattle.fax_walk.specs.Pages.{LongPlace}
 use Rattle.fax_walk.specs.views.Walk.{AreRead, EndsBefore, EntersPage, HasEndedAs, HandsOut, IsCursorOf, IsItemNumber, IsLongOf, IsNext}
 use Rattle.fax_walk.specs.laws.Left.{IsLeft}
 use Rattle.fax_walk.specs.views.Walk.{WalkView}
-use Rattle.fax_walk.specs.Items.{IsRow, IsTailFrom, RowItem, RowPlace, begun_cursor, first_at, place_after}
-use Rattle.fax_walk.specs.code.Places.{long_at}
+use Rattle.fax_walk.specs.Items.{IsRow, IsTailFrom, RowItem, RowPlace, begun_cursor, first_at}
+use Rattle.fax_walk.specs.code.Places.{place_over}
+use Rattle.fax_walk.specs.code.Places.{dropped, long_at}
 use Rattle.fax_walk.specs.laws.Tails.{BeginningsHaveOneTail}
 use Rattle.fax_walk.specs.code.Stages.{GivesNone, GivesRow, IsOpen, IsOpenedAt, PageState, place_of, row_of, skipped}
 use Rattle.fax_walk.specs.declared.end.WalkFault.{WalkFault}
@@ -35,6 +36,8 @@ use Rattle.fax_walk.specs.code.Walk.{IsReadNext, IsSound, ShowsLast, StandsAt}
 use Rattle.fax_walk.proofs.InOrderLemmas.{IsListed, joined, leads_both, number_dropped}
 use Rattle.fax_walk.proofs.OpenPageLemmas.{at_end}
 use Rattle.fax_walk.proofs.RowLawLemmas.{LinesAreRead, cases_after, rows_listed}
+use Rattle.fax_walk.specs.Pages.{ends_as}
+use Rattle.fax_walk.proofs.TailLemmas.{before_begun, begun_of_tail, tail_of_begun}
 
 module _ (file : List ℕ) (begun : Begun) (given : ℕ) (cursor : Cursor) where
   -- the first page is open
@@ -107,7 +110,7 @@ module _ (file : List ℕ) (begun : Begun) (given : ℕ) (cursor : Cursor) where
       → last.item.row + 1 ≡ last.item.form.rows
   at_page_end old last all =
       let within = last.within in
-      let next : first_at (old.page + 1) 0 ≡ place_after last.item.form last.item =
+      let next : first_at (old.page + 1) 0 ≡ place_over last.item.form last.item =
       sym (at_end old.form old.page (row_of old) _ all) ∙ last.to_is in
       elim (cases_after last.item.form last.item) [
         | inl (past, is) ↦ omega (arith, past, within)
@@ -181,7 +184,7 @@ module _ (by_place : AreBitsByPlace) (lines_read : LinesAreRead) (chains : Files
         ap (λ (l : List RowItem). l ++ more.items) all_is ∙ append_assoc (come.items ++ gives.front) (gives.item ∷ []) more.items in (
           drop come.dropped whole,
           more.end,
-          (Ok (come.first, come.dropped), come.begins, (whole, is, refl)),
+          tail_of_begun file begun (drop come.dropped whole) more.end (Ok (come.first, come.dropped), come.begins, (whole, is, refl)),
           ap (λ (l : List RowItem). slice_get (drop come.dropped l) given) parts
               ∙ number_dropped come.dropped given (come.items ++ gives.front) gives.item more.items front_count,
         )
@@ -206,7 +209,7 @@ module _ (by_place : AreBitsByPlace) (lines_read : LinesAreRead) (chains : Files
             let rows : row_of new ≡ gives.item.row + 1 = gives.next_row ∙ ap (λ (i : RowItem). i.row + 1) (sym gives.item_is) in
             let pages : new.page ≡ gives.item.page = gives.same.page ∙ ap (λ (i : RowItem). i.page) (sym gives.item_is) in
             after_is ∙ rw (rows, pages) refl;
-        to_is = gives.after ∙ ap (λ (f : PageForm). place_after f gives.item) (sym form_same);
+        to_is = gives.after ∙ ap (λ (f : PageForm). place_over f gives.item) (sym form_same);
       }
         where
           form_same : gives.item.form ≡ old.form
@@ -290,7 +293,7 @@ module _ (file : List ℕ) (begun : Begun) (given : ℕ) (cursor : Cursor) (old 
       stands = still_stands reads.stands;
       named = named_on;
     },
-    subst (λ (f : List ℕ). IsRow f (place_of new) (Err end)) reads.file_is none.stop,
+    subst (λ (f : List ℕ). IsRow f (place_of new) (ends_as end)) reads.file_is none.stop,
     elim (cases_lt 0 (skipped new)) [
       | inl some ↦
           let named = named_on some in
@@ -313,7 +316,8 @@ module _ (file : List ℕ) (begun : Begun) (given : ℕ) (cursor : Cursor) where
       let none_left = come.none_left in
       let all = ap (λ (l : List RowItem). length l) (append-nil come.items) in (
         drop come.dropped (come.items ++ []),
-        (Ok (come.first, come.dropped), come.begins, (come.items ++ [], is, refl)),
+        tail_of_begun file begun (drop come.dropped (come.items ++ [])) end
+            (Ok (come.first, come.dropped), come.begins, (come.items ++ [], is, refl)),
         length-drop come.dropped (come.items ++ []) ∙ (elim (cases_lt 0 given) [
           | inl some ↦ let none = none_left some in omega (arith, all, count, total, none)
           | inr none ↦ omega (arith, all, count, total, none)
@@ -365,7 +369,7 @@ module _ (walk : WalkView) (cursor : Cursor) (page : Option PageState) where
     | inl first ↦ absurd (omega (arith, some, first.0))
     | inr (on, is, last) ↦
         let same : on ≡ at = cc in
-        let to : place_of at ≡ place_after last.item.form last.item = ap place_of (sym same) ∙ last.to_is in
+        let to : place_of at ≡ place_over last.item.form last.item = ap place_of (sym same) ∙ last.to_is in
         inr (
           last.before,
           last.item,
@@ -392,8 +396,8 @@ module _ (walk : WalkView) (cursor : Cursor) (page : Option PageState) where
       let on = read_on at walk.told (rw page_is at sound) in
       let come = on.0.come in
       record {
-        begin = Ok (come.first, come.dropped);
-        begins = come.begins;
+        before = come.dropped;
+        are_before = before_begun file begun (Ok (come.first, come.dropped)) come.begins;
         most = omega (arith, come.total);
         all = λ some. let none = come.none_left some in omega (arith, come.total, none);
         told = λ end is. elim (on.1 end is) [
@@ -405,10 +409,11 @@ module _ (walk : WalkView) (cursor : Cursor) (page : Option PageState) where
   none_read : BeginningsHaveOneTail → (told : Option End) → walk.told ≡ told → IsSound file begun walk.given cursor None told
       → AreRead walk 0
   none_read tails None is sound =
-      let tail = (tails file begun).is in
+      let one = tails file begun in
+      let was = begun_of_tail file begun one.items one.end one.is in
       record {
-        begin = tail.0;
-        begins = tail.1;
+        before = dropped was.0;
+        are_before = before_begun file begun was.0 was.1;
         most = omega arith;
         all = λ some. absurd (omega (arith, some, sound.0.0));
         told = λ end ends. absurd cc;
@@ -416,8 +421,8 @@ module _ (walk : WalkView) (cursor : Cursor) (page : Option PageState) where
   none_read tails (Some told) is sound =
       let none = sound.2.read in
       record {
-        begin = none.begin;
-        begins = none.begins;
+        before = none.before;
+        are_before = none.are_before;
         most = omega arith;
         all = λ some. absurd (omega (arith, some, sound.0));
         told = λ end ends. elim (none.told end (let same : told ≡ end = cc in ap (λ (e : End). Some e) same)) [
@@ -471,7 +476,7 @@ module _ (walk : WalkView) (cursor : Cursor) (page : Option PageState) where
           more.end,
           record {
             all = all;
-            is = (Ok (come.first, come.dropped), come.begins, (whole, is, refl));
+            is = tail_of_begun file begun all more.end (Ok (come.first, come.dropped), come.begins, (whole, is, refl));
             within = within;
             rest = refl;
             is_told = rw untold tt;

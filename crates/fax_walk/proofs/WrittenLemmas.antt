@@ -1,5 +1,5 @@
 -- A written file has the rows and the forms of its pages.
-use Rattle.std.proofs.Common.{inl, inr, ◌≡◌, ℕ, ◌+◌, ◌*◌, List, [], ◌∷◌, ◌++◌, map, length, drop, None, Ok, Err, refl, sym, ap, ◌∙◌}
+use Rattle.std.proofs.Common.{◌≡◌, ℕ, ◌+◌, ◌*◌, List, [], ◌∷◌, ◌++◌, map, length, drop, None, Ok, Err, refl, sym, ap, ◌∙◌}
 use Rattle.std.proofs.Common.{subst, arith}
 use Rattle.std.specs.List.{AllZip}
 use Rattle.fax_bits.specs.declared.Colour.{Colour}
@@ -57,7 +57,7 @@ module _ (by_place : AreBitsByPlace) (wholes : FormsAreWhole) (law : WrittenRows
       → AreAllFrom file p (rows_of p rows)
   pages_read [] p [] [] e count writable read holds = record {
     items = [];
-    are = inl (Proper, proper_after file head is offsets chain p e (omega (arith, count)), refl);
+    are = (Err Proper, proper_after file head is offsets chain p e (omega (arith, count)), refl);
     rows_are = refl;
   }
   pages_read [] p [] (first ∷ rows) e count writable read holds = absurd holds
@@ -78,13 +78,13 @@ module _ (by_place : AreBitsByPlace) (wholes : FormsAreWhole) (law : WrittenRows
 
   forms_read : (later : List ℕ) (p : ℕ) (pages : List WrittenPage) → drop p offsets ≡ later → p + length later ≡ length offsets
       → AllZip (IsReadAt file) later pages → AreFrom (IsForm file) p (forms_of p pages) Proper
-  forms_read [] p [] e count read = inl (Proper, proper_after file head is offsets chain p e (omega (arith, count)), refl)
+  forms_read [] p [] e count read = (Err Proper, proper_after file head is offsets chain p e (omega (arith, count)), refl)
   forms_read [] p (written ∷ pages) e count read = absurd read
   forms_read (q ∷ later) p [] e count read = absurd read
   forms_read (q ∷ later) p (written ∷ pages) e count read =
       let here = some_page file head is offsets None chain (record { page = p; row = 0 }) q later e in (
         p + 1,
-        inr (record { endian = Little; offset = q; form = written.form }, rw (little, read.0.form) at here, refl),
+        (Ok (record { endian = Little; offset = q; form = written.form }), rw (little, read.0.form) at here, refl),
         forms_read later (p + 1) pages (next_dropped p offsets q later e) (omega (arith, count)) read.1,
       )
 

@@ -90,9 +90,11 @@ pub fn beginnings_have_one_tail()
     fax_files::laws::forms_are_whole();
 }
 
-/// A cursor names one page of a file at most.
+/// A cursor names one page of a file at most, and an item has the form of the page that its place
+/// names.
 pub fn cursors_name_one_page()
-    ensures { PageLaws.CursorsNameOnePage }
+    ensures pages { PageLaws.CursorsNameOnePage }
+    ensures forms { PageLaws.ItemsKnowTheirForm }
 {
     fax_files::laws::files_have_one_chain();
 }

@@ -1,4 +1,6 @@
 //! A page whose rows are read, strip by strip.
+ghost use Rattle.fax_walk.specs.Pages.{ends_as};
+ghost use Rattle.fax_files.specs.Page.{most_rows};
 ghost use Rattle.std.specs.Prelude.{◌≡◌, ◌*◌, ◌<◌, ◌≤◌, false, length, true, IfErr, IfOk};
 ghost use Rattle.std.specs.Prelude.{OnErr, OnOk, Err};
 ghost use Rattle.fax_page.specs.views.Strip.{IsStripForm};
@@ -84,7 +86,7 @@ pub(crate) fn open<'a>(
     before: u64,
 ) -> Result<OpenPage<'a>, OpenFault>
     requires there { first < due.form.rows }
-    requires few { before ≤ due.page * 1000000 }
+    requires few { before ≤ due.page * most_rows }
     ensures opened { IfOk result (Spec.IsOpenedAt due.entry.directory.file
         (first_at due.entry.page (strip_at due.entry.form first * due.entry.form.rows_per_strip))
         (row_in_strip due.entry.form first) before) }
@@ -123,11 +125,11 @@ pub(crate) fn open_after<'a>(
     before: u64,
 ) -> Result<OpenPage<'a>, OpenFault>
     requires chain { IsFileChain chain.now }
-    requires few { before ≤ chain.now.given * 1000000 }
+    requires few { before ≤ chain.now.given * most_rows }
     ensures opened { IfOk result
         (Spec.IsOpenedAt chain.now.tiff.file (first_at chain.now.given 0) 0 before) }
     ensures refused { IfErr result (Spec.IsRefusal (λ end.
-        IsRow chain.now.tiff.file (first_at chain.now.given 0) (Err end))) }
+        IsRow chain.now.tiff.file (first_at chain.now.given 0) (ends_as end))) }
 {
     match DuePage::after(chain.again())? {
         Some(due) => open(alloc, due, 0, before),
@@ -218,7 +220,7 @@ impl<'a> OpenPage<'a> {
         ensures opened { IfOk result
             (Spec.IsOpenedAt self.now.directory.file (place_of self.now) 0 self.now.read) }
         ensures refused { IfErr result (Spec.IsRefusal (λ end.
-            IsRow self.now.directory.file (place_of self.now) (Err end))) }
+            IsRow self.now.directory.file (place_of self.now) (ends_as end))) }
     {
         open_after(alloc, &self.chain, self.read())
     }

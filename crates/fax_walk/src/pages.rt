@@ -1,4 +1,5 @@
 //! The pages of a file in the order of their chain, with their forms.
+ghost use Rattle.fax_walk.specs.Pages.{ends_as};
 ghost use Rattle.std.specs.Prelude.{◌≡◌, List, [], IfErr, IfOk, Err};
 ghost use Rattle.fax_walk.specs.Pages.{FormItem, IsForm, IsFormTail};
 ghost use Rattle.fax_walk.specs.code.Opening.{IsFileChain};
@@ -54,7 +55,7 @@ impl<'a> Model for Pages<'a> {
 fn page_after<'a>(chain: Chain<'a>) -> Result<DuePage<'a>, End>
     requires { IsFileChain chain }
     ensures ok { IfOk result (λ due. Spec.IsPageAfter chain.entry due) }
-    ensures err { IfErr result (λ end. IsForm chain.entry.tiff.file chain.entry.given (Err end)) }
+    ensures err { IfErr result (λ end. IsForm chain.entry.tiff.file chain.entry.given (ends_as end)) }
 {
     match DuePage::after(chain) {
         Ok(Some(page)) => Ok(page),

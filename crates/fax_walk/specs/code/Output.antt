@@ -26,7 +26,7 @@ use Rattle.fax_walk.specs.declared.output.Output.{Output}
 use Rattle.fax_walk.specs.declared.output.Output.TheVariants.{Images, File, TooLarge}
 use Rattle.fax_walk.specs.declared.sheet.Sheet.{Sheet}
 use Rattle.fax_files.specs.Page.{most_pels, most_rows}
-use Rattle.fax_walk.specs.Converted.{SourcePage, written_page, target_bytes, IsTooLarge}
+use Rattle.fax_walk.specs.Converted.{SourcePage, most_pages, written_page, target_bytes, IsTooLarge}
 use Rattle.fax_walk.specs.code.OpenStrips.{HasPutRows}
 
 -- a sheet within the limits of a page
@@ -129,7 +129,7 @@ pub record HasImages (bytes : List ℕ) (at : Progress) : Type 0 where
 -- the pages are written into a TIFF file
 pub record HasPages (coding : Coding) (writer : Writing) (at : Progress) : Type 0 where
   pub coding_is : coding_of at.options.target ≡ Some coding
-  pub few : at.total ≤ 65535
+  pub few : at.total ≤ most_pages
   pub total : writer.total ≡ at.total
   pub added : writer.added ≡ length at.pages
   pub written : writer.written

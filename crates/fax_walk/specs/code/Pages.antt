@@ -13,6 +13,7 @@ use Rattle.fax_walk.specs.views.InOrder.{EndsAfter, HasToldNoOther}
 use Rattle.fax_walk.specs.Pages.{FormItem, IsForm, IsFormTail, IsOnPage}
 use Rattle.fax_walk.specs.views.Pages.{PagesView, IsCursorOf, IsTailOf}
 use Rattle.fax_walk.specs.code.Opening.{PageDue, IsChainBefore}
+use Rattle.fax_walk.specs.code.Places.{AreBegun}
 
 -- the page that a reader of pages begins with
 abbrev pub first_form : Cursor → PageForm → Result (ℕ × ℕ) End
@@ -22,7 +23,14 @@ first_form at form =
 
 -- where a reader of pages begins that has this cursor
 abbrev pub AreFormsBegun : List ℕ → Cursor → Result (ℕ × ℕ) End → Type 0
-AreFormsBegun file at = IsOnPage file at (λ here begin. begin ≡ first_form at here.form)
+AreFormsBegun file at begin =
+    IsOnPage file at (λ here. begin ≡ first_form at here.form) (λ end. begin ≡ Err end)
+
+-- what a reader of pages hands out, by where it begins
+abbrev pub IsFormsBegun : List ℕ → Cursor → List FormItem → End → Type 0
+IsFormsBegun file at forms end =
+    (begin : Result (ℕ × ℕ) End) × AreFormsBegun file at begin
+    × AreBegun (IsForm file) begin forms end
 
 -- how the pages ended, once that was told
 abbrev pub told_of : PagesStage → Option End

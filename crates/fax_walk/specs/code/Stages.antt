@@ -1,7 +1,7 @@
 -- A page that is open, and what it is to read on in it.
 use Rattle.std.specs.Prelude.{◌≡◌, ℕ, ◌+◌, ◌-◌, ◌*◌, ◌^◌, ◌<◌, ◌≤◌, ◌⊎◌, false, true, List, length}
 use Rattle.std.specs.Prelude.{Option}
-use Rattle.std.specs.Prelude.{Some, None, Ok, Err, ⊤, [], ◌∷◌, ◌++◌}
+use Rattle.std.specs.Prelude.{Some, None, Ok, ⊤, [], ◌∷◌, ◌++◌}
 use Rattle.fax_bits.specs.declared.Colour.{Colour}
 use Rattle.fax_bits.specs.declared.Colour.TheVariants.{White}
 use Rattle.fax_rows.specs.Rows.{pels_of}
@@ -22,12 +22,14 @@ use Rattle.fax_walk.specs.declared.opening.OpenFault.TheVariants.{Memory, Ended}
 use Rattle.fax_walk.specs.Pages.{LongPlace}
 use Rattle.fax_walk.specs.laws.InOrder.{LeadTo}
 use Rattle.fax_walk.specs.Pages.{IsPageAt}
-use Rattle.fax_walk.specs.Items.{RowItem, RowPlace, IsInnerOn, IsRow, place_after, first_at}
+use Rattle.fax_walk.specs.Items.{RowItem, RowPlace, IsInnerOn, IsRow, first_at}
+use Rattle.fax_walk.specs.code.Places.{place_over}
 use Rattle.fax_walk.specs.code.Places.{IsInner}
 use Rattle.fax_walk.specs.Items.{inner_at}
 use Rattle.fax_walk.specs.code.Places.{strip_at}
 use Rattle.fax_walk.specs.code.Places.{place_on}
 use Rattle.fax_walk.specs.code.Opening.{IsFilePage, PageDue, page_with}
+use Rattle.fax_walk.specs.Pages.{goes_on, ends_as}
 
 -- a page that is open: its number, the chain after its directory, its directory and form, the
 -- first row that is handed out, the number of the strip that is read, that strip, as far as it is
@@ -141,7 +143,7 @@ IsNoPlace form bytes place =
 -- the strip of a row of a page that is due is not there: the rows end at its first row
 pub record IsNoStrip (due : PageDue) (first : ℕ) (end : End) : Type 0 where
   pub stop : IsRow due.directory.file
-      (first_at due.page (strip_at due.form first * due.form.rows_per_strip)) (Err end)
+      (first_at due.page (strip_at due.form first * due.form.rows_per_strip)) (ends_as end)
   pub cause : Cause
   pub told : end
       ≡ Fault due.page (strip_at due.form first * due.form.rows_per_strip) cause
@@ -150,7 +152,7 @@ pub record IsNoStrip (due : PageDue) (first : ℕ) (end : End) : Type 0 where
 abbrev pub IsNoInner : PageDue → LongPlace → End → Type 0
 IsNoInner due place end =
     (IsInnerOn due.directory.file (page_with due.directory due.form) place
-    × IsRow due.directory.file (inner_at place) (Err end))
+    × IsRow due.directory.file (inner_at place) (ends_as end))
     ⊎ ((IsInnerOn due.directory.file (page_with due.directory due.form) place → ⊥)
     × (end ≡ Outside))
 
@@ -187,14 +189,14 @@ pub record ReadsPageRow (old new : PageState) : Type 0 where
   pub same : IsSamePage old new
   pub still_open : IsOpen new
   pub step : IsRow old.directory.file (place_of old)
-      (Ok (item_of old (row_of old) new, place_of new))
+      (goes_on (item_of old (row_of old) new) (place_of new))
   pub next_row : row_of new ≡ row_of old + 1
   pub one_more : new.read ≡ old.read + 1
-  pub after : place_of new ≡ place_after old.form (item_of old (row_of old) new)
+  pub after : place_of new ≡ place_over old.form (item_of old (row_of old) new)
 
 -- the row that was due could not be read
 pub record StopsAtRow (old : PageState) (end : End) : Type 0 where
-  pub stop : IsRow old.directory.file (place_of old) (Err end)
+  pub stop : IsRow old.directory.file (place_of old) (ends_as end)
   pub told : EndsAtRow old end
 
 -- these rows were read, which are not handed out
@@ -219,7 +221,7 @@ pub record GivesRow (old new : PageState) : Type 0 where
   pub here : IsPageAt old.directory.file (record { page = item.page; row = item.row })
       (Ok (page_with old.directory old.form))
   pub within : item.row < old.form.rows
-  pub after : place_of new ≡ place_after old.form item
+  pub after : place_of new ≡ place_over old.form item
   pub next_row : row_of new ≡ row_of old + skipped old + 1
   pub read : new.read ≡ old.read + skipped old + 1
   pub few : new.read < 2 ^ 53
@@ -228,5 +230,5 @@ pub record GivesRow (old new : PageState) : Type 0 where
 pub record GivesNone (old : PageState) (end : End) (new : PageState) : Type 0 where
   pub items : List RowItem
   pub skips : HasSkipped old new items
-  pub stop : IsRow old.directory.file (place_of new) (Err end)
+  pub stop : IsRow old.directory.file (place_of new) (ends_as end)
   pub told : EndsAtRow new end

@@ -13,12 +13,13 @@ use Rattle.fax_walk.specs.declared.opening.OpenFault.TheVariants.{Memory as NoMe
 use Rattle.fax_walk.specs.laws.InOrder.{LeadTo}
 use Rattle.fax_walk.specs.Items.{RowItem, RowPlace, IsRow, IsTailFrom, begun_cursor, cursor_after}
 use Rattle.fax_walk.specs.code.Places.{Begins}
-use Rattle.fax_walk.specs.Items.{place_after}
+use Rattle.fax_walk.specs.code.Places.{place_over}
 use Rattle.fax_walk.specs.views.Walk.{WalkView, IsItemNumber, EntersPage, HasEndedAs, AreRead}
 use Rattle.fax_walk.specs.views.Walk.{EndsBefore}
 use Rattle.fax_walk.specs.views.Walk.{walk_from}
 use Rattle.fax_walk.specs.code.Stages.{PageState, row_of, skipped, place_of, IsOpen, IsOpenedAt}
 use Rattle.fax_walk.specs.code.Stages.{IsOpenedFrom, IsRefusal}
+use Rattle.fax_walk.specs.Pages.{ends_as}
 
 -- the first page of a walk was opened
 pub record IsOpenedFirst (file : List ℕ) (begun : Begun) (page : PageState) : Type 0 where
@@ -55,7 +56,7 @@ IsEntered file begun (Some old) (Ok tt) (Some new) =
     × IsOpenedAt old.directory.file (place_of old) 0 old.read new)
 IsEntered file begun (Some old) (Err fault) new =
     (row_of old ≡ old.form.rows)
-    × IsRefusal (λ end. IsRow old.directory.file (place_of old) (Err end)) fault
+    × IsRefusal (λ end. IsRow old.directory.file (place_of old) (ends_as end)) fault
     × (new ≡ Some old)
 IsEntered file begun old (Ok tt) None = ⊥
 
@@ -81,7 +82,7 @@ pub record IsAfterItem (file : List ℕ) (begun : Begun) (given : ℕ) (cursor :
   pub number : IsItemNumber file begun before item
   pub within : item.row < item.form.rows
   pub cursor_is : cursor ≡ cursor_after item
-  pub to_is : to ≡ place_after item.form item
+  pub to_is : to ≡ place_over item.form item
 
 -- the cursor stands where the walk began, or after the item that was handed out last
 abbrev pub StandsAt : List ℕ → Begun → ℕ → Cursor → RowPlace → Type 0
@@ -120,7 +121,7 @@ abbrev pub HasEndedOn : List ℕ → Begun → ℕ → Cursor → Option PageSta
 HasEndedOn file begun given cursor None end =
     (given ≡ 0) × (cursor ≡ begun_cursor begun) × HasNoRows file begun end
 HasEndedOn file begun given cursor (Some page) end =
-    HasReadTo file begun given cursor page × IsRow file (place_of page) (Err end)
+    HasReadTo file begun given cursor page × IsRow file (place_of page) (ends_as end)
     × ((skipped page ≡ 0) ⊎ EndsBefore end (begun_cursor begun))
 
 -- what a walk that handed out so many rows reads next: item number `given`, or how the rows end

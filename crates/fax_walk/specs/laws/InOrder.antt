@@ -1,14 +1,14 @@
 -- What leads to a place, and what is left, one item after another.
 -- A definition without a citation is this project's profile.
-use Rattle.std.specs.Prelude.{◌≡◌, ℕ, ◌≤◌, List, [], ◌∷◌, length, drop, Option, Some, None, Result}
-use Rattle.std.specs.Prelude.{Ok}
+use Rattle.std.specs.Prelude.{◌≡◌, ℕ, ◌≤◌, List, [], ◌∷◌, length, drop, Option, Some, None}
 use Rattle.fax_walk.specs.declared.end.End.{End}
+use Rattle.fax_walk.specs.Pages.{Step, goes_on}
 
 -- these items are read from a place on, and the last of them leads to this place
-abbrev pub LeadTo : {S A : Type 0} → (S → Result (A × S) End → Type 0) → S → List A → S → Type 0
+abbrev pub LeadTo : {S A : Type 0} → (S → Step A S → Type 0) → S → List A → S → Type 0
 LeadTo next at [] to = to ≡ at
 LeadTo {S} next at (item ∷ items) to =
-    (place : S) × next at (Ok (item, place)) × LeadTo next place items to
+    (place : S) × next at (goes_on item place) × LeadTo next place items to
 
 -- no end was told yet, or it was, and nothing is left but that end
 abbrev pub IsTold : {A : Type 0} → Option End → List A → End → Type 0

@@ -1,7 +1,7 @@
 -- The main law of walks, which the function `walks_hand_out_the_rest` of the module `laws` proves:
 -- a walk from what was printed hands out just the rest of a file's items, each once.
 -- A definition without a citation is this project's profile.
-use Rattle.std.specs.Prelude.{◌≡◌, ◌≢◌, ◌↔◌, ◌⊎◌, ℕ, ◌+◌, ◌%◌, ◌<◌, ◌≤◌, if◌then◌else◌, nat_lt, All}
+use Rattle.std.specs.Prelude.{◌≡◌, ◌≢◌, ◌↔◌, ◌⊎◌, ℕ, ◌+◌, ◌<◌, ◌≤◌, All}
 use Rattle.std.specs.Prelude.{List, [], ◌∷◌, length, take, drop, Option, Some, None, Result, Ok}
 use Rattle.std.specs.Prelude.{Err, slice_get}
 use Rattle.std.specs.List.{AllZip}
@@ -14,11 +14,11 @@ use Rattle.fax_walk.specs.declared.cursor.Cursor.{Cursor}
 use Rattle.fax_walk.specs.declared.end.WalkFault.{WalkFault}
 use Rattle.fax_walk.specs.declared.end.WalkFault.TheVariants.{Memory, AtRow, CursorOutside}
 use Rattle.fax_walk.specs.declared.walk.Place.{Place}
-use Rattle.fax_walk.specs.Pages.{End, Fault, FilePage, IsPageAt, LongPlace, Outside, Proper, start}
+use Rattle.fax_walk.specs.Pages.{End, Fault, LongPlace, Outside, Proper, start}
 use Rattle.fax_walk.specs.Items.{AreItems, RowItem, cursor_after, long_after}
 use Rattle.fax_walk.specs.laws.InOrder.{IsTold}
 use Rattle.fax_walk.specs.laws.Left.{IsLeft}
-use Rattle.fax_walk.specs.views.Walk.{AreRead, IsCursorOf, IsLent, IsLongOf, IsNext, WalkView}
+use Rattle.fax_walk.specs.views.Walk.{AreBeforeIt, AreRead, IsCursorOf, IsLent, IsLongOf, IsNext, WalkView}
 use Rattle.fax_walk.specs.views.Walk.{walk_from}
 
 -- what is printed after an item: its cursor, or its place inside a strip, if there is one
@@ -100,15 +100,6 @@ IsNextOf items end n old (Err Memory) new = (new ≡ old) × (old.told ≡ None)
 abbrev pub StandsBefore : RowItem → RowItem → Type 0
 StandsBefore item other =
     (item.page < other.page) ⊎ ((item.page ≡ other.page) × (item.row < other.row))
-
--- so many rows stand in its strip before what a walk begins with: those above the cursor's, and
--- none where that stands after its page's last row, where its page is not there, or inside a strip
-abbrev pub AreBeforeIt : List ℕ → Begun → ℕ → Type 0
-AreBeforeIt file (At at) count =
-    ((end : End) × IsPageAt file at (Err end) × (count ≡ 0))
-    ⊎ ((here : FilePage) × IsPageAt file at (Ok here)
-    × (count ≡ (if nat_lt at.row here.form.rows then at.row % here.form.rows_per_strip else 0)))
-AreBeforeIt file (Inside place) count = count ≡ 0
 
 -- each file has items and an end, and one list of them only
 abbrev pub FilesHaveOneList : Type 0

@@ -1,6 +1,6 @@
 -- A walk, as contracts see it.
 use Rattle.std.specs.Prelude.{◌≡◌, ℕ, ◌+◌, ◌^◌, ◌<◌, ◌≤◌, ◌⊎◌, List, Option, Some, None, Result, Ok}
-use Rattle.std.specs.Prelude.{Err}
+use Rattle.std.specs.Prelude.{Err, ◌%◌, if◌then◌else◌, nat_lt}
 use Rattle.std.specs.Borrow.{Bor}
 use Rattle.fax_bits.specs.declared.Colour.{Colour}
 use Rattle.fax_walk.specs.declared.begun.Begun.{Begun}
@@ -16,7 +16,7 @@ use Rattle.fax_rows.specs.Rows.{runs_of}
 use Rattle.fax_walk.specs.Pages.{start, LongPlace}
 use Rattle.fax_walk.specs.views.InOrder.{IsAfterLast, IsNumber, EndsAfter, HasToldNoOther}
 use Rattle.fax_walk.specs.Pages.{IsOnPage}
-use Rattle.fax_walk.specs.Items.{IsBegunOn, RowItem, RowPlace, IsTailFrom, begun_cursor, cursor_after}
+use Rattle.fax_walk.specs.Items.{RowItem, IsTailFrom, begun_cursor, cursor_after}
 use Rattle.fax_walk.specs.Items.{long_after}
 
 -- a walk: its file, what it began with, how many rows it handed out, and how the rows ended, once
@@ -106,10 +106,14 @@ place_inside None = None
 place_inside (Some lent) =
     Some (record { at = lent.at; bits = lent.bits; runs = runs_of lent.reference.now })
 
--- how many rows are read before a beginning's
-abbrev pub dropped : {S : Type 0} → Result (S × ℕ) End → ℕ
-dropped (Err end) = 0
-dropped (Ok begin) = begin.1
+-- so many rows stand in its strip before what a walk begins with: those above the cursor's, and
+-- none where that stands after its page's last row, where its page is not there, or inside a strip
+abbrev pub AreBeforeIt : List ℕ → Begun → ℕ → Type 0
+AreBeforeIt file (At at) count =
+    IsOnPage file at (λ here.
+    count ≡ (if nat_lt at.row here.form.rows then at.row % here.form.rows_per_strip else 0))
+    (λ end. count ≡ 0)
+AreBeforeIt file (Inside place) count = count ≡ 0
 
 -- the rows end on the cursor's page, before its row
 abbrev pub EndsBefore : End → Cursor → Type 0
@@ -121,9 +125,9 @@ EndsBefore (Fault page row cause) at = (page ≡ at.page) × (row < at.row)
 -- strip; where none was handed out yet, at most these, and where the rows have ended, all of them,
 -- but where one of these cannot be read
 pub record AreRead (walk : WalkView) (read : ℕ) : Type 0 where
-  pub begin : Result (RowPlace × ℕ) End
-  pub begins : IsOnPage walk.file (begun_cursor walk.begun) (IsBegunOn walk.file walk.begun) begin
-  pub most : read ≤ walk.given + dropped begin
-  pub all : 0 < walk.given → read ≡ walk.given + dropped begin
+  pub before : ℕ
+  pub are_before : AreBeforeIt walk.file walk.begun before
+  pub most : read ≤ walk.given + before
+  pub all : 0 < walk.given → read ≡ walk.given + before
   pub told : (end : End) → walk.told ≡ Some end
-      → (read ≡ walk.given + dropped begin) ⊎ EndsBefore end (begun_cursor walk.begun)
+      → (read ≡ walk.given + before) ⊎ EndsBefore end (begun_cursor walk.begun)
