@@ -37,7 +37,7 @@ pub map_both : {A E : Type 0} {P Q R : A → Type 0} (found : Result A E) → If
 map_both (Ok x) p q f = f x p q
 map_both (Err e) p q f = tt
 
-module _ (reference : PlacedRow) (places : List ℕ) (at : PlacedReached) (so_far : IsReadTo reference places at)
+module _ {reference : PlacedRow} {places : List ℕ} {at : PlacedReached} (so_far : IsReadTo reference places at)
     (unfinished : reached_pel at.reached < reference.width) where
   -- a0's colour just before the first pel
   start : at.reached.a0 ≡ None → White ≡ at.reached.colour
@@ -99,7 +99,7 @@ module _ (reference : PlacedRow) (places : List ℕ) (at : PlacedReached) (so_fa
       let second = b2_is reference at.reached.a0 at.reached.colour at.b1 b1 in
       pass_is (placed_pels reference) row len (placed_position reference.width places at) start read inside b new rest new_is
       ((mode_taken b Pass rest takes).bits)
-      (let order = b2_order reference places at so_far unfinished in omega arith) ends goes
+      (let order = b2_order so_far unfinished in omega arith) ends goes
 
   pub pair_chosen : (b middle : List Bool) (new : Position) (rest : List Bool) → Takes modes b Horizontal middle
       → IsChosenPair (placed_pels reference) (placed_position reference.width places at) middle new rest

@@ -21,7 +21,7 @@ use Rattle.fax_rows.specs.code.Chosen.{IsChosenStep, AreChosenSteps, GoesOn, Goe
 use Rattle.fax_rows.specs.code.PlacedRow.{placed_pels}
 use Rattle.fax_rows.specs.code.PlacedReached.{placed_position, IsReadTo, IsReadOn}
 use Rattle.fax_rows.specs.code.Reached.{reached_pel, position_of}
-use Rattle.fax_rows.specs.code.Turns.{turned, alternate, pels_by, IsAscending, IsTurnedFrom}
+use Rattle.fax_rows.specs.code.Turns.{turned, alternate, pels_by, IsAscending, IsTurnedFrom, TurnsAt}
 use Rattle.fax_rows.proofs.ChosenRowLemmas.{IsChosenSoFar, chosen_goes_on as row_goes_on}
 use Rattle.fax_rows.proofs.ChosenStepLemmas.{under_chosen}
 use Rattle.fax_rows.proofs.PlacedB1Lemmas.{length-placed_pels, b1_next}
@@ -137,7 +137,7 @@ module _ (reference : PlacedRow) (places : List ℕ) where
       → at.b1 < reference.end → get_or places at.end 0 ≡ get_or reference.places.now at.b1 0 → IsAscending places (at.end + 1)
   ascending_more at so_far unfinished inside is = record {
     started = omega arith;
-    within = let room = room_left reference places at so_far unfinished in omega arith;
+    within = let room = room_left so_far unfinished in omega arith;
     first = so_far.ascending.first;
     steps = λ i some h. by i some h (cases_lt (i + 1) at.end);
   }
@@ -155,28 +155,28 @@ module _ (reference : PlacedRow) (places : List ℕ) where
   -- the step to b1, whose place stands there already
   module _ (at : PlacedReached) (so_far : IsReadTo reference places at) (unfinished : reached_pel at.reached < reference.width)
       (inside : at.b1 < reference.end) (is : get_or places at.end 0 ≡ get_or reference.places.now at.b1 0) where
-    turn : IsTurnedFrom (take at.end places) (take (at.end + 1) places) (get_or reference.places.now at.b1 0)
-    turn =
-        turned_more places at.end (get_or reference.places.now at.b1 0)
-        (let room = room_left reference places at so_far unfinished in omega arith) is
+    turns : TurnsAt places places at.end (at.end + 1) (get_or reference.places.now at.b1 0)
+    turns = record {
+      ascending = ascending_more at so_far unfinished inside is;
+      last = let same : at.end + 1 - 1 ≡ at.end = omega arith in
+          subst (λ n. get_or places n 0 ≤ get_or reference.places.now at.b1 0) (sym same) (omega (arith, is));
+      turned = turned_more places at.end (get_or reference.places.now at.b1 0)
+          (let room = room_left so_far unfinished in omega arith) is;
+      same_len = refl;
+    }
 
     step : IsVerticalStep (placed_pels reference) (placed_position reference.width places at) (pos 0)
         (placed_position reference.width places (under reference at))
     step =
-        let within = under_within reference places at so_far unfinished in
-        vertical_placed reference places at so_far unfinished (pos 0) (pos (get_or reference.places.now at.b1 0)) (omega (arith, ints))
-        (from_start at.reached) (under_right reference places at so_far unfinished) (omega (arith, ints, within))
-        places (at.end + 1) (at.b1 + 1) (other at.reached.colour) turn refl
+        let within = under_within so_far unfinished in
+        vertical_placed so_far unfinished (pos 0) (pos (get_or reference.places.now at.b1 0)) (omega (arith, ints))
+        (from_start at.reached) (under_right so_far unfinished) (omega (arith, ints, within))
+        places (at.end + 1) (at.b1 + 1) (other at.reached.colour) turns refl
 
     read : IsReadTo reference places (under reference at)
     read =
-        turned_so_far reference places at so_far unfinished places (at.end + 1) (get_or reference.places.now at.b1 0) (at.b1 + 1)
-        (under_ahead reference places at so_far unfinished) (under_within reference places at so_far unfinished)
-        refl (ascending_more at so_far unfinished inside is)
-        (let same : at.end + 1 - 1 ≡ at.end = omega arith in
-        subst (λ n. get_or places n 0 ≤ get_or reference.places.now at.b1 0) (sym same) (omega (arith, is))) turn
-        (λ h. b1_next reference at.reached.a0 at.reached.colour at.b1 (so_far.b1 unfinished) h)
-        (other at.reached.colour) refl
+        turned_so_far so_far unfinished (under_ahead so_far unfinished) (under_within so_far unfinished) turns
+        (λ h. b1_next reference at.reached.a0 at.reached.colour at.b1 (so_far.b1 unfinished) h) refl
 
   -- so many steps with a1 under b1
   pub record AreUnder (at : PlacedReached) (k : ℕ) (b rest : List Bool) : Type 0 where
@@ -223,7 +223,7 @@ module _ (reference : PlacedRow) (places : List ℕ) where
           steps = (
             omega (arith, len),
             spells.0,
-            under_chosen reference places at so_far unfinished b (placed_position reference.width places (under reference at)) spells.0
+            under_chosen so_far unfinished b (placed_position reference.width places (under reference at)) spells.0
                 spells.1 vertical,
             more.chosen.steps,
           );
@@ -348,6 +348,6 @@ one_read reference places new at next b rest taken so_far unfinished vertical re
       steps = step_goes_on reference places at unfinished b position rest
           (record { mode = Vertical (pos 0); after = rest; taken = taken; step = (vertical, refl) });
       chosen = chosen_goes_on reference places at unfinished b position rest
-          (under_chosen reference places at so_far unfinished b position rest taken vertical);
+          (under_chosen so_far unfinished b position rest taken vertical);
       so_far = read;
     }

@@ -13,7 +13,8 @@ ghost use Rattle.fax_rows.specs.code.Seen.{b2_from};
 ghost use Rattle.fax_rows.specs.code.PlacedRow.{placed_pels};
 ghost use Rattle.fax_rows.specs.code.RowFaults.{IsHorizontalFault};
 ghost use Rattle.fax_rows.specs.code.Stop.{IsStopOf};
-ghost use Rattle.fax_rows.specs.code.Turns.{row_of, IsAscending};
+ghost use Rattle.fax_rows.specs.code.Put.{ArePut, HasRoom};
+ghost use Rattle.fax_rows.specs.code.Turns.{row_of};
 ghost use Rattle.fax_rows.specs.code.Reached.{reached_pel};
 ghost use Rattle.fax_rows.specs.code.PlacedReached.{placed_position, IsReadTo};
 
@@ -48,8 +49,7 @@ fn horizontal<const CHOICE: bool, const EXACT: bool>(
     ensures err { IfErr result (λ stop. IsStopOf CHOICE EXACT
         (λ fault. IsHorizontalFault (placed_pels reference.entry)
         (placed_position reference.entry.width places.old at) source.old.left fault) stop) }
-    ensures first { slice_index places.new 0 ≡ 0 }
-    ensures same_len { length places.new ≡ length places.old }
+    ensures room { HasRoom reference.entry.width places.new }
     ensures same_end { KeepsEnd source.old source.new }
     ensures shorter { OnOk result (length source.new.left < length source.old.left) }
 {
@@ -84,8 +84,7 @@ fn vertical<const CHOICE: bool, const EXACT: bool>(
     ensures err { IfErr result (λ stop. IsStopOf CHOICE EXACT
         (λ fault. (Spec.IsInRow (placed_pels reference.entry)
         (placed_position reference.entry.width places.old at) d → ⊥) × (fault ≡ OutOfRow)) stop) }
-    ensures first { slice_index places.new 0 ≡ 0 }
-    ensures same_len { length places.new ≡ length places.old }
+    ensures room { HasRoom reference.entry.width places.new }
 {
     let out = Stop::Fault(RowFault::OutOfRow);
     if d < 0 {
@@ -151,8 +150,7 @@ fn next_steps<const CHOICE: bool, const EXACT: bool>(
     ensures err { IfErr result (λ stop. IsStopOf CHOICE EXACT
         (λ fault. Fault.IsStepFault (placed_pels reference.entry)
         (placed_position reference.entry.width places.old at) source.old.left fault) stop) }
-    ensures first { slice_index places.new 0 ≡ 0 }
-    ensures same_len { length places.new ≡ length places.old }
+    ensures room { HasRoom reference.entry.width places.new }
     ensures same_end { KeepsEnd source.old source.new }
     ensures shorter { OnOk result (length source.new.left < length source.old.left) }
 {
@@ -175,12 +173,11 @@ pub(super) fn read_modes<const CHOICE: bool, const EXACT: bool>(
     reference: PlacedRow,
     places: &mut [u32],
 ) -> Result<usize, Stop>
-    requires room { length places.old ≡ reference.width + 4 }
-    requires first { slice_index places.old 0 ≡ 0 }
+    requires room { HasRoom reference.width places.old }
     ensures ok { IfOk result (λ end. Spec.IsTwoDimensionalRow (placed_pels reference.entry)
         source.old.left (row_of places.new end reference.entry.width) source.new.left) }
-    ensures ascending { IfOk result (λ end. IsAscending places.new end) }
-    ensures last { IfOk result (λ end. slice_index places.new (end - 1) ≤ reference.entry.width) }
+    ensures put { IfOk result
+        (λ end. ArePut reference.entry.width places.new end reference.entry.width) }
     ensures chosen { IfOk result (λ end. IsTrue CHOICE
         → source.old.left ≡ two_dimensional_bits (placed_pels reference.entry)
         (row_of places.new end reference.entry.width) ++ source.new.left) }
@@ -188,8 +185,7 @@ pub(super) fn read_modes<const CHOICE: bool, const EXACT: bool>(
         (λ fault. Fault.IsTwoDimensionalFault (placed_pels reference.entry)
         source.old.left fault) stop) }
     ensures unchanged { OnErr result (source.new ≡ source.old) }
-    ensures first { slice_index places.new 0 ≡ 0 }
-    ensures same_len { length places.new ≡ length places.old }
+    ensures room { HasRoom reference.entry.width places.new }
     ensures same_end { KeepsEnd source.old source.new }
 {
     let mut ahead = source.again();

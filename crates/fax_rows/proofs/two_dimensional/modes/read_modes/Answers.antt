@@ -18,8 +18,7 @@ loop-ahead-init g c = rw c.again-ahead.ensures (record {
   chosen = λ h. chosen_begins (placed_pels c.args.reference) c.args.source.now.left _ refl;
   steps = steps_begin (placed_pels c.args.reference)
       (pels_by c.args.reference.width (take 1 c.args.places.now)) c.args.source.now.left;
-  so_far = nothing_read c.args.reference c.args.places.now c.requires.room
-      c.requires.first;
+  so_far = nothing_read c.requires.room;
   same_end = refl;
 })
 

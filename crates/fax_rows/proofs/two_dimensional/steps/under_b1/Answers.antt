@@ -6,15 +6,15 @@ use Rattle.fax_rows.proofs.two_dimensional.steps.under_b1.Goals as goal
 
 pub bounds-reference-at : goal.bounds-reference-at
 bounds-reference-at c =
-    omega (arith, b1_in_room c.args.reference c.args.places.now c.args.at c.requires.so_far c.requires.unfinished)
+    omega (arith, b1_in_room c.requires.so_far c.requires.unfinished)
 
 pub turned_at-requires-clause-right : goal.turned_at-requires-clause-right
 turned_at-requires-clause-right c =
-    under_right c.args.reference c.args.places.now c.args.at c.requires.so_far c.requires.unfinished
+    under_right c.requires.so_far c.requires.unfinished
 
 pub turned_at-requires-clause-within : goal.turned_at-requires-clause-within
 turned_at-requires-clause-within c =
-    under_within c.args.reference c.args.places.now c.args.at c.requires.so_far c.requires.unfinished
+    under_within c.requires.so_far c.requires.unfinished
 
 pub turned_at-requires-clause-b1 : goal.turned_at-requires-clause-b1
 turned_at-requires-clause-b1 c = λ h.
