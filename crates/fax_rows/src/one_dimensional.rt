@@ -12,7 +12,7 @@ ghost use Rattle.fax_rows.specs.code.Put.{ArePut, HasRoom};
 
 use crate::RowFault;
 use crate::pels::Row;
-use crate::runs::next_run;
+use crate::runs::long_run;
 use crate::turns::{close, turn_after, turn_right};
 use fax_bits::{BitSource, Colour};
 
@@ -30,16 +30,17 @@ struct Runs {
 impl Runs {
     ghost use Rattle.std.specs.Prelude.{◌<◌, ◌≡◌, ◌⊎◌, IsTrue};
 
-    /// Sees that a run after them may be one of the longest: it has pels, or is the first of its
-    /// row. Else the codes are not those that T.4 chooses (T.4, section 4.1.1).
+    /// Sees that a run after them, whose codes may be chosen, may be one of the longest: it has pels,
+    /// or is the first of its row. Else the codes are not those that T.4 chooses (T.4, section
+    /// 4.1.1).
     #[inline(always)]
-    fn see(&mut self, colour: Colour, run: u32)
-        ensures chosen { IsTrue self.new.is_chosen → IsTrue self.old.is_chosen
+    fn see(&mut self, colour: Colour, run: u32, chosen: bool)
+        ensures chosen { IsTrue self.new.is_chosen → IsTrue self.old.is_chosen × IsTrue chosen
             × ((0 < run) ⊎ ((self.old.total ≡ 0) × (colour ≡ Colour.White))) }
         ensures end { self.new.end ≡ self.old.end }
         ensures total { self.new.total ≡ self.old.total }
     {
-        if run == 0 && (self.total > 0 || colour == Colour::Black) {
+        if !chosen || (run == 0 && (self.total > 0 || colour == Colour::Black)) {
             self.is_chosen = false;
         }
     }
@@ -73,8 +74,12 @@ fn read_on(
     ensures same_end { KeepsEnd ahead.old ahead.new }
     ensures shorter { OnOk result (length ahead.new.left < length ahead.old.left) }
 {
-    let run = next_run(ahead, colour, width, runs.total, &mut runs.is_chosen)?;
-    runs.see(colour, run);
+    let looked_up = ahead.run_within(colour, width - runs.total);
+    let run = match looked_up {
+        Some(run) => run,
+        None => long_run(ahead, colour, width, runs.total)?,
+    };
+    runs.see(colour, run, looked_up.is_some());
     runs.total += run;
     runs.end = turn_after(places, runs.end, runs.total, run);
     Ok(())
