@@ -120,8 +120,7 @@ right_after (Some a) k h = lt-ltb a (suc k) (omega arith)
 -- the pels from a place up to the next changing element have one colour
 pub colour_up_to : (row : List Colour) (from : Option ℕ) (place : ℕ) → IsNextChange row from place
     → (k : ℕ) → first_of from ≤ k → k < place → pel row k ≡ colour_of row from
-colour_up_to row from place next k after before =
-    colour_before row from place next (suc k) (omega arith) (right_after from k after)
+colour_up_to row from place next k after before = colour_before row from place next (suc k) (omega arith) (right_after from k after)
 
 -- and the changing element has the other
 pub colour_at : (row : List Colour) (from : Option ℕ) (place : ℕ) → IsNextChange row from place

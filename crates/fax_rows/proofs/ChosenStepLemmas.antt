@@ -86,8 +86,7 @@ module _ {reference : PlacedRow} {places : List ℕ} {at : PlacedReached} (so_fa
   pub under_chosen : (b : List Bool) (new : Position) (rest : List Bool) → Takes modes b (Vertical (pos 0)) rest
       → IsVerticalStep (placed_pels reference) (placed_position reference.width places at) (pos 0) new
       → IsChosenStep (placed_pels reference) (placed_position reference.width places at) b new rest
-  under_chosen b new rest takes step =
-      vertical_chosen b (pos 0) new rest takes step (left_of_b2 (pos 0) new step (omega (arith, ints)))
+  under_chosen b new rest takes step = vertical_chosen b (pos 0) new rest takes step (left_of_b2 (pos 0) new step (omega (arith, ints)))
 
   pub pass_chosen : (b : List Bool) (new : Position) (rest : List Bool) → Takes modes b Pass rest
       → new ≡ coloured_up_to (placed_position reference.width places at) (b2_from (placed_pels reference)

@@ -85,8 +85,7 @@ unfolding runs_after
 longer colour n zero pels = ap (λ k. runs_after colour k pels) (omega arith)
 longer White n (suc m) pels =
     longer White (n + 1) m pels ∙ ap (λ k. runs_after White k pels) (omega arith)
-longer Black n (suc m) pels =
-    longer Black (n + 1) m pels ∙ ap (λ k. runs_after Black k pels) (omega arith)
+longer Black n (suc m) pels = longer Black (n + 1) m pels ∙ ap (λ k. runs_after Black k pels) (omega arith)
 
 -- after a run stand the runs of the pels after it, where none of them is 0
 runs_follow : (colour : Colour) (n : ℕ) (runs : List ℕ) → ((i : ℕ) → i < length runs → 0 < get_or runs i 0)

@@ -64,7 +64,7 @@ without_last width places end some within is =
 
 -- there is room for one place more
 pub places_within : (places : List ℕ) (end total : ℕ) → IsAscending places end → get_or places (end - 1) 0 ≤ total → end ≤ total + 2
-places_within places end total up last = omega (arith, up.started, at_least places end up (end - 1) (omega (arith, up.started)))
+places_within places end total up last = omega (arith, up.started, at_least up (end - 1) (omega (arith, up.started)))
 
 -- before the first pel
 pub none_put : {width : ℕ} {places : List ℕ} (total : ℕ) → HasRoom width places → total ≤ width → ArePut width places 1 total
@@ -90,7 +90,7 @@ put_on put turns within =
 pub below_last : (places : List ℕ) (end width : ℕ) → IsAscending places end → get_or places (end - 1) 0 ≤ width
     → (i : ℕ) → 0 < i → i < end - 1 → get_or places i 0 < width
 below_last places end width up last i some h =
-    let less = below_later places end up i (end - 1) some h (omega arith) in omega arith
+    let less = below_later up i (end - 1) some h (omega arith) in omega arith
 
 -- a last place that is not the width is below it
 pub below_width : (places : List ℕ) (end width : ℕ) → IsAscending places end → get_or places (end - 1) 0 ≤ width
@@ -111,7 +111,7 @@ pub ends_within : (places : List ℕ) (end width : ℕ) → IsAscending places e
 ends_within places end width up below =
     elim (eq-or-lt_of_le up.started) [
       | inl one ↦ omega arith
-      | inr more ↦ omega (arith, at_least places end up (end - 1) (omega arith), below (end - 1) (omega arith) (omega arith))
+      | inr more ↦ omega (arith, at_least up (end - 1) (omega arith), below (end - 1) (omega arith) (omega arith))
     ]
 
 -- one run more

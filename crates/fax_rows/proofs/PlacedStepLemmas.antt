@@ -129,7 +129,7 @@ module _ {reference : PlacedRow} {places : List ℕ} {at : PlacedReached} (so_fa
   pub b1_in_room : at.b1 + 1 < length reference.places.now
   b1_in_room =
       let b1 = so_far.b1 unfinished in
-      let within = end_within reference.places.now reference.end reference.width reference.placed in
+      let within = end_within reference.placed in
       omega (arith, b1.within, reference.placed.room, within)
 
   -- a place is put where the colour turns

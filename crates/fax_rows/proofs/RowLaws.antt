@@ -110,8 +110,7 @@ module _ (reads : (colour : Colour) → ReadsOneWay (run_table colour)) where
           → AreRunsOrFault (other colour) width (from + n) rest → AreRunsOrFault colour width from b
       runs_after colour width from b n rest run unfinished (inl ended) =
           inl (n ∷ ended.0, ended.1, (unfinished, rest, run, ended.2))
-      runs_after colour width from b n rest run unfinished (inr fault) =
-          inr (fault.0, n ∷ fault.1, (unfinished, rest, run, fault.2))
+      runs_after colour width from b n rest run unfinished (inr fault) = inr (fault.0, n ∷ fault.1, (unfinished, rest, run, fault.2))
 
   pub row_reads_one_way : (width : ℕ) → ReadsRowsOneWay width
   row_reads_one_way width = record {

@@ -59,8 +59,7 @@ chosen_on reference b old mid (next ∷ positions) new rest so_far more =
 -- and more steps that T.4 would have chosen
 pub all_chosen_go_on : (reference : List Colour) (b : List Bool) (old : Position) (mid : List Bool) (new : Position) (rest : List Bool)
     → IsChosenSoFar reference b old mid → GoesOnAsChosen reference old mid new rest → IsChosenSoFar reference b new rest
-all_chosen_go_on reference b old mid new rest so_far more =
-    chosen_on reference b old mid more.positions new rest so_far more.steps
+all_chosen_go_on reference b old mid new rest so_far more = chosen_on reference b old mid more.positions new rest so_far more.steps
 
 -- one step from where the row is read to
 pub step_goes_on : (reference : PlacedRow) (places : List ℕ) (at : PlacedReached) → reached_pel at.reached < reference.width
@@ -297,8 +296,7 @@ so_far_kept reference places new at so_far len kept = record {
     up = so_far.ascending
 
     kept_at : (k : ℕ) → k < at.end → get_or new k 0 ≡ get_or places k 0
-    kept_at k h =
-        sym (get_or-take at.end new k 0 h) ∙ ap (λ xs. get_or xs k 0) kept ∙ get_or-take at.end places k 0 h
+    kept_at k h = sym (get_or-take at.end new k 0 h) ∙ ap (λ xs. get_or xs k 0) kept ∙ get_or-take at.end places k 0 h
 
 -- a 1 is the code of a1 under b1
 one_is_taken : ModeBitsAreRead → (rest : List Bool) → Takes modes (true ∷ rest) (Vertical (pos 0)) rest

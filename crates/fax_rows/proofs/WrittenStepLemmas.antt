@@ -31,7 +31,7 @@ module _ (row : PlacedRow) where
     some = omega arith;
     within = omega arith;
     left = subst (λ m. get_or row.places.now m 0 ≤ get_or row.places.now k 0) same (omega arith);
-    right = λ l. below_later row.places.now row.end row.placed.ascending k (k + 1) some (omega arith) l;
+    right = λ l. below_later row.placed.ascending k (k + 1) some (omega arith) l;
   }
     where
       same : k ≡ k + 1 - 1
@@ -46,11 +46,11 @@ module _ (row : PlacedRow) where
   pub colour_here : (a0 : Option ℕ) (k : ℕ) → IsFrom row.places.now row.end a0 k → unwrap_or a0 0 < row.width
       → alternate Black k ≡ colour_of (placed_pels row) a0
   colour_here None k at inside = ap (alternate Black) at
-  colour_here (Some a) k at inside = sym (pel_after row.places.now row.end row.placed.ascending row.width a k inside at)
+  colour_here (Some a) k at inside = sym (pel_after row.placed.ascending row.width a k inside at)
 
 module _ (rows : Rows) (ahead : ChangesAhead) (is : IsAhead rows ahead) (unfinished : unwrap_or ahead.a0 0 < rows.row.width) where
   row_at : (0 < ahead.row) × (ahead.row ≤ rows.row.end)
-  row_at = at_from rows.row.places.now rows.row.end rows.row.width rows.row.placed ahead.a0 ahead.row is.row
+  row_at = at_from rows.row.placed ahead.a0 ahead.row is.row
 
   pub from_a1 : ahead.a1 < rows.row.width → IsFrom rows.row.places.now rows.row.end (Some ahead.a1) (ahead.row + 1)
   from_a1 inside =

@@ -7,12 +7,12 @@ use Rattle.fax_rows.proofs.places.b1_b2.Goals as goal
 pub bounds-row-b1 : goal.bounds-row-b1
 bounds-row-b1 c =
     let row = c.placed-row.result in
-    omega (arith, c.b1_from-b1.ensures.within, row.placed.room, end_within row.places.now row.end row.width row.placed)
+    omega (arith, c.b1_from-b1.ensures.within, row.placed.room, end_within row.placed)
 
 pub bounds-row-b1-2 : goal.bounds-row-b1-2
 bounds-row-b1-2 c =
     let row = c.placed-row.result in
-    omega (arith, c.b1_from-b1.ensures.within, row.placed.room, end_within row.places.now row.end row.width row.placed)
+    omega (arith, c.b1_from-b1.ensures.within, row.placed.room, end_within row.placed)
 
 pub returns : goal.returns
 returns c =

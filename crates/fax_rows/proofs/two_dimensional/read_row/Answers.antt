@@ -12,7 +12,7 @@ use Rattle.fax_rows.proofs.two_dimensional.read_row.Goals as goal
 
 pub read_places-requires : goal.read_places-requires
 read_places-requires g c =
-    let own = width_is c.row.inside.places.items c.row.inside.end c.row.inside.width c.row.invariant c.args.row.now c.row.view_is in
+    let own = width_is c.row.invariant c.row.view_is in
     let others = placed_width c.placed-reference.result c.args.reference.now c.placed-reference.ensures in
     record {
       room = record {
@@ -23,14 +23,14 @@ read_places-requires g c =
 
 pub close-row-inside-requires-clause-put : goal.close-row-inside-requires-clause-put
 close-row-inside-requires-clause-put g c =
-    let own = width_is c.row.inside.places.items c.row.inside.end c.row.inside.width c.row.invariant c.args.row.now c.row.view_is in
+    let own = width_is c.row.invariant c.row.view_is in
     let others = placed_width c.placed-reference.result c.args.reference.now c.placed-reference.ensures in
     let same : c.placed-reference.result.width ≡ c.row.inside.width = omega arith in
     subst (λ width. ArePut width c.read_places.new.places c.in-Ok.read.end width) same c.in-Ok.ensures.put
 
 pub returns-in-Ok-clause-ok : goal.returns-in-Ok-clause-ok
 returns-in-Ok-clause-ok g c =
-    let own = width_is c.row.inside.places.items c.row.inside.end c.row.inside.width c.row.invariant c.args.row.now c.row.view_is in
+    let own = width_is c.row.invariant c.row.view_is in
     let others = placed_width c.placed-reference.result c.args.reference.now c.placed-reference.ensures in
     let same : c.row.inside.width ≡ c.placed-reference.result.width = omega arith in
     two_dimensional_as _ _ _ _ _ _ c.in-Ok.ensures.ok c.placed-reference.ensures
@@ -40,15 +40,15 @@ returns-in-Ok-clause-ok g c =
 
 pub returns-in-Ok-clause-same_width : goal.returns-in-Ok-clause-same_width
 returns-in-Ok-clause-same_width g c = length-pels_by c.row.inside.width _
-    ∙ width_is c.row.inside.places.items c.row.inside.end c.row.inside.width c.row.invariant c.args.row.now c.row.view_is
+    ∙ width_is c.row.invariant c.row.view_is
 
 pub returns-in-Err-clause-same_width : goal.returns-in-Err-clause-same_width
 returns-in-Err-clause-same_width g c = length-pels_by c.row.inside.width _
-    ∙ width_is c.row.inside.places.items c.row.inside.end c.row.inside.width c.row.invariant c.args.row.now c.row.view_is
+    ∙ width_is c.row.invariant c.row.view_is
 
 pub returns-in-Ok-clause-chosen : goal.returns-in-Ok-clause-chosen
 returns-in-Ok-clause-chosen g c is =
-    let own = width_is c.row.inside.places.items c.row.inside.end c.row.inside.width c.row.invariant c.args.row.now c.row.view_is in
+    let own = width_is c.row.invariant c.row.view_is in
     let others = placed_width c.placed-reference.result c.args.reference.now c.placed-reference.ensures in
     let same : c.row.inside.width ≡ c.placed-reference.result.width = omega arith in
     c.in-Ok.ensures.chosen is

@@ -7,7 +7,7 @@ use Rattle.fax_rows.proofs.pels.Row.next_of.Goals as goal
 pub bounds-row-b1_from : goal.bounds-row-b1_from
 bounds-row-b1_from c =
     let row = c.placed-row.result in
-    omega (arith, c.b1_from.ensures.within, row.placed.room, end_within row.places.now row.end row.width row.placed)
+    omega (arith, c.b1_from.ensures.within, row.placed.room, end_within row.placed)
 
 pub returns : goal.returns
 returns c =

@@ -6,8 +6,7 @@ use Rattle.fax_rows.proofs.PlacedStepLemmas.{b1_in_room, number_right, under_wit
 use Rattle.fax_rows.proofs.two_dimensional.steps.left_of_b1.Goals as goal
 
 pub bounds-reference-at : goal.bounds-reference-at
-bounds-reference-at c =
-    omega (arith, b1_in_room c.requires.so_far c.requires.unfinished)
+bounds-reference-at c = omega (arith, b1_in_room c.requires.so_far c.requires.unfinished)
 
 pub turned_at-requires-clause-within : goal.turned_at-requires-clause-within
 turned_at-requires-clause-within c =

@@ -6,8 +6,7 @@ use Rattle.fax_rows.proofs.PlacedStepLemmas.{b1_in_room, under_right, row_ends}
 use Rattle.fax_rows.proofs.two_dimensional.steps.right_of_b1.Goals as goal
 
 pub bounds-reference-at : goal.bounds-reference-at
-bounds-reference-at c =
-    omega (arith, b1_in_room c.requires.so_far c.requires.unfinished)
+bounds-reference-at c = omega (arith, b1_in_room c.requires.so_far c.requires.unfinished)
 
 pub returns-then-place-reference-clause-out : goal.returns-then-place-reference-clause-out
 returns-then-place-reference-clause-out c = λ in_row.

@@ -4,8 +4,7 @@ use Rattle.fax_rows.proofs.PlacedStepLemmas.{room_left, from_start, number_right
 use Rattle.fax_rows.proofs.two_dimensional.steps.turned_at.Goals as goal
 
 pub turn_right-end-requires-clause-room : goal.turn_right-end-requires-clause-room
-turn_right-end-requires-clause-room c =
-    omega (arith, room_left c.requires.so_far c.requires.unfinished)
+turn_right-end-requires-clause-room c = omega (arith, room_left c.requires.so_far c.requires.unfinished)
 
 pub returns-clause-step : goal.returns-clause-step
 returns-clause-step c = λ d a1_is.
