@@ -71,9 +71,9 @@ pub part_within : (runs : List ℕ) (i : ℕ) → sum (take i runs) ≤ sum runs
 part_within runs i = sum_by-take-le (λ n. n) runs i
 
 -- all runs of a row
-pub put_all_runs : (runs : List ℕ) (total : ℕ) (places : List ℕ) (width : ℕ) → ArePutRuns runs total places → sum runs ≡ width
+pub put_all_runs : {runs : List ℕ} {total : ℕ} {places : List ℕ} {width : ℕ} → ArePutRuns runs total places → sum runs ≡ width
     → pels_by width places ≡ pels_of White runs
-put_all_runs runs total places width put whole =
+put_all_runs {runs = runs} {places = places} {width = width} put whole =
     ext_get_or White (pels_by width places) (pels_of White runs) (length-pels_by width places ∙ sym whole ∙ sym (length-pels_of White runs))
     (λ k h. let inside : k < width = omega (arith, length-pels_by width places) in
     pel-pels_by width places k inside ∙ put.pels k (omega (arith, put.sum_is)))

@@ -119,9 +119,9 @@ module _ {places : List ℕ} {end width : ℕ} (all : ArePlaces places end width
       }))
 
   -- all pels of a word after which no place of it stands
-  pub word_done : (from word k : ℕ) → IsWordTo places end width from word k → from + 64 ≤ width → (k < end → from + 64 ≤ get_or places k 0)
+  pub word_done : {from word k : ℕ} → IsWordTo places end width from word k → from + 64 ≤ width → (k < end → from + 64 ≤ get_or places k 0)
       → IsPackedWord (row_of places end width) from word
-  word_done from word k so_far wide far = record {
+  word_done {from = from} {word = word} {k = k} so_far wide far = record {
     fits = so_far.fits;
     pels = λ i h. elim (cases_lt (from + i) (get_or places (k - 1) 0)) [
       | inl less ↦ so_far.before i h less
@@ -130,8 +130,8 @@ module _ {places : List ℕ} {end width : ℕ} (all : ArePlaces places end width
   }
 
   -- after the last place stands the width
-  pub before_end : (from word k : ℕ) → IsWordTo places end width from word k → get_or places k 0 < from + 64 → from + 64 ≤ width → k < end
-  before_end from word k so_far near wide =
+  pub before_end : {from word k : ℕ} → IsWordTo places end width from word k → get_or places k 0 < from + 64 → from + 64 ≤ width → k < end
+  before_end {k = k} so_far near wide =
       elim (cases_lt k end) [
         | inl less ↦ less
         | inr far ↦
@@ -160,7 +160,7 @@ module _ {places : List ℕ} {end width : ℕ} (all : ArePlaces places end width
   }
     where
       inside : k < end
-      inside = before_end from word k so_far near wide
+      inside = before_end so_far near wide
 
       ahead : from ≤ get_or places k 0
       ahead = so_far.ahead inside

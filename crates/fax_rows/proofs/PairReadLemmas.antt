@@ -24,7 +24,8 @@ pub record HasRead (width : ℕ) (b : List Bool) (chosen : Type 0) (total : ℕ)
   pub put : ArePut width places end total
   pub written : chosen → AreWrittenRuns b total colour rest
 
-pub none_read : {width : ℕ} {places : List ℕ} (b : List Bool) (chosen : Type 0) → HasRoom width places → HasRead width b chosen 0 White places 1 b
+pub none_read : {width : ℕ} {places : List ℕ} (b : List Bool) (chosen : Type 0) → HasRoom width places
+    → HasRead width b chosen 0 White places 1 b
 none_read {width} {places} b chosen room =
     let first : take 1 places ≡ 0 ∷ [] = take-first places (omega (arith, room.len)) room.first in
     record {
@@ -47,8 +48,7 @@ read_on {width} {b} {chosen} {also} {total} {place} {colour} {old} {new} {end} {
     subst (λ n. IsTurnedFrom (take end old) (take next new) n) (sym sum) turns.turned in
     record {
       so_far = subst (λ n. IsRowSoFar width b n (other colour) (pels_by width (take next new)) rest) sum
-          (run_turned width b total (place - total) colour (take end old) (take next new) mid rest read.so_far unfinished
-          (omega (arith, sum)) run read.after turn_there);
+          (run_turned read.so_far unfinished (omega (arith, sum)) run read.after turn_there);
       after = λ i h. turns.turned.right i h ∙ ap other (read.after i (omega arith));
       put = put_on read.put turns within;
       written = λ h.

@@ -38,7 +38,8 @@ differs_is White White h = absurd (h refl)
 differs_is Black Black h = absurd (h refl)
 
 module _ (row : PlacedRow) where
-  rank_from : (i n k : ℕ) → 0 < k → k + n ≡ row.end → get_or row.places.now (k - 1) 0 ≤ i → (j : ℕ) × ArePlacesUpTo row.places.now row.end i j
+  rank_from : (i n k : ℕ) → 0 < k → k + n ≡ row.end → get_or row.places.now (k - 1) 0 ≤ i
+      → (j : ℕ) × ArePlacesUpTo row.places.now row.end i j
   rank_from i zero k some sum left =
       (k, record { some = some; within = omega arith; left = left; right = λ h. absurd (omega arith) })
   rank_from i (suc n) k some sum left =
@@ -161,9 +162,9 @@ module _ (row : PlacedRow) where
   b1_index b within = omega (arith, row.placed.room, end_within row.placed)
 
   -- b1 is the place at that index
-  pub b1_is : (a0 : Option ℕ) (colour : Colour) (b : ℕ) → IsB1At row a0 colour b
+  pub b1_is : {a0 : Option ℕ} {colour : Colour} {b : ℕ} → IsB1At row a0 colour b
       → get_or row.places.now b 0 ≡ b1 (placed_pels row) a0 colour
-  b1_is a0 colour b at =
+  b1_is {a0 = a0} {colour = colour} {b = b} at =
       next_of_at (placed_pels row) a0 colour (get_or row.places.now b 0) (omega (arith, len, within)) left there
     where
       len : length (placed_pels row) ≡ row.width
@@ -233,11 +234,11 @@ module _ (row : PlacedRow) where
             | inr over ↦ omega (arith, next.within)
           ]
 
-  pub b2_is : (a0 : Option ℕ) (colour : Colour) (b : ℕ) → IsB1At row a0 colour b
+  pub b2_is : {a0 : Option ℕ} {colour : Colour} {b : ℕ} → IsB1At row a0 colour b
       → get_or row.places.now (b + 1) 0 ≡ b2 (placed_pels row) a0 colour
-  b2_is a0 colour b at =
+  b2_is {b = b} at =
       after_b1 b at.some at.within
-      ∙ ap (λ a. next_change (placed_pels row) (Some a)) (b1_is a0 colour b at)
+      ∙ ap (λ a. next_change (placed_pels row) (Some a)) (b1_is at)
 
   -- the search goes on by two places
   before_end : (place b : ℕ) → place < row.width → get_or row.places.now b 0 ≤ place → b ≤ row.end + 1 → b < row.end
@@ -277,10 +278,10 @@ module _ (row : PlacedRow) where
       some (suc n) h = omega arith
 
   -- b1 is not left of a0
-  pub b1_ahead : (a0 : Option ℕ) (colour : Colour) (b : ℕ) → IsB1At row a0 colour b → unwrap_or a0 0 < row.width
+  pub b1_ahead : (a0 : Option ℕ) {colour : Colour} {b : ℕ} → IsB1At row a0 colour b → unwrap_or a0 0 < row.width
       → unwrap_or a0 0 ≤ get_or row.places.now b 0
-  b1_ahead None colour b at inside = omega arith
-  b1_ahead (Some a) colour b at inside =
+  b1_ahead None at inside = omega arith
+  b1_ahead (Some a) {b = b} at inside =
       elim (b1_within b at.some at.within) [
         | inl less ↦ omega (arith, ltb-true a (get_or row.places.now b 0) (at.ahead less.0))
         | inr over ↦ omega (arith, over.1)
@@ -302,9 +303,9 @@ module _ (row : PlacedRow) where
       ]
 
   -- after a pass the next place but one is that of b1
-  pub b1_passed : (a0 : Option ℕ) (colour : Colour) (b : ℕ) → IsB1At row a0 colour b → get_or row.places.now (b + 1) 0 < row.width
+  pub b1_passed : {a0 : Option ℕ} {colour : Colour} {b : ℕ} → IsB1At row a0 colour b → get_or row.places.now (b + 1) 0 < row.width
       → IsB1At row (Some (get_or row.places.now (b + 1) 0)) colour (b + 2)
-  b1_passed a0 colour b at inside = record {
+  b1_passed {b = b} at inside = record {
     some = omega arith;
     within = omega (arith, less);
     colour_is = ap (alternate Black) two ∙ at.colour_is;
@@ -347,9 +348,9 @@ module _ (row : PlacedRow) where
       back = omega (arith, at.some)
 
   -- from just under b1 the next place is that of b1
-  pub b1_next : (a0 : Option ℕ) (colour : Colour) (b : ℕ) → IsB1At row a0 colour b → get_or row.places.now b 0 < row.width
+  pub b1_next : {a0 : Option ℕ} {colour : Colour} {b : ℕ} → IsB1At row a0 colour b → get_or row.places.now b 0 < row.width
       → IsB1At row (Some (get_or row.places.now b 0)) (other colour) (b + 1)
-  b1_next a0 colour b at inside =
+  b1_next {a0 = a0} {colour = colour} {b = b} at inside =
       search_ends (get_or row.places.now b 0) (b + 1) right (other colour)
       (right_start a0 colour b (get_or row.places.now b 0) at (omega arith) inside)
     where
@@ -444,12 +445,12 @@ module _ (row : PlacedRow) where
   }
 
   -- b1 and b2 as `next_of` and `b1_b2` answer them
-  pub b1_right : (a0 : Option ℕ) (colour : Colour) (b : ℕ) → IsB1At row a0 colour b → get_or row.places.now b 0 < row.width
+  pub b1_right : {a0 : Option ℕ} {colour : Colour} {b : ℕ} → IsB1At row a0 colour b → get_or row.places.now b 0 < row.width
       → is_right_of a0 (get_or row.places.now b 0) ≡ true
-  b1_right a0 colour b at inside = at.ahead (inside_end b at.some at.within inside)
+  b1_right {b = b} at inside = at.ahead (inside_end b at.some at.within inside)
 
-  pub b2_right : (a0 : Option ℕ) (colour : Colour) (b : ℕ) → IsB1At row a0 colour b → get_or row.places.now (b + 1) 0 < row.width
+  pub b2_right : {a0 : Option ℕ} {colour : Colour} {b : ℕ} → IsB1At row a0 colour b → get_or row.places.now (b + 1) 0 < row.width
       → is_right_of a0 (get_or row.places.now (b + 1) 0) ≡ true
-  b2_right a0 colour b at inside =
+  b2_right {a0 = a0} {b = b} at inside =
       let order = b2_ahead b at.some at.within in
-      further_right a0 (get_or row.places.now b 0) (get_or row.places.now (b + 1) 0) order (b1_right a0 colour b at (omega arith))
+      further_right a0 (get_or row.places.now b 0) (get_or row.places.now (b + 1) 0) order (b1_right at (omega arith))

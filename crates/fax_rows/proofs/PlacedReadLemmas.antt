@@ -115,11 +115,12 @@ ends_within places end width up below =
     ]
 
 -- one run more
-pub run_turned : (width : ℕ) (b : List Bool) (total n : ℕ) (colour : Colour) (old new : List ℕ) (mid rest : List Bool)
+pub run_turned : {width : ℕ} {b : List Bool} {total n : ℕ} {colour : Colour} {old new : List ℕ} {mid rest : List Bool}
     → IsRowSoFar width b total colour (pels_by width old) mid → total < width → total + n ≤ width → IsRun colour mid n rest
     → ((i : ℕ) → total ≤ i → turned Black old i ≡ colour) → IsTurnedFrom old new (total + n)
     → IsRowSoFar width b (total + n) (other colour) (pels_by width new) rest
-run_turned width b total n colour old new mid rest so_far unfinished within run after turn =
+run_turned {width =
+    width} {b = b} {total = total} {n = n} {colour = colour} {old = old} {new = new} {mid = mid} {rest = rest} so_far unfinished within run after turn =
     row_goes_on width b total n colour (pels_by width old) (pels_by width new) mid rest so_far unfinished run
     (λ k h. pel-pels_by width new k (omega arith) ∙ turn.left k (omega arith) ∙ sym (pel-pels_by width old k (omega arith)))
     (λ k h l. pel-pels_by width new k (omega arith) ∙ turn.left k (omega arith) ∙ after k h)
@@ -186,9 +187,9 @@ pels_closed places end width =
     ∙ take-set-le end (set places end width) (end + 1) width (omega arith) ∙ take-set-le end places end width (omega arith))
 
 -- a row that is shown otherwise
-pub one_dimensional_as : (width wide : ℕ) (b : List Bool) (row shown : List Colour) (rest : List Bool)
+pub one_dimensional_as : {width wide : ℕ} {b : List Bool} {row shown : List Colour} {rest : List Bool}
     → IsOneDimensionalRow width b row rest → width ≡ wide → shown ≡ row → IsOneDimensionalRow wide b shown rest
-one_dimensional_as width wide b row shown rest is same shows =
+one_dimensional_as {width = width} {b = b} {shown = shown} {rest = rest} is same shows =
     subst (λ n. IsOneDimensionalRow n b shown rest) same (subst (λ r. IsOneDimensionalRow width b r rest) (sym shows) is)
 
 -- elements that are all written over

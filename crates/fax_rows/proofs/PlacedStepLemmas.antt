@@ -89,7 +89,7 @@ module _ {reference : PlacedRow} {places : List ℕ} {at : PlacedReached} (so_fa
   pub b2_order : reached_pel at.reached ≤ get_or reference.places.now (at.b1 + 1) 0
   b2_order =
       let b1 = so_far.b1 unfinished in
-      let first = b1_ahead reference at.reached.a0 at.reached.colour at.b1 b1 unfinished in
+      let first = b1_ahead reference at.reached.a0 b1 unfinished in
       let second = b2_ahead reference at.b1 b1.some b1.within in
       omega arith
 
@@ -103,8 +103,7 @@ module _ {reference : PlacedRow} {places : List ℕ} {at : PlacedReached} (so_fa
       coloured reference.width (take at.end places) (take at.end places) at.reached
       (get_or reference.places.now (at.b1 + 1) 0) b2_order b2_within
       (λ i h. refl) so_far.after
-      ∙ ap (coloured_up_to (placed_position reference.width places at)) (b2_is reference at.reached.a0 at.reached.colour at.b1
-      (so_far.b1 unfinished))
+      ∙ ap (coloured_up_to (placed_position reference.width places at)) (b2_is reference (so_far.b1 unfinished))
 
   pub pass_so_far : IsReadTo reference places
       (record {
@@ -123,7 +122,7 @@ module _ {reference : PlacedRow} {places : List ℕ} {at : PlacedReached} (so_fa
     ascending = so_far.ascending;
     last = let order = b2_order in omega (arith, so_far.last);
     after = λ i h. so_far.after i (let order = b2_order in omega arith);
-    b1 = λ h. b1_passed reference at.reached.a0 at.reached.colour at.b1 (so_far.b1 unfinished) h;
+    b1 = λ h. b1_passed reference (so_far.b1 unfinished) h;
   }
 
   pub b1_in_room : at.b1 + 1 < length reference.places.now
@@ -191,7 +190,7 @@ module _ {reference : PlacedRow} {places : List ℕ} {at : PlacedReached} (so_fa
           b1 = next_b1;
         }))
     vertical_placed new next_end next_b1 colour turns is =
-        let same = b1_is reference at.reached.a0 at.reached.colour at.b1 (so_far.b1 unfinished) in
+        let same = b1_is reference (so_far.b1 unfinished) in
         let len = length-placed_pels reference in
         vertical_step (placed_pels reference) (pels_by reference.width (take at.end places)) (pels_by reference.width (take next_end new))
         at.reached
@@ -204,13 +203,13 @@ module _ {reference : PlacedRow} {places : List ℕ} {at : PlacedReached} (so_fa
   pub row_begins : (d : ℤ) → IsInRow (placed_pels reference) (placed_position reference.width places at) d
       → a0_number (position_of at.reached []) <ℤ (pos (get_or reference.places.now at.b1 0) +ℤ d)
   row_begins d in_row =
-      let same = b1_is reference at.reached.a0 at.reached.colour at.b1 (so_far.b1 unfinished) in
+      let same = b1_is reference (so_far.b1 unfinished) in
       omega (arith, ints, same, in_row.right_of_a0)
 
   pub row_ends : (d : ℤ) → IsInRow (placed_pels reference) (placed_position reference.width places at) d
       → (pos (get_or reference.places.now at.b1 0) +ℤ d) ≤ℤ pos reference.width
   row_ends d in_row =
-      let same = b1_is reference at.reached.a0 at.reached.colour at.b1 (so_far.b1 unfinished) in
+      let same = b1_is reference (so_far.b1 unfinished) in
       omega (arith, ints, same, length-placed_pels reference, in_row.within)
 
   -- b1 is right of a0, and in the row
@@ -227,7 +226,7 @@ module _ {reference : PlacedRow} {places : List ℕ} {at : PlacedReached} (so_fa
           ]
 
   pub under_ahead : reached_pel at.reached ≤ get_or reference.places.now at.b1 0
-  under_ahead = b1_ahead reference at.reached.a0 at.reached.colour at.b1 (so_far.b1 unfinished) unfinished
+  under_ahead = b1_ahead reference at.reached.a0 (so_far.b1 unfinished) unfinished
 
   pub under_within : get_or reference.places.now at.b1 0 ≤ reference.width
   under_within = let b1 = so_far.b1 unfinished in b1_at_most reference at.b1 b1.some b1.within
@@ -356,10 +355,10 @@ steps_done reference b at row rest width so_far some done len same = record {
     by (Some a) h = ap Some (h ∙ sym same)
 
 -- a row that is shown otherwise
-pub two_dimensional_as : (reference shown_reference : List Colour) (b : List Bool) (row shown : List Colour) (rest : List Bool)
+pub two_dimensional_as : {reference shown_reference : List Colour} {b : List Bool} {row shown : List Colour} {rest : List Bool}
     → IsTwoDimensionalRow reference b row rest → reference ≡ shown_reference → shown ≡ row
     → IsTwoDimensionalRow shown_reference b shown rest
-two_dimensional_as reference shown_reference b row shown rest is same shows =
+two_dimensional_as {reference = reference} {b = b} {shown = shown} {rest = rest} is same shows =
     subst (λ r. IsTwoDimensionalRow r b shown rest) same (subst (λ r. IsTwoDimensionalRow reference b r rest) (sym shows) is)
 
 -- a step that is no part of the row

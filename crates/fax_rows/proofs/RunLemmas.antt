@@ -62,6 +62,7 @@ from_there old new front parts same_end =
     ap (λ k. drop k old.left) n ∙ ap (drop (length front)) parts ∙ drop-append_seam front new.left in
     ap (λ l. record { left = l; place = new.place }) left
 
-pub run_after : (colour : Colour) (b : List Bool) (n : ℕ) (rest : List Bool) → IsRun colour b n rest
+pub run_after : {colour : Colour} {b : List Bool} {n : ℕ} {rest : List Bool} → IsRun colour b n rest
     → (front : List Bool) × (b ≡ front ++ rest)
-run_after colour b n rest run = spells_after (run_table colour) b (map MakeUp run.make_up ++ Terminating run.last ∷ []) rest run.spelled
+run_after {colour =
+    colour} {b = b} {rest = rest} run = spells_after (run_table colour) b (map MakeUp run.make_up ++ Terminating run.last ∷ []) rest run.spelled

@@ -40,9 +40,9 @@ AreSteps-append reference first b (next ∷ before) old mid after new rest steps
     (steps.0, steps.1, steps.2, AreSteps-append reference next steps.1 before old mid after new rest steps.3 more)
 
 -- more steps of a row
-pub all_go_on : (reference : List Colour) (b : List Bool) (old : Position) (mid : List Bool) (new : Position) (rest : List Bool)
+pub all_go_on : {reference : List Colour} {b : List Bool} {old : Position} {mid : List Bool} {new : Position} {rest : List Bool}
     → AreStepsSoFar reference b old mid → GoesOn reference old mid new rest → AreStepsSoFar reference b new rest
-all_go_on reference b old mid new rest so_far more = record {
+all_go_on {reference = reference} {b = b} {old = old} {mid = mid} {new = new} {rest = rest} so_far more = record {
   positions = so_far.positions ++ more.positions;
   steps = AreSteps-append reference beginning b so_far.positions old mid more.positions new rest so_far.steps more.steps;
 }
@@ -175,7 +175,7 @@ module _ (reference : PlacedRow) (places : List ℕ) where
     read : IsReadTo reference places (under reference at)
     read =
         turned_so_far so_far unfinished (under_ahead so_far unfinished) (under_within so_far unfinished) turns
-        (λ h. b1_next reference at.reached.a0 at.reached.colour at.b1 (so_far.b1 unfinished) h) refl
+        (λ h. b1_next reference (so_far.b1 unfinished) h) refl
 
   -- so many steps with a1 under b1
   pub record AreUnder (at : PlacedReached) (k : ℕ) (b rest : List Bool) : Type 0 where
@@ -222,8 +222,7 @@ module _ (reference : PlacedRow) (places : List ℕ) where
           steps = (
             omega (arith, len),
             spells.0,
-            under_chosen so_far unfinished b (placed_position reference.width places (under reference at)) spells.0
-                spells.1 vertical,
+            under_chosen so_far unfinished spells.1 vertical,
             more.chosen.steps,
           );
         };
@@ -234,8 +233,8 @@ module _ (reference : PlacedRow) (places : List ℕ) where
 abbrev pub placed : ℕ → Colour → ℕ → ℕ → PlacedReached
 placed place colour end b1 = record { reached = record { a0 = Some place; colour = colour }; end = end; b1 = b1 }
 
-same_placed : (p q : ℕ) (c d : Colour) (m n i j : ℕ) → p ≡ q → c ≡ d → m ≡ n → i ≡ j → placed p c m i ≡ placed q d n j
-same_placed p q c d m n i j place colour end b1 =
+same_placed : {p q : ℕ} {c d : Colour} {m n i j : ℕ} → p ≡ q → c ≡ d → m ≡ n → i ≡ j → placed p c m i ≡ placed q d n j
+same_placed {q = q} {c = c} {d = d} {m = m} {n = n} {i = i} place colour end b1 =
     ap (λ x. placed x c m i) place ∙ ap (λ x. placed q x m i) colour ∙ ap (λ x. placed q d x i) end ∙ ap (λ x. placed q d n x) b1
 
 -- how far it is read after so many steps, one at least
@@ -244,14 +243,10 @@ pub under_all_is : (k : ℕ) (reference : PlacedRow) (at : PlacedReached)
     ≡ under_all (suc k) reference at
 under_all_is zero reference at =
     let b1 : at.b1 + 0 ≡ at.b1 = omega arith in
-    same_placed (get_or reference.places.now (at.b1 + 0) 0) (get_or reference.places.now at.b1 0) (other at.reached.colour)
-    (other at.reached.colour) (at.end + 1) (at.end + 1) (at.b1 + 1) (at.b1 + 1) (ap (λ n. get_or reference.places.now n 0) b1)
-    refl refl refl
+    same_placed (ap (λ n. get_or reference.places.now n 0) b1) refl refl refl
 under_all_is (suc k) reference at =
     let next = under reference at in
-    same_placed (get_or reference.places.now (at.b1 + suc k) 0) (get_or reference.places.now (at.b1 + 1 + k) 0)
-    (alternate at.reached.colour (suc (suc k))) (alternate next.reached.colour (suc k)) (at.end + suc (suc k)) (at.end + 1 + suc k)
-    (at.b1 + suc (suc k)) (at.b1 + 1 + suc k)
+    same_placed
     (let e : at.b1 + suc k ≡ at.b1 + 1 + k = omega arith in ap (λ n. get_or reference.places.now n 0) e)
     refl (omega arith) (omega arith) ∙ under_all_is k reference next
 
@@ -268,10 +263,8 @@ pub under_all_as : (count : ℕ) (reference : PlacedRow) (at : PlacedReached) �
 under_all_as zero reference at some is = absurd (omega arith)
 under_all_as (suc k) reference at some is =
     let e : at.b1 + suc k - 1 ≡ at.b1 + k = omega arith in
-    same_placed (get_or reference.places.now (at.b1 + suc k - 1) 0) (get_or reference.places.now (at.b1 + k) 0)
-    (alternate Black (at.b1 + suc k)) (alternate at.reached.colour (suc k)) (at.end + suc k) (at.end + suc k) (at.b1 + suc k)
-    (at.b1 + suc k) (ap (λ n. get_or reference.places.now n 0) e)
-    (sym (alternate-add Black at.b1 (suc k)) ∙ ap (λ c. alternate c (suc k)) is) refl refl
+    same_placed (ap (λ n. get_or reference.places.now n 0) e) (sym (alternate-add Black at.b1 (suc k)) ∙ ap (λ c. alternate c (suc k)) is)
+    refl refl
     ∙ under_all_is k reference at
 
 -- what is read stays so where places are put after it
@@ -346,6 +339,6 @@ one_read reference places new at next b rest taken so_far unfinished vertical re
       steps = step_goes_on reference places at unfinished b position rest
           (record { mode = Vertical (pos 0); after = rest; taken = taken; step = (vertical, refl) });
       chosen = chosen_goes_on reference places at unfinished b position rest
-          (under_chosen so_far unfinished b position rest taken vertical);
+          (under_chosen so_far unfinished taken vertical);
       so_far = read;
     }

@@ -25,8 +25,8 @@ loop-n-preserved c =
 
 pub returns-clause-pels : goal.returns-clause-pels
 returns-clause-pels c =
-    put_all_runs c.args.runs.now c.loop-n.total (take c.loop-n.end c.loop-n.places) c.args.width
-    (subst (λ runs. ArePutRuns runs c.loop-n.total (take c.loop-n.end c.loop-n.places)) whole c.loop-n.invariant.runs) c.requires.whole
+    put_all_runs (subst (λ runs. ArePutRuns runs c.loop-n.total (take c.loop-n.end c.loop-n.places)) whole c.loop-n.invariant.runs)
+    c.requires.whole
   where
     whole : take c.loop-n.n-index c.args.runs.now ≡ c.args.runs.now
     whole = ap (λ n. take n c.args.runs.now) (omega arith) ∙ take-length c.args.runs.now

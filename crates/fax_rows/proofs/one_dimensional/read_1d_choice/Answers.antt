@@ -9,10 +9,9 @@ use Rattle.fax_rows.proofs.one_dimensional.read_1d_choice.Goals as goal
 pub returns-in-Ok-clause-ok : goal.returns-in-Ok-clause-ok
 returns-in-Ok-clause-ok c =
     let same = width_is c.row.invariant c.row.view_is in
-    one_dimensional_as c.row.inside.width (length c.args.row.now) _ _ _ _ c.in-Ok.ensures.ok same
-    (ap (λ places. pels_by c.row.inside.width (take c.close-row-inside.result places))
-    (refilled c.row.inside.places.len c.close-row-inside.new.places c.row.inside.places.items (omega arith))
-    ∙ c.close-row-inside.ensures.pels)
+    one_dimensional_as c.in-Ok.ensures.ok same
+    (ap (λ places. pels_by c.row.inside.width (take c.close-row-inside.result places)) (refilled c.row.inside.places.len
+    c.close-row-inside.new.places c.row.inside.places.items (omega arith)) ∙ c.close-row-inside.ensures.pels)
 
 pub returns-in-Ok-clause-same_width : goal.returns-in-Ok-clause-same_width
 returns-in-Ok-clause-same_width c =

@@ -85,7 +85,7 @@ loop-runs-preserved c =
 pub returns-clause-ok : goal.returns-clause-ok
 returns-clause-ok c =
     rw c.go_to.ensures
-    (row_done c.args.width _ c.loop-runs.runs.total c.loop-runs.invariant.colour _ _ c.loop-runs.invariant.read.so_far
+    (row_done c.loop-runs.invariant.read.so_far
     (let within = c.loop-runs.invariant.read.put.within in omega arith)
     (length-pels_by c.args.width _))
 
@@ -95,5 +95,4 @@ returns-clause-chosen c is =
     rw c.go_to.ensures
     (runs_end c.one_dimensional_rows_are_read_as_nothing_else.ensures c.args.width c.args.source.now.left c.loop-runs.runs.total
     c.loop-runs.invariant.colour _ c.loop-runs.ahead.left (c.loop-runs.invariant.read.written is) done c.requires.some c.requires.short
-    (row_done c.args.width _ c.loop-runs.runs.total c.loop-runs.invariant.colour _ _ c.loop-runs.invariant.read.so_far
-    done (length-pels_by c.args.width _)))
+    (row_done c.loop-runs.invariant.read.so_far done (length-pels_by c.args.width _)))

@@ -69,7 +69,8 @@ loop-k-preserved c =
             c.packed_word-word.ensures.word (omega (arith, wide, c.requires.within)) (omega arith)
             ∙ ap (packed_byte row) at
       ];
-      so_far = subst (λ n. HasPassed c.args.row.places.now c.args.row.end n c.packed_word-word.result.1) next c.packed_word-word.ensures.so_far;
+      so_far =
+          subst (λ n. HasPassed c.args.row.places.now c.args.row.end n c.packed_word-word.result.1) next c.packed_word-word.ensures.so_far;
       len = c.write_word.ensures.same_len ∙ c.loop-k.invariant.len;
     }
 

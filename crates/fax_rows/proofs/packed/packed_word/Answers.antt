@@ -25,6 +25,4 @@ loop-after-preserved c =
     % 64) c.loop-after.invariant (omega arith) c.requires.within (λ ahead. omega arith)
 
 pub returns-clause-word : goal.returns-clause-word
-returns-clause-word c =
-    word_done c.args.row.placed (64 * c.args.k) c.loop-after.word c.loop-after.after c.loop-after.invariant c.requires.within (λ h. omega
-    arith)
+returns-clause-word c = word_done c.args.row.placed c.loop-after.invariant c.requires.within (λ h. omega arith)

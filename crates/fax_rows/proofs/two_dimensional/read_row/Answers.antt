@@ -33,10 +33,10 @@ returns-in-Ok-clause-ok g c =
     let own = width_is c.row.invariant c.row.view_is in
     let others = placed_width c.placed-reference.result c.args.reference.now c.placed-reference.ensures in
     let same : c.row.inside.width ≡ c.placed-reference.result.width = omega arith in
-    two_dimensional_as _ _ _ _ _ _ c.in-Ok.ensures.ok c.placed-reference.ensures
-    (ap (λ places. pels_by c.row.inside.width (take c.close-row-inside.result places))
-    (refilled c.row.inside.places.len c.close-row-inside.new.places c.row.inside.places.items (omega arith))
-    ∙ c.close-row-inside.ensures.pels ∙ ap (λ width. pels_by width (take c.in-Ok.read.end c.read_places.new.places)) same)
+    two_dimensional_as c.in-Ok.ensures.ok c.placed-reference.ensures
+    (ap (λ places. pels_by c.row.inside.width (take c.close-row-inside.result places)) (refilled c.row.inside.places.len
+    c.close-row-inside.new.places c.row.inside.places.items (omega arith)) ∙ c.close-row-inside.ensures.pels ∙ ap (λ width. pels_by width
+    (take c.in-Ok.read.end c.read_places.new.places)) same)
 
 pub returns-in-Ok-clause-same_width : goal.returns-in-Ok-clause-same_width
 returns-in-Ok-clause-same_width g c = length-pels_by c.row.inside.width _

@@ -40,8 +40,8 @@ returns-clause-places c =
     record {
       a1 = (next_here row.placed c.args.at.a0 c.args.at.row from).place;
       a2 = after_b1 row c.args.at.row at.0 (omega (arith, at.1));
-      b1 = b1_is reference c.args.at.a0 c.colour_after.result c.args.at.reference b1;
-      b2 = b2_is reference c.args.at.a0 c.colour_after.result c.args.at.reference b1;
+      b1 = b1_is reference b1;
+      b2 = b2_is reference b1;
       colour = c.colour_after.ensures ∙ colour_here row c.args.at.a0 c.args.at.row from c.requires.unfinished;
       after = c.colour_after.ensures;
       row = from;

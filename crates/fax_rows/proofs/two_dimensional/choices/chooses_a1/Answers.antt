@@ -8,6 +8,6 @@ bounds-reference-at g c = omega (arith, b1_index c.args.reference c.args.at.b1 c
 
 pub returns-then-this-ne0 : goal.returns-then-this-ne0
 returns-then-this-ne0 g c is =
-    let b2 = b2_is c.args.reference c.args.at.reached.a0 c.args.at.reached.colour c.args.at.b1 c.requires.b1 in
+    let b2 = b2_is c.args.reference c.requires.b1 in
     let place = c.first_pel.ensures in
     grind (arith, nat_tests)

@@ -15,7 +15,7 @@ returns-then-a1-b1-clause-left g c is =
       arith,
       c.first_pel.ensures,
       c.if-a1-b2.true,
-      b2_is c.args.reference c.args.at.reached.a0 c.args.at.reached.colour c.args.at.b1 c.requires.b1,
+      b2_is c.args.reference c.requires.b1,
     )
 
 pub returns-then-a1-b1-clause-far : goal.returns-then-a1-b1-clause-far
@@ -24,7 +24,7 @@ returns-then-a1-b1-clause-far g c is =
     inl (omega (
       arith,
       c.first_pel.ensures,
-      b1_is c.args.reference c.args.at.reached.a0 c.args.at.reached.colour c.args.at.b1 c.requires.b1,
+      b1_is c.args.reference c.requires.b1,
     ))
 
 pub returns-else-a1-b1-clause-left : goal.returns-else-a1-b1-clause-left
@@ -33,7 +33,7 @@ returns-else-a1-b1-clause-left g c is =
       arith,
       c.first_pel.ensures,
       c.if-a1-b2.true,
-      b2_is c.args.reference c.args.at.reached.a0 c.args.at.reached.colour c.args.at.b1 c.requires.b1,
+      b2_is c.args.reference c.requires.b1,
     )
 
 pub returns-else-a1-b1-clause-far : goal.returns-else-a1-b1-clause-far
@@ -42,5 +42,5 @@ returns-else-a1-b1-clause-far g c is =
     inr (omega (
       arith,
       c.first_pel.ensures,
-      b1_is c.args.reference c.args.at.reached.a0 c.args.at.reached.colour c.args.at.b1 c.requires.b1,
+      b1_is c.args.reference c.requires.b1,
     ))

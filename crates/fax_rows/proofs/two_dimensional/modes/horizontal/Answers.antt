@@ -8,7 +8,8 @@ pub returns-clause-ok : goal.returns-clause-ok
 returns-clause-ok g c =
     let read = c.in_ok-first in
     let colour = c.colour_after-colour.ensures ∙ (c.requires.so_far.b1 c.requires.unfinished).colour_is in
-    let pair = subst (λ own. AreTwoRuns own c.args.source.now.left read.first read.second c.two_runs.new.source.left) colour read.ensures.ok in
+    let pair =
+    subst (λ own. AreTwoRuns own c.args.source.now.left read.first read.second c.two_runs.new.source.left) colour read.ensures.ok in
     c.after_runs.ensures.step c.args.source.now.left pair.middle c.two_runs.new.source.left pair.first_run pair.second_run
 
 pub returns-clause-chosen : goal.returns-clause-chosen

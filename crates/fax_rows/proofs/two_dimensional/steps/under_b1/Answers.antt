@@ -15,7 +15,7 @@ turned_at-requires-clause-within c = under_within c.requires.so_far c.requires.u
 
 pub turned_at-requires-clause-b1 : goal.turned_at-requires-clause-b1
 turned_at-requires-clause-b1 c = λ h.
-    b1_next c.args.reference c.args.at.reached.a0 c.args.at.reached.colour c.args.at.b1 (c.requires.so_far.b1 c.requires.unfinished) h
+    b1_next c.args.reference (c.requires.so_far.b1 c.requires.unfinished) h
 
 pub returns-clause-step : goal.returns-clause-step
 returns-clause-step c = c.turned_at.ensures.step (pos 0) (omega (arith, ints))
