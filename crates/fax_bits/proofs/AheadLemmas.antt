@@ -88,8 +88,7 @@ module _ (order : FillOrder) (bytes : List ℕ) (old window : Window) (source : 
     one_end_kept = end_kept 1 after (omega arith) count at
 
     pub one_shorter : length (drop (place_before after) (bits order bytes)) < length source.left
-    one_shorter =
-        omega (arith, loaded-left, count, ap length (left_after_code 1 after (omega arith) count at), length-drop 1 source.left)
+    one_shorter = omega (arith, loaded-left, count, ap length (left_after_code 1 after (omega arith) count at), length-drop 1 source.left)
 
   -- ones that stand next
   module _ (n : ℕ) (all : n ≤ window.count) (ones : take n (bits_ahead order bytes window) ≡ replicate n true) where

@@ -72,8 +72,7 @@ place_begins colour b len place found =
     }
 
 pub place_short : (colour : Colour) (b : List Bool) (len place : ℕ) → HasCodeAhead (run_table colour) b len (run_meaning place) → len ≤ 13
-place_short colour b len place found =
-    omega (arith, (run_table_has_short_codes colour found.entry found.listed).1, found.length)
+place_short colour b len place found = omega (arith, (run_table_has_short_codes colour found.entry found.listed).1, found.length)
 
 -- a run of a terminating code alone
 pub short_run_begins : (colour : Colour) (most : ℕ) (b : List Bool) (len place : ℕ)
@@ -105,7 +104,8 @@ pub long_run_begins : (colour : Colour) (most number len first more last : ℕ)
 long_run_begins colour most number len first more last found high within after low few =
     let begun = begins_more _ number len first (place_begins colour (code_bits 13 (number / 2 ^ 19)) len first found) in
     let next = place_begins colour (code_bits 13 (number * 2 ^ len % 2 ^ 32 / 2 ^ 19)) more last after in
-    let make_up = subst (λ code. Takes (run_table colour) (begun.front ++ next.front) code next.front) (make_up-at first high within) (record {
+    let make_up =
+    subst (λ code. Takes (run_table colour) (begun.front ++ next.front) code next.front) (make_up-at first high within) (record {
       entry = begun.meaning.entry;
       listed = begun.meaning.listed;
       means = begun.meaning.means;

@@ -29,8 +29,7 @@ get_or-code_bits (suc len) code (suc i) h =
 
 -- the bit of a code, as the program reads it
 pub code_bit : (len code i : ℕ) → i < len → nat_eq (bit_and (code / 2 ^ (len - 1 - i)) 1) 1 ≡ get_or (code_bits len code) i false
-code_bit len code i h =
-    ap (λ n. nat_eq n 1) (and_mask (code / 2 ^ (len - 1 - i)) 1) ∙ sym (get_or-code_bits len code i h)
+code_bit len code i h = ap (λ n. nat_eq n 1) (and_mask (code / 2 ^ (len - 1 - i)) 1) ∙ sym (get_or-code_bits len code i h)
 
 pub ahead-from_agree : (code b : List Bool) → length code ≤ length b → Agree b code (length code) → BeginsWith b code
 ahead-from_agree [] b short agree = (b, refl)
@@ -50,15 +49,13 @@ cut-from_agree (c ∷ code) (x ∷ b) short agree =
 
 -- a code that begins the bits is no longer than they are
 pub ahead_fits : (len code : ℕ) (b : List Bool) → BeginsWith b (code_bits len code) → len ≤ length b
-ahead_fits len code b ahead =
-    omega (arith, length-append (code_bits len code) ahead.0, ap length ahead.1, length-code_bits len code)
+ahead_fits len code b ahead = omega (arith, length-append (code_bits len code) ahead.0, ap length ahead.1, length-code_bits len code)
 
 pub not_ahead-of_short : (code b : List Bool) → length b < length code → BeginsWith b code → ⊥
 not_ahead-of_short code b short ahead = omega (arith, length-append code ahead.0, ap length ahead.1)
 
 pub not_ahead-of_other : (code b : List Bool) (i : ℕ) → i < length code → get_or b i false ≢ get_or code i false → BeginsWith b code → ⊥
-not_ahead-of_other code b i short other ahead =
-    other (ap (λ xs. get_or xs i false) ahead.1 ∙ get_or-append code ahead.0 false i short)
+not_ahead-of_other code b i short other ahead = other (ap (λ xs. get_or xs i false) ahead.1 ∙ get_or-append code ahead.0 false i short)
 
 pub not_cut-of_other : (code b : List Bool) (i : ℕ) → i < length b → get_or b i false ≢ get_or code i false → IsCutBy code b → ⊥
 not_cut-of_other code b i short other cut =
@@ -80,10 +77,8 @@ other_bit false true h e = cc
 module _ (b : List Bool) (len code i j : ℕ) (bit : Bool) (in_code : i < len) (at : j ≡ i) (bit_is : bit ≡ get_or b j false) where
   pub bit_agrees : not (beq bit (nat_eq (bit_and (code / 2 ^ (len - 1 - i)) 1) 1)) ≡ false
       → get_or b i false ≡ get_or (code_bits len code) i false
-  bit_agrees h =
-      ap (λ k. get_or b k false) (sym at) ∙ sym bit_is ∙ same_bit _ _ h ∙ code_bit len code i in_code
+  bit_agrees h = ap (λ k. get_or b k false) (sym at) ∙ sym bit_is ∙ same_bit _ _ h ∙ code_bit len code i in_code
 
   pub bit_differs : not (beq bit (nat_eq (bit_and (code / 2 ^ (len - 1 - i)) 1) 1)) ≡ true
       → get_or b i false ≢ get_or (code_bits len code) i false
-  bit_differs h e =
-      other_bit _ _ h (bit_is ∙ ap (λ k. get_or b k false) at ∙ e ∙ sym (code_bit len code i in_code))
+  bit_differs h e = other_bit _ _ h (bit_is ∙ ap (λ k. get_or b k false) at ∙ e ∙ sym (code_bit len code i in_code))

@@ -25,8 +25,7 @@ byte_bits-byte_of LsbFirst eight len =
 byte_of-byte_bits : (order : FillOrder) (byte : ℕ) → byte < 256 → byte_of order (byte_bits order byte) ≡ byte
 unfolding byte_bits
 byte_of-byte_bits MsbFirst byte fits = number-byte_bits byte fits
-byte_of-byte_bits LsbFirst byte fits =
-    ap (byte_of MsbFirst) (reverse-reverse (byte_bits MsbFirst byte)) ∙ number-byte_bits byte fits
+byte_of-byte_bits LsbFirst byte fits = ap (byte_of MsbFirst) (reverse-reverse (byte_bits MsbFirst byte)) ∙ number-byte_bits byte fits
 
 -- the bits of the bytes of chunks
 bits-chunks : (order : FillOrder) (n : ℕ) (b : List Bool) → 8 * n ≤ length b

@@ -200,7 +200,8 @@ pair_lens_are : (colour : Colour) → pair_lens_of colour ≡ map (pair_len_of c
 pair_lens_are White = refl
 pair_lens_are Black = refl
 
-pair_bits_are : (colour : Colour) (first second : ℕ) → pair_bits colour first second ≡ run_bits colour first ++ run_bits (other colour) second
+pair_bits_are : (colour : Colour) (first second : ℕ)
+    → pair_bits colour first second ≡ run_bits colour first ++ run_bits (other colour) second
 pair_bits_are White first second = refl
 pair_bits_are Black first second = refl
 
@@ -217,7 +218,8 @@ pub record IsPairCode (code len : ℕ) (bits : List Bool) : Type 0 where
   pub fits : code < 2 ^ len
   pub short : len ≤ 32
 
-two_codes : (one other : Colour) (first second code len code' len' : ℕ) → IsShortCode one first code len → IsShortCode other second code' len'
+two_codes : (one other : Colour) (first second code len code' len' : ℕ) → IsShortCode one first code len
+    → IsShortCode other second code' len'
     → IsPairCode (code * 2 ^ len' + code') (len + len') (run_bits one first ++ run_bits other second)
 two_codes one other first second code len code' len' is is' = record {
   bits_are =

@@ -32,8 +32,7 @@ fold-lt : (b : List Bool) (a : ℕ) → fold (λ number bit. 2 * number + (if bi
 fold-lt [] a = omega arith
 fold-lt (true ∷ b) a =
     rw (pow-succ' 2 (length b)) (omega (arith, fold-lt b (2 * a + 1)))
-fold-lt (false ∷ b) a =
-    rw (pow-succ' 2 (length b)) (omega (arith, fold-lt b (2 * a + 0)))
+fold-lt (false ∷ b) a = rw (pow-succ' 2 (length b)) (omega (arith, fold-lt b (2 * a + 0)))
 
 pub bits_number-lt : (b : List Bool) → bits_number b < 2 ^ length b
 bits_number-lt b = omega (arith, fold-lt b 0)

@@ -161,12 +161,11 @@ same_run colour b (n ∷ pels) (m ∷ others) last end rest remaining first seco
     (subst (λ x. Spells (run_table colour) x (map MakeUp others ++ Terminating end ∷ []) remaining) (sym same.1) second.2) in
     (cc (here, after.0), after.1, after.2)
 
-one_length : (colour : Colour) (b : List Bool) (n m : ℕ) (rest remaining : List Bool) → IsRun colour b n rest → IsRun colour b m remaining
+one_length : {colour : Colour} {b : List Bool} {n m : ℕ} {rest remaining : List Bool} → IsRun colour b n rest → IsRun colour b m remaining
     → (n ≡ m) × (rest ≡ remaining)
-one_length colour b n m rest remaining first second =
+one_length {colour = colour} {b = b} {rest = rest} {remaining = remaining} first second =
     let same = same_run colour b first.make_up second.make_up first.last second.last rest remaining first.spelled second.spelled in
     (omega (arith, first.length, second.length, ap sum same.0, same.1), same.2)
 
 pub run_bits_are_one_run : RunBitsAreOneRun
-run_bits_are_one_run colour n m more rest few is =
-    one_length colour (run_bits colour n ++ more) n m more rest (run_bits_are_read colour n more few) is
+run_bits_are_one_run colour n m more rest few is = one_length (run_bits_are_read colour n more few) is

@@ -36,9 +36,9 @@ module _ (left : List Bool) (n : ℕ) (all : n ≤ length left) where
       (bits_number-lt (take n left)))
 
 -- a code that begins the next bits is taken
-pub takes_found : {M : Type 0} (table : List (CodeEntry M)) (left b : List Bool) (n len : ℕ) (meaning : M) → b ≡ take n left
+pub takes_found : {M : Type 0} {table : List (CodeEntry M)} {left b : List Bool} (n : ℕ) {len : ℕ} {meaning : M} → b ≡ take n left
     → HasCodeAhead table b len meaning → Takes table left meaning (drop len left)
-takes_found table left b n len meaning next found = record {
+takes_found {left = left} n {len = len} next found = record {
   entry = found.entry;
   listed = found.listed;
   means = found.means;
@@ -50,15 +50,20 @@ takes_found table left b n len meaning next found = record {
 }
 
 -- and is no longer than the next bits
-pub found_is_short : {M : Type 0} (table : List (CodeEntry M)) (b : List Bool) (len : ℕ) (meaning : M) → HasCodeAhead table b len meaning
-    → len ≤ length b
-found_is_short table b len meaning found =
-    omega (arith, found.length, ahead_fits found.entry.len found.entry.code b found.ahead)
+pub found_is_short : {M : Type 0} {table : List (CodeEntry M)} (n number : ℕ) {len : ℕ} {meaning : M}
+    → HasCodeAhead table (code_bits n number) len meaning → len ≤ n
+found_is_short n number found =
+    omega (
+      arith,
+      found.length,
+      ahead_fits found.entry.len found.entry.code (code_bits n number) found.ahead,
+      length-code_bits n number,
+    )
 
 -- none begins the bits where none begins the next ones: 13, or all of them
-pub none_begins : {M : Type 0} (table : List (CodeEntry M)) (left b : List Bool) (n : ℕ) → HasShortCodes table → n ≤ length left
+pub none_begins : {M : Type 0} (table : List (CodeEntry M)) {left b : List Bool} {n : ℕ} → HasShortCodes table → n ≤ length left
     → ((k : ℕ) → k ≤ 13 → k ≤ length left → k ≤ n) → b ≡ take n left → HasNoCode table b → HasNoCode table left
-none_begins table left b n short within all next none entry here ahead =
+none_begins table {left = left} {n = n} short within all next none entry here ahead =
     let in_next : entry.len ≤ n = all entry.len (short entry here).1 (ahead_fits entry.len entry.code left ahead) in
     let e : n ≡ length (bits_of entry) + (n - entry.len) = omega (arith, length-code_bits entry.len entry.code) in
     none entry here (

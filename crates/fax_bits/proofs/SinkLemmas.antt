@@ -39,8 +39,7 @@ module _ (count pending len number : ℕ) (pending_fits : pending < 2 ^ count) (
       ∙ or_shifted pending len number number_fits
 
   pub joined-lt : bit_or (pending * 2 ^ len % 2 ^ 64) number < 2 ^ (count + len)
-  joined-lt =
-      rw joined (omega (arith, mul-add-lt pending (2 ^ len) number (2 ^ count) pending_fits number_fits, pow-add 2 count len))
+  joined-lt = rw joined (omega (arith, mul-add-lt pending (2 ^ len) number (2 ^ count) pending_fits number_fits, pow-add 2 count len))
 
   pub joined_bits : code_bits (count + len) (bit_or (pending * 2 ^ len % 2 ^ 64) number) ≡ code_bits count pending ++ code_bits len number
   joined_bits = ap (code_bits (count + len)) joined ∙ code_bits-add count len pending number number_fits
@@ -53,8 +52,7 @@ module _ (k count pending : ℕ) (some : 0 < k) (whole : k ≤ count) (short : c
       shr_below pending k (count - k) (subst (λ n. pending < 2 ^ n) (sym e) fits)
 
   pub masked : bit_and pending (1 * 2 ^ (count - k) % 2 ^ 64 - 1) ≡ pending % 2 ^ (count - k)
-  masked =
-      ap (λ n. bit_and pending (n - 1)) (one_shl (count - k) 64 (omega arith)) ∙ and_mask pending (count - k)
+  masked = ap (λ n. bit_and pending (n - 1)) (one_shl (count - k) 64 (omega arith)) ∙ and_mask pending (count - k)
 
   pub masked-lt : bit_and pending (1 * 2 ^ (count - k) % 2 ^ 64 - 1) < 2 ^ (count - k)
   masked-lt = rw masked (mod_below pending (2 ^ (count - k)) (pow_pos (count - k)))
@@ -126,8 +124,7 @@ length-sink order bytes count pending sink is =
 pub none_pending : (order : FillOrder) (bytes : List ℕ) (count pending : ℕ) → count ≡ 0 → bits order bytes ++ code_bits count pending
     ≡ bits order bytes
 unfolding code_bits
-none_pending order bytes count pending none =
-    ap (λ n. bits order bytes ++ code_bits n pending) none ∙ append-nil (bits order bytes)
+none_pending order bytes count pending none = ap (λ n. bits order bytes ++ code_bits n pending) none ∙ append-nil (bits order bytes)
 
 -- whole bytes hold all bits of a sink that has a multiple of eight
 pub all_whole : (order : FillOrder) (bytes : List ℕ) (count pending : ℕ) (sink : Sink) → sink_of order bytes count pending ≡ sink

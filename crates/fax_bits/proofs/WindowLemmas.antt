@@ -21,8 +21,7 @@ use Rattle.fax_bits.proofs.NumberLemmas.{number-code_bits}
 
 -- a word whose bits are those of a number below 2 ^ count
 pub first_bits-of : (count number word : ℕ) → word ≡ number * 2 ^ (64 - count) → first_bits count word ≡ code_bits count number
-first_bits-of count number word is =
-    ap (code_bits count) (ap (λ w. w / 2 ^ (64 - count)) is ∙ shl-shr number (64 - count))
+first_bits-of count number word is = ap (code_bits count) (ap (λ w. w / 2 ^ (64 - count)) is ∙ shl-shr number (64 - count))
 
 pub zeros_after-of : (count number word : ℕ) → word ≡ number * 2 ^ (64 - count) → word % 2 ^ (64 - count) ≡ 0
 zeros_after-of count number word is = ap (λ w. w % 2 ^ (64 - count)) is ∙ mul-mod_left number (2 ^ (64 - count))
@@ -189,7 +188,8 @@ code_bits-zero zero = refl
 code_bits-zero (suc n) = ap (λ d. nat_eq d 1 ∷ code_bits n 0) (bit_at-zero n) ∙ ap (λ b. false ∷ b) (code_bits-zero n)
 
 -- the zeros after the first bits of a word
-whole_word : (count word : ℕ) → count ≤ 64 → word % 2 ^ (64 - count) ≡ 0 → first_bits 64 word ≡ first_bits count word ++ replicate (64 - count) false
+whole_word : (count word : ℕ) → count ≤ 64 → word % 2 ^ (64 - count) ≡ 0
+    → first_bits 64 word ≡ first_bits count word ++ replicate (64 - count) false
 whole_word count word few zeros =
     let number = word / 2 ^ (64 - count) in
     let all : count + (64 - count) ≡ 64 = omega arith in
@@ -202,8 +202,7 @@ whole_word count word few zeros =
 take_padded : (b : List Bool) (n m : ℕ) → n ≤ m → take n (b ++ replicate m false) ≡ take n (b ++ replicate n false)
 take_padded [] n m more = take-replicate n m false more ∙ sym (take-replicate n n false (omega arith))
 take_padded (x ∷ b) zero m more = refl
-take_padded (x ∷ b) (suc n) m more =
-    ap (λ ys. x ∷ ys) (take_padded b n m (omega arith) ∙ sym (take_padded b n (suc n) (omega arith)))
+take_padded (x ∷ b) (suc n) m more = ap (λ ys. x ∷ ys) (take_padded b n m (omega arith) ∙ sym (take_padded b n (suc n) (omega arith)))
 
 -- the next n bits of a word, with zeros past its end
 pub past_number : (count word n : ℕ) → count ≤ 64 → n ≤ 64 → word < 2 ^ 64 → word % 2 ^ (64 - count) ≡ 0

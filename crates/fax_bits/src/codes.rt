@@ -144,32 +144,13 @@ pub fn read_code<T: CodeTable>(source: &mut BitSource) -> Result<T::Meaning, Cod
     ensures shorter { OnOk result (length source.new.left < length source.old.left) }
 {
     let n = source.remaining().min(u64::from(LONGEST_CODE)) as u32;
-    match take_code::<T>(source, n) {
-        Some(meaning) => Ok(meaning),
-        None if n < LONGEST_CODE => Err(fault_at_end::<T>(source)),
-        None => Err(CodeFault::BadCode),
-    }
-}
-
-/// Reads the code that begins the next `n` bits, which are 13, or all where fewer are left. Where
-/// none does, the source is as it was.
-#[inline(always)]
-fn take_code<T: CodeTable>(source: &mut BitSource, n: u32) -> Option<T::Meaning>
-    requires few { n ≤ LONGEST_CODE }
-    requires within { n ≤ length source.old.left }
-    requires all { (k : ℕ) → k ≤ LONGEST_CODE → k ≤ length source.old.left → k ≤ n }
-    ensures code { MatchOption result (HasNoCode T.table source.old.left)
-        (λ meaning. Takes T.table source.old.left meaning source.new.left) }
-    ensures unchanged { result ≡ None → source.new ≡ source.old }
-    ensures same_end { KeepsEnd source.old source.new }
-    ensures shorter { IsSome result → length source.new.left < length source.old.left }
-{
     match T::find(source.peek(n), n) {
         Some(found) => {
             source.skip(u64::from(found.0));
-            Some(found.1)
+            Ok(found.1)
         }
-        None => None,
+        None if n < LONGEST_CODE => Err(fault_at_end::<T>(source)),
+        None => Err(CodeFault::BadCode),
     }
 }
 

@@ -3,7 +3,6 @@ ghost use Rattle.std.specs.Prelude.{◌≡◌, ◌<◌, ◌^◌, IfSome};
 ghost use Rattle.fax_bits.specs.Bits.{code_bits};
 ghost use Rattle.fax_bits.specs.views.Codes.{HasCodeAhead};
 ghost use Rattle.fax_bits.specs.Tables.{modes};
-ghost use Rattle.fax_bits.specs.code.Places.{place_of};
 
 use crate::codes::{CodeEntry, CodeTable, LONGEST_CODE, within};
 use crate::indexes::{MODE_PLACES, VERTICAL_MODES};
@@ -108,7 +107,8 @@ impl CodeTable for Modes {
     }
 
     fn find(window: u32, n: u32) -> Option<(u32, ModeCode)> {
-        let place = mode_place(window << (LONGEST_CODE - n));
+        let bits = window << (LONGEST_CODE - n);
+        let place = usize::from(MODE_PLACES[(bits >> 6) as usize]);
         if place < MODE_ENTRIES {
             within(Self::entry(place), n)
         } else {
@@ -121,14 +121,6 @@ impl CodeTable for Modes {
     ghost short_codes = { Laws.modes_has_short_codes };
 
     ghost prefix_free = { Laws.modes_is_prefix_free };
-}
-
-/// The place of the code that begins thirteen bits, or the number of codes where none does.
-fn mode_place(bits: u32) -> usize
-    requires { bits < 2 ^ LONGEST_CODE }
-    ensures { result ≡ place_of modes LONGEST_CODE bits }
-{
-    usize::from(MODE_PLACES[(bits >> 6) as usize])
 }
 
 /// The length and the meaning of the code at a place of the table, where it begins thirteen bits.

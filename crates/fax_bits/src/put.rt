@@ -2,7 +2,7 @@
 //! (ITU-T T.4, sections 4.1.1 and 4.2.1.3.2).
 ghost use Rattle.std.specs.Prelude.{◌≡◌, ◌*◌, ◌<◌, ◌≤◌, ◌^◌, ◌++◌, length, OnOk, OnErr, IfOk};
 ghost use Rattle.fax_bits.specs.declared.modes.ModeCode.TheVariants.{Vertical};
-ghost use Rattle.fax_bits.specs.declared.runs.RunCode.TheVariants.{Terminating, MakeUp};
+ghost use Rattle.fax_bits.specs.declared.runs.RunCode.TheVariants.{MakeUp};
 ghost use Rattle.fax_bits.specs.Written.{run_codes, run_code_bits, run_bits, mode_bits};
 ghost use Rattle.fax_bits.specs.views.Codes.{IsWritten};
 ghost use Rattle.fax_bits.specs.views.Pairs.{pair_bits};
@@ -68,16 +68,6 @@ fn run_code(colour: Colour, place: usize) -> PendingBits
     }
 }
 
-/// The terminating code of `pels` pels, 0 to 63 (T.4, table 2).
-#[inline(always)]
-fn terminating_code(colour: Colour, pels: u32) -> PendingBits
-    requires { pels < 64 }
-    ensures bits { result ≡ run_code_bits colour (Terminating pels) }
-    ensures short { length result ≤ LONGEST_CODE }
-{
-    run_code(colour, pels as usize)
-}
-
 /// The make-up code of so many times 64 pels, 1 to 40 times (T.4, tables 3a and 3b).
 #[inline(always)]
 fn make_up_code(colour: Colour, steps: u32) -> PendingBits
@@ -97,9 +87,9 @@ fn codes_of_run(colour: Colour, n: u32) -> PendingBits
     ensures { result ≡ run_bits colour n }
 {
     if n < 64 {
-        return terminating_code(colour, n);
+        return run_code(colour, n as usize);
     }
-    make_up_code(colour, n / 64).then(terminating_code(colour, n % 64))
+    make_up_code(colour, n / 64).then(run_code(colour, (n % 64) as usize))
 }
 
 /// The code of vertical mode with a1 `d` pels right of b1, -3 to 3 (T.4, section 4.2.1.3.2 and

@@ -376,27 +376,20 @@ fn run_place(colour: Colour, bits: u32) -> usize
     }
 }
 
-/// That place where the array of the short codes has it, and else one that no code of a run has.
-#[inline(always)]
-fn short_place(colour: Colour, bits: u32) -> usize
-    requires { bits < 2 ^ LONGEST_CODE }
-    ensures { result < 104 → result ≡ place_of (run_table colour) LONGEST_CODE bits }
-{
-    match colour {
-        Colour::White => usize::from(WHITE_SHORT[(bits >> 4) as usize]),
-        Colour::Black => usize::from(BLACK_SHORT[(bits >> 7) as usize]),
-    }
-}
-
 /// The length and the place of the code for a run of the colour that begins thirteen bits, but for
-/// the extension. `None` where no such code does.
+/// the extension. `None` where no such code does. Short codes are looked up first.
 #[inline(always)]
 pub(crate) fn find_run_code(colour: Colour, bits: u32) -> Option<(u32, u32)>
     requires { bits < 2 ^ LONGEST_CODE }
     ensures { IfSome result (λ found. (found.1 < 104) × HasCodeAhead (run_table colour)
         (code_bits LONGEST_CODE bits) found.0 (run_meaning found.1)) }
 {
-    let mut place = short_place(colour, bits);
+    let at = bits as usize;
+    let short = match colour {
+        Colour::White => WHITE_SHORT[at >> 4],
+        Colour::Black => BLACK_SHORT[at >> 7],
+    };
+    let mut place = usize::from(short);
     if place >= EXTENSION {
         place = run_place(colour, bits);
         if place >= EXTENSION {

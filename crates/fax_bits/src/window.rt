@@ -155,13 +155,10 @@ impl Window {
         ensures within { result.at ≤ length bytes.now }
         ensures many { (32 ≤ result.count) ⊎ (result.at ≡ length bytes.now) }
     {
-        if self.count >= 32 {
-            return self;
+        match self.loaded(bytes, order) {
+            Some(more) => more,
+            None => self.with_last_bytes(bytes, order),
         }
-        if bytes.len() - self.at < 4 {
-            return self.with_last_bytes(bytes, order);
-        }
-        self.refilled(bytes, order)
     }
 
     /// The same bits, of which at least 32 are loaded, or `None` near the end of the bytes.

@@ -91,19 +91,19 @@ changing White Black h = refl
 changing Black White h = refl
 
 -- up to the next changing element the pel before each has the colour
-pub colour_before : (row : List Colour) (from : Option ℕ) (place : ℕ) → IsNextChange row from place
+pub colour_before : {row : List Colour} (from : Option ℕ) {place : ℕ} → IsNextChange row from place
     → (k : ℕ) → k ≤ place → is_right_of from k ≡ true → pel_before row k ≡ colour_of row from
-colour_before row None place next zero within right = refl
-colour_before row None place next (suc k) within right =
+colour_before None next zero within right = refl
+colour_before {row = row} None next (suc k) within right =
     not_changing (pel row k) (pel_before row k) (next.before k (omega arith) refl)
-    ∙ colour_before row None place next k (omega arith) refl
-colour_before row (Some a) place next zero within right = absurd (omega (arith, ltb-true a 0 right))
-colour_before row (Some a) place next (suc k) within right =
+    ∙ colour_before None next k (omega arith) refl
+colour_before (Some a) next zero within right = absurd (omega (arith, ltb-true a 0 right))
+colour_before {row = row} (Some a) next (suc k) within right =
     elim (eq-or-lt_of_le at_most) [
       | inl same ↦ ap (λ i. pel row i) (sym same)
       | inr less ↦
           not_changing (pel row k) (pel_before row k) (next.before k (omega arith) (lt-ltb a k less))
-          ∙ colour_before row (Some a) place next k (omega arith) (lt-ltb a k less)
+          ∙ colour_before (Some a) next k (omega arith) (lt-ltb a k less)
     ]
   where
     at_most : a ≤ k
@@ -118,23 +118,22 @@ right_after None k h = refl
 right_after (Some a) k h = lt-ltb a (suc k) (omega arith)
 
 -- the pels from a place up to the next changing element have one colour
-pub colour_up_to : (row : List Colour) (from : Option ℕ) (place : ℕ) → IsNextChange row from place
+pub colour_up_to : {row : List Colour} {from : Option ℕ} {place : ℕ} → IsNextChange row from place
     → (k : ℕ) → first_of from ≤ k → k < place → pel row k ≡ colour_of row from
-colour_up_to row from place next k after before =
-    colour_before row from place next (suc k) (omega arith) (right_after from k after)
+colour_up_to {from = from} next k after before = colour_before from next (suc k) (omega arith) (right_after from k after)
 
 -- and the changing element has the other
-pub colour_at : (row : List Colour) (from : Option ℕ) (place : ℕ) → IsNextChange row from place
+pub colour_at : {row : List Colour} {from : Option ℕ} {place : ℕ} → IsNextChange row from place
     → place < length row → pel row place ≡ other (colour_of row from)
-colour_at row from place next inside =
+colour_at {row = row} {from = from} {place = place} next inside =
     changing (pel row place) (pel_before row place) (next.there inside)
-    ∙ ap other (colour_before row from place next place (omega arith) (next.right inside))
+    ∙ ap other (colour_before from next place (omega arith) (next.right inside))
 
 -- the next changing element is not left of the place
-pub next_is_ahead : (row : List Colour) (from : Option ℕ) (place : ℕ) → IsNextChange row from place
+pub next_is_ahead : {row : List Colour} (from : Option ℕ) {place : ℕ} → IsNextChange row from place
     → first_of from ≤ length row → first_of from ≤ place
-next_is_ahead row None place next within = omega arith
-next_is_ahead row (Some a) place next within =
+next_is_ahead None next within = omega arith
+next_is_ahead {row = row} (Some a) {place = place} next within =
     elim (cases_lt place (length row)) [
       | inl inside ↦ omega (arith, ltb-true a place (next.right inside))
       | inr over ↦ omega arith

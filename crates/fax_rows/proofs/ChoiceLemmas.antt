@@ -110,19 +110,19 @@ module _ (reference row : List Colour) (same_width : length reference ≡ length
   b2_within = omega (arith, b2_is.within)
 
   pub b2_right : passed a0 ≤ b2 reference a0 (colour_of row a0)
-  b2_right = omega (arith, b1_right, next_is_ahead reference (Some (b1 reference a0 (colour_of row a0))) _ b2_is (omega (arith, b1_within)))
+  b2_right = omega (arith, b1_right, next_is_ahead (Some (b1 reference a0 (colour_of row a0))) b2_is (omega (arith, b1_within)))
 
   pass_chosen : (rest : List Bool) → b2 reference a0 (colour_of row a0) < next_change row a0 → IsChosen reference row a0 rest Pass
   pass_chosen rest left =
       let ahead = first_passed a0 (b2 reference a0 (colour_of row a0)) b2_right in
       let pels = pels_up_to row (first_of a0) (b2 reference a0 (colour_of row a0)) (colour_of row a0) ahead b2_within
-      (λ k h l. colour_up_to row a0 (next_change row a0) a1_is k h (omega arith)) in
+      (λ k h l. colour_up_to a1_is k h (omega arith)) in
       record {
         written = tt;
         step = (cc, refl);
         right = omega (arith, b2_right);
         within = b2_within;
-        colour = λ h. sym (colour_up_to row a0 (next_change row a0) a1_is (b2 reference a0 (colour_of row a0)) ahead left);
+        colour = λ h. sym (colour_up_to a1_is (b2 reference a0 (colour_of row a0)) ahead left);
       }
 
   -- where a1 stands as seen from b1
@@ -135,7 +135,7 @@ module _ (reference row : List Colour) (same_width : length reference ≡ length
   vertical_chosen rest near =
       let ahead = first_passed a0 (next_change row a0) a1_right in
       let pels = pels_up_to row (first_of a0) (next_change row a0) (colour_of row a0) ahead a1_is.within
-      (colour_up_to row a0 (next_change row a0) a1_is) in
+      (colour_up_to a1_is) in
       record {
         written = near_is_written _ near;
         step = (
@@ -152,34 +152,34 @@ module _ (reference row : List Colour) (same_width : length reference ≡ length
         );
         right = omega (arith, a1_right);
         within = a1_is.within;
-        colour = λ h. sym (colour_at row a0 (next_change row a0) a1_is h);
+        colour = λ h. sym (colour_at a1_is h);
       }
 
   a2_is : IsNextChange row (Some (next_change row a0)) (next_change row (Some (next_change row a0)))
   a2_is = next_change_is row (Some (next_change row a0))
 
   a2_ahead : next_change row a0 ≤ next_change row (Some (next_change row a0))
-  a2_ahead = next_is_ahead row (Some (next_change row a0)) _ a2_is a1_is.within
+  a2_ahead = next_is_ahead (Some (next_change row a0)) a2_is a1_is.within
 
   -- the pels from a1 to a2
   second_run : (k : ℕ) → next_change row a0 ≤ k → k < next_change row (Some (next_change row a0)) → pel row k ≡ other (colour_of row a0)
   second_run k h l =
-      colour_up_to row (Some (next_change row a0)) _ a2_is k h l
-      ∙ colour_at row a0 (next_change row a0) a1_is (omega (arith, a2_is.within))
+      colour_up_to a2_is k h l
+      ∙ colour_at a1_is (omega (arith, a2_is.within))
 
   -- the colour of a2
   third_run : next_change row (Some (next_change row a0)) < length row
       → colour_of row a0 ≡ pel row (next_change row (Some (next_change row a0)))
   third_run h =
-      sym (colour_at row (Some (next_change row a0)) _ a2_is h
-      ∙ ap other (colour_at row a0 (next_change row a0) a1_is (omega (arith, a2_ahead)))
+      sym (colour_at a2_is h
+      ∙ ap other (colour_at a1_is (omega (arith, a2_ahead)))
       ∙ other_twice (colour_of row a0))
 
   horizontal_chosen : RunBitsAreRead → HasWidth row → (rest : List Bool) → IsChosen reference row a0 rest Horizontal
   horizontal_chosen runs_read limits rest =
       let ahead = first_passed a0 (next_change row a0) a1_right in
       let first_pels = pels_up_to row (first_of a0) (next_change row a0) (colour_of row a0) ahead a1_is.within
-      (colour_up_to row a0 (next_change row a0) a1_is) in
+      (colour_up_to a1_is) in
       let second_pels = pels_up_to row (next_change row a0) (next_change row (Some (next_change row a0))) (other (colour_of row a0))
       a2_ahead a2_is.within second_run in
       let sums : first_of a0 + (next_change row a0 - first_of a0) + (next_change row (Some (next_change row a0)) - next_change row a0)

@@ -222,9 +222,9 @@ module _ (reference row : List Colour) (same : length row ≡ length reference) 
         | inr over ↦ omega (arith, none_after row a1 over)
       ]
 
-  pub horizontal_is : (b middle : List Bool) (new : Position) (rest : List Bool) → IsChosenPair reference old middle new rest
+  pub horizontal_is : {b middle : List Bool} {new : Position} {rest : List Bool} → IsChosenPair reference old middle new rest
       → b ≡ mode_bits Horizontal ++ middle → GoesOnFrom row new → IsStepOf reference row old b new rest
-  horizontal_is b middle new rest pair bits goes =
+  horizontal_is {b = b} {new = new} {rest = rest} pair bits goes =
       let goes_on = subst (GoesOnFrom row) pair.new_is goes in
       let first = pair.first in
       let second = pair.second in

@@ -27,8 +27,7 @@ IsChosenSoFar reference b at rest =
     (row : List Colour) → length row ≡ length reference → GoesOnFrom row at → IsWrittenUpTo reference row b at.a0 rest
 
 pub chosen_begins : (reference : List Colour) (b : List Bool) (at : Position) → at.a0 ≡ None → IsChosenSoFar reference b at b
-chosen_begins reference b at start row len goes =
-    rw start record { front = []; bits = refl; put = place_begins reference row (alone []) }
+chosen_begins reference b at start row len goes = rw start record { front = []; bits = refl; put = place_begins reference row (alone []) }
 
 pub chosen_goes_on : (reference : List Colour) (b : List Bool) (old : Position) (mid : List Bool) (new : Position) (rest : List Bool)
     → IsChosenSoFar reference b old mid → IsChosenStep reference old mid new rest → first_pel old < length reference

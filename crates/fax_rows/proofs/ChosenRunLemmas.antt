@@ -39,7 +39,8 @@ alternating-push colour (m ∷ runs) n =
     ∙ sym (append_assoc (run_bits colour m) (alternating_bits (other colour) runs) (run_bits (colour_after_runs (other colour) runs) n))
 
 -- only the first run has none before it
-first_alone : (runs : List ℕ) → sum runs ≡ 0 → colour_after_runs White runs ≡ White → ((i : ℕ) → 0 < i → i < length runs → 0 < get_or runs i 0)
+first_alone : (runs : List ℕ) → sum runs ≡ 0 → colour_after_runs White runs ≡ White
+    → ((i : ℕ) → 0 < i → i < length runs → 0 < get_or runs i 0)
     → length runs ≡ 0
 first_alone [] none colour some = refl
 first_alone (n ∷ []) none colour some = cc

@@ -37,7 +37,7 @@ pub map_both : {A E : Type 0} {P Q R : A → Type 0} (found : Result A E) → If
 map_both (Ok x) p q f = f x p q
 map_both (Err e) p q f = tt
 
-module _ (reference : PlacedRow) (places : List ℕ) (at : PlacedReached) (so_far : IsReadTo reference places at)
+module _ {reference : PlacedRow} {places : List ℕ} {at : PlacedReached} (so_far : IsReadTo reference places at)
     (unfinished : reached_pel at.reached < reference.width) where
   -- a0's colour just before the first pel
   start : at.reached.a0 ≡ None → White ≡ at.reached.colour
@@ -55,22 +55,22 @@ module _ (reference : PlacedRow) (places : List ℕ) (at : PlacedReached) (so_fa
   inside : reached_pel at.reached < length (placed_pels reference)
   inside = omega (arith, length-placed_pels reference)
 
-  pub vertical_chosen : (b : List Bool) (d : ℤ) (new : Position) (rest : List Bool) → Takes modes b (Vertical d) rest
+  pub vertical_chosen : {b : List Bool} {d : ℤ} {new : Position} {rest : List Bool} → Takes modes b (Vertical d) rest
       → IsVerticalStep (placed_pels reference) (placed_position reference.width places at) d new
       → first_pel new ≤ b2_from (placed_pels reference) (placed_position reference.width places at)
       → IsChosenStep (placed_pels reference) (placed_position reference.width places at) b new rest
-  vertical_chosen b d new rest takes step left row len goes =
-      let mode = mode_taken b (Vertical d) rest takes in
+  vertical_chosen {b = b} {d = d} {new = new} {rest = rest} takes step left row len goes =
+      let mode = mode_taken takes in
       vertical_is (placed_pels reference) row len (placed_position reference.width places at) start read inside d b new rest step mode.bits
       mode.near left goes
 
   -- where the distance is said in two ways
-  pub vertical_chosen_as : (b : List Bool) (d read : ℤ) (new : Position) (rest : List Bool) → Takes modes b (Vertical d) rest
+  pub vertical_chosen_as : {b : List Bool} {d read : ℤ} {new : Position} {rest : List Bool} → Takes modes b (Vertical d) rest
       → IsVerticalStep (placed_pels reference) (placed_position reference.width places at) read new
       → first_pel new ≤ b2_from (placed_pels reference) (placed_position reference.width places at) → read ≡ d
       → IsChosenStep (placed_pels reference) (placed_position reference.width places at) b new rest
-  vertical_chosen_as b d distance new rest takes step left same =
-      vertical_chosen b d new rest takes
+  vertical_chosen_as {new = new} takes step left same =
+      vertical_chosen takes
       (subst (λ e. IsVerticalStep (placed_pels reference) (placed_position reference.width places at) e new) same step) left
 
   -- a1 that is not right of b1 is not right of b2
@@ -78,32 +78,31 @@ module _ (reference : PlacedRow) (places : List ℕ) (at : PlacedReached) (so_fa
       → d ≤ℤ pos 0 → first_pel new ≤ b2_from (placed_pels reference) (placed_position reference.width places at)
   left_of_b2 d new step left =
       let b1 = so_far.b1 unfinished in
-      let first = b1_is reference at.reached.a0 at.reached.colour at.b1 b1 in
-      let second = b2_is reference at.reached.a0 at.reached.colour at.b1 b1 in
+      let first = b1_is reference b1 in
+      let second = b2_is reference b1 in
       let order = b2_ahead reference at.b1 b1.some b1.within in
       rw step.new_is (omega (arith, ints, step.a1_is, left))
 
-  pub under_chosen : (b : List Bool) (new : Position) (rest : List Bool) → Takes modes b (Vertical (pos 0)) rest
+  pub under_chosen : {b : List Bool} {new : Position} {rest : List Bool} → Takes modes b (Vertical (pos 0)) rest
       → IsVerticalStep (placed_pels reference) (placed_position reference.width places at) (pos 0) new
       → IsChosenStep (placed_pels reference) (placed_position reference.width places at) b new rest
-  under_chosen b new rest takes step =
-      vertical_chosen b (pos 0) new rest takes step (left_of_b2 (pos 0) new step (omega (arith, ints)))
+  under_chosen {new = new} takes step = vertical_chosen takes step (left_of_b2 (pos 0) new step (omega (arith, ints)))
 
-  pub pass_chosen : (b : List Bool) (new : Position) (rest : List Bool) → Takes modes b Pass rest
+  pub pass_chosen : {b : List Bool} {new : Position} {rest : List Bool} → Takes modes b Pass rest
       → new ≡ coloured_up_to (placed_position reference.width places at) (b2_from (placed_pels reference)
       (placed_position reference.width places at))
       → first_pel new < length (placed_pels reference)
       → IsChosenStep (placed_pels reference) (placed_position reference.width places at) b new rest
-  pass_chosen b new rest takes new_is ends row len goes =
+  pass_chosen {b = b} {new = new} {rest = rest} takes new_is ends row len goes =
       let b1 = so_far.b1 unfinished in
-      let second = b2_is reference at.reached.a0 at.reached.colour at.b1 b1 in
+      let second = b2_is reference b1 in
       pass_is (placed_pels reference) row len (placed_position reference.width places at) start read inside b new rest new_is
-      ((mode_taken b Pass rest takes).bits)
-      (let order = b2_order reference places at so_far unfinished in omega arith) ends goes
+      ((mode_taken takes).bits)
+      (let order = b2_order so_far unfinished in omega arith) ends goes
 
-  pub pair_chosen : (b middle : List Bool) (new : Position) (rest : List Bool) → Takes modes b Horizontal middle
+  pub pair_chosen : {b middle : List Bool} {new : Position} {rest : List Bool} → Takes modes b Horizontal middle
       → IsChosenPair (placed_pels reference) (placed_position reference.width places at) middle new rest
       → IsChosenStep (placed_pels reference) (placed_position reference.width places at) b new rest
-  pair_chosen b middle new rest takes pair row len goes =
-      horizontal_is (placed_pels reference) row len (placed_position reference.width places at) start read inside b middle new rest pair
-      ((mode_taken b Horizontal middle takes).bits) goes
+  pair_chosen {b = b} {middle = middle} takes pair row len goes =
+      horizontal_is (placed_pels reference) row len (placed_position reference.width places at) start read inside pair
+      ((mode_taken takes).bits) goes

@@ -11,8 +11,7 @@ use Rattle.fax_rows.proofs.RunLaws.{sum-cons}
 -- the bits are runs of these lengths in alternating colours, and the rest follows them
 abbrev pub AreCodedRuns : Colour → List Bool → List ℕ → List Bool → Type 0
 AreCodedRuns colour b [] rest = b ≡ rest
-AreCodedRuns colour b (n ∷ runs) rest =
-    (middle : List Bool) × IsRun colour b n middle × AreCodedRuns (other colour) middle runs rest
+AreCodedRuns colour b (n ∷ runs) rest = (middle : List Bool) × IsRun colour b n middle × AreCodedRuns (other colour) middle runs rest
 
 -- the colour of the run after these runs
 abbrev pub colour_after_runs : Colour → List ℕ → Colour

@@ -71,9 +71,9 @@ pub part_within : (runs : List ℕ) (i : ℕ) → sum (take i runs) ≤ sum runs
 part_within runs i = sum_by-take-le (λ n. n) runs i
 
 -- all runs of a row
-pub put_all_runs : (runs : List ℕ) (total : ℕ) (places : List ℕ) (width : ℕ) → ArePutRuns runs total places → sum runs ≡ width
+pub put_all_runs : {runs : List ℕ} {total : ℕ} {places : List ℕ} {width : ℕ} → ArePutRuns runs total places → sum runs ≡ width
     → pels_by width places ≡ pels_of White runs
-put_all_runs runs total places width put whole =
+put_all_runs {runs = runs} {places = places} {width = width} put whole =
     ext_get_or White (pels_by width places) (pels_of White runs) (length-pels_by width places ∙ sym whole ∙ sym (length-pels_of White runs))
     (λ k h. let inside : k < width = omega (arith, length-pels_by width places) in
     pel-pels_by width places k inside ∙ put.pels k (omega (arith, put.sum_is)))
@@ -85,8 +85,7 @@ unfolding runs_after
 longer colour n zero pels = ap (λ k. runs_after colour k pels) (omega arith)
 longer White n (suc m) pels =
     longer White (n + 1) m pels ∙ ap (λ k. runs_after White k pels) (omega arith)
-longer Black n (suc m) pels =
-    longer Black (n + 1) m pels ∙ ap (λ k. runs_after Black k pels) (omega arith)
+longer Black n (suc m) pels = longer Black (n + 1) m pels ∙ ap (λ k. runs_after Black k pels) (omega arith)
 
 -- after a run stand the runs of the pels after it, where none of them is 0
 runs_follow : (colour : Colour) (n : ℕ) (runs : List ℕ) → ((i : ℕ) → i < length runs → 0 < get_or runs i 0)

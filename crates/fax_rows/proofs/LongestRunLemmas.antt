@@ -11,7 +11,8 @@ pub rest_is : (xs : List ℕ) (n : ℕ) → take (length xs - n) (drop n xs) ≡
 rest_is xs n = ap (λ k. take k (drop n xs)) (sym (length-drop n xs)) ∙ take-length (drop n xs)
 
 -- the places of a row, from its first pel on
-pub row_bounds : (places : List ℕ) (end : ℕ) → 0 < length places → get_or places 0 0 ≡ 0 → take (end + 1) places ≡ 0 ∷ take end (drop 1 places)
+pub row_bounds : (places : List ℕ) (end : ℕ) → 0 < length places → get_or places 0 0 ≡ 0
+    → take (end + 1) places ≡ 0 ∷ take end (drop 1 places)
 row_bounds [] end some first = absurd (omega arith)
 row_bounds (place ∷ places) end some first =
     let next : end + 1 ≡ suc end = omega arith in
@@ -68,6 +69,7 @@ module _ (P : ℕ → Type 0) (sub : ℕ → ℕ → ℕ) (fits : (a b : ℕ) �
   gaps_fit (suc n) from (next ∷ ends) within all =
       (fits next from (all.right 0 (omega arith)) (all.left 0 (omega arith)), gaps_fit n next ends (omega arith) (ahead_of_next from next ends all))
 
-  pub runs_fit : (n : ℕ) (places : List ℕ) → n < length places → AreBounds places → Each1 P (zip2 sub (take n (drop 1 places)) (take n places))
+  pub runs_fit : (n : ℕ) (places : List ℕ) → n < length places → AreBounds places
+      → Each1 P (zip2 sub (take n (drop 1 places)) (take n places))
   runs_fit n [] within all = absurd (omega arith)
   runs_fit n (from ∷ ends) within all = gaps_fit n from ends (omega arith) all.ahead

@@ -17,8 +17,7 @@ use Rattle.fax_rows.specs.laws.Packed.{IsPackedBack, PackingUndoesUnpacking}
 use Rattle.fax_rows.proofs.PackedLemmas.{get_or-padded, padded_bits, row_bytes, unpacked_at}
 
 length-packed_row : (row : List Colour) → length (packed_row row) ≡ packed_len (length row)
-length-packed_row row =
-    ap length (row_bytes row) ∙ length-map-range_with_len (λ k. packed_byte row (8 * k)) 0 (packed_len (length row))
+length-packed_row row = ap length (row_bytes row) ∙ length-map-range_with_len (λ k. packed_byte row (8 * k)) 0 (packed_len (length row))
 
 get_or-packed_row : (row : List Colour) (q : ℕ) → q < packed_len (length row) → get_or (packed_row row) q 0 ≡ packed_byte row (8 * q)
 get_or-packed_row row q within =

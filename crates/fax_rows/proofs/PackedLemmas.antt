@@ -114,8 +114,7 @@ digit-le false = omega arith
 
 -- and it fits
 pub byte_fits : (byte digit i : ℕ) (bit : Bool) → byte < 2 ^ i → i < 8 → digit ≡ bool_byte bit → 2 * byte + digit < 2 ^ (i + 1)
-byte_fits byte digit i bit fits few digit_is =
-    rw (add-one, pow-succ' 2 i) (omega (arith, digit-le bit))
+byte_fits byte digit i bit fits few digit_is = rw (add-one, pow-succ' 2 i) (omega (arith, digit-le bit))
 
 -- chunks of eight from a place on, each by its number
 chunks_at : (f : List Bool → ℕ) (n j : ℕ) (b : List Bool)

@@ -37,8 +37,7 @@ abbrev pub turned_word : ℕ → ℕ → ℕ
 turned_word word s = bit_xor word ((2 ^ 64 - 1) / 2 ^ s)
 
 ones-bits : (word s i : ℕ) → s ≤ 64 → bit_at (turned_word word s) i ≡ (bit_at word i + bit_at (2 ^ (64 - s) - 1) i) % 2
-ones-bits word s i within =
-    ap (λ ones. bit_at (bit_xor word ones) i) (ones_shr 64 s within) ∙ bit_at_xor word (2 ^ (64 - s) - 1) i
+ones-bits word s i within = ap (λ ones. bit_at (bit_xor word ones) i) (ones_shr 64 s within) ∙ bit_at_xor word (2 ^ (64 - s) - 1) i
 
 turned_left : (word s i : ℕ) → s < 64 → i < s → word_bit (turned_word word s) i ≡ word_bit word i
 turned_left word s i within before =
@@ -87,7 +86,7 @@ white_word i = ap (λ b. nat_eq b 1) (bit_at-zero (63 - i))
 black_word : (i : ℕ) → word_bit (2 ^ 64 - 1) i ≡ true
 black_word i = ap (λ b. nat_eq b 1) (bit_at_ones 64 (63 - i) (omega arith))
 
-module _ (places : List ℕ) (end width : ℕ) (all : ArePlaces places end width) where
+module _ {places : List ℕ} {end width : ℕ} (all : ArePlaces places end width) where
   begun : (from word k : ℕ) → HasPassed places end from k → word < 2 ^ 64 → ((i : ℕ) → word_bit word i ≡ nat_eq (k % 2) 0)
       → IsWordTo places end width from word k
   begun from word k passed fits is = record {
@@ -101,19 +100,17 @@ module _ (places : List ℕ) (end width : ℕ) (all : ArePlaces places end width
   }
 
   pub begun_white : (from k : ℕ) → HasPassed places end from k → k % 2 ≡ 1 → IsWordTo places end width from 0 k
-  begun_white from k passed odd =
-      begun from 0 k passed (omega arith) (λ i. white_word i ∙ ap (λ n. nat_eq n 0) (sym odd))
+  begun_white from k passed odd = begun from 0 k passed (omega arith) (λ i. white_word i ∙ ap (λ n. nat_eq n 0) (sym odd))
 
   pub begun_black : (from k : ℕ) → HasPassed places end from k → k % 2 ≡ 0 → IsWordTo places end width from (2 ^ 64 - 1) k
-  begun_black from k passed even =
-      begun from (2 ^ 64 - 1) k passed (omega arith) (λ i. black_word i ∙ ap (λ n. nat_eq n 0) (sym even))
+  begun_black from k passed even = begun from (2 ^ 64 - 1) k passed (omega arith) (λ i. black_word i ∙ ap (λ n. nat_eq n 0) (sym even))
 
   -- a pel between two places that are next to one another
   pel_between : (from word k i : ℕ) → IsWordTo places end width from word k → i < 64 → from + i < width → get_or places (k - 1) 0 ≤ from + i
       → (k < end → from + i < get_or places k 0) → word_bit word i ≡ get_or (map is_black (row_of places end width)) (from + i) false
   pel_between from word k i so_far inside wide left right =
       so_far.after i inside left
-      ∙ sym (bit_after places end width all (from + i) k wide (record {
+      ∙ sym (bit_after all (from + i) k wide (record {
         some = so_far.some;
         within = so_far.within;
         left = left;
@@ -122,9 +119,9 @@ module _ (places : List ℕ) (end width : ℕ) (all : ArePlaces places end width
       }))
 
   -- all pels of a word after which no place of it stands
-  pub word_done : (from word k : ℕ) → IsWordTo places end width from word k → from + 64 ≤ width → (k < end → from + 64 ≤ get_or places k 0)
+  pub word_done : {from word k : ℕ} → IsWordTo places end width from word k → from + 64 ≤ width → (k < end → from + 64 ≤ get_or places k 0)
       → IsPackedWord (row_of places end width) from word
-  word_done from word k so_far wide far = record {
+  word_done {from = from} {word = word} {k = k} so_far wide far = record {
     fits = so_far.fits;
     pels = λ i h. elim (cases_lt (from + i) (get_or places (k - 1) 0)) [
       | inl less ↦ so_far.before i h less
@@ -133,13 +130,13 @@ module _ (places : List ℕ) (end width : ℕ) (all : ArePlaces places end width
   }
 
   -- after the last place stands the width
-  pub before_end : (from word k : ℕ) → IsWordTo places end width from word k → get_or places k 0 < from + 64 → from + 64 ≤ width → k < end
-  before_end from word k so_far near wide =
+  pub before_end : {from word k : ℕ} → IsWordTo places end width from word k → get_or places k 0 < from + 64 → from + 64 ≤ width → k < end
+  before_end {k = k} so_far near wide =
       elim (cases_lt k end) [
         | inl less ↦ less
         | inr far ↦
             let same : k ≡ end = omega (arith, so_far.within) in
-            absurd (omega (arith, at_end places end width all, ap (λ m. get_or places m 0) same))
+            absurd (omega (arith, at_end all, ap (λ m. get_or places m 0) same))
       ]
 
   -- the next place turns the pels from there on
@@ -163,7 +160,7 @@ module _ (places : List ℕ) (end width : ℕ) (all : ArePlaces places end width
   }
     where
       inside : k < end
-      inside = before_end from word k so_far near wide
+      inside = before_end so_far near wide
 
       ahead : from ≤ get_or places k 0
       ahead = so_far.ahead inside

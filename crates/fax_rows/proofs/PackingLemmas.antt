@@ -58,7 +58,7 @@ black_after k =
           ap is_black (alternate-odd k one) ∙ ap (λ n. nat_eq n 0) (sym one)
     ]
 
-module _ (places : List ℕ) (end width : ℕ) (all : ArePlaces places end width) where
+module _ {places : List ℕ} {end width : ℕ} (all : ArePlaces places end width) where
   -- no pel stands after the last one
   pub none_after : (i : ℕ) → width ≤ i → get_or (map is_black (row_of places end width)) i false ≡ false
   none_after i over =
@@ -69,7 +69,7 @@ module _ (places : List ℕ) (end width : ℕ) (all : ArePlaces places end width
       → get_or (map is_black (row_of places end width)) i false ≡ nat_eq (k % 2) 0
   bit_after i k within at =
       get_or-map is_black (row_of places end width) i White false (omega (arith, length-pels_by width (take end places)))
-      ∙ ap is_black (pel-pels_by width (take end places) i within ∙ colour_after_places places end all.ascending i k at) ∙ black_after k
+      ∙ ap is_black (pel-pels_by width (take end places) i within ∙ colour_after_places all.ascending i k at) ∙ black_after k
 
   -- no place is passed before the first pel but the first
   pub passed_none : HasPassed places end 0 1
@@ -81,7 +81,7 @@ module _ (places : List ℕ) (end width : ℕ) (all : ArePlaces places end width
   }
 
   pub passed-lt : (i k : ℕ) → HasPassed places end i k → k < length places
-  passed-lt i k passed = omega (arith, passed.within, all.room, end_within places end width all)
+  passed-lt i k passed = omega (arith, passed.within, all.room, end_within all)
 
   last_is : get_or places end 0 ≡ width
   last_is = ap (λ m. get_or places m 0) (omega arith) ∙ all.after 0 (omega arith)
@@ -182,13 +182,13 @@ run_fits byte i (suc n) bit fits few =
     (rw (run_grows byte n bit) (byte_fits (byte * 2 ^ n + ones bit n) (bool_byte bit) (i + n) bit (run_fits byte i n bit fits (omega arith))
     (omega arith) refl))
 
-module _ (places : List ℕ) (end width : ℕ) (all : ArePlaces places end width) where
+module _ {places : List ℕ} {end width : ℕ} (all : ArePlaces places end width) where
   -- the pels up to the next place have one colour
   pub same_up_to : (from at next k : ℕ) → HasPassed places end at k → from ≤ at → next ≤ width → (k < end → next ≤ get_or places k 0)
       → (m : ℕ) → at - from ≤ m → m < at - from + (next - at)
       → get_or (map is_black (row_of places end width)) (from + m) false ≡ nat_eq (k % 2) 0
   same_up_to from at next k passed order within before m h l =
-      bit_after places end width all (from + m) k (omega arith) (record {
+      bit_after all (from + m) k (omega arith) (record {
         some = passed.some;
         within = passed.within;
         left = omega (arith, passed.left);
@@ -211,7 +211,7 @@ module _ (places : List ℕ) (end width : ℕ) (all : ArePlaces places end width
       elim (cases_lt k end) [
         | inl less ↦ passed.right less
         | inr far ↦ let same : k ≡ end =
-            omega (arith, passed.within) in omega (arith, last_is places end width all, ap (λ m. get_or places m 0) same)
+            omega (arith, passed.within) in omega (arith, last_is all, ap (λ m. get_or places m 0) same)
       ]
 
   pub place_at_most : (at k : ℕ) → HasPassed places end at k → get_or places k 0 ≤ width
@@ -219,7 +219,7 @@ module _ (places : List ℕ) (end width : ℕ) (all : ArePlaces places end width
       elim (cases_lt k end) [
         | inl less ↦ omega (arith, all.below k passed.some less)
         | inr far ↦ let same : k ≡ end =
-            omega (arith, passed.within) in omega (arith, last_is places end width all, ap (λ m. get_or places m 0) same)
+            omega (arith, passed.within) in omega (arith, last_is all, ap (λ m. get_or places m 0) same)
       ]
 
   -- a place that is reached is passed

@@ -1,5 +1,5 @@
--- A white run and the black one after it that are read at once, and a white run that is read alone.
-use Rattle.std.proofs.Common.{◌≡◌, ℕ, ◌+◌, ◌-◌, ◌<◌, ◌≤◌, List, ◌++◌, take, get_or, Bool, ap, sym, ◌∙◌, subst, arith, inl}
+-- A row in one-dimensional coding that is read run by run, and a white run and the black one after it that are read at once.
+use Rattle.std.proofs.Common.{◌≡◌, ℕ, ◌+◌, ◌-◌, ◌<◌, ◌≤◌, List, [], ◌∷◌, ◌++◌, take, Bool, ap, sym, ◌∙◌, subst, arith, inl}
 use Rattle.std.specs.Prelude.{◌⊎◌}
 use Rattle.fax_bits.specs.declared.Colour.{Colour}
 use Rattle.fax_bits.specs.declared.Colour.TheVariants.{White, Black}
@@ -8,69 +8,83 @@ use Rattle.fax_bits.specs.Codes.{IsRun}
 use Rattle.fax_bits.specs.Written.{run_bits}
 use Rattle.fax_bits.specs.views.Pairs.{IsPairRead}
 use Rattle.fax_bits.specs.views.Source.{Source}
-use Rattle.fax_rows.specs.code.Turns.{IsAscending, IsTurnedFrom}
-use Rattle.fax_rows.proofs.ChosenRunLemmas.{AreWrittenRuns, runs_go_on}
-use Rattle.fax_rows.proofs.PlacedReadLemmas.{HasRead, read_on}
+use Rattle.fax_rows.specs.Rows.{other}
+use Rattle.fax_rows.specs.code.Put.{ArePut, HasRoom}
+use Rattle.fax_rows.specs.code.Turns.{turned, pels_by, IsTurnedFrom, TurnsAt}
+use Rattle.fax_rows.proofs.ChosenRunLemmas.{AreWrittenRuns, runs_begin, runs_go_on}
+use Rattle.fax_rows.proofs.PlacedReadLemmas.{none_put, put_on, run_turned}
+use Rattle.fax_rows.proofs.PlacedRowLemmas.{turned-first, take-first}
+use Rattle.fax_rows.proofs.RowLemmas.{IsRowSoFar, row_begins}
+
+-- the places of the runs that are read, after which the row has a colour; where they are seen to be chosen, the bits are written so
+pub record HasRead (width : ℕ) (b : List Bool) (chosen : Type 0) (total : ℕ) (colour : Colour) (places : List ℕ) (end : ℕ)
+    (rest : List Bool) : Type 0 where
+  pub so_far : IsRowSoFar width b total colour (pels_by width (take end places)) rest
+  pub after : (i : ℕ) → total ≤ i → turned Black (take end places) i ≡ colour
+  pub put : ArePut width places end total
+  pub written : chosen → AreWrittenRuns b total colour rest
+
+pub none_read : {width : ℕ} {places : List ℕ} (b : List Bool) (chosen : Type 0) → HasRoom width places
+    → HasRead width b chosen 0 White places 1 b
+none_read {width} {places} b chosen room =
+    let first : take 1 places ≡ 0 ∷ [] = take-first places (omega (arith, room.len)) room.first in
+    record {
+      so_far = row_begins width _ _;
+      after = λ i h. ap (λ ps. turned Black ps i) first ∙ turned-first i;
+      put = none_put 0 room (omega arith);
+      written = λ h. runs_begin b;
+    }
+
+pub read_on : {width : ℕ} {b : List Bool} {chosen also : Type 0} {total place : ℕ} {colour : Colour} {old new : List ℕ}
+    {end next : ℕ} {mid rest : List Bool}
+    → HasRead width b chosen total colour old end mid → total < width → IsRun colour mid (place - total) rest → total ≤ place
+    → place ≤ width → TurnsAt old new end next place
+    → (also → chosen × (mid ≡ run_bits colour (place - total) ++ rest) × ((0 < place - total) ⊎ ((total ≡ 0) × (colour ≡ White))))
+    → HasRead width b also place (other colour) new next rest
+read_on {width} {b} {chosen} {also} {total} {place} {colour} {old} {new} {end} {next} {mid} {rest} read unfinished run right
+    within turns choice =
+    let sum : total + (place - total) ≡ place = omega arith in
+    let turn_there : IsTurnedFrom (take end old) (take next new) (total + (place - total)) =
+    subst (λ n. IsTurnedFrom (take end old) (take next new) n) (sym sum) turns.turned in
+    record {
+      so_far = subst (λ n. IsRowSoFar width b n (other colour) (pels_by width (take next new)) rest) sum
+          (run_turned read.so_far unfinished (omega (arith, sum)) run read.after turn_there);
+      after = λ i h. turns.turned.right i h ∙ ap other (read.after i (omega arith));
+      put = put_on read.put turns within;
+      written = λ h.
+          let is = choice h in runs_go_on b total place colour mid rest (read.written is.0) right is.1 is.2;
+    }
 
 run_again : (colour : Colour) (b : List Bool) (total run : ℕ) (rest : List Bool) → IsRun colour b run rest
     → IsRun colour b (total + run - total) rest
 run_again colour b total run rest is =
     let e : run ≡ total + run - total = omega arith in subst (λ n. IsRun colour b n rest) e is
 
--- the two runs of a pair are read on from white
-pub pair_read_on : (width : ℕ) (b : List Bool) (total : ℕ) (colour : Colour) (old mid new : List ℕ) (end next last : ℕ)
-    (left rest : List Bool) (pair : Pair)
-    → HasRead width b total colour old end left → colour ≡ White → total < width → IsPairRead left pair rest
-    → total + pair.white + pair.black ≤ width
-    → IsTurnedFrom (take end old) (take next mid) (total + pair.white) → IsAscending mid next → get_or mid (next - 1) 0 ≤ total + pair.white
-    → IsTurnedFrom (take next mid) (take last new) (total + pair.white + pair.black) → IsAscending new last
-    → get_or new (last - 1) 0 ≤ total + pair.white + pair.black
-    → HasRead width b (total + pair.white + pair.black) White new last rest
-pair_read_on width b total colour old mid new end next last left rest pair read white unfinished is within
-    turn up at turn_again up_again at_again =
-    let some = is.black_some in
-    let middle = total + pair.white in
-    read_on width b middle (middle + pair.black) Black mid new next last is.middle rest
-    (read_on width b total middle White old mid end next left is.middle
-    (subst (λ c. HasRead width b total c old end left) white read) unfinished
-    (run_again White left total pair.white is.middle is.white) (omega arith) (omega arith) turn up at)
-    (omega arith) (run_again Black is.middle middle pair.black rest is.black) (omega arith) (omega arith) turn_again up_again at_again
-
 written_again : (colour : Colour) (b : List Bool) (total run : ℕ) (rest : List Bool) → b ≡ run_bits colour run ++ rest
     → b ≡ run_bits colour (total + run - total) ++ rest
 written_again colour b total run rest is =
     let e : run ≡ total + run - total = omega arith in is ∙ ap (λ n. run_bits colour n ++ rest) e
 
--- and are written so
-pub pair_goes_on : (b : List Bool) (total : ℕ) (colour : Colour) (left rest : List Bool) (pair : Pair)
-    → AreWrittenRuns b total colour left → colour ≡ White → IsPairRead left pair rest
-    → AreWrittenRuns b (total + pair.white + pair.black) White rest
-pair_goes_on b total colour left rest pair written white is =
-    let middle = total + pair.white in
-    runs_go_on b middle (middle + pair.black) Black is.middle rest
-    (runs_go_on b total middle White left is.middle (subst (λ c. AreWrittenRuns b total c left) white written) (omega arith)
-    (written_again White left total pair.white is.middle is.white_written) (inl (omega (arith, is.white_some))))
-    (omega arith) (written_again Black is.middle middle pair.black rest is.black_written) (inl (omega (arith, is.black_some)))
+-- the two runs of a pair are read on from white
+pub pair_read_on : {width : ℕ} {b : List Bool} {chosen : Type 0} {total : ℕ} {colour : Colour} {old mid new : List ℕ}
+    {end next last : ℕ} {left rest : List Bool} {pair : Pair}
+    → HasRead width b chosen total colour old end left → colour ≡ White → total < width → IsPairRead left pair rest
+    → total + pair.white + pair.black ≤ width → TurnsAt old mid end next (total + pair.white)
+    → TurnsAt mid new next last (total + pair.white + pair.black) → HasRead width b chosen (total + pair.white + pair.black) White new last rest
+pair_read_on {width} {b} {chosen} {total} {colour} {old} {mid} {new} {end} {next} {last} {left} {rest} {pair} read white unfinished is
+    within turns again =
+    let some = is.black_some in
+    read_on {chosen = chosen}
+    (read_on {also = chosen} (subst (λ c. HasRead width b chosen total c old end left) white read) unfinished
+    (run_again White left total pair.white is.middle is.white) (omega arith) (omega arith) turns
+    (λ h. (h, written_again White left total pair.white is.middle is.white_written, inl (omega (arith, is.white_some)))))
+    (omega arith) (run_again Black is.middle (total + pair.white) pair.black rest is.black) (omega arith) (omega arith) again
+    (λ h. (h, written_again Black is.middle (total + pair.white) pair.black rest is.black_written, inl (omega (arith, is.black_some))))
 
--- a white run that is read after no pair was
-pub white_read : (width : ℕ) (b : List Bool) (ahead again : Source) (total place : ℕ) (colour : Colour) (old new : List ℕ) (end next : ℕ)
-    (rest : List Bool) → HasRead width b total colour old end ahead.left → colour ≡ White → again ≡ ahead → total < width
-    → IsRun White again.left (place - total) rest → total ≤ place → place ≤ width
-    → IsTurnedFrom (take end old) (take next new) place → IsAscending new next → get_or new (next - 1) 0 ≤ place
-    → HasRead width b place Black new next rest
-white_read width b ahead again total place colour old new end next rest read white same unfinished run right within turn up last =
-    read_on width b total place White old new end next again.left rest
-    (subst (λ (s : Source). HasRead width b total White old end s.left) (sym same)
-    (subst (λ c. HasRead width b total c old end ahead.left) white read))
-    unfinished run right within turn up last
-
--- and is written so
-pub white_written : (b : List Bool) (ahead again : Source) (total place : ℕ) (colour : Colour) (rest : List Bool)
-    → AreWrittenRuns b total colour ahead.left → colour ≡ White → again ≡ ahead → total ≤ place
-    → again.left ≡ run_bits White (place - total) ++ rest → (0 < place - total) ⊎ ((total ≡ 0) × (White ≡ White))
-    → AreWrittenRuns b place Black rest
-white_written b ahead again total place colour rest written white same right bits fits =
-    runs_go_on b total place White again.left rest
-    (subst (λ (s : Source). AreWrittenRuns b total White s.left) (sym same)
-    (subst (λ c. AreWrittenRuns b total c ahead.left) white written))
-    right bits fits
+-- what was read before no pair was
+pub white_read : {width : ℕ} {b : List Bool} {chosen : Type 0} {ahead again : Source} {total : ℕ} {colour : Colour} {places : List ℕ}
+    {end : ℕ} → HasRead width b chosen total colour places end ahead.left → colour ≡ White → again ≡ ahead
+    → HasRead width b chosen total White places end again.left
+white_read {width} {b} {chosen} {ahead} {again} {total} {colour} {places} {end} read white same =
+    subst (λ (s : Source). HasRead width b chosen total White places end s.left) (sym same)
+    (subst (λ c. HasRead width b chosen total c places end ahead.left) white read)

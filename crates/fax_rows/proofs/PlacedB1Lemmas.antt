@@ -38,7 +38,8 @@ differs_is White White h = absurd (h refl)
 differs_is Black Black h = absurd (h refl)
 
 module _ (row : PlacedRow) where
-  rank_from : (i n k : ℕ) → 0 < k → k + n ≡ row.end → get_or row.places.now (k - 1) 0 ≤ i → (j : ℕ) × ArePlacesUpTo row.places.now row.end i j
+  rank_from : (i n k : ℕ) → 0 < k → k + n ≡ row.end → get_or row.places.now (k - 1) 0 ≤ i
+      → (j : ℕ) × ArePlacesUpTo row.places.now row.end i j
   rank_from i zero k some sum left =
       (k, record { some = some; within = omega arith; left = left; right = λ h. absurd (omega arith) })
   rank_from i (suc n) k some sum left =
@@ -60,12 +61,12 @@ module _ (row : PlacedRow) where
       → (1 < j) × (get_or row.places.now (j - 1) 0 ≡ i)
   place_of_change i j at inside changes =
       elim (eq-or-lt_of_le at.some) [
-        | inl one ↦ absurd (true≢false (sym changes ∙ unchanging row.places.now row.end row.placed.ascending row.width i j at
+        | inl one ↦ absurd (true≢false (sym changes ∙ unchanging row.placed.ascending row.width i j at
             (inl (sym one)) inside))
         | inr more ↦
             elim (eq-or-lt_of_le at.left) [
               | inl same ↦ (more, same)
-              | inr less ↦ absurd (true≢false (sym changes ∙ unchanging row.places.now row.end row.placed.ascending row.width i j at
+              | inr less ↦ absurd (true≢false (sym changes ∙ unchanging row.placed.ascending row.width i j at
                   (inr less) inside))
             ]
       ]
@@ -76,7 +77,7 @@ module _ (row : PlacedRow) where
       → 1 < j → j ≤ row.end → get_or row.places.now (j - 1) 0 ≡ i → j ≡ b
   before_b1 a0 colour b i j at before right some within is =
       elim (cases_lt (j - 1) b) [
-        | inr over ↦ let order = not_later row.places.now row.end row.placed.ascending b (j - 1) over (omega arith) in absurd (omega arith)
+        | inr over ↦ let order = not_later row.placed.ascending b (j - 1) over (omega arith) in absurd (omega arith)
         | inl under ↦
             elim (cases_lt 2 b) [
               | inr few ↦ omega arith
@@ -91,8 +92,7 @@ module _ (row : PlacedRow) where
       passed : j - 1 ≤ b - 2 → is_right_of a0 (get_or row.places.now (b - 2) 0) ≡ true
       passed left =
           further_right a0 i (get_or row.places.now (b - 2) 0)
-          (let order = not_later row.places.now row.end row.placed.ascending (j - 1) (b - 2) left
-          (omega (arith, at.within)) in omega arith) right
+          (let order = not_later row.placed.ascending (j - 1) (b - 2) left (omega (arith, at.within)) in omega arith) right
 
   same_as : (pel colour : Colour) → pel ≡ colour → not (same_colour pel colour) ≡ false
   same_as White White h = refl
@@ -115,7 +115,7 @@ module _ (row : PlacedRow) where
       let place = place_of_change i found.0 found.1 inside changes in
       let same : found.0 ≡ b = before_b1 a0 colour b i found.0 at before right place.0 found.1.within place.1 in
       same_as (pel (placed_pels row) i) colour
-      (pel_after row.places.now row.end row.placed.ascending row.width i found.0 inside found.1 ∙ ap (alternate Black) same ∙ at.colour_is)
+      (pel_after row.placed.ascending row.width i found.0 inside found.1 ∙ ap (alternate Black) same ∙ at.colour_is)
 
   second_end : get_or row.places.now (row.end + 1) 0 ≡ row.width
   second_end = row.placed.after 1 (omega arith)
@@ -127,7 +127,7 @@ module _ (row : PlacedRow) where
   pub over_end : (b : ℕ) → row.end ≤ b → b ≤ row.end + 2 → get_or row.places.now b 0 ≡ row.width
   over_end b over within =
       elim (eq-or-lt_of_le over) [
-        | inl same ↦ ap (λ m. get_or row.places.now m 0) (sym same) ∙ at_end row.places.now row.end row.width row.placed
+        | inl same ↦ ap (λ m. get_or row.places.now m 0) (sym same) ∙ at_end row.placed
         | inr more ↦
             elim (cases_lt b (row.end + 2)) [
               | inl one ↦ let same : b ≡ row.end + 1 = omega arith in ap (λ m. get_or row.places.now m 0) same ∙ second_end
@@ -159,12 +159,12 @@ module _ (row : PlacedRow) where
 
   -- b1 and b2 stand among the places
   pub b1_index : (b : ℕ) → b ≤ row.end + 1 → b + 1 < length row.places.now
-  b1_index b within = omega (arith, row.placed.room, end_within row.places.now row.end row.width row.placed)
+  b1_index b within = omega (arith, row.placed.room, end_within row.placed)
 
   -- b1 is the place at that index
-  pub b1_is : (a0 : Option ℕ) (colour : Colour) (b : ℕ) → IsB1At row a0 colour b
+  pub b1_is : {a0 : Option ℕ} {colour : Colour} {b : ℕ} → IsB1At row a0 colour b
       → get_or row.places.now b 0 ≡ b1 (placed_pels row) a0 colour
-  b1_is a0 colour b at =
+  b1_is {a0 = a0} {colour = colour} {b = b} at =
       next_of_at (placed_pels row) a0 colour (get_or row.places.now b 0) (omega (arith, len, within)) left there
     where
       len : length (placed_pels row) ≡ row.width
@@ -190,11 +190,9 @@ module _ (row : PlacedRow) where
           let inside = inside_end b at.some at.within (omega (arith, len)) in
           both (is_right_of a0 (get_or row.places.now b 0)) _ (at.ahead inside)
           (both (is_changing (placed_pels row) (get_or row.places.now b 0)) _
-          (changing_at row.places.now row.end row.placed.ascending row.width (get_or row.places.now b 0) b at.some inside refl
-          (omega (arith, len)))
+          (changing_at row.placed.ascending row.width (get_or row.places.now b 0) b at.some inside refl (omega (arith, len)))
           (other_than (pel (placed_pels row) (get_or row.places.now b 0)) colour
-          (pel_after row.places.now row.end row.placed.ascending row.width (get_or row.places.now b 0) (suc b) (omega (arith, len))
-          (after inside)
+          (pel_after row.placed.ascending row.width (get_or row.places.now b 0) (suc b) (omega (arith, len)) (after inside)
           ∙ alternate-suc Black b ∙ ap other at.colour_is)))
         where
           same : suc b - 1 ≡ b
@@ -205,7 +203,7 @@ module _ (row : PlacedRow) where
             some = omega arith;
             within = omega arith;
             left = subst (λ m. get_or row.places.now m 0 ≤ get_or row.places.now b 0) (sym same) (omega arith);
-            right = λ l. below_later row.places.now row.end row.placed.ascending b (suc b) at.some (omega arith) l;
+            right = λ l. below_later row.placed.ascending b (suc b) at.some (omega arith) l;
           }
 
   -- and b2 is the one after it
@@ -214,11 +212,11 @@ module _ (row : PlacedRow) where
   after_b1 b some within =
       elim (cases_lt b row.end) [
         | inl inside ↦
-            (next_here row.places.now row.end row.width row.placed (Some (get_or row.places.now b 0)) (b + 1) (record {
+            (next_here row.placed (Some (get_or row.places.now b 0)) (b + 1) (record {
               some = omega arith;
               within = omega arith;
               left = subst (λ m. get_or row.places.now m 0 ≤ get_or row.places.now b 0) (sym same) (omega arith);
-              right = λ l. below_later row.places.now row.end row.placed.ascending b (b + 1) some (omega arith) l;
+              right = λ l. below_later row.placed.ascending b (b + 1) some (omega arith) l;
             })).place
         | inr over ↦ over_end (b + 1) (omega arith) (omega arith) ∙ sym
             (none_after (get_or row.places.now b 0) (over_end b over (omega arith)))
@@ -236,11 +234,11 @@ module _ (row : PlacedRow) where
             | inr over ↦ omega (arith, next.within)
           ]
 
-  pub b2_is : (a0 : Option ℕ) (colour : Colour) (b : ℕ) → IsB1At row a0 colour b
+  pub b2_is : {a0 : Option ℕ} {colour : Colour} {b : ℕ} → IsB1At row a0 colour b
       → get_or row.places.now (b + 1) 0 ≡ b2 (placed_pels row) a0 colour
-  b2_is a0 colour b at =
+  b2_is {b = b} at =
       after_b1 b at.some at.within
-      ∙ ap (λ a. next_change (placed_pels row) (Some a)) (b1_is a0 colour b at)
+      ∙ ap (λ a. next_change (placed_pels row) (Some a)) (b1_is at)
 
   -- the search goes on by two places
   before_end : (place b : ℕ) → place < row.width → get_or row.places.now b 0 ≤ place → b ≤ row.end + 1 → b < row.end
@@ -280,10 +278,10 @@ module _ (row : PlacedRow) where
       some (suc n) h = omega arith
 
   -- b1 is not left of a0
-  pub b1_ahead : (a0 : Option ℕ) (colour : Colour) (b : ℕ) → IsB1At row a0 colour b → unwrap_or a0 0 < row.width
+  pub b1_ahead : (a0 : Option ℕ) {colour : Colour} {b : ℕ} → IsB1At row a0 colour b → unwrap_or a0 0 < row.width
       → unwrap_or a0 0 ≤ get_or row.places.now b 0
-  b1_ahead None colour b at inside = omega arith
-  b1_ahead (Some a) colour b at inside =
+  b1_ahead None at inside = omega arith
+  b1_ahead (Some a) {b = b} at inside =
       elim (b1_within b at.some at.within) [
         | inl less ↦ omega (arith, ltb-true a (get_or row.places.now b 0) (at.ahead less.0))
         | inr over ↦ omega (arith, over.1)
@@ -293,7 +291,7 @@ module _ (row : PlacedRow) where
   pub b2_ahead : (b : ℕ) → 0 < b → b ≤ row.end + 1 → get_or row.places.now b 0 ≤ get_or row.places.now (b + 1) 0
   b2_ahead b some within =
       elim (cases_lt (b + 1) row.end) [
-        | inl less ↦ let l = below_later row.places.now row.end row.placed.ascending b (b + 1) some (omega arith) less in omega arith
+        | inl less ↦ let l = below_later row.placed.ascending b (b + 1) some (omega arith) less in omega arith
         | inr over ↦ omega (arith, over_end (b + 1) over (omega arith), b1_at_most b some within)
       ]
 
@@ -305,9 +303,9 @@ module _ (row : PlacedRow) where
       ]
 
   -- after a pass the next place but one is that of b1
-  pub b1_passed : (a0 : Option ℕ) (colour : Colour) (b : ℕ) → IsB1At row a0 colour b → get_or row.places.now (b + 1) 0 < row.width
+  pub b1_passed : {a0 : Option ℕ} {colour : Colour} {b : ℕ} → IsB1At row a0 colour b → get_or row.places.now (b + 1) 0 < row.width
       → IsB1At row (Some (get_or row.places.now (b + 1) 0)) colour (b + 2)
-  b1_passed a0 colour b at inside = record {
+  b1_passed {b = b} at inside = record {
     some = omega arith;
     within = omega (arith, less);
     colour_is = ap (alternate Black) two ∙ at.colour_is;
@@ -315,7 +313,7 @@ module _ (row : PlacedRow) where
         subst (λ m. is_right_of (Some (get_or row.places.now (b + 1) 0)) (get_or row.places.now m 0) ≡ false) back
         (le-ltb (get_or row.places.now (b + 1) 0) (get_or row.places.now b 0) (b2_ahead b at.some at.within));
     ahead = λ h. lt-ltb (get_or row.places.now (b + 1) 0) (get_or row.places.now (b + 2) 0)
-        (below_later row.places.now row.end row.placed.ascending (b + 1) (b + 2) (omega arith) (omega arith) h);
+        (below_later row.placed.ascending (b + 1) (b + 2) (omega arith) (omega arith) h);
   }
     where
       less : b + 1 < row.end
@@ -340,7 +338,7 @@ module _ (row : PlacedRow) where
     passed = λ h.
         let less = inside_end b at.some at.within (omega arith) in
         subst (λ m. get_or row.places.now m 0 ≤ a1) back
-        (let order = not_later row.places.now row.end row.placed.ascending (b - 1) b (omega arith) less in omega arith);
+        (let order = not_later row.placed.ascending (b - 1) b (omega arith) less in omega arith);
   }
     where
       one : b + 1 ≡ suc b
@@ -350,16 +348,16 @@ module _ (row : PlacedRow) where
       back = omega (arith, at.some)
 
   -- from just under b1 the next place is that of b1
-  pub b1_next : (a0 : Option ℕ) (colour : Colour) (b : ℕ) → IsB1At row a0 colour b → get_or row.places.now b 0 < row.width
+  pub b1_next : {a0 : Option ℕ} {colour : Colour} {b : ℕ} → IsB1At row a0 colour b → get_or row.places.now b 0 < row.width
       → IsB1At row (Some (get_or row.places.now b 0)) (other colour) (b + 1)
-  b1_next a0 colour b at inside =
+  b1_next {a0 = a0} {colour = colour} {b = b} at inside =
       search_ends (get_or row.places.now b 0) (b + 1) right (other colour)
       (right_start a0 colour b (get_or row.places.now b 0) at (omega arith) inside)
     where
       right : get_or row.places.now b 0 < get_or row.places.now (b + 1) 0
       right =
           elim (cases_lt (b + 1) row.end) [
-            | inl inner ↦ below_later row.places.now row.end row.placed.ascending b (b + 1) at.some (omega arith) inner
+            | inl inner ↦ below_later row.placed.ascending b (b + 1) at.some (omega arith) inner
             | inr over ↦ omega (arith, over_end (b + 1) over (omega (arith, at.within)))
           ]
 
@@ -371,7 +369,7 @@ module _ (row : PlacedRow) where
     colour_is = sym (other-other (alternate Black (b - 1)))
         ∙ ap other (sym (alternate-suc Black (b - 1)) ∙ ap (alternate Black) one ∙ at.colour_is);
     passed = λ h.
-        let order = not_later row.places.now row.end row.placed.ascending (b - 1 - 2) (b - 2) (omega arith) (omega (arith, at.within)) in
+        let order = not_later row.placed.ascending (b - 1 - 2) (b - 2) (omega arith) (omega (arith, at.within)) in
         omega (arith, not_right (get_or row.places.now (b - 2) 0) (at.passed (omega arith)));
   }
     where
@@ -429,8 +427,7 @@ module _ (row : PlacedRow) where
     within = omega (arith, at.within);
     colour_is = is;
     passed = λ h.
-        let order = not_later row.places.now row.end row.placed.ascending (b - 2) (k - 1) (omega arith)
-        (omega (arith, at.within, at.some)) in
+        let order = not_later row.placed.ascending (b - 2) (k - 1) (omega arith) (omega (arith, at.within, at.some)) in
         le-ltb a (get_or row.places.now (b - 2) 0) (omega (arith, at.left));
     ahead = λ h. lt-ltb a (get_or row.places.now b 0) (subst (λ m. a < get_or row.places.now m 0) (sym same) (at.right (omega arith)));
   }
@@ -443,17 +440,17 @@ module _ (row : PlacedRow) where
         le-ltb a (get_or row.places.now (b - 2) 0) (subst (λ m. get_or row.places.now m 0 ≤ a) (sym back) at.left);
     ahead = λ h.
         let first = at.right (omega arith) in
-        let second = below_later row.places.now row.end row.placed.ascending k b at.some (omega arith) h in
+        let second = below_later row.placed.ascending k b at.some (omega arith) h in
         lt-ltb a (get_or row.places.now b 0) (omega arith);
   }
 
   -- b1 and b2 as `next_of` and `b1_b2` answer them
-  pub b1_right : (a0 : Option ℕ) (colour : Colour) (b : ℕ) → IsB1At row a0 colour b → get_or row.places.now b 0 < row.width
+  pub b1_right : {a0 : Option ℕ} {colour : Colour} {b : ℕ} → IsB1At row a0 colour b → get_or row.places.now b 0 < row.width
       → is_right_of a0 (get_or row.places.now b 0) ≡ true
-  b1_right a0 colour b at inside = at.ahead (inside_end b at.some at.within inside)
+  b1_right {b = b} at inside = at.ahead (inside_end b at.some at.within inside)
 
-  pub b2_right : (a0 : Option ℕ) (colour : Colour) (b : ℕ) → IsB1At row a0 colour b → get_or row.places.now (b + 1) 0 < row.width
+  pub b2_right : {a0 : Option ℕ} {colour : Colour} {b : ℕ} → IsB1At row a0 colour b → get_or row.places.now (b + 1) 0 < row.width
       → is_right_of a0 (get_or row.places.now (b + 1) 0) ≡ true
-  b2_right a0 colour b at inside =
+  b2_right {a0 = a0} {b = b} at inside =
       let order = b2_ahead b at.some at.within in
-      further_right a0 (get_or row.places.now b 0) (get_or row.places.now (b + 1) 0) order (b1_right a0 colour b at (omega arith))
+      further_right a0 (get_or row.places.now b 0) (get_or row.places.now (b + 1) 0) order (b1_right at (omega arith))

@@ -90,7 +90,7 @@ module _ (old new : List ℕ) (end width : ℕ) (all : ArePlaces old end width) 
     after = λ i h.
         let started = some_change in
         let at : suc (end - 1 + i) ≡ end + i = omega arith in
-        each (end - 1 + i) (omega (arith, all.room, end_within old end width all)) ∙ ap (λ m. get_or old m 0) at ∙ all.after i h;
+        each (end - 1 + i) (omega (arith, all.room, end_within all)) ∙ ap (λ m. get_or old m 0) at ∙ all.after i h;
   }
 
   pub turned_white : IsTurnedFrom (take end old) (take (end - 1) new) 0

@@ -33,9 +33,9 @@ module _ (reference row : List Colour) (old mid new : Sink) (a0 : Option ℕ) (p
   pub place_ends : Appends mid pending new → Appends old (two_dimensional_bits reference row) new
   place_ends more = put_pending old mid new _ pending _ placed.so_far none more
 
-pub place_ends_early : (reference row : List Colour) (old mid new : Sink) (a0 : Option ℕ) (pending : List Bool)
+pub place_ends_early : {reference row : List Colour} {old mid new : Sink} {a0 : Option ℕ} {pending : List Bool}
     → IsPutToPlace reference row old a0 pending mid → new ≡ mid → AppendsPrefix old (two_dimensional_bits reference row) new
-place_ends_early reference row old mid new a0 pending placed same = pending_stops old mid new _ _ placed.so_far same
+place_ends_early {old = old} {mid = mid} {new = new} placed same = pending_stops placed.so_far same
 
 -- a step is left inside the row
 record IsStepLeft (reference row : List Colour) (old : Sink) (a0 : Option ℕ) (pending : List Bool) (new : Sink) : Type 0 where

@@ -10,7 +10,8 @@ use Rattle.fax_bits.specs.declared.Colour.{Colour}
 use Rattle.fax_bits.specs.declared.Colour.TheVariants.{White, Black}
 use Rattle.fax_bits.specs.Codes.{IsRun}
 use Rattle.fax_rows.specs.Rows.{other, IsOneDimensionalRow}
-use Rattle.fax_rows.specs.code.Turns.{turned, pels_by, IsAscending, ArePlaces, IsTurnedFrom}
+use Rattle.fax_rows.specs.code.Put.{ArePut, HasRoom}
+use Rattle.fax_rows.specs.code.Turns.{turned, pels_by, IsAscending, ArePlaces, IsTurnedFrom, TurnsAt}
 use Rattle.fax_rows.proofs.TurnLemmas.{other-other, length-pels_by, pel-pels_by, turned-push_left, turned-push_right, at_least, below_later}
 use Rattle.fax_rows.proofs.RowLemmas.{IsRowSoFar, row_goes_on}
 
@@ -63,13 +64,33 @@ without_last width places end some within is =
 
 -- there is room for one place more
 pub places_within : (places : List ℕ) (end total : ℕ) → IsAscending places end → get_or places (end - 1) 0 ≤ total → end ≤ total + 2
-places_within places end total up last = omega (arith, up.started, at_least places end up (end - 1) (omega (arith, up.started)))
+places_within places end total up last = omega (arith, up.started, at_least up (end - 1) (omega (arith, up.started)))
+
+-- before the first pel
+pub none_put : {width : ℕ} {places : List ℕ} (total : ℕ) → HasRoom width places → total ≤ width → ArePut width places 1 total
+none_put total room within = record {
+  room = room.len;
+  ascending =
+      record { started = omega arith; within = omega (arith, room.len); first = room.first; steps = λ i h l. absurd (omega arith) };
+  last = omega (arith, room.first);
+  within = within;
+}
+
+-- there is room for two places more
+pub more_room : {width : ℕ} {places : List ℕ} {end total : ℕ} → ArePut width places end total → end + 1 < length places
+more_room put = omega (arith, put.room, put.within, places_within _ _ _ put.ascending put.last)
+
+-- a place more is put
+pub put_on : {width : ℕ} {old new : List ℕ} {end next total place : ℕ} → ArePut width old end total → TurnsAt old new end next place
+    → place ≤ width → ArePut width new next place
+put_on put turns within =
+    record { room = turns.same_len ∙ put.room; ascending = turns.ascending; last = turns.last; within = within }
 
 -- all places but the last are below it
 pub below_last : (places : List ℕ) (end width : ℕ) → IsAscending places end → get_or places (end - 1) 0 ≤ width
     → (i : ℕ) → 0 < i → i < end - 1 → get_or places i 0 < width
 below_last places end width up last i some h =
-    let less = below_later places end up i (end - 1) some h (omega arith) in omega arith
+    let less = below_later up i (end - 1) some h (omega arith) in omega arith
 
 -- a last place that is not the width is below it
 pub below_width : (places : List ℕ) (end width : ℕ) → IsAscending places end → get_or places (end - 1) 0 ≤ width
@@ -90,44 +111,19 @@ pub ends_within : (places : List ℕ) (end width : ℕ) → IsAscending places e
 ends_within places end width up below =
     elim (eq-or-lt_of_le up.started) [
       | inl one ↦ omega arith
-      | inr more ↦ omega (arith, at_least places end up (end - 1) (omega arith), below (end - 1) (omega arith) (omega arith))
+      | inr more ↦ omega (arith, at_least up (end - 1) (omega arith), below (end - 1) (omega arith) (omega arith))
     ]
 
 -- one run more
-pub run_turned : (width : ℕ) (b : List Bool) (total n : ℕ) (colour : Colour) (old new : List ℕ) (mid rest : List Bool)
+pub run_turned : {width : ℕ} {b : List Bool} {total n : ℕ} {colour : Colour} {old new : List ℕ} {mid rest : List Bool}
     → IsRowSoFar width b total colour (pels_by width old) mid → total < width → total + n ≤ width → IsRun colour mid n rest
     → ((i : ℕ) → total ≤ i → turned Black old i ≡ colour) → IsTurnedFrom old new (total + n)
     → IsRowSoFar width b (total + n) (other colour) (pels_by width new) rest
-run_turned width b total n colour old new mid rest so_far unfinished within run after turn =
+run_turned {width =
+    width} {b = b} {total = total} {n = n} {colour = colour} {old = old} {new = new} {mid = mid} {rest = rest} so_far unfinished within run after turn =
     row_goes_on width b total n colour (pels_by width old) (pels_by width new) mid rest so_far unfinished run
     (λ k h. pel-pels_by width new k (omega arith) ∙ turn.left k (omega arith) ∙ sym (pel-pels_by width old k (omega arith)))
     (λ k h l. pel-pels_by width new k (omega arith) ∙ turn.left k (omega arith) ∙ after k h)
-
--- the places of the runs that are read, after which the row has a colour
-pub record HasRead (width : ℕ) (b : List Bool) (total : ℕ) (colour : Colour) (places : List ℕ) (end : ℕ) (rest : List Bool) : Type 0 where
-  pub so_far : IsRowSoFar width b total colour (pels_by width (take end places)) rest
-  pub after : (i : ℕ) → total ≤ i → turned Black (take end places) i ≡ colour
-  pub ascending : IsAscending places end
-  pub last : get_or places (end - 1) 0 ≤ total
-  pub within : total ≤ width
-
-pub read_on : (width : ℕ) (b : List Bool) (total place : ℕ) (colour : Colour) (old new : List ℕ) (end next : ℕ) (mid rest : List Bool)
-    → HasRead width b total colour old end mid → total < width → IsRun colour mid (place - total) rest → total ≤ place → place ≤ width
-    → IsTurnedFrom (take end old) (take next new) place → IsAscending new next → get_or new (next - 1) 0 ≤ place
-    → HasRead width b place (other colour) new next rest
-read_on width b total place colour old new end next mid rest read unfinished run right within turn up last =
-    let sum : total + (place - total) ≡ place = omega arith in
-    let turn_there : IsTurnedFrom (take end old) (take next new) (total + (place - total)) =
-    subst (λ n. IsTurnedFrom (take end old) (take next new) n) (sym sum) turn in
-    record {
-      so_far = subst (λ n. IsRowSoFar width b n (other colour) (pels_by width (take next new)) rest) sum
-          (run_turned width b total (place - total) colour (take end old) (take next new) mid rest read.so_far unfinished
-          (omega (arith, sum)) run read.after turn_there);
-      after = λ i h. turn.right i h ∙ ap other (read.after i (omega arith));
-      ascending = up;
-      last = last;
-      within = within;
-    }
 
 -- the width that is put three times after the places
 abbrev pub closed : List ℕ → ℕ → ℕ → List ℕ
@@ -191,9 +187,9 @@ pels_closed places end width =
     ∙ take-set-le end (set places end width) (end + 1) width (omega arith) ∙ take-set-le end places end width (omega arith))
 
 -- a row that is shown otherwise
-pub one_dimensional_as : (width wide : ℕ) (b : List Bool) (row shown : List Colour) (rest : List Bool)
+pub one_dimensional_as : {width wide : ℕ} {b : List Bool} {row shown : List Colour} {rest : List Bool}
     → IsOneDimensionalRow width b row rest → width ≡ wide → shown ≡ row → IsOneDimensionalRow wide b shown rest
-one_dimensional_as width wide b row shown rest is same shows =
+one_dimensional_as {width = width} {b = b} {shown = shown} {rest = rest} is same shows =
     subst (λ n. IsOneDimensionalRow n b shown rest) same (subst (λ r. IsOneDimensionalRow width b r rest) (sym shows) is)
 
 -- elements that are all written over

@@ -54,7 +54,7 @@ pub record IsNext (row : List Colour) (from : Option ℕ) (r : ℕ) : Type 0 whe
   pub within : r ≤ length row
   pub right : r < length row → is_right_of from r ≡ true
 
-module _ (places : List ℕ) (end width : ℕ) (all : ArePlaces places end width) where
+module _ {places : List ℕ} {end width : ℕ} (all : ArePlaces places end width) where
   -- after the changes stands the width
   pub at_end : get_or places end 0 ≡ width
   at_end = subst (λ m. get_or places m 0 ≡ width) same (all.after 0 (omega arith))
@@ -68,7 +68,7 @@ module _ (places : List ℕ) (end width : ℕ) (all : ArePlaces places end width
       elim (eq-or-lt_of_le all.ascending.started) [
         | inl one ↦ omega arith
         | inr more ↦
-            omega (arith, at_least places end all.ascending (end - 1) (omega arith), all.below (end - 1) (omega arith) (omega arith))
+            omega (arith, at_least all.ascending (end - 1) (omega arith), all.below (end - 1) (omega arith) (omega arith))
       ]
 
   pub place_or_width : (k : ℕ) → 0 < k → k ≤ end → ((k < end) × (get_or places k 0 < width)) ⊎ ((k ≡ end) × (get_or places k 0 ≡ width))
@@ -93,7 +93,7 @@ module _ (places : List ℕ) (end width : ℕ) (all : ArePlaces places end width
   none_between : (from : Option ℕ) (k : ℕ) → IsFrom places end from k → (i : ℕ) → i < get_or places k 0 → i < width
       → is_right_of from i ≡ true → is_changing (pels_by width (take end places)) i ≡ false
   none_between None k at i before inside right =
-      unchanging places end all.ascending width i k
+      unchanging all.ascending width i k
       (record {
         some = omega arith;
         within = omega (arith, all.ascending.started);
@@ -102,7 +102,7 @@ module _ (places : List ℕ) (end width : ℕ) (all : ArePlaces places end width
       })
       (inl at) inside
   none_between (Some a) k at i before inside right =
-      unchanging places end all.ascending width i k
+      unchanging all.ascending width i k
       (record {
         some = at.some;
         within = at.within;
@@ -121,7 +121,7 @@ module _ (places : List ℕ) (end width : ℕ) (all : ArePlaces places end width
         (λ i h. still_left (is_right_of from i) (is_changing (pels_by width (take end places)) i)
         (none_between from k at i h (omega (arith, within))))
         (λ h. both (is_right_of from (get_or places k 0)) (is_changing (pels_by width (take end places)) (get_or places k 0)) (right h)
-        (changing_at places end all.ascending width (get_or places k 0) k bounds.0 (less h) refl (omega (arith, len))));
+        (changing_at all.ascending width (get_or places k 0) k bounds.0 (less h) refl (omega (arith, len))));
     within = omega (arith, len, within);
     right = right;
   }
@@ -155,7 +155,7 @@ module _ (places : List ℕ) (end width : ℕ) (all : ArePlaces places end width
   goes_on : (a n k : ℕ) → AreChangesFrom (a + 1) n k → a < width → (k < end → a < get_or places k 0) → AreChangesFrom a (suc n) k
   goes_on a n k more inside before some within next last =
       let at : ArePlacesUpTo places end a k = record { some = some; within = within; left = left last; right = before } in
-      rw (unchanging places end all.ascending width a k at last inside)
+      rw (unchanging all.ascending width a k at last inside)
       (more some within (λ h. omega (arith, before h)) (later last))
     where
       left : (k ≡ 1) ⊎ (get_or places (k - 1) 0 < a) → get_or places (k - 1) 0 ≤ a
@@ -170,13 +170,13 @@ module _ (places : List ℕ) (end width : ℕ) (all : ArePlaces places end width
   stops : (a n k : ℕ) → AreChangesFrom (a + 1) n (suc k) → a < width → k < end → get_or places k 0 ≡ a → AreChangesFrom a (suc n) k
   stops a n k more inside short is some within next last =
       let in_front : k < length (take end places) = omega (arith, length-take-le end places all.ascending.within) in
-      rw (changing_at places end all.ascending width a k some short is inside)
+      rw (changing_at all.ascending width a k some short is inside)
       (ap (λ xs. a ∷ xs) (more (omega arith) (omega arith) after (inr left_of_a))
       ∙ ap (λ x. x ∷ drop (suc k) (take end places)) (sym (get_or-take end places k 0 short ∙ is))
       ∙ sym (drop-cons (take end places) k 0 in_front))
     where
       after : suc k < end → a + 1 ≤ get_or places (suc k) 0
-      after h = let l = below_later places end all.ascending k (suc k) some (omega arith) h in omega arith
+      after h = let l = below_later all.ascending k (suc k) some (omega arith) h in omega arith
 
       same : k ≡ suc k - 1
       same = omega arith
@@ -205,9 +205,9 @@ module _ (places : List ℕ) (end width : ℕ) (all : ArePlaces places end width
       ]
 
   -- the changing elements are the places after the first
-  pub changes_are : (row : List Colour) → pels_by width (take end places) ≡ row
+  pub changes_are : {row : List Colour} → pels_by width (take end places) ≡ row
       → take (end - 1) (drop 1 places) ≡ filter (is_changing row) (range_with_len 0 (length row))
-  changes_are row is =
+  changes_are is =
       subst (λ r. take (end - 1) (drop 1 places) ≡ filter (is_changing r) (range_with_len 0 (length r))) is
       (take-drop_first places end ∙ sym (filter_from 0 width 1 (omega arith) (omega arith) (omega (arith, all.ascending.started))
       (λ h. omega arith) (inl refl))
@@ -215,14 +215,14 @@ module _ (places : List ℕ) (end width : ℕ) (all : ArePlaces places end width
       (sym (length-pels_by width (take end places))))
 
   -- the width is that of the row
-  pub width_is : (row : List Colour) → pels_by width (take end places) ≡ row → width ≡ length row
-  width_is row is = subst (λ r. width ≡ length r) is (sym (length-pels_by width (take end places)))
+  pub width_is : {row : List Colour} → pels_by width (take end places) ≡ row → width ≡ length row
+  width_is is = subst (λ r. width ≡ length r) is (sym (length-pels_by width (take end places)))
 
   -- the colour of the pel at a place, by how many places it lies after
-  pub pel_here : (row : List Colour) → pels_by width (take end places) ≡ row → (i k : ℕ) → i < length row → ArePlacesUpTo places end i k
+  pub pel_here : {row : List Colour} → pels_by width (take end places) ≡ row → (i k : ℕ) → i < length row → ArePlacesUpTo places end i k
       → pel row i ≡ alternate Black k
-  pel_here row is i k inside at =
-      subst (λ r. pel r i ≡ alternate Black k) is (pel_after places end all.ascending width i k (omega (arith, width_is row is)) at)
+  pel_here is i k inside at =
+      subst (λ r. pel r i ≡ alternate Black k) is (pel_after all.ascending width i k (omega (arith, width_is is)) at)
 
 -- the same places elsewhere
 module _ (places other : List ℕ) (end width : ℕ) (all : ArePlaces other end width) (room : length places ≡ width + 4)
@@ -234,7 +234,7 @@ module _ (places other : List ℕ) (end width : ℕ) (all : ArePlaces other end 
     room = room;
     ascending = record {
       started = all.ascending.started;
-      within = omega (arith, room, end_within other end width all);
+      within = omega (arith, room, end_within all);
       first = same 0 (omega arith) ∙ all.ascending.first;
       steps = λ i h l. omega (arith, same i (omega arith), same (i + 1) (omega arith), all.ascending.steps i h l);
     };
@@ -245,10 +245,10 @@ module _ (places other : List ℕ) (end width : ℕ) (all : ArePlaces other end 
   pub same_pels : pels_by width (take end places) ≡ pels_by width (take end other)
   same_pels =
       ap (pels_by width)
-      (ext_get_or 0 (take end places) (take end other) (long places (omega (arith, room, end_within other end width all))
+      (ext_get_or 0 (take end places) (take end other) (long places (omega (arith, room, end_within all))
       ∙ sym (long other all.ascending.within))
       (λ k h.
-      let inside : k < end = omega (arith, long places (omega (arith, room, end_within other end width all))) in
+      let inside : k < end = omega (arith, long places (omega (arith, room, end_within all))) in
       get_or-take end places k 0 inside ∙ same k (omega arith) ∙ sym (get_or-take end other k 0 inside)))
     where
       long : (xs : List ℕ) → end ≤ length xs → length (take end xs) ≡ end

@@ -15,7 +15,8 @@ use Rattle.fax_rows.specs.Faults.{IsStepFault, IsTwoDimensionalFault}
 use Rattle.fax_rows.specs.code.Reached.{reached_pel, position_of}
 use Rattle.fax_rows.specs.declared.rows.PlacedRow.{PlacedRow}
 use Rattle.fax_rows.specs.code.PlacedRow.{placed_pels, IsB1At}
-use Rattle.fax_rows.specs.code.Turns.{turned, pels_by, IsAscending, IsTurnedFrom}
+use Rattle.fax_rows.specs.code.Put.{ArePut, HasRoom}
+use Rattle.fax_rows.specs.code.Turns.{turned, pels_by, IsTurnedFrom, TurnsAt}
 use Rattle.fax_rows.specs.code.PlacedReached.{placed_position, IsReadTo}
 use Rattle.fax_rows.specs.code.Chosen.{after_pair}
 use Rattle.fax_bits.specs.Codes.{IsRun}
@@ -24,7 +25,7 @@ use Rattle.std.proofs.Math.Seq.{take-length}
 use Rattle.fax_rows.proofs.PaintLemmas.{painted_front}
 use Rattle.fax_rows.proofs.TurnLemmas.{other-other, length-pels_by, pel-pels_by}
 use Rattle.fax_rows.proofs.PlacedRowLemmas.{end_within, take-first, turned-first}
-use Rattle.fax_rows.proofs.PlacedReadLemmas.{places_within}
+use Rattle.fax_rows.proofs.PlacedReadLemmas.{more_room, none_put}
 use Rattle.fax_rows.proofs.PlacedB1Lemmas.{b1_is, b1_within, b1_at_most, b1_ahead, b2_ahead, b2_at_most, b2_is, b1_passed}
 use Rattle.fax_rows.proofs.PlacedB1Lemmas.{length-placed_pels}
 
@@ -83,12 +84,12 @@ pub right_after_first : (a0 : Option ℕ) (a1 : ℕ) → is_right_of a0 a1 ≡ t
 right_after_first None a1 h = omega arith
 right_after_first (Some a) a1 h = omega (arith, ltb-true a a1 h)
 
-module _ (reference : PlacedRow) (places : List ℕ) (at : PlacedReached) (so_far : IsReadTo reference places at)
+module _ {reference : PlacedRow} {places : List ℕ} {at : PlacedReached} (so_far : IsReadTo reference places at)
     (unfinished : reached_pel at.reached < reference.width) where
   pub b2_order : reached_pel at.reached ≤ get_or reference.places.now (at.b1 + 1) 0
   b2_order =
       let b1 = so_far.b1 unfinished in
-      let first = b1_ahead reference at.reached.a0 at.reached.colour at.b1 b1 unfinished in
+      let first = b1_ahead reference at.reached.a0 b1 unfinished in
       let second = b2_ahead reference at.b1 b1.some b1.within in
       omega arith
 
@@ -102,8 +103,7 @@ module _ (reference : PlacedRow) (places : List ℕ) (at : PlacedReached) (so_fa
       coloured reference.width (take at.end places) (take at.end places) at.reached
       (get_or reference.places.now (at.b1 + 1) 0) b2_order b2_within
       (λ i h. refl) so_far.after
-      ∙ ap (coloured_up_to (placed_position reference.width places at)) (b2_is reference at.reached.a0 at.reached.colour at.b1
-      (so_far.b1 unfinished))
+      ∙ ap (coloured_up_to (placed_position reference.width places at)) (b2_is reference (so_far.b1 unfinished))
 
   pub pass_so_far : IsReadTo reference places
       (record {
@@ -122,29 +122,27 @@ module _ (reference : PlacedRow) (places : List ℕ) (at : PlacedReached) (so_fa
     ascending = so_far.ascending;
     last = let order = b2_order in omega (arith, so_far.last);
     after = λ i h. so_far.after i (let order = b2_order in omega arith);
-    b1 = λ h. b1_passed reference at.reached.a0 at.reached.colour at.b1 (so_far.b1 unfinished) h;
+    b1 = λ h. b1_passed reference (so_far.b1 unfinished) h;
   }
 
   pub b1_in_room : at.b1 + 1 < length reference.places.now
   b1_in_room =
       let b1 = so_far.b1 unfinished in
-      let within = end_within reference.places.now reference.end reference.width reference.placed in
+      let within = end_within reference.placed in
       omega (arith, b1.within, reference.placed.room, within)
 
   -- a place is put where the colour turns
-  pub turned_so_far : (new : List ℕ) (next_end a1 next_b1 : ℕ) → reached_pel at.reached ≤ a1 → a1 ≤ reference.width
-      → length new ≡ length places
-      → IsAscending new next_end → get_or new (next_end - 1) 0 ≤ a1 → IsTurnedFrom (take at.end places) (take next_end new) a1
-      → (a1 < reference.width → IsB1At reference (Some a1) (other at.reached.colour) next_b1) → (colour : Colour)
-      → colour ≡ other at.reached.colour
+  pub turned_so_far : {new : List ℕ} {next_end a1 next_b1 : ℕ} {colour : Colour} → reached_pel at.reached ≤ a1 → a1 ≤ reference.width
+      → TurnsAt places new at.end next_end a1
+      → (a1 < reference.width → IsB1At reference (Some a1) (other at.reached.colour) next_b1) → colour ≡ other at.reached.colour
       → IsReadTo reference new (record { reached = record { a0 = Some a1; colour = colour }; end = next_end; b1 = next_b1 })
-  turned_so_far new next_end a1 next_b1 order within len up last turn b1 colour is = record {
-    room = len ∙ so_far.room;
+  turned_so_far {new} {next_end} {a1} {next_b1} order within turns b1 is = record {
+    room = turns.same_len ∙ so_far.room;
     within = within;
     started = λ h. cc;
-    ascending = up;
-    last = last;
-    after = λ i h. turn.right i h ∙ ap other (so_far.after i (omega arith)) ∙ sym is;
+    ascending = turns.ascending;
+    last = turns.last;
+    after = λ i h. turns.turned.right i h ∙ ap other (so_far.after i (omega arith)) ∙ sym is;
     b1 = λ h. subst (λ c. IsB1At reference (Some a1) c next_b1) (sym is) (b1 h);
   }
 
@@ -156,10 +154,13 @@ module _ (reference : PlacedRow) (places : List ℕ) (at : PlacedReached) (so_fa
   turned_position new next_end a1 order within turn =
       coloured reference.width (take at.end places) (take next_end new) at.reached a1 order within turn.left so_far.after
 
+  -- what is read is put
+  pub read_put : ArePut reference.width places at.end (reached_pel at.reached)
+  read_put = record { room = so_far.room; ascending = so_far.ascending; last = so_far.last; within = so_far.within }
+
   -- there is room for a place
   pub room_left : at.end + 1 < length places
-  room_left =
-      omega (arith, so_far.room, places_within places at.end (reached_pel at.reached) so_far.ascending so_far.last)
+  room_left = more_room read_put
 
   -- a step in vertical mode to a1, which is z as a signed number
   module _ (d z : ℤ) (z_is : z ≡ pos (get_or reference.places.now at.b1 0) +ℤ d) (least : negsuc 0 ≤ℤ a0_number (position_of at.reached []))
@@ -177,7 +178,7 @@ module _ (reference : PlacedRow) (places : List ℕ) (at : PlacedReached) (so_fa
     a1_within = omega (arith, ints, a1_is)
 
     pub vertical_placed : (new : List ℕ) (next_end next_b1 : ℕ) (colour : Colour)
-        → IsTurnedFrom (take at.end places) (take next_end new) (nat_abs z) → colour ≡ other at.reached.colour
+        → TurnsAt places new at.end next_end (nat_abs z) → colour ≡ other at.reached.colour
         → IsVerticalStep (placed_pels reference) (placed_position reference.width places at) d
         (placed_position reference.width new (record {
           reached = record {
@@ -188,27 +189,27 @@ module _ (reference : PlacedRow) (places : List ℕ) (at : PlacedReached) (so_fa
           end = next_end;
           b1 = next_b1;
         }))
-    vertical_placed new next_end next_b1 colour turn is =
-        let same = b1_is reference at.reached.a0 at.reached.colour at.b1 (so_far.b1 unfinished) in
+    vertical_placed new next_end next_b1 colour turns is =
+        let same = b1_is reference (so_far.b1 unfinished) in
         let len = length-placed_pels reference in
         vertical_step (placed_pels reference) (pels_by reference.width (take at.end places)) (pels_by reference.width (take next_end new))
         at.reached
         (record { a0 = Some (nat_abs z); colour = at.reached.colour }) d (nat_abs z) colour
         (record { right_of_a0 = omega (arith, ints, same); within = omega (arith, ints, same, len) })
         (a1_is ∙ z_is ∙ ap (λ n. pos n +ℤ d) same)
-        (turned_position new next_end (nat_abs z) a1_ahead a1_within turn) is
+        (turned_position new next_end (nat_abs z) a1_ahead a1_within turns.turned) is
 
   -- where a1 is in the row, it is right of a0 and not after the width
   pub row_begins : (d : ℤ) → IsInRow (placed_pels reference) (placed_position reference.width places at) d
       → a0_number (position_of at.reached []) <ℤ (pos (get_or reference.places.now at.b1 0) +ℤ d)
   row_begins d in_row =
-      let same = b1_is reference at.reached.a0 at.reached.colour at.b1 (so_far.b1 unfinished) in
+      let same = b1_is reference (so_far.b1 unfinished) in
       omega (arith, ints, same, in_row.right_of_a0)
 
   pub row_ends : (d : ℤ) → IsInRow (placed_pels reference) (placed_position reference.width places at) d
       → (pos (get_or reference.places.now at.b1 0) +ℤ d) ≤ℤ pos reference.width
   row_ends d in_row =
-      let same = b1_is reference at.reached.a0 at.reached.colour at.b1 (so_far.b1 unfinished) in
+      let same = b1_is reference (so_far.b1 unfinished) in
       omega (arith, ints, same, length-placed_pels reference, in_row.within)
 
   -- b1 is right of a0, and in the row
@@ -225,16 +226,16 @@ module _ (reference : PlacedRow) (places : List ℕ) (at : PlacedReached) (so_fa
           ]
 
   pub under_ahead : reached_pel at.reached ≤ get_or reference.places.now at.b1 0
-  under_ahead = b1_ahead reference at.reached.a0 at.reached.colour at.b1 (so_far.b1 unfinished) unfinished
+  under_ahead = b1_ahead reference at.reached.a0 (so_far.b1 unfinished) unfinished
 
   pub under_within : get_or reference.places.now at.b1 0 ≤ reference.width
   under_within = let b1 = so_far.b1 unfinished in b1_at_most reference at.b1 b1.some b1.within
 
   -- two places are put where two runs end
-  pub pair_placed : (first second : ℕ) (between new : List ℕ) (middle_end next_end next_b1 : ℕ)
+  pub pair_placed : (first second : ℕ) {between new : List ℕ} {middle_end next_end : ℕ} (next_b1 : ℕ)
       → reached_pel at.reached + first + second ≤ reference.width
-      → IsTurnedFrom (take at.end places) (take middle_end between) (reached_pel at.reached + first)
-      → IsTurnedFrom (take middle_end between) (take next_end new) (reached_pel at.reached + first + second)
+      → TurnsAt places between at.end middle_end (reached_pel at.reached + first)
+      → TurnsAt between new middle_end next_end (reached_pel at.reached + first + second)
       → placed_position reference.width new (record {
         reached =
             record { a0 = Some (reached_pel at.reached + first + second); colour = at.reached.colour };
@@ -242,7 +243,7 @@ module _ (reference : PlacedRow) (places : List ℕ) (at : PlacedReached) (so_fa
         b1 = next_b1;
       })
       ≡ after_pair (placed_position reference.width places at) first second
-  pair_placed first second between new middle_end next_end next_b1 within turn again = ap position pels
+  pair_placed first second {between} {new} {middle_end} {next_end} next_b1 within turns again = ap position pels
     where
       position : List Colour → Position
       position pels = record { a0 = Some (reached_pel at.reached + first + second); colour = at.reached.colour; pels = pels }
@@ -260,21 +261,20 @@ module _ (reference : PlacedRow) (places : List ℕ) (at : PlacedReached) (so_fa
       pels =
           front_to reference.width (reached_pel at.reached + first) (reached_pel at.reached + first + second) (take middle_end between)
           (take next_end new)
-          (other at.reached.colour) (omega arith) within again.left
-          (λ i h. turn.right i h ∙ ap other (so_far.after i (omega arith)))
+          (other at.reached.colour) (omega arith) within again.turned.left
+          (λ i h. turns.turned.right i h ∙ ap other (so_far.after i (omega arith)))
           ∙ ap (λ n. take (reached_pel at.reached + first) (pels_by reference.width (take middle_end between)) ++ replicate n
           (other at.reached.colour)) two
           ∙ ap (λ xs. xs ++ replicate second (other at.reached.colour))
           (front_to reference.width (reached_pel at.reached) (reached_pel at.reached + first) (take at.end places) (take middle_end between)
-          at.reached.colour (omega arith) (omega arith) turn.left so_far.after
+          at.reached.colour (omega arith) (omega arith) turns.turned.left so_far.after
           ∙ ap (λ n. take (reached_pel at.reached) (pels_by reference.width (take at.end places)) ++ replicate n at.reached.colour) one)
 
-  pub horizontal_placed : (b mid rest : List Bool) (first second : ℕ) (turned_colour : Colour) (between new : List ℕ)
-      (middle_end next_end next_b1 : ℕ)
-      → IsRun at.reached.colour b first mid → IsRun turned_colour mid second rest → turned_colour ≡ other at.reached.colour
+  pub horizontal_placed : {b mid rest : List Bool} (first second : ℕ) {between new : List ℕ} {middle_end next_end : ℕ} (next_b1 : ℕ)
+      → IsRun at.reached.colour b first mid → IsRun (other at.reached.colour) mid second rest
       → reached_pel at.reached + first + second ≤ reference.width
-      → IsTurnedFrom (take at.end places) (take middle_end between) (reached_pel at.reached + first)
-      → IsTurnedFrom (take middle_end between) (take next_end new) (reached_pel at.reached + first + second)
+      → TurnsAt places between at.end middle_end (reached_pel at.reached + first)
+      → TurnsAt between new middle_end next_end (reached_pel at.reached + first + second)
       → IsHorizontalStep (placed_pels reference) (placed_position reference.width places at) b
       (placed_position reference.width new (record {
         reached =
@@ -282,22 +282,21 @@ module _ (reference : PlacedRow) (places : List ℕ) (at : PlacedReached) (so_fa
         end = next_end;
         b1 = next_b1;
       })) rest
-  horizontal_placed b mid rest first second turned_colour between new middle_end next_end next_b1 run another is within turn again =
+  horizontal_placed {b} {mid} {rest} first second next_b1 run another within turns again =
       record {
         first = first;
         second = second;
         middle = mid;
         first_run = run;
-        second_run = subst (λ c. IsRun c mid second rest) is another;
+        second_run = another;
         within = omega (arith, length-placed_pels reference);
-        new_is = pair_placed first second between new middle_end next_end next_b1 within turn again;
+        new_is = pair_placed first second next_b1 within turns again;
       }
 
-  pub horizontal_so_far : (first second : ℕ) (between new : List ℕ) (middle_end next_end next_b1 : ℕ)
-      → reached_pel at.reached + first + second ≤ reference.width → length new ≡ length places → IsAscending new next_end
-      → get_or new (next_end - 1) 0 ≤ reached_pel at.reached + first + second
-      → IsTurnedFrom (take at.end places) (take middle_end between) (reached_pel at.reached + first)
-      → IsTurnedFrom (take middle_end between) (take next_end new) (reached_pel at.reached + first + second)
+  pub horizontal_so_far : (first second : ℕ) {between new : List ℕ} {middle_end next_end next_b1 : ℕ}
+      → reached_pel at.reached + first + second ≤ reference.width
+      → TurnsAt places between at.end middle_end (reached_pel at.reached + first)
+      → TurnsAt between new middle_end next_end (reached_pel at.reached + first + second)
       → (reached_pel at.reached + first + second < reference.width
       → IsB1At reference (Some (reached_pel at.reached + first + second)) at.reached.colour next_b1)
       → IsReadTo reference new
@@ -307,27 +306,28 @@ module _ (reference : PlacedRow) (places : List ℕ) (at : PlacedReached) (so_fa
         b1 =
             next_b1;
       })
-  horizontal_so_far first second between new middle_end next_end next_b1 within len up last turn again b1 = record {
-    room = len ∙ so_far.room;
+  horizontal_so_far first second within turns again b1 = record {
+    room = again.same_len ∙ turns.same_len ∙ so_far.room;
     within = within;
     started = λ h. cc;
-    ascending = up;
-    last = last;
+    ascending = again.ascending;
+    last = again.last;
     after = λ i h.
-        again.right i h ∙ ap other (turn.right i (omega arith) ∙ ap other (so_far.after i (omega arith))) ∙ other-other at.reached.colour;
+        again.turned.right i h ∙ ap other (turns.turned.right i (omega arith) ∙ ap other (so_far.after i (omega arith)))
+        ∙ other-other at.reached.colour;
     b1 = b1;
   }
 
 -- before the first pel
-pub nothing_read : (reference : PlacedRow) (places : List ℕ) → length places ≡ reference.width + 4 → get_or places 0 0 ≡ 0
+pub nothing_read : {reference : PlacedRow} {places : List ℕ} → HasRoom reference.width places
     → IsReadTo reference places (record { reached = record { a0 = None; colour = White }; end = 1; b1 = 1 })
-nothing_read reference places room first = record {
-  room = room;
+nothing_read {reference} {places} room = record {
+  room = room.len;
   within = omega arith;
   started = λ h. refl;
-  ascending = record { started = omega arith; within = omega arith; first = first; steps = λ i h l. absurd (omega arith) };
-  last = omega (arith, first);
-  after = λ i h. ap (λ ps. turned Black ps i) (take-first places (omega arith) first) ∙ turned-first i;
+  ascending = (none_put 0 room (omega arith)).ascending;
+  last = omega (arith, room.first);
+  after = λ i h. ap (λ ps. turned Black ps i) (take-first places (omega (arith, room.len)) room.first) ∙ turned-first i;
   b1 = λ h. record {
     some = omega arith;
     within = omega (arith, reference.placed.ascending.started);
@@ -355,10 +355,10 @@ steps_done reference b at row rest width so_far some done len same = record {
     by (Some a) h = ap Some (h ∙ sym same)
 
 -- a row that is shown otherwise
-pub two_dimensional_as : (reference shown_reference : List Colour) (b : List Bool) (row shown : List Colour) (rest : List Bool)
+pub two_dimensional_as : {reference shown_reference : List Colour} {b : List Bool} {row shown : List Colour} {rest : List Bool}
     → IsTwoDimensionalRow reference b row rest → reference ≡ shown_reference → shown ≡ row
     → IsTwoDimensionalRow shown_reference b shown rest
-two_dimensional_as reference shown_reference b row shown rest is same shows =
+two_dimensional_as {reference = reference} {b = b} {shown = shown} {rest = rest} is same shows =
     subst (λ r. IsTwoDimensionalRow r b shown rest) same (subst (λ r. IsTwoDimensionalRow reference b r rest) (sym shows) is)
 
 -- a step that is no part of the row

@@ -84,8 +84,8 @@ put_pending old mid new all pending left so_far none more =
     cc
 
 -- and where a growth was refused for them
-pub pending_stops : (old mid new : Sink) (all left : List Bool) → AppendsAllBut old all left mid → new ≡ mid → AppendsPrefix old all new
-pending_stops old mid new all left so_far same =
+pub pending_stops : {old mid new : Sink} {all left : List Bool} → AppendsAllBut old all left mid → new ≡ mid → AppendsPrefix old all new
+pending_stops {left = left} so_far same =
     record { done = so_far.done; missing = left; appended = same ∙ so_far.appended; parts = so_far.parts }
 
 -- a fact holds also where it is asked for after an error alone

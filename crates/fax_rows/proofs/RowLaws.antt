@@ -55,7 +55,7 @@ module _ (reads : (colour : Colour) → ReadsOneWay (run_table colour)) where
   same_runs colour width from place b c (n ∷ runs) [] rest remaining at here first second =
       absurd (omega (arith, first.0, second.0))
   same_runs colour width from place b c (n ∷ runs) (m ∷ more) rest remaining at here first second =
-      let run = same_run reads colour b c n m first.1 second.1 at first.2 second.2 in
+      let run = same_run reads at first.2 second.2 in
       let after = same_runs (other colour) width (from + n) (place + m) first.1 second.1 runs more rest remaining run.1
       (omega (arith, run.0)) first.3 second.3 in
       (cc (run.0, after.0), after.1)
@@ -67,9 +67,9 @@ module _ (reads : (colour : Colour) → ReadsOneWay (run_table colour)) where
       omega (arith, first.0, stop_within width colour place c more fault second)
   ended_or_not colour width from place b c (n ∷ runs) [] rest fault at here first second =
       let within = runs_within width (other colour) (from + n) first.1 runs rest first.3 in
-      run_has_no_fault reads colour width place b c n first.1 fault at first.2 (omega (arith, within)) second.1
+      run_has_no_fault reads at first.2 (omega (arith, within)) second.1
   ended_or_not colour width from place b c (n ∷ runs) (m ∷ more) rest fault at here first second =
-      let run = same_run reads colour b c n m first.1 second.1 at first.2 second.2 in
+      let run = same_run reads at first.2 second.2 in
       ended_or_not (other colour) width (from + n) (place + m) first.1 second.1 runs more rest fault run.1
       (omega (arith, run.0)) first.3 second.3
 
@@ -77,18 +77,17 @@ module _ (reads : (colour : Colour) → ReadsOneWay (run_table colour)) where
       → b ≡ c → from ≡ place
       → StopsAtRun width colour from b runs fault → StopsAtRun width colour place c more another → fault ≡ another
   same_fault colour width from place b c [] [] fault another at here first second =
-      same_run_fault reads colour width place b c fault another at
+      same_run_fault reads at
       (subst (λ k. IsRunFault colour width k b fault) here first.1) second.1
   same_fault colour width from place b c [] (m ∷ more) fault another at here first second =
       let within = stop_within width (other colour) (place + m) second.1 more another second.3 in
-      absurd (run_has_no_fault reads colour width from c b m second.1 fault (sym at) second.2
-      (omega (arith, within)) first.1)
+      absurd (run_has_no_fault reads (sym at) second.2 (omega (arith, within)) first.1)
   same_fault colour width from place b c (n ∷ runs) [] fault another at here first second =
       let within = stop_within width (other colour) (from + n) first.1 runs fault first.3 in
-      absurd (run_has_no_fault reads colour width place b c n first.1 another at first.2
+      absurd (run_has_no_fault reads at first.2
       (omega (arith, within)) second.1)
   same_fault colour width from place b c (n ∷ runs) (m ∷ more) fault another at here first second =
-      let run = same_run reads colour b c n m first.1 second.1 at first.2 second.2 in
+      let run = same_run reads at first.2 second.2 in
       same_fault (other colour) width (from + n) (place + m) first.1 second.1 runs more fault another run.1
       (omega (arith, run.0)) first.3 second.3
 
@@ -110,8 +109,7 @@ module _ (reads : (colour : Colour) → ReadsOneWay (run_table colour)) where
           → AreRunsOrFault (other colour) width (from + n) rest → AreRunsOrFault colour width from b
       runs_after colour width from b n rest run unfinished (inl ended) =
           inl (n ∷ ended.0, ended.1, (unfinished, rest, run, ended.2))
-      runs_after colour width from b n rest run unfinished (inr fault) =
-          inr (fault.0, n ∷ fault.1, (unfinished, rest, run, fault.2))
+      runs_after colour width from b n rest run unfinished (inr fault) = inr (fault.0, n ∷ fault.1, (unfinished, rest, run, fault.2))
 
   pub row_reads_one_way : (width : ℕ) → ReadsRowsOneWay width
   row_reads_one_way width = record {

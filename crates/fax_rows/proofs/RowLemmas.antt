@@ -25,7 +25,8 @@ pub colour_after_runs-push : (c : Colour) (runs : List ℕ) (n : ℕ) → colour
 colour_after_runs-push c [] n = refl
 colour_after_runs-push c (m ∷ runs) n = colour_after_runs-push (other c) runs n
 
-pub pels_of-push : (c : Colour) (runs : List ℕ) (n : ℕ) → pels_of c (runs ++ n ∷ []) ≡ pels_of c runs ++ replicate n (colour_after_runs c runs)
+pub pels_of-push : (c : Colour) (runs : List ℕ) (n : ℕ)
+    → pels_of c (runs ++ n ∷ []) ≡ pels_of c runs ++ replicate n (colour_after_runs c runs)
 pels_of-push c [] n = append-nil (replicate n c)
 pels_of-push c (m ∷ runs) n =
     ap (λ ys. replicate m c ++ ys) (pels_of-push (other c) runs n)
@@ -104,9 +105,9 @@ row_goes_on width b total n colour old new mid rest so_far unfinished run before
         ∙ sym (get_or-append_right (pels_of White so_far.runs) (replicate n (colour_after_runs White so_far.runs)) k White long)
         ∙ ap (λ xs. get_or xs k White) (sym (pels_of-push White so_far.runs n))
 
-pub row_done : (width : ℕ) (b : List Bool) (total : ℕ) (colour : Colour) (row : List Colour) (rest : List Bool)
+pub row_done : {width : ℕ} {b : List Bool} {total : ℕ} {colour : Colour} {row : List Colour} {rest : List Bool}
     → IsRowSoFar width b total colour row rest → total ≡ width → length row ≡ width → IsOneDimensionalRow width b row rest
-row_done width b total colour row rest so_far done len = record {
+row_done {width = width} {b = b} {row = row} {rest = rest} so_far done len = record {
   runs = so_far.runs;
   coded = runs_from width White 0 b so_far.runs rest so_far.coded (omega (arith, so_far.sum_is, done))
       (λ k h. omega (arith, so_far.below k h));

@@ -161,9 +161,9 @@ ahead_of_next from next ends all =
     }
 
 -- the changes of a row, and its width, are ahead of its first pel
-module _ (places : List ℕ) (end width : ℕ) (all : ArePlaces places end width) where
+module _ {places : List ℕ} {end width : ℕ} (all : ArePlaces places end width) where
   few_ends : length (take end (drop 1 places)) ≡ end
-  few_ends = length-take-le end (drop 1 places) (omega (arith, length-drop 1 places, all.room, end_within places end width all))
+  few_ends = length-take-le end (drop 1 places) (omega (arith, length-drop 1 places, all.room, end_within all))
 
   end_at : (i j : ℕ) → i + 1 ≡ j → i < end → get_or (take end (drop 1 places)) i 0 ≡ get_or places j 0
   end_at i j at within =
@@ -172,7 +172,7 @@ module _ (places : List ℕ) (end width : ℕ) (all : ArePlaces places end width
 
   pub ahead_of_row : AreAheadOf 0 (take end (drop 1 places))
   ahead_of_row = record {
-    few = omega (arith, few_ends, all.short, end_within places end width all);
+    few = omega (arith, few_ends, all.short, end_within all);
     right = λ i h. omega arith;
     left = λ i h.
         let inside : i < end = omega (arith, few_ends) in
@@ -183,7 +183,7 @@ module _ (places : List ℕ) (end width : ℕ) (all : ArePlaces places end width
           | inl less ↦ omega (arith, all.ascending.steps (i + 1) (omega arith) less)
           | inr last ↦
               let same : i + 1 + 1 ≡ end = omega arith in
-              omega (arith, not_after (i + 1) (omega arith) (omega arith), ap (λ k. get_or places k 0) same, at_end places end width all)
+              omega (arith, not_after (i + 1) (omega arith) (omega arith), ap (λ k. get_or places k 0) same, at_end all)
         ] in
         omega (arith, end_at i (i + 1) refl (omega arith), end_at (i + 1) (i + 1 + 1) refl inside, step);
   }
@@ -192,7 +192,7 @@ module _ (places : List ℕ) (end width : ℕ) (all : ArePlaces places end width
       not_after k some within =
           elim (cases_lt k end) [
             | inl less ↦ omega (arith, all.below k some less)
-            | inr last ↦ let same : k ≡ end = omega arith in omega (arith, ap (λ j. get_or places j 0) same, at_end places end width all)
+            | inr last ↦ let same : k ≡ end = omega arith in omega (arith, ap (λ j. get_or places j 0) same, at_end all)
           ]
 
   -- the width stands after the changes
@@ -201,7 +201,7 @@ module _ (places : List ℕ) (end width : ℕ) (all : ArePlaces places end width
       let next : end - 1 + 1 ≡ end = omega (arith, all.ascending.started) in
       let last : get_or (drop 1 places) (end - 1) 0 ≡ width =
       get_or-drop 1 places (end - 1) 0 ∙ ap (λ k. get_or places k 0) (let same : 1 + (end - 1) ≡ end =
-      omega (arith, all.ascending.started) in same) ∙ at_end places end width all in
+      omega (arith, all.ascending.started) in same) ∙ at_end all in
       ap (λ n. take n (drop 1 places)) (sym next)
       ∙ take_more (drop 1 places) (end - 1) 0 (omega (
         arith,
@@ -209,6 +209,5 @@ module _ (places : List ℕ) (end width : ℕ) (all : ArePlaces places end width
         length-drop 1 places,
         all.ascending.within,
         all.room,
-        end_within places
-            end width all,
+        end_within all,
       )) ∙ ap (λ n. take (end - 1) (drop 1 places) ++ n ∷ []) last

@@ -56,9 +56,9 @@ module _ (reads : (colour : Colour) → ReadsOneWay (run_table colour)) where
       (cc (same.0, more.0), more.1, more.2)
 
   -- at most one run begins the bits
-  pub same_run : (colour : Colour) (b c : List Bool) (n m : ℕ) (rest remaining : List Bool) → b ≡ c
+  pub same_run : {colour : Colour} {b c : List Bool} {n m : ℕ} {rest remaining : List Bool} → b ≡ c
       → IsRun colour b n rest → IsRun colour c m remaining → (n ≡ m) × (rest ≡ remaining)
-  same_run colour b c n m rest remaining at first second =
+  same_run {colour = colour} {b = b} {c = c} {rest = rest} {remaining = remaining} at first second =
       let same = same_codes colour b c rest remaining first.make_up second.make_up first.last second.last at first.spelled second.spelled in
       let sums : sum first.make_up ≡ sum second.make_up = ap sum same.0 in
       (omega (arith, first.length, second.length, sums, same.1), same.2)
@@ -92,9 +92,9 @@ module _ (reads : (colour : Colour) → ReadsOneWay (run_table colour)) where
       (omega (arith, sum-cons m ms)) second.2 (omega (arith, sum-cons n ns)) at_code
 
   -- a whole run within the width has no fault
-  pub run_has_no_fault : (colour : Colour) (width from : ℕ) (b c : List Bool) (n : ℕ) (rest : List Bool) (fault : RowFault) → b ≡ c
+  pub run_has_no_fault : {colour : Colour} {width from : ℕ} {b c : List Bool} {n : ℕ} {rest : List Bool} {fault : RowFault} → b ≡ c
       → IsRun colour b n rest → from + n ≤ width → IsRunFault colour width from c fault → ⊥
-  run_has_no_fault colour width from b c n rest fault at run within not_whole =
+  run_has_no_fault {colour = colour} {width = width} {from = from} {b = b} {c = c} {rest = rest} {fault = fault} at run within not_whole =
       whole_or_not colour width from (from + sum not_whole.make_up) b c rest not_whole.left fault run.make_up not_whole.make_up run.last
       at run.spelled (omega (arith, run.length)) not_whole.spelled refl not_whole.at_code
 
@@ -138,9 +138,9 @@ module _ (reads : (colour : Colour) → ReadsOneWay (run_table colour)) where
       first.2 (omega (arith, sum-cons m ms)) within here second.2 (omega (arith, sum-cons n ns)) inside there
 
   -- a run has at most one fault
-  pub same_run_fault : (colour : Colour) (width from : ℕ) (b c : List Bool) (fault another : RowFault) → b ≡ c
+  pub same_run_fault : {colour : Colour} {width from : ℕ} {b c : List Bool} {fault another : RowFault} → b ≡ c
       → IsRunFault colour width from b fault → IsRunFault colour width from c another → fault ≡ another
-  same_run_fault colour width from b c fault another at first second =
+  same_run_fault {colour = colour} {width = width} {from = from} {b = b} {c = c} {fault = fault} {another = another} at first second =
       same_fault_after colour width from (from + sum first.make_up) (from + sum second.make_up) b c first.left second.left fault another
       first.make_up second.make_up at first.spelled refl first.within first.at_code second.spelled refl second.within second.at_code
 

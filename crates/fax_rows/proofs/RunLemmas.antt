@@ -21,8 +21,7 @@ pub record IsPartialRun (colour : Colour) (b : List Bool) (n : ℕ) (rest : List
 Spells-push : {M : Type 0} (table : List (CodeEntry M)) (b : List Bool) (ms : List M) (m : M) (mid rest : List Bool)
     → Spells table b ms mid → Takes table mid m rest → Spells table b (ms ++ m ∷ []) rest
 Spells-push table b [] m mid rest spelled taken = (rest, subst (λ x. Takes table x m rest) (sym spelled) taken, refl)
-Spells-push table b (n ∷ ms) m mid rest spelled taken =
-    (spelled.0, spelled.1, Spells-push table spelled.0 ms m mid rest spelled.2 taken)
+Spells-push table b (n ∷ ms) m mid rest spelled taken = (spelled.0, spelled.1, Spells-push table spelled.0 ms m mid rest spelled.2 taken)
 
 pub sum-push : (ms : List ℕ) (m : ℕ) → sum (ms ++ m ∷ []) ≡ sum ms + m
 sum-push ms m = grind (arith, common_steps)
@@ -63,7 +62,7 @@ from_there old new front parts same_end =
     ap (λ k. drop k old.left) n ∙ ap (drop (length front)) parts ∙ drop-append_seam front new.left in
     ap (λ l. record { left = l; place = new.place }) left
 
-pub run_after : (colour : Colour) (b : List Bool) (n : ℕ) (rest : List Bool) → IsRun colour b n rest
+pub run_after : {colour : Colour} {b : List Bool} {n : ℕ} {rest : List Bool} → IsRun colour b n rest
     → (front : List Bool) × (b ≡ front ++ rest)
-run_after colour b n rest run =
-    spells_after (run_table colour) b (map MakeUp run.make_up ++ Terminating run.last ∷ []) rest run.spelled
+run_after {colour =
+    colour} {b = b} {rest = rest} run = spells_after (run_table colour) b (map MakeUp run.make_up ++ Terminating run.last ∷ []) rest run.spelled

@@ -99,11 +99,10 @@ module _ (runs_read : (colour : Colour) → ReadsOneWay (run_table colour)) (mod
       → IsRun old.colour b first middle → IsRun (other old.colour) middle second rest → first_pel old + first + second ≤ length reference
       → IsHorizontalFault reference old b fault → ⊥
   horizontal_has_no_fault reference old b rest first second middle fault run more within (inl at) =
-      run_has_no_fault runs_read old.colour (length reference) (first_pel old) b b first middle fault refl run (omega arith) at
+      run_has_no_fault runs_read refl run (omega arith) at
   horizontal_has_no_fault reference old b rest first second middle fault run more within (inr at) =
-      let same = same_run runs_read old.colour b b first at.0 middle at.1 refl run at.2 in
-      run_has_no_fault runs_read (other old.colour) (length reference) (first_pel old + at.0) middle at.1 second rest fault same.1 more
-      (omega (arith, same.0)) at.4
+      let same = same_run runs_read refl run at.2 in
+      run_has_no_fault runs_read same.1 more (omega (arith, same.0)) at.4
 
   mode_has_no_fault : (mode : ModeCode) (reference : List Colour) (old new : Position) (b rest : List Bool) (fault : RowFault)
       → IsStepBy mode reference old b new rest → IsModeFault mode reference old b fault → ⊥
@@ -124,16 +123,14 @@ module _ (runs_read : (colour : Colour) → ReadsOneWay (run_table colour)) (mod
   same_horizontal_fault : (reference : List Colour) (old : Position) (b : List Bool) (fault another : RowFault)
       → IsHorizontalFault reference old b fault → IsHorizontalFault reference old b another → fault ≡ another
   same_horizontal_fault reference old b fault another (inl first) (inl second) =
-      same_run_fault runs_read old.colour (length reference) (first_pel old) b b fault another refl first second
+      same_run_fault runs_read refl first second
   same_horizontal_fault reference old b fault another (inl first) (inr second) =
-      absurd (run_has_no_fault runs_read old.colour (length reference) (first_pel old) b b second.0 second.1 fault refl second.2 second.3
-      first)
+      absurd (run_has_no_fault runs_read refl second.2 second.3 first)
   same_horizontal_fault reference old b fault another (inr first) (inl second) =
-      absurd (run_has_no_fault runs_read old.colour (length reference) (first_pel old) b b first.0 first.1 another refl first.2 first.3
-      second)
+      absurd (run_has_no_fault runs_read refl first.2 first.3 second)
   same_horizontal_fault reference old b fault another (inr first) (inr second) =
-      let same = same_run runs_read old.colour b b first.0 second.0 first.1 second.1 refl first.2 second.2 in
-      same_run_fault runs_read (other old.colour) (length reference) (first_pel old + first.0) first.1 second.1 fault another same.1 first.4
+      let same = same_run runs_read refl first.2 second.2 in
+      same_run_fault runs_read same.1 first.4
       (subst (λ n. IsRunFault (other old.colour) (length reference) (first_pel old + n) second.1 another) (sym same.0) second.4)
 
   same_mode_fault : (mode : ModeCode) (reference : List Colour) (old : Position) (b : List Bool) (fault another : RowFault)
@@ -246,10 +243,10 @@ module _ (runs_read : (colour : Colour) → ReadsOneWay (run_table colour)) (mod
       ]
 
   -- a step before them
-  step_before : (reference : List Colour) (old : Position) (b : List Bool) (new : Position) (rest : List Bool)
+  step_before : {reference : List Colour} {old : Position} {b : List Bool} {new : Position} {rest : List Bool}
       → (old.a0 ≢ Some (length reference)) → IsStep reference old b new rest → IsEndOrFault reference new rest
       → IsEndOrFault reference old b
-  step_before reference old b new rest unfinished step (inl end) =
+  step_before {new = new} {rest = rest} unfinished step (inl end) =
       inl record {
         positions = new ∷ end.positions;
         last = end.last;
@@ -257,7 +254,7 @@ module _ (runs_read : (colour : Colour) → ReadsOneWay (run_table colour)) (mod
         steps = (unfinished, rest, step, end.steps);
         ends = end.ends;
       }
-  step_before reference old b new rest unfinished step (inr at) =
+  step_before {new = new} {rest = rest} unfinished step (inr at) =
       inr record {
         fault = at.fault;
         positions = new ∷ at.positions;
@@ -276,8 +273,7 @@ module _ (runs_read : (colour : Colour) → ReadsOneWay (run_table colour)) (mod
         | inl end ↦ inl record { positions = []; last = old; rest = b; steps = (refl, refl); ends = end }
         | inr unfinished ↦ elim (step_or_fault reference old b within) [
           | inl step ↦
-              step_before reference old b step.0 step.1 unfinished step.2
-              (find_steps fuel reference step.0 step.1 (omega (arith, step.4)) step.3)
+              step_before unfinished step.2 (find_steps fuel reference step.0 step.1 (omega (arith, step.4)) step.3)
           | inr at ↦ inr record {
             fault = at.0;
             positions = [];
@@ -305,7 +301,7 @@ module _ (runs_read : (colour : Colour) → ReadsOneWay (run_table colour)) (mod
       (subst (λ p. IsStepFault reference p left fault) (second.0 ∙ sym from) fails)
   ended_or_not reference old start b c (next ∷ positions) (onward ∷ more) last another rest left fault from at first ended second unfinished
       fails =
-      let step = same_step runs_read modes_read reference old b c next onward first.1 second.1 at first.2
+      let step = same_step runs_read modes_read at first.2
       (subst (λ p. IsStep reference p c onward second.1) (sym from) second.2) in
       ended_or_not reference next onward first.1 second.1 positions more last another rest left fault step.0 step.1 first.3 ended second.3
       unfinished fails
@@ -327,7 +323,7 @@ module _ (runs_read : (colour : Colour) → ReadsOneWay (run_table colour)) (mod
       (subst (λ p. IsStepFault reference p after another) (second.0 ∙ sym from) there))
   same_fault_after reference old start b c (next ∷ positions) (onward ∷ more) last end left after fault another from at first here second
       there =
-      let step = same_step runs_read modes_read reference old b c next onward first.1 second.1 at first.2
+      let step = same_step runs_read modes_read at first.2
       (subst (λ p. IsStep reference p c onward second.1) (sym from) second.2) in
       same_fault_after reference next onward first.1 second.1 positions more last end left after fault another step.0 step.1
       first.3 here second.3 there

@@ -7,7 +7,7 @@ use Rattle.fax_bits.specs.declared.modes.ModeCode.TheVariants.{Pass, Horizontal,
 use Rattle.fax_bits.specs.Codes.{Takes}
 use Rattle.fax_bits.specs.laws.Codes.{ReadsOneWay}
 use Rattle.fax_bits.specs.Tables.{run_table, modes}
-use Rattle.fax_rows.specs.Rows.{other, Position, beginning, IsStepBy, IsStep, AreSteps}
+use Rattle.fax_rows.specs.Rows.{Position, beginning, IsStepBy, IsStep, AreSteps}
 use Rattle.fax_rows.specs.Rows.{IsTwoDimensionalRow}
 use Rattle.fax_rows.proofs.RunLaws.{same_run}
 
@@ -26,15 +26,15 @@ module _ (runs_read : (colour : Colour) → ReadsOneWay (run_table colour)) (mod
       let a1 = same_place first.0.a1 second.0.a1 (first.0.a1_is ∙ sym second.0.a1_is) in
       (cc (a1, first.0.new_is, second.0.new_is), sym first.1 ∙ at ∙ second.1)
   same_by Horizontal reference old b c new another rest remaining at first second =
-      let run = same_run runs_read old.colour b c first.first second.first first.middle second.middle at first.first_run second.first_run in
-      let after = same_run runs_read (other old.colour) first.middle second.middle first.second second.second rest remaining run.1
-      first.second_run second.second_run in
+      let run = same_run runs_read at first.first_run second.first_run in
+      let after = same_run runs_read run.1 first.second_run second.second_run in
       (cc (run.0, after.0, first.new_is, second.new_is), after.1)
   same_by Extension reference old b c new another rest remaining at first second = absurd first
 
-  pub same_step : (reference : List Colour) (old : Position) (b c : List Bool) (new another : Position) (rest remaining : List Bool)
+  pub same_step : {reference : List Colour} {old : Position} {b c : List Bool} {new another : Position} {rest remaining : List Bool}
       → b ≡ c → IsStep reference old b new rest → IsStep reference old c another remaining → (new ≡ another) × (rest ≡ remaining)
-  same_step reference old b c new another rest remaining at first second =
+  same_step {reference =
+      reference} {old = old} {b = b} {new = new} {another = another} {rest = rest} {remaining = remaining} at first second =
       let took = modes_read.code.one_answer b first.mode second.mode first.after second.after first.taken
       (subst (λ x. Takes modes x second.mode second.after) (sym at) second.taken) in
       same_by first.mode reference old first.after second.after new another rest remaining took.1 first.step
@@ -52,7 +52,7 @@ module _ (runs_read : (colour : Colour) → ReadsOneWay (run_table colour)) (mod
   same_steps reference old start b c (next ∷ positions) [] last another rest remaining from at first ended second done =
       absurd (first.0 (ap (λ (p : Position). p.a0) (from ∙ sym second.0) ∙ done))
   same_steps reference old start b c (next ∷ positions) (onward ∷ more) last another rest remaining from at first ended second done =
-      let step = same_step reference old b c next onward first.1 second.1 at first.2
+      let step = same_step at first.2
       (subst (λ p. IsStep reference p c onward second.1) (sym from) second.2) in
       same_steps reference next onward first.1 second.1 positions more last another rest remaining step.0 step.1 first.3 ended second.3 done
 

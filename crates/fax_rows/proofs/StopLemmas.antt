@@ -8,12 +8,12 @@ use Rattle.fax_rows.specs.declared.two_dimensional.codes.Stop.TheVariants.{Doubt
 use Rattle.fax_rows.specs.Faults.{IsOneDimensionalFault, IsRunFault}
 use Rattle.fax_rows.specs.code.Stop.{IsStopOf}
 use Rattle.fax_rows.proofs.CodedRunLemmas.{stop_from}
-use Rattle.fax_rows.proofs.PlacedReadLemmas.{HasRead}
+use Rattle.fax_rows.proofs.PairReadLemmas.{HasRead}
 
-pub row_stops : (width : ℕ) (b : List Bool) (total : ℕ) (colour : Colour) (places : List ℕ) (end : ℕ) (left : List Bool) (fault : RowFault)
-    → HasRead width b total colour places end left → total < width → IsRunFault colour width total left fault
+pub row_stops : {width : ℕ} {b : List Bool} {chosen : Type 0} {total : ℕ} {colour : Colour} {places : List ℕ} {end : ℕ} {left : List Bool}
+    {fault : RowFault} → HasRead width b chosen total colour places end left → total < width → IsRunFault colour width total left fault
     → IsOneDimensionalFault width b fault
-row_stops width b total colour places end left fault read unfinished stops =
+row_stops {width} {b} {chosen} {total} {colour} {places} {end} {left} {fault} read unfinished stops =
     let so_far = read.so_far in
     record {
       runs = so_far.runs;

@@ -49,8 +49,8 @@ pub record IsOwnMode (b : List Bool) (mode : ModeCode) (rest : List Bool) : Type
   pub bits : b ≡ mode_bits mode ++ rest
   pub near : is_near mode ≡ true
 
-pub mode_taken : (b : List Bool) (mode : ModeCode) (rest : List Bool) → Takes modes b mode rest → IsOwnMode b mode rest
-mode_taken b mode rest takes =
+pub mode_taken : {b : List Bool} {mode : ModeCode} {rest : List Bool} → Takes modes b mode rest → IsOwnMode b mode rest
+mode_taken {rest = rest} takes =
     let place = takes.listed.0 in
     let at = slice_get_read modes (length modes) place takes.entry refl takes.listed.1 (sym takes.listed.2) in
     let is = own_at place (within_table place takes.listed.1) takes.entry at in

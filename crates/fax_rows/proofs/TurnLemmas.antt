@@ -66,7 +66,7 @@ turned-rank c (p ∷ places) i (suc k) within left right =
     (turned-rank (other c) places i k (omega arith) (λ j h. left (suc j) (omega arith))
     (λ j h l. right (suc j) (omega arith) (omega arith)))
 
-module _ (places : List ℕ) (end : ℕ) (up : IsAscending places end) where
+module _ {places : List ℕ} {end : ℕ} (up : IsAscending places end) where
   -- places ascend also over several steps
   pub ascends : (i n : ℕ) → 0 < i → i + suc n < end → get_or places i 0 < get_or places (i + suc n) 0
   ascends i zero some h = subst (λ m. get_or places i 0 < get_or places m 0) (omega arith) (up.steps i some (omega arith))

@@ -21,7 +21,7 @@ use Rattle.fax_rows.specs.code.Chosen.{IsChosenStep, AreChosenSteps, GoesOn, Goe
 use Rattle.fax_rows.specs.code.PlacedRow.{placed_pels}
 use Rattle.fax_rows.specs.code.PlacedReached.{placed_position, IsReadTo, IsReadOn}
 use Rattle.fax_rows.specs.code.Reached.{reached_pel, position_of}
-use Rattle.fax_rows.specs.code.Turns.{turned, alternate, pels_by, IsAscending, IsTurnedFrom}
+use Rattle.fax_rows.specs.code.Turns.{turned, alternate, pels_by, IsAscending, IsTurnedFrom, TurnsAt}
 use Rattle.fax_rows.proofs.ChosenRowLemmas.{IsChosenSoFar, chosen_goes_on as row_goes_on}
 use Rattle.fax_rows.proofs.ChosenStepLemmas.{under_chosen}
 use Rattle.fax_rows.proofs.PlacedB1Lemmas.{length-placed_pels, b1_next}
@@ -40,9 +40,9 @@ AreSteps-append reference first b (next ∷ before) old mid after new rest steps
     (steps.0, steps.1, steps.2, AreSteps-append reference next steps.1 before old mid after new rest steps.3 more)
 
 -- more steps of a row
-pub all_go_on : (reference : List Colour) (b : List Bool) (old : Position) (mid : List Bool) (new : Position) (rest : List Bool)
+pub all_go_on : {reference : List Colour} {b : List Bool} {old : Position} {mid : List Bool} {new : Position} {rest : List Bool}
     → AreStepsSoFar reference b old mid → GoesOn reference old mid new rest → AreStepsSoFar reference b new rest
-all_go_on reference b old mid new rest so_far more = record {
+all_go_on {reference = reference} {b = b} {old = old} {mid = mid} {new = new} {rest = rest} so_far more = record {
   positions = so_far.positions ++ more.positions;
   steps = AreSteps-append reference beginning b so_far.positions old mid more.positions new rest so_far.steps more.steps;
 }
@@ -59,8 +59,7 @@ chosen_on reference b old mid (next ∷ positions) new rest so_far more =
 -- and more steps that T.4 would have chosen
 pub all_chosen_go_on : (reference : List Colour) (b : List Bool) (old : Position) (mid : List Bool) (new : Position) (rest : List Bool)
     → IsChosenSoFar reference b old mid → GoesOnAsChosen reference old mid new rest → IsChosenSoFar reference b new rest
-all_chosen_go_on reference b old mid new rest so_far more =
-    chosen_on reference b old mid more.positions new rest so_far more.steps
+all_chosen_go_on reference b old mid new rest so_far more = chosen_on reference b old mid more.positions new rest so_far more.steps
 
 -- one step from where the row is read to
 pub step_goes_on : (reference : PlacedRow) (places : List ℕ) (at : PlacedReached) → reached_pel at.reached < reference.width
@@ -137,7 +136,7 @@ module _ (reference : PlacedRow) (places : List ℕ) where
       → at.b1 < reference.end → get_or places at.end 0 ≡ get_or reference.places.now at.b1 0 → IsAscending places (at.end + 1)
   ascending_more at so_far unfinished inside is = record {
     started = omega arith;
-    within = let room = room_left reference places at so_far unfinished in omega arith;
+    within = let room = room_left so_far unfinished in omega arith;
     first = so_far.ascending.first;
     steps = λ i some h. by i some h (cases_lt (i + 1) at.end);
   }
@@ -155,28 +154,28 @@ module _ (reference : PlacedRow) (places : List ℕ) where
   -- the step to b1, whose place stands there already
   module _ (at : PlacedReached) (so_far : IsReadTo reference places at) (unfinished : reached_pel at.reached < reference.width)
       (inside : at.b1 < reference.end) (is : get_or places at.end 0 ≡ get_or reference.places.now at.b1 0) where
-    turn : IsTurnedFrom (take at.end places) (take (at.end + 1) places) (get_or reference.places.now at.b1 0)
-    turn =
-        turned_more places at.end (get_or reference.places.now at.b1 0)
-        (let room = room_left reference places at so_far unfinished in omega arith) is
+    turns : TurnsAt places places at.end (at.end + 1) (get_or reference.places.now at.b1 0)
+    turns = record {
+      ascending = ascending_more at so_far unfinished inside is;
+      last = let same : at.end + 1 - 1 ≡ at.end = omega arith in
+          subst (λ n. get_or places n 0 ≤ get_or reference.places.now at.b1 0) (sym same) (omega (arith, is));
+      turned = turned_more places at.end (get_or reference.places.now at.b1 0)
+          (let room = room_left so_far unfinished in omega arith) is;
+      same_len = refl;
+    }
 
     step : IsVerticalStep (placed_pels reference) (placed_position reference.width places at) (pos 0)
         (placed_position reference.width places (under reference at))
     step =
-        let within = under_within reference places at so_far unfinished in
-        vertical_placed reference places at so_far unfinished (pos 0) (pos (get_or reference.places.now at.b1 0)) (omega (arith, ints))
-        (from_start at.reached) (under_right reference places at so_far unfinished) (omega (arith, ints, within))
-        places (at.end + 1) (at.b1 + 1) (other at.reached.colour) turn refl
+        let within = under_within so_far unfinished in
+        vertical_placed so_far unfinished (pos 0) (pos (get_or reference.places.now at.b1 0)) (omega (arith, ints))
+        (from_start at.reached) (under_right so_far unfinished) (omega (arith, ints, within))
+        places (at.end + 1) (at.b1 + 1) (other at.reached.colour) turns refl
 
     read : IsReadTo reference places (under reference at)
     read =
-        turned_so_far reference places at so_far unfinished places (at.end + 1) (get_or reference.places.now at.b1 0) (at.b1 + 1)
-        (under_ahead reference places at so_far unfinished) (under_within reference places at so_far unfinished)
-        refl (ascending_more at so_far unfinished inside is)
-        (let same : at.end + 1 - 1 ≡ at.end = omega arith in
-        subst (λ n. get_or places n 0 ≤ get_or reference.places.now at.b1 0) (sym same) (omega (arith, is))) turn
-        (λ h. b1_next reference at.reached.a0 at.reached.colour at.b1 (so_far.b1 unfinished) h)
-        (other at.reached.colour) refl
+        turned_so_far so_far unfinished (under_ahead so_far unfinished) (under_within so_far unfinished) turns
+        (λ h. b1_next reference (so_far.b1 unfinished) h) refl
 
   -- so many steps with a1 under b1
   pub record AreUnder (at : PlacedReached) (k : ℕ) (b rest : List Bool) : Type 0 where
@@ -223,8 +222,7 @@ module _ (reference : PlacedRow) (places : List ℕ) where
           steps = (
             omega (arith, len),
             spells.0,
-            under_chosen reference places at so_far unfinished b (placed_position reference.width places (under reference at)) spells.0
-                spells.1 vertical,
+            under_chosen so_far unfinished spells.1 vertical,
             more.chosen.steps,
           );
         };
@@ -235,8 +233,8 @@ module _ (reference : PlacedRow) (places : List ℕ) where
 abbrev pub placed : ℕ → Colour → ℕ → ℕ → PlacedReached
 placed place colour end b1 = record { reached = record { a0 = Some place; colour = colour }; end = end; b1 = b1 }
 
-same_placed : (p q : ℕ) (c d : Colour) (m n i j : ℕ) → p ≡ q → c ≡ d → m ≡ n → i ≡ j → placed p c m i ≡ placed q d n j
-same_placed p q c d m n i j place colour end b1 =
+same_placed : {p q : ℕ} {c d : Colour} {m n i j : ℕ} → p ≡ q → c ≡ d → m ≡ n → i ≡ j → placed p c m i ≡ placed q d n j
+same_placed {q = q} {c = c} {d = d} {m = m} {n = n} {i = i} place colour end b1 =
     ap (λ x. placed x c m i) place ∙ ap (λ x. placed q x m i) colour ∙ ap (λ x. placed q d x i) end ∙ ap (λ x. placed q d n x) b1
 
 -- how far it is read after so many steps, one at least
@@ -245,14 +243,10 @@ pub under_all_is : (k : ℕ) (reference : PlacedRow) (at : PlacedReached)
     ≡ under_all (suc k) reference at
 under_all_is zero reference at =
     let b1 : at.b1 + 0 ≡ at.b1 = omega arith in
-    same_placed (get_or reference.places.now (at.b1 + 0) 0) (get_or reference.places.now at.b1 0) (other at.reached.colour)
-    (other at.reached.colour) (at.end + 1) (at.end + 1) (at.b1 + 1) (at.b1 + 1) (ap (λ n. get_or reference.places.now n 0) b1)
-    refl refl refl
+    same_placed (ap (λ n. get_or reference.places.now n 0) b1) refl refl refl
 under_all_is (suc k) reference at =
     let next = under reference at in
-    same_placed (get_or reference.places.now (at.b1 + suc k) 0) (get_or reference.places.now (at.b1 + 1 + k) 0)
-    (alternate at.reached.colour (suc (suc k))) (alternate next.reached.colour (suc k)) (at.end + suc (suc k)) (at.end + 1 + suc k)
-    (at.b1 + suc (suc k)) (at.b1 + 1 + suc k)
+    same_placed
     (let e : at.b1 + suc k ≡ at.b1 + 1 + k = omega arith in ap (λ n. get_or reference.places.now n 0) e)
     refl (omega arith) (omega arith) ∙ under_all_is k reference next
 
@@ -269,10 +263,8 @@ pub under_all_as : (count : ℕ) (reference : PlacedRow) (at : PlacedReached) �
 under_all_as zero reference at some is = absurd (omega arith)
 under_all_as (suc k) reference at some is =
     let e : at.b1 + suc k - 1 ≡ at.b1 + k = omega arith in
-    same_placed (get_or reference.places.now (at.b1 + suc k - 1) 0) (get_or reference.places.now (at.b1 + k) 0)
-    (alternate Black (at.b1 + suc k)) (alternate at.reached.colour (suc k)) (at.end + suc k) (at.end + suc k) (at.b1 + suc k)
-    (at.b1 + suc k) (ap (λ n. get_or reference.places.now n 0) e)
-    (sym (alternate-add Black at.b1 (suc k)) ∙ ap (λ c. alternate c (suc k)) is) refl refl
+    same_placed (ap (λ n. get_or reference.places.now n 0) e) (sym (alternate-add Black at.b1 (suc k)) ∙ ap (λ c. alternate c (suc k)) is)
+    refl refl
     ∙ under_all_is k reference at
 
 -- what is read stays so where places are put after it
@@ -297,8 +289,7 @@ so_far_kept reference places new at so_far len kept = record {
     up = so_far.ascending
 
     kept_at : (k : ℕ) → k < at.end → get_or new k 0 ≡ get_or places k 0
-    kept_at k h =
-        sym (get_or-take at.end new k 0 h) ∙ ap (λ xs. get_or xs k 0) kept ∙ get_or-take at.end places k 0 h
+    kept_at k h = sym (get_or-take at.end new k 0 h) ∙ ap (λ xs. get_or xs k 0) kept ∙ get_or-take at.end places k 0 h
 
 -- a 1 is the code of a1 under b1
 one_is_taken : ModeBitsAreRead → (rest : List Bool) → Takes modes (true ∷ rest) (Vertical (pos 0)) rest
@@ -348,6 +339,6 @@ one_read reference places new at next b rest taken so_far unfinished vertical re
       steps = step_goes_on reference places at unfinished b position rest
           (record { mode = Vertical (pos 0); after = rest; taken = taken; step = (vertical, refl) });
       chosen = chosen_goes_on reference places at unfinished b position rest
-          (under_chosen reference places at so_far unfinished b position rest taken vertical);
+          (under_chosen so_far unfinished taken vertical);
       so_far = read;
     }

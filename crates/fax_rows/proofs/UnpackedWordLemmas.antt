@@ -244,8 +244,7 @@ module _ (old places : List ℕ) (from before word left r : ℕ) (so_far : IsPut
   -- the pels up to the next change
   pub quiet_to : (at : ℕ) → r ≤ at → at ≤ 64 → ((i : ℕ) → i < at → word_bit left i ≡ false)
       → bit_before before word at ≡ bit_before before word r
-  quiet_to at order within none =
-      quiet before word r at order (λ i h l. sym (so_far.rest i h (omega arith)) ∙ none i l)
+  quiet_to at order within none = quiet before word r at order (λ i h l. sym (so_far.rest i h (omega arith)) ∙ none i l)
 
   same_pel : (at i : ℕ) → r ≤ i → i < at → at ≤ 64 → ((j : ℕ) → j < at → word_bit left j ≡ false)
       → colour_of_bit (bit_before before word r) ≡ colour_of_bit (word_bit word i)

@@ -194,8 +194,7 @@ module _ (runs_read : RunBitsAreRead) (modes_taken : ModeBitsAreRead) (reference
       }
 
 replicate_more : (n : ℕ) (colour : Colour) (pels : List Colour) → replicate (n + 1) colour ++ pels ≡ replicate n colour ++ (colour ∷ pels)
-replicate_more n colour pels =
-    rw (← replicate-append-replicate n 1 colour) (append_assoc (replicate n colour) (colour ∷ []) pels)
+replicate_more n colour pels = rw (← replicate-append-replicate n 1 colour) (append_assoc (replicate n colour) (colour ∷ []) pels)
 
 -- the longest runs make up the pels
 pub pels_of-runs_after : (colour : Colour) (n : ℕ) (pels : List Colour)

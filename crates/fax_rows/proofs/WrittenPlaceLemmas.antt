@@ -34,7 +34,7 @@ known_bounds rows ahead is unfinished =
     let a2 = next_change_is (placed_pels rows.row) (Some ahead.a1) in
     record {
       a0 = omega (arith, is.a1, a1_ahead (placed_pels rows.reference) (placed_pels rows.row) (same_widths rows) ahead.a0 inside);
-      a1_a2 = omega (arith, is.a2, next_is_ahead (placed_pels rows.row) (Some ahead.a1) _ a2 a1_within);
+      a1_a2 = omega (arith, is.a2, next_is_ahead (Some ahead.a1) a2 a1_within);
       a2 = omega (arith, is.a2, a2.within, width);
       b1 = omega (arith, is.b1, next_of_within (placed_pels rows.reference) ahead.a0 ahead.colour, reference_width rows);
     }

@@ -31,7 +31,7 @@ module _ (row : PlacedRow) where
     some = omega arith;
     within = omega arith;
     left = subst (λ m. get_or row.places.now m 0 ≤ get_or row.places.now k 0) same (omega arith);
-    right = λ l. below_later row.places.now row.end row.placed.ascending k (k + 1) some (omega arith) l;
+    right = λ l. below_later row.placed.ascending k (k + 1) some (omega arith) l;
   }
     where
       same : k ≡ k + 1 - 1
@@ -46,11 +46,11 @@ module _ (row : PlacedRow) where
   pub colour_here : (a0 : Option ℕ) (k : ℕ) → IsFrom row.places.now row.end a0 k → unwrap_or a0 0 < row.width
       → alternate Black k ≡ colour_of (placed_pels row) a0
   colour_here None k at inside = ap (alternate Black) at
-  colour_here (Some a) k at inside = sym (pel_after row.places.now row.end row.placed.ascending row.width a k inside at)
+  colour_here (Some a) k at inside = sym (pel_after row.placed.ascending row.width a k inside at)
 
 module _ (rows : Rows) (ahead : ChangesAhead) (is : IsAhead rows ahead) (unfinished : unwrap_or ahead.a0 0 < rows.row.width) where
   row_at : (0 < ahead.row) × (ahead.row ≤ rows.row.end)
-  row_at = at_from rows.row.places.now rows.row.end rows.row.width rows.row.placed ahead.a0 ahead.row is.row
+  row_at = at_from rows.row.placed ahead.a0 ahead.row is.row
 
   pub from_a1 : ahead.a1 < rows.row.width → IsFrom rows.row.places.now rows.row.end (Some ahead.a1) (ahead.row + 1)
   from_a1 inside =
@@ -71,8 +71,7 @@ module _ (rows : Rows) (ahead : ChangesAhead) (is : IsAhead rows ahead) (unfinis
   -- b2 is not left of a0
   b2_from_a0 : unwrap_or ahead.a0 0 ≤ ahead.b2
   b2_from_a0 =
-      let first = b1_ahead rows.reference ahead.a0 ahead.colour ahead.reference
-      is.reference (omega arith) in
+      let first = b1_ahead rows.reference ahead.a0 is.reference (omega arith) in
       let second = b2_ahead rows.reference ahead.reference is.reference.some
       is.reference.within in
       omega (arith, first, second, is.b2_at)
@@ -101,16 +100,14 @@ module _ (rows : Rows) (ahead : ChangesAhead) (is : IsAhead rows ahead) (unfinis
   b1_after_pass inside =
       subst (λ colour. IsB1At rows.reference (Some ahead.b2) colour (ahead.reference + 2)) is.after
       (subst (λ a. IsB1At rows.reference (Some a) ahead.colour (ahead.reference + 2)) (sym is.b2_at)
-      (b1_passed rows.reference ahead.a0 ahead.colour ahead.reference is.reference
-      (omega (arith, is.b2_at))))
+      (b1_passed rows.reference is.reference (omega (arith, is.b2_at))))
 
   pub b1_after_b1 : ahead.a1 ≡ ahead.b1 → ahead.a1 < rows.row.width
       → IsB1At rows.reference (Some ahead.a1) (alternate Black (ahead.row + 1)) (ahead.reference + 1)
   b1_after_b1 same inside =
       subst (λ colour. IsB1At rows.reference (Some ahead.a1) colour (ahead.reference + 1)) turned_colour
       (subst (λ a. IsB1At rows.reference (Some a) (other ahead.colour) (ahead.reference + 1)) (sym (same ∙ is.b1_at))
-      (b1_next rows.reference ahead.a0 ahead.colour ahead.reference is.reference
-      (omega (arith, same, is.b1_at))))
+      (b1_next rows.reference is.reference (omega (arith, same, is.b1_at))))
 
   pub b1_after_a1 : (b : ℕ) → ((a0 : Option ℕ) (colour : Colour) → IsB1At rows.reference a0 colour ahead.reference
       → is_right_of a0 ahead.a1 ≡ true → IsB1At rows.reference (Some ahead.a1) (other colour) b)

@@ -4,7 +4,8 @@ ghost use Rattle.std.specs.Prelude.{MatchOption, IfNone, IfSome, IsTrue, length,
 ghost use Rattle.std.specs.Prelude.{take, drop};
 ghost use Rattle.fax_rows.specs.Rows.{runs_of, pels_of};
 ghost use Rattle.fax_rows.specs.code.LongestRuns.{AreLongest};
-ghost use Rattle.fax_rows.specs.code.Turns.{row_of, IsAscending};
+ghost use Rattle.fax_rows.specs.code.Put.{ArePut, HasRoom};
+ghost use Rattle.fax_rows.specs.code.Turns.{row_of};
 
 use crate::pels::Row;
 use crate::turns::turn;
@@ -106,13 +107,10 @@ pub(crate) fn are_longest(runs: &[u32], width: u32) -> bool
 /// Puts the places where runs end, white first, and answers where these places end.
 pub(crate) fn put_runs(places: &mut [u32], runs: &[u32], width: u32) -> usize
     requires short { width < 2 ^ 16 }
-    requires room { length places.old ≡ width + 4 }
-    requires first { slice_index places.old 0 ≡ 0 }
+    requires room { HasRoom width places.old }
     requires whole { sum runs.now ≡ width }
     ensures pels { row_of places.new result width ≡ pels_of Colour.White runs.now }
-    ensures ascending { IsAscending places.new result }
-    ensures last { slice_index places.new (result - 1) ≤ width }
-    ensures same_len { length places.new ≡ length places.old }
+    ensures put { ArePut width places.new result width }
 {
     let mut end = 1;
     let mut total = 0;

@@ -7,12 +7,12 @@ ghost use Rattle.fax_bits.specs.views.Source.{KeepsEnd};
 ghost use Rattle.fax_rows.specs.Coded.{one_dimensional_bits};
 ghost use Rattle.fax_rows.specs.Rows.{IsOneDimensionalRow};
 ghost use Rattle.fax_rows.specs.Faults.{IsOneDimensionalFault, IsRunFault};
-ghost use Rattle.fax_rows.specs.code.Turns.{row_of, IsTurnedFrom};
-ghost use Rattle.fax_rows.specs.code.Put.{ArePut};
+ghost use Rattle.fax_rows.specs.code.Turns.{row_of, TurnsAt};
+ghost use Rattle.fax_rows.specs.code.Put.{ArePut, HasRoom};
 
 use crate::RowFault;
 use crate::pels::Row;
-use crate::runs::next_run;
+use crate::runs::long_run;
 use crate::turns::{close, turn_after, turn_right};
 use fax_bits::{BitSource, Colour};
 
@@ -30,16 +30,17 @@ struct Runs {
 impl Runs {
     ghost use Rattle.std.specs.Prelude.{◌<◌, ◌≡◌, ◌⊎◌, IsTrue};
 
-    /// Sees that a run after them may be one of the longest: it has pels, or is the first of its
-    /// row. Else the codes are not those that T.4 chooses (T.4, section 4.1.1).
+    /// Sees that a run after them, whose codes may be chosen, may be one of the longest: it has pels,
+    /// or is the first of its row. Else the codes are not those that T.4 chooses (T.4, section
+    /// 4.1.1).
     #[inline(always)]
-    fn see(&mut self, colour: Colour, run: u32)
-        ensures chosen { IsTrue self.new.is_chosen → IsTrue self.old.is_chosen
+    fn see(&mut self, colour: Colour, run: u32, chosen: bool)
+        ensures chosen { IsTrue self.new.is_chosen → IsTrue self.old.is_chosen × IsTrue chosen
             × ((0 < run) ⊎ ((self.old.total ≡ 0) × (colour ≡ Colour.White))) }
         ensures end { self.new.end ≡ self.old.end }
         ensures total { self.new.total ≡ self.old.total }
     {
-        if run == 0 && (self.total > 0 || colour == Colour::Black) {
+        if !chosen || (run == 0 && (self.total > 0 || colour == Colour::Black)) {
             self.is_chosen = false;
         }
     }
@@ -58,8 +59,8 @@ fn read_on(
     requires unfinished { runs.old.total < width }
     requires put { ArePut width places.old runs.old.end runs.old.total }
     ensures put { OnOk result (ArePut width places.new runs.new.end runs.new.total) }
-    ensures turned { OnOk result (IsTurnedFrom (take runs.old.end places.old)
-        (take runs.new.end places.new) runs.new.total) }
+    ensures turned { OnOk result
+        (TurnsAt places.old places.new runs.old.end runs.new.end runs.new.total) }
     ensures run { OnOk result
         (IsRun colour ahead.old.left (runs.new.total - runs.old.total) ahead.new.left) }
     ensures right { OnOk result (runs.old.total ≤ runs.new.total) }
@@ -69,13 +70,16 @@ fn read_on(
         ⊎ ((runs.old.total ≡ 0) × (colour ≡ Colour.White)))) }
     ensures err { IfErr result
         (λ fault. IsRunFault colour width runs.old.total ahead.old.left fault) }
-    ensures first { slice_index places.new 0 ≡ 0 }
-    ensures same_len { length places.new ≡ length places.old }
+    ensures room { HasRoom width places.new }
     ensures same_end { KeepsEnd ahead.old ahead.new }
     ensures shorter { OnOk result (length ahead.new.left < length ahead.old.left) }
 {
-    let run = next_run(ahead, colour, width, runs.total, &mut runs.is_chosen)?;
-    runs.see(colour, run);
+    let looked_up = ahead.run_within(colour, width - runs.total);
+    let run = match looked_up {
+        Some(run) => run,
+        None => long_run(ahead, colour, width, runs.total)?,
+    };
+    runs.see(colour, run, looked_up.is_some());
     runs.total += run;
     runs.end = turn_after(places, runs.end, runs.total, run);
     Ok(())
@@ -86,16 +90,14 @@ fn read_on(
 fn read_runs(source: &mut BitSource, places: &mut [u32], width: u32) -> Result<Runs, RowFault>
     requires some { 0 < width }
     requires short { width < 2 ^ 16 }
-    requires room { length places.old ≡ width + 4 }
-    requires first { slice_index places.old 0 ≡ 0 }
+    requires room { HasRoom width places.old }
     ensures ok { IfOk result (λ runs. IsOneDimensionalRow width source.old.left
         (row_of places.new runs.end width) source.new.left) }
     ensures chosen { IfOk result (λ runs. IsTrue runs.is_chosen → source.old.left
         ≡ one_dimensional_bits (row_of places.new runs.end width) ++ source.new.left) }
     ensures put { IfOk result (λ runs. ArePut width places.new runs.end width) }
     ensures err { IfErr result (λ fault. IsOneDimensionalFault width source.old.left fault) }
-    ensures first { slice_index places.new 0 ≡ 0 }
-    ensures same_len { length places.new ≡ length places.old }
+    ensures room { HasRoom width places.new }
     ensures same_end { KeepsEnd source.old source.new }
 {
     crate::laws::one_dimensional_rows_are_read_as_nothing_else();

@@ -196,24 +196,6 @@ fn choose(a1: u32, b1: u32, b2: u32) -> ModeCode
     }
 }
 
-/// Puts the two runs of horizontal mode, a0a1 and a1a2 (T.4, section 4.2.1.3.2).
-#[inline(always)]
-fn put_run_pair(
-    ahead: ChangesAhead,
-    pending: PendingBits,
-    sink: &mut BitSink,
-) -> Result<PendingBits, Memory>
-    requires a0 { unwrap_or ahead.a0 0 ≤ ahead.a1 }
-    requires a1 { ahead.a1 ≤ ahead.a2 }
-    requires short { ahead.a2 < 2 ^ 16 }
-    ensures ok { IfOk result
-        (λ left. AppendsAllBut sink.old (pending ++ Spec.run_pair ahead) left sink.new) }
-    ensures err { OnErr result (AppendsPrefix sink.old (pending ++ Spec.run_pair ahead) sink.new) }
-{
-    let first = ahead.a1 - ahead.a0.unwrap_or(0);
-    put_pair(pending, sink, ahead.colour, first, ahead.a2 - ahead.a1)
-}
-
 /// Puts the step from a0 where a1 is not under b1, and answers how far the row is written then, and
 /// which bits are pending.
 #[inline(always)]
@@ -244,7 +226,9 @@ fn put_far_step(
         }
         ModeCode::Horizontal => {
             let pending = pending.put_mode(sink, ModeCode::Horizontal)?;
-            let pending = put_run_pair(ahead, pending, sink)?;
+            let first = ahead.a1 - ahead.a0.unwrap_or(0);
+            let second = ahead.a2 - ahead.a1;
+            let pending = put_pair(pending, sink, ahead.colour, first, second)?;
             Ok((ahead.after_a2(rows), pending))
         }
         // An extension is never chosen.

@@ -1,9 +1,7 @@
 //! Runs of pels of one colour, code by code (ITU-T T.4, section 4.1.1).
-ghost use Rattle.std.specs.Prelude.{◌≡◌, ◌+◌, ◌≤◌, ◌<◌, ◌^◌, ◌++◌, length, OnOk, IfOk, IfErr};
-ghost use Rattle.std.specs.Prelude.{IsTrue};
+ghost use Rattle.std.specs.Prelude.{◌≡◌, ◌+◌, ◌≤◌, ◌<◌, ◌^◌, length, OnOk, IfOk, IfErr};
 ghost use Rattle.fax_bits.specs.Codes.{Takes, IsFaultOf, IsRun};
 ghost use Rattle.fax_bits.specs.Tables.{run_table};
-ghost use Rattle.fax_bits.specs.Written.{run_bits};
 ghost use Rattle.fax_bits.specs.views.Source.{KeepsEnd};
 ghost use Rattle.fax_rows.specs.Rows.{other as other_than};
 ghost use Rattle.fax_rows.specs.Faults.{IsRunFault};
@@ -96,31 +94,4 @@ pub(crate) fn long_run(
     let n = read_run(&mut copy, colour, width, from)?;
     source.skip_to(copy.place());
     Ok(n)
-}
-
-/// Reads a run of the colour whose first pel is `from`, and answers how many pels it has: by a
-/// look-up, or else code by code. Then its codes are not seen to be those that T.4 chooses.
-#[inline(always)]
-pub(crate) fn next_run(
-    source: &mut BitSource,
-    colour: Colour,
-    width: u32,
-    from: u32,
-    is_chosen: &mut bool,
-) -> Result<u32, RowFault>
-    requires width { width < 2 ^ 16 }
-    requires from { from ≤ width }
-    ensures ok { IfOk result (λ n. IsRun colour source.old.left n source.new.left) }
-    ensures within { IfOk result (λ n. from + n ≤ width) }
-    ensures written { IfOk result (λ n. IsTrue is_chosen.new → IsTrue is_chosen.old
-        × (source.old.left ≡ run_bits colour n ++ source.new.left)) }
-    ensures err { IfErr result (λ fault. IsRunFault colour width from source.old.left fault) }
-    ensures same_end { KeepsEnd source.old source.new }
-    ensures shorter { OnOk result (length source.new.left < length source.old.left) }
-{
-    if let Some(n) = source.run_within(colour, width - from) {
-        return Ok(n);
-    }
-    *is_chosen = false;
-    long_run(source, colour, width, from)
 }

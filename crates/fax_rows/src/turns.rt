@@ -1,6 +1,7 @@
 //! Places of change: each of them turns the colour of the pels from there on (ITU-T T.4, section
 //! 4.2.1.3.1).
 ghost use Rattle.std.specs.Prelude.{◌≡◌, ℕ, ◌+◌, ◌-◌, ◌≤◌, ◌<◌, ◌^◌, length, take, slice_index};
+ghost use Rattle.fax_rows.specs.code.Put.{ArePut};
 ghost use Rattle.fax_rows.specs.code.Turns as Spec;
 
 use fax_bits::Colour;
@@ -43,10 +44,7 @@ pub(crate) fn turn(places: &mut [u32], end: usize, place: u32) -> usize
     requires ascending { Spec.IsAscending places.old end }
     requires last { slice_index places.old (end - 1) ≤ place }
     requires room { end < length places.old }
-    ensures ascending { Spec.IsAscending places.new result }
-    ensures last { slice_index places.new (result - 1) ≤ place }
-    ensures turned { Spec.IsTurnedFrom (take end places.old) (take result places.new) place }
-    ensures same_len { length places.new ≡ length places.old }
+    ensures { Spec.TurnsAt places.old places.new end result place }
 {
     if end > 1 && places[end - 1] == place {
         return end - 1;
@@ -62,10 +60,7 @@ pub(crate) fn turn_after(places: &mut [u32], end: usize, place: u32, run: u32) -
     requires ascending { Spec.IsAscending places.old end }
     requires last { slice_index places.old (end - 1) + run ≤ place }
     requires room { end < length places.old }
-    ensures ascending { Spec.IsAscending places.new result }
-    ensures last { slice_index places.new (result - 1) ≤ place }
-    ensures turned { Spec.IsTurnedFrom (take end places.old) (take result places.new) place }
-    ensures same_len { length places.new ≡ length places.old }
+    ensures { Spec.TurnsAt places.old places.new end result place }
 {
     if run == 0 {
         return turn(places, end, place);
@@ -80,10 +75,7 @@ pub(crate) fn turn_right(places: &mut [u32], end: usize, place: u32) -> usize
     requires ascending { Spec.IsAscending places.old end }
     requires right { 1 < end → slice_index places.old (end - 1) < place }
     requires room { end < length places.old }
-    ensures ascending { Spec.IsAscending places.new result }
-    ensures last { slice_index places.new (result - 1) ≤ place }
-    ensures turned { Spec.IsTurnedFrom (take end places.old) (take result places.new) place }
-    ensures same_len { length places.new ≡ length places.old }
+    ensures { Spec.TurnsAt places.old places.new end result place }
 {
     places[end] = place;
     end + 1
@@ -91,8 +83,7 @@ pub(crate) fn turn_right(places: &mut [u32], end: usize, place: u32) -> usize
 
 /// Where the places below the width end: the last of them may be the width, where no row changes.
 fn end_below(places: &[u32], end: usize, width: u32) -> usize
-    requires ascending { Spec.IsAscending places.now end }
-    requires last { slice_index places.now (end - 1) ≤ width }
+    requires { ArePut width places.now end width }
     ensures ascending { Spec.IsAscending places.now result }
     ensures below { (i : ℕ) → 0 < i → i < result → slice_index places.now i < width }
     ensures within { result ≤ width + 1 }
@@ -109,9 +100,7 @@ fn end_below(places: &[u32], end: usize, width: u32) -> usize
 pub(crate) fn close(places: &mut [u32], end: usize, width: u32) -> usize
     requires some { 0 < width }
     requires short { width < 2 ^ 16 }
-    requires room { length places.old ≡ width + 4 }
-    requires ascending { Spec.IsAscending places.old end }
-    requires last { slice_index places.old (end - 1) ≤ width }
+    requires put { ArePut width places.old end width }
     ensures placed { Spec.ArePlaces places.new result width }
     ensures pels { Spec.row_of places.new result width ≡ Spec.row_of places.old end width }
 {

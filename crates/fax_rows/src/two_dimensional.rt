@@ -7,7 +7,8 @@ ghost use Rattle.fax_rows.specs.Coded.{two_dimensional_bits};
 ghost use Rattle.fax_rows.specs.Rows as Spec;
 ghost use Rattle.fax_rows.specs.Faults as Fault;
 ghost use Rattle.fax_rows.specs.code.PlacedRow.{placed_pels};
-ghost use Rattle.fax_rows.specs.code.Turns.{row_of, IsAscending};
+ghost use Rattle.fax_rows.specs.code.Put.{ArePut, HasRoom};
+ghost use Rattle.fax_rows.specs.code.Turns.{row_of};
 
 use crate::RowFault;
 use crate::pels::Row;
@@ -15,22 +16,13 @@ use crate::rows::PlacedRow;
 use crate::turns::close;
 use codes::Stop;
 use fax_bits::BitSource;
-use modes::read_modes;
+use modes::{ReadRow, read_modes};
 
 mod choices;
 mod codes;
 mod copied;
 mod modes;
 mod steps;
-
-/// A row that is read into places of change.
-#[derive(Clone, Copy)]
-struct ReadRow {
-    /// The index after the last place.
-    end: usize,
-    /// Whether its codes are seen to be those that T.4 chooses.
-    is_chosen: bool,
-}
 
 /// Reads the modes of a row over the reference row. After a doubt it reads them again, with
 /// `EXACT`; and where they are not T.4's choice, for their pels alone.
@@ -40,43 +32,31 @@ fn read_places<const CHOICE: bool>(
     reference: PlacedRow,
     places: &mut [u32],
 ) -> Result<ReadRow, RowFault>
-    requires room { length places.old ≡ reference.width + 4 }
-    requires first { slice_index places.old 0 ≡ 0 }
+    requires room { HasRoom reference.width places.old }
     ensures ok { IfOk result (λ read. Spec.IsTwoDimensionalRow (placed_pels reference.entry)
         source.old.left (row_of places.new read.end reference.entry.width) source.new.left) }
     ensures chosen { IfOk result (λ read. IsTrue read.is_chosen
         → source.old.left ≡ two_dimensional_bits (placed_pels reference.entry)
         (row_of places.new read.end reference.entry.width) ++ source.new.left) }
-    ensures ascending { IfOk result (λ read. IsAscending places.new read.end) }
-    ensures last { IfOk result
-        (λ read. slice_index places.new (read.end - 1) ≤ reference.entry.width) }
+    ensures put { IfOk result
+        (λ read. ArePut reference.entry.width places.new read.end reference.entry.width) }
     ensures err { IfErr result (λ fault. Fault.IsTwoDimensionalFault
         (placed_pels reference.entry) source.old.left fault) }
-    ensures first { slice_index places.new 0 ≡ 0 }
-    ensures same_len { length places.new ≡ length places.old }
+    ensures room { HasRoom reference.entry.width places.new }
     ensures same_end { KeepsEnd source.old source.new }
 {
     match read_modes::<CHOICE, false>(source, reference, places) {
-        Ok(end) => return Ok(ReadRow {
-            end,
-            is_chosen: CHOICE,
-        }),
+        Ok(read) => return Ok(read),
         Err(Stop::Fault(fault)) => return Err(fault),
         Err(Stop::Doubt) => {}
     }
     match read_modes::<CHOICE, true>(source, reference, places) {
-        Ok(end) => return Ok(ReadRow {
-            end,
-            is_chosen: CHOICE,
-        }),
+        Ok(read) => return Ok(read),
         Err(Stop::Fault(fault)) => return Err(fault),
         Err(Stop::Doubt) => {}
     }
     match read_modes::<false, true>(source, reference, places) {
-        Ok(end) => Ok(ReadRow {
-            end,
-            is_chosen: false,
-        }),
+        Ok(read) => Ok(read),
         Err(Stop::Fault(fault)) => Err(fault),
         Err(Stop::Doubt) => unreachable!(),
     }

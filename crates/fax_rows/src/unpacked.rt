@@ -7,6 +7,7 @@ ghost use Rattle.fax_bits.specs.declared.Colour.TheVariants.{Black as TurnsFrom}
 ghost use Rattle.fax_bits.specs.declared.FillOrder.TheVariants.{MsbFirst};
 ghost use Rattle.fax_rows.specs.Coded as Spec;
 ghost use Rattle.fax_rows.specs.code.PackedWord.{word_bit};
+ghost use Rattle.fax_rows.specs.code.Put.{ArePut, HasRoom};
 ghost use Rattle.fax_rows.specs.code.Turns.{row_of, turned, IsAscending};
 ghost use Rattle.fax_rows.specs.code.Unpacked.{IsUnpackedTo};
 
@@ -109,12 +110,9 @@ pub(crate) fn places_of_bits(bytes: &[u8], places: &mut [u32], width: u32) -> us
     requires some { 0 < width }
     requires short { width < 2 ^ 16 }
     requires whole { length bytes.now ≡ Spec.packed_len width }
-    requires room { length places.old ≡ width + 4 }
-    requires first { slice_index places.old 0 ≡ 0 }
-    ensures ascending { IsAscending places.new result }
-    ensures last { slice_index places.new (result - 1) ≤ width }
+    requires room { HasRoom width places.old }
+    ensures put { ArePut width places.new result width }
     ensures pels { row_of places.new result width ≡ Spec.unpacked_row width bytes.now }
-    ensures same_len { length places.new ≡ length places.old }
 {
     bits_stand_by_place();
     let words = width / WORD;

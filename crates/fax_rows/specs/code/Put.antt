@@ -2,6 +2,11 @@
 use Rattle.std.specs.Prelude.{◌≡◌, ℕ, ◌+◌, ◌-◌, ◌≤◌, List, length, slice_index}
 use Rattle.fax_rows.specs.code.Turns.{IsAscending}
 
+-- there is room for the places of a row of this width, the first of which is put
+pub record HasRoom (width : ℕ) (places : List ℕ) : Type 0 where
+  pub len : length places ≡ width + 4
+  pub first : slice_index places 0 ≡ 0
+
 -- the first `end` places are those of a row of this width up to the pel `total`, and there is room
 -- for the others
 pub record ArePut (width : ℕ) (places : List ℕ) (end total : ℕ) : Type 0 where

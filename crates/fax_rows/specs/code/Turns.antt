@@ -62,6 +62,14 @@ pub record IsTurnedFrom (old new : List ℕ) (place : ℕ) : Type 0 where
   pub left : (i : ℕ) → i < place → turned Black new i ≡ turned Black old i
   pub right : (i : ℕ) → place ≤ i → turned Black new i ≡ other (turned Black old i)
 
+-- the places up to `end` are turned from a place on by the new ones up to `next`, the last of which
+-- is not right of it
+pub record TurnsAt (old new : List ℕ) (end next place : ℕ) : Type 0 where
+  pub ascending : IsAscending new next
+  pub last : slice_index new (next - 1) ≤ place
+  pub turned : IsTurnedFrom (take end old) (take next new) place
+  pub same_len : length new ≡ length old
+
 -- k is the index of the first of the places that are right of a0, where None is just before the
 -- first pel
 abbrev pub IsFrom : List ℕ → ℕ → Option ℕ → ℕ → Type 0

@@ -36,22 +36,7 @@ impl From<RowFault> for Stop {
     }
 }
 
-/// Reads a mode by the table of modes. Only a copy of the source is lent, so that the source can
-/// stand in a value.
-#[inline(always)]
-fn any_mode(source: &mut BitSource) -> Result<ModeCode, RowFault>
-    ensures ok { IfOk result (λ mode. Takes modes source.old.left mode source.new.left) }
-    ensures err { IfErr result (λ fault. IsCodeFault modes source.old.left fault) }
-    ensures same_end { KeepsEnd source.old source.new }
-    ensures shorter { OnOk result (length source.new.left < length source.old.left) }
-{
-    let mut copy = source.again();
-    let mode = read_code::<Modes>(&mut copy)?;
-    source.skip_to(copy.place());
-    Ok(mode)
-}
-
-/// Reads a mode.
+/// Reads a mode. Only a copy of the source is lent, so that the source can stand in a value.
 #[inline(always)]
 pub(super) fn next_mode<const EXACT: bool>(source: &mut BitSource) -> Result<ModeCode, Stop>
     ensures ok { IfOk result (λ mode. Takes modes source.old.left mode source.new.left) }
@@ -63,10 +48,17 @@ pub(super) fn next_mode<const EXACT: bool>(source: &mut BitSource) -> Result<Mod
     if let Some(mode) = source.mode() {
         return Ok(mode);
     }
-    if EXACT {
-        return Ok(any_mode(source)?);
+    if !EXACT {
+        return Err(Stop::Doubt);
     }
-    Err(Stop::Doubt)
+    let mut copy = source.again();
+    match read_code::<Modes>(&mut copy) {
+        Ok(mode) => {
+            source.skip_to(copy.place());
+            Ok(mode)
+        }
+        Err(fault) => Err(Stop::Fault(RowFault::from(fault))),
+    }
 }
 
 /// Reads a run of the colour whose first pel is `from`, and answers how many pels it has. A run that

@@ -13,11 +13,12 @@ ghost use Rattle.fax_rows.specs.code.Seen.{b2_from};
 ghost use Rattle.fax_rows.specs.code.PlacedRow.{placed_pels};
 ghost use Rattle.fax_rows.specs.code.RowFaults.{IsHorizontalFault};
 ghost use Rattle.fax_rows.specs.code.Stop.{IsStopOf};
-ghost use Rattle.fax_rows.specs.code.Turns.{row_of, IsAscending};
+ghost use Rattle.fax_rows.specs.code.Put.{ArePut, HasRoom};
+ghost use Rattle.fax_rows.specs.code.Turns.{row_of};
 ghost use Rattle.fax_rows.specs.code.Reached.{reached_pel};
 ghost use Rattle.fax_rows.specs.code.PlacedReached.{placed_position, IsReadTo};
 
-use super::choices::{chooses_a1, chooses_b2, chooses_runs, is_taken};
+use super::choices::chooses_runs;
 use super::codes::{Stop, next_mode, two_runs};
 use super::copied::under_several;
 use super::steps::{PlacedReached, after_runs, left_of_b1, right_of_b1, under_b1, under_b2};
@@ -25,6 +26,15 @@ use crate::RowFault;
 use crate::rows::PlacedRow;
 use crate::turns::colour_after;
 use fax_bits::{BitSource, ModeCode};
+
+/// A row that is read into places of change.
+#[derive(Clone, Copy)]
+pub(super) struct ReadRow {
+    /// The index after the last place.
+    pub end: usize,
+    /// Whether its codes are seen to be those that T.4 chooses.
+    pub is_chosen: bool,
+}
 
 /// Horizontal mode: two runs from a0 on, the first of a0's colour, which stays (T.4, section
 /// 4.2.1.3.2). The index of b1 tells that colour.
@@ -48,16 +58,14 @@ fn horizontal<const CHOICE: bool, const EXACT: bool>(
     ensures err { IfErr result (λ stop. IsStopOf CHOICE EXACT
         (λ fault. IsHorizontalFault (placed_pels reference.entry)
         (placed_position reference.entry.width places.old at) source.old.left fault) stop) }
-    ensures first { slice_index places.new 0 ≡ 0 }
-    ensures same_len { length places.new ≡ length places.old }
+    ensures room { HasRoom reference.entry.width places.new }
     ensures same_end { KeepsEnd source.old source.new }
     ensures shorter { OnOk result (length source.new.left < length source.old.left) }
 {
     let from = at.reached.first_pel();
     let colour = colour_after(at.b1);
     let (first, second) = two_runs::<CHOICE, EXACT>(source, colour, reference.width, from)?;
-    let chosen = chooses_runs::<CHOICE>(reference, at, first, second);
-    if !is_taken::<CHOICE>(chosen) {
+    if CHOICE && !chooses_runs(reference, at, first, second) {
         return Err(Stop::Doubt);
     }
     Ok(after_runs(reference, places, at, first, second))
@@ -84,8 +92,7 @@ fn vertical<const CHOICE: bool, const EXACT: bool>(
     ensures err { IfErr result (λ stop. IsStopOf CHOICE EXACT
         (λ fault. (Spec.IsInRow (placed_pels reference.entry)
         (placed_position reference.entry.width places.old at) d → ⊥) × (fault ≡ OutOfRow)) stop) }
-    ensures first { slice_index places.new 0 ≡ 0 }
-    ensures same_len { length places.new ≡ length places.old }
+    ensures room { HasRoom reference.entry.width places.new }
 {
     let out = Stop::Fault(RowFault::OutOfRow);
     if d < 0 {
@@ -95,12 +102,10 @@ fn vertical<const CHOICE: bool, const EXACT: bool>(
         return Ok(under_b1(reference, places, at));
     }
     let next = right_of_b1(reference, places, at, d).ok_or(out)?;
-    let chosen = chooses_a1::<CHOICE>(reference, at, next);
-    if is_taken::<CHOICE>(chosen) {
-        Ok(next)
-    } else {
-        Err(Stop::Doubt)
+    if CHOICE && next.reached.first_pel() > reference.places[at.b1 + 1] {
+        return Err(Stop::Doubt);
     }
+    Ok(next)
 }
 
 /// Pass mode, where that is T.4's choice or this is not asked for (T.4, section 4.2.1.3.3).
@@ -121,12 +126,10 @@ fn pass<const CHOICE: bool, const EXACT: bool>(
     ensures err { IfErr result (λ stop. IsStopOf CHOICE EXACT (λ fault. ⊥) stop) }
 {
     let next = under_b2(reference, places, at);
-    let chosen = chooses_b2::<CHOICE>(reference, next);
-    if is_taken::<CHOICE>(chosen) {
-        Ok(next)
-    } else {
-        Err(Stop::Doubt)
+    if CHOICE && next.reached.first_pel() >= reference.width {
+        return Err(Stop::Doubt);
     }
+    Ok(next)
 }
 
 /// Reads one mode, and goes on by what it says; where a1 is under b1 it reads more such modes too
@@ -151,8 +154,7 @@ fn next_steps<const CHOICE: bool, const EXACT: bool>(
     ensures err { IfErr result (λ stop. IsStopOf CHOICE EXACT
         (λ fault. Fault.IsStepFault (placed_pels reference.entry)
         (placed_position reference.entry.width places.old at) source.old.left fault) stop) }
-    ensures first { slice_index places.new 0 ≡ 0 }
-    ensures same_len { length places.new ≡ length places.old }
+    ensures room { HasRoom reference.entry.width places.new }
     ensures same_end { KeepsEnd source.old source.new }
     ensures shorter { OnOk result (length source.new.left < length source.old.left) }
 {
@@ -166,7 +168,7 @@ fn next_steps<const CHOICE: bool, const EXACT: bool>(
     }
 }
 
-/// Reads the modes of a row over the reference row, and answers where its places end. With `CHOICE`
+/// Reads the modes of a row over the reference row, and answers it. With `CHOICE`
 /// it stops at the first step that is not seen to be T.4's choice, without `EXACT` at the first code
 /// that no look-up finds. Where it stops the source is as it was.
 #[inline(never)]
@@ -174,22 +176,20 @@ pub(super) fn read_modes<const CHOICE: bool, const EXACT: bool>(
     source: &mut BitSource,
     reference: PlacedRow,
     places: &mut [u32],
-) -> Result<usize, Stop>
-    requires room { length places.old ≡ reference.width + 4 }
-    requires first { slice_index places.old 0 ≡ 0 }
-    ensures ok { IfOk result (λ end. Spec.IsTwoDimensionalRow (placed_pels reference.entry)
-        source.old.left (row_of places.new end reference.entry.width) source.new.left) }
-    ensures ascending { IfOk result (λ end. IsAscending places.new end) }
-    ensures last { IfOk result (λ end. slice_index places.new (end - 1) ≤ reference.entry.width) }
-    ensures chosen { IfOk result (λ end. IsTrue CHOICE
+) -> Result<ReadRow, Stop>
+    requires room { HasRoom reference.width places.old }
+    ensures ok { IfOk result (λ read. Spec.IsTwoDimensionalRow (placed_pels reference.entry)
+        source.old.left (row_of places.new read.end reference.entry.width) source.new.left) }
+    ensures put { IfOk result
+        (λ read. ArePut reference.entry.width places.new read.end reference.entry.width) }
+    ensures chosen { IfOk result (λ read. IsTrue read.is_chosen
         → source.old.left ≡ two_dimensional_bits (placed_pels reference.entry)
-        (row_of places.new end reference.entry.width) ++ source.new.left) }
+        (row_of places.new read.end reference.entry.width) ++ source.new.left) }
     ensures err { IfErr result (λ stop. IsStopOf CHOICE EXACT
         (λ fault. Fault.IsTwoDimensionalFault (placed_pels reference.entry)
         source.old.left fault) stop) }
     ensures unchanged { OnErr result (source.new ≡ source.old) }
-    ensures first { slice_index places.new 0 ≡ 0 }
-    ensures same_len { length places.new ≡ length places.old }
+    ensures room { HasRoom reference.entry.width places.new }
     ensures same_end { KeepsEnd source.old source.new }
 {
     let mut ahead = source.again();
@@ -198,5 +198,8 @@ pub(super) fn read_modes<const CHOICE: bool, const EXACT: bool>(
         at = next_steps::<CHOICE, EXACT>(&mut ahead, reference, places, at)?;
     }
     source.go_to(&ahead);
-    Ok(at.end)
+    Ok(ReadRow {
+        end: at.end,
+        is_chosen: CHOICE,
+    })
 }

@@ -10,6 +10,7 @@ ghost use Rattle.fax_rows.specs.code.Seen.{b2_from};
 ghost use Rattle.fax_rows.specs.code.Chosen.{after_pair};
 ghost use Rattle.fax_rows.specs.code.PlacedRow.{placed_pels, IsB1At};
 ghost use Rattle.fax_rows.specs.code.Reached.{reached_pel, position_of};
+ghost use Rattle.fax_rows.specs.code.Put.{HasRoom};
 ghost use Rattle.fax_rows.specs.code.PlacedReached.{placed_position, IsReadTo};
 
 use crate::rows::PlacedRow;
@@ -140,8 +141,6 @@ fn turned_at(
         (placed_position reference.entry.width places.old at) d
         (placed_position reference.entry.width places.new result) }
     ensures so_far { IsReadTo reference.entry places.new result }
-    ensures first { slice_index places.new 0 ≡ 0 }
-    ensures same_len { length places.new ≡ length places.old }
 {
     let end = turn_right(places, at.end, a1);
     PlacedReached {
@@ -164,8 +163,6 @@ pub(crate) fn under_b1(reference: PlacedRow, places: &mut [u32], at: PlacedReach
         (placed_position reference.entry.width places.old at) (pos 0)
         (placed_position reference.entry.width places.new result) }
     ensures so_far { IsReadTo reference.entry places.new result }
-    ensures first { slice_index places.new 0 ≡ 0 }
-    ensures same_len { length places.new ≡ length places.old }
 {
     turned_at(reference, places, at, reference.places[at.b1], at.b1 + 1)
 }
@@ -188,8 +185,7 @@ pub(crate) fn right_of_b1(
     ensures so_far { IfSome result (λ next. IsReadTo reference.entry places.new next) }
     ensures out { IfNone result (Spec.IsInRow (placed_pels reference.entry)
         (placed_position reference.entry.width places.old at) d → ⊥) }
-    ensures first { slice_index places.new 0 ≡ 0 }
-    ensures same_len { length places.new ≡ length places.old }
+    ensures room { HasRoom reference.entry.width places.new }
 {
     let place = reference.places[at.b1] + u32::from(d.unsigned_abs());
     if place > reference.width {
@@ -217,8 +213,7 @@ pub(crate) fn left_of_b1(
     ensures so_far { IfSome result (λ next. IsReadTo reference.entry places.new next) }
     ensures out { IfNone result (Spec.IsInRow (placed_pels reference.entry)
         (placed_position reference.entry.width places.old at) d → ⊥) }
-    ensures first { slice_index places.new 0 ≡ 0 }
-    ensures same_len { length places.new ≡ length places.old }
+    ensures room { HasRoom reference.entry.width places.new }
 {
     let place = at.reached.left_of(reference.places[at.b1], d)?;
     let b1 = reference.b1_before(at.b1, place);
@@ -246,8 +241,6 @@ pub(crate) fn after_runs(
     ensures placed { placed_position reference.entry.width places.new result
         ≡ after_pair (placed_position reference.entry.width places.old at) first second }
     ensures so_far { IsReadTo reference.entry places.new result }
-    ensures first { slice_index places.new 0 ≡ 0 }
-    ensures same_len { length places.new ≡ length places.old }
 {
     let middle = at.reached.first_pel() + first;
     let to = middle + second;

@@ -12,18 +12,16 @@ pub loop-k-init : goal.loop-k-init
 loop-k-init c = record {
   within = omega arith;
   done = λ i h. absurd (omega arith);
-  so_far = passed_none c.args.row.places.now c.args.row.end c.args.row.width c.args.row.placed;
+  so_far = passed_none c.args.row.placed;
   len = refl;
 }
 
 pub bounds-row-passed : goal.bounds-row-passed
-bounds-row-passed c =
-    passed-lt c.args.row.places.now c.args.row.end c.args.row.width c.args.row.placed (64 * c.loop-k.k) c.loop-k.passed c.loop-k.invariant.so_far
+bounds-row-passed c = passed-lt c.args.row.placed (64 * c.loop-k.k) c.loop-k.passed c.loop-k.invariant.so_far
 
 pub fill-requires-clause-within : goal.fill-requires-clause-within
 fill-requires-clause-within c =
-    let most = place_at_most c.args.row.places.now c.args.row.end c.args.row.width c.args.row.placed (64 * c.loop-k.k) c.loop-k.passed
-    c.loop-k.invariant.so_far in
+    let most = place_at_most c.args.row.placed (64 * c.loop-k.k) c.loop-k.passed c.loop-k.invariant.so_far in
     omega (arith, most, c.requires.within, c.requires.room, c.loop-k.invariant.len)
 
 pub loop-k-preserved-then-k-change : goal.loop-k-preserved-then-k-change
@@ -31,16 +29,15 @@ loop-k-preserved-then-k-change c =
     let change = get_or c.args.row.places.now c.loop-k.passed 0 in
     let row = row_of c.args.row.places.now c.args.row.end c.args.row.width in
     let so_far = c.loop-k.invariant.so_far in
-    let most = place_at_most c.args.row.places.now c.args.row.end c.args.row.width c.args.row.placed (64 * c.loop-k.k) c.loop-k.passed so_far in
+    let most = place_at_most c.args.row.placed (64 * c.loop-k.k) c.loop-k.passed so_far in
     let passed : (i : ℕ) → 8 * c.loop-k.k ≤ i → i < 8 * (change / 64) → HasPassed c.args.row.places.now c.args.row.end (8 * i) c.loop-k.passed =
-    λ i h l. still_passed c.args.row.places.now c.args.row.end c.args.row.width c.args.row.placed (64 * c.loop-k.k) (8 * i) c.loop-k.passed so_far
-    (omega arith) (λ r. omega arith) in
+    λ i h l. still_passed c.args.row.placed (64 * c.loop-k.k) (8 * i) c.loop-k.passed so_far (omega arith) (λ r. omega arith) in
     let whole : (i : ℕ) → 8 * c.loop-k.k ≤ i → i < 8 * (change / 64) → c.if-passed-eq1.byte ≡ packed_byte row (8 * i) =
     λ i h l. elim c.if-passed-eq1.branch [
-      | then-passed-eq1 w ↦ w.byte-is ∙ whole_white c.args.row.places.now c.args.row.end c.args.row.width c.args.row.placed (8 * i) c.loop-k.passed
-          (passed i h l) (omega (arith, most)) (omega arith) (omega (arith, w.if-passed-eq1))
-      | else-passed-eq1 w ↦ w.byte-is ∙ whole_black c.args.row.places.now c.args.row.end c.args.row.width c.args.row.placed (8 * i) c.loop-k.passed
-          (passed i h l) (omega (arith, most)) (omega arith) (omega (arith, w.if-passed-eq1))
+      | then-passed-eq1 w ↦ w.byte-is ∙ whole_white c.args.row.placed (8 * i) c.loop-k.passed (passed i h l) (omega (arith, most)) (omega
+          arith) (omega (arith, w.if-passed-eq1))
+      | else-passed-eq1 w ↦ w.byte-is ∙ whole_black c.args.row.placed (8 * i) c.loop-k.passed (passed i h l) (omega (arith, most)) (omega
+          arith) (omega (arith, w.if-passed-eq1))
     ] in
     record {
       within = omega (arith, most, c.requires.within);
@@ -48,8 +45,8 @@ loop-k-preserved-then-k-change c =
         | inl less ↦ c.fill.ensures.before i less ∙ c.loop-k.invariant.done i less
         | inr more ↦ c.fill.ensures.filled i more h ∙ whole i more h
       ];
-      so_far = still_passed c.args.row.places.now c.args.row.end c.args.row.width c.args.row.placed (64 * c.loop-k.k) (64 * (change / 64)) c.loop-k.passed
-          so_far (omega arith) (λ r. omega arith);
+      so_far = still_passed c.args.row.placed (64 * c.loop-k.k) (64 * (change / 64)) c.loop-k.passed so_far (omega arith) (λ r. omega
+          arith);
       len = c.fill.ensures.same_len ∙ c.loop-k.invariant.len;
     }
 
@@ -72,7 +69,8 @@ loop-k-preserved c =
             c.packed_word-word.ensures.word (omega (arith, wide, c.requires.within)) (omega arith)
             ∙ ap (packed_byte row) at
       ];
-      so_far = subst (λ n. HasPassed c.args.row.places.now c.args.row.end n c.packed_word-word.result.1) next c.packed_word-word.ensures.so_far;
+      so_far =
+          subst (λ n. HasPassed c.args.row.places.now c.args.row.end n c.packed_word-word.result.1) next c.packed_word-word.ensures.so_far;
       len = c.write_word.ensures.same_len ∙ c.loop-k.invariant.len;
     }
 

@@ -23,7 +23,7 @@ returns-in_default-next_run-clause-err c =
     let white = put_goes_on c.args.sink.now c.loop-white.sink c.put_run.new.sink _ _ _ _ _ _ c.loop-white.invariant
     (row_bits_go_on White _ c.loop-white.runs _ c.in-Some.ensures.first) c.in_ok-pending.ensures.ok in
     on_err_weaker c.put_all.result
-    (pending_stops c.args.sink.now c.put_run.new.sink c.put_all.new.sink _ _ white)
+    (pending_stops white)
     c.put_all.ensures.err
 
 pub returns-in_err-pending-2-clause-err : goal.returns-in_err-pending-2-clause-err

@@ -14,14 +14,16 @@ choose-mode-requires-clause-b1 c =
     let known = known_bounds c.args.rows c.args.ahead c.requires.places c.requires.unfinished in
     omega (arith, known.b1, c.args.rows.row.placed.short)
 
-pub put_run_pair-requires-clause-a0 : goal.put_run_pair-requires-clause-a0
-put_run_pair-requires-clause-a0 c = (known_bounds c.args.rows c.args.ahead c.requires.places c.requires.unfinished).a0
+pub overflow_sub-second : goal.overflow_sub-second
+overflow_sub-second c = (known_bounds c.args.rows c.args.ahead c.requires.places c.requires.unfinished).a1_a2
 
-pub put_run_pair-requires-clause-a1 : goal.put_run_pair-requires-clause-a1
-put_run_pair-requires-clause-a1 c = (known_bounds c.args.rows c.args.ahead c.requires.places c.requires.unfinished).a1_a2
+pub put_pair-requires-clause-first : goal.put_pair-requires-clause-first
+put_pair-requires-clause-first c =
+    let known = known_bounds c.args.rows c.args.ahead c.requires.places c.requires.unfinished in
+    omega (arith, known.a2, known.a1_a2, c.args.rows.row.placed.short)
 
-pub put_run_pair-requires-clause-short : goal.put_run_pair-requires-clause-short
-put_run_pair-requires-clause-short c =
+pub put_pair-requires-clause-second : goal.put_pair-requires-clause-second
+put_pair-requires-clause-second c =
     let known = known_bounds c.args.rows c.args.ahead c.requires.places c.requires.unfinished in
     omega (arith, known.a2, c.args.rows.row.placed.short)
 
@@ -31,8 +33,8 @@ returns-in_err-pending-in-Horizontal-2-clause-err c =
     let bits = horizontal_bits c.args.rows c.args.ahead c.requires.places c.requires.unfinished c.choose-mode.result c.choose-mode.ensures
     c.in-Horizontal.is in
     on_err c.from_residual-in_err-pending-in-Horizontal-2.result
-    (rw bits
-    (pair_stops c.args.sink.now c.put_mode-in-Horizontal.new.sink c.put_run_pair.new.sink _ _ _ _
+    (rw (bits, ← c.unwrap_or.ensures)
+    (pair_stops c.args.sink.now c.put_mode-in-Horizontal.new.sink c.put_pair.new.sink _ _ _ _
     c.in_ok-pending-in-Horizontal.ensures.ok
     c.in_err-pending-in-Horizontal-2.ensures.err))
 
@@ -41,7 +43,7 @@ pub returns-in_ok-pending-in-Horizontal-2-clause-ok :
 returns-in_ok-pending-in-Horizontal-2-clause-ok c =
     let bits = horizontal_bits c.args.rows c.args.ahead c.requires.places c.requires.unfinished c.choose-mode.result c.choose-mode.ensures
     c.in-Horizontal.is in
-    rw bits
-    (pair_put c.args.sink.now c.put_mode-in-Horizontal.new.sink c.put_run_pair.new.sink _ _ _ _
+    rw (bits, ← c.unwrap_or.ensures)
+    (pair_put c.args.sink.now c.put_mode-in-Horizontal.new.sink c.put_pair.new.sink _ _ _ _
     c.in_ok-pending-in-Horizontal.ensures.ok _
     c.in_ok-pending-in-Horizontal-2.ensures.ok)

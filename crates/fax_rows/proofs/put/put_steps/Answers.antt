@@ -55,6 +55,5 @@ returns-clause-ok c =
 pub returns-clause-err : goal.returns-clause-err
 returns-clause-err c =
     on_err_weaker c.put_all.result
-    (place_ends_early (placed_pels c.args.rows.reference) (placed_pels c.args.rows.row) c.args.sink.now c.loop-at.sink c.put_all.new.sink
-    c.loop-at.at.a0 c.loop-at.pending c.loop-at.invariant.placed)
+    (place_ends_early c.loop-at.invariant.placed)
     c.put_all.ensures.err

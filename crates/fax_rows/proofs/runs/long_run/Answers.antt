@@ -9,7 +9,7 @@ returns-clause-ok c =
     let start : c.again-copy.result ≡ c.args.source.now = c.again-copy.ensures in
     let run = rw start at c.in_ok-n.ensures.ok in
     let end = rw start at c.in_ok-n.ensures.same_end in
-    let parts = run_after c.args.colour c.args.source.now.left c.in_ok-n.n c.read_run.new.source.left run in
+    let parts = run_after run in
     let same = from_there c.args.source.now c.read_run.new.source parts.0 parts.1 end in
     let there : c.skip_to.new.self ≡ c.read_run.new.source =
     c.skip_to.ensures ∙ rw c.place.ensures same in

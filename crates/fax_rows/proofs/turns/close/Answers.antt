@@ -4,7 +4,7 @@ use Rattle.fax_rows.proofs.turns.close.Goals as goal
 
 pub returns-clause-placed : goal.returns-clause-placed
 returns-clause-placed c =
-    are_closed c.args.places.now c.end_below-end.result c.args.width c.requires.some c.requires.short c.requires.room
+    are_closed c.args.places.now c.end_below-end.result c.args.width c.requires.some c.requires.short c.requires.put.room
     c.end_below-end.ensures.within c.end_below-end.ensures.ascending c.end_below-end.ensures.below
 
 pub returns-clause-pels : goal.returns-clause-pels

@@ -5,22 +5,21 @@ use Rattle.fax_rows.proofs.CopiedPlaceLemmas.{length-copied, copied_at}
 use Rattle.fax_rows.proofs.turns.copy_places.Goals as goal
 
 pub slice_bounds-copy_from_slice-end : goal.slice_bounds-copy_from_slice-end
-slice_bounds-copy_from_slice-end c =
-    omega (arith, c.requires.room, end_within c.args.other.now c.args.end c.args.width c.requires.row)
+slice_bounds-copy_from_slice-end c = omega (arith, c.requires.room, end_within c.requires.row)
 
 pub slice_bounds-copy_from_slice-end-2 : goal.slice_bounds-copy_from_slice-end-2
 slice_bounds-copy_from_slice-end-2 c =
     sym (length-take-le (c.args.end + 3) c.args.places.now
-    (omega (arith, c.requires.room, end_within c.args.other.now c.args.end c.args.width c.requires.row)))
+    (omega (arith, c.requires.room, end_within c.requires.row)))
 
 pub slice_bounds-copy_from_slice-end-3 : goal.slice_bounds-copy_from_slice-end-3
 slice_bounds-copy_from_slice-end-3 c =
     sym (length-take-le (c.args.end + 3) c.args.other.now
-    (omega (arith, c.requires.row.room, end_within c.args.other.now c.args.end c.args.width c.requires.row)))
+    (omega (arith, c.requires.row.room, end_within c.requires.row)))
 
 pub returns-clause-placed : goal.returns-clause-placed
 returns-clause-placed c =
-    let within = end_within c.args.other.now c.args.end c.args.width c.requires.row in
+    let within = end_within c.requires.row in
     let short : c.args.end + 3 ≤ length c.args.other.now = omega (arith, c.requires.row.room, within) in
     let room : c.args.end + 3 ≤ length c.args.places.now = omega (arith, c.requires.room, within) in
     let copied = c.copy_from_slice.new.self in
@@ -30,7 +29,7 @@ returns-clause-placed c =
 
 pub returns-clause-pels : goal.returns-clause-pels
 returns-clause-pels c =
-    let within = end_within c.args.other.now c.args.end c.args.width c.requires.row in
+    let within = end_within c.requires.row in
     let short : c.args.end + 3 ≤ length c.args.other.now = omega (arith, c.requires.row.room, within) in
     let room : c.args.end + 3 ≤ length c.args.places.now = omega (arith, c.requires.room, within) in
     let copied = c.copy_from_slice.new.self in

@@ -6,8 +6,7 @@ use Rattle.fax_rows.proofs.turns.end_below.Goals.{Joined-else-end-gt1, else-end-
 use Rattle.fax_rows.proofs.turns.end_below.Goals.{else-end-gt1-via-else-end-gt1}
 
 pub returns-then-places-end-clause-below : goal.returns-then-places-end-clause-below
-returns-then-places-end-clause-below c =
-    below_last c.args.places.now c.args.end c.args.width c.requires.ascending c.requires.last
+returns-then-places-end-clause-below c = below_last c.args.places.now c.args.end c.args.width c.requires.ascending c.requires.last
 
 pub returns-then-places-end-clause-within : goal.returns-then-places-end-clause-within
 returns-then-places-end-clause-within c =

@@ -29,7 +29,7 @@ pub turn-end-requires-clause-room : goal.turn-end-requires-clause-room
 turn-end-requires-clause-room c =
     omega (
       arith,
-      c.requires.room,
+      c.requires.room.len,
       places_within c.loop-at.places c.loop-at.end c.loop-at.at c.loop-at.invariant.ascending
           c.loop-at.invariant.last,
     )

@@ -5,8 +5,7 @@ use Rattle.fax_bits.proofs.look_up.RunWithinLookUp.find.Goals as goal
 use Rattle.fax_bits.proofs.look_up.RunWithinLookUp.find.Goals.{then-pels-terminating+in_ok-more+else-last-terminating, else-pels-terminating}
 
 pub overflow_shl-bits : goal.overflow_shl-bits
-overflow_shl-bits c =
-    omega (arith, place_short c.args.self.colour _ c.in_ok-len.len c.in_ok-len.pels c.in_ok-len.ensures.1)
+overflow_shl-bits c = omega (arith, place_short c.args.self.colour _ c.in_ok-len.len c.in_ok-len.pels c.in_ok-len.ensures.1)
 
 pub overflow_add-len : goal.overflow_add-len
 overflow_add-len c =

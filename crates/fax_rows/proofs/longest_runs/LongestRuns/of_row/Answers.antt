@@ -14,10 +14,10 @@ returns c =
     let some : 0 < length places = omega (arith, c.row.invariant.room) in
     rw c.deref.ensures.value
     (ap runs_between (row_bounds places end some c.row.invariant.ascending.first)
-    ∙ ap (gaps 0) (ends_are places end width c.row.invariant)
+    ∙ ap (gaps 0) (ends_are c.row.invariant)
     ∙ gaps_are_runs c.args.row.now (take (end - 1) (drop 1 places)) width
-    (changes_are places end width c.row.invariant c.args.row.now c.row.view_is)
-    (width_is places end width c.row.invariant c.args.row.now c.row.view_is))
+    (changes_are c.row.invariant c.row.view_is)
+    (width_is c.row.invariant c.row.view_is))
 
 pub invariant_of-result : goal.invariant_of-result
 invariant_of-result c =
@@ -26,7 +26,7 @@ invariant_of-result c =
     let some : 0 < length places = omega (arith, c.row.invariant.room) in
     rw c.deref.ensures.value
     (subst AreBounds (sym (row_bounds places end some c.row.invariant.ascending.first))
-    (are_bounds (take end (drop 1 places)) (ahead_of_row places end c.row.inside.width c.row.invariant)))
+    (are_bounds (take end (drop 1 places)) (ahead_of_row c.row.invariant)))
 
 pub slice_bounds-result-end : goal.slice_bounds-result-end
 slice_bounds-result-end c =
@@ -35,5 +35,5 @@ slice_bounds-result-end c =
       arith,
       c.deref.ensures.len,
       c.row.invariant.room,
-      end_within c.row.inside.places.items c.row.inside.end c.row.inside.width c.row.invariant,
+      end_within c.row.invariant,
     )))

@@ -4,4 +4,4 @@ use Rattle.fax_rows.proofs.pels.Row.changes.Goals as goal
 pub returns : goal.returns
 returns c =
     rw c.deref.ensures.value
-    (changes_are c.self.inside.places.items c.self.inside.end c.self.inside.width c.self.invariant c.args.self.now c.self.view_is)
+    (changes_are c.self.invariant c.self.view_is)

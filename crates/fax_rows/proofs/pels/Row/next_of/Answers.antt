@@ -7,7 +7,7 @@ use Rattle.fax_rows.proofs.pels.Row.next_of.Goals as goal
 pub bounds-row-b1_from : goal.bounds-row-b1_from
 bounds-row-b1_from c =
     let row = c.placed-row.result in
-    omega (arith, c.b1_from.ensures.within, row.placed.room, end_within row.places.now row.end row.width row.placed)
+    omega (arith, c.b1_from.ensures.within, row.placed.room, end_within row.placed)
 
 pub returns : goal.returns
 returns c =
@@ -15,8 +15,8 @@ returns c =
     let at = c.b1_from.ensures in
     let width = placed_width row c.args.self.now c.placed-row.ensures in
     record {
-      place = b1_is row c.args.from c.args.colour c.b1_from.result at
+      place = b1_is row at
           ∙ ap (λ pels. b1 pels c.args.from c.args.colour) c.placed-row.ensures;
       within = omega (arith, width, b1_at_most row c.b1_from.result at.some at.within);
-      right = λ h. b1_right row c.args.from c.args.colour c.b1_from.result at (omega (arith, width));
+      right = λ h. b1_right row at (omega (arith, width));
     }

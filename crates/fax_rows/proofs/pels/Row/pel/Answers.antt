@@ -6,5 +6,4 @@ pub returns : goal.returns
 returns c =
     let at = rw c.deref.ensures.value at c.places_up_to.ensures in
     c.colour_after.ensures
-    ∙ sym (pel_here c.self.inside.places.items c.self.inside.end c.self.inside.width c.self.invariant c.args.self.now c.self.view_is
-    c.args.i c.places_up_to.result c.requires at)
+    ∙ sym (pel_here c.self.invariant c.self.view_is c.args.i c.places_up_to.result c.requires at)

@@ -7,17 +7,17 @@ use Rattle.fax_rows.proofs.pels.Row.set_from.Goals as goal
 pub copy_places-requires-clause-row : goal.copy_places-requires-clause-row
 copy_places-requires-clause-row c =
     let same : c.row.inside.width ≡ c.self.inside.width =
-    width_is c.row.inside.places.items c.row.inside.end c.row.inside.width c.row.invariant c.args.row.now c.row.view_is
+    width_is c.row.invariant c.row.view_is
     ∙ sym c.requires
-    ∙ sym (width_is c.self.inside.places.items c.self.inside.end c.self.inside.width c.self.invariant c.args.self.now c.self.view_is) in
+    ∙ sym (width_is c.self.invariant c.self.view_is) in
     rw c.deref.ensures.value (subst (λ width. ArePlaces c.row.inside.places.items c.row.inside.end width) same c.row.invariant)
 
 pub returns : goal.returns
 returns c =
     let same : c.self.inside.width ≡ c.row.inside.width =
-    width_is c.self.inside.places.items c.self.inside.end c.self.inside.width c.self.invariant c.args.self.now c.self.view_is
+    width_is c.self.invariant c.self.view_is
     ∙ c.requires
-    ∙ sym (width_is c.row.inside.places.items c.row.inside.end c.row.inside.width c.row.invariant c.args.row.now c.row.view_is) in
+    ∙ sym (width_is c.row.invariant c.row.view_is) in
     let copied = rw c.deref.ensures.value at c.copy_places.ensures.pels in
     ap (λ places. pels_by c.self.inside.width (take c.row.inside.end places))
     (refilled c.self.inside.places.len c.copy_places.new.places c.self.inside.places.items (omega arith))

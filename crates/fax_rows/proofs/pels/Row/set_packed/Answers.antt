@@ -8,7 +8,7 @@ use Rattle.fax_rows.proofs.pels.Row.set_packed.Goals as goal
 
 pub places_of_bits-end-requires-clause-whole : goal.places_of_bits-end-requires-clause-whole
 places_of_bits-end-requires-clause-whole c =
-    let same = width_is c.self.inside.places.items c.self.inside.end c.self.inside.width c.self.invariant c.args.self.now c.self.view_is in
+    let same = width_is c.self.invariant c.self.view_is in
     rw same c.requires
 
 pub returns-clause-pels : goal.returns-clause-pels
@@ -17,9 +17,9 @@ returns-clause-pels c =
     (refilled c.self.inside.places.len c.close-self-inside.new.places c.self.inside.places.items (omega arith))
     ∙ c.close-self-inside.ensures.pels ∙ c.places_of_bits-end.ensures.pels
     ∙ ap (λ width. unpacked_row width c.args.bytes.now)
-    (width_is c.self.inside.places.items c.self.inside.end c.self.inside.width c.self.invariant c.args.self.now c.self.view_is)
+    (width_is c.self.invariant c.self.view_is)
 
 pub returns-clause-same_width : goal.returns-clause-same_width
 returns-clause-same_width c =
     length-pels_by c.self.inside.width _
-    ∙ width_is c.self.inside.places.items c.self.inside.end c.self.inside.width c.self.invariant c.args.self.now c.self.view_is
+    ∙ width_is c.self.invariant c.self.view_is

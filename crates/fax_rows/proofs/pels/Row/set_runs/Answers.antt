@@ -18,7 +18,7 @@ longest_of row runs len width same wide is =
 
 pub returns-then-not-are_longest-clause-no_such_row : goal.returns-then-not-are_longest-clause-no_such_row
 returns-then-not-are_longest-clause-no_such_row c = λ told row len is.
-    let wide = width_is c.self.inside.places.items c.self.inside.end c.self.inside.width c.self.invariant c.args.self.now c.self.view_is in
+    let wide = width_is c.self.invariant c.self.view_is in
     absurd (false≢true (c.if-not-are_longest.ensures.1
     (longest_of row c.args.runs.now (length c.args.self.now) c.self.inside.width len wide is)))
 
@@ -32,4 +32,4 @@ returns-clause-set c = λ told.
 pub returns-clause-same_width : goal.returns-clause-same_width
 returns-clause-same_width c =
     length-pels_by c.self.inside.width _
-    ∙ width_is c.self.inside.places.items c.self.inside.end c.self.inside.width c.self.invariant c.args.self.now c.self.view_is
+    ∙ width_is c.self.invariant c.self.view_is

@@ -19,5 +19,4 @@ returns c =
     ∙ closed
     ∙ ap (pels_by c.self.inside.width) (first_place c.self.inside.places.items some c.self.invariant.ascending.first)
     ∙ white_row c.self.inside.width
-    ∙ ap (λ n. replicate n White) (width_is c.self.inside.places.items c.self.inside.end c.self.inside.width c.self.invariant
-    c.args.self.now c.self.view_is)
+    ∙ ap (λ n. replicate n White) (width_is c.self.invariant c.self.view_is)

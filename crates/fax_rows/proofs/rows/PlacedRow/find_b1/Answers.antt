@@ -6,7 +6,7 @@ use Rattle.fax_rows.proofs.rows.PlacedRow.find_b1.Goals as goal
 pub bounds-self-b1 : goal.bounds-self-b1
 bounds-self-b1 c =
     let row = c.args.self in
-    omega (arith, row.placed.room, end_within row.places.now row.end row.width row.placed)
+    omega (arith, row.placed.room, end_within row.placed)
 
 pub loop-b1-preserved : goal.loop-b1-preserved
 loop-b1-preserved c = record {

@@ -7,7 +7,7 @@ use Rattle.fax_rows.proofs.rows.PlacedRow.turned_b1_after.Goals as goal
 pub bounds-self-b1 : goal.bounds-self-b1
 bounds-self-b1 c =
     let row = c.args.self in
-    omega (arith, row.placed.room, end_within row.places.now row.end row.width row.placed)
+    omega (arith, row.placed.room, end_within row.placed)
 
 pub b1_after-requires : goal.b1_after-requires
 b1_after-requires c = record {

@@ -25,8 +25,7 @@ returns-in-Vertical-clause-chosen g c =
     map_both c.vertical.result c.vertical.ensures.ok c.vertical.ensures.left
     (λ next step left asked. chosen_goes_on c.args.reference c.args.places.now c.args.at c.requires.unfinished c.args.source.now.left _
     c.next_mode.new.source.left
-    (vertical_chosen_as c.args.reference c.args.places.now c.args.at c.requires.so_far c.requires.unfinished c.args.source.now.left
-    c.in-Vertical.d _ _ c.next_mode.new.source.left takes step (left asked) (search rules)))
+    (vertical_chosen_as c.requires.so_far c.requires.unfinished takes step (left asked) (search rules)))
 
 pub returns-in-Pass-clause-ok : goal.returns-in-Pass-clause-ok
 returns-in-Pass-clause-ok g c =
@@ -42,8 +41,7 @@ returns-in-Pass-clause-chosen g c =
     map_both c.pass.result c.pass.ensures.ok c.pass.ensures.inside
     (λ next step inside asked. chosen_goes_on c.args.reference c.args.places.now c.args.at c.requires.unfinished c.args.source.now.left _
     c.next_mode.new.source.left
-    (pass_chosen c.args.reference c.args.places.now c.args.at c.requires.so_far c.requires.unfinished c.args.source.now.left _
-    c.next_mode.new.source.left takes step (omega (arith, length-placed_pels c.args.reference, inside asked))))
+    (pass_chosen c.requires.so_far c.requires.unfinished takes step (omega (arith, length-placed_pels c.args.reference, inside asked))))
 
 pub returns-in-Horizontal-clause-ok : goal.returns-in-Horizontal-clause-ok
 returns-in-Horizontal-clause-ok g c =
@@ -57,5 +55,4 @@ returns-in-Horizontal-clause-chosen g c =
     let takes = rw c.in-Horizontal.is at c.in_ok-mode.ensures.ok in
     map_ok c.horizontal.result c.horizontal.ensures.chosen
     (λ next chosen is. chosen_goes_on c.args.reference c.args.places.now c.args.at c.requires.unfinished c.args.source.now.left _ c.horizontal.new.source.left
-    (pair_chosen c.args.reference c.args.places.now c.args.at c.requires.so_far c.requires.unfinished c.args.source.now.left
-    c.next_mode.new.source.left _ c.horizontal.new.source.left takes (chosen is)))
+    (pair_chosen c.requires.so_far c.requires.unfinished takes (chosen is)))

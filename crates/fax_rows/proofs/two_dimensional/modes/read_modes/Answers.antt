@@ -18,8 +18,7 @@ loop-ahead-init g c = rw c.again-ahead.ensures (record {
   chosen = λ h. chosen_begins (placed_pels c.args.reference) c.args.source.now.left _ refl;
   steps = steps_begin (placed_pels c.args.reference)
       (pels_by c.args.reference.width (take 1 c.args.places.now)) c.args.source.now.left;
-  so_far = nothing_read c.args.reference c.args.places.now c.requires.room
-      c.requires.first;
+  so_far = nothing_read c.requires.room;
   same_end = refl;
 })
 
@@ -28,8 +27,7 @@ loop-ahead-preserved g c =
     let old = placed_position c.args.reference.width c.loop-ahead.places c.loop-ahead.at in
     let new = placed_position c.args.reference.width c.next_steps.new.places c.in_ok-at.at in
     record {
-      steps = all_go_on (placed_pels c.args.reference) c.args.source.now.left old c.loop-ahead.ahead.left new c.next_steps.new.source.left
-          c.loop-ahead.invariant.steps c.in_ok-at.ensures.ok;
+      steps = all_go_on c.loop-ahead.invariant.steps c.in_ok-at.ensures.ok;
       chosen = λ h.
           all_chosen_go_on (placed_pels c.args.reference) c.args.source.now.left old c.loop-ahead.ahead.left new c.next_steps.new.source.left
           (c.loop-ahead.invariant.chosen h) (c.in_ok-at.ensures.chosen h);

@@ -6,12 +6,11 @@ use Rattle.fax_rows.proofs.PlacedStepLemmas.{b1_in_room, number_right, under_wit
 use Rattle.fax_rows.proofs.two_dimensional.steps.left_of_b1.Goals as goal
 
 pub bounds-reference-at : goal.bounds-reference-at
-bounds-reference-at c =
-    omega (arith, b1_in_room c.args.reference c.args.places.now c.args.at c.requires.so_far c.requires.unfinished)
+bounds-reference-at c = omega (arith, b1_in_room c.requires.so_far c.requires.unfinished)
 
 pub turned_at-requires-clause-within : goal.turned_at-requires-clause-within
 turned_at-requires-clause-within c =
-    let within = under_within c.args.reference c.args.places.now c.args.at c.requires.so_far c.requires.unfinished in
+    let within = under_within c.requires.so_far c.requires.unfinished in
     omega (arith, ints, within, c.in_ok-place.ensures.place, c.requires.left.le)
 
 pub turned_at-requires-clause-b1 : goal.turned_at-requires-clause-b1
@@ -27,5 +26,5 @@ returns-clause-step c = c.turned_at.ensures.step c.args.d (omega (arith, ints, c
 pub returns-in_err-place-clause-out : goal.returns-in_err-place-clause-out
 returns-in_err-place-clause-out c =
     rw c.from_residual.ensures (λ in_row.
-    let begins = row_begins c.args.reference c.args.places.now c.args.at c.requires.so_far c.requires.unfinished c.args.d in_row in
+    let begins = row_begins c.requires.so_far c.requires.unfinished c.args.d in_row in
     omega (arith, ints, begins, c.in_err-place.ensures.none))

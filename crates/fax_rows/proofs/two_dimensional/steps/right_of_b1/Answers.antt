@@ -6,17 +6,16 @@ use Rattle.fax_rows.proofs.PlacedStepLemmas.{b1_in_room, under_right, row_ends}
 use Rattle.fax_rows.proofs.two_dimensional.steps.right_of_b1.Goals as goal
 
 pub bounds-reference-at : goal.bounds-reference-at
-bounds-reference-at c =
-    omega (arith, b1_in_room c.args.reference c.args.places.now c.args.at c.requires.so_far c.requires.unfinished)
+bounds-reference-at c = omega (arith, b1_in_room c.requires.so_far c.requires.unfinished)
 
 pub returns-then-place-reference-clause-out : goal.returns-then-place-reference-clause-out
 returns-then-place-reference-clause-out c = λ in_row.
-    let ends = row_ends c.args.reference c.args.places.now c.args.at c.requires.so_far c.requires.unfinished c.args.d in_row in
+    let ends = row_ends c.requires.so_far c.requires.unfinished c.args.d in_row in
     omega (arith, ints, ends, c.from.ensures, c.unsigned_abs.ensures.value, c.requires.right.le)
 
 pub turned_at-requires-clause-right : goal.turned_at-requires-clause-right
 turned_at-requires-clause-right c =
-    let under = under_right c.args.reference c.args.places.now c.args.at c.requires.so_far c.requires.unfinished in
+    let under = under_right c.requires.so_far c.requires.unfinished in
     omega (arith, ints, under)
 
 pub turned_at-requires-clause-b1 : goal.turned_at-requires-clause-b1
