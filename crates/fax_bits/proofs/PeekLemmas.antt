@@ -37,23 +37,6 @@ fold-lt (false ∷ b) a = rw (pow-succ' 2 (length b)) (omega (arith, fold-lt b (
 pub bits_number-lt : (b : List Bool) → bits_number b < 2 ^ length b
 bits_number-lt b = omega (arith, fold-lt b 0)
 
--- the number of the first i bits, of at most 24
-pub peeked-lt : (b : List Bool) (n i : ℕ) → i ≤ n → n ≤ 24 → bits_number (take i (padded b n)) < 2 ^ 24
-peeked-lt b n i within few =
-    let long : length (take i (padded b n)) ≤ 24 =
-    simp (length-take, length-append, length-replicate) (omega arith) in
-    omega (arith, bits_number-lt (take i (padded b n)), pow_mono long)
-
 bit-digit : (bit : Bool) → bool_byte bit ≡ (if bit then 1 else 0)
 bit-digit true = refl
 bit-digit false = refl
-
--- one more of the bits, as the program reads it
-module _ (b : List Bool) (n i j number digit : ℕ) (bit : Bool) (within : i < n) (few : n ≤ 24)
-    (number_is : number ≡ bits_number (take i (padded b n)))
-    (at : j ≡ i) (bit_is : bit ≡ get_or b j false) (digit_is : digit ≡ bool_byte bit) where
-  pub peeked-more : 2 * number + digit ≡ bits_number (take (i + 1) (padded b n))
-  peeked-more =
-      let here : i < length (padded b n) = simp (length-append, length-replicate) (omega arith) in
-      let bit_at_i : bit ≡ get_or (padded b n) i false = bit_is ∙ ap (λ k. get_or b k false) at ∙ sym (get_or-padded b n i) in
-      rw (bits_number-more (padded b n) i here, ← bit_at_i, ← number_is, digit_is, bit-digit bit)
