@@ -22,14 +22,6 @@ appends-then old mid new first second one two =
 abbrev pub Put : Colour → Sink → List RunCode → Sink → Type 0
 Put colour old codes new = Appends old (flat_map (run_code_bits colour) codes) new
 
-pub put-more : (colour : Colour) (old mid new : Sink) (codes : List RunCode) (code : RunCode) → Put colour old codes mid
-    → Appends mid (run_code_bits colour code) new → Put colour old (codes ++ code ∷ []) new
-put-more colour old mid new codes code one two =
-    let all : flat_map (run_code_bits colour) codes ++ run_code_bits colour code ≡ flat_map (run_code_bits colour) (codes ++ code ∷ []) =
-    sym (flat_map-append (run_code_bits colour) codes (code ∷ [])
-    ∙ ap (λ b. flat_map (run_code_bits colour) codes ++ b) (append-nil (run_code_bits colour code))) in
-    subst (λ b. Appends old b new) all (appends-then old mid new _ _ one two)
-
 -- codes that were put are the first of a run's codes
 pub put-prefix : (colour : Colour) (n : ℕ) (old new : Sink) (front back : List RunCode) → Put colour old front new
     → run_codes n ≡ front ++ back → AppendsCodes old colour (run_codes n) new

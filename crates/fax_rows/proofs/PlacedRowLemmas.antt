@@ -38,10 +38,6 @@ pub white_by : (width : ℕ) (places : List ℕ) → 0 < length places → pels_
 white_by width [] some = absurd (omega arith)
 white_by width (p ∷ places) some = white_row width
 
--- a place that is read
-pub read_place : (places : List ℕ) (k r : ℕ) → k < length places → r ≡ get_or places k r → r ≡ get_or places k 0
-read_place places k r within is = is ∙ get_or_default places k r 0 within
-
 take-drop_first : (places : List ℕ) (end : ℕ) → take (end - 1) (drop 1 places) ≡ drop 1 (take end places)
 take-drop_first [] zero = refl
 take-drop_first [] (suc end) = let same : suc end - 1 ≡ end = omega arith in rw same (take-nil end)

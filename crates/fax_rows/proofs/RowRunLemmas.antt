@@ -36,11 +36,6 @@ runs_after-other Black White n pels other = refl
 runs_after-other White White n pels other = absurd (other refl)
 runs_after-other Black Black n pels other = absurd (other refl)
 
--- tests of two colours, as the program reads them
-pub not_true : (b : Bool) → not b ≡ true → b ≡ false
-not_true true h = cc
-not_true false h = refl
-
 -- the pel at place i is of the run's colour
 pub goes_on : (colour first : Colour) (n i : ℕ) (pels : List Colour) → i < length pels → get_or pels i White ≡ first → first ≡ colour
     → runs_after colour n (drop i pels) ≡ runs_after colour (n + 1) (drop (i + 1) pels)

@@ -25,8 +25,8 @@ pub record AreBounded (rows : Rows) (ahead : ChangesAhead) : Type 0 where
   pub a2 : ahead.a2 ≤ rows.row.width
   pub b1 : ahead.b1 ≤ rows.row.width
 
-pub known_bounds : (rows : Rows) (ahead : ChangesAhead) → IsAhead rows ahead → unwrap_or ahead.a0 0 < rows.row.width → AreBounded rows ahead
-known_bounds rows ahead is unfinished =
+pub known_bounds : {rows : Rows} {ahead : ChangesAhead} → IsAhead rows ahead → AreBounded rows ahead
+known_bounds {rows} {ahead} is =
     let width = written_width rows in
     let inside : first_of ahead.a0 < length (placed_pels rows.row) = omega (arith, width) in
     let a1 = a1_is (placed_pels rows.reference) (placed_pels rows.row) (same_widths rows) ahead.a0 inside in

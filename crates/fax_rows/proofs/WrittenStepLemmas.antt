@@ -48,7 +48,7 @@ module _ (row : PlacedRow) where
   colour_here None k at inside = ap (alternate Black) at
   colour_here (Some a) k at inside = sym (pel_after row.placed.ascending row.width a k inside at)
 
-module _ (rows : Rows) (ahead : ChangesAhead) (is : IsAhead rows ahead) (unfinished : unwrap_or ahead.a0 0 < rows.row.width) where
+module _ {rows : Rows} {ahead : ChangesAhead} (is : IsAhead rows ahead) where
   row_at : (0 < ahead.row) × (ahead.row ≤ rows.row.end)
   row_at = at_from rows.row.placed ahead.a0 ahead.row is.row
 
@@ -123,7 +123,7 @@ module _ (rows : Rows) (ahead : ChangesAhead) (is : IsAhead rows ahead) (unfinis
       → IsB1At rows.reference (Some ahead.a2) colour b)
       → IsB1At rows.reference (Some ahead.a2) (alternate Black (ahead.row + 2)) b
   b1_after_a2 b found =
-      let known = known_bounds rows ahead is unfinished in
+      let known = known_bounds is in
       subst (λ colour. IsB1At rows.reference (Some ahead.a2) colour b) same_colour
       (found ahead.colour
       (same_start rows.reference ahead.a0 ahead.colour ahead.reference ahead.a2

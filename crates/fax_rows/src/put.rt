@@ -118,7 +118,6 @@ impl ChangesAhead {
     #[inline(always)]
     fn after_pass(self, rows: Rows) -> Written
         requires places { Spec.IsAhead rows self }
-        requires unfinished { unwrap_or self.a0 0 < rows.row.width }
         requires left { self.b2 < self.a1 }
         ensures places { Spec.IsWrittenTo rows.entry result }
         ensures start { result.a0 ≡ Some self.b2 }
@@ -134,7 +133,6 @@ impl ChangesAhead {
     #[inline(always)]
     fn after_b1(self, rows: Rows) -> Written
         requires places { Spec.IsAhead rows self }
-        requires unfinished { unwrap_or self.a0 0 < rows.row.width }
         requires same { self.a1 ≡ self.b1 }
         ensures places { Spec.IsWrittenTo rows.entry result }
         ensures start { result.a0 ≡ Some self.a1 }
@@ -150,7 +148,6 @@ impl ChangesAhead {
     #[inline(always)]
     fn after_a1(self, rows: Rows) -> Written
         requires places { Spec.IsAhead rows self }
-        requires unfinished { unwrap_or self.a0 0 < rows.row.width }
         ensures places { Spec.IsWrittenTo rows.entry result }
         ensures start { result.a0 ≡ Some self.a1 }
     {
@@ -165,7 +162,6 @@ impl ChangesAhead {
     #[inline(always)]
     fn after_a2(self, rows: Rows) -> Written
         requires places { Spec.IsAhead rows self }
-        requires unfinished { unwrap_or self.a0 0 < rows.row.width }
         ensures places { Spec.IsWrittenTo rows.entry result }
         ensures start { result.a0 ≡ Some self.a2 }
     {
@@ -206,7 +202,6 @@ fn put_far_step(
     sink: &mut BitSink,
 ) -> Result<(Written, PendingBits), Memory>
     requires places { Spec.IsAhead rows ahead }
-    requires unfinished { unwrap_or ahead.a0 0 < rows.row.width }
     ensures ok { IfOk result (λ next. AppendsAllBut sink.old
         (pending ++ Spec.bits_from (placed_pels rows.entry.reference)
         (placed_pels rows.entry.row) ahead.a0) next.1 sink.new) }

@@ -24,6 +24,7 @@ pub record IsWrittenTo (rows : Rows) (at : Written) : Type 0 where
 -- the places are those of the two rows as seen from a0 inside the row, and stand at these indexes
 -- (T.4, section 4.2.1.3.1)
 pub record IsAhead (rows : Rows) (ahead : ChangesAhead) : Type 0 where
+  pub unfinished : unwrap_or ahead.a0 0 < rows.row.width
   pub a1 : ahead.a1 ≡ next_change (placed_pels rows.row) ahead.a0
   pub a2 : ahead.a2 ≡ next_change (placed_pels rows.row) (Some ahead.a1)
   pub b1 : ahead.b1 ≡ b1 (placed_pels rows.reference) ahead.a0 ahead.colour

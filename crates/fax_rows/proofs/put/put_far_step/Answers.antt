@@ -6,31 +6,31 @@ use Rattle.fax_rows.proofs.put.put_far_step.Goals as goal
 
 pub choose-mode-requires-clause-a1 : goal.choose-mode-requires-clause-a1
 choose-mode-requires-clause-a1 c =
-    let known = known_bounds c.args.rows c.args.ahead c.requires.places c.requires.unfinished in
+    let known = known_bounds c.requires.places in
     omega (arith, known.a2, known.a1_a2, c.args.rows.row.placed.short)
 
 pub choose-mode-requires-clause-b1 : goal.choose-mode-requires-clause-b1
 choose-mode-requires-clause-b1 c =
-    let known = known_bounds c.args.rows c.args.ahead c.requires.places c.requires.unfinished in
+    let known = known_bounds c.requires.places in
     omega (arith, known.b1, c.args.rows.row.placed.short)
 
 pub overflow_sub-second : goal.overflow_sub-second
-overflow_sub-second c = (known_bounds c.args.rows c.args.ahead c.requires.places c.requires.unfinished).a1_a2
+overflow_sub-second c = (known_bounds c.requires.places).a1_a2
 
 pub put_pair-requires-clause-first : goal.put_pair-requires-clause-first
 put_pair-requires-clause-first c =
-    let known = known_bounds c.args.rows c.args.ahead c.requires.places c.requires.unfinished in
+    let known = known_bounds c.requires.places in
     omega (arith, known.a2, known.a1_a2, c.args.rows.row.placed.short)
 
 pub put_pair-requires-clause-second : goal.put_pair-requires-clause-second
 put_pair-requires-clause-second c =
-    let known = known_bounds c.args.rows c.args.ahead c.requires.places c.requires.unfinished in
+    let known = known_bounds c.requires.places in
     omega (arith, known.a2, c.args.rows.row.placed.short)
 
 pub returns-in_err-pending-in-Horizontal-2-clause-err :
     goal.returns-in_err-pending-in-Horizontal-2-clause-err
 returns-in_err-pending-in-Horizontal-2-clause-err c =
-    let bits = horizontal_bits c.args.rows c.args.ahead c.requires.places c.requires.unfinished c.choose-mode.result c.choose-mode.ensures
+    let bits = horizontal_bits c.requires.places c.choose-mode.result c.choose-mode.ensures
     c.in-Horizontal.is in
     on_err c.from_residual-in_err-pending-in-Horizontal-2.result
     (rw (bits, ← c.unwrap_or.ensures)
@@ -41,7 +41,7 @@ returns-in_err-pending-in-Horizontal-2-clause-err c =
 pub returns-in_ok-pending-in-Horizontal-2-clause-ok :
     goal.returns-in_ok-pending-in-Horizontal-2-clause-ok
 returns-in_ok-pending-in-Horizontal-2-clause-ok c =
-    let bits = horizontal_bits c.args.rows c.args.ahead c.requires.places c.requires.unfinished c.choose-mode.result c.choose-mode.ensures
+    let bits = horizontal_bits c.requires.places c.choose-mode.result c.choose-mode.ensures
     c.in-Horizontal.is in
     rw (bits, ← c.unwrap_or.ensures)
     (pair_put c.args.sink.now c.put_mode-in-Horizontal.new.sink c.put_pair.new.sink _ _ _ _

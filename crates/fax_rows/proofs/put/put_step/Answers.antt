@@ -7,15 +7,11 @@ use Rattle.fax_rows.proofs.put.put_step.Goals as goal
 
 pub returns-then-ahead-clause-ok : goal.returns-then-ahead-clause-ok
 returns-then-ahead-clause-ok c =
-    let ahead = c.of-ahead.result in
-    let inside : unwrap_or c.of-ahead.result.a0 0 < c.args.rows.row.width = rw c.of-ahead.ensures.start c.requires.unfinished in
-    rw (← c.of-ahead.ensures.start, under_bits c.args.rows ahead c.of-ahead.ensures.places inside c.if-ahead.true)
+    rw (← c.of-ahead.ensures.start, under_bits c.of-ahead.ensures.places c.if-ahead.true)
     c.in_ok-pending.ensures.ok
 
 pub returns-then-ahead-clause-next : goal.returns-then-ahead-clause-next
 returns-then-ahead-clause-next c =
-    let ahead = c.of-ahead.result in
-    let inside : unwrap_or c.of-ahead.result.a0 0 < c.args.rows.row.width = rw c.of-ahead.ensures.start c.requires.unfinished in
     c.after_b1.ensures.start
-    ∙ ap (λ p. Some p) (under_place c.args.rows ahead c.of-ahead.ensures.places inside c.if-ahead.true)
+    ∙ ap (λ p. Some p) (under_place c.of-ahead.ensures.places c.if-ahead.true)
     ∙ ap (λ a0. Some (place_from (placed_pels c.args.rows.reference) (placed_pels c.args.rows.row) a0)) c.of-ahead.ensures.start

@@ -4,7 +4,7 @@ use Rattle.fax_rows.proofs.put.ChangesAhead.after_a2.Goals as goal
 
 pub returns-clause-places : goal.returns-clause-places
 returns-clause-places c = record {
-  row = from_a2 c.args.rows c.args.self c.requires.places c.requires.unfinished;
+  row = from_a2 c.requires.places;
   reference = λ inside.
-      b1_after_a2 c.args.rows c.args.self c.requires.places c.requires.unfinished _ (c.b1_after.ensures (omega arith));
+      b1_after_a2 c.requires.places _ (c.b1_after.ensures (omega arith));
 }

@@ -3,6 +3,6 @@ use Rattle.fax_rows.proofs.put.ChangesAhead.after_b1.Goals as goal
 
 pub returns-clause-places : goal.returns-clause-places
 returns-clause-places c = record {
-  row = from_a1 c.args.rows c.args.self c.requires.places c.requires.unfinished;
-  reference = b1_after_b1 c.args.rows c.args.self c.requires.places c.requires.unfinished c.requires.same;
+  row = from_a1 c.requires.places;
+  reference = b1_after_b1 c.requires.places c.requires.same;
 }

@@ -3,6 +3,6 @@ use Rattle.fax_rows.proofs.put.ChangesAhead.after_pass.Goals as goal
 
 pub returns-clause-places : goal.returns-clause-places
 returns-clause-places c = record {
-  row = λ inside. from_b2 c.args.rows c.args.self c.requires.places c.requires.unfinished c.requires.left;
-  reference = b1_after_pass c.args.rows c.args.self c.requires.places c.requires.unfinished;
+  row = λ inside. from_b2 c.requires.places c.requires.left;
+  reference = b1_after_pass c.requires.places;
 }

@@ -38,6 +38,7 @@ returns-clause-places c =
     let b1 = subst (λ colour. IsB1At reference c.args.at.a0 colour c.args.at.reference) (sym c.colour_after.ensures)
     (c.requires.places.reference c.requires.unfinished) in
     record {
+      unfinished = c.requires.unfinished;
       a1 = (next_here row.placed c.args.at.a0 c.args.at.row from).place;
       a2 = after_b1 row c.args.at.row at.0 (omega (arith, at.1));
       b1 = b1_is reference b1;
