@@ -7,7 +7,7 @@ use Rattle.std.proofs.lemmas.Bool.{cases_lt, ltb-true, lt-ltb, le-leb}
 use Rattle.std.proofs.Math.Nat.{eq-or-lt_of_le}
 use Rattle.std.proofs.Math.ListN.{set}
 use Rattle.std.proofs.Math.Seq.{take-nil}
-use Rattle.std.proofs.lemmas.List.{get_or-take, length-take-le, get_or_default, ext_get_or, get_or-replicate, length-replicate, drop_all}
+use Rattle.std.proofs.lemmas.List.{get_or-take, length-take-le, ext_get_or, get_or-replicate, length-replicate, drop_all}
 use Rattle.fax_bits.specs.declared.Colour.{Colour}
 use Rattle.fax_bits.specs.declared.Colour.TheVariants.{White, Black}
 use Rattle.fax_rows.specs.Rows.{pel, is_changing, is_right_of, next_change}

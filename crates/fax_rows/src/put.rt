@@ -37,9 +37,8 @@ fn put_pair(
     if first < SHORT_RUN && second < SHORT_RUN {
         return pending.put_short_pair(sink, colour, first, second);
     }
-    pending
-        .put_run(sink, colour, first)?
-        .put_run(sink, other(colour), second)
+    let pending = pending.put_run(sink, colour, first)?;
+    pending.put_run(sink, other(colour), second)
 }
 
 /// Puts a row in one-dimensional coding: the longest runs of white and black pels in turn, white

@@ -1,5 +1,5 @@
-use Rattle.std.proofs.Common.{◌<◌, ◌∙◌, ap}
-use Rattle.std.specs.Prelude.{Some, unwrap_or}
+use Rattle.std.proofs.Common.{◌∙◌, ap}
+use Rattle.std.specs.Prelude.{Some}
 use Rattle.fax_rows.specs.code.Ahead.{place_from}
 use Rattle.fax_rows.specs.code.PlacedRow.{placed_pels}
 use Rattle.fax_rows.proofs.WrittenStepLemmas.{under_bits, under_place}
