@@ -4,7 +4,8 @@ use Rattle.std.specs.Prelude.{option_and_then, option_map, unwrap_or}
 use Rattle.std.specs.Str.Parse.{digits_value, without_leading_plus}
 use Rattle.clap.specs.Walk.{Row}
 use Rattle.fax_tool.specs.Grammar.{Text, Use, text_in}
-use Rattle.fax_tool.specs.Job.{AreOptions, HasNoTarget, IsBegunBy, IsCommand, IsPart, is_set, order_by, target_of}
+use Rattle.fax_tool.proofs.BeginLemmas.{IsBegunBy}
+use Rattle.fax_tool.specs.Job.{AreOptions, HasNoTarget, IsCommand, IsPart, is_set, order_by, target_of}
 use Rattle.fax_tool.specs.Run.{begun_of}
 use Rattle.fax_tool.specs.code.Entries.{IsCommandFault, given_by}
 use Rattle.fax_tool.specs.declared.words.Command.{Command}

@@ -12,7 +12,8 @@ use Rattle.fax_walk.specs.Pages.{IsCursor, IsLongCursor, LongPlace}
 use Rattle.fax_tool.specs.Text.{Cursor}
 use Rattle.fax_walk.specs.declared.options.Options.{Options}
 use Rattle.fax_walk.specs.declared.options.Target.TheVariants.{Mmr, Pbm}
-use Rattle.fax_tool.specs.Job.{AreOptions, Given, HasCursors, HasNoCursor, HasNoTarget, IsBegunBy, IsCommand, IsFault, IsJob, IsPart}
+use Rattle.fax_tool.proofs.BeginLemmas.{IsBegunBy}
+use Rattle.fax_tool.specs.Job.{AreOptions, Given, HasCursors, HasNoCursor, HasNoTarget, IsCommand, IsFault, IsJob, IsPart}
 use Rattle.fax_tool.specs.Job.{is_set}
 use Rattle.fax_tool.specs.Run.{begun_of}
 use Rattle.fax_walk.specs.Items.{begun_cursor}

@@ -1,10 +1,19 @@
 -- What a part begins with, as the text of a cursor or of a long cursor names it.
 use Rattle.std.proofs.Common.{◌≡◌, ◌⊎◌, inl, inr, refl, ap, Option, Some, None}
-use Rattle.fax_walk.specs.Items.{begun_cursor}
+use Rattle.std.specs.Prelude.{MatchOption}
+use Rattle.std.specs.Option.{option_map_or}
+use Rattle.fax_walk.specs.Items.{begun_cursor, begun_text}
 use Rattle.fax_walk.specs.Pages.{LongPlace, cursor_text, long_cursor_text, start}
 use Rattle.fax_tool.specs.Grammar.{Text}
-use Rattle.fax_tool.specs.Job.{IsBegunBy}
-use Rattle.fax_tool.specs.Text.{At, Cursor, begun_at}
+use Rattle.fax_tool.specs.Text.{At, Begun, Cursor, Inside}
+
+-- what a run begins with: the place inside a strip, where there is one, else the cursor
+abbrev pub begun_at : Option LongPlace → Cursor → Begun
+begun_at place at = option_map_or Inside place (At at)
+
+-- this text, where there is one, names what a run begins with; else it begins at the first cursor
+abbrev pub IsBegunBy : Option Text → Begun → Type 0
+IsBegunBy given begun = MatchOption given (begun ≡ At start) (λ text. text ≡ begun_text begun)
 
 -- a text names this cursor, or no text the first one, and no place inside a strip
 abbrev pub BeginsAt : Option Text → Cursor → Option LongPlace → Type 0

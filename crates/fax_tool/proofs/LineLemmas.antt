@@ -25,7 +25,8 @@ use Rattle.fax_walk.specs.Pages.{FormItem, IsFormTail}
 use Rattle.fax_walk.specs.Items.{RowItem as Item, RowPlace as Place, IsTailFrom, begun_cursor, cursor_after, exchanged}
 use Rattle.fax_walk.specs.Items.{Inner, first_at, long_after}
 use Rattle.fax_tool.specs.Run.{AreRowLines, ArePageLines}
-use Rattle.fax_tool.specs.Text.{Line, begun_at, line_of_page, line_of_row, next_after, page_line_of, row_line_of}
+use Rattle.fax_tool.proofs.BeginLemmas.{begun_at}
+use Rattle.fax_tool.specs.Text.{Line, line_of_page, line_of_row, next_after, page_line_of, row_line_of}
 use Rattle.fax_tool.specs.code.Printing.{IsLinePut, IsNextAfter, end_of}
 
 -- the first elements of a list, with one more

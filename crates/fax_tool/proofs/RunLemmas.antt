@@ -14,9 +14,10 @@ use Rattle.fax_walk.specs.declared.end.End.TheVariants.{Fault, Outside, Proper}
 use Rattle.fax_walk.specs.Pages.{IsCursor, LongPlace}
 use Rattle.fax_walk.specs.laws.Cursors.{CursorsAreShort, PlacesAreShort, TextsNameOne}
 use Rattle.fax_walk.specs.laws.Tails.{BeginningsHaveOneTail, IsReached, LongTailsGoOn, PlacesAreReached, TailsGoOn}
-use Rattle.fax_walk.specs.Items.{RowItem as Item, IsTailFrom, cursor_after, long_after}
+use Rattle.fax_walk.specs.Items.{RowItem as Item, IsTailFrom, begun_text, cursor_after, long_after}
 use Rattle.fax_tool.specs.Run.{AreRowLines}
-use Rattle.fax_tool.specs.Text.{Line, Printed, begun_at, begun_text, named, next_after, next_line, text_of, end_text}
+use Rattle.fax_tool.proofs.BeginLemmas.{begun_at}
+use Rattle.fax_tool.specs.Text.{Line, Printed, named, next_after, next_line, text_of, end_text}
 use Rattle.fax_tool.specs.Text.{is_cut, line_of_row, texts_of, up_to}
 use Rattle.fax_tool.specs.laws.Runs.{AreAsOneRun, AreRunsOfRows, CutRunsAreReadOn, IsBegun, IsReadAfter, IsRunOfRows, MayBegin, RunsGoOn}
 use Rattle.fax_tool.proofs.LineLemmas.{begins_after, one_rows}

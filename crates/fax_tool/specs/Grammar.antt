@@ -7,6 +7,7 @@ use Rattle.std.specs.Borrow.{Bor}
 use Rattle.std.specs.List.{AllPairs, Contains}
 use Rattle.std.specs.Str.{bytes_eq}
 use Rattle.std.specs.Str.Parse.{IsNumeral, digits_value, without_leading_plus}
+use Rattle.fax_files.specs.Page.{most_rows}
 
 -- a text, as its bytes
 abbrev pub Text : Type 0
@@ -29,12 +30,9 @@ pub data Item : Type 0 where
   -- a word that is no option
   file : Item
 
--- the most lines that are asked for; and the most rows of a strip, and the greatest k
+-- the most lines that are asked for
 abbrev pub most_lines : ℕ
 most_lines = 4294967295
-
-abbrev pub most_rows : ℕ
-most_rows = 1000000
 
 -- the name by which the text of an item is asked for
 abbrev pub name_of : Item → Text
@@ -48,7 +46,8 @@ name_of file = codes "FILE"
 abbrev pub part : List Item
 part = text (codes "cursor") ∷ number (codes "max") most_lines ∷ file ∷ []
 
--- each command's name, and what may stand after it, in any order; 111 is `o`
+-- each command's name, and what may stand after it, in any order: k is no more than the most rows
+-- of a strip; 111 is `o`
 abbrev pub commands : List (Text × List Item)
 commands = (codes "list", part) ∷ (codes "rows", part ++ flag (codes "long") ∷ [])
     ∷ (

@@ -2,22 +2,23 @@
 -- A definition without a citation is this project's profile.
 use Rattle.std.specs.Prelude.{◌≡◌, ◌≢◌, ◌⊎◌, ◌==◌, ◌<◌, ◌≤◌, ℕ, Bool, true, false, List, Option}
 use Rattle.std.specs.Prelude.{Some, None, IfSome, codes, if◌then◌else◌, unwrap_or, option_and_then}
-use Rattle.std.specs.Prelude.{option_map}
+use Rattle.std.specs.Prelude.{option_map, MatchOption}
 use Rattle.std.specs.Option.{option_map_or}
 use Rattle.std.specs.Str.{bytes_eq}
 use Rattle.std.specs.Str.Parse.{digits_value, without_leading_plus}
 use Rattle.std.specs.String.{string_bytes}
 use Rattle.fax_bits.specs.declared.FillOrder.{FillOrder}
 use Rattle.fax_bits.specs.declared.FillOrder.TheVariants.{LsbFirst, MsbFirst}
+use Rattle.fax_files.specs.Page.{most_rows}
 use Rattle.fax_tool.specs.Run.{begun_of}
-use Rattle.fax_tool.specs.Text.{At, Begun, Cursor, begun_text}
-use Rattle.fax_walk.specs.Items.{begun_cursor}
+use Rattle.fax_tool.specs.Text.{At, Cursor}
+use Rattle.fax_walk.specs.Items.{begun_cursor, begun_text}
 use Rattle.fax_walk.specs.declared.options.Options.{Options}
 use Rattle.fax_walk.specs.declared.options.Target.{Target}
 use Rattle.fax_walk.specs.declared.options.Target.TheVariants.{Mh, Mmr, Mr, Pbm}
 use Rattle.fax_walk.specs.Pages.{IsCursor, cursor_text, start, IsLongCursor, LongPlace}
 use Rattle.fax_walk.specs.Pages.{long_cursor_text}
-use Rattle.fax_tool.specs.Grammar.{AreOfCommand, AreOfNoCommand, Text, Use, most_lines, most_rows}
+use Rattle.fax_tool.specs.Grammar.{AreOfCommand, AreOfNoCommand, Text, Use, most_lines}
 use Rattle.fax_tool.specs.Grammar.{text_in}
 use Rattle.fax_tool.specs.declared.words.Command.{Command}
 use Rattle.fax_tool.specs.declared.words.Command.TheVariants.{Check, Convert, List as Forms, Rows}
@@ -55,14 +56,11 @@ target_in given = option_and_then target_of (given (codes "o"))
 abbrev pub order_by : Option ℕ → FillOrder
 order_by number = if unwrap_or number 1 == 2 then LsbFirst else MsbFirst
 
--- this text, where there is one, names what a run begins with; else it begins at the first cursor
-abbrev pub IsBegunBy : Option Text → Begun → Type 0
-IsBegunBy None begun = begun ≡ At start
-IsBegunBy (Some text) begun = text ≡ begun_text begun
-
--- what is given after `list` or `rows` gives this part, with long cursors or without
+-- what is given after `list` or `rows` gives this part, with long cursors or without: it begins
+-- with what the cursor's text names, if one is given, else with the first cursor
 pub record IsPart (given : Given) (long : Bool) (part : Part) : Type 0 where
-  pub begins : IsBegunBy (given (codes "cursor")) (begun_of part)
+  pub begins : MatchOption (given (codes "cursor")) (begun_of part ≡ At start)
+      (λ text. text ≡ begun_text (begun_of part))
   pub cursor : part.cursor ≡ begun_cursor (begun_of part)
   pub max : part.max ≡ number_in (codes "max") given
   pub long_is : part.long ≡ long

@@ -2,9 +2,10 @@
 -- A definition without a citation is this project's profile.
 use Rattle.std.specs.Prelude.{◌≡◌, ℕ, ◌<◌, ◌≤◌, ◌⊎◌, Bool, false, List, [], ◌++◌, length, map}
 use Rattle.std.specs.Prelude.{Option, Some, None, IfSome, codes, ⊤}
+use Rattle.std.specs.Option.{option_map_or}
 use Rattle.std.specs.Io.KnownBytes.{Appends}
 use Rattle.fax_files.specs.Directory.{max_file}
-use Rattle.fax_tool.specs.Text.{Begun, At, Cursor, End, Line, Printed, begun_at}
+use Rattle.fax_tool.specs.Text.{Begun, At, Inside, Cursor, End, Line, Printed}
 use Rattle.fax_tool.specs.Text.{line_of_page, line_of_row, text_of}
 use Rattle.fax_walk.specs.Pages.{FormItem, IsFormTail}
 use Rattle.fax_walk.specs.Items.{RowItem, IsTailFrom}
@@ -90,9 +91,9 @@ IsTextOfFirst are max begun output =
     × IfSome max (λ limit. count ≤ limit)
     × (output ≡ (text_of false (Some count) begun lines end).output)
 
--- what a part begins with
+-- what a part begins with: the place inside a strip, where there is one, else the cursor
 abbrev pub begun_of : Part → Begun
-begun_of part = begun_at part.from part.cursor
+begun_of part = option_map_or Inside part.from (At part.cursor)
 
 -- what a command writes of a file
 abbrev pub IsTextOf : Command → List ℕ → Printed → Type 0

@@ -7,8 +7,8 @@ use Rattle.fax_rows.specs.Rows.{runs_of}
 use Rattle.fax_files.specs.Page.{Coding, Mh, Mr, Mmr, fill_order_of}
 use Rattle.fax_files.specs.FaultNames.{fault_name, fault_tag}
 use Rattle.fax_walk.specs.declared.end.End.TheVariants.{Proper, Fault, Outside}
-use Rattle.fax_walk.specs.Pages.{Cause, PageForm, FormItem, LongPlace, cursor_text, long_cursor_text}
-use Rattle.fax_walk.specs.Items.{RowItem, begun_cursor, cursor_after, long_after}
+use Rattle.fax_walk.specs.Pages.{Cause, PageForm, FormItem}
+use Rattle.fax_walk.specs.Items.{RowItem, begun_cursor, begun_text, cursor_after, long_after}
 pub use Rattle.fax_walk.specs.declared.cursor.Cursor.{Cursor}
 pub use Rattle.fax_walk.specs.declared.end.End.{End}
 pub use Rattle.fax_walk.specs.declared.begun.Begun.{Begun}
@@ -42,21 +42,16 @@ page_line_of page form =
     ++ and_number (if form.exchanged then 1 else 0) ++ and_number form.strips
     ++ and_fraction form.x ++ and_fraction form.y ++ and_number form.unit ++ codes "\n"
 
--- what a run begins with: the place inside a strip, where there is one, else the cursor
-abbrev pub begun_at : Option LongPlace → Cursor → Begun
-begun_at None at = At at
-begun_at (Some place) at = Inside place
-
 -- a line of the output, and what a run begins with that goes on after it
 pub record Line : Type 0 where
   pub text : List ℕ
   pub next : Begun
 
--- the line of a row
+-- the line of a row, after which a run begins inside a strip where it can, else with the cursor
 abbrev pub line_of_row : RowItem → Line
 line_of_row item = record {
   text = row_line_of item.page item.row (runs_of item.pels);
-  next = begun_at (long_after item) (cursor_after item);
+  next = option_map_or Inside (long_after item) (At (cursor_after item));
 }
 
 -- the line of a page
@@ -84,11 +79,6 @@ fault_line page row cause =
 abbrev pub named : Bool → Begun → Begun
 named true begun = begun
 named false begun = At (begun_cursor begun)
-
--- how what a run begins with is named: `2:P:R:B:n,n,..` inside a strip, else `1:P:R`
-abbrev pub begun_text : Begun → List ℕ
-begun_text (At at) = cursor_text at
-begun_text (Inside place) = long_cursor_text place
 
 -- `next` and where to go on
 abbrev pub next_line : Begun → List ℕ

@@ -8,7 +8,7 @@ ghost use Rattle.std.specs.String.{string_bytes};
 ghost use Rattle.clap.specs.Walk.{first_of, rule_of};
 ghost use Rattle.fax_walk.specs.declared.options.Target.TheVariants.{Mmr, Pbm};
 ghost use Rattle.fax_tool.specs.declared.words.WordsFault.TheVariants.{Usage as BadWords};
-ghost use Rattle.fax_tool.specs.Grammar.{Text, texts};
+ghost use Rattle.fax_tool.specs.Grammar.{Text, most_lines, texts};
 ghost use Rattle.fax_walk.specs.Pages.{IsCursor, IsLongCursor};
 ghost use Rattle.fax_tool.specs.Job.{AreOptions, HasCursors, HasNoTarget, HasRanges, IsCommand};
 ghost use Rattle.fax_tool.specs.Job.{IsFault, IsJob, IsPart, is_set};
@@ -292,7 +292,7 @@ fn file_of(alloc: Global, matches: &ArgMatches) -> Result<Option<String>, AllocE
 
 /// The part of a file's pages that the words after `list` name.
 fn pages_of(matches: &ArgMatches) -> Result<Part, NotACursor>
-    requires { HasNumber (codes "max") 4294967295 (entries_of matches.now) }
+    requires { HasNumber (codes "max") most_lines (entries_of matches.now) }
     ensures ok { IfOk result (λ part. IsPart (given_by (entries_of matches.now)) false part
         × (part.from ≡ None)) }
     ensures cursor { IfOk result (λ part. IsCursor part.cursor) }
@@ -313,7 +313,7 @@ fn pages_of(matches: &ArgMatches) -> Result<Part, NotACursor>
 
 /// The part of a file's rows that the words after `rows` name, where the cursor may be a long one.
 fn rows_of(alloc: Global, matches: &ArgMatches) -> Result<Part, WordsFault>
-    requires max { HasNumber (codes "max") 4294967295 (entries_of matches.now) }
+    requires max { HasNumber (codes "max") most_lines (entries_of matches.now) }
     requires long { HasFlag (codes "long") (entries_of matches.now) }
     ensures ok { IfOk result (λ part. IsPart (given_by (entries_of matches.now))
         (is_set (codes "long") (given_by (entries_of matches.now))) part) }

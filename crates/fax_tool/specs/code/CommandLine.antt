@@ -6,6 +6,8 @@ use Rattle.clap.specs.Simple.{App, new_app, new_rule, on_top, with_rule, with_su
 use Rattle.clap.specs.declared.builder.action.ArgAction.TheVariants.{SetTrue}
 use Rattle.clap.specs.declared.builder.value_parser.ValueParser.{ValueParser}
 use Rattle.clap.specs.declared.builder.value_parser.ValueParser.TheVariants.{Signed}
+use Rattle.fax_files.specs.Page.{most_rows}
+use Rattle.fax_tool.specs.Grammar.{most_lines}
 
 -- a word that is no option: the file
 abbrev pub file_rule : Rule
@@ -38,7 +40,7 @@ bare_app name = on_top (λ s. record s { disable_help_flag = true }) (new_app na
 -- a command that prints a part of a file
 abbrev pub printing_app : Text → App
 printing_app name = with_rule (with_rule (with_rule (bare_app name)
-    (text_rule (codes "cursor"))) (number_rule (codes "max") 4294967295)) file_rule
+    (text_rule (codes "cursor"))) (number_rule (codes "max") most_lines)) file_rule
 
 abbrev pub rows_app : App
 rows_app = with_rule (printing_app (codes "rows")) (flag_rule (codes "long"))
@@ -46,7 +48,7 @@ rows_app = with_rule (printing_app (codes "rows")) (flag_rule (codes "long"))
 abbrev pub convert_app : App
 convert_app = with_rule (with_rule (with_rule (with_rule (with_rule (with_rule
     (bare_app (codes "convert")) target_rule) (number_rule (codes "order") 2))
-    (number_rule (codes "k") 1000000)) (number_rule (codes "strip") 1000000))
+    (number_rule (codes "k") most_rows)) (number_rule (codes "strip") most_rows))
     (flag_rule (codes "align"))) file_rule
 
 abbrev pub check_app : App

@@ -9,7 +9,8 @@ use Rattle.clap.specs.Walk.{Row, Text, first_of, one_of, rows_of}
 use Rattle.clap.specs.declared.builder.command.Command.{Command}
 use Rattle.clap.specs.declared.builder.command.Command.TheViews.{out-Command}
 use Rattle.clap.specs.declared.parser.matches.ArgMatches.{ArgMatches}
-use Rattle.fax_tool.specs.Grammar.{IsNumberText}
+use Rattle.fax_files.specs.Page.{most_rows}
+use Rattle.fax_tool.specs.Grammar.{IsNumberText, most_lines}
 use Rattle.fax_tool.specs.Job.{Given, HasNoCursor, HasNoTarget}
 use Rattle.fax_tool.specs.declared.words.WordsFault.{WordsFault}
 use Rattle.fax_tool.specs.declared.words.WordsFault.TheVariants.{Memory, NotACursor, Usage}
@@ -42,15 +43,15 @@ HasFlag name entries = (one_of name entries ≡ first_of name entries)
 -- the numbers of `convert` are in their ranges
 pub record HasOptions (entries : List Row) : Type 0 where
   pub order : HasNumber (codes "order") 2 entries
-  pub k : HasNumber (codes "k") 1000000 entries
-  pub strip : HasNumber (codes "strip") 1000000 entries
+  pub k : HasNumber (codes "k") most_rows entries
+  pub strip : HasNumber (codes "strip") most_rows entries
   pub align : HasFlag (codes "align") entries
 
 -- what the entries after a command's name have, and which names there are
 pub record HasEntries (name : Text) (entries : List Row) : Type 0 where
-  pub list : bytes_eq name (codes "list") ≡ true → HasNumber (codes "max") 4294967295 entries
+  pub list : bytes_eq name (codes "list") ≡ true → HasNumber (codes "max") most_lines entries
   pub rows : bytes_eq name (codes "rows") ≡ true
-      → HasNumber (codes "max") 4294967295 entries × HasFlag (codes "long") entries
+      → HasNumber (codes "max") most_lines entries × HasFlag (codes "long") entries
   pub convert : bytes_eq name (codes "convert") ≡ true → HasOptions entries
   pub known : (bytes_eq name (codes "list") || (bytes_eq name (codes "rows")
       || (bytes_eq name (codes "convert") || bytes_eq name (codes "check")))) ≡ true
