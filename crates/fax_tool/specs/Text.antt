@@ -42,12 +42,12 @@ page_line_of page form =
     ++ and_number (if form.exchanged then 1 else 0) ++ and_number form.strips
     ++ and_fraction form.x ++ and_fraction form.y ++ and_number form.unit ++ codes "\n"
 
--- a line of the output, and what a run begins with that goes on after it
+-- a line of the output, and what the next call of the program begins with to go on after it
 pub record Line : Type 0 where
   pub text : List ℕ
   pub next : Begun
 
--- the line of a row, after which a run begins inside a strip where it can, else with the cursor
+-- the line of a row, after which a call begins inside a strip where it can, else with the cursor
 abbrev pub line_of_row : RowItem → Line
 line_of_row item = record {
   text = row_line_of item.page item.row (runs_of item.pels);
@@ -64,7 +64,7 @@ line_of_page item =
 abbrev pub texts_of : List Line → List ℕ
 texts_of = flat_map (λ line. line.text)
 
--- what a run begins with that goes on after these lines, which began so
+-- what the next call begins with to go on after these lines, which began so
 abbrev pub next_after : Begun → List Line → Begun
 next_after begun [] = begun
 next_after begun (line ∷ lines) = next_after line.next lines
@@ -75,7 +75,7 @@ fault_line page row cause =
     codes "fault page" ++ and_number page ++ codes " row" ++ and_number row ++ codes ": "
     ++ fault_name cause ++ option_map_or and_number (fault_tag cause) [] ++ codes "\n"
 
--- what `next` names of what a run begins with: with long cursors all of it, else its cursor
+-- what `next` names of what the next call begins with: with `--long` all of it, else its cursor
 abbrev pub named : Bool → Begun → Begun
 named true begun = begun
 named false begun = At (begun_cursor begun)
@@ -90,8 +90,8 @@ pub record Printed : Type 0 where
   pub error : List ℕ
   pub status : ℕ
 
--- what is written after the lines: where to go on at a limit, which is no end, and at a fault;
--- `end`; and no line for a cursor outside
+-- what is written after the lines: at a limit `next`; at a proper end `end`; at a fault `next`, and
+-- the fault as an error; for a cursor outside the error alone
 abbrev pub end_text : Option End → Begun → Printed
 end_text None next = record { output = next_line next; error = []; status = 0 }
 end_text (Some Proper) next = record { output = codes "end\n"; error = []; status = 0 }
@@ -100,7 +100,8 @@ end_text (Some (Fault page row cause)) next =
 end_text (Some Outside) next =
     record { output = []; error = codes "fault cursor: CursorOutside\n"; status = 1 }
 
--- the lines up to a limit, if there is one; and whether the limit cuts them: also if these are all
+-- the lines up to a limit, if there is one; and whether the limit cuts them, which it does too where
+-- these are just as many
 abbrev pub up_to : Option ℕ → List Line → List Line
 up_to max lines = option_map_or (λ limit. take limit lines) max lines
 
