@@ -1,9 +1,9 @@
 -- The lines of rows and of pages.
-use Rattle.std.proofs.Common.{◌≡◌, ℕ, zero, suc, ◌+◌, inl, inr, Bool, true, false, List, [], ◌∷◌, ◌++◌, take, drop, map}
-use Rattle.std.proofs.Common.{Option, Some, None, Result, Ok, Err, refl, sym, ap, ◌∙◌, subst, arith}
+use Rattle.std.proofs.Common.{◌≡◌, ℕ, zero, suc, ◌+◌, inl, inr, Bool, true, false, List, [], ◌∷◌, ◌++◌, take, map}
+use Rattle.std.proofs.Common.{Option, Some, None, Result, Ok, Err, refl, sym, ap, ◌∙◌, arith}
 use Rattle.std.proofs.lemmas.Option.{slice_get_within, slice_get-map}
 use Rattle.std.proofs.lemmas.List.{length-map}
-use Rattle.std.specs.Prelude.{slice_get, if◌then◌else◌, nat_lt, nat_le, ◌==◌, ◌/◌, ◌%◌}
+use Rattle.std.specs.Prelude.{slice_get, if◌then◌else◌, nat_lt, nat_le, ◌==◌, ◌%◌}
 use Rattle.std.specs.Prelude.{option_map, IfOk}
 use Rattle.fax_bits.specs.declared.Colour.{Colour}
 use Rattle.fax_bits.specs.declared.Memory.{Memory as NoMemory}

@@ -5,7 +5,7 @@ use Rattle.std.proofs.Common.{true, false, Bool, take-append-drop, get_or, â—Œâ‰
 use Rattle.std.proofs.Math.Seq.{take-length}
 use Rattle.std.proofs.lemmas.Bool.Decides.{nat_tests}
 use Rattle.std.proofs.lemmas.List.{append_cancel_left, append_cancel_right, drop_all}
-use Rattle.std.specs.Prelude.{Option, Some, None, nat_le, Ok}
+use Rattle.std.specs.Prelude.{Option, Some, None, nat_le}
 use Rattle.fax_walk.specs.declared.begun.Begun.{Begun}
 use Rattle.fax_walk.specs.declared.begun.Begun.TheVariants.{At, Inside}
 use Rattle.fax_walk.specs.declared.cursor.Cursor.{Cursor}

@@ -1,7 +1,7 @@
 -- What a run leaves on its streams.
 -- A definition without a citation is this project's profile.
 use Rattle.std.specs.Prelude.{◌≡◌, ℕ, ◌<◌, ◌≤◌, ◌⊎◌, Bool, false, List, [], ◌++◌, length, map}
-use Rattle.std.specs.Prelude.{Option, Some, None, IfSome, codes, ⊤}
+use Rattle.std.specs.Prelude.{Option, Some, IfSome, codes, ⊤}
 use Rattle.std.specs.Option.{option_map_or}
 use Rattle.std.specs.Io.KnownBytes.{Appends}
 use Rattle.fax_files.specs.Directory.{max_file}
