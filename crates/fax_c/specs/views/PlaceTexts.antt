@@ -1,18 +1,12 @@
 -- Places as text, and read from it.
 -- A definition without a citation is this project's profile.
 use Rattle.std.specs.Prelude.{◌≡◌, ◌≢◌, ℕ, ◌<◌, ◌⊎◌, nat_le, if◌then◌else◌, List, length, drop}
-use Rattle.fax_walk.specs.declared.begun.Begun.{Begun}
-use Rattle.fax_walk.specs.declared.begun.Begun.TheVariants.{At, Inside}
+use Rattle.fax_walk.specs.Items.{begun_text}
 use Rattle.fax_walk.specs.declared.cursor.Cursor.{Cursor}
 use Rattle.fax_walk.specs.Pages.{IsCursor, IsLongCursor, LongPlace, cursor_text, long_cursor_text}
 use Rattle.fax_c.specs.declared.places.FaxPlace.{FaxPlace}
 use Rattle.fax_c.specs.Texts.{IsTextPut}
 use Rattle.fax_c.specs.views.Places.{begun_of}
-
--- the text of what a walk begins with
-abbrev pub begun_text : Begun → List ℕ
-begun_text (At at) = cursor_text at
-begun_text (Inside place) = long_cursor_text place
 
 -- a text is written where it has room, which the status says
 abbrev pub IsTextTold : List ℕ → List ℕ → List ℕ → ℕ → ℕ → Type 0
