@@ -1,13 +1,14 @@
 -- The place after rows that were written.
 use Rattle.std.proofs.Common.{Bool, ◌≡◌, ℕ, ◌+◌, ◌<◌, List, [], ◌∷◌, length, take, drop, true, false, inl, inr, refl, ap, sym}
 use Rattle.std.proofs.Common.{subst, ◌∙◌, arith}
-use Rattle.std.specs.Prelude.{Some, ◌&&◌, if◌then◌else◌, nat_le, nat_lt}
+use Rattle.std.specs.Prelude.{Some, None, ◌&&◌, if◌then◌else◌, nat_le, nat_lt}
 use Rattle.std.proofs.lemmas.Bool.{ltb-true}
 use Rattle.std.proofs.lemmas.List.{take_at, drop_at}
 use Rattle.fax_rows.specs.Rows.{Colour, other, same_colour, runs_after, runs_of}
 use Rattle.fax_walk.specs.declared.begun.Begun.TheVariants.{At, Inside}
 use Rattle.fax_walk.specs.declared.walk.PlaceInside.{PlaceInside}
 use Rattle.fax_walk.specs.Items.{begun_cursor}
+use Rattle.fax_walk.specs.Pages.{LongPlace}
 use Rattle.fax_walk.specs.views.Walk.{IsLongOf, WalkView, begun_place, place_inside}
 use Rattle.fax_c.specs.declared.filled.Filled.{Filled}
 use Rattle.fax_c.specs.declared.places.FaxPlace.{FaxPlace}
@@ -39,6 +40,14 @@ inside_told walk lent count old old_runs runs long (count_is, within, runs_are) 
       subst (λ ns. IsLongOf walk (Some (record { at = lent.at; bits = lent.bits; runs = ns }))) (sym same) long,
       rest,
     )
+
+-- a place that is lent, and whose runs have no room, is not told
+pub inside_kept : (walk : WalkView) (lent : PlaceInside) (old : FaxPlace) (old_runs runs : List ℕ)
+    → IsLongOf walk (place_inside (Some lent)) → IsPutAt (runs_of lent.reference.now) old_runs 0 None runs
+    → IsInsideTold walk old old_runs old runs
+inside_kept walk lent old old_runs runs long (same, few) =
+    let found : LongPlace = record { at = lent.at; bits = lent.bits; runs = runs_of lent.reference.now } in
+    inl (refl, same, inr (found, long, omega (arith, few)))
 
 -- a walk from a place begins at its cursor
 pub begun_cursor-begun_of : (place : FaxPlace) (runs : List ℕ) → cursor_of place ≡ begun_cursor (begun_of place runs)
