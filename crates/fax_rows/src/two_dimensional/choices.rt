@@ -7,10 +7,30 @@ ghost use Rattle.fax_rows.specs.code.Reached.{reached_pel};
 use super::steps::PlacedReached;
 use crate::rows::PlacedRow;
 
+/// Whether T.4 chooses vertical mode where a1 is reached by it: b2 is not left of a1 (T.4, section
+/// 4.2.1.3.3).
+#[inline(always)]
+pub(super) fn chooses_a1<const CHOICE: bool>(
+    reference: PlacedRow,
+    at: PlacedReached,
+    next: PlacedReached,
+) -> bool
+    requires b1 { IsB1At reference at.reached.a0 at.reached.colour at.b1 }
+    ensures { IsTrue result → reached_pel next.reached
+        ≤ b2 (placed_pels reference.entry) at.reached.a0 at.reached.colour }
+{
+    CHOICE && next.reached.first_pel() <= reference.places[at.b1 + 1]
+}
+
 /// Whether T.4 chooses horizontal mode with two runs of so many pels, as far as the row is read
 /// (T.4, section 4.2.1.3.3).
 #[inline(always)]
-pub(super) fn chooses_runs(reference: PlacedRow, at: PlacedReached, first: u32, second: u32) -> bool
+pub(super) fn chooses_runs<const CHOICE: bool>(
+    reference: PlacedRow,
+    at: PlacedReached,
+    first: u32,
+    second: u32,
+) -> bool
     requires b1 { IsB1At reference at.reached.a0 at.reached.colour at.b1 }
     requires within { reached_pel at.reached + first + second ≤ reference.width }
     ensures right { IsTrue result
@@ -27,8 +47,18 @@ pub(super) fn chooses_runs(reference: PlacedRow, at: PlacedReached, first: u32, 
     let a1 = at.reached.first_pel() + first;
     let b1 = reference.places[at.b1];
     let b2 = reference.places[at.b1 + 1];
-    at.reached.is_left_of(a1)
+    CHOICE
+        && at.reached.is_left_of(a1)
         && (second > 0 || a1 == reference.width)
         && a1 <= b2
         && (a1 + 3 < b1 || b1 + 3 < a1)
+}
+
+/// Whether a step is taken: it is seen to be T.4's choice, or that is not asked for.
+#[inline(always)]
+pub(super) fn is_taken<const CHOICE: bool>(chosen: bool) -> bool
+    ensures taken { IsTrue result → IsTrue CHOICE → IsTrue chosen }
+    ensures asked { result ≡ false → IsTrue CHOICE }
+{
+    chosen || !CHOICE
 }

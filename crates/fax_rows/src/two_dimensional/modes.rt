@@ -18,7 +18,7 @@ ghost use Rattle.fax_rows.specs.code.Turns.{row_of};
 ghost use Rattle.fax_rows.specs.code.Reached.{reached_pel};
 ghost use Rattle.fax_rows.specs.code.PlacedReached.{placed_position, IsReadTo};
 
-use super::choices::chooses_runs;
+use super::choices::{chooses_a1, chooses_runs, is_taken};
 use super::codes::{Stop, next_mode, two_runs};
 use super::copied::under_several;
 use super::steps::{PlacedReached, after_runs, left_of_b1, right_of_b1, under_b1, under_b2};
@@ -65,7 +65,8 @@ fn horizontal<const CHOICE: bool, const EXACT: bool>(
     let from = at.reached.first_pel();
     let colour = colour_after(at.b1);
     let (first, second) = two_runs::<CHOICE, EXACT>(source, colour, reference.width, from)?;
-    if CHOICE && !chooses_runs(reference, at, first, second) {
+    let chosen = chooses_runs::<CHOICE>(reference, at, first, second);
+    if !is_taken::<CHOICE>(chosen) {
         return Err(Stop::Doubt);
     }
     Ok(after_runs(reference, places, at, first, second))
@@ -102,10 +103,12 @@ fn vertical<const CHOICE: bool, const EXACT: bool>(
         return Ok(under_b1(reference, places, at));
     }
     let next = right_of_b1(reference, places, at, d).ok_or(out)?;
-    if CHOICE && next.reached.first_pel() > reference.places[at.b1 + 1] {
-        return Err(Stop::Doubt);
+    let chosen = chooses_a1::<CHOICE>(reference, at, next);
+    if is_taken::<CHOICE>(chosen) {
+        Ok(next)
+    } else {
+        Err(Stop::Doubt)
     }
-    Ok(next)
 }
 
 /// Pass mode, where that is T.4's choice or this is not asked for (T.4, section 4.2.1.3.3).

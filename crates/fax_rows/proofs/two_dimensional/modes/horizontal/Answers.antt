@@ -1,11 +1,8 @@
 use Rattle.std.proofs.Common.{◌∙◌, subst, arith}
-use Rattle.std.proofs.lemmas.Bool.{false≢true}
 use Rattle.std.proofs.lemmas.Result.{err_from_is_err_and}
 use Rattle.fax_rows.specs.code.Chosen.{AreTwoRuns}
 use Rattle.fax_rows.proofs.PlacedB1Lemmas.{length-placed_pels}
 use Rattle.fax_rows.proofs.two_dimensional.modes.horizontal.Goals as goal
-use Rattle.fax_rows.proofs.two_dimensional.modes.horizontal.Goals.{else-this-ne0-via-then-this-ne0+else-not-chooses_runs}
-use Rattle.fax_rows.proofs.two_dimensional.modes.horizontal.Goals.{else-this-ne0-via-else-this-ne0}
 
 pub returns-clause-ok : goal.returns-clause-ok
 returns-clause-ok g c =
@@ -17,26 +14,22 @@ returns-clause-ok g c =
 
 pub returns-clause-chosen : goal.returns-clause-chosen
 returns-clause-chosen g c asked =
+    let is = c.is_taken.ensures.taken c.if-not-is_taken.false asked in
     let read = c.in_ok-first in
     let colour = c.colour_after-colour.ensures ∙ (c.requires.so_far.b1 c.requires.unfinished).colour_is in
+    let fits = c.chooses_runs-chosen.ensures in
     let len = length-placed_pels c.args.reference in
-    elim c.else-this-ne0.branch [
-      | else-this-ne0-via-then-this-ne0+else-not-chooses_runs w ↦
-          let is = w.if-not-chooses_runs.false in
-          let fits = w.chooses_runs.ensures in
-          record {
-            first = read.first;
-            second = read.second;
-            within = omega (arith, len, c.first_pel-from.ensures, read.ensures.within);
-            right = fits.right is;
-            some = λ h. fits.second is (omega (arith, len));
-            left = fits.left is;
-            far = fits.far is;
-            bits = rw (← colour) (read.ensures.written asked);
-            new_is = c.after_runs.ensures.placed;
-          }
-      | else-this-ne0-via-else-this-ne0 w ↦ absurd (false≢true (rw w.if-this-ne0.false at asked))
-    ]
+    record {
+      first = read.first;
+      second = read.second;
+      within = omega (arith, len, c.first_pel-from.ensures, read.ensures.within);
+      right = fits.right is;
+      some = λ h. fits.second is (omega (arith, len));
+      left = fits.left is;
+      far = fits.far is;
+      bits = rw (← colour) (read.ensures.written asked);
+      new_is = c.after_runs.ensures.placed;
+    }
 
 pub returns-in_err-first-clause-err : goal.returns-in_err-first-clause-err
 returns-in_err-first-clause-err g c =
