@@ -22,6 +22,15 @@ pub(super) fn chooses_a1<const CHOICE: bool>(
     CHOICE && next.reached.first_pel() <= reference.places[at.b1 + 1]
 }
 
+/// Whether T.4 chooses pass mode where a0 is put under b2 by it: b2 is in the row (T.4, section
+/// 4.2.1.3.3).
+#[inline(always)]
+pub(super) fn chooses_b2<const CHOICE: bool>(reference: PlacedRow, next: PlacedReached) -> bool
+    ensures { IsTrue result → reached_pel next.reached < reference.entry.width }
+{
+    CHOICE && next.reached.first_pel() < reference.width
+}
+
 /// Whether T.4 chooses horizontal mode with two runs of so many pels, as far as the row is read
 /// (T.4, section 4.2.1.3.3).
 #[inline(always)]

@@ -18,7 +18,7 @@ ghost use Rattle.fax_rows.specs.code.Turns.{row_of};
 ghost use Rattle.fax_rows.specs.code.Reached.{reached_pel};
 ghost use Rattle.fax_rows.specs.code.PlacedReached.{placed_position, IsReadTo};
 
-use super::choices::{chooses_a1, chooses_runs, is_taken};
+use super::choices::{chooses_a1, chooses_b2, chooses_runs, is_taken};
 use super::codes::{Stop, next_mode, two_runs};
 use super::copied::under_several;
 use super::steps::{PlacedReached, after_runs, left_of_b1, right_of_b1, under_b1, under_b2};
@@ -129,10 +129,12 @@ fn pass<const CHOICE: bool, const EXACT: bool>(
     ensures err { IfErr result (λ stop. IsStopOf CHOICE EXACT (λ fault. ⊥) stop) }
 {
     let next = under_b2(reference, places, at);
-    if CHOICE && next.reached.first_pel() >= reference.width {
-        return Err(Stop::Doubt);
+    let chosen = chooses_b2::<CHOICE>(reference, next);
+    if is_taken::<CHOICE>(chosen) {
+        Ok(next)
+    } else {
+        Err(Stop::Doubt)
     }
-    Ok(next)
 }
 
 /// Reads one mode, and goes on by what it says; where a1 is under b1 it reads more such modes too
