@@ -16,13 +16,22 @@ use crate::rows::PlacedRow;
 use crate::turns::close;
 use codes::Stop;
 use fax_bits::BitSource;
-use modes::{ReadRow, read_modes};
+use modes::read_modes;
 
 mod choices;
 mod codes;
 mod copied;
 mod modes;
 mod steps;
+
+/// A row that is read into places of change.
+#[derive(Clone, Copy)]
+struct ReadRow {
+    /// The index after the last place.
+    end: usize,
+    /// Whether its codes are seen to be those that T.4 chooses.
+    is_chosen: bool,
+}
 
 /// Reads the modes of a row over the reference row. After a doubt it reads them again, with
 /// `EXACT`; and where they are not T.4's choice, for their pels alone.
@@ -46,17 +55,26 @@ fn read_places<const CHOICE: bool>(
     ensures same_end { KeepsEnd source.old source.new }
 {
     match read_modes::<CHOICE, false>(source, reference, places) {
-        Ok(read) => return Ok(read),
+        Ok(end) => return Ok(ReadRow {
+            end,
+            is_chosen: CHOICE,
+        }),
         Err(Stop::Fault(fault)) => return Err(fault),
         Err(Stop::Doubt) => {}
     }
     match read_modes::<CHOICE, true>(source, reference, places) {
-        Ok(read) => return Ok(read),
+        Ok(end) => return Ok(ReadRow {
+            end,
+            is_chosen: CHOICE,
+        }),
         Err(Stop::Fault(fault)) => return Err(fault),
         Err(Stop::Doubt) => {}
     }
     match read_modes::<false, true>(source, reference, places) {
-        Ok(read) => Ok(read),
+        Ok(end) => Ok(ReadRow {
+            end,
+            is_chosen: false,
+        }),
         Err(Stop::Fault(fault)) => Err(fault),
         Err(Stop::Doubt) => unreachable!(),
     }

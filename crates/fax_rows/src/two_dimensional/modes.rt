@@ -27,15 +27,6 @@ use crate::rows::PlacedRow;
 use crate::turns::colour_after;
 use fax_bits::{BitSource, ModeCode};
 
-/// A row that is read into places of change.
-#[derive(Clone, Copy)]
-pub(super) struct ReadRow {
-    /// The index after the last place.
-    pub end: usize,
-    /// Whether its codes are seen to be those that T.4 chooses.
-    pub is_chosen: bool,
-}
-
 /// Horizontal mode: two runs from a0 on, the first of a0's colour, which stays (T.4, section
 /// 4.2.1.3.2). The index of b1 tells that colour.
 #[inline(always)]
@@ -173,7 +164,7 @@ fn next_steps<const CHOICE: bool, const EXACT: bool>(
     }
 }
 
-/// Reads the modes of a row over the reference row, and answers it. With `CHOICE`
+/// Reads the modes of a row over the reference row, and answers where its places end. With `CHOICE`
 /// it stops at the first step that is not seen to be T.4's choice, without `EXACT` at the first code
 /// that no look-up finds. Where it stops the source is as it was.
 #[inline(never)]
@@ -181,15 +172,15 @@ pub(super) fn read_modes<const CHOICE: bool, const EXACT: bool>(
     source: &mut BitSource,
     reference: PlacedRow,
     places: &mut [u32],
-) -> Result<ReadRow, Stop>
+) -> Result<usize, Stop>
     requires room { HasRoom reference.width places.old }
-    ensures ok { IfOk result (λ read. Spec.IsTwoDimensionalRow (placed_pels reference.entry)
-        source.old.left (row_of places.new read.end reference.entry.width) source.new.left) }
+    ensures ok { IfOk result (λ end. Spec.IsTwoDimensionalRow (placed_pels reference.entry)
+        source.old.left (row_of places.new end reference.entry.width) source.new.left) }
     ensures put { IfOk result
-        (λ read. ArePut reference.entry.width places.new read.end reference.entry.width) }
-    ensures chosen { IfOk result (λ read. IsTrue read.is_chosen
+        (λ end. ArePut reference.entry.width places.new end reference.entry.width) }
+    ensures chosen { IfOk result (λ end. IsTrue CHOICE
         → source.old.left ≡ two_dimensional_bits (placed_pels reference.entry)
-        (row_of places.new read.end reference.entry.width) ++ source.new.left) }
+        (row_of places.new end reference.entry.width) ++ source.new.left) }
     ensures err { IfErr result (λ stop. IsStopOf CHOICE EXACT
         (λ fault. Fault.IsTwoDimensionalFault (placed_pels reference.entry)
         source.old.left fault) stop) }
@@ -203,8 +194,5 @@ pub(super) fn read_modes<const CHOICE: bool, const EXACT: bool>(
         at = next_steps::<CHOICE, EXACT>(&mut ahead, reference, places, at)?;
     }
     source.go_to(&ahead);
-    Ok(ReadRow {
-        end: at.end,
-        is_chosen: CHOICE,
-    })
+    Ok(at.end)
 }
