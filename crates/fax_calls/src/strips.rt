@@ -71,14 +71,16 @@ fn next(alloc: Global, reader: &mut StripReader) -> Result<String, WrongLine> {
     Ok(format!(in alloc; "{answer}@{} ", reader.bit_place())?)
 }
 
-/// What so many calls of a reader answer; then its reference, and how many rows it has read.
+/// What so many calls of a reader answer; then its reference, the number of the row that is due, and
+/// how many rows it has read.
 fn calls(alloc: Global, reader: &mut StripReader, count: u32) -> Result<String, WrongLine> {
     let mut text = String::new(alloc);
     for _ in 0..count {
         text.push_str(&next(alloc, reader)?)?;
     }
     let reference = text::runs(alloc, reader.reference())?;
-    text.push_str(&format!(in alloc; "over {reference} read {}", reader.rows_read())?)?;
+    let (row, read) = (reader.row(), reader.rows_read());
+    text.push_str(&format!(in alloc; "over {reference} row {row} read {read}")?)?;
     Ok(text)
 }
 
