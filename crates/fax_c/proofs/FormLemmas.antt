@@ -8,8 +8,8 @@ use Rattle.fax_bits.specs.laws.Codes.{IsOne}
 use Rattle.fax_walk.specs.declared.cursor.Cursor.{Cursor}
 use Rattle.fax_walk.specs.declared.end.End.{End}
 use Rattle.fax_walk.specs.Pages.{FormItem, IsFormTail}
-use Rattle.fax_walk.specs.views.InOrder.{IsNumber}
-use Rattle.fax_walk.specs.views.Pages.{HandsOutPage, IsCursorOf, PagesHaveEnded, PagesView}
+use Rattle.fax_walk.specs.views.InOrder.{HasEndedAs, IsNumber}
+use Rattle.fax_walk.specs.views.Pages.{HandsOutPage, IsCursorOf, PagesView}
 use Rattle.fax_walk.specs.laws.Tails.{CursorsHaveOneFormTail}
 use Rattle.fax_c.specs.declared.filled.Stop.TheVariants.{Done, Ended}
 use Rattle.fax_c.specs.declared.forms.FaxForm.{FaxForm}
@@ -81,7 +81,7 @@ module _ (file : List ℕ) (from : Cursor) (pages : PagesView) (count : ℕ) (ol
   pub one_more : (new : PagesView) (item : FormItem) → count < length old → HandsOutPage pages item new
       → AreFormsWritten file from new (count + 1) old (set forms count (form_of item.form))
   one_more new item below hands =
-      let there = item_is pages.given item hands.number in
+      let there = item_is pages.given item hands.0.number in
       let here : slice_get so_far.items count ≡ Some item = subst (λ n. slice_get so_far.items n ≡ Some item) so_far.given there in
       let inside = slice_get_within so_far.items count item here in
       let front = forms_of (take count so_far.items) in
@@ -93,19 +93,19 @@ module _ (file : List ℕ) (from : Cursor) (pages : PagesView) (count : ℕ) (ol
         items = so_far.items;
         end = so_far.end;
         tail = so_far.tail;
-        same_file = ap (λ (p : PagesView). p.file) hands.new_is ∙ so_far.same_file;
-        same_begun = ap (λ (p : PagesView). p.begun) hands.new_is ∙ so_far.same_begun;
-        given = ap (λ (p : PagesView). p.given) hands.new_is ∙ ap (λ n. n + 1) so_far.given;
+        same_file = ap (λ (p : PagesView). p.file) hands.0.new_is ∙ so_far.same_file;
+        same_begun = ap (λ (p : PagesView). p.begun) hands.0.new_is ∙ so_far.same_begun;
+        given = ap (λ (p : PagesView). p.given) hands.0.new_is ∙ ap (λ n. n + 1) so_far.given;
         few = omega (arith, inside);
         asked = omega (arith, below);
         written =
             one_set front old forms count (form_of item.form) len below so_far.written ∙ ap (λ (l : List FaxForm). l ++ drop (count + 1) old) (sym all);
       }
 
-  pub ended : (end : End) (new : PagesView) (at : Cursor) → PagesHaveEnded pages end new → IsCursorOf pages at
+  pub ended : (end : End) (new : PagesView) (at : Cursor) → HasEndedAs IsFormTail pages end new → IsCursorOf pages at
       → AreFormsFilled file from old (record { cursor = at; count = count; used = 0; stop = Ended end }) forms
   ended end new at ends is =
-      let are = end_is (IsFormTail pages.file pages.begun) one_here so_far.items so_far.end tail_here pages.given end ends.ends in
+      let are = end_is (IsFormTail pages.file pages.begun) one_here so_far.items so_far.end tail_here pages.given end ends.0 in
       record {
         items = so_far.items;
         end = so_far.end;

@@ -1,6 +1,6 @@
 -- The lines of rows and of pages.
 use Rattle.std.proofs.Common.{◌≡◌, ℕ, zero, suc, ◌+◌, inl, inr, Bool, true, false, List, [], ◌∷◌, ◌++◌, take, map}
-use Rattle.std.proofs.Common.{Option, Some, None, Result, Ok, Err, refl, sym, ap, ◌∙◌, arith}
+use Rattle.std.proofs.Common.{Option, Some, None, Result, Ok, Err, refl, sym, ap, ◌∙◌, arith, subst}
 use Rattle.std.proofs.lemmas.Option.{slice_get_within, slice_get-map}
 use Rattle.std.proofs.lemmas.List.{length-map}
 use Rattle.std.specs.Prelude.{slice_get, if◌then◌else◌, nat_lt, nat_le, ◌==◌, ◌%◌}
@@ -16,10 +16,10 @@ use Rattle.fax_walk.specs.declared.end.End.{End}
 use Rattle.fax_walk.specs.declared.end.WalkFault.{WalkFault}
 use Rattle.fax_walk.specs.declared.end.WalkFault.TheVariants.{Memory, AtRow, CursorOutside}
 use Rattle.fax_walk.specs.Pages.{LongPlace}
-use Rattle.fax_walk.specs.views.InOrder.{IsNumber, EndsAfter}
+use Rattle.fax_walk.specs.views.InOrder.{IsNumber, EndsAfter, HasEndedAs}
 use Rattle.fax_bits.specs.laws.Codes.{IsOne}
-use Rattle.fax_walk.specs.views.Walk.{WalkView, HasEndedAs, IsNext, IsCursorOf, IsItemNumber, IsLongOf, begun_place}
-use Rattle.fax_walk.specs.views.Pages.{PagesView, HandsOutPage, IsCursorOf as IsPageCursor, IsNextPage, PagesHaveEnded}
+use Rattle.fax_walk.specs.views.Walk.{WalkView, IsNext, IsCursorOf, IsItemNumber, IsLongOf, begun_place}
+use Rattle.fax_walk.specs.views.Pages.{PagesView, HandsOutPage, IsCursorOf as IsPageCursor, IsNextPage}
 use Rattle.fax_walk.specs.laws.Tails.{BeginningsHaveOneTail, CursorsHaveOneFormTail}
 use Rattle.fax_walk.specs.Pages.{FormItem, IsFormTail}
 use Rattle.fax_walk.specs.Items.{RowItem as Item, RowPlace as Place, IsTailFrom, begun_cursor, cursor_after, exchanged}
@@ -233,12 +233,12 @@ IsPagePut old new text answer new_text = IsLinePut (ArePageLines old.file old.be
 pub page_put : (old new : PagesView) (item : FormItem) (text new_text : List ℕ) → HandsOutPage old item new
     → new_text ≡ text ++ page_line_of item.page item.form → IsPagePut old new text (Ok None) new_text
 page_put old new item text new_text hands grown =
-    (line_of_page item, page_number old.file old.begun old.given item hands.number, ap (λ (p : PagesView). p.given) hands.new_is, grown)
+    (line_of_page item, page_number old.file old.begun old.given item hands.0.number, ap (λ (p : PagesView). p.given) hands.0.new_is, grown)
 
-pub pages_ended : (old new : PagesView) (end : End) (text : List ℕ) → PagesHaveEnded old end new
+pub pages_ended : (old new : PagesView) (end : End) (text : List ℕ) → HasEndedAs IsFormTail old end new
     → IsPagePut old new text (Ok (Some end)) text
 pages_ended old new end text ended =
-    (pages_end old.file old.begun old.given end ended.ends, ap (λ (p : PagesView). p.given) ended.new_is, refl)
+    (pages_end old.file old.begun old.given end ended.0, ap (λ (p : PagesView). p.given) ended.2, refl)
 
 pub some_is : {a b : End} → Some a ≡ Some b → a ≡ b
 some_is e = cc e
@@ -249,13 +249,15 @@ none_is e = cc e
 pub pages_refused : (old new : PagesView) (fault : WalkFault) (end : End) (text : List ℕ) → IsNextPage old (Err fault) new
     → end_of fault ≡ Some end
     → IsPagePut old new text (Ok (Some end)) text
-pages_refused old new (AtRow page row cause) end text ended is = pages_ended old new end text (rw (some_is is) at ended)
-pages_refused old new CursorOutside end text ended is = pages_ended old new end text (rw (some_is is) at ended)
+pages_refused old new (AtRow page row cause) end text ended is =
+    pages_ended old new end text (subst (λ (e : End). HasEndedAs IsFormTail old e new) (some_is is) ended)
+pages_refused old new CursorOutside end text ended is =
+    pages_ended old new end text (subst (λ (e : End). HasEndedAs IsFormTail old e new) (some_is is) ended)
 pages_refused old new Memory end text ended is = absurd (none_is is)
 
 -- the rows ended so
 pub rows_refused : (old new : WalkView) (fault : WalkFault) (end : End) → IsNext old (Err fault) new → end_of fault ≡ Some end
-    → HasEndedAs old end new
+    → HasEndedAs IsTailFrom old end new
 rows_refused old new (AtRow page row cause) end ended is = rw (some_is is) at ended
 rows_refused old new CursorOutside end ended is = rw (some_is is) at ended
 rows_refused old new Memory end ended is = absurd (none_is is)

@@ -13,13 +13,13 @@ use Rattle.fax_walk.specs.declared.end.End.{End}
 use Rattle.fax_walk.specs.Pages.{AreFrom, FormItem, IsForm, IsFormTail}
 use Rattle.fax_walk.specs.code.Pages.{AreFormsBegun, HasGiven, IsPageAfter, IsFirstDue, IsDueIn}
 use Rattle.fax_walk.specs.code.Pages.{EndsNow}
-use Rattle.fax_walk.specs.views.InOrder.{EndsAfter, HasToldNoOther}
+use Rattle.fax_walk.specs.views.InOrder.{EndsAfter, HasEndedAs, HasToldNoOther}
 use Rattle.fax_walk.specs.laws.InOrder.{LeadTo}
 use Rattle.fax_walk.specs.declared.end.End.TheVariants.{Fault, Outside, Proper}
 use Rattle.fax_walk.specs.declared.end.WalkFault.{WalkFault}
 use Rattle.fax_walk.specs.declared.end.WalkFault.TheVariants.{AtRow, CursorOutside}
 use Rattle.fax_walk.specs.code.Walk.{answer_of}
-use Rattle.fax_walk.specs.views.Pages.{PagesView, HandsOutPage, IsNextPage, PagesHaveEnded}
+use Rattle.fax_walk.specs.views.Pages.{PagesView, HandsOutPage, IsNextPage}
 use Rattle.fax_walk.specs.laws.Forms.{AreFormsLeft}
 use Rattle.fax_walk.specs.laws.Tails.{CursorsHaveOneFormTail, FormTailOfPage}
 use Rattle.fax_walk.specs.code.Opening.{PageDue, IsPageDue, IsFilePage, IsChainBefore, IsNamed, EndsAt, page_with}
@@ -139,19 +139,20 @@ module _ (tails : CursorsHaveOneFormTail) (of_page : FormTailOfPage) where
       let item : FormItem = record { page = due.page; form = due.form } in
       let more = forms_on pages.file (due.page + 1) in
       let from : AreFrom (IsForm pages.file) due.page (item ∷ more.0) more.1 =
-      (due.page + 1, rw (is.file_is) at (form_here due.page due.chain due.directory due.form its.its), more.2) in
-      record {
-        untold = is.untold;
-        number = (
-          is.come.forms ++ item ∷ more.0,
-          more.1,
-          all_of pages.file pages.begun pages.given due.page is.come (item ∷ more.0) more.1 from,
-          number_of is.come.forms item more.0 pages.given is.come.count,
-        );
-        limits = its.limits;
-        few = omega (arith, is.come.few, short);
-        new_is = ap (λ (t : Option End). record pages { given = pages.given + 1; told = t }) (sym is.untold);
-      }
+      (due.page + 1, rw (is.file_is) at (form_here due.page due.chain due.directory due.form its.its), more.2) in (
+        record {
+          untold = is.untold;
+          number = (
+            is.come.forms ++ item ∷ more.0,
+            more.1,
+            all_of pages.file pages.begun pages.given due.page is.come (item ∷ more.0) more.1 from,
+            number_of is.come.forms item more.0 pages.given is.come.count,
+          );
+          few = omega (arith, is.come.few, short);
+          new_is = ap (λ (t : Option End). record pages { given = pages.given + 1; told = t }) (sym is.untold);
+        },
+        its.limits,
+      )
 
   pub forms_left : (file : List ℕ) (begun : Cursor) (given p : ℕ) → HasGiven file begun given p
       → (forms : List FormItem) × (end : End)
@@ -205,13 +206,13 @@ given_more file begun given due come file_is its = (
 )
 
 -- what is answered where the pages have ended
-pub ended_properly : (old new : PagesView) (end : End) (more : Bool) → PagesHaveEnded old end new → Ok more ≡ answer_of end
-    → PagesHaveEnded old Proper new
+pub ended_properly : (old new : PagesView) (end : End) (more : Bool) → HasEndedAs IsFormTail old end new → Ok more ≡ answer_of end
+    → HasEndedAs IsFormTail old Proper new
 ended_properly old new Proper more ended is = ended
 ended_properly old new (Fault page row cause) more ended is = absurd cc
 ended_properly old new Outside more ended is = absurd cc
 
-pub ended_so : (old new : PagesView) (end : End) (fault : WalkFault) → PagesHaveEnded old end new → Err fault ≡ answer_of end
+pub ended_so : (old new : PagesView) (end : End) (fault : WalkFault) → HasEndedAs IsFormTail old end new → Err fault ≡ answer_of end
     → IsNextPage old (Err fault) new
 ended_so old new Proper fault ended is = absurd cc
 ended_so old new (Fault page row cause) fault ended is =

@@ -17,10 +17,10 @@ use Rattle.fax_walk.specs.declared.end.End.TheVariants.{Proper, Fault, Outside}
 use Rattle.fax_walk.specs.declared.opening.OpenFault.{OpenFault}
 use Rattle.fax_walk.specs.declared.opening.OpenFault.TheVariants.{Memory, Ended}
 use Rattle.fax_walk.specs.Pages.{AreFrom}
-use Rattle.fax_walk.specs.views.InOrder.{EndsAfter, HasToldNoOther}
+use Rattle.fax_walk.specs.views.InOrder.{EndsAfter, HandsOut, HasEndedAs, HasToldNoOther}
 use Rattle.fax_walk.specs.laws.InOrder.{LeadTo, IsLeftOf}
 use Rattle.fax_walk.specs.Pages.{LongPlace}
-use Rattle.fax_walk.specs.views.Walk.{AreRead, EndsBefore, EntersPage, HasEndedAs, HandsOut, IsCursorOf, IsItemNumber, IsLongOf, IsNext}
+use Rattle.fax_walk.specs.views.Walk.{AreRead, EndsBefore, EntersPage, IsCursorOf, IsItemNumber, IsLongOf, IsNext, row_limit}
 use Rattle.fax_walk.specs.laws.Left.{IsLeft}
 use Rattle.fax_walk.specs.views.Walk.{WalkView}
 use Rattle.fax_walk.specs.Items.{IsRow, IsTailFrom, RowItem, RowPlace, begun_cursor, first_at}
@@ -436,7 +436,7 @@ module _ (walk : WalkView) (cursor : Cursor) (page : Option PageState) where
 
   -- the rows have ended
   pub has_ended : (end : End) → HasEndedOn file begun walk.given cursor page end → HasToldNoOther walk.told end
-      → HasEndedAs walk end (record walk { told = Some end })
+      → HasEndedAs IsTailFrom walk end (record walk { told = Some end })
   has_ended end ends no_other = (ends_after file begun walk.given cursor page end ends, no_other, refl)
 
   -- what is left
@@ -510,18 +510,18 @@ few_more _ _ given cursor None shows = absurd (omega (arith, shows))
 few_more _ _ given cursor (Some page) shows = shows.few
 
 -- the rows have ended so
-pub advance_ends : (old new : WalkView) (end : End) → HasEndedAs old end new → IsAdvance old (answer_of end) new
+pub advance_ends : (old new : WalkView) (end : End) → HasEndedAs IsTailFrom old end new → IsAdvance old (answer_of end) new
 advance_ends old new Proper ended = ended
 advance_ends old new (Fault page row cause) ended = ended
 advance_ends old new Outside ended = ended
 
 pub ends_again : (walk : WalkView) (cursor : Cursor) (page : Option PageState) (end : End) → walk.told ≡ Some end
-    → IsSound walk.file walk.begun walk.given cursor page walk.told → HasEndedAs walk end (record walk { told = Some end })
+    → IsSound walk.file walk.begun walk.given cursor page walk.told → HasEndedAs IsTailFrom walk end (record walk { told = Some end })
 ends_again walk cursor page end told sound = has_ended walk cursor page end (rw told at sound) (rw told refl)
 
 pub ends_now : (walk : WalkView) (cursor : Cursor) (old new : Option PageState) (end : End) → walk.told ≡ None
     → IsSound walk.file walk.begun walk.given cursor old walk.told → IsReadNext walk.file walk.begun old (Err (Ended end)) new
-    → HasEndedAs walk end (record walk { told = Some end })
+    → HasEndedAs IsTailFrom walk end (record walk { told = Some end })
 ends_now walk cursor old new end untold sound next =
     has_ended walk cursor new end (next walk.given cursor (rw untold at sound).0) (rw untold tt)
 
@@ -533,7 +533,7 @@ fault_answer old new CursorOutside ended = ended
 -- the row that a walk went to is lent with its place
 pub lent : (old walk : WalkView) (cursor : Cursor) (page : Option PageState) → IsAdvance old (Ok true) walk → (at : PageState)
     → page ≡ Some at → IsSound walk.file walk.begun walk.given cursor page walk.told → (row : List Colour) → row ≡ at.shown
-    → (item : RowItem) × HandsOut old item walk
+    → (item : RowItem) × HandsOut IsTailFrom row_limit old item walk
     × ((item.page ≡ cursor.page) × (item.row ≡ cursor.row - 1) × (item.pels ≡ row))
 lent old walk cursor page (untold, few, new_is) at page_is sound row row_is =
     let none : walk.told ≡ None = ap (λ (w : WalkView). w.told) new_is ∙ untold in

@@ -4,14 +4,15 @@ use Rattle.std.specs.Prelude.{Option, Some, None, Result, Ok, Err, Bool, true, f
 use Rattle.fax_rows.specs.Rows.{Colour}
 use Rattle.fax_walk.specs.declared.end.End.{End}
 use Rattle.fax_files.specs.declared.PageForm.{PageForm}
-use Rattle.fax_walk.specs.Pages.{FormItem, LongPlace}
+use Rattle.fax_walk.specs.Pages.{FormItem, IsFormTail, LongPlace}
 use Rattle.fax_walk.specs.declared.end.End.TheVariants.{Fault, Outside}
 use Rattle.fax_walk.specs.declared.end.WalkFault.{WalkFault}
 use Rattle.fax_walk.specs.declared.end.WalkFault.TheVariants.{AtRow, CursorOutside}
 use Rattle.fax_walk.specs.declared.end.WalkFault.TheVariants.{Memory as Refused}
-use Rattle.fax_walk.specs.Items.{RowItem}
-use Rattle.fax_walk.specs.views.Pages.{PagesView, HandsOutPage, PagesHaveEnded}
-use Rattle.fax_walk.specs.views.Walk.{EntersPage, WalkView, HandsOut, HasEndedAs, IsLongOf}
+use Rattle.fax_walk.specs.Items.{RowItem, IsTailFrom}
+use Rattle.fax_walk.specs.views.InOrder.{HandsOut, HasEndedAs}
+use Rattle.fax_walk.specs.views.Pages.{PagesView, HandsOutPage}
+use Rattle.fax_walk.specs.views.Walk.{EntersPage, WalkView, IsLongOf, row_limit}
 use Rattle.fax_c.specs.declared.filled.Filled.{Filled}
 use Rattle.fax_c.specs.declared.filled.Stop.{Stop}
 use Rattle.fax_c.specs.declared.filled.Stop.TheVariants.{Done, Ended, Memory, NoRoom}
@@ -31,7 +32,7 @@ stop_of Refused = Memory
 abbrev pub IsFormAnswered : PagesView → Result PageForm End → PagesView → Type 0
 IsFormAnswered old (Ok form) new =
     (item : FormItem) × HandsOutPage old item new × (form ≡ item.form)
-IsFormAnswered old (Err end) new = PagesHaveEnded old end new
+IsFormAnswered old (Err end) new = HasEndedAs IsFormTail old end new
 
 -- these numbers are written at a place, and where they end is answered, or they have no room
 abbrev pub IsPutAt : {N : Type 0} → List N → List N → ℕ → Option ℕ → List N → Type 0
@@ -43,12 +44,14 @@ IsPutAt numbers old at (Some to) new =
 abbrev pub IsPut : {N : Type 0} → (List Colour → List N) → WalkView → List N → ℕ
     → Result FaxRow Stop → WalkView → List N → Type 0
 IsPut numbers walk old at (Ok row) new_walk new =
-    (item : RowItem) × HandsOut walk item new_walk × (row ≡ row_at numbers at item)
+    (item : RowItem) × HandsOut IsTailFrom row_limit walk item new_walk
+    × (row ≡ row_at numbers at item)
     × IsPutAt (numbers item.pels) old at (Some (at + length (numbers item.pels))) new
 IsPut numbers walk old at (Err NoRoom) new_walk new =
-    (item : RowItem) × HandsOut walk item new_walk × IsPutAt (numbers item.pels) old at None new
+    (item : RowItem) × HandsOut IsTailFrom row_limit walk item new_walk
+    × IsPutAt (numbers item.pels) old at None new
 IsPut numbers walk old at (Err (Ended end)) new_walk new =
-    HasEndedAs walk end new_walk × (new ≡ old)
+    HasEndedAs IsTailFrom walk end new_walk × (new ≡ old)
 IsPut numbers walk old at (Err Memory) new_walk new =
     EntersPage walk.file walk.begun walk.given × (new_walk ≡ walk) × (new ≡ old)
 IsPut numbers walk old at (Err Done) new_walk new = ⊥

@@ -11,7 +11,7 @@ use Rattle.fax_walk.specs.declared.pages.PagesStage.TheVariants.{Before, After, 
 use Rattle.fax_walk.specs.laws.InOrder.{LeadTo}
 use Rattle.fax_walk.specs.views.InOrder.{EndsAfter, HasToldNoOther}
 use Rattle.fax_walk.specs.Pages.{FormItem, IsForm, IsFormTail, IsOnPage}
-use Rattle.fax_walk.specs.views.Pages.{PagesView, IsCursorOf, IsTailOf}
+use Rattle.fax_walk.specs.views.Pages.{PagesView, IsCursorOf}
 use Rattle.fax_walk.specs.code.Opening.{PageDue, IsChainBefore}
 use Rattle.fax_walk.specs.code.Places.{AreBegun}
 
@@ -78,4 +78,5 @@ pub record IsDueIn (pages : PagesView) (due : PageDue) : Type 0 where
 
 -- the pages of a reader end so
 abbrev pub EndsNow : PagesView → End → Type 0
-EndsNow pages end = EndsAfter (IsTailOf pages) pages.given end × HasToldNoOther pages.told end
+EndsNow pages end =
+    EndsAfter (IsFormTail pages.file pages.begun) pages.given end × HasToldNoOther pages.told end

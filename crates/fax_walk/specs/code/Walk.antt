@@ -14,7 +14,8 @@ use Rattle.fax_walk.specs.laws.InOrder.{LeadTo}
 use Rattle.fax_walk.specs.Items.{RowItem, RowPlace, IsRow, IsTailFrom, begun_cursor, cursor_after}
 use Rattle.fax_walk.specs.code.Places.{Begins}
 use Rattle.fax_walk.specs.code.Places.{place_over}
-use Rattle.fax_walk.specs.views.Walk.{WalkView, IsItemNumber, EntersPage, HasEndedAs, AreRead}
+use Rattle.fax_walk.specs.views.InOrder.{HasEndedAs}
+use Rattle.fax_walk.specs.views.Walk.{WalkView, IsItemNumber, EntersPage, AreRead}
 use Rattle.fax_walk.specs.views.Walk.{EndsBefore}
 use Rattle.fax_walk.specs.views.Walk.{walk_from}
 use Rattle.fax_walk.specs.code.Stages.{PageState, row_of, skipped, place_of, IsOpen, IsOpenedAt}
@@ -154,8 +155,9 @@ answer_of Outside = Err CursorOutside
 abbrev pub IsAdvance : WalkView → Result Bool WalkFault → WalkView → Type 0
 IsAdvance old (Ok true) new =
     (old.told ≡ None) × (old.given + 1 < 2 ^ 53) × (new ≡ record old { given = old.given + 1 })
-IsAdvance old (Ok false) new = HasEndedAs old Proper new
-IsAdvance old (Err (AtRow page row cause)) new = HasEndedAs old (Fault page row cause) new
-IsAdvance old (Err CursorOutside) new = HasEndedAs old Outside new
+IsAdvance old (Ok false) new = HasEndedAs IsTailFrom old Proper new
+IsAdvance old (Err (AtRow page row cause)) new =
+    HasEndedAs IsTailFrom old (Fault page row cause) new
+IsAdvance old (Err CursorOutside) new = HasEndedAs IsTailFrom old Outside new
 IsAdvance old (Err Memory) new =
     (new ≡ old) × (old.told ≡ None) × EntersPage old.file old.begun old.given

@@ -14,30 +14,24 @@ use Rattle.fax_walk.specs.declared.walk.Place.{Place}
 use Rattle.fax_walk.specs.declared.walk.PlaceInside.{PlaceInside}
 use Rattle.fax_rows.specs.Rows.{runs_of}
 use Rattle.fax_walk.specs.Pages.{start, LongPlace}
-use Rattle.fax_walk.specs.views.InOrder.{IsAfterLast, IsNumber, EndsAfter, HasToldNoOther}
+use Rattle.fax_walk.specs.views.InOrder.{Reading, reading_from, HandsOut, HasEndedAs, IsAfterLast}
+use Rattle.fax_walk.specs.views.InOrder.{IsNumber}
 use Rattle.fax_walk.specs.Pages.{IsOnPage}
 use Rattle.fax_walk.specs.Items.{RowItem, IsTailFrom, begun_cursor, cursor_after}
 use Rattle.fax_walk.specs.Items.{long_after}
 
 -- a walk: its file, what it began with, how many rows it handed out, and how the rows ended, once
 -- it told that
-pub record WalkView : Type 0 where
-  pub file : List ℕ
-  pub begun : Begun
-  pub given : ℕ
-  pub told : Option End
+abbrev pub WalkView : Type 0
+WalkView = Reading Begun
 
 -- a walk that begins so, before its first item
 abbrev pub walk_from : List ℕ → Begun → WalkView
-walk_from file begun = record { file = file; begun = begun; given = 0; told = None }
+walk_from = reading_from
 
 -- a walk before the first item of its file
 abbrev pub walk_start : List ℕ → WalkView
 walk_start file = walk_from file (At start)
-
--- what a walk hands out in all
-abbrev pub IsTailOf : WalkView → List RowItem → End → Type 0
-IsTailOf walk = IsTailFrom walk.file walk.begun
 
 -- item number n of what a walk hands out that began so
 abbrev pub IsItemNumber : List ℕ → Begun → ℕ → RowItem → Type 0
@@ -56,19 +50,6 @@ EntersPage file begun n =
 abbrev pub row_limit : ℕ
 row_limit = 2 ^ 53
 
--- this item is handed out: it is number `given` of what the walk hands out
-pub record HandsOut (old : WalkView) (item : RowItem) (new : WalkView) : Type 0 where
-  pub untold : old.told ≡ None
-  pub number : IsItemNumber old.file old.begun old.given item
-  pub few : old.given + 1 < row_limit
-  pub new_is : new ≡ record old { given = old.given + 1 }
-
--- the rows have ended so
-abbrev pub HasEndedAs : WalkView → End → WalkView → Type 0
-HasEndedAs old end new =
-    EndsAfter (IsTailOf old) old.given end × HasToldNoOther old.told end
-    × (new ≡ record old { told = Some end })
-
 -- a row that is lent, with its place, is this item
 abbrev pub IsLent : Place × Bor (List Colour) → RowItem → Type 0
 IsLent found item =
@@ -78,17 +59,16 @@ IsLent found item =
 abbrev pub IsNext : WalkView → Result (Option (Place × Bor (List Colour))) WalkFault → WalkView
     → Type 0
 IsNext old (Ok (Some found)) new =
-    (item : RowItem) × HandsOut old item new × IsLent found item
-IsNext old (Ok None) new = HasEndedAs old Proper new
-IsNext old (Err (AtRow page row cause)) new = HasEndedAs old (Fault page row cause) new
-IsNext old (Err CursorOutside) new = HasEndedAs old Outside new
+    (item : RowItem) × HandsOut IsTailFrom row_limit old item new × IsLent found item
+IsNext old (Ok None) new = HasEndedAs IsTailFrom old Proper new
+IsNext old (Err (AtRow page row cause)) new = HasEndedAs IsTailFrom old (Fault page row cause) new
+IsNext old (Err CursorOutside) new = HasEndedAs IsTailFrom old Outside new
 IsNext old (Err Memory) new =
     (new ≡ old) × (old.told ≡ None) × EntersPage old.file old.begun old.given
 
 -- the cursor after the row that was handed out last, or the one that the walk began with
 abbrev pub IsCursorOf : WalkView → Cursor → Type 0
-IsCursorOf walk =
-    IsAfterLast (IsTailOf walk) walk.given (begun_cursor walk.begun) cursor_after
+IsCursorOf walk = IsAfterLast IsTailFrom walk begun_cursor cursor_after
 
 -- the place inside a strip that a walk began with, if it did
 abbrev pub begun_place : Begun → Option LongPlace
@@ -98,7 +78,7 @@ begun_place (Inside place) = Some place
 -- the place inside a strip after the row that was handed out last, or the one that the walk began
 -- with, if there is one
 abbrev pub IsLongOf : WalkView → Option LongPlace → Type 0
-IsLongOf walk = IsAfterLast (IsTailOf walk) walk.given (begun_place walk.begun) long_after
+IsLongOf walk = IsAfterLast IsTailFrom walk begun_place long_after
 
 -- a place inside a strip that is lent, if there is one, with the runs of the row before it
 abbrev pub place_inside : Option PlaceInside → Option LongPlace

@@ -7,12 +7,12 @@ pub loop-count-preserved : goal.loop-count-preserved
 loop-count-preserved c =
     let next = rw c.in-Ok-Some.field-0-is at c.in-Ok-Some.ensures in
     let inv = c.loop-count.invariant in
-    let given = ap (λ (p : PagesView). p.given) next.new_is in
+    let given = ap (λ (p : PagesView). p.given) next.0.new_is in
     record {
-      same_file = ap (λ (p : PagesView). p.file) next.new_is ∙ inv.same_file;
-      from_start = ap (λ (p : PagesView). p.begun) next.new_is ∙ inv.from_start;
+      same_file = ap (λ (p : PagesView). p.file) next.0.new_is ∙ inv.same_file;
+      from_start = ap (λ (p : PagesView). p.begun) next.0.new_is ∙ inv.from_start;
       given = given ∙ ap (λ n. n + 1) inv.given;
-      few = omega (arith, next.few, inv.given);
+      few = omega (arith, next.0.few, inv.given);
     }
 
 pub loop-count-init : goal.loop-count-init

@@ -16,7 +16,7 @@ invariant_of-self c =
         c.self.inside.given,
         record { page = c.page.inside.page; form = c.page.inside.form },
         refl,
-        hands.number,
+        hands.0.number,
         rw after refl,
       );
     }
@@ -40,12 +40,12 @@ invariant_of-self-in_err-answer-in-Err c =
 pub returns-in_ok-answer-in-Err : goal.returns-in_ok-answer-in-Err
 returns-in_ok-answer-in-Err c =
     let ends = rw (sym c.self.view_is) at c.in-Err.ensures.err in
-    rw (← c.self.view_is) (ended_properly _ _ c.in-Err.end _ (record { ends = ends.0; no_other = ends.1; new_is = refl })
+    rw (← c.self.view_is) (ended_properly _ _ c.in-Err.end _ (ends.0, ends.1, refl)
     c.in_ok-answer-in-Err.ensures)
 
 pub returns-in_err-answer-in-Err : goal.returns-in_err-answer-in-Err
 returns-in_err-answer-in-Err c =
     let p = err_from_is_err_and c.from_residual.result c.from_residual.ensures.1 in
     let ends = rw (sym c.self.view_is) at c.in-Err.ensures.err in
-    rw (← c.self.view_is, p.1, p.2) (ended_so _ _ c.in-Err.end _ (record { ends = ends.0; no_other = ends.1; new_is = refl })
+    rw (← c.self.view_is, p.1, p.2) (ended_so _ _ c.in-Err.end _ (ends.0, ends.1, refl)
     c.in_err-answer-in-Err.ensures)
