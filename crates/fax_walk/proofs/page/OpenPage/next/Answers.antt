@@ -1,4 +1,4 @@
-use Rattle.std.proofs.Common.{◌+◌, ◌^◌, ◌<◌, ◌≤◌, sym, arith, ◌∙◌}
+use Rattle.std.proofs.Common.{◌+◌, ◌≤◌, sym, arith, ◌∙◌}
 use Rattle.std.proofs.lemmas.Result.{err_from_is_err_and}
 use Rattle.fax_walk.specs.code.Stages.{row_of, row_shown}
 use Rattle.fax_walk.proofs.OpenPageLemmas.{few_read, none_skipped, one_skipped, row_given, state}
