@@ -1,29 +1,28 @@
 -- Each file has one chain of directories.
 use Rattle.std.proofs.Common.{◌≡◌, ℕ, zero, suc, ◌+◌, ◌*◌, ◌<◌, ◌≤◌, ◌⊎◌, inl, inr, Bool, true, false, ◌&&◌, ◌||◌, eqb, List, [], ◌∷◌}
-use Rattle.std.proofs.Common.{length, Option, Some, None, refl, subst, arith}
+use Rattle.std.proofs.Common.{length, Option, Some, None, ◌≢◌, refl, subst, arith}
 use Rattle.std.specs.Prelude.{◌==◌, if◌then◌else◌, nat_le}
 use Rattle.std.specs.List.{list_any, IsDistinct, All}
 use Rattle.std.proofs.lemmas.List.Elements.{All-nil, All-cons, recursion_from_All}
 use Rattle.std.proofs.lemmas.Map.Steps.{length-le_from_distinct_below}
+use Rattle.std.proofs.lemmas.Bool.{ne_eqb}
 use Rattle.std.proofs.lemmas.Bool.Decides.{nat_tests}
 use Rattle.fax_files.specs.declared.FileFault.{FileFault}
 use Rattle.fax_files.specs.declared.FileFault.TheVariants.{DirectoryOutside, DirectoryLoop}
 use Rattle.fax_files.specs.declared.Endian.{Endian}
 use Rattle.fax_files.specs.Directory.{Header, is_inside, is_directory, next_offset}
 use Rattle.fax_files.specs.code.Entries.{entry_count}
-use Rattle.fax_files.specs.Directory.{chain_stop, IsChainFrom}
+use Rattle.fax_files.specs.Directory.{offset_fault, IsChainFrom}
 use Rattle.fax_files.specs.laws.Files.{HasOneChain}
 
--- what the three tests of a stop say
-abbrev pub stop_of : Bool → Bool → Bool → Option (Option FileFault)
-stop_of last again there =
-    if last then (Some None) else (if again then (Some (Some DirectoryLoop)) else (if there then None else (Some (Some DirectoryOutside))))
+-- what the two tests of an offset say
+abbrev pub fault_by : Bool → Bool → Option FileFault
+fault_by again there = if again then (Some DirectoryLoop) else (if there then None else (Some DirectoryOutside))
 
-goes_on : (last again there : Bool) → stop_of last again there ≡ None → (last ≡ false) × (again ≡ false) × (there ≡ true)
-goes_on true again there e = absurd cc
-goes_on false true there e = absurd cc
-goes_on false false false e = absurd cc
-goes_on false false true e = (refl, refl, refl)
+none_by : (again there : Bool) → fault_by again there ≡ None → (again ≡ false) × (there ≡ true)
+none_by true there e = absurd cc
+none_by false false e = absurd cc
+none_by false true e = (refl, refl)
 
 -- the chain goes on at an offset
 pub record GoesOn (endian : Endian) (file before : List ℕ) (due : ℕ) : Type 0 where
@@ -31,10 +30,11 @@ pub record GoesOn (endian : Endian) (file before : List ℕ) (due : ℕ) : Type 
   pub fresh : list_any (λ q. due == q) before ≡ false
   pub there : is_directory endian file due ≡ true
 
-pub going_on : (endian : Endian) (file before : List ℕ) (due : ℕ) → chain_stop endian file before due ≡ None → GoesOn endian file before due
-going_on endian file before due e =
-    let p = goes_on (due == 0) (list_any (λ q. due == q) before) (is_directory endian file due) e in
-    record { not_last = p.0; fresh = p.1; there = p.2 }
+pub going_on : (endian : Endian) (file before : List ℕ) (due : ℕ) → due ≢ 0 → offset_fault endian file before due ≡ None
+    → GoesOn endian file before due
+going_on endian file before due some e =
+    let p = none_by (list_any (λ q. due == q) before) (is_directory endian file due) e in
+    record { not_last = ne_eqb due 0 some; fresh = p.0; there = p.1 }
 
 both : (a b : Bool) → (a && b) ≡ true → (a ≡ true) × (b ≡ true)
 both true b e = (refl, e)
@@ -89,44 +89,57 @@ module _ (endian : Endian) (file : List ℕ) where
   Found most before due =
       (offsets : List ℕ) × (end : Option FileFault) × IsChainFrom endian file before due offsets end × (length offsets ≤ most)
 
-  at_stop : (most : ℕ) (before : List ℕ) (due : ℕ) (stop : Option (Option FileFault)) → chain_stop endian file before due ≡ stop
+  at_fault : (most : ℕ) (before : List ℕ) (due : ℕ) (fault : Option FileFault) → due ≢ 0 → offset_fault endian file before due ≡ fault
       → (GoesOn endian file before due → Found most (due ∷ before) (next_offset endian file due)) → Found (most + 1) before due
-  at_stop most before due (Some end) e rest = ([], end, e, omega arith)
-  at_stop most before due None e rest =
-      let found = rest (going_on endian file before due e) in
-      (due ∷ found.0, found.1, (refl, e, found.2), omega (arith, found.3))
+  at_fault most before due (Some fault) some e rest = ([], Some fault, (some, e), omega arith)
+  at_fault most before due None some e rest =
+      let found = rest (going_on endian file before due some e) in
+      (due ∷ found.0, found.1, (refl, some, e, found.2), omega (arith, found.3))
+
+  at_offset : (most : ℕ) (before : List ℕ) (due : ℕ)
+      → (GoesOn endian file before due → Found most (due ∷ before) (next_offset endian file due)) → Found (most + 1) before due
+  at_offset most before zero rest = ([], None, refl, omega arith)
+  at_offset most before (suc n) rest =
+      at_fault most before (suc n) (offset_fault endian file before (suc n)) (λ e. absurd cc) refl rest
 
   -- at the most so many offsets, the chain has ended
-  at_last : (before : List ℕ) (due : ℕ) (stop : Option (Option FileFault)) → chain_stop endian file before due ≡ stop
+  at_last_fault : (before : List ℕ) (due : ℕ) (fault : Option FileFault) → due ≢ 0 → offset_fault endian file before due ≡ fault
       → (GoesOn endian file before due → ⊥) → Found 0 before due
-  at_last before due (Some end) e none = ([], end, e, omega arith)
-  at_last before due None e none = absurd (none (going_on endian file before due e))
+  at_last_fault before due (Some fault) some e none = ([], Some fault, (some, e), omega arith)
+  at_last_fault before due None some e none = absurd (none (going_on endian file before due some e))
+
+  at_last : (before : List ℕ) (due : ℕ) → (GoesOn endian file before due → ⊥) → Found 0 before due
+  at_last before zero none = ([], None, refl, omega arith)
+  at_last before (suc n) none =
+      at_last_fault before (suc n) (offset_fault endian file before (suc n)) (λ e. absurd cc) refl none
 
   -- there are at most as many offsets as the file has bytes
   exists : (fuel : ℕ) (before : List ℕ) (due : ℕ) → length before + fuel ≡ length file → IsApart before → AreBelow before (length file)
       → Found fuel before due
-  exists zero before due count apart all = at_last before due (chain_stop endian file before due) refl (λ on.
+  exists zero before due count apart all = at_last before due (λ on.
       let within = begins_inside endian file due on.there in
       let n : length (due ∷ before) ≤ length file =
       few (due ∷ before) (length file) (on.fresh, apart) (still_below before (length file) due within all) in
       omega arith)
   exists (suc fuel) before due count apart all =
       let more : fuel + 1 ≡ suc fuel = omega arith in
-      subst (λ (n : ℕ). Found n before due) more (at_stop fuel before due (chain_stop endian file before due) refl (λ on.
+      subst (λ (n : ℕ). Found n before due) more (at_offset fuel before due (λ on.
       exists fuel (due ∷ before) (next_offset endian file due) (omega arith) (on.fresh, apart)
       (still_below before (length file) due (begins_inside endian file due on.there) all)))
-
-  some_injective : {A : Type 0} (x y : A) → (let o : Option A = Some x in o) ≡ Some y → x ≡ y
-  some_injective x y e = cc
 
   one : (before : List ℕ) (due : ℕ) (offsets others : List ℕ) (end other : Option FileFault)
       → IsChainFrom endian file before due offsets end → IsChainFrom endian file before due others other
       → (others ≡ offsets) × (other ≡ end)
-  one before due [] [] end other is that = (refl, cc)
-  one before due [] (q ∷ others) end other is that = absurd cc
-  one before due (q ∷ offsets) [] end other is that = absurd cc
+  one before due [] [] None None is that = (refl, refl)
+  one before due [] [] None (Some fault) is that = absurd (that.0 is)
+  one before due [] [] (Some fault) None is that = absurd (is.0 that)
+  one before due [] [] (Some fault) (Some other) is that = (refl, cc)
+  one before due [] (q ∷ others) None other is that = absurd (that.1 is)
+  one before due [] (q ∷ others) (Some fault) other is that = absurd cc
+  one before due (q ∷ offsets) [] end None is that = absurd (is.1 that)
+  one before due (q ∷ offsets) [] end (Some other) is that = absurd cc
   one before due (p ∷ offsets) (q ∷ others) end other is that =
-      let rest = one (due ∷ before) (next_offset endian file due) offsets others end other is.2 that.2 in
+      let rest = one (due ∷ before) (next_offset endian file due) offsets others end other is.3 that.3 in
       (cc, rest.1)
 
 pub has_one_chain : (head : Header) (file : List ℕ) → HasOneChain head file

@@ -3,6 +3,7 @@ use Rattle.std.proofs.Common.{◌≡◌, ℕ, zero, suc, ◌+◌, ◌^◌, ◌<�
 use Rattle.std.proofs.Common.{get_or, Option, Some, None, refl, sym, ap, ◌∙◌, arith}
 use Rattle.std.specs.Prelude.{◌==◌, slice_get}
 use Rattle.std.specs.List.{list_any}
+use Rattle.std.proofs.lemmas.Bool.{ne_eqb}
 use Rattle.std.proofs.lemmas.Bool.Decides.{nat_tests}
 use Rattle.std.proofs.lemmas.List.{get_or-drop}
 use Rattle.fax_files.specs.declared.FileFault.{FileFault}
@@ -11,7 +12,7 @@ use Rattle.fax_files.specs.declared.Endian.{Endian}
 use Rattle.fax_files.specs.declared.Endian.TheVariants.{Little, Big}
 use Rattle.fax_files.specs.Directory.{number_at, is_directory, next_offset, IsChainFrom}
 use Rattle.fax_files.specs.code.Chain.{link, onward}
-use Rattle.fax_files.proofs.ChainLaws.{IsApart, AreBelow, GoesOn, going_on, still_below, few, either, stop_of}
+use Rattle.fax_files.proofs.ChainLaws.{IsApart, AreBelow, GoesOn, going_on, still_below, few, either, fault_by}
 
 module _ (endian : Endian) (file : List ℕ) where
   abbrev pub next : ℕ → ℕ
@@ -54,13 +55,13 @@ module _ (endian : Endian) (file : List ℕ) where
       → (i : ℕ) → i < length offsets → slice_get offsets i ≡ Some (link endian file due i)
   at before due [] end is i h = absurd (omega arith)
   at before due (q ∷ offsets) end is zero h = ap (λ (n : ℕ). Some n) is.0
-  at before due (q ∷ offsets) end is (suc i) h = at (due ∷ before) (next due) offsets end is.2 i (omega arith)
+  at before due (q ∷ offsets) end is (suc i) h = at (due ∷ before) (next due) offsets end is.3 i (omega arith)
 
   on : (before : List ℕ) (due : ℕ) (offsets : List ℕ) (end : Option FileFault) → IsChainFrom endian file before due offsets end
       → (i : ℕ) → i < length offsets → (some : List ℕ) × GoesOn endian file some (link endian file due i)
   on before due [] end is i h = absurd (omega arith)
-  on before due (q ∷ offsets) end is zero h = (before, going_on endian file before due is.1)
-  on before due (q ∷ offsets) end is (suc i) h = on (due ∷ before) (next due) offsets end is.2 i (omega arith)
+  on before due (q ∷ offsets) end is zero h = (before, going_on endian file before due is.1 is.2)
+  on before due (q ∷ offsets) end is (suc i) h = on (due ∷ before) (next due) offsets end is.3 i (omega arith)
 
   or_right : (a b : Bool) → b ≡ true → (a || b) ≡ true
   or_right true b e = refl
@@ -74,32 +75,27 @@ module _ (endian : Endian) (file : List ℕ) where
       → (x : ℕ) → list_any (λ q. x == q) before ≡ true → (j : ℕ) → j < length offsets → x ≢ link endian file due j
   not_before before due [] end is x there j h = absurd (omega arith)
   not_before before due (q ∷ offsets) end is x there zero h = λ same.
-      let on : GoesOn endian file before due = going_on endian file before due is.1 in
+      let on : GoesOn endian file before due = going_on endian file before due is.1 is.2 in
       let fresh : list_any (λ y. x == y) before ≡ false = rw (← same) at on.fresh in
       absurd (cc)
   not_before before due (q ∷ offsets) end is x there (suc j) h =
-      not_before (due ∷ before) (next due) offsets end is.2 x (or_right (x == due) (list_any (λ y. x == y) before) there) j (omega arith)
+      not_before (due ∷ before) (next due) offsets end is.3 x (or_right (x == due) (list_any (λ y. x == y) before) there) j (omega arith)
 
   apart : (before : List ℕ) (due : ℕ) (offsets : List ℕ) (end : Option FileFault) → IsChainFrom endian file before due offsets end
       → (i j : ℕ) → i < j → j < length offsets → link endian file due i ≢ link endian file due j
   apart before due [] end is i j lower h = absurd (omega arith)
   apart before due (q ∷ offsets) end is i zero lower h = absurd (omega arith)
   apart before due (q ∷ offsets) end is zero (suc j) lower h =
-      not_before (due ∷ before) (next due) offsets end is.2 due (here due before) j (omega arith)
+      not_before (due ∷ before) (next due) offsets end is.3 due (here due before) j (omega arith)
   apart before due (q ∷ offsets) end is (suc i) (suc j) lower h =
-      apart (due ∷ before) (next due) offsets end is.2 i j (omega arith) (omega arith)
+      apart (due ∷ before) (next due) offsets end is.3 i j (omega arith) (omega arith)
 
-  some_injective : (x y : Option FileFault) → (let o : Option (Option FileFault) = Some x in o) ≡ Some y → x ≡ y
-  some_injective x y e = cc
-
-  -- how it ends by the three tests
-  by_tests : (last again there : Bool) (end : Option FileFault) → stop_of last again there ≡ Some end
-      → ((last ≡ true) × (end ≡ None)) ⊎ ((last ≡ false) × (there ≡ false) × (end ≡ Some DirectoryOutside))
-      ⊎ ((again ≡ true) × (end ≡ Some DirectoryLoop))
-  by_tests true again there end e = inl (refl, cc)
-  by_tests false true there end e = inr (inr (refl, cc))
-  by_tests false false true end e = absurd cc
-  by_tests false false false end e = inr (inl (refl, refl, cc))
+  -- the fault of an offset by the two tests
+  by_tests : (again there : Bool) (fault : FileFault) → fault_by again there ≡ Some fault
+      → ((there ≡ false) × (fault ≡ DirectoryOutside)) ⊎ ((again ≡ true) × (fault ≡ DirectoryLoop))
+  by_tests true there fault e = inr (refl, cc)
+  by_tests false true fault e = absurd cc
+  by_tests false false fault e = inl (refl, cc)
 
   -- the same after offsets that stood before: one that is met again is one of those or stands in the chain
   abbrev EndsAfterPlaces : List ℕ → ℕ → ℕ → Option FileFault → Type 0
@@ -124,12 +120,12 @@ module _ (endian : Endian) (file : List ℕ) where
 
   ends : (before : List ℕ) (due : ℕ) (offsets : List ℕ) (end : Option FileFault) → IsChainFrom endian file before due offsets end
       → EndsAfterPlaces before due (length offsets) end
-  ends before due [] end is = elim (by_tests (due == 0) (list_any (λ q. due == q) before) (is_directory endian file due) end is) [
-    | inl p ↦ inl p
-    | inr (inl p) ↦ inr (inl p)
-    | inr (inr p) ↦ inr (inr (inl p.0, p.1))
+  ends before due [] None is = let last : (due == 0) ≡ true = rw is refl in inl (last, refl)
+  ends before due [] (Some fault) is = elim (by_tests (list_any (λ q. due == q) before) (is_directory endian file due) fault is.1) [
+    | inl p ↦ inr (inl (ne_eqb due 0 is.0, p.0, ap (λ (f : FileFault). Some f) p.1))
+    | inr p ↦ inr (inr (inl p.0, ap (λ (f : FileFault). Some f) p.1))
   ]
-  ends before due (q ∷ offsets) end is = elim (ends (due ∷ before) (next due) offsets end is.2) [
+  ends before due (q ∷ offsets) end is = elim (ends (due ∷ before) (next due) offsets end is.3) [
     | inl p ↦ inl p
     | inr (inl p) ↦ inr (inl p)
     | inr (inr p) ↦ inr (inr (met_one_on before due (length offsets) p.0, p.1))
@@ -164,9 +160,9 @@ module _ (endian : Endian) (file : List ℕ) where
         let n : length (0 ∷ before) ≤ 2 ^ 32 = few (0 ∷ before) (2 ^ 32) (none, apart) (still_below before (2 ^ 32) 0 (omega arith) all) in
         omega arith
     short before due (q ∷ offsets) end is apart all none within =
-        let on : GoesOn endian file before due = going_on endian file before due is.1 in
+        let on : GoesOn endian file before due = going_on endian file before due is.1 is.2 in
         let not_first : (0 == due) ≡ false = grind (arith, nat_tests, on.not_last) in
-        let rest = short (due ∷ before) (next due) offsets end is.2 (on.fresh, apart) (still_below before (2 ^ 32) due within all)
+        let rest = short (due ∷ before) (next due) offsets end is.3 (on.fresh, apart) (still_below before (2 ^ 32) due within all)
         (rw not_first none) (number_below endian _) in
         omega (arith, rest)
 

@@ -1,5 +1,5 @@
 -- A written file is read as the pages that were written.
-use Rattle.std.proofs.Common.{◌≡◌, ℕ, suc, ◌+◌, ◌%◌, ◌<◌, ◌≤◌, ◌⊎◌, inl, inr, true, false, List, [], ◌∷◌, ◌++◌, length, take, drop, None}
+use Rattle.std.proofs.Common.{◌≡◌, ℕ, suc, ◌+◌, ◌%◌, ◌<◌, ◌≤◌, ◌≢◌, ◌⊎◌, inl, inr, true, false, List, [], ◌∷◌, ◌++◌, length, take, drop, None}
 use Rattle.std.proofs.Common.{Result, Ok, Err, refl, sym, ap, ◌∙◌, arith, ◌*◌}
 use Rattle.std.proofs.lemmas.List.{length-append, length-replicate}
 use Rattle.std.proofs.lemmas.Bool.{le-leb, lt-leb, ne_eqb}
@@ -262,8 +262,7 @@ chain_through : (old : Written) (total k : ℕ) (pages : List WrittenPage) → H
     (offsets_of old total k pages) None
 unfolding with_pages
 chain_through old total k [] open' w small before below =
-    let due : number_at Little 4 old.bytes old.link ≡ 0 = number_there 4 open' (omega arith) in
-    rw due refl
+    number_there 4 open' (omega arith)
 chain_through old total k (written ∷ pages) open' w small before below =
     let one = is_appended old total k written open' w.0 in
     let new = with_written old total k written in
@@ -278,7 +277,7 @@ chain_through old total k (written ∷ pages) open' w small before below =
     let new_place : list_any (λ o. q == o) before ≡ false =
     list_any_none (λ o. q == o) before (All-weaker (λ o. o < length old.bytes) (λ o. (q == o) ≡ false)
     (λ o lt. ne_eqb _ _ (λ e. absurd (omega (arith, e, lt)))) before below) in
-    let some : (q == 0) ≡ false = ne_eqb _ _ (λ e. absurd (omega (arith, e, inside))) in
+    let some : q ≢ 0 = λ e. absurd (omega (arith, e, inside)) in
     let whole : is_directory Little file q ≡ true = directory_whole file q (length old.bytes) total k written here in
     let next : next_offset Little file q ≡ number_at Little 4 file new.link =
     next_there file q (length old.bytes) total k written here ∙ ap (number_at Little 4 file) (sym one.new_link) in
@@ -287,7 +286,7 @@ chain_through old total k (written ∷ pages) open' w small before below =
     All-cons (λ o. o < length new.bytes) q before longer (All-weaker (λ o. o < length old.bytes) (λ o. o < length new.bytes)
     (λ o lt. omega (arith, lt, longer)) before below) in
     let rest = chain_through new total (k + 1) pages one.is_open w.1 small (q ∷ before) all_below in
-    rw (due, next) (refl, rw (some, new_place, whole) refl, rest)
+    rw (due, next) (refl, some, rw (new_place, whole) refl, rest)
 
 -- and each page as it was written
 pages_through : (old : Written) (total k : ℕ) (pages : List WrittenPage) → HasOpenLink old → AreWritable pages

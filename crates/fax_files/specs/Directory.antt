@@ -1,8 +1,8 @@
 -- Numbers in a TIFF file, its header, its directories and their chain (TIFF 6.0, section 2).
 -- 'Ours' is this project's profile.
-use Rattle.std.specs.Prelude.{◌≡◌, ℕ, zero, suc, ◌+◌, ◌*◌, Bool, true, nat_le, nat_lt, ◌==◌, ◌&&◌}
-use Rattle.std.specs.Prelude.{◌||◌, not, if◌then◌else◌, List, [], ◌∷◌, length, take, drop, find}
-use Rattle.std.specs.Prelude.{Option, Some, None, Result, Ok, Err, codes, bytes_eq}
+use Rattle.std.specs.Prelude.{◌≡◌, ◌≢◌, ℕ, zero, suc, ◌+◌, ◌*◌, Bool, true, nat_le, nat_lt, ◌==◌}
+use Rattle.std.specs.Prelude.{◌&&◌, ◌||◌, not, if◌then◌else◌, List, [], ◌∷◌, length, take, drop}
+use Rattle.std.specs.Prelude.{find, Option, Some, None, Result, Ok, Err, codes, bytes_eq}
 use Rattle.std.specs.List.{list_any}
 use Rattle.byteorder.specs.Endian.{little_number, big_number}
 use Rattle.fax_files.specs.declared.FileFault.TheVariants as file_fault
@@ -133,21 +133,21 @@ ascend [] = true
 ascend (entry ∷ []) = true
 ascend (entry ∷ next ∷ entries) = nat_lt entry.tag next.tag && ascend (next ∷ entries)
 
--- How the chain ends at the offset that is due, after these directories: properly where it is 0,
--- else with the fault of an offset that stands among them already (ours), or at which no whole
--- directory stands. None where it goes on
-abbrev pub chain_stop : Endian → List ℕ → List ℕ → ℕ → Option (Option FileFault)
-chain_stop endian file before due =
-    if due == 0 then (Some None)
-    else (if list_any (λ q. due == q) before then (Some (Some file_fault.DirectoryLoop))
-    else (if is_directory endian file due then None else (Some (Some file_fault.DirectoryOutside))))
+-- the fault of an offset that is due after these directories: it stands among them already (ours),
+-- or no whole directory stands there
+abbrev pub offset_fault : Endian → List ℕ → List ℕ → ℕ → Option FileFault
+offset_fault endian file before due =
+    if list_any (λ q. due == q) before then (Some file_fault.DirectoryLoop)
+    else (if is_directory endian file due then None else (Some file_fault.DirectoryOutside))
 
 -- from the offset that is due on, after these directories, the last one first, the chain goes over
--- these offsets to this end
+-- these offsets to this end: at an offset of 0, or at one with a fault
 abbrev pub IsChainFrom : Endian → List ℕ → List ℕ → ℕ → List ℕ → Option FileFault → Type 0
-IsChainFrom endian file before due [] end = chain_stop endian file before due ≡ Some end
+IsChainFrom endian file before due [] None = due ≡ 0
+IsChainFrom endian file before due [] (Some fault) =
+    (due ≢ 0) × (offset_fault endian file before due ≡ Some fault)
 IsChainFrom endian file before due (q ∷ offsets) end =
-    (q ≡ due) × (chain_stop endian file before due ≡ None)
+    (q ≡ due) × (due ≢ 0) × (offset_fault endian file before due ≡ None)
     × IsChainFrom endian file (due ∷ before) (next_offset endian file due) offsets end
 
 -- the offsets of a file's directories, each one a page, and the fault that ends them, if any
