@@ -30,3 +30,4 @@ pub mod WrittenRunLemmas
 pub mod PairLemmas
 pub mod LookUpLemmas
 pub mod LookedAtLemmas
+pub mod LastBitsLemmas

@@ -6,19 +6,23 @@ ghost use Rattle.fax_bits.specs.Tables.{modes};
 ghost use Rattle.fax_bits.specs.Written.{run_bits};
 ghost use Rattle.fax_bits.specs.views.Pairs.{IsPairRead};
 ghost use Rattle.fax_bits.specs.views.Source.{KeepsEnd};
-ghost use Rattle.fax_bits.specs.code.LookUp.{IsLookedUp};
+ghost use Rattle.fax_bits.specs.code.LookUp.{IsLookedUp, IsFoundAhead};
 
 use crate::codes::LONGEST_CODE;
 use crate::modes::{ModeCode, find_mode};
 use crate::pairs::{Pair, find_pair};
 use crate::runs::{TERMINATING_CODES, find_run_code};
-use crate::{BitSource, Colour};
+use crate::window::Window;
+use crate::{BitSource, Colour, FillOrder};
 
 /// How many bits are looked at: those of a make-up code and a terminating code, and some more.
 const LOOKED_AT: u32 = 32;
 
 /// How many of them stand after those of the longest code.
 const AFTER_CODE: u32 = LOOKED_AT - LONGEST_CODE;
+
+/// Where fewer bytes are left to be loaded, the end is near.
+const NEAR_END: usize = 256;
 
 /// What is looked up by the next bits.
 pub(crate) trait LookUp: Copy {
@@ -119,6 +123,27 @@ impl LookUp for Mode {
     }
 }
 
+/// What one look-up finds of the bits of some bytes, where it stands whole in them, and the bits
+/// after it.
+#[inline(always)]
+fn find_last<L: LookUp>(
+    window: Window,
+    bytes: &[u8],
+    order: FillOrder,
+    what: L,
+) -> Option<(Window, L::Found)>
+    requires within { window.at ≤ length bytes.now }
+    ensures { IfSome result
+        (λ found. IsFoundAhead (L.Means what) order bytes.now window found.1 found.0) }
+{
+    let last = window.with_last_bytes(bytes, order);
+    let (len, found) = what.find(last.number(LOOKED_AT))?;
+    if len > last.count {
+        return None;
+    }
+    Some((last.after(len), found))
+}
+
 impl<'a> BitSource<'a> {
     /// Goes past what one look-up finds of the next bits. Where it finds nothing, and near the end
     /// of the bytes, the source is as it was.
@@ -132,6 +157,18 @@ impl<'a> BitSource<'a> {
         self.window = window;
         let (len, found) = what.find(window.number(LOOKED_AT))?;
         self.window = window.after(len);
+        Some(found)
+    }
+
+    /// What `look_up` does, near the end of the bytes too.
+    #[inline(always)]
+    fn look_up_last<L: LookUp>(&mut self, what: L) -> Option<L::Found>
+        ensures found { IfSome result
+            (λ found. IsLookedUp (L.Means what) self.old found self.new) }
+        ensures unchanged { result ≡ None → self.new ≡ self.old }
+    {
+        let (window, found) = find_last(self.window, self.bytes, self.order, what)?;
+        self.window = window;
         Some(found)
     }
 
@@ -169,6 +206,21 @@ impl<'a> BitSource<'a> {
         self.look_up(RunWithin { colour, most })
     }
 
+    /// What `run_within` does, near the end of the bytes too. It is slower.
+    pub fn last_run_within(&mut self, colour: Colour, most: u32) -> Option<u32>
+        ensures run { IfSome result (λ pels. IsRun colour self.old.left pels self.new.left) }
+        ensures written { IfSome result
+            (λ pels. self.old.left ≡ run_bits colour pels ++ self.new.left) }
+        ensures few { IfSome result (λ pels. pels ≤ most) }
+        ensures unchanged { result ≡ None → self.new ≡ self.old }
+
+        // The source goes on in the same bits.
+        ensures same_end { KeepsEnd self.old self.new }
+        ensures shorter { IsSome result → length self.new.left < length self.old.left }
+    {
+        self.look_up_last(RunWithin { colour, most })
+    }
+
     /// Reads a mode by one look-up at most (T.4, table 4). Where it finds none, the source is as it
     /// was.
     #[inline(always)]
@@ -185,6 +237,24 @@ impl<'a> BitSource<'a> {
             return Some(ModeCode::Vertical(0));
         }
         self.look_up(Mode)
+    }
+
+    /// What `mode` does, near the end of the bytes too. It is slower.
+    pub fn last_mode(&mut self) -> Option<ModeCode>
+        ensures takes { IfSome result (λ mode. Takes modes self.old.left mode self.new.left) }
+        ensures unchanged { result ≡ None → self.new ≡ self.old }
+
+        // The source goes on in the same bits.
+        ensures same_end { KeepsEnd self.old self.new }
+        ensures shorter { IsSome result → length self.new.left < length self.old.left }
+    {
+        self.look_up_last(Mode)
+    }
+
+    /// Whether few bytes are left to be loaded: a hint, of which nothing is said.
+    #[inline(always)]
+    pub fn is_near_end(&self) -> bool {
+        self.bytes.len() - self.window.at < NEAR_END
     }
 
     /// So many ones are next. More of them may follow.

@@ -132,7 +132,7 @@ impl Window {
     /// The same bits, of which single bytes more are loaded, up to 32 bits or to the end of the
     /// bytes.
     #[inline(never)]
-    fn with_last_bytes(self, bytes: &[u8], order: FillOrder) -> Window
+    pub fn with_last_bytes(self, bytes: &[u8], order: FillOrder) -> Window
         requires within { self.at ≤ length bytes.now }
         ensures ahead { bits_ahead order bytes.now result ≡ bits_ahead order bytes.now self }
         ensures place { 8 * result.at + self.count ≡ 8 * self.at + result.count }

@@ -8,7 +8,7 @@ mod reader;
 mod writer;
 
 pub use fax_rows::{Colour, FillOrder, Memory, Row, RowFault};
-pub use notes::{NotesFault, StripNotes, strip_notes};
+pub use notes::{NotesFault, NotesReader, StripNotes, strip_notes};
 pub use reader::StripReader;
 use thiserror::Error;
 pub use writer::StripWriter;

@@ -1,5 +1,5 @@
 //! What is worth a note in a strip that has all its rows.
-ghost use Rattle.std.specs.Prelude.{◌≡◌, ◌≤◌, List, length, IfOk, IfErr, IsTrue, OnOk};
+ghost use Rattle.std.specs.Prelude.{◌≡◌, ◌<◌, ◌≤◌, ◌^◌, List, length, IfOk, IfErr, IsTrue, OnOk};
 ghost use Rattle.fax_bits.specs.Bits.{bits};
 ghost use Rattle.fax_bits.specs.declared.Colour.{Colour};
 ghost use Rattle.fax_page.specs.Lines.{IsRowFaultIn, IsRowIn};
@@ -9,9 +9,10 @@ ghost use Rattle.fax_page.specs.code.Notes as Code;
 
 use crate::lines::{read_eol, read_line, read_start, stop};
 use crate::writer::put_codes;
-use crate::{Coding, Dimension, StripFault, StripForm};
+use crate::{Coding, Dimension, FillOrder, StripFault, StripForm};
 use fax_rows::{BitSink, BitSource, Memory, Row, RowFault, read_1d_choice, read_2d_choice};
 use std::alloc::Global;
+use std::marker::Model;
 use std::mem::swap;
 use thiserror::Error;
 
@@ -84,33 +85,38 @@ fn read_seen(
     }
 }
 
-/// A strip that is read for its notes, row by row.
+/// What is kept from strip to strip.
 #[derive(Drop)]
-struct NotedStrip<'a> {
-    source: BitSource<'a>,
-    form: StripForm,
-    /// The row before the one that is due, white before the first one.
+struct NotedRows {
+    /// The row before the one that is due, white before the first one of a strip.
     reference: Row,
     /// Where the row that is due is read to.
     row: Row,
     /// Where a row is written that is to be compared.
     sink: BitSink,
+}
+
+/// A strip that is read for its notes, row by row.
+#[derive(Drop)]
+struct NotedStrip<'a> {
+    source: BitSource<'a>,
+    form: StripForm,
     /// Whether the codes of some row up to here are others than T.4 chooses.
     not_t4_choice: bool,
 }
 
 impl<'a> NotedStrip<'a> {
-    /// Reads row `i` into `row`, of which nothing is said after a fault, and answers whether its
-    /// codes are those that T.4 chooses. Only where that is not seen while it is read, the row is
-    /// written and compared.
-    fn read_choice(&mut self, i: u32) -> Result<bool, NotesFault>
-        requires { Code.IsNoting self.old }
-        ensures ok { IfOk result (Code.IsLineRead self.old.form i self.old.reference
-            self.old.source.left self.new.row self.new.source.left) }
+    /// Reads row `i`, of which nothing is said after a fault, and answers whether its codes are
+    /// those that T.4 chooses. Only where that is not seen while it is read, the row is written and
+    /// compared.
+    fn read_choice(&mut self, rows: &mut NotedRows, i: u32) -> Result<bool, NotesFault>
+        requires { Code.IsNoting self.old rows.old }
+        ensures ok { IfOk result (Code.IsLineRead self.old.form i rows.old.reference
+            self.old.source.left rows.new.row self.new.source.left) }
         ensures err { IfErr result
-            (Code.IsLineFault self.old.form i self.old.reference self.old.source.left) }
-        ensures same_width { length self.new.row ≡ length self.old.row }
-        ensures same_reference { self.new.reference ≡ self.old.reference }
+            (Code.IsLineFault self.old.form i rows.old.reference self.old.source.left) }
+        ensures same_width { length rows.new.row ≡ length rows.old.row }
+        ensures same_reference { rows.new.reference ≡ rows.old.reference }
         ensures same_form { self.new.form ≡ self.old.form }
     {
         fax_rows::laws::one_dimensional_rows_are_read_as_nothing_else();
@@ -120,7 +126,7 @@ impl<'a> NotedStrip<'a> {
             Err(fault) => return Err(NotesFault::Strip { row: i, fault }),
         };
         let codes = self.source.again();
-        match read_seen(&mut self.source, dimension, &self.reference, &mut self.row) {
+        match read_seen(&mut self.source, dimension, &rows.reference, &mut rows.row) {
             Ok(true) => return Ok(true),
             Ok(false) => {}
             Err(cause) => {
@@ -128,21 +134,21 @@ impl<'a> NotedStrip<'a> {
                 return Err(NotesFault::Strip { row: i, fault });
             }
         }
-        self.sink.clear();
-        put_codes(&mut self.sink, dimension, &self.reference, &self.row)?;
-        Ok(self.sink.begins(&codes))
+        rows.sink.clear();
+        put_codes(&mut rows.sink, dimension, &rows.reference, &rows.row)?;
+        Ok(rows.sink.begins(&codes))
     }
 
     /// Reads row `i`, the one that is due. Once the codes of a row are others than T.4 chooses, rows
     /// are only read.
-    fn read_row(&mut self, i: u32) -> Result<(), NotesFault>
-        requires { Code.IsNoting self.old }
-        ensures ok { OnOk result (Code.IsLineNoted self.old.form i self.old.reference
-            self.old.source.left self.new.reference self.new.source.left
+    fn read_row(&mut self, rows: &mut NotedRows, i: u32) -> Result<(), NotesFault>
+        requires { Code.IsNoting self.old rows.old }
+        ensures ok { OnOk result (Code.IsLineNoted self.old.form i rows.old.reference
+            self.old.source.left rows.new.reference self.new.source.left
             self.old.not_t4_choice self.new.not_t4_choice) }
         ensures err { IfErr result
-            (Code.IsLineFault self.old.form i self.old.reference self.old.source.left) }
-        ensures still { Code.IsNoting self.new }
+            (Code.IsLineFault self.old.form i rows.old.reference self.old.source.left) }
+        ensures still { Code.IsNoting self.new rows.new }
         ensures same_form { self.new.form ≡ self.old.form }
     {
         if self.not_t4_choice {
@@ -150,16 +156,16 @@ impl<'a> NotedStrip<'a> {
                 &mut self.source,
                 self.form,
                 i,
-                &self.reference,
-                &mut self.row,
+                &rows.reference,
+                &mut rows.row,
             ) {
                 return Err(NotesFault::Strip { row: i, fault });
             }
         } else {
-            let chosen = self.read_choice(i)?;
+            let chosen = self.read_choice(rows, i)?;
             self.not_t4_choice = !chosen;
         }
-        swap(&mut self.reference, &mut self.row);
+        swap(&mut rows.reference, &mut rows.row);
         Ok(())
     }
 }
@@ -230,6 +236,77 @@ fn notes_after(source: &BitSource, coding: Coding, not_t4_choice: bool) -> Strip
     }
 }
 
+/// Reads strips of one width for their notes, one after another. Contracts see how many pels their
+/// rows have.
+#[derive(Drop)]
+pub struct NotesReader {
+    rows: NotedRows,
+}
+
+impl Model for NotesReader {
+    ghost use Rattle.std.specs.Prelude.{ℕ, length};
+    ghost use Rattle.fax_page.specs.code.Notes.{HasRowsOf};
+
+    ghost Value = { ℕ };
+
+    ghost view = { λ r. length r.rows.row };
+
+    ghost invariant = { λ r. HasRowsOf (length r.rows.row) r.rows };
+}
+
+impl NotesReader {
+    /// A reader of strips of this width. It takes the memory of two rows.
+    ///
+    /// # Errors
+    ///
+    /// `Memory` where a growth was refused.
+    pub fn new(alloc: Global, width: u32) -> Result<Self, Memory>
+        requires some { 0 < width }
+        requires short { width < 2 ^ 16 }
+        ensures { IfOk result (λ reader. reader ≡ width) }
+    {
+        let reference = Row::white(alloc, width)?;
+        let row = Row::white(alloc, width)?;
+        // Its bits alone are looked at, and no bytes of them.
+        let sink = BitSink::new(alloc, FillOrder::MsbFirst);
+        Ok(NotesReader {
+            rows: NotedRows {
+                reference,
+                row,
+                sink,
+            },
+        })
+    }
+
+    /// The notes on a strip in at most 4,294,967,295 bytes. It takes memory only where a row is
+    /// written, at most for that row: no strip is written whole.
+    ///
+    /// # Errors
+    ///
+    /// `Strip` where a row cannot be read, and `Memory` where a growth was refused.
+    pub fn notes(&mut self, bytes: &[u8], form: StripForm) -> Result<StripNotes, NotesFault>
+        requires count { length bytes.now ≤ 4294967295 }
+        requires limits { IsStripForm form }
+        requires width { form.width ≡ self.old }
+        ensures ok { IfOk result (λ notes. (rows : List (List Colour))
+            × Spec.IsNotedAs form (bits form.order bytes.now) rows notes) }
+        ensures err { IfErr result (IsNotesFault form (bits form.order bytes.now)) }
+        ensures same_width { self.new ≡ self.old }
+    {
+        crate::laws::lines_are_read_in_one_way();
+        self.rows.reference.whiten();
+        let mut strip = NotedStrip {
+            source: BitSource::new(bytes, form.order),
+            form,
+            not_t4_choice: false,
+        };
+        for i in 0..form.rows {
+            strip.read_row(&mut self.rows, i)?;
+        }
+        Ok(notes_after(&strip.source, form.coding, strip.not_t4_choice))
+    }
+}
+
 /// The notes on a strip in at most 4,294,967,295 bytes. It takes memory for what a row needs: no
 /// strip is written whole.
 ///
@@ -243,17 +320,6 @@ pub fn strip_notes(alloc: Global, bytes: &[u8], form: StripForm) -> Result<Strip
         × Spec.IsNotedAs form (bits form.order bytes.now) rows notes) }
     ensures err { IfErr result (IsNotesFault form (bits form.order bytes.now)) }
 {
-    crate::laws::lines_are_read_in_one_way();
-    let mut strip = NotedStrip {
-        source: BitSource::new(bytes, form.order),
-        form,
-        reference: Row::white(alloc, form.width)?,
-        row: Row::white(alloc, form.width)?,
-        sink: BitSink::new(alloc, form.order),
-        not_t4_choice: false,
-    };
-    for i in 0..form.rows {
-        strip.read_row(i)?;
-    }
-    Ok(notes_after(&strip.source, form.coding, strip.not_t4_choice))
+    let mut reader = NotesReader::new(alloc, form.width)?;
+    reader.notes(bytes, form)
 }

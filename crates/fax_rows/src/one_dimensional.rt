@@ -12,7 +12,7 @@ ghost use Rattle.fax_rows.specs.code.Put.{ArePut, HasRoom};
 
 use crate::RowFault;
 use crate::pels::Row;
-use crate::runs::long_run;
+use crate::runs::next_run;
 use crate::turns::{close, turn_after, turn_right};
 use fax_bits::{BitSource, Colour};
 
@@ -74,14 +74,10 @@ fn read_on(
     ensures same_end { KeepsEnd ahead.old ahead.new }
     ensures shorter { OnOk result (length ahead.new.left < length ahead.old.left) }
 {
-    let looked_up = ahead.run_within(colour, width - runs.total);
-    let run = match looked_up {
-        Some(run) => run,
-        None => long_run(ahead, colour, width, runs.total)?,
-    };
-    runs.see(colour, run, looked_up.is_some());
-    runs.total += run;
-    runs.end = turn_after(places, runs.end, runs.total, run);
+    let run = next_run(ahead, colour, width, runs.total)?;
+    runs.see(colour, run.pels, run.is_chosen);
+    runs.total += run.pels;
+    runs.end = turn_after(places, runs.end, runs.total, run.pels);
     Ok(())
 }
 

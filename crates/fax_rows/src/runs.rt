@@ -1,7 +1,9 @@
 //! Runs of pels of one colour, code by code (ITU-T T.4, section 4.1.1).
-ghost use Rattle.std.specs.Prelude.{◌≡◌, ◌+◌, ◌≤◌, ◌<◌, ◌^◌, length, OnOk, IfOk, IfErr};
+ghost use Rattle.std.specs.Prelude.{◌≡◌, ◌+◌, ◌≤◌, ◌<◌, ◌^◌, ◌++◌, length, OnOk, IfOk, IfErr};
+ghost use Rattle.std.specs.Prelude.{IsTrue};
 ghost use Rattle.fax_bits.specs.Codes.{Takes, IsFaultOf, IsRun};
 ghost use Rattle.fax_bits.specs.Tables.{run_table};
+ghost use Rattle.fax_bits.specs.Written.{run_bits};
 ghost use Rattle.fax_bits.specs.views.Source.{KeepsEnd};
 ghost use Rattle.fax_rows.specs.Rows.{other as other_than};
 ghost use Rattle.fax_rows.specs.Faults.{IsRunFault};
@@ -36,14 +38,7 @@ fn read_run_code(source: &mut BitSource, colour: Colour) -> Result<RunCode, Code
 
 /// Reads a run of the colour whose first pel is `from`, code by code, and answers how many pels it
 /// has: also where the run has a fault.
-#[cold]
-#[inline(never)]
-pub(crate) fn read_run(
-    source: &mut BitSource,
-    colour: Colour,
-    width: u32,
-    from: u32,
-) -> Result<u32, RowFault>
+fn read_run(source: &mut BitSource, colour: Colour, width: u32, from: u32) -> Result<u32, RowFault>
     requires width { width < 2 ^ 16 }
     requires from { from ≤ width }
     ensures ok { IfOk result (λ n. IsRun colour source.old.left n source.new.left) }
@@ -74,24 +69,94 @@ pub(crate) fn read_run(
     }
 }
 
-/// What `read_run` does for a source that stands in a value: only a copy of it is lent.
+/// A run that is read.
+#[derive(Clone, Copy)]
+pub(crate) struct ReadRun {
+    pub pels: u32,
+    /// Whether its codes are seen to be those that T.4 chooses.
+    pub is_chosen: bool,
+}
+
+/// What `read_run` does: by one look-up, where that finds the run, and then the codes are seen to be
+/// those that T.4 chooses.
+#[cold]
+#[inline(never)]
+fn read_last_run(
+    source: &mut BitSource,
+    colour: Colour,
+    width: u32,
+    from: u32,
+) -> Result<ReadRun, RowFault>
+    requires width { width < 2 ^ 16 }
+    requires from { from ≤ width }
+    ensures ok { IfOk result (λ run. IsRun colour source.old.left run.pels source.new.left) }
+    ensures chosen { IfOk result (λ run. IsTrue run.is_chosen
+        → source.old.left ≡ run_bits colour run.pels ++ source.new.left) }
+    ensures within { IfOk result (λ run. from + run.pels ≤ width) }
+    ensures err { IfErr result (λ fault. IsRunFault colour width from source.old.left fault) }
+    ensures same_end { KeepsEnd source.old source.new }
+    ensures shorter { OnOk result (length source.new.left < length source.old.left) }
+{
+    if let Some(pels) = source.last_run_within(colour, width - from) {
+        return Ok(ReadRun {
+            pels,
+            is_chosen: true,
+        });
+    }
+    let pels = read_run(source, colour, width, from)?;
+    Ok(ReadRun {
+        pels,
+        is_chosen: false,
+    })
+}
+
+/// What `read_last_run` does for a source that stands in a value: only a copy of it is lent.
 #[inline(always)]
 pub(crate) fn long_run(
     source: &mut BitSource,
     colour: Colour,
     width: u32,
     from: u32,
-) -> Result<u32, RowFault>
+) -> Result<ReadRun, RowFault>
     requires width { width < 2 ^ 16 }
     requires from { from ≤ width }
-    ensures ok { IfOk result (λ n. IsRun colour source.old.left n source.new.left) }
-    ensures within { IfOk result (λ n. from + n ≤ width) }
+    ensures ok { IfOk result (λ run. IsRun colour source.old.left run.pels source.new.left) }
+    ensures chosen { IfOk result (λ run. IsTrue run.is_chosen
+        → source.old.left ≡ run_bits colour run.pels ++ source.new.left) }
+    ensures within { IfOk result (λ run. from + run.pels ≤ width) }
     ensures err { IfErr result (λ fault. IsRunFault colour width from source.old.left fault) }
     ensures same_end { KeepsEnd source.old source.new }
     ensures shorter { OnOk result (length source.new.left < length source.old.left) }
 {
     let mut copy = source.again();
-    let n = read_run(&mut copy, colour, width, from)?;
+    let run = read_last_run(&mut copy, colour, width, from)?;
     source.skip_to(copy.place());
-    Ok(n)
+    Ok(run)
+}
+
+/// Reads a run of the colour whose first pel is `from`, mostly by one look-up.
+#[inline(always)]
+pub(crate) fn next_run(
+    source: &mut BitSource,
+    colour: Colour,
+    width: u32,
+    from: u32,
+) -> Result<ReadRun, RowFault>
+    requires width { width < 2 ^ 16 }
+    requires from { from ≤ width }
+    ensures ok { IfOk result (λ run. IsRun colour source.old.left run.pels source.new.left) }
+    ensures chosen { IfOk result (λ run. IsTrue run.is_chosen
+        → source.old.left ≡ run_bits colour run.pels ++ source.new.left) }
+    ensures within { IfOk result (λ run. from + run.pels ≤ width) }
+    ensures err { IfErr result (λ fault. IsRunFault colour width from source.old.left fault) }
+    ensures same_end { KeepsEnd source.old source.new }
+    ensures shorter { OnOk result (length source.new.left < length source.old.left) }
+{
+    if let Some(pels) = source.run_within(colour, width - from) {
+        return Ok(ReadRun {
+            pels,
+            is_chosen: true,
+        });
+    }
+    long_run(source, colour, width, from)
 }

@@ -33,8 +33,47 @@ struct ReadRow {
     is_chosen: bool,
 }
 
-/// Reads the modes of a row over the reference row. After a doubt it reads them again, with
-/// `EXACT`; and where they are not T.4's choice, for their pels alone.
+/// Reads the modes of a row over the reference row with `EXACT`, and where they are not T.4's
+/// choice once more, for their pels alone.
+#[inline(never)]
+fn read_exactly<const CHOICE: bool>(
+    source: &mut BitSource,
+    reference: PlacedRow,
+    places: &mut [u32],
+) -> Result<ReadRow, RowFault>
+    requires room { HasRoom reference.width places.old }
+    ensures ok { IfOk result (λ read. Spec.IsTwoDimensionalRow (placed_pels reference.entry)
+        source.old.left (row_of places.new read.end reference.entry.width) source.new.left) }
+    ensures chosen { IfOk result (λ read. IsTrue read.is_chosen
+        → source.old.left ≡ two_dimensional_bits (placed_pels reference.entry)
+        (row_of places.new read.end reference.entry.width) ++ source.new.left) }
+    ensures put { IfOk result
+        (λ read. ArePut reference.entry.width places.new read.end reference.entry.width) }
+    ensures err { IfErr result (λ fault. Fault.IsTwoDimensionalFault
+        (placed_pels reference.entry) source.old.left fault) }
+    ensures room { HasRoom reference.entry.width places.new }
+    ensures same_end { KeepsEnd source.old source.new }
+{
+    match read_modes::<CHOICE, true>(source, reference, places) {
+        Ok(end) => return Ok(ReadRow {
+            end,
+            is_chosen: CHOICE,
+        }),
+        Err(Stop::Fault(fault)) => return Err(fault),
+        Err(Stop::Doubt) => {}
+    }
+    match read_modes::<false, true>(source, reference, places) {
+        Ok(end) => Ok(ReadRow {
+            end,
+            is_chosen: false,
+        }),
+        Err(Stop::Fault(fault)) => Err(fault),
+        Err(Stop::Doubt) => unreachable!(),
+    }
+}
+
+/// Reads the modes of a row over the reference row. Near the end of the bytes and after a doubt it
+/// reads them with `EXACT`.
 #[inline(always)]
 fn read_places<const CHOICE: bool>(
     source: &mut BitSource,
@@ -54,29 +93,16 @@ fn read_places<const CHOICE: bool>(
     ensures room { HasRoom reference.entry.width places.new }
     ensures same_end { KeepsEnd source.old source.new }
 {
+    if source.is_near_end() {
+        return read_exactly::<CHOICE>(source, reference, places);
+    }
     match read_modes::<CHOICE, false>(source, reference, places) {
-        Ok(end) => return Ok(ReadRow {
-            end,
-            is_chosen: CHOICE,
-        }),
-        Err(Stop::Fault(fault)) => return Err(fault),
-        Err(Stop::Doubt) => {}
-    }
-    match read_modes::<CHOICE, true>(source, reference, places) {
-        Ok(end) => return Ok(ReadRow {
-            end,
-            is_chosen: CHOICE,
-        }),
-        Err(Stop::Fault(fault)) => return Err(fault),
-        Err(Stop::Doubt) => {}
-    }
-    match read_modes::<false, true>(source, reference, places) {
         Ok(end) => Ok(ReadRow {
             end,
-            is_chosen: false,
+            is_chosen: CHOICE,
         }),
         Err(Stop::Fault(fault)) => Err(fault),
-        Err(Stop::Doubt) => unreachable!(),
+        Err(Stop::Doubt) => read_exactly::<CHOICE>(source, reference, places),
     }
 }
 

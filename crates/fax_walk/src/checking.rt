@@ -9,7 +9,7 @@ ghost use Rattle.fax_walk.specs.code.Check as Code;
 use crate::Place;
 use fax_bits::Memory;
 use fax_files::{Cause, Chain, Directory, PageForm, Tiff};
-use fax_page::{NotesFault, StripNotes, strip_notes};
+use fax_page::{NotesFault, NotesReader, StripNotes};
 use std::alloc::Global;
 
 /// What is noted.
@@ -178,6 +178,7 @@ fn check_strips(
     fax_bits::laws::bits_stand_by_place();
     fax_files::laws::forms_are_whole();
     let strips = directory.strips(form);
+    let mut reader = NotesReader::new(alloc, form.width)?;
     for s in 0..form.strips {
         let before = s * form.rows_per_strip;
         let bytes = match strips.bytes(s) {
@@ -189,7 +190,7 @@ fn check_strips(
                 });
             }
         };
-        match strip_notes(alloc, bytes, form.strip_form(s)) {
+        match reader.notes(bytes, form.strip_form(s)) {
             Ok(found) => note_strip(notes, page, s, found)?,
             Err(fault) => return read_to(before, fault),
         }

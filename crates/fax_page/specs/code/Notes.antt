@@ -8,6 +8,7 @@ use Rattle.fax_page.specs.declared.Coding.{Coding}
 use Rattle.fax_page.specs.declared.Coding.TheVariants.{Mmr}
 use Rattle.fax_page.specs.declared.StripForm.{StripForm}
 use Rattle.fax_page.specs.declared.StripFault.{StripFault}
+use Rattle.fax_page.specs.declared.notes.NotedRows.{NotedRows}
 use Rattle.fax_page.specs.declared.notes.NotedStrip.{NotedStrip}
 use Rattle.fax_page.specs.declared.notes.NotesFault.{NotesFault}
 use Rattle.fax_page.specs.declared.notes.NotesFault.TheVariants.{Memory, Strip}
@@ -24,11 +25,15 @@ use Rattle.fax_page.specs.Strip.{HasOtherChoice}
 abbrev pub IsChosen : Dimension → List Colour → List Bool → List Colour → List Bool → Type 0
 IsChosen dimension reference codes row rest = codes ≡ row_bits dimension reference row ++ rest
 
--- a strip is read for its notes: its form is within the limits, and both of its rows have its width
-pub record IsNoting (strip : NotedStrip) : Type 0 where
+-- both rows have this width
+pub record HasRowsOf (width : ℕ) (rows : NotedRows) : Type 0 where
+  pub reference_width : length rows.reference ≡ width
+  pub row_width : length rows.row ≡ width
+
+-- a strip is read for its notes: its form is within the limits, and both rows have its width
+pub record IsNoting (strip : NotedStrip) (rows : NotedRows) : Type 0 where
   pub limits : IsStripForm strip.form
-  pub width : length strip.reference ≡ strip.form.width
-  pub row_width : length strip.row ≡ strip.form.width
+  pub widths : HasRowsOf strip.form.width rows
 
 -- row i was read, and whether its codes are those that T.4 chooses
 pub record IsLineRead (form : StripForm) (i : ℕ) (reference : List Colour) (b : List Bool)

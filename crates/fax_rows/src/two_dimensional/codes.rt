@@ -2,7 +2,7 @@
 //! table (ITU-T T.4, section 4.2.1.3.2).
 ghost use Rattle.std.specs.Prelude.{◌≡◌, ◌+◌, ◌≤◌, ◌<◌, ◌^◌, ◌++◌, length, IsTrue, false};
 ghost use Rattle.std.specs.Prelude.{OnOk, IfOk, IfErr};
-ghost use Rattle.fax_bits.specs.Codes.{Takes, IsRun};
+ghost use Rattle.fax_bits.specs.Codes.{Takes, IsFaultOf, IsRun};
 ghost use Rattle.fax_bits.specs.Tables.{modes};
 ghost use Rattle.fax_bits.specs.Written.{run_bits};
 ghost use Rattle.fax_bits.specs.views.Source.{KeepsEnd};
@@ -12,9 +12,10 @@ ghost use Rattle.fax_rows.specs.code.Chosen.{AreTwoRuns};
 ghost use Rattle.fax_rows.specs.code.RowFaults.{IsPairFault};
 ghost use Rattle.fax_rows.specs.code.Stop.{IsStopOf};
 
+use super::choices::is_taken;
 use crate::RowFault;
 use crate::runs::{long_run, other};
-use fax_bits::{BitSource, Colour, ModeCode, Modes, read_code};
+use fax_bits::{BitSource, CodeFault, Colour, ModeCode, Modes, read_code};
 
 /// Why a row is not read to its end.
 #[derive(Clone, Copy)]
@@ -36,6 +37,21 @@ impl From<RowFault> for Stop {
     }
 }
 
+/// Reads a mode by a look-up near the end of the bytes too, or else by its table.
+#[cold]
+#[inline(never)]
+fn read_mode(source: &mut BitSource) -> Result<ModeCode, CodeFault>
+    ensures ok { IfOk result (λ mode. Takes modes source.old.left mode source.new.left) }
+    ensures err { IfErr result (λ fault. IsFaultOf modes source.old.left fault) }
+    ensures same_end { KeepsEnd source.old source.new }
+    ensures shorter { OnOk result (length source.new.left < length source.old.left) }
+{
+    if let Some(mode) = source.last_mode() {
+        return Ok(mode);
+    }
+    read_code::<Modes>(source)
+}
+
 /// Reads a mode. Only a copy of the source is lent, so that the source can stand in a value.
 #[inline(always)]
 pub(super) fn next_mode<const EXACT: bool>(source: &mut BitSource) -> Result<ModeCode, Stop>
@@ -52,7 +68,7 @@ pub(super) fn next_mode<const EXACT: bool>(source: &mut BitSource) -> Result<Mod
         return Err(Stop::Doubt);
     }
     let mut copy = source.again();
-    match read_code::<Modes>(&mut copy) {
+    match read_mode(&mut copy) {
         Ok(mode) => {
             source.skip_to(copy.place());
             Ok(mode)
@@ -62,7 +78,7 @@ pub(super) fn next_mode<const EXACT: bool>(source: &mut BitSource) -> Result<Mod
 }
 
 /// Reads a run of the colour whose first pel is `from`, and answers how many pels it has. A run that
-/// no look-up finds is not seen to be T.4's choice.
+/// no look-up finds, with `EXACT` near the end of the bytes too, is not seen to be T.4's choice.
 #[inline(always)]
 fn next_run<const CHOICE: bool, const EXACT: bool>(
     source: &mut BitSource,
@@ -84,10 +100,15 @@ fn next_run<const CHOICE: bool, const EXACT: bool>(
     if let Some(n) = source.run_within(colour, width - from) {
         return Ok(n);
     }
-    if EXACT && !CHOICE {
-        return Ok(long_run(source, colour, width, from)?);
+    if !EXACT {
+        return Err(Stop::Doubt);
     }
-    Err(Stop::Doubt)
+    let run = long_run(source, colour, width, from)?;
+    if is_taken::<CHOICE>(run.is_chosen) {
+        Ok(run.pels)
+    } else {
+        Err(Stop::Doubt)
+    }
 }
 
 /// Reads a run of the colour whose first pel is `from` and the run of the other one after it, and

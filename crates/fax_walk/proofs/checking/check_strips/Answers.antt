@@ -9,9 +9,12 @@ use Rattle.fax_walk.proofs.StripCheckLemmas.{none_before, strip_after, all_read,
 use Rattle.fax_walk.proofs.checking.check_strips.Goals as goal
 
 pub loop-s-init : goal.loop-s-init
-loop-s-init c =
-    none_before c.bits_stand_by_place.ensures _ _ _ (c.forms_are_whole.ensures _ _ _ _ c.requires.form) c.requires.form c.requires.here _ _
-    refl
+loop-s-init c = record {
+  checked =
+      none_before c.bits_stand_by_place.ensures _ _ _ (c.forms_are_whole.ensures _ _ _ _ c.requires.form) c.requires.form c.requires.here _ _
+      refl;
+  same_width = c.in_ok-reader.ensures;
+}
 
 pub returns-in-Err : goal.returns-in-Err
 returns-in-Err c =
@@ -19,27 +22,27 @@ returns-in-Err c =
     sym (ap (λ (d : TiffDirectory). bytes_of d c.loop-s.s) c.strips-strips.ensures.directory) ∙ c.in-Err.ensures.outside in
     rw c.in-Err.ensures.fault
     (strip_outside c.bits_stand_by_place.ensures _ _ _ (c.forms_are_whole.ensures _ _ _ _ c.requires.form) c.requires.form c.requires.here
-    c.requires.limits.rows _ _ _ c.loop-s-test.true c.loop-s.invariant none)
+    c.requires.limits.rows _ _ _ c.loop-s-test.true c.loop-s.invariant.checked none)
 
 pub read_to-requires : goal.read_to-requires
 read_to-requires c =
     row_inside c.bits_stand_by_place.ensures c.args.directory.now _ c.args.page (c.forms_are_whole.ensures _ _ _ _ c.requires.form)
     c.requires.form c.requires.here c.loop-s.s c.in-Ok.bytes.now _
     c.requires.limits.rows c.loop-s-test.true
-    (subst (λ (f : StripForm). IsNotesFault f (bits f.order c.in-Ok.bytes.now) c.in-Err-strip_notes.fault) c.strip_form.ensures.exact
-    c.in-Err-strip_notes.ensures.err)
+    (subst (λ (f : StripForm). IsNotesFault f (bits f.order c.in-Ok.bytes.now) c.in-Err-notes.fault) c.strip_form.ensures.exact
+    c.in-Err-notes.ensures.err)
 
-pub returns-in-Err-strip_notes : goal.returns-in-Err-strip_notes
-returns-in-Err-strip_notes c =
+pub returns-in-Err-notes : goal.returns-in-Err-notes
+returns-in-Err-notes c =
     let there : bytes_of c.args.directory.now c.loop-s.s ≡ Some c.in-Ok.bytes.now =
     sym (ap (λ (d : TiffDirectory). bytes_of d c.loop-s.s) c.strips-strips.ensures.directory) ∙ c.in-Ok.ensures.bytes in
     let refused =
-    subst (λ (f : StripForm). IsNotesFault f (bits f.order c.in-Ok.bytes.now) c.in-Err-strip_notes.fault) c.strip_form.ensures.exact
-    c.in-Err-strip_notes.ensures.err in
+    subst (λ (f : StripForm). IsNotesFault f (bits f.order c.in-Ok.bytes.now) c.in-Err-notes.fault) c.strip_form.ensures.exact
+    c.in-Err-notes.ensures.err in
     IfOk-weaker c.read_to.result _ _
     (λ read is.
     strip_fault c.bits_stand_by_place.ensures _ _ _ (c.forms_are_whole.ensures _ _ _ _ c.requires.form) c.requires.form c.requires.here
-    c.requires.limits.rows _ _ _ _ _ read c.loop-s-test.true c.loop-s.invariant there refused
+    c.requires.limits.rows _ _ _ _ _ read c.loop-s-test.true c.loop-s.invariant.checked there refused
     is)
     c.read_to.ensures
 
@@ -47,17 +50,21 @@ pub loop-s-preserved : goal.loop-s-preserved
 loop-s-preserved c =
     let there : bytes_of c.args.directory.now c.loop-s.s ≡ Some c.in-Ok.bytes.now =
     sym (ap (λ (d : TiffDirectory). bytes_of d c.loop-s.s) c.strips-strips.ensures.directory) ∙ c.in-Ok.ensures.bytes in
-    let found = c.in-Ok-strip_notes.ensures.ok in
-    strip_after c.bits_stand_by_place.ensures _ _ _ (c.forms_are_whole.ensures _ _ _ _ c.requires.form) c.requires.form c.requires.here
-    _ _ _ _ c.in-Ok.bytes.now found.0 c.in-Ok-strip_notes.found
-    c.loop-s-test.true
-    c.loop-s.invariant there
-    (subst (λ (f : StripForm). IsNotedAs f (bits f.order c.in-Ok.bytes.now) found.0 c.in-Ok-strip_notes.found) c.strip_form.ensures.exact
-    found.1)
-    c.in_ok-note_strip-in-Ok-strip_notes.ensures
+    let found = c.in-Ok-notes.ensures.ok in
+    record {
+      checked =
+          strip_after c.bits_stand_by_place.ensures _ _ _ (c.forms_are_whole.ensures _ _ _ _ c.requires.form) c.requires.form c.requires.here
+          _ _ _ _ c.in-Ok.bytes.now found.0 c.in-Ok-notes.found
+          c.loop-s-test.true
+          c.loop-s.invariant.checked there
+          (subst (λ (f : StripForm). IsNotedAs f (bits f.order c.in-Ok.bytes.now) found.0 c.in-Ok-notes.found) c.strip_form.ensures.exact
+          found.1)
+          c.in_ok-note_strip-in-Ok-notes.ensures;
+      same_width = c.in-Ok-notes.ensures.same_width ∙ c.loop-s.invariant.same_width;
+    }
 
 pub returns : goal.returns
 returns c =
     let all : c.loop-s.s ≡ c.args.form.now.strips = omega arith in
     all_read c.bits_stand_by_place.ensures _ _ _ (c.forms_are_whole.ensures _ _ _ _ c.requires.form) c.requires.form c.requires.here
-    c.requires.limits.rows _ _ _ all c.loop-s.invariant
+    c.requires.limits.rows _ _ _ all c.loop-s.invariant.checked

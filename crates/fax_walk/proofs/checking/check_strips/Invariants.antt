@@ -1,5 +1,9 @@
+use Rattle.std.proofs.Common.{◌≡◌}
 use Rattle.fax_walk.specs.code.Check.{AreStripsChecked}
 use Rattle.fax_walk.proofs.checking.check_strips.Given as goal
 
 abbrev pub invariant-loop-s : goal.invariant-loop-s
-invariant-loop-s l = AreStripsChecked l.directory l.form l.page l.s l.fn.notes.items l.notes.items
+invariant-loop-s l = record {
+  checked : AreStripsChecked l.directory l.form l.page l.s l.fn.notes.items l.notes.items;
+  same_width : l.reader ≡ l.form.width;
+}
