@@ -7,7 +7,7 @@ use Rattle.fax_bits.specs.declared.modes.ModeCode.TheVariants.{Pass, Horizontal,
 use Rattle.fax_bits.specs.Codes.{Takes}
 use Rattle.fax_bits.specs.laws.Codes.{ReadsOneWay}
 use Rattle.fax_bits.specs.Tables.{run_table, modes}
-use Rattle.fax_rows.specs.Rows.{other, Position, beginning, IsStepBy, IsStep, AreSteps}
+use Rattle.fax_rows.specs.Rows.{Position, beginning, IsStepBy, IsStep, AreSteps}
 use Rattle.fax_rows.specs.Rows.{IsTwoDimensionalRow}
 use Rattle.fax_rows.proofs.RunLaws.{same_run}
 
