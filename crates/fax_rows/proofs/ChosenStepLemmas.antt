@@ -12,7 +12,7 @@ use Rattle.fax_rows.specs.Rows.{Position, first_pel, coloured_up_to, IsVerticalS
 use Rattle.fax_rows.specs.code.Seen.{b2_from}
 use Rattle.fax_rows.specs.code.Chosen.{IsChosenStep, IsChosenPair}
 use Rattle.fax_rows.specs.code.PlacedRow.{placed_pels}
-use Rattle.fax_rows.specs.code.PlacedReached.{placed_position, IsReadTo}
+use Rattle.fax_rows.specs.code.PlacedReached.{placed_position, IsReadInside}
 use Rattle.fax_rows.specs.code.Reached.{reached_pel}
 use Rattle.fax_rows.specs.code.Turns.{turned, pels_by}
 use Rattle.fax_rows.proofs.ChosenLemmas.{vertical_is, pass_is, horizontal_is}
@@ -37,15 +37,14 @@ pub map_both : {A E : Type 0} {P Q R : A → Type 0} (found : Result A E) → If
 map_both (Ok x) p q f = f x p q
 map_both (Err e) p q f = tt
 
-module _ {reference : PlacedRow} {places : List ℕ} {at : PlacedReached} (so_far : IsReadTo reference places at)
-    (unfinished : reached_pel at.reached < reference.width) where
+module _ {reference : PlacedRow} {places : List ℕ} {at : PlacedReached} (here : IsReadInside reference places at) where
   -- a0's colour just before the first pel
   start : at.reached.a0 ≡ None → White ≡ at.reached.colour
   start is =
-      let first : take at.end places ≡ take 1 places = ap (λ n. take n places) (so_far.started is) in
-      let one = take-first places (omega (arith, so_far.room)) so_far.ascending.first in
+      let first : take at.end places ≡ take 1 places = ap (λ n. take n places) (here.so_far.started is) in
+      let one = take-first places (omega (arith, here.so_far.room)) here.so_far.ascending.first in
       sym (turned-first (reached_pel at.reached)) ∙ ap (λ ps. turned Black ps (reached_pel at.reached)) (sym (first ∙ one))
-      ∙ so_far.after (reached_pel at.reached) (omega arith)
+      ∙ here.so_far.after (reached_pel at.reached) (omega arith)
 
   read : length (take (reached_pel at.reached) (pels_by reference.width (take at.end places))) ≡ reached_pel at.reached
   read =
@@ -53,7 +52,7 @@ module _ {reference : PlacedRow} {places : List ℕ} {at : PlacedReached} (so_fa
       (omega (arith, length-pels_by reference.width (take at.end places)))
 
   inside : reached_pel at.reached < length (placed_pels reference)
-  inside = omega (arith, length-placed_pels reference)
+  inside = omega (arith, here.unfinished, length-placed_pels reference)
 
   pub vertical_chosen : {b : List Bool} {d : ℤ} {new : Position} {rest : List Bool} → Takes modes b (Vertical d) rest
       → IsVerticalStep (placed_pels reference) (placed_position reference.width places at) d new
@@ -77,7 +76,7 @@ module _ {reference : PlacedRow} {places : List ℕ} {at : PlacedReached} (so_fa
   pub left_of_b2 : (d : ℤ) (new : Position) → IsVerticalStep (placed_pels reference) (placed_position reference.width places at) d new
       → d ≤ℤ pos 0 → first_pel new ≤ b2_from (placed_pels reference) (placed_position reference.width places at)
   left_of_b2 d new step left =
-      let b1 = so_far.b1 unfinished in
+      let b1 = here.so_far.b1 here.unfinished in
       let first = b1_is reference b1 in
       let second = b2_is reference b1 in
       let order = b2_ahead reference at.b1 b1.some b1.within in
@@ -94,11 +93,11 @@ module _ {reference : PlacedRow} {places : List ℕ} {at : PlacedReached} (so_fa
       → first_pel new < length (placed_pels reference)
       → IsChosenStep (placed_pels reference) (placed_position reference.width places at) b new rest
   pass_chosen {b = b} {new = new} {rest = rest} takes new_is ends row len goes =
-      let b1 = so_far.b1 unfinished in
+      let b1 = here.so_far.b1 here.unfinished in
       let second = b2_is reference b1 in
       pass_is (placed_pels reference) row len (placed_position reference.width places at) start read inside b new rest new_is
       ((mode_taken takes).bits)
-      (let order = b2_order so_far unfinished in omega arith) ends goes
+      (let order = b2_order here in omega arith) ends goes
 
   pub pair_chosen : {b middle : List Bool} {new : Position} {rest : List Bool} → Takes modes b Horizontal middle
       → IsChosenPair (placed_pels reference) (placed_position reference.width places at) middle new rest

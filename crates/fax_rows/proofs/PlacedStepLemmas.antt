@@ -17,7 +17,7 @@ use Rattle.fax_rows.specs.declared.rows.PlacedRow.{PlacedRow}
 use Rattle.fax_rows.specs.code.PlacedRow.{placed_pels, IsB1At}
 use Rattle.fax_rows.specs.code.Put.{ArePut, HasRoom}
 use Rattle.fax_rows.specs.code.Turns.{turned, pels_by, IsTurnedFrom, TurnsAt}
-use Rattle.fax_rows.specs.code.PlacedReached.{placed_position, IsReadTo}
+use Rattle.fax_rows.specs.code.PlacedReached.{placed_position, IsReadTo, IsReadInside}
 use Rattle.fax_rows.specs.code.Chosen.{after_pair}
 use Rattle.fax_bits.specs.Codes.{IsRun}
 use Rattle.fax_rows.proofs.StepLemmas.{AreStepsSoFar, unfinished_below, abs-same, vertical_step}
@@ -84,17 +84,16 @@ pub right_after_first : (a0 : Option ℕ) (a1 : ℕ) → is_right_of a0 a1 ≡ t
 right_after_first None a1 h = omega arith
 right_after_first (Some a) a1 h = omega (arith, ltb-true a a1 h)
 
-module _ {reference : PlacedRow} {places : List ℕ} {at : PlacedReached} (so_far : IsReadTo reference places at)
-    (unfinished : reached_pel at.reached < reference.width) where
+module _ {reference : PlacedRow} {places : List ℕ} {at : PlacedReached} (here : IsReadInside reference places at) where
   pub b2_order : reached_pel at.reached ≤ get_or reference.places.now (at.b1 + 1) 0
   b2_order =
-      let b1 = so_far.b1 unfinished in
-      let first = b1_ahead reference at.reached.a0 b1 unfinished in
+      let b1 = here.so_far.b1 here.unfinished in
+      let first = b1_ahead reference at.reached.a0 b1 here.unfinished in
       let second = b2_ahead reference at.b1 b1.some b1.within in
       omega arith
 
   b2_within : get_or reference.places.now (at.b1 + 1) 0 ≤ reference.width
-  b2_within = let b1 = so_far.b1 unfinished in b2_at_most reference at.b1 b1.some b1.within
+  b2_within = let b1 = here.so_far.b1 here.unfinished in b2_at_most reference at.b1 b1.some b1.within
 
   pub pass_step : position_of (record { a0 = Some (get_or reference.places.now (at.b1 + 1) 0); colour = at.reached.colour })
       (pels_by reference.width (take at.end places))
@@ -102,8 +101,8 @@ module _ {reference : PlacedRow} {places : List ℕ} {at : PlacedReached} (so_fa
   pass_step =
       coloured reference.width (take at.end places) (take at.end places) at.reached
       (get_or reference.places.now (at.b1 + 1) 0) b2_order b2_within
-      (λ i h. refl) so_far.after
-      ∙ ap (coloured_up_to (placed_position reference.width places at)) (b2_is reference (so_far.b1 unfinished))
+      (λ i h. refl) here.so_far.after
+      ∙ ap (coloured_up_to (placed_position reference.width places at)) (b2_is reference (here.so_far.b1 here.unfinished))
 
   pub pass_so_far : IsReadTo reference places
       (record {
@@ -116,18 +115,18 @@ module _ {reference : PlacedRow} {places : List ℕ} {at : PlacedReached} (so_fa
         b1 = at.b1 + 2;
       })
   pass_so_far = record {
-    room = so_far.room;
+    room = here.so_far.room;
     within = b2_within;
     started = λ h. cc;
-    ascending = so_far.ascending;
-    last = let order = b2_order in omega (arith, so_far.last);
-    after = λ i h. so_far.after i (let order = b2_order in omega arith);
-    b1 = λ h. b1_passed reference (so_far.b1 unfinished) h;
+    ascending = here.so_far.ascending;
+    last = let order = b2_order in omega (arith, here.so_far.last);
+    after = λ i h. here.so_far.after i (let order = b2_order in omega arith);
+    b1 = λ h. b1_passed reference (here.so_far.b1 here.unfinished) h;
   }
 
   pub b1_in_room : at.b1 + 1 < length reference.places.now
   b1_in_room =
-      let b1 = so_far.b1 unfinished in
+      let b1 = here.so_far.b1 here.unfinished in
       let within = end_within reference.placed in
       omega (arith, b1.within, reference.placed.room, within)
 
@@ -137,12 +136,12 @@ module _ {reference : PlacedRow} {places : List ℕ} {at : PlacedReached} (so_fa
       → (a1 < reference.width → IsB1At reference (Some a1) (other at.reached.colour) next_b1) → colour ≡ other at.reached.colour
       → IsReadTo reference new (record { reached = record { a0 = Some a1; colour = colour }; end = next_end; b1 = next_b1 })
   turned_so_far {new} {next_end} {a1} {next_b1} order within turns b1 is = record {
-    room = turns.same_len ∙ so_far.room;
+    room = turns.same_len ∙ here.so_far.room;
     within = within;
     started = λ h. cc;
     ascending = turns.ascending;
     last = turns.last;
-    after = λ i h. turns.turned.right i h ∙ ap other (so_far.after i (omega arith)) ∙ sym is;
+    after = λ i h. turns.turned.right i h ∙ ap other (here.so_far.after i (omega arith)) ∙ sym is;
     b1 = λ h. subst (λ c. IsB1At reference (Some a1) c next_b1) (sym is) (b1 h);
   }
 
@@ -152,11 +151,11 @@ module _ {reference : PlacedRow} {places : List ℕ} {at : PlacedReached} (so_fa
       → position_of (record { a0 = Some a1; colour = at.reached.colour }) (pels_by reference.width (take next_end new))
       ≡ coloured_up_to (placed_position reference.width places at) a1
   turned_position new next_end a1 order within turn =
-      coloured reference.width (take at.end places) (take next_end new) at.reached a1 order within turn.left so_far.after
+      coloured reference.width (take at.end places) (take next_end new) at.reached a1 order within turn.left here.so_far.after
 
   -- what is read is put
   pub read_put : ArePut reference.width places at.end (reached_pel at.reached)
-  read_put = record { room = so_far.room; ascending = so_far.ascending; last = so_far.last; within = so_far.within }
+  read_put = record { room = here.so_far.room; ascending = here.so_far.ascending; last = here.so_far.last; within = here.so_far.within }
 
   -- there is room for a place
   pub room_left : at.end + 1 < length places
@@ -190,7 +189,7 @@ module _ {reference : PlacedRow} {places : List ℕ} {at : PlacedReached} (so_fa
           b1 = next_b1;
         }))
     vertical_placed new next_end next_b1 colour turns is =
-        let same = b1_is reference (so_far.b1 unfinished) in
+        let same = b1_is reference (here.so_far.b1 here.unfinished) in
         let len = length-placed_pels reference in
         vertical_step (placed_pels reference) (pels_by reference.width (take at.end places)) (pels_by reference.width (take next_end new))
         at.reached
@@ -203,18 +202,18 @@ module _ {reference : PlacedRow} {places : List ℕ} {at : PlacedReached} (so_fa
   pub row_begins : (d : ℤ) → IsInRow (placed_pels reference) (placed_position reference.width places at) d
       → a0_number (position_of at.reached []) <ℤ (pos (get_or reference.places.now at.b1 0) +ℤ d)
   row_begins d in_row =
-      let same = b1_is reference (so_far.b1 unfinished) in
+      let same = b1_is reference (here.so_far.b1 here.unfinished) in
       omega (arith, ints, same, in_row.right_of_a0)
 
   pub row_ends : (d : ℤ) → IsInRow (placed_pels reference) (placed_position reference.width places at) d
       → (pos (get_or reference.places.now at.b1 0) +ℤ d) ≤ℤ pos reference.width
   row_ends d in_row =
-      let same = b1_is reference (so_far.b1 unfinished) in
+      let same = b1_is reference (here.so_far.b1 here.unfinished) in
       omega (arith, ints, same, length-placed_pels reference, in_row.within)
 
   -- b1 is right of a0, and in the row
   pub under_right : a0_number (position_of at.reached []) <ℤ pos (get_or reference.places.now at.b1 0)
-  under_right = by at.reached.a0 (so_far.b1 unfinished) unfinished
+  under_right = by at.reached.a0 (here.so_far.b1 here.unfinished) here.unfinished
     where
       by : (a0 : Option ℕ) → IsB1At reference a0 at.reached.colour at.b1 → unwrap_or a0 0 < reference.width
           → a0_number (record { a0 = a0; colour = at.reached.colour; pels = [] }) <ℤ pos (get_or reference.places.now at.b1 0)
@@ -226,10 +225,10 @@ module _ {reference : PlacedRow} {places : List ℕ} {at : PlacedReached} (so_fa
           ]
 
   pub under_ahead : reached_pel at.reached ≤ get_or reference.places.now at.b1 0
-  under_ahead = b1_ahead reference at.reached.a0 (so_far.b1 unfinished) unfinished
+  under_ahead = b1_ahead reference at.reached.a0 (here.so_far.b1 here.unfinished) here.unfinished
 
   pub under_within : get_or reference.places.now at.b1 0 ≤ reference.width
-  under_within = let b1 = so_far.b1 unfinished in b1_at_most reference at.b1 b1.some b1.within
+  under_within = let b1 = here.so_far.b1 here.unfinished in b1_at_most reference at.b1 b1.some b1.within
 
   -- two places are put where two runs end
   pub pair_placed : (first second : ℕ) {between new : List ℕ} {middle_end next_end : ℕ} (next_b1 : ℕ)
@@ -262,12 +261,12 @@ module _ {reference : PlacedRow} {places : List ℕ} {at : PlacedReached} (so_fa
           front_to reference.width (reached_pel at.reached + first) (reached_pel at.reached + first + second) (take middle_end between)
           (take next_end new)
           (other at.reached.colour) (omega arith) within again.turned.left
-          (λ i h. turns.turned.right i h ∙ ap other (so_far.after i (omega arith)))
+          (λ i h. turns.turned.right i h ∙ ap other (here.so_far.after i (omega arith)))
           ∙ ap (λ n. take (reached_pel at.reached + first) (pels_by reference.width (take middle_end between)) ++ replicate n
           (other at.reached.colour)) two
           ∙ ap (λ xs. xs ++ replicate second (other at.reached.colour))
           (front_to reference.width (reached_pel at.reached) (reached_pel at.reached + first) (take at.end places) (take middle_end between)
-          at.reached.colour (omega arith) (omega arith) turns.turned.left so_far.after
+          at.reached.colour (omega arith) (omega arith) turns.turned.left here.so_far.after
           ∙ ap (λ n. take (reached_pel at.reached) (pels_by reference.width (take at.end places)) ++ replicate n at.reached.colour) one)
 
   pub horizontal_placed : {b mid rest : List Bool} (first second : ℕ) {between new : List ℕ} {middle_end next_end : ℕ} (next_b1 : ℕ)
@@ -307,13 +306,13 @@ module _ {reference : PlacedRow} {places : List ℕ} {at : PlacedReached} (so_fa
             next_b1;
       })
   horizontal_so_far first second within turns again b1 = record {
-    room = again.same_len ∙ turns.same_len ∙ so_far.room;
+    room = again.same_len ∙ turns.same_len ∙ here.so_far.room;
     within = within;
     started = λ h. cc;
     ascending = again.ascending;
     last = again.last;
     after = λ i h.
-        again.turned.right i h ∙ ap other (turns.turned.right i (omega arith) ∙ ap other (so_far.after i (omega arith)))
+        again.turned.right i h ∙ ap other (turns.turned.right i (omega arith) ∙ ap other (here.so_far.after i (omega arith)))
         ∙ other-other at.reached.colour;
     b1 = b1;
   }

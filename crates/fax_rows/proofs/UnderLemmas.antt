@@ -19,8 +19,8 @@ use Rattle.fax_rows.specs.declared.rows.PlacedRow.{PlacedRow}
 use Rattle.fax_rows.specs.Rows.{other, is_right_of, Position, beginning, AreSteps, IsStep, IsVerticalStep}
 use Rattle.fax_rows.specs.code.Chosen.{IsChosenStep, AreChosenSteps, GoesOn, GoesOnAsChosen}
 use Rattle.fax_rows.specs.code.PlacedRow.{placed_pels}
-use Rattle.fax_rows.specs.code.PlacedReached.{placed_position, IsReadTo, IsReadOn}
-use Rattle.fax_rows.specs.code.Reached.{reached_pel, position_of}
+use Rattle.fax_rows.specs.code.PlacedReached.{placed_position, IsReadTo, IsReadInside, IsReadOn}
+use Rattle.fax_rows.specs.code.Reached.{position_of}
 use Rattle.fax_rows.specs.code.Turns.{turned, alternate, pels_by, IsAscending, IsTurnedFrom, TurnsAt}
 use Rattle.fax_rows.proofs.ChosenRowLemmas.{IsChosenSoFar, chosen_goes_on as row_goes_on}
 use Rattle.fax_rows.proofs.ChosenStepLemmas.{under_chosen}
@@ -62,35 +62,35 @@ pub all_chosen_go_on : (reference : List Colour) (b : List Bool) (old : Position
 all_chosen_go_on reference b old mid new rest so_far more = chosen_on reference b old mid more.positions new rest so_far more.steps
 
 -- one step from where the row is read to
-pub step_goes_on : (reference : PlacedRow) (places : List ℕ) (at : PlacedReached) → reached_pel at.reached < reference.width
+pub step_goes_on : {reference : PlacedRow} {places : List ℕ} {at : PlacedReached} → IsReadInside reference places at
     → (b : List Bool) (new : Position) (rest : List Bool)
     → IsStep (placed_pels reference) (placed_position reference.width places at) b new rest
     → GoesOn (placed_pels reference) (placed_position reference.width places at) b new rest
-step_goes_on reference places at less b new rest step = record {
+step_goes_on {reference} {places} {at} here b new rest step = record {
   positions = new ∷ [];
-  steps = (unfinished_below (placed_pels reference) at.reached.a0 (omega (arith, length-placed_pels reference)), rest, step, (refl, refl));
+  steps = (unfinished_below (placed_pels reference) at.reached.a0 (omega (arith, here.unfinished, length-placed_pels reference)), rest, step, (refl, refl));
 }
 
 -- in vertical mode, where the distance is said in two ways
-pub vertical_goes_on : (reference : PlacedRow) (places : List ℕ) (at : PlacedReached) → reached_pel at.reached < reference.width
+pub vertical_goes_on : {reference : PlacedRow} {places : List ℕ} {at : PlacedReached} → IsReadInside reference places at
     → (b : List Bool) (new : Position) (rest : List Bool) (d read : ℤ) → Takes modes b (Vertical d) rest
     → IsVerticalStep (placed_pels reference) (placed_position reference.width places at) read new → read ≡ d
     → GoesOn (placed_pels reference) (placed_position reference.width places at) b new rest
-vertical_goes_on reference places at less b new rest d distance taken step same =
-    step_goes_on reference places at less b new rest (record {
+vertical_goes_on {reference} {places} {at} here b new rest d distance taken step same =
+    step_goes_on here b new rest (record {
       mode = Vertical d;
       after = rest;
       taken = taken;
       step = (subst (λ e. IsVerticalStep (placed_pels reference) (placed_position reference.width places at) e new) same step, refl);
     })
 
-pub chosen_goes_on : (reference : PlacedRow) (places : List ℕ) (at : PlacedReached) → reached_pel at.reached < reference.width
+pub chosen_goes_on : {reference : PlacedRow} {places : List ℕ} {at : PlacedReached} → IsReadInside reference places at
     → (b : List Bool) (new : Position) (rest : List Bool)
     → IsChosenStep (placed_pels reference) (placed_position reference.width places at) b new rest
     → GoesOnAsChosen (placed_pels reference) (placed_position reference.width places at) b new rest
-chosen_goes_on reference places at less b new rest step = record {
+chosen_goes_on {reference} {places} {at} here b new rest step = record {
   positions = new ∷ [];
-  steps = (omega (arith, length-placed_pels reference), rest, step, (refl, refl));
+  steps = (omega (arith, here.unfinished, length-placed_pels reference), rest, step, (refl, refl));
 }
 
 -- a place that stands where the next one is to be put
@@ -118,64 +118,64 @@ under_all (suc k) reference at = under_all k reference (under reference at)
 
 module _ (reference : PlacedRow) (places : List ℕ) where
   -- the last place is left of b1
-  last_left : (at : PlacedReached) → IsReadTo reference places at → reached_pel at.reached < reference.width → at.b1 < reference.end
-      → 1 < at.end → get_or places (at.end - 1) 0 < get_or reference.places.now at.b1 0
-  last_left at so_far unfinished inside some =
+  last_left : (at : PlacedReached) → IsReadInside reference places at → at.b1 < reference.end → 1 < at.end
+      → get_or places (at.end - 1) 0 < get_or reference.places.now at.b1 0
+  last_left at here inside some =
       by at.reached.a0 refl
     where
       by : (a0 : Option ℕ) → at.reached.a0 ≡ a0 → get_or places (at.end - 1) 0 < get_or reference.places.now at.b1 0
-      by None is = absurd (omega (arith, so_far.started is))
+      by None is = absurd (omega (arith, here.so_far.started is))
       by (Some a) is =
-          let b1 = so_far.b1 unfinished in
+          let b1 = here.so_far.b1 here.unfinished in
           let right = subst (λ a0. is_right_of a0 (get_or reference.places.now at.b1 0) ≡ true) is (b1.ahead inside) in
-          let last = subst (λ a0. get_or places (at.end - 1) 0 ≤ unwrap_or a0 0) is so_far.last in
+          let last = subst (λ a0. get_or places (at.end - 1) 0 ≤ unwrap_or a0 0) is here.so_far.last in
           omega (arith, ltb-true a (get_or reference.places.now at.b1 0) right, last)
 
   -- the places ascend with the next one too
-  ascending_more : (at : PlacedReached) → IsReadTo reference places at → reached_pel at.reached < reference.width
-      → at.b1 < reference.end → get_or places at.end 0 ≡ get_or reference.places.now at.b1 0 → IsAscending places (at.end + 1)
-  ascending_more at so_far unfinished inside is = record {
+  ascending_more : (at : PlacedReached) → IsReadInside reference places at → at.b1 < reference.end
+      → get_or places at.end 0 ≡ get_or reference.places.now at.b1 0 → IsAscending places (at.end + 1)
+  ascending_more at here inside is = record {
     started = omega arith;
-    within = let room = room_left so_far unfinished in omega arith;
-    first = so_far.ascending.first;
+    within = let room = room_left here in omega arith;
+    first = here.so_far.ascending.first;
     steps = λ i some h. by i some h (cases_lt (i + 1) at.end);
   }
     where
       by : (i : ℕ) → 0 < i → i + 1 < at.end + 1 → (i + 1 < at.end) ⊎ (at.end ≤ i + 1) → get_or places i 0 < get_or places (i + 1) 0
-      by i some h (inl less) = so_far.ascending.steps i some less
+      by i some h (inl less) = here.so_far.ascending.steps i some less
       by i some h (inr over) =
           let last : i + 1 ≡ at.end = omega arith in
           let before : i ≡ at.end - 1 = omega arith in
-          let less = last_left at so_far unfinished inside (omega arith) in
+          let less = last_left at here inside (omega arith) in
           subst (λ m. get_or places i 0 < get_or places m 0) (sym last)
           (subst (λ n. get_or places n 0 < get_or places at.end 0) (sym before)
           (subst (λ p. get_or places (at.end - 1) 0 < p) (sym is) less))
 
   -- the step to b1, whose place stands there already
-  module _ (at : PlacedReached) (so_far : IsReadTo reference places at) (unfinished : reached_pel at.reached < reference.width)
+  module _ (at : PlacedReached) (here : IsReadInside reference places at)
       (inside : at.b1 < reference.end) (is : get_or places at.end 0 ≡ get_or reference.places.now at.b1 0) where
     turns : TurnsAt places places at.end (at.end + 1) (get_or reference.places.now at.b1 0)
     turns = record {
-      ascending = ascending_more at so_far unfinished inside is;
+      ascending = ascending_more at here inside is;
       last = let same : at.end + 1 - 1 ≡ at.end = omega arith in
           subst (λ n. get_or places n 0 ≤ get_or reference.places.now at.b1 0) (sym same) (omega (arith, is));
       turned = turned_more places at.end (get_or reference.places.now at.b1 0)
-          (let room = room_left so_far unfinished in omega arith) is;
+          (let room = room_left here in omega arith) is;
       same_len = refl;
     }
 
     step : IsVerticalStep (placed_pels reference) (placed_position reference.width places at) (pos 0)
         (placed_position reference.width places (under reference at))
     step =
-        let within = under_within so_far unfinished in
-        vertical_placed so_far unfinished (pos 0) (pos (get_or reference.places.now at.b1 0)) (omega (arith, ints))
-        (from_start at.reached) (under_right so_far unfinished) (omega (arith, ints, within))
+        let within = under_within here in
+        vertical_placed here (pos 0) (pos (get_or reference.places.now at.b1 0)) (omega (arith, ints))
+        (from_start at.reached) (under_right here) (omega (arith, ints, within))
         places (at.end + 1) (at.b1 + 1) (other at.reached.colour) turns refl
 
     read : IsReadTo reference places (under reference at)
     read =
-        turned_so_far so_far unfinished (under_ahead so_far unfinished) (under_within so_far unfinished) turns
-        (λ h. b1_next reference (so_far.b1 unfinished) h) refl
+        turned_so_far here (under_ahead here) (under_within here) turns
+        (λ h. b1_next reference (here.so_far.b1 here.unfinished) h) refl
 
   -- so many steps with a1 under b1
   pub record AreUnder (at : PlacedReached) (k : ℕ) (b rest : List Bool) : Type 0 where
@@ -186,24 +186,25 @@ module _ (reference : PlacedRow) (places : List ℕ) where
     pub so_far : IsReadTo reference places (under_all k reference at)
 
   pub all_under : (k : ℕ) (at : PlacedReached) (b rest : List Bool) → Spells modes b (replicate k (Vertical (pos 0))) rest
-      → IsReadTo reference places at → reached_pel at.reached < reference.width → at.b1 + k ≤ reference.end
+      → IsReadInside reference places at → at.b1 + k ≤ reference.end
       → ((i : ℕ) → i < k → get_or places (at.end + i) 0 ≡ get_or reference.places.now (at.b1 + i) 0) → AreUnder at k b rest
-  all_under zero at b rest spells so_far unfinished inside copied = record {
+  all_under zero at b rest spells here inside copied = record {
     goes_on = record { positions = []; steps = (refl, spells) };
     chosen = record { positions = []; steps = (refl, spells) };
-    so_far = so_far;
+    so_far = here.so_far;
   }
-  all_under (suc k) at b rest spells so_far unfinished inside copied =
+  all_under (suc k) at b rest spells here inside copied =
       let same : at.end + 0 ≡ at.end = omega arith in
       let again : at.b1 + 0 ≡ at.b1 = omega arith in
       let is : get_or places at.end 0 ≡ get_or reference.places.now at.b1 0 =
       ap (λ n. get_or places n 0) (sym same) ∙ copied 0 (omega arith) ∙ ap (λ n. get_or reference.places.now n 0) again in
       let less : at.b1 < reference.end = omega arith in
-      let some = (so_far.b1 unfinished).some in
+      let some = (here.so_far.b1 here.unfinished).some in
       let below : get_or reference.places.now at.b1 0 < reference.width = reference.placed.below at.b1 some less in
-      let vertical = step at so_far unfinished less is in
+      let vertical = step at here less is in
       let len = length-placed_pels reference in
-      let more = all_under k (under reference at) spells.0 rest spells.2 (read at so_far unfinished less is) below (omega arith)
+      let more = all_under k (under reference at) spells.0 rest spells.2 (record { so_far = read at here less is; unfinished = below })
+      (omega arith)
       (λ i h. let one : at.end + 1 + i ≡ at.end + suc i = omega arith in
       let other_one : at.b1 + 1 + i ≡ at.b1 + suc i = omega arith in
       ap (λ n. get_or places n 0) one ∙ copied (suc i) (omega arith) ∙ ap (λ n. get_or reference.places.now n 0) (sym other_one)) in
@@ -211,7 +212,7 @@ module _ (reference : PlacedRow) (places : List ℕ) where
         goes_on = record {
           positions = placed_position reference.width places (under reference at) ∷ more.goes_on.positions;
           steps = (
-            unfinished_below (placed_pels reference) at.reached.a0 (omega (arith, len)),
+            unfinished_below (placed_pels reference) at.reached.a0 (omega (arith, here.unfinished, len)),
             spells.0,
             record { mode = Vertical (pos 0); after = spells.0; taken = spells.1; step = (vertical, refl) },
             more.goes_on.steps,
@@ -220,9 +221,9 @@ module _ (reference : PlacedRow) (places : List ℕ) where
         chosen = record {
           positions = placed_position reference.width places (under reference at) ∷ more.chosen.positions;
           steps = (
-            omega (arith, len),
+            omega (arith, here.unfinished, len),
             spells.0,
-            under_chosen so_far unfinished spells.1 vertical,
+            under_chosen here spells.1 vertical,
             more.chosen.steps,
           );
         };
@@ -305,20 +306,19 @@ ones_are_spelled law (suc k) rest = (replicate k true ++ rest, one_is_taken law 
 -- the reference row
 pub several_read : (reference : PlacedRow) (places new : List ℕ) (at : PlacedReached) (more : ℕ) (colour : Colour)
     (b first rest : List Bool) → ModeBitsAreRead → Takes modes b (Vertical (pos 0)) first → first ≡ replicate more true ++ rest
-    → IsReadTo reference places at → reached_pel at.reached < reference.width
-    → at.b1 + (more + 1) ≤ reference.end → length new ≡ length places → take at.end new ≡ take at.end places
+    → IsReadInside reference places at → at.b1 + (more + 1) ≤ reference.end → length new ≡ length places → take at.end new ≡ take at.end places
     → ((i : ℕ) → i < (more + 1) → get_or new (at.end + i) 0 ≡ get_or reference.places.now (at.b1 + i) 0)
     → colour ≡ alternate Black (at.b1 + (more + 1))
     → IsReadOn reference places new at
     (placed (get_or reference.places.now (at.b1 + (more + 1) - 1) 0) colour (at.end + (more + 1)) (at.b1 + (more + 1))) b rest
-several_read reference places new at more colour b first rest law taken ones so_far unfinished inside len kept copied is =
+several_read reference places new at more colour b first rest law taken ones here inside len kept copied is =
     let spells = subst (λ c. Spells modes c (replicate more (Vertical (pos 0))) rest) (sym ones) (ones_are_spelled law more rest) in
     let one : suc more ≡ more + 1 = omega arith in
     let again = subst (λ n. Spells modes b (replicate n (Vertical (pos 0))) rest) one (first, taken, spells) in
-    let all = all_under reference new ((more + 1)) at b rest again (so_far_kept reference places new at so_far len kept)
-    unfinished inside copied in
+    let all = all_under reference new ((more + 1)) at b rest again
+    (record { so_far = so_far_kept reference places new at here.so_far len kept; unfinished = here.unfinished }) inside copied in
     let next_is = ap (λ c. placed (get_or reference.places.now (at.b1 + (more + 1) - 1) 0) c (at.end + (more + 1)) (at.b1 + (more + 1))) is
-    ∙ under_all_as ((more + 1)) reference at (omega arith) (so_far.b1 unfinished).colour_is in
+    ∙ under_all_as ((more + 1)) reference at (omega arith) (here.so_far.b1 here.unfinished).colour_is in
     let from = ap (λ ps. position_of at.reached (pels_by reference.width ps)) kept in
     subst (λ next. IsReadOn reference places new at next b rest) (sym next_is) (record {
       steps = subst (λ old. GoesOn (placed_pels reference) old b
@@ -330,15 +330,15 @@ several_read reference places new at more colour b first rest law taken ones so_
 
 -- or by that step alone
 pub one_read : (reference : PlacedRow) (places new : List ℕ) (at next : PlacedReached) (b rest : List Bool)
-    → Takes modes b (Vertical (pos 0)) rest → IsReadTo reference places at → reached_pel at.reached < reference.width
+    → Takes modes b (Vertical (pos 0)) rest → IsReadInside reference places at
     → IsVerticalStep (placed_pels reference) (placed_position reference.width places at) (pos 0) (placed_position reference.width new next)
     → IsReadTo reference new next → IsReadOn reference places new at next b rest
-one_read reference places new at next b rest taken so_far unfinished vertical read =
+one_read reference places new at next b rest taken here vertical read =
     let position = placed_position reference.width new next in
     record {
-      steps = step_goes_on reference places at unfinished b position rest
+      steps = step_goes_on here b position rest
           (record { mode = Vertical (pos 0); after = rest; taken = taken; step = (vertical, refl) });
-      chosen = chosen_goes_on reference places at unfinished b position rest
-          (under_chosen so_far unfinished taken vertical);
+      chosen = chosen_goes_on here b position rest
+          (under_chosen here taken vertical);
       so_far = read;
     }

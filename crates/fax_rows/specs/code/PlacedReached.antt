@@ -27,6 +27,11 @@ pub record IsReadTo (reference : PlacedRow) (places : List ℕ) (at : PlacedReac
   pub b1 : reached_pel at.reached < reference.width
       → IsB1At reference at.reached.a0 at.reached.colour at.b1
 
+-- this is so, and the row is not at its end
+pub record IsReadInside (reference : PlacedRow) (places : List ℕ) (at : PlacedReached) : Type 0 where
+  pub so_far : IsReadTo reference places at
+  pub unfinished : reached_pel at.reached < reference.width
+
 -- the bits begin with steps that T.4 chooses, over which the row is read on
 pub record IsReadOn (reference : PlacedRow) (old new : List ℕ) (at next : PlacedReached)
     (b rest : List Bool) : Type 0 where

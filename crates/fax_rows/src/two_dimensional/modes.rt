@@ -16,7 +16,7 @@ ghost use Rattle.fax_rows.specs.code.Stop.{IsStopOf};
 ghost use Rattle.fax_rows.specs.code.Put.{ArePut, HasRoom};
 ghost use Rattle.fax_rows.specs.code.Turns.{row_of};
 ghost use Rattle.fax_rows.specs.code.Reached.{reached_pel};
-ghost use Rattle.fax_rows.specs.code.PlacedReached.{placed_position, IsReadTo};
+ghost use Rattle.fax_rows.specs.code.PlacedReached.{placed_position, IsReadTo, IsReadInside};
 
 use super::choices::{chooses_a1, chooses_b2, chooses_runs, is_taken};
 use super::codes::{Stop, next_mode, two_runs};
@@ -36,8 +36,7 @@ fn horizontal<const CHOICE: bool, const EXACT: bool>(
     places: &mut [u32],
     at: PlacedReached,
 ) -> Result<PlacedReached, Stop>
-    requires so_far { IsReadTo reference places.old at }
-    requires unfinished { reached_pel at.reached < reference.width }
+    requires inside { IsReadInside reference places.old at }
     ensures ok { IfOk result (λ next. Spec.IsHorizontalStep (placed_pels reference.entry)
         (placed_position reference.entry.width places.old at) source.old.left
         (placed_position reference.entry.width places.new next) source.new.left) }
@@ -73,8 +72,7 @@ fn vertical<const CHOICE: bool, const EXACT: bool>(
     at: PlacedReached,
     d: i8,
 ) -> Result<PlacedReached, Stop>
-    requires so_far { IsReadTo reference places.old at }
-    requires unfinished { reached_pel at.reached < reference.width }
+    requires inside { IsReadInside reference places.old at }
     ensures ok { IfOk result (λ next. Spec.IsVerticalStep (placed_pels reference.entry)
         (placed_position reference.entry.width places.old at) d
         (placed_position reference.entry.width places.new next)) }
@@ -109,8 +107,7 @@ fn pass<const CHOICE: bool, const EXACT: bool>(
     places: &[u32],
     at: PlacedReached,
 ) -> Result<PlacedReached, Stop>
-    requires so_far { IsReadTo reference places.now at }
-    requires unfinished { reached_pel at.reached < reference.width }
+    requires inside { IsReadInside reference places.now at }
     ensures ok { let from = placed_position reference.entry.width places.now at in
         IfOk result (λ next. placed_position reference.entry.width places.now next
         ≡ Spec.coloured_up_to from (b2_from (placed_pels reference.entry) from)) }
@@ -137,8 +134,7 @@ fn next_steps<const CHOICE: bool, const EXACT: bool>(
     places: &mut [u32],
     at: PlacedReached,
 ) -> Result<PlacedReached, Stop>
-    requires so_far { IsReadTo reference places.old at }
-    requires unfinished { reached_pel at.reached < reference.width }
+    requires inside { IsReadInside reference places.old at }
     ensures ok { IfOk result (λ next. Chosen.GoesOn (placed_pels reference.entry)
         (placed_position reference.entry.width places.old at) source.old.left
         (placed_position reference.entry.width places.new next) source.new.left) }

@@ -11,7 +11,7 @@ ghost use Rattle.fax_rows.specs.code.Chosen.{after_pair};
 ghost use Rattle.fax_rows.specs.code.PlacedRow.{placed_pels, IsB1At};
 ghost use Rattle.fax_rows.specs.code.Reached.{reached_pel, position_of};
 ghost use Rattle.fax_rows.specs.code.Put.{HasRoom};
-ghost use Rattle.fax_rows.specs.code.PlacedReached.{placed_position, IsReadTo};
+ghost use Rattle.fax_rows.specs.code.PlacedReached.{placed_position, IsReadTo, IsReadInside};
 
 use crate::rows::PlacedRow;
 use crate::runs::other;
@@ -103,8 +103,7 @@ impl PlacedReached {
 /// Pass mode: goes on to the pel below b2 (T.4, section 4.2.1.3.2).
 #[inline(always)]
 pub(crate) fn under_b2(reference: PlacedRow, places: &[u32], at: PlacedReached) -> PlacedReached
-    requires so_far { IsReadTo reference places.now at }
-    requires unfinished { reached_pel at.reached < reference.width }
+    requires inside { IsReadInside reference places.now at }
     ensures step { let from = placed_position reference.entry.width places.now at in
         placed_position reference.entry.width places.now result
         ≡ Spec.coloured_up_to from (b2_from (placed_pels reference.entry) from) }
@@ -130,8 +129,7 @@ fn turned_at(
     a1: u32,
     b1: usize,
 ) -> PlacedReached
-    requires so_far { IsReadTo reference places.old at }
-    requires unfinished { reached_pel at.reached < reference.width }
+    requires inside { IsReadInside reference places.old at }
     requires right { Spec.a0_number (position_of at.reached []) <ℤ pos a1 }
     requires within { a1 ≤ reference.width }
     requires b1 { a1 < reference.width
@@ -157,8 +155,7 @@ fn turned_at(
 /// section 4.2.1.3.2). The next b1 is the reference row's next changing element.
 #[inline(always)]
 pub(crate) fn under_b1(reference: PlacedRow, places: &mut [u32], at: PlacedReached) -> PlacedReached
-    requires so_far { IsReadTo reference places.old at }
-    requires unfinished { reached_pel at.reached < reference.width }
+    requires inside { IsReadInside reference places.old at }
     ensures step { Spec.IsVerticalStep (placed_pels reference.entry)
         (placed_position reference.entry.width places.old at) (pos 0)
         (placed_position reference.entry.width places.new result) }
@@ -176,8 +173,7 @@ pub(crate) fn right_of_b1(
     at: PlacedReached,
     d: i8,
 ) -> Option<PlacedReached>
-    requires so_far { IsReadTo reference places.old at }
-    requires unfinished { reached_pel at.reached < reference.width }
+    requires inside { IsReadInside reference places.old at }
     requires right { pos 0 ≤ℤ d }
     ensures step { IfSome result (λ next. Spec.IsVerticalStep (placed_pels reference.entry)
         (placed_position reference.entry.width places.old at) d
@@ -204,8 +200,7 @@ pub(crate) fn left_of_b1(
     at: PlacedReached,
     d: i8,
 ) -> Option<PlacedReached>
-    requires so_far { IsReadTo reference places.old at }
-    requires unfinished { reached_pel at.reached < reference.width }
+    requires inside { IsReadInside reference places.old at }
     requires left { d ≤ℤ negsuc 0 }
     ensures step { IfSome result (λ next. Spec.IsVerticalStep (placed_pels reference.entry)
         (placed_position reference.entry.width places.old at) d
@@ -230,8 +225,7 @@ pub(crate) fn after_runs(
     first: u32,
     second: u32,
 ) -> PlacedReached
-    requires so_far { IsReadTo reference places.old at }
-    requires unfinished { reached_pel at.reached < reference.width }
+    requires inside { IsReadInside reference places.old at }
     requires within { reached_pel at.reached + first + second ≤ reference.width }
     ensures step { (b middle rest : List Bool) → IsRun at.reached.colour b first middle
         → IsRun (other_than at.reached.colour) middle second rest

@@ -16,22 +16,22 @@ pub returns-in-Vertical-clause-ok : goal.returns-in-Vertical-clause-ok
 returns-in-Vertical-clause-ok g c =
     let takes = rw c.in-Vertical.is at c.in_ok-mode.ensures.ok in
     map_ok c.vertical.result c.vertical.ensures.ok
-    (λ next step. vertical_goes_on c.args.reference c.args.places.now c.args.at c.requires.unfinished c.args.source.now.left _
+    (λ next step. vertical_goes_on c.requires.inside c.args.source.now.left _
     c.next_mode.new.source.left c.in-Vertical.d _ takes step (search rules))
 
 pub returns-in-Vertical-clause-chosen : goal.returns-in-Vertical-clause-chosen
 returns-in-Vertical-clause-chosen g c =
     let takes = rw c.in-Vertical.is at c.in_ok-mode.ensures.ok in
     map_both c.vertical.result c.vertical.ensures.ok c.vertical.ensures.left
-    (λ next step left asked. chosen_goes_on c.args.reference c.args.places.now c.args.at c.requires.unfinished c.args.source.now.left _
+    (λ next step left asked. chosen_goes_on c.requires.inside c.args.source.now.left _
     c.next_mode.new.source.left
-    (vertical_chosen_as c.requires.so_far c.requires.unfinished takes step (left asked) (search rules)))
+    (vertical_chosen_as c.requires.inside takes step (left asked) (search rules)))
 
 pub returns-in-Pass-clause-ok : goal.returns-in-Pass-clause-ok
 returns-in-Pass-clause-ok g c =
     let takes = rw c.in-Pass.is at c.in_ok-mode.ensures.ok in
     map_ok c.pass.result c.pass.ensures.ok
-    (λ next step. step_goes_on c.args.reference c.args.places.now c.args.at c.requires.unfinished c.args.source.now.left _
+    (λ next step. step_goes_on c.requires.inside c.args.source.now.left _
     c.next_mode.new.source.left
     (record { mode = Pass; after = c.next_mode.new.source.left; taken = takes; step = (step, refl) }))
 
@@ -39,20 +39,20 @@ pub returns-in-Pass-clause-chosen : goal.returns-in-Pass-clause-chosen
 returns-in-Pass-clause-chosen g c =
     let takes = rw c.in-Pass.is at c.in_ok-mode.ensures.ok in
     map_both c.pass.result c.pass.ensures.ok c.pass.ensures.inside
-    (λ next step inside asked. chosen_goes_on c.args.reference c.args.places.now c.args.at c.requires.unfinished c.args.source.now.left _
+    (λ next step inside asked. chosen_goes_on c.requires.inside c.args.source.now.left _
     c.next_mode.new.source.left
-    (pass_chosen c.requires.so_far c.requires.unfinished takes step (omega (arith, length-placed_pels c.args.reference, inside asked))))
+    (pass_chosen c.requires.inside takes step (omega (arith, length-placed_pels c.args.reference, inside asked))))
 
 pub returns-in-Horizontal-clause-ok : goal.returns-in-Horizontal-clause-ok
 returns-in-Horizontal-clause-ok g c =
     let takes = rw c.in-Horizontal.is at c.in_ok-mode.ensures.ok in
     map_ok c.horizontal.result c.horizontal.ensures.ok
-    (λ next step. step_goes_on c.args.reference c.args.places.now c.args.at c.requires.unfinished c.args.source.now.left _ c.horizontal.new.source.left
+    (λ next step. step_goes_on c.requires.inside c.args.source.now.left _ c.horizontal.new.source.left
     (record { mode = Horizontal; after = c.next_mode.new.source.left; taken = takes; step = step }))
 
 pub returns-in-Horizontal-clause-chosen : goal.returns-in-Horizontal-clause-chosen
 returns-in-Horizontal-clause-chosen g c =
     let takes = rw c.in-Horizontal.is at c.in_ok-mode.ensures.ok in
     map_ok c.horizontal.result c.horizontal.ensures.chosen
-    (λ next chosen is. chosen_goes_on c.args.reference c.args.places.now c.args.at c.requires.unfinished c.args.source.now.left _ c.horizontal.new.source.left
-    (pair_chosen c.requires.so_far c.requires.unfinished takes (chosen is)))
+    (λ next chosen is. chosen_goes_on c.requires.inside c.args.source.now.left _ c.horizontal.new.source.left
+    (pair_chosen c.requires.inside takes (chosen is)))

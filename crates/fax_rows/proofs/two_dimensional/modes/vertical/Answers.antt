@@ -7,11 +7,11 @@ use Rattle.fax_rows.proofs.two_dimensional.modes.vertical.Goals as goal
 pub returns-then-d-lt0-clause-left : goal.returns-then-d-lt0-clause-left
 returns-then-d-lt0-clause-left g c =
     rw c.ok_or.ensures.value (map_found c.left_of_b1.result _ c.left_of_b1.ensures.step
-    (λ next step is. left_of_b2 c.requires.so_far c.requires.unfinished
+    (λ next step is. left_of_b2 c.requires.inside
     (to_z w8 (of_z w8 c.args.d)) (placed_position c.args.reference.width c.left_of_b1.new.places next) step
     (omega (arith, ints, c.if-d-lt0.true))))
 
 pub returns-then-d-eq0-clause-left : goal.returns-then-d-eq0-clause-left
 returns-then-d-eq0-clause-left g c is =
-    left_of_b2 c.requires.so_far c.requires.unfinished (pos 0)
+    left_of_b2 c.requires.inside (pos 0)
     (placed_position c.args.reference.width c.under_b1.new.places c.under_b1.result) c.under_b1.ensures.step (omega (arith, ints))

@@ -5,13 +5,13 @@ use Rattle.fax_rows.proofs.PlacedStepLemmas.{read_put, room_left, pair_placed, h
 use Rattle.fax_rows.proofs.two_dimensional.steps.after_runs.Goals as goal
 
 pub turn_after-between-requires-clause-room : goal.turn_after-between-requires-clause-room
-turn_after-between-requires-clause-room c = omega (arith, room_left c.requires.so_far c.requires.unfinished)
+turn_after-between-requires-clause-room c = omega (arith, room_left c.requires.inside)
 
 pub turn_after-end-requires-clause-room : goal.turn_after-end-requires-clause-room
 turn_after-end-requires-clause-room c =
     omega (
       arith,
-      more_room (put_on (read_put c.requires.so_far c.requires.unfinished) c.turn_after-between.ensures (omega (arith, c.requires.within))),
+      more_room (put_on (read_put c.requires.inside) c.turn_after-between.ensures (omega (arith, c.requires.within))),
     )
 
 pub returns-clause-step : goal.returns-clause-step
@@ -19,7 +19,7 @@ returns-clause-step c = λ b middle rest run another.
     let turns = rw c.first_pel.ensures at c.turn_after-between.ensures in
     let again = rw c.first_pel.ensures at c.turn_after-end.ensures in
     rw c.first_pel.ensures
-    (horizontal_placed c.requires.so_far c.requires.unfinished c.args.first c.args.second c.b1_after.result run another
+    (horizontal_placed c.requires.inside c.args.first c.args.second c.b1_after.result run another
     c.requires.within turns again)
 
 pub returns-clause-so_far : goal.returns-clause-so_far
@@ -28,10 +28,10 @@ returns-clause-so_far c =
     let turns = rw from at c.turn_after-between.ensures in
     let again = rw from at c.turn_after-end.ensures in
     rw from
-    (horizontal_so_far c.requires.so_far c.requires.unfinished c.args.first c.args.second c.requires.within turns again
+    (horizontal_so_far c.requires.inside c.args.first c.args.second c.requires.within turns again
     (λ h. rw (← from)
     (c.b1_after.ensures (omega (arith, from)) c.args.at.reached.colour
-    (same_start c.args.reference c.args.at.reached.a0 c.args.at.reached.colour c.args.at.b1 _ (c.requires.so_far.b1 c.requires.unfinished)
+    (same_start c.args.reference c.args.at.reached.a0 c.args.at.reached.colour c.args.at.b1 _ (c.requires.inside.so_far.b1 c.requires.inside.unfinished)
     (omega (arith, from))))))
 
 pub returns-clause-placed : goal.returns-clause-placed
@@ -39,4 +39,4 @@ returns-clause-placed c =
     let turns = rw c.first_pel.ensures at c.turn_after-between.ensures in
     let again = rw c.first_pel.ensures at c.turn_after-end.ensures in
     rw c.first_pel.ensures
-    (pair_placed c.requires.so_far c.requires.unfinished c.args.first c.args.second c.b1_after.result c.requires.within turns again)
+    (pair_placed c.requires.inside c.args.first c.args.second c.b1_after.result c.requires.within turns again)

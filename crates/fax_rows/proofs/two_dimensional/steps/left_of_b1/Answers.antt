@@ -6,18 +6,18 @@ use Rattle.fax_rows.proofs.PlacedStepLemmas.{b1_in_room, number_right, under_wit
 use Rattle.fax_rows.proofs.two_dimensional.steps.left_of_b1.Goals as goal
 
 pub bounds-reference-at : goal.bounds-reference-at
-bounds-reference-at c = omega (arith, b1_in_room c.requires.so_far c.requires.unfinished)
+bounds-reference-at c = omega (arith, b1_in_room c.requires.inside)
 
 pub turned_at-requires-clause-within : goal.turned_at-requires-clause-within
 turned_at-requires-clause-within c =
-    let within = under_within c.requires.so_far c.requires.unfinished in
+    let within = under_within c.requires.inside in
     omega (arith, ints, within, c.in_ok-place.ensures.place, c.requires.left.le)
 
 pub turned_at-requires-clause-b1 : goal.turned_at-requires-clause-b1
 turned_at-requires-clause-b1 c = λ h.
     let at = c.args.at in
     c.b1_before-b1.ensures (other at.reached.colour)
-    (left_start c.args.reference at.reached.a0 at.reached.colour at.b1 _ (c.requires.so_far.b1 c.requires.unfinished)
+    (left_start c.args.reference at.reached.a0 at.reached.colour at.b1 _ (c.requires.inside.so_far.b1 c.requires.inside.unfinished)
     (number_right at.reached _ c.in_ok-place.ensures.right))
 
 pub returns-clause-step : goal.returns-clause-step
@@ -26,5 +26,5 @@ returns-clause-step c = c.turned_at.ensures.step c.args.d (omega (arith, ints, c
 pub returns-in_err-place-clause-out : goal.returns-in_err-place-clause-out
 returns-in_err-place-clause-out c =
     rw c.from_residual.ensures (λ in_row.
-    let begins = row_begins c.requires.so_far c.requires.unfinished c.args.d in_row in
+    let begins = row_begins c.requires.inside c.args.d in_row in
     omega (arith, ints, begins, c.in_err-place.ensures.none))

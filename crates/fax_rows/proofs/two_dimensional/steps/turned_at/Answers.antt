@@ -4,16 +4,16 @@ use Rattle.fax_rows.proofs.PlacedStepLemmas.{room_left, from_start, number_right
 use Rattle.fax_rows.proofs.two_dimensional.steps.turned_at.Goals as goal
 
 pub turn_right-end-requires-clause-room : goal.turn_right-end-requires-clause-room
-turn_right-end-requires-clause-room c = omega (arith, room_left c.requires.so_far c.requires.unfinished)
+turn_right-end-requires-clause-room c = omega (arith, room_left c.requires.inside)
 
 pub returns-clause-step : goal.returns-clause-step
 returns-clause-step c = λ d a1_is.
-    vertical_placed c.requires.so_far c.requires.unfinished d _ a1_is
+    vertical_placed c.requires.inside d _ a1_is
     (from_start c.args.at.reached) c.requires.right (omega (arith, ints, c.requires.within))
     c.turn_right-end.new.places c.turn_right-end.result c.args.b1 c.other.result c.turn_right-end.ensures c.other.ensures
 
 pub returns-clause-so_far : goal.returns-clause-so_far
 returns-clause-so_far c =
-    turned_so_far c.requires.so_far c.requires.unfinished
+    turned_so_far c.requires.inside
     (right_after_first c.args.at.reached.a0 c.args.a1 (number_right c.args.at.reached c.args.a1 c.requires.right)) c.requires.within
     c.turn_right-end.ensures c.requires.b1 c.other.ensures

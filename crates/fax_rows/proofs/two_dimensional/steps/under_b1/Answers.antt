@@ -5,17 +5,17 @@ use Rattle.fax_rows.proofs.PlacedStepLemmas.{b1_in_room, under_right, under_with
 use Rattle.fax_rows.proofs.two_dimensional.steps.under_b1.Goals as goal
 
 pub bounds-reference-at : goal.bounds-reference-at
-bounds-reference-at c = omega (arith, b1_in_room c.requires.so_far c.requires.unfinished)
+bounds-reference-at c = omega (arith, b1_in_room c.requires.inside)
 
 pub turned_at-requires-clause-right : goal.turned_at-requires-clause-right
-turned_at-requires-clause-right c = under_right c.requires.so_far c.requires.unfinished
+turned_at-requires-clause-right c = under_right c.requires.inside
 
 pub turned_at-requires-clause-within : goal.turned_at-requires-clause-within
-turned_at-requires-clause-within c = under_within c.requires.so_far c.requires.unfinished
+turned_at-requires-clause-within c = under_within c.requires.inside
 
 pub turned_at-requires-clause-b1 : goal.turned_at-requires-clause-b1
 turned_at-requires-clause-b1 c = λ h.
-    b1_next c.args.reference (c.requires.so_far.b1 c.requires.unfinished) h
+    b1_next c.args.reference (c.requires.inside.so_far.b1 c.requires.inside.unfinished) h
 
 pub returns-clause-step : goal.returns-clause-step
 returns-clause-step c = c.turned_at.ensures.step (pos 0) (omega (arith, ints))
