@@ -7,7 +7,7 @@ ghost use Rattle.fax_page.specs.Strip as Spec;
 ghost use Rattle.fax_page.specs.views.Strip.{IsNotesFault, IsStripForm};
 ghost use Rattle.fax_page.specs.code.Notes as Code;
 
-use crate::lines::{read_eol, read_line, read_start, stop};
+use crate::lines::{line_fault, read_eol, read_line, read_start, stop};
 use crate::writer::put_codes;
 use crate::{Coding, Dimension, StripFault, StripForm};
 use fax_rows::{BitSink, BitSource, Memory, Row, RowFault, read_1d_choice, read_2d_choice};
@@ -146,13 +146,15 @@ impl<'a> NotedStrip<'a> {
         ensures same_form { self.new.form ≡ self.old.form }
     {
         if self.not_t4_choice {
-            if let Err(fault) = read_line(
+            let start = self.source.again();
+            if let Err(why) = read_line(
                 &mut self.source,
                 self.form,
                 i,
                 &self.reference,
                 &mut self.row,
             ) {
+                let fault = line_fault(start, self.form, i, why);
                 return Err(NotesFault::Strip { row: i, fault });
             }
         } else {
