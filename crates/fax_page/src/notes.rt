@@ -2,7 +2,7 @@
 ghost use Rattle.std.specs.Prelude.{◌≡◌, ◌≤◌, List, length, IfOk, IfErr, IsTrue, OnOk};
 ghost use Rattle.fax_bits.specs.Bits.{bits};
 ghost use Rattle.fax_bits.specs.declared.Colour.{Colour};
-ghost use Rattle.fax_page.specs.Lines.{IsRowFaultIn, IsRowIn};
+ghost use Rattle.fax_page.specs.Lines.{IsCause, IsLine, IsRowFaultIn, IsRowIn};
 ghost use Rattle.fax_page.specs.Strip as Spec;
 ghost use Rattle.fax_page.specs.views.Strip.{IsNotesFault, IsStripForm};
 ghost use Rattle.fax_page.specs.code.Notes as Code;
@@ -133,6 +133,33 @@ impl<'a> NotedStrip<'a> {
         Ok(self.sink.begins(&codes))
     }
 
+    /// Reads row `i` into `row`, of which nothing is said after a fault, and asks nothing of its
+    /// codes. It stands apart: what it keeps for a fault would be put on the stack at each row.
+    #[inline(never)]
+    fn read_unasked(&mut self, i: u32) -> Result<(), StripFault>
+        requires { Code.IsNoting self.old }
+        ensures ok { OnOk result (IsLine self.old.form i self.old.reference
+            self.old.source.left self.new.row self.new.source.left) }
+        ensures err { IfErr result
+            (IsCause self.old.form i self.old.reference self.old.source.left) }
+        ensures same_width { length self.new.row ≡ length self.old.row }
+        ensures same_reference { self.new.reference ≡ self.old.reference }
+        ensures same_form { self.new.form ≡ self.old.form }
+        ensures same_choice { self.new.not_t4_choice ≡ self.old.not_t4_choice }
+    {
+        let start = self.source.again();
+        match read_line(
+            &mut self.source,
+            self.form,
+            i,
+            &self.reference,
+            &mut self.row,
+        ) {
+            Ok(()) => Ok(()),
+            Err(why) => Err(line_fault(start, self.form, i, why)),
+        }
+    }
+
     /// Reads row `i`, the one that is due. Once the codes of a row are others than T.4 chooses, rows
     /// are only read.
     fn read_row(&mut self, i: u32) -> Result<(), NotesFault>
@@ -146,15 +173,7 @@ impl<'a> NotedStrip<'a> {
         ensures same_form { self.new.form ≡ self.old.form }
     {
         if self.not_t4_choice {
-            let start = self.source.again();
-            if let Err(why) = read_line(
-                &mut self.source,
-                self.form,
-                i,
-                &self.reference,
-                &mut self.row,
-            ) {
-                let fault = line_fault(start, self.form, i, why);
+            if let Err(fault) = self.read_unasked(i) {
                 return Err(NotesFault::Strip { row: i, fault });
             }
         } else {

@@ -1,4 +1,4 @@
-use Rattle.std.proofs.Common.{rules, refl}
+use Rattle.std.proofs.Common.{rules}
 use Rattle.fax_page.proofs.NotesLemmas.{line_compared, line_only_read}
 use Rattle.fax_page.proofs.notes.NotedStrip.read_row.Goals.{then-self+in_default, else-self+in_ok-chosen}
 use Rattle.fax_page.proofs.notes.NotedStrip.read_row.Goals as goal
@@ -9,14 +9,9 @@ returns-clause-ok c =
     rw c.swap.ensures.x_after
     (elim c.if-self.branch [
       | then-self+in_default w ↦
-          rw w.self-is (line_only_read old.form c.args.i old.reference w.read_line.new.row old.source.left w.read_line.new.source.left
+          rw (w.self-is, w.in_default.ensures.same_choice) (line_only_read old.form c.args.i old.reference w.read_unasked.new.self.row old.source.left w.read_unasked.new.self.source.left
           old.not_t4_choice w.if-self.true w.in_default.ensures.ok)
       | else-self+in_ok-chosen w ↦
           rw w.self-is (line_compared old.form c.args.i old.reference w.read_choice.new.self.row old.source.left w.read_choice.new.self.source.left
           old.not_t4_choice w.in_ok-chosen.chosen w.if-self.false w.in_ok-chosen.ensures.ok)
     ])
-
-pub returns-in-Err-clause-err : goal.returns-in-Err-clause-err
-returns-in-Err-clause-err c =
-    let old = c.args.self.now in
-    (refl, rw (c.again-start.ensures) at (c.line_fault-fault.ensures old.reference (rw (c.again-start.ensures) c.in-Err.ensures.err)))
