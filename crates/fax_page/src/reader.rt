@@ -31,8 +31,8 @@ pub struct StripReader<'a> {
 }
 
 impl<'a> Model for StripReader<'a> {
-    ghost use Rattle.fax_page.specs.views.Reader.{StripState};
-    ghost use Rattle.fax_page.specs.code.Reader.{IsReading, rows_read};
+    ghost use Rattle.fax_page.specs.views.Reader.{StripState, rows_read};
+    ghost use Rattle.fax_page.specs.code.Reader.{IsReading};
 
     ghost Value = { StripState };
 

@@ -1,5 +1,5 @@
 -- A strip that is read row by row.
-use Rattle.std.specs.Prelude.{◌≡◌, ℕ, ◌+◌, ◌-◌, ◌*◌, ◌≤◌, List, min}
+use Rattle.std.specs.Prelude.{◌≡◌, ℕ, ◌*◌, ◌≤◌, List}
 use Rattle.std.specs.Prelude.{length, Option, None}
 use Rattle.fax_bits.specs.declared.Colour.{Colour}
 use Rattle.fax_bits.specs.views.Source.{Source, source_of}
@@ -7,14 +7,10 @@ use Rattle.fax_page.specs.declared.StripForm.{StripForm}
 use Rattle.fax_page.specs.declared.StripFault.{StripFault}
 use Rattle.fax_page.specs.views.Strip.{IsStripForm}
 
--- how many rows were read, where so many were read before this strip was begun at a row of it, up to
--- the greatest number of 64 bits
-abbrev pub rows_read : ℕ → ℕ → ℕ → ℕ
-rows_read before begun row = min (before + (row - begun)) 18446744073709551615
-
--- the form is within the limits, the bytes can be read, the reference and the row to come have its width, the row that is
--- due is none before the one that was begun at, and none after its last, the place lies in the bytes, and until a fault was met the source stands where
--- the row that is due begins
+-- the form is within the limits, the bytes can be read, the reference and the row to come have its
+-- width, the row that is due is none before the one that was begun at and none after the last, the
+-- place lies in the bytes, and until a fault was met the source stands where the row that is due
+-- begins
 pub record IsReading (form : StripForm) (bytes : List ℕ) (source : Source) (place begun row : ℕ)
     (reference next : List Colour) (fault : Option StripFault) : Type 0 where
   pub limits : IsStripForm form
