@@ -1,9 +1,11 @@
 -- Zeros before a row.
-use Rattle.std.proofs.Common.{◌≡◌, ℕ, ◌+◌, ◌-◌, ◌≤◌, List, ◌∷◌, ◌++◌, length, replicate, Bool, true, false, ap, sym, ◌∙◌, arith}
+use Rattle.std.proofs.Common.{◌≡◌, ℕ, ◌+◌, ◌-◌, ◌≤◌, List, ◌∷◌, ◌++◌, length, drop, replicate, Bool, true, false, ap, sym, ◌∙◌, arith}
 use Rattle.std.proofs.Common.{append_assoc}
+use Rattle.std.proofs.Math.Seq.{drop-append-add}
 use Rattle.std.proofs.lemmas.List.{replicate-append-replicate, length-replicate}
 use Rattle.fax_bits.specs.Bits.{IsAllZeros}
 use Rattle.fax_bits.specs.views.Source.{HasZerosAhead}
+use Rattle.fax_page.specs.Lines.{IsEndOfLine}
 
 -- so many zeros begin with fewer
 replicate-split : (n m : ℕ) → n ≤ m → replicate m false ≡ replicate n false ++ replicate (m - n) false
@@ -25,3 +27,14 @@ pub eleven_alone : (b : List Bool) → 11 ≤ length b → IsAllZeros b → (aft
 eleven_alone b enough all =
     let zeros : length b ≡ all.0 = ap length all.1 ∙ length-replicate all.0 false in
     (replicate (all.0 - 11) false, all.1 ∙ replicate-split 11 all.0 (omega arith))
+
+-- an EOL, after whose 1 the rest stands
+pub eol_before : (b rest : List Bool) (zeros : ℕ) → 11 ≤ zeros → HasZerosAhead b zeros → rest ≡ drop (zeros + 1) b → IsEndOfLine b rest
+eol_before b rest zeros enough ahead rest_is =
+    let after = ahead.0 in
+    let front = replicate zeros false in
+    let count : zeros + 1 ≡ length front + 1 = ap (λ n. n + 1) (sym (length-replicate zeros false)) in
+    let is : rest ≡ after =
+    rest_is ∙ ap (λ (c : List Bool). drop (zeros + 1) c) ahead.1 ∙ ap (λ n. drop n (front ++ true ∷ after)) count
+    ∙ drop-append-add front (true ∷ after) 1 in
+    (zeros, enough, ahead.1 ∙ ap (λ (c : List Bool). front ++ true ∷ c) (sym is))

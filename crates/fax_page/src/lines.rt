@@ -1,9 +1,11 @@
 //! A row of a strip: what stands before its codes, and its codes.
-ghost use Rattle.std.specs.Prelude.{◌≡◌, ◌<◌, ◌∷◌, [], length, OnOk, IfOk, IfErr};
+ghost use Rattle.std.specs.Prelude.{◌≡◌, ◌<◌, ◌∷◌, [], List, length, OnOk, IfOk, IfErr};
+ghost use Rattle.fax_bits.specs.declared.Colour.{Colour};
 ghost use Rattle.fax_bits.specs.views.Source.{KeepsEnd};
 ghost use Rattle.fax_page.specs.Lines as Lines;
 ghost use Rattle.fax_page.specs.code.Starts.{HasEol, HasNoEol, IsFirstCodeFault, IsStop};
 ghost use Rattle.fax_page.specs.code.Starts.{IsStarted, IsStartFault};
+ghost use Rattle.fax_page.specs.code.LineStops.{IsLineStop};
 
 use crate::{Coding, Dimension, StripFault, StripForm};
 use fax_rows::{BitSource, Row, RowFault, read_1d, read_2d};
@@ -21,8 +23,9 @@ pub(crate) fn read_eol(source: &mut BitSource, may_lack: bool) -> Result<(), Str
     match source.zeros() {
         None => Err(StripFault::DataEnds),
         Some(zeros) if zeros >= EOL_ZEROS => {
-            source.skip(zeros);
-            source.skip(1);
+            let left = source.remaining();
+            prove!(zeros < left);
+            source.skip(zeros + 1);
             Ok(())
         }
         Some(_) if may_lack => Ok(()),
@@ -124,6 +127,13 @@ fn read_codes(
     }
 }
 
+/// Why a row could not be read: before its codes, or in them.
+#[derive(Clone, Copy)]
+pub(crate) enum LineStop {
+    Start(StripFault),
+    Codes(RowFault),
+}
+
 /// Reads row `i` of a strip into `row`, of which nothing is said after a fault. Its reference is
 /// the row before it, or white before the first.
 #[inline(always)]
@@ -133,20 +143,39 @@ pub(crate) fn read_line(
     i: u32,
     reference: &Row,
     row: &mut Row,
-) -> Result<(), StripFault>
+) -> Result<(), LineStop>
     requires reference_width { length reference.now ≡ form.width }
     requires width { length row.old ≡ form.width }
     requires some_pels { 0 < form.width }
     ensures ok { OnOk result
         (Lines.IsLine form i reference.now source.old.left row.new source.new.left) }
-    ensures err { IfErr result (λ fault. Lines.IsCause form i reference.now source.old.left fault) }
+    ensures err { IfErr result (λ stop. IsLineStop form i reference.now source.old.left stop) }
     ensures same_width { length row.new ≡ length row.old }
     ensures same_end { KeepsEnd source.old source.new }
 {
-    let dimension = read_start(source, form.coding, i)?;
-    let codes = source.again();
+    let dimension = match read_start(source, form.coding, i) {
+        Ok(dimension) => dimension,
+        Err(fault) => return Err(LineStop::Start(fault)),
+    };
     match read_codes(source, dimension, reference, row) {
         Ok(()) => Ok(()),
-        Err(cause) => Err(stop(&codes, cause)),
+        Err(cause) => Err(LineStop::Codes(cause)),
+    }
+}
+
+/// The fault of row `i`, which begins at this source and could not be read. What stands before its
+/// codes is read once more here, so that no row keeps the place of its codes for a fault.
+#[cold]
+#[inline(never)]
+pub(crate) fn line_fault(mut start: BitSource, form: StripForm, i: u32, why: LineStop) -> StripFault
+    ensures { (reference : List Colour) → IsLineStop form i reference start.entry.left why
+        → Lines.IsCause form i reference start.entry.left result }
+{
+    match why {
+        LineStop::Start(fault) => fault,
+        LineStop::Codes(cause) => match read_start(&mut start, form.coding, i) {
+            Ok(_dimension) => stop(&start, cause),
+            Err(fault) => fault,
+        },
     }
 }

@@ -2,12 +2,12 @@
 ghost use Rattle.std.specs.Prelude.{◌≡◌, ◌<◌, ◌≤◌, ◌^◌, List, length, IfOk, IfErr, IsTrue, OnOk};
 ghost use Rattle.fax_bits.specs.Bits.{bits};
 ghost use Rattle.fax_bits.specs.declared.Colour.{Colour};
-ghost use Rattle.fax_page.specs.Lines.{IsRowFaultIn, IsRowIn};
+ghost use Rattle.fax_page.specs.Lines.{IsCause, IsLine, IsRowFaultIn, IsRowIn};
 ghost use Rattle.fax_page.specs.Strip as Spec;
 ghost use Rattle.fax_page.specs.views.Strip.{IsNotesFault, IsStripForm};
 ghost use Rattle.fax_page.specs.code.Notes as Code;
 
-use crate::lines::{read_eol, read_line, read_start, stop};
+use crate::lines::{line_fault, read_eol, read_line, read_start, stop};
 use crate::writer::put_codes;
 use crate::{Coding, Dimension, FillOrder, StripFault, StripForm};
 use fax_rows::{BitSink, BitSource, Memory, Row, RowFault, read_1d_choice, read_2d_choice};
@@ -139,6 +139,33 @@ impl<'a> NotedStrip<'a> {
         Ok(rows.sink.begins(&codes))
     }
 
+    /// Reads row `i` into `row`, of which nothing is said after a fault, and asks nothing of its
+    /// codes. It stands apart: what it keeps for a fault would be put on the stack at each row.
+    #[inline(never)]
+    fn read_unasked(&mut self, rows: &mut NotedRows, i: u32) -> Result<(), StripFault>
+        requires { Code.IsNoting self.old rows.old }
+        ensures ok { OnOk result (IsLine self.old.form i rows.old.reference
+            self.old.source.left rows.new.row self.new.source.left) }
+        ensures err { IfErr result
+            (IsCause self.old.form i rows.old.reference self.old.source.left) }
+        ensures same_width { length rows.new.row ≡ length rows.old.row }
+        ensures same_reference { rows.new.reference ≡ rows.old.reference }
+        ensures same_form { self.new.form ≡ self.old.form }
+        ensures same_choice { self.new.not_t4_choice ≡ self.old.not_t4_choice }
+    {
+        let start = self.source.again();
+        match read_line(
+            &mut self.source,
+            self.form,
+            i,
+            &rows.reference,
+            &mut rows.row,
+        ) {
+            Ok(()) => Ok(()),
+            Err(why) => Err(line_fault(start, self.form, i, why)),
+        }
+    }
+
     /// Reads row `i`, the one that is due. Once the codes of a row are others than T.4 chooses, rows
     /// are only read.
     fn read_row(&mut self, rows: &mut NotedRows, i: u32) -> Result<(), NotesFault>
@@ -152,13 +179,7 @@ impl<'a> NotedStrip<'a> {
         ensures same_form { self.new.form ≡ self.old.form }
     {
         if self.not_t4_choice {
-            if let Err(fault) = read_line(
-                &mut self.source,
-                self.form,
-                i,
-                &rows.reference,
-                &mut rows.row,
-            ) {
+            if let Err(fault) = self.read_unasked(rows, i) {
                 return Err(NotesFault::Strip { row: i, fault });
             }
         } else {

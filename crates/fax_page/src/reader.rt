@@ -2,7 +2,7 @@
 ghost use Rattle.std.specs.Prelude.{◌≡◌, ◌*◌, ◌<◌, ◌≤◌, length, IfOk, IfSome};
 ghost use Rattle.std.specs.Borrow.{sem};
 
-use crate::lines::read_line;
+use crate::lines::{line_fault, read_line};
 use crate::{StripFault, StripForm};
 use fax_bits::laws::bits_stand_by_place;
 use fax_rows::{BitSource, Memory, Row};
@@ -21,7 +21,9 @@ pub struct StripReader<'a> {
     form: StripForm,
     place: u64,
     row: u32,
-    read: u64,
+    /// How many rows were read before the strip was begun, and at which of its rows that was.
+    read_before: u64,
+    begun: u32,
     reference: Row,
     /// Where the row that is due is read to.
     next: Row,
@@ -29,7 +31,7 @@ pub struct StripReader<'a> {
 }
 
 impl<'a> Model for StripReader<'a> {
-    ghost use Rattle.fax_page.specs.views.Reader.{StripState};
+    ghost use Rattle.fax_page.specs.views.Reader.{StripState, rows_read};
     ghost use Rattle.fax_page.specs.code.Reader.{IsReading};
 
     ghost Value = { StripState };
@@ -39,13 +41,13 @@ impl<'a> Model for StripReader<'a> {
       bytes = r.bytes.now;
       place = r.place;
       row = r.row;
-      read = r.read;
+      read = rows_read r.read_before r.begun r.row;
       reference = r.reference;
       fault = r.fault;
     } };
 
     ghost invariant = { λ r.
-        IsReading r.form r.bytes.now r.source r.place r.row r.reference r.next r.fault };
+        IsReading r.form r.bytes.now r.source r.place r.begun r.row r.reference r.next r.fault };
 }
 
 impl<'a> StripReader<'a> {
@@ -73,7 +75,8 @@ impl<'a> StripReader<'a> {
             form,
             place: 0,
             row: 0,
-            read: 0,
+            read_before: 0,
+            begun: 0,
             reference,
             next,
             fault: None,
@@ -89,10 +92,12 @@ impl<'a> StripReader<'a> {
         requires few { rows ≤ 1000000 }
         ensures { self.new ≡ restarted self.old bytes.now rows }
     {
+        self.read_before = self.rows_read();
         self.bytes = bytes;
         self.source = BitSource::new(bytes, self.form.order);
         self.form.rows = rows;
         self.place = 0;
+        self.begun = 0;
         self.row = 0;
         self.reference.whiten();
         self.fault = None;
@@ -113,10 +118,12 @@ impl<'a> StripReader<'a> {
         bits_stand_by_place();
         let mut source = BitSource::new(bytes, self.form.order);
         source.skip(bits);
+        self.read_before = self.rows_read();
         self.bytes = bytes;
         self.source = source;
         self.form.rows = rows;
         self.place = bits;
+        self.begun = row;
         self.row = row;
         self.reference.set_from(reference);
         self.fault = None;
@@ -128,6 +135,7 @@ impl<'a> StripReader<'a> {
     ///
     /// Why the row that is due could not be read. Every later call answers the same, until
     /// `restart` or `restart_at`.
+    #[inline(never)]
     pub fn advance(&mut self) -> Result<bool, StripFault>
         ensures { IsAdvance self.old result self.new }
     {
@@ -149,10 +157,12 @@ impl<'a> StripReader<'a> {
                 swap(&mut self.reference, &mut self.next);
                 self.place = self.source.place();
                 self.row += 1;
-                self.read = self.read.saturating_add(1);
                 Ok(true)
             }
-            Err(fault) => {
+            Err(why) => {
+                let mut start = BitSource::new(self.bytes, self.form.order);
+                start.skip(self.place);
+                let fault = line_fault(start, self.form, self.row, why);
                 self.fault = Some(fault);
                 Err(fault)
             }
@@ -209,6 +219,7 @@ impl<'a> StripReader<'a> {
     pub fn rows_read(&self) -> u64
         ensures { result ≡ self.now.read }
     {
-        self.read
+        self.read_before
+            .saturating_add(u64::from(self.row - self.begun))
     }
 }

@@ -82,7 +82,7 @@ fn read_on(
 }
 
 /// Reads the runs of a row: a white run and the black one after it mostly by one look-up.
-#[inline(never)]
+#[inline(always)]
 fn read_runs(source: &mut BitSource, places: &mut [u32], width: u32) -> Result<Runs, RowFault>
     requires some { 0 < width }
     requires short { width < 2 ^ 16 }
@@ -146,6 +146,7 @@ pub fn read_1d(source: &mut BitSource, row: &mut Row) -> Result<(), RowFault>
 /// # Errors
 ///
 /// As for `read_1d`.
+#[inline(never)]
 pub fn read_1d_choice(source: &mut BitSource, row: &mut Row) -> Result<bool, RowFault>
     ensures ok { OnOk result
         (IsOneDimensionalRow (length row.old) source.old.left row.new source.new.left) }

@@ -279,6 +279,7 @@ module _ (old page : PageState) (keeps : KeepsPlace old page) where
       subst (λ (i : RowItem). IsRow page.directory.file (place_of page) (goes_on i (place_of new))) item_is
       (subst (λ (t : RowPlace). IsRow page.directory.file (place_of page) (goes_on item t)) (sym after) step) in
       record {
+        due = subst (λ (f : PageForm). row_of old < f.rows) same.form (rw keeps.row at (row_below page limits strip_is due));
         same = record { page = same.page; form = same.form; first = same.first; directory = same.directory };
         still_open = record { no_fault = reads.still_no_fault; first = rw (same.first, same.form) is_open.first };
         step = subst (λ (d : TiffDirectory). IsRow d.file (place_of old) (goes_on its_item (place_of new))) same.directory
@@ -352,9 +353,8 @@ module _ (old now new : PageState) (items : List RowItem) (skips : HasSkipped ol
     few = omega (arith, count_on, before, skips.rows, reads.next_row, same_on.first);
   }
 
-  pub row_given : IsFilePage new.page new.chain new.directory new.form → row_of now < now.form.rows → new.first < row_of new
-      → new.read < 2 ^ 53 → GivesRow old new
-  row_given its due past few =
+  pub row_given : IsFilePage new.page new.chain new.directory new.form → new.first < row_of new → new.read < 2 ^ 53 → GivesRow old new
+  row_given its past few =
       let count : length items ≡ skipped old = omega (arith, past, skips.few, skips.rows, reads.next_row, same_on.first) in
       let item_is : its_item ≡ item_of old (row_of old + skipped old) new =
       rw (← skips.same.page, ← count, skips.rows, skips.same.form) refl in
@@ -369,7 +369,7 @@ module _ (old now new : PageState) (items : List RowItem) (skips : HasSkipped ol
         count = count;
         item_is = item_is;
         here = rw (same_on.directory, same_on.form, reads.same.page) at (its.here (row_of now));
-        within = subst (λ (f : PageForm). row_of now < f.rows) skips.same.form due;
+        within = subst (λ (f : PageForm). row_of now < f.rows) skips.same.form reads.due;
         after = reads.after ∙ ap (λ (f : PageForm). place_over f its_item) skips.same.form;
         next_row = omega (arith, reads.next_row, skips.rows, count);
         read = omega (arith, reads.one_more, skips.read, count);

@@ -1,5 +1,5 @@
 -- A walk that goes on, or ends.
-use Rattle.std.proofs.Common.{◌≡◌, ℕ, ◌+◌, ◌-◌, ◌^◌, ◌<◌, ◌≤◌, ◌⊎◌, inl, inr, true, List, [], ◌∷◌, ◌++◌, length, drop, Option, Some}
+use Rattle.std.proofs.Common.{◌≡◌, ℕ, ◌+◌, ◌-◌, ◌<◌, ◌≤◌, ◌⊎◌, inl, inr, true, List, [], ◌∷◌, ◌++◌, length, drop, Option, Some}
 use Rattle.std.proofs.Common.{None, Ok, Err, refl, sym, ap, ◌∙◌, subst, arith, length-append, length-drop, append_assoc, append-nil}
 use Rattle.std.proofs.lemmas.Bool.{cases_lt}
 use Rattle.std.proofs.lemmas.List.{drop_all}
@@ -32,7 +32,7 @@ use Rattle.fax_walk.specs.declared.end.WalkFault.{WalkFault}
 use Rattle.fax_walk.specs.declared.end.WalkFault.TheVariants.{Memory as NoMemory, AtRow, CursorOutside}
 use Rattle.fax_walk.specs.code.Walk.{IsAdvance, answer_of, GoesOnFrom, HasCome, HasEndedOn, HasReadTo, IsAfterItem, IsEntered, IsOpenOrNone}
 use Rattle.fax_walk.specs.code.Walk.{IsOpenedFirst}
-use Rattle.fax_walk.specs.code.Walk.{IsReadNext, IsSound, ShowsLast, StandsAt}
+use Rattle.fax_walk.specs.code.Walk.{IsDueOn, IsReadNext, IsShown, IsSound, StandsAt, cursor_on}
 use Rattle.fax_walk.proofs.InOrderLemmas.{IsListed, joined, leads_both, number_dropped}
 use Rattle.fax_walk.proofs.OpenPageLemmas.{at_end}
 use Rattle.fax_walk.proofs.RowLawLemmas.{LinesAreRead, cases_after, rows_listed}
@@ -95,8 +95,7 @@ module _ (file : List ℕ) (begun : Begun) (given : ℕ) (cursor : Cursor) where
   pub entered : (old : Option PageState) (page : PageState) → IsEntered file begun old (Ok tt) (Some page)
       → GoesOnFrom file begun given cursor old → GoesOnFrom file begun given cursor (Some page)
   entered None page first from = goes_first page from first
-  entered (Some old) page (inl (due, same)) from = rw same from
-  entered (Some old) page (inr (all, opened)) from = goes_next old page from all opened
+  entered (Some old) page (all, opened) from = goes_next old page from all opened
 
   -- there is none
   pub refused : (old new : Option PageState) (end : End) → IsEntered file begun old (Err (Ended end)) new
@@ -143,13 +142,21 @@ refused_next file begun old new Memory is =
     (same_page file begun 0 (begun_cursor begun) old new is, λ given cursor from. enters file begun given cursor old new is from)
 refused_next file begun old new (Ended end) is = λ given cursor from. refused file begun given cursor old new end is from
 
+-- the same, where the walk goes on from a page that it had open at first, or that has a row which is due
+pub refused_later : (file : List ℕ) (begun : Begun) (first on new : Option PageState) (fault : OpenFault)
+    → IsEntered file begun on (Err fault) new → (on ≡ first) ⊎ IsDueOn on → IsReadNext file begun first (Err fault) new
+refused_later file begun first on new fault is (inl same) =
+    subst (λ (p : Option PageState). IsReadNext file begun p (Err fault) new) same (refused_next file begun on new fault is)
+refused_later file begun first None new fault is (inr due) = absurd due
+refused_later file begun first (Some on) new fault is (inr due) = absurd (omega (arith, is.0, due))
+
 -- the page that was entered has a row that is due
-pub entered_open : (file : List ℕ) (begun : Begun) (old : Option PageState) (page : PageState) → IsEntered file begun old (Ok tt)
-    (Some page)
-    → IsOpenOrNone old → IsOpen page × (row_of page < page.form.rows)
-entered_open file begun None page first is_open = (first.from.opened.is_open, first.from.opened.row_due)
-entered_open file begun (Some old) page (inl (due, same)) is_open = rw same (is_open, due)
-entered_open file begun (Some old) page (inr (all, opened)) is_open = (opened.is_open, opened.row_due)
+pub entered_open : (file : List ℕ) (begun : Begun) (old new : Option PageState) → IsEntered file begun old (Ok tt) new
+    → IsOpenOrNone new × IsDueOn new
+entered_open file begun None (Some page) first = (first.from.opened.is_open, first.from.opened.row_due)
+entered_open file begun (Some old) (Some page) (all, opened) = (opened.is_open, opened.row_due)
+entered_open file begun None None none = absurd none
+entered_open file begun (Some old) None none = absurd none
 
 module _ (by_place : AreBitsByPlace) (lines_read : LinesAreRead) (chains : FilesHaveOneChain) (file : List ℕ) (begun : Begun) (given : ℕ)
     (cursor : Cursor) where
@@ -197,51 +204,50 @@ module _ (by_place : AreBitsByPlace) (lines_read : LinesAreRead) (chains : Files
         let one = ap (λ (l : List RowItem). length l) gives.items_are ∙ length-append gives.front (gives.item ∷ []) in
         length-append come.items gives.items ∙ omega (arith, come.count, one, gives.count, gives.read)
 
-    module _ (after : Cursor) (after_is : after ≡ record { page = new.page; row = row_of new }) where
-      last : IsAfterItem file begun (given + 1) after (place_of new)
-      last = record {
-        before = given;
-        item = gives.item;
-        count = refl;
-        number = number;
-        within = subst (λ (f : PageForm). gives.item.row < f.rows) (sym form_same) gives.within;
-        cursor_is =
-            let rows : row_of new ≡ gives.item.row + 1 = gives.next_row ∙ ap (λ (i : RowItem). i.row + 1) (sym gives.item_is) in
-            let pages : new.page ≡ gives.item.page = gives.same.page ∙ ap (λ (i : RowItem). i.page) (sym gives.item_is) in
-            after_is ∙ rw (rows, pages) refl;
-        to_is = gives.after ∙ ap (λ (f : PageForm). place_over f gives.item) (sym form_same);
-      }
-        where
-          form_same : gives.item.form ≡ old.form
-          form_same = ap (λ (i : RowItem). i.form) gives.item_is
+    last : IsAfterItem file begun (given + 1) (cursor_on new) (place_of new)
+    last = record {
+      before = given;
+      item = gives.item;
+      count = refl;
+      number = number;
+      within = subst (λ (f : PageForm). gives.item.row < f.rows) (sym form_same) gives.within;
+      cursor_is =
+          let rows : row_of new ≡ gives.item.row + 1 = gives.next_row ∙ ap (λ (i : RowItem). i.row + 1) (sym gives.item_is) in
+          let pages : new.page ≡ gives.item.page = gives.same.page ∙ ap (λ (i : RowItem). i.page) (sym gives.item_is) in
+          rw (rows, pages) refl;
+      to_is = gives.after ∙ ap (λ (f : PageForm). place_over f gives.item) (sym form_same);
+    }
+      where
+        form_same : gives.item.form ≡ old.form
+        form_same = ap (λ (i : RowItem). i.form) gives.item_is
 
-      pub gone_on : GoesOnFrom file begun (given + 1) after (Some new) × ShowsLast file begun (given + 1) after (Some new)
-      unfolding last
-      gone_on = (
-        (
-          gives.still_open,
-          record {
-            file_is = ap (λ (d : TiffDirectory). d.file) gives.same.directory ∙ reads.file_is;
-            come = record {
-              first = come.first;
-              dropped = come.dropped;
-              begins = come.begins;
-              items = all;
-              lead = lead;
-              count = all_count;
-              total = omega (arith, come.total, gives.read, none_left);
-              none_left = λ some. none_left;
-            };
-            stands = inr last;
-            named = λ some. absurd (omega (arith, some, none_left));
-          },
-        ),
+    pub gone_on : GoesOnFrom file begun (given + 1) (cursor_on new) (Some new) × IsShown file begun (given + 1) (cursor_on new) new
+    unfolding last
+    gone_on = (
+      (
+        gives.still_open,
         record {
-          last = last;
-          pels = ap (λ (i : RowItem). i.pels) gives.item_is;
-          few = omega (arith, come.total, gives.read, gives.few);
+          file_is = ap (λ (d : TiffDirectory). d.file) gives.same.directory ∙ reads.file_is;
+          come = record {
+            first = come.first;
+            dropped = come.dropped;
+            begins = come.begins;
+            items = all;
+            lead = lead;
+            count = all_count;
+            total = omega (arith, come.total, gives.read, none_left);
+            none_left = λ some. none_left;
+          };
+          stands = inr last;
+          named = λ some. absurd (omega (arith, some, none_left));
         },
-      )
+      ),
+      record {
+        last = last;
+        pels = ap (λ (i : RowItem). i.pels) gives.item_is;
+        few = omega (arith, come.total, gives.read, gives.few);
+      },
+    )
 
 -- the rows end before the next one that is handed out
 module _ (file : List ℕ) (begun : Begun) (given : ℕ) (cursor : Cursor) (old new : PageState) (end : End)
@@ -503,11 +509,6 @@ pub open_or_none : (file : List ℕ) (begun : Begun) (given : ℕ) (cursor : Cur
     → GoesOnFrom file begun given cursor page → IsOpenOrNone page
 open_or_none _ _ given cursor None from = tt
 open_or_none _ _ given cursor (Some page) from = from.0
-
-pub few_more : (file : List ℕ) (begun : Begun) (given : ℕ) (cursor : Cursor) (page : Option PageState)
-    → ShowsLast file begun (given + 1) cursor page → given + 1 < 2 ^ 53
-few_more _ _ given cursor None shows = absurd (omega (arith, shows))
-few_more _ _ given cursor (Some page) shows = shows.few
 
 -- the rows have ended so
 pub advance_ends : (old new : WalkView) (end : End) → HasEndedAs IsTailFrom old end new → IsAdvance old (answer_of end) new

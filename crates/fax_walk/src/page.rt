@@ -234,7 +234,7 @@ impl<'a> OpenPage<'a> {
     }
 
     /// Whether all rows of the page are read.
-    pub(crate) fn is_read(&self) -> bool
+    fn is_read(&self) -> bool
         ensures read { result ≡ true → row_of self.now ≡ self.now.form.rows }
         ensures due { result ≡ false → row_of self.now < self.now.form.rows }
     {
@@ -299,6 +299,8 @@ impl<'a> OpenPage<'a> {
     }
 
     /// Goes to the next strip, or answers how the rows end where it lies outside the file.
+    #[cold]
+    #[inline(never)]
     fn next_strip(&mut self) -> Result<(), End>
         requires open { Spec.IsOpen self.old }
         requires all_read { self.old.strip.row ≡ self.old.strip.form.rows }
@@ -330,11 +332,11 @@ impl<'a> OpenPage<'a> {
         }
     }
 
-    /// Reads the row that is due, or answers how the rows end there.
-    fn advance(&mut self) -> Result<(), End>
-        requires open { Spec.IsOpen self.old }
-        requires due { row_of self.old < self.old.form.rows }
-        ensures ok { OnOk result (Spec.ReadsPageRow self.old self.new) }
+    /// Reads the row that is due, and answers whether there was one, or how the rows end there.
+    #[inline(always)]
+    fn advance(&mut self) -> Result<bool, End>
+        requires { Spec.IsOpen self.old }
+        ensures ok { IfOk result (λ some. Spec.ReadsRowOrNone some self.old self.new) }
         ensures keeps { OnErr result (Spec.KeepsPlace self.old self.new) }
         ensures err { IfErr result (Spec.StopsAtRow self.old) }
     {
@@ -342,8 +344,10 @@ impl<'a> OpenPage<'a> {
             match self.strip.advance() {
                 Ok(true) => {
                     self.exchange();
-                    return Ok(());
+                    return Ok(true);
                 }
+                // Only here it is asked whether the page is read, and not at each row.
+                Ok(false) if self.is_read() => return Ok(false),
                 Ok(false) => self.next_strip()?,
                 Err(fault) => {
                     return Err(End::Fault {
@@ -356,17 +360,20 @@ impl<'a> OpenPage<'a> {
         }
     }
 
-    /// Reads on to the next row that is handed out, or answers how the rows end before it.
-    pub(crate) fn next(&mut self) -> Result<(), End>
-        requires open { Spec.IsOpen self.old }
-        requires due { row_of self.old < self.old.form.rows }
-        ensures ok { OnOk result (Spec.GivesRow self.old self.new) }
+    /// Reads on to the next row that is handed out, and answers whether there was one, or how the
+    /// rows end before it.
+    #[inline(always)]
+    pub(crate) fn next(&mut self) -> Result<bool, End>
+        requires { Spec.IsOpen self.old }
+        ensures ok { IfOk result (λ some. Spec.GivesRowOrNone some self.old self.new) }
         ensures err { IfErr result (λ end. Spec.GivesNone self.old end self.new) }
     {
         'rows: loop {
-            self.advance()?;
+            if !self.advance()? {
+                return Ok(false);
+            }
             if self.due() > self.first {
-                return Ok(());
+                return Ok(true);
             }
         }
     }

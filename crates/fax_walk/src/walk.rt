@@ -116,40 +116,29 @@ fn open_due<'a>(
     Ok(())
 }
 
-/// Opens the page of the row that is due, where it is not open.
-fn enter<'a>(
-    alloc: Global,
-    file: &'a [u8],
-    begun: &Begun,
-    page: &mut Option<OpenPage<'a>>,
-) -> Result<(), OpenFault>
-    ensures { Spec.IsEntered file.now begun.now page.old result page.new }
-{
-    match &*page {
-        Some(open) if !open.is_read() => Ok(()),
-        _ => open_due(alloc, file, begun, page),
-    }
-}
-
-/// Reads the next row that is handed out, and answers the cursor after it.
+/// Reads the next row that is handed out. Where the page that is open has no more, the next one is
+/// opened.
+#[inline(always)]
 fn go_on<'a>(
     alloc: Global,
     file: &'a [u8],
     begun: &Begun,
     page: &mut Option<OpenPage<'a>>,
-) -> Result<Cursor, OpenFault>
+) -> Result<(), OpenFault>
     requires { Spec.IsOpenOrNone page.old }
     ensures { Spec.IsReadNext file.now begun.now page.old result page.new }
 {
     fax_bits::laws::bits_stand_by_place();
     fax_page::laws::lines_are_read_in_one_way();
     fax_files::laws::files_have_one_chain();
-    enter(alloc, file, begun, page)?;
-    let Some(page) = page else {
-        unreachable!();
-    };
-    page.next()?;
-    Ok(page.cursor())
+    'pages: loop {
+        if let Some(open) = page {
+            if open.next()? {
+                return Ok(());
+            }
+        }
+        open_due(alloc, file, begun, page)?;
+    }
 }
 
 impl<'a> Walk<'a> {
@@ -260,6 +249,7 @@ impl<'a> Walk<'a> {
     /// # Errors
     ///
     /// As `next_row`.
+    #[inline(always)]
     fn advance(&mut self) -> Result<bool, WalkFault>
         ensures { Spec.IsAdvance self.old result self.new }
     {
@@ -267,8 +257,11 @@ impl<'a> Walk<'a> {
             return end.answer();
         }
         match go_on(self.alloc, self.file, &self.begun, &mut self.page) {
-            Ok(cursor) => {
-                self.cursor = cursor;
+            Ok(()) => {
+                let Some(page) = &self.page else {
+                    unreachable!();
+                };
+                self.cursor = page.cursor();
                 self.given += 1;
                 Ok(true)
             }
@@ -287,6 +280,7 @@ impl<'a> Walk<'a> {
     ///
     /// `Memory` where a growth was refused: the walk is as it was. `AtRow` at the fault that ends
     /// the rows, `CursorOutside` where the walk began at no place of the file, from then on.
+    #[inline(always)]
     pub fn next_row(&mut self) -> Result<Option<(Place, &Row)>, WalkFault>
         ensures* next { sem 𝓛 (EndsAs self.entry (IsNext self.old result)) }
     {

@@ -7,14 +7,17 @@ use Rattle.fax_page.specs.declared.StripForm.{StripForm}
 use Rattle.fax_page.specs.declared.StripFault.{StripFault}
 use Rattle.fax_page.specs.views.Strip.{IsStripForm}
 
--- the form is within the limits, the reference and the row to come have its width, no row after
--- its last is due, the place lies in the bytes, and until a fault was met the source stands where
--- the row that is due begins
-pub record IsReading (form : StripForm) (bytes : List ℕ) (source : Source) (place row : ℕ)
+-- the form is within the limits, the bytes can be read, the reference and the row to come have its
+-- width, the row that is due is none before the one that was begun at and none after the last, the
+-- place lies in the bytes, and until a fault was met the source stands where the row that is due
+-- begins
+pub record IsReading (form : StripForm) (bytes : List ℕ) (source : Source) (place begun row : ℕ)
     (reference next : List Colour) (fault : Option StripFault) : Type 0 where
   pub limits : IsStripForm form
   pub width : length reference ≡ form.width
   pub next_width : length next ≡ form.width
+  pub count : length bytes ≤ 4294967295
+  pub begun_before : begun ≤ row
   pub within : row ≤ form.rows
   pub placed : place ≤ 8 * length bytes
   pub at_row : fault ≡ None → source ≡ source_of form.order bytes place

@@ -1,5 +1,5 @@
 -- A strip that is read row by row.
-use Rattle.std.specs.Prelude.{◌≡◌, ℕ, ◌+◌, ◌*◌, ◌<◌, ◌≤◌, ◌⊎◌, min, Bool, true, false, List}
+use Rattle.std.specs.Prelude.{◌≡◌, ℕ, ◌+◌, ◌-◌, ◌*◌, ◌<◌, ◌≤◌, ◌⊎◌, min, Bool, true, false, List}
 use Rattle.std.specs.Prelude.{length, drop, Option, Some, None, Result, Ok, Err}
 use Rattle.fax_bits.specs.declared.Colour.{Colour}
 use Rattle.fax_bits.specs.Bits.{bits}
@@ -59,6 +59,11 @@ restarted_at old bytes rows i place reference = record {
 -- a count of rows and one more, up to the greatest number of 64 bits
 abbrev pub counted : ℕ → ℕ
 counted read = min (read + 1) 18446744073709551615
+
+-- how many rows were read, where so many were read before this strip was begun at a row of it, up to
+-- the greatest number of 64 bits
+abbrev pub rows_read : ℕ → ℕ → ℕ → ℕ
+rows_read before begun row = min (before + (row - begun)) 18446744073709551615
 
 -- the row that was due is read, and the next one is due
 pub record ReadsRow (old new : StripState) : Type 0 where

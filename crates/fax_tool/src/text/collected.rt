@@ -24,6 +24,9 @@ impl Model for Collected {
     ghost invariant = { λ text. text.end ≤ vec_len text.bytes };
 }
 
+/// How many bytes of room are made at least, so that few lines have to make some.
+const LEAST_ROOM: usize = 4096;
+
 /// Makes room for so many bytes after a text that ends here.
 pub(crate) fn make_room(bytes: &mut Vec<u8>, end: usize, more: usize) -> Result<(), Memory>
     requires { end ≤ vec_len bytes.old }
@@ -34,7 +37,7 @@ pub(crate) fn make_room(bytes: &mut Vec<u8>, end: usize, more: usize) -> Result<
     if bytes.len() - end >= more {
         return Ok(());
     }
-    let len = end.checked_add(more).ok_or(Memory)?;
+    let len = end.checked_add(more.max(LEAST_ROOM)).ok_or(Memory)?;
     bytes.resize(len, 0).map_err(|_| Memory)
 }
 

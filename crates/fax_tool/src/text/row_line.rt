@@ -50,7 +50,19 @@ fn write_two(bytes: &mut [u8], at: usize, number: u32)
     bytes[at + 1] = ones;
 }
 
+/// Writes a number at a place, and answers where it ends.
+#[inline(never)]
+fn write_any(bytes: &mut [u8], at: usize, number: u32) -> usize
+    requires { at + length (decimal number) ≤ length bytes.old }
+    ensures written { take result bytes.new ≡ take at bytes.old ++ decimal number }
+    ensures end { result ≡ at + length (decimal number) }
+{
+    let mut digits = Buffer::new();
+    write_bytes(bytes, at, digits.format(number).as_bytes())
+}
+
 /// Writes a number of three digits or more at a place, and answers where it ends.
+#[inline(always)]
 #[tactic(auto, using(crate::proofs::NumberLemmas::lengths))]
 fn write_digits(bytes: &mut [u8], at: usize, number: u32) -> usize
     requires long { 100 ≤ number }
@@ -68,8 +80,7 @@ fn write_digits(bytes: &mut [u8], at: usize, number: u32) -> usize
         write_two(bytes, at + 2, number % 100);
         return at + 4;
     }
-    let mut digits = Buffer::new();
-    write_bytes(bytes, at, digits.format(number).as_bytes())
+    write_any(bytes, at, number)
 }
 
 /// Writes a blank and a number at a place, and answers where they end.

@@ -1,5 +1,5 @@
 -- A page that is open, and what it is to read on in it.
-use Rattle.std.specs.Prelude.{◌≡◌, ℕ, ◌+◌, ◌-◌, ◌*◌, ◌^◌, ◌<◌, ◌≤◌, ◌⊎◌, false, true, List, length}
+use Rattle.std.specs.Prelude.{◌≡◌, ℕ, ◌+◌, ◌-◌, ◌*◌, ◌^◌, ◌<◌, ◌≤◌, ◌⊎◌, Bool, false, true, List, length}
 use Rattle.std.specs.Prelude.{Option}
 use Rattle.std.specs.Prelude.{Some, None, Ok, ⊤, [], ◌∷◌, ◌++◌}
 use Rattle.fax_bits.specs.declared.Colour.{Colour}
@@ -186,6 +186,7 @@ pub record IsNextStrip (old new : PageState) : Type 0 where
 
 -- the row that was due was read
 pub record ReadsPageRow (old new : PageState) : Type 0 where
+  pub due : row_of old < old.form.rows
   pub same : IsSamePage old new
   pub still_open : IsOpen new
   pub step : IsRow old.directory.file (place_of old)
@@ -193,6 +194,11 @@ pub record ReadsPageRow (old new : PageState) : Type 0 where
   pub next_row : row_of new ≡ row_of old + 1
   pub one_more : new.read ≡ old.read + 1
   pub after : place_of new ≡ place_over old.form (item_of old (row_of old) new)
+
+-- the row that was due was read, or all rows were read before
+abbrev pub ReadsRowOrNone : Bool → PageState → PageState → Type 0
+ReadsRowOrNone true old new = ReadsPageRow old new
+ReadsRowOrNone false old new = (row_of old ≡ old.form.rows) × (new ≡ old)
 
 -- the row that was due could not be read
 pub record StopsAtRow (old : PageState) (end : End) : Type 0 where
@@ -225,6 +231,11 @@ pub record GivesRow (old new : PageState) : Type 0 where
   pub next_row : row_of new ≡ row_of old + skipped old + 1
   pub read : new.read ≡ old.read + skipped old + 1
   pub few : new.read < 2 ^ 53
+
+-- the next row that is handed out was read, or all rows were read before
+abbrev pub GivesRowOrNone : Bool → PageState → PageState → Type 0
+GivesRowOrNone true old new = GivesRow old new
+GivesRowOrNone false old new = (row_of old ≡ old.form.rows) × (new ≡ old)
 
 -- the rows end before the next one that is handed out: some before it were read
 pub record GivesNone (old : PageState) (end : End) (new : PageState) : Type 0 where

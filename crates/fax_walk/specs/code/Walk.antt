@@ -1,5 +1,5 @@
 -- How far a walk has come.
-use Rattle.std.specs.Prelude.{◌≡◌, ℕ, ◌+◌, ◌^◌, ◌<◌, ◌⊎◌, Bool, true, false, List, [], length}
+use Rattle.std.specs.Prelude.{◌≡◌, ℕ, ◌+◌, ◌-◌, ◌^◌, ◌<◌, ◌⊎◌, Bool, true, false, List, [], length}
 use Rattle.std.specs.Prelude.{Option}
 use Rattle.std.specs.Prelude.{Some, None, Result, Ok, Err, ⊤}
 use Rattle.fax_walk.specs.declared.begun.Begun.{Begun}
@@ -44,17 +44,24 @@ abbrev pub IsReadOrNone : Option PageState → Type 0
 IsReadOrNone None = ⊤
 IsReadOrNone (Some page) = row_of page ≡ page.form.rows
 
--- the page of the row that is due was opened, or was open, or there is none
+-- a page is open that has rows which are not read
+abbrev pub IsDueOn : Option PageState → Type 0
+IsDueOn None = ⊥
+IsDueOn (Some page) = row_of page < page.form.rows
+
+-- how many pages are opened before the next row is read
+abbrev pub pages_to_open : Option PageState → ℕ
+pages_to_open None = 1
+pages_to_open (Some page) = 1 - (page.form.rows - row_of page)
+
+-- the page of the row that is due was opened, or there is none
 abbrev pub IsEntered : List ℕ → Begun → Option PageState → Result Unit OpenFault → Option PageState
     → Type 0
-IsEntered file begun None (Ok tt) (Some new) =
-    IsOpenedFirst file begun new
+IsEntered file begun None (Ok tt) (Some new) = IsOpenedFirst file begun new
 IsEntered file begun None (Err fault) new =
     IsRefusal (HasNoRows file begun) fault × (new ≡ None)
 IsEntered file begun (Some old) (Ok tt) (Some new) =
-    ((row_of old < old.form.rows) × (new ≡ old))
-    ⊎ ((row_of old ≡ old.form.rows)
-    × IsOpenedAt old.directory.file (place_of old) 0 old.read new)
+    (row_of old ≡ old.form.rows) × IsOpenedAt old.directory.file (place_of old) 0 old.read new
 IsEntered file begun (Some old) (Err fault) new =
     (row_of old ≡ old.form.rows)
     × IsRefusal (λ end. IsRow old.directory.file (place_of old) (ends_as end)) fault
@@ -125,12 +132,18 @@ HasEndedOn file begun given cursor (Some page) end =
     HasReadTo file begun given cursor page × IsRow file (place_of page) (ends_as end)
     × ((skipped page ≡ 0) ⊎ EndsBefore end (begun_cursor begun))
 
+-- the cursor of the row that is due on a page
+abbrev pub cursor_on : PageState → Cursor
+cursor_on page = record { page = page.page; row = row_of page }
+
 -- what a walk that handed out so many rows reads next: item number `given`, or how the rows end
-abbrev pub IsReadNext : List ℕ → Begun → Option PageState → Result Cursor OpenFault
+abbrev pub IsReadNext : List ℕ → Begun → Option PageState → Result Unit OpenFault
     → Option PageState → Type 0
-IsReadNext file begun old (Ok after) new =
+IsReadNext file begun old (Ok done) None = ⊥
+IsReadNext file begun old (Ok done) (Some new) =
     (given : ℕ) (cursor : Cursor) → GoesOnFrom file begun given cursor old
-    → GoesOnFrom file begun (given + 1) after new × ShowsLast file begun (given + 1) after new
+    → GoesOnFrom file begun (given + 1) (cursor_on new) (Some new)
+    × IsShown file begun (given + 1) (cursor_on new) new
 IsReadNext file begun old (Err NoMemory) new =
     (new ≡ old)
     × ((given : ℕ) (cursor : Cursor) → GoesOnFrom file begun given cursor old

@@ -1,32 +1,48 @@
+use Rattle.std.proofs.Common.{◌≡◌, ◌∙◌, Some, ap, inl, refl, sym}
 use Rattle.std.proofs.lemmas.Result.{err_from_is_err_and}
-use Rattle.fax_walk.proofs.WalkLemmas.{ended_on, entered, entered_open, gone_on, refused_next}
+use Rattle.fax_walk.specs.code.Stages.{PageState}
+use Rattle.fax_walk.proofs.WalkLemmas.{ended_on, gone_on, refused_later}
+use Rattle.fax_walk.proofs.walk.go_on.Goals.{in-Some+in_ok-next+else-branch, in_default}
 use Rattle.fax_walk.proofs.walk.go_on.Goals as goal
 
-pub next-requires-clause-open : goal.next-requires-clause-open
-next-requires-clause-open c =
-    (entered_open _ _ c.args.page.now c.in-Some.page (rw c.in-Some.is at c.in_ok-enter.ensures) c.requires).0
+pub pages-init : goal.pages-init
+pages-init c = record { is_open = c.requires; goes_on = λ given cursor from. from; there = inl refl }
 
-pub next-requires-clause-due : goal.next-requires-clause-due
-next-requires-clause-due c =
-    (entered_open _ _ c.args.page.now c.in-Some.page (rw c.in-Some.is at c.in_ok-enter.ensures) c.requires).1
-
-pub returns-in_err-enter : goal.returns-in_err-enter
-returns-in_err-enter c =
-    let p = err_from_is_err_and c.from_residual.result c.from_residual.ensures.1 in
-    rw (p.1, p.2) (refused_next _ _ c.args.page.now c.enter.new.page _ c.in_err-enter.ensures)
+pub next-requires : goal.next-requires
+next-requires c = rw c.in-Some.is at c.pages.invariant.is_open
 
 pub returns-in_err-next : goal.returns-in_err-next
 returns-in_err-next c =
-    let p = err_from_is_err_and c.from_residual-in_err-next.result c.from_residual-in_err-next.ensures.1 in
-    let new = rw c.in-Some.is at c.in_ok-enter.ensures in
+    let p = err_from_is_err_and c.from_residual.result c.from_residual.ensures.1 in
     rw (p.1, p.2) (λ given cursor from.
-    ended_on _ _ given cursor c.in-Some.page c.next.new.self _
-    (entered _ _ given cursor c.args.page.now c.in-Some.page new from).1 c.in_err-next.ensures.err)
+    let goes = rw c.in-Some.is at (c.pages.invariant.goes_on given cursor from) in
+    ended_on _ _ given cursor c.in-Some.open c.next.new.self _ goes.1 c.in_err-next.ensures.err)
 
-pub returns : goal.returns
-returns c given cursor from =
-    let new = rw c.in-Some.is at c.in_ok-enter.ensures in
-    let goes = entered _ _ given cursor c.args.page.now c.in-Some.page new from in
+pub returns-then-branch : goal.returns-then-branch
+returns-then-branch c given cursor from =
+    let goes = rw c.in-Some.is at (c.pages.invariant.goes_on given cursor from) in
+    let gives = rw c.if-branch.true at c.in_ok-next.ensures.ok in
     gone_on c.bits_stand_by_place.ensures c.lines_are_read_in_one_way.ensures c.files_have_one_chain.ensures c.args.file.now
     c.args.begun.now
-    given cursor c.in-Some.page c.next.new.self goes.1 c.in_ok-next.ensures.ok c.cursor.result c.cursor.ensures
+    given cursor c.in-Some.open c.next.new.self goes.1 gives
+
+pub open_due-requires : goal.open_due-requires
+open_due-requires c = elim c.match-page.branch [
+  | in-Some+in_ok-next+else-branch w ↦
+      let all = rw w.if-branch.false at w.in_ok-next.ensures.ok in
+      rw (w.page-is, all.1) all.0
+  | in_default w ↦ rw (w.page-is, w.in_default.is) tt
+]
+
+pub returns-in_err-open_due : goal.returns-in_err-open_due
+returns-in_err-open_due c =
+    let p = err_from_is_err_and c.from_residual-in_err-open_due.result c.from_residual-in_err-open_due.ensures.1 in
+    let on : c.match-page.page ≡ c.pages.page = elim c.match-page.branch [
+      | in-Some+in_ok-next+else-branch w ↦
+          let all = rw w.if-branch.false at w.in_ok-next.ensures.ok in
+          w.page-is ∙ ap (λ (s : PageState). Some s) all.1 ∙ sym w.in-Some.is
+      | in_default w ↦ w.page-is
+    ] in
+    rw (p.1, p.2)
+    (refused_later c.args.file.now c.args.begun.now c.args.page.now c.pages.page c.open_due.new.page _
+    (rw on at c.in_err-open_due.ensures) c.pages.invariant.there)

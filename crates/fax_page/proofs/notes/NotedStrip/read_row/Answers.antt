@@ -8,7 +8,7 @@ returns-clause-ok c =
     rw c.swap.ensures.x_after
     (elim c.if-self.branch [
       | then-self+in_default w ↦
-          rw (w.self-is, w.rows-is) (line_only_read old.form c.args.i c.args.rows.now.reference w.read_line.new.row old.source.left w.read_line.new.source.left
+          rw (w.self-is, w.rows-is, w.in_default.ensures.same_choice) (line_only_read old.form c.args.i c.args.rows.now.reference w.read_unasked.new.rows.row old.source.left w.read_unasked.new.self.source.left
           old.not_t4_choice w.if-self.true w.in_default.ensures.ok)
       | else-self+in_ok-chosen w ↦
           rw (w.self-is, w.rows-is) (line_compared old.form c.args.i c.args.rows.now.reference w.read_choice.new.rows.row old.source.left w.read_choice.new.self.source.left

@@ -1,5 +1,6 @@
 use Rattle.std.proofs.Common.{rules, inr}
 use Rattle.fax_page.proofs.RestLemmas.{row_after, line_between, placed_after, cause_there}
+use Rattle.fax_page.proofs.LineFaultLemmas.{bits_again}
 use Rattle.fax_page.proofs.reader.StripReader.advance.Goals as goal
 
 pub invariant_of-self : goal.invariant_of-self
@@ -7,6 +8,8 @@ invariant_of-self c = record {
   limits = c.self.invariant.limits;
   width = search rules;
   next_width = search rules;
+  count = search rules;
+  begun_before = search rules;
   within = search rules;
   placed =
       placed_after c.self.inside.form.order c.self.inside.bytes.now c.self.inside.place _ _ _
@@ -39,8 +42,11 @@ returns-in-Ok c =
 
 pub returns-in-Err : goal.returns-in-Err
 returns-in-Err c =
+    let reader = c.self.inside in
+    let here = c.self.invariant.at_row c.in_default.is in
+    let again = bits_again reader.form.order reader.bytes.now reader.place _ _ _ c.new-start.ensures c.skip.ensures here in
     let cause =
-    cause_there c.self.inside.form c.self.inside.row c.self.inside.reference c.self.inside.bytes.now c.self.inside.place
-    c.self.inside.source c.in-Err.fault (c.self.invariant.at_row c.in_default.is) c.in-Err.ensures.err in
+    cause_there reader.form reader.row reader.reference reader.bytes.now reader.place reader.source c.line_fault-fault.result here
+    (rw again (c.line_fault-fault.ensures reader.reference (rw again at c.in-Err.ensures.err))) in
     rw (← c.self.view_is)
     (inr (record { no_fault = search rules; due = search rules; cause = cause; told = search rules }))

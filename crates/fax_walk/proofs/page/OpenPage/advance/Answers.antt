@@ -13,7 +13,7 @@ returns-in-Ok-true-clause-ok c =
     let inv = c.self.invariant in
     let few = few_read page inv.limits inv.within inv.strip_is.form_is inv.strip_is.within inv.some_page inv.few in
     rw c.exchange.ensures.same
-    (reads_kept _ page keeps c.advance.new.self c.exchange.new.self.shown c.requires.open c.self.invariant.limits c.self.invariant.strip_is
+    (reads_kept _ page keeps c.advance.new.self c.exchange.new.self.shown c.requires c.self.invariant.limits c.self.invariant.strip_is
     c.self.invariant.its reads c.exchange.ensures.shown _ (omega (arith, reads.read, few)))
 
 pub returns-in-Err-clause-err : goal.returns-in-Err-clause-err
@@ -26,12 +26,12 @@ returns-in-Err-clause-err c =
     (fault_stops page c.advance.new.self c.in-Err.fault is_open c.self.invariant.limits c.self.invariant.strip_is
     c.self.invariant.its c.in-Err.ensures _ c.due.ensures.due)
 
-pub returns-in_err-next_strip-in-Ok-false-clause-err : goal.returns-in_err-next_strip-in-Ok-false-clause-err
-returns-in_err-next_strip-in-Ok-false-clause-err c =
+pub returns-in_err-next_strip-in-Ok-false-2-clause-err : goal.returns-in_err-next_strip-in-Ok-false-2-clause-err
+returns-in_err-next_strip-in-Ok-false-2-clause-err c =
     let p = err_from_is_err_and c.from_residual.result c.from_residual.ensures.1 in
     let keeps = rw (sym c.self.view_is) at c.strips.invariant.keeps in
     let same = rw c.in-Ok-false.field-0-test at c.in-Ok-false.ensures in
-    let stops = c.in_err-next_strip-in-Ok-false.ensures.err in
+    let stops = c.in_err-next_strip-in-Ok-false-2.ensures.err in
     let q = c.self.inside in
     let page = state q.page q.chain q.strips.directory q.form q.first q.number q.strip (row_shown q.strip q.exchanged) (q.before + q.strip.read) in
     rw (p.1, p.2) (stops_kept _ page keeps _ (rw same.unchanged at stops))

@@ -1,26 +1,26 @@
-use Rattle.std.proofs.Common.{◌+◌, ◌≤◌, sym, arith, ◌∙◌}
+use Rattle.std.proofs.Common.{◌+◌, ◌≤◌, inl, inr, refl, sym, arith, ◌∙◌}
 use Rattle.std.proofs.lemmas.Result.{err_from_is_err_and}
 use Rattle.fax_walk.specs.code.Stages.{row_of, row_shown}
 use Rattle.fax_walk.proofs.OpenPageLemmas.{few_read, none_skipped, one_skipped, row_given, state}
 use Rattle.fax_walk.proofs.page.OpenPage.next.Goals as goal
 
 pub rows-init : goal.rows-init
-rows-init c = record { items = _; skips = none_skipped c.args.self.now; is_open = c.requires.open; due = c.requires.due }
+rows-init c = record { items = _; skips = none_skipped c.args.self.now; is_open = c.requires; due = inl refl }
 
 pub returns-then-due-self-clause-ok : goal.returns-then-due-self-clause-ok
 returns-then-due-self-clause-ok c =
-    let reads = rw (sym c.self.view_is) at c.in_ok-advance.ensures.ok in
+    let reads = rw (c.if-not-branch.false, sym c.self.view_is) at c.in_ok-advance.ensures.ok in
     let inv = c.self.invariant in
     let p = c.self.inside in
     let page = state p.page p.chain p.strips.directory p.form p.first p.number p.strip (row_shown p.strip p.exchanged) (p.before + p.strip.read) in
     rw (← c.self.view_is)
     (row_given c.args.self.now c.rows.self page c.rows.invariant.items c.rows.invariant.skips reads inv.its
-    c.rows.invariant.due (rw (c.due.ensures.due, sym c.self.view_is) at c.if-due-self.true)
+    (rw (c.due.ensures.due, sym c.self.view_is) at c.if-due-self.true)
     (few_read page inv.limits inv.within inv.strip_is.form_is inv.strip_is.within inv.some_page inv.few))
 
 pub rows-preserved : goal.rows-preserved
 rows-preserved c =
-    let reads = rw (sym c.self.view_is) at c.in_ok-advance.ensures.ok in
+    let reads = rw (c.if-not-branch.false, sym c.self.view_is) at c.in_ok-advance.ensures.ok in
     let p = c.self.inside in
     let page = state p.page p.chain p.strips.directory p.form p.first p.number p.strip (row_shown p.strip p.exchanged) (p.before + p.strip.read) in
     let due = rw (sym c.self.view_is) at c.due.ensures.due in
@@ -30,7 +30,7 @@ rows-preserved c =
       items = _;
       skips = one_skipped c.args.self.now c.rows.self page c.rows.invariant.items c.rows.invariant.skips reads before;
       is_open = reads.still_open;
-      due = omega (arith, before, first);
+      due = inr (omega (arith, before, first));
     })
 
 pub returns-in_err-advance-clause-err : goal.returns-in_err-advance-clause-err

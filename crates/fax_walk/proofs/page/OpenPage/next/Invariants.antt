@@ -1,4 +1,4 @@
-use Rattle.std.proofs.Common.{List, ◌<◌}
+use Rattle.std.proofs.Common.{List, ◌≡◌, ◌<◌, ◌⊎◌}
 use Rattle.fax_walk.specs.Items.{RowItem}
 use Rattle.fax_walk.specs.code.Stages.{HasSkipped, IsOpen, row_of, skipped}
 use Rattle.fax_walk.proofs.page.OpenPage.next.Given as goal
@@ -9,7 +9,7 @@ invariant-rows l = record {
   items : List RowItem;
   skips : HasSkipped l.initial.self l.self items;
   is_open : IsOpen l.self;
-  due : row_of l.self < l.self.form.rows;
+  due : (l.self ≡ l.initial.self) ⊎ (row_of l.self < l.self.form.rows);
 }
 
 abbrev pub decreases-rows : goal.decreases-rows

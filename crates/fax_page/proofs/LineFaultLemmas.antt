@@ -1,0 +1,27 @@
+-- The fault of a row that could not be read, where its start is read once more.
+use Rattle.std.proofs.Common.{◌≡◌, ℕ, ◌+◌, List, Bool, drop, ap, sym, ◌∙◌, subst}
+use Rattle.fax_bits.specs.declared.Colour.{Colour}
+use Rattle.fax_bits.specs.declared.FillOrder.{FillOrder}
+use Rattle.fax_bits.specs.views.Source.{Source, source_of}
+use Rattle.fax_rows.specs.declared.RowFault.{RowFault}
+use Rattle.fax_page.specs.declared.lines.LineStop.TheVariants.{Codes}
+use Rattle.fax_page.specs.Lines.{Dimension, StripFault, StripForm, IsCause}
+use Rattle.fax_page.specs.code.Starts.{IsStarted, IsStop}
+use Rattle.fax_page.specs.code.LineStops.{IsLineStop}
+use Rattle.fax_page.proofs.BegunLemmas.{cause_in_codes}
+use Rattle.fax_page.proofs.StartLaws.{one_start}
+
+-- the codes after one start are those after another
+pub in_codes : (form : StripForm) (i : ℕ) (reference : List Colour) (b : List Bool) (cause : RowFault)
+    → IsLineStop form i reference b (Codes cause) → (dimension : Dimension) (codes : List Bool)
+    → IsStarted form.coding i b dimension codes → (fault : StripFault) → IsStop codes cause fault → IsCause form i reference b fault
+in_codes form i reference b cause (first, others, begun, stops) dimension codes again fault stop =
+    let same = one_start form.coding i b dimension first codes others again begun in
+    cause_in_codes form i reference b first others cause fault begun (subst (λ c. IsStop c cause fault) same.1 stop) stops
+
+-- a source that is made anew has the bits of the one that stood there
+pub bits_again : (order : FillOrder) (bytes : List ℕ) (place : ℕ) (first again there : Source) → first ≡ source_of order bytes 0
+    → again ≡ record { left = drop place first.left; place = first.place + place } → there ≡ source_of order bytes place
+    → there.left ≡ again.left
+bits_again order bytes place first again there begins skips stands =
+    ap (λ (s : Source). s.left) stands ∙ sym (ap (λ (s : Source). drop place s.left) begins) ∙ sym (ap (λ (s : Source). s.left) skips)
