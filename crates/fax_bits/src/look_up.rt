@@ -22,7 +22,7 @@ const LOOKED_AT: u32 = 32;
 const AFTER_CODE: u32 = LOOKED_AT - LONGEST_CODE;
 
 /// Where fewer bytes are left to be loaded, the end is near.
-const NEAR_END: usize = 256;
+const NEAR_END: usize = 128;
 
 /// What is looked up by the next bits.
 pub(crate) trait LookUp: Copy {

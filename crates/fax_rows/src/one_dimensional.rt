@@ -12,7 +12,7 @@ ghost use Rattle.fax_rows.specs.code.Put.{ArePut, HasRoom};
 
 use crate::RowFault;
 use crate::pels::Row;
-use crate::runs::next_run;
+use crate::runs::long_run;
 use crate::turns::{close, turn_after, turn_right};
 use fax_bits::{BitSource, Colour};
 
@@ -30,20 +30,48 @@ struct Runs {
 impl Runs {
     ghost use Rattle.std.specs.Prelude.{◌<◌, ◌≡◌, ◌⊎◌, IsTrue};
 
-    /// Sees that a run after them, whose codes may be chosen, may be one of the longest: it has pels,
-    /// or is the first of its row. Else the codes are not those that T.4 chooses (T.4, section
-    /// 4.1.1).
+    /// Sees that a run after them may be one of the longest: it has pels, or is the first of its row.
+    /// Else the codes are not those that T.4 chooses (T.4, section 4.1.1).
     #[inline(always)]
-    fn see(&mut self, colour: Colour, run: u32, chosen: bool)
-        ensures chosen { IsTrue self.new.is_chosen → IsTrue self.old.is_chosen × IsTrue chosen
+    fn see(&mut self, colour: Colour, run: u32)
+        ensures chosen { IsTrue self.new.is_chosen → IsTrue self.old.is_chosen
             × ((0 < run) ⊎ ((self.old.total ≡ 0) × (colour ≡ Colour.White))) }
         ensures end { self.new.end ≡ self.old.end }
         ensures total { self.new.total ≡ self.old.total }
     {
-        if !chosen || (run == 0 && (self.total > 0 || colour == Colour::Black)) {
+        if run == 0 && (self.total > 0 || colour == Colour::Black) {
             self.is_chosen = false;
         }
     }
+}
+
+/// Reads a run of the colour after others, mostly by one look-up, and answers how many pels it has.
+#[inline(always)]
+fn next_run(
+    ahead: &mut BitSource,
+    colour: Colour,
+    width: u32,
+    runs: &mut Runs,
+) -> Result<u32, RowFault>
+    requires short { width < 2 ^ 16 }
+    requires within { runs.old.total ≤ width }
+    ensures run { IfOk result (λ n. IsRun colour ahead.old.left n ahead.new.left) }
+    ensures within { IfOk result (λ n. runs.old.total + n ≤ width) }
+    ensures chosen { IfOk result (λ n. IsTrue runs.new.is_chosen → IsTrue runs.old.is_chosen
+        × (ahead.old.left ≡ run_bits colour n ++ ahead.new.left)) }
+    ensures err { IfErr result
+        (λ fault. IsRunFault colour width runs.old.total ahead.old.left fault) }
+    ensures end { runs.new.end ≡ runs.old.end }
+    ensures total { runs.new.total ≡ runs.old.total }
+    ensures same_end { KeepsEnd ahead.old ahead.new }
+    ensures shorter { OnOk result (length ahead.new.left < length ahead.old.left) }
+{
+    if let Some(pels) = ahead.run_within(colour, width - runs.total) {
+        return Ok(pels);
+    }
+    let run = long_run(ahead, colour, width, runs.total)?;
+    runs.is_chosen = runs.is_chosen && run.is_chosen;
+    Ok(run.pels)
 }
 
 /// Reads a run of the colour after others, and puts the place where it ends.
@@ -74,10 +102,10 @@ fn read_on(
     ensures same_end { KeepsEnd ahead.old ahead.new }
     ensures shorter { OnOk result (length ahead.new.left < length ahead.old.left) }
 {
-    let run = next_run(ahead, colour, width, runs.total)?;
-    runs.see(colour, run.pels, run.is_chosen);
-    runs.total += run.pels;
-    runs.end = turn_after(places, runs.end, runs.total, run.pels);
+    let run = next_run(ahead, colour, width, runs)?;
+    runs.see(colour, run);
+    runs.total += run;
+    runs.end = turn_after(places, runs.end, runs.total, run);
     Ok(())
 }
 

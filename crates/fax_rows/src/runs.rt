@@ -133,30 +133,3 @@ pub(crate) fn long_run(
     source.skip_to(copy.place());
     Ok(run)
 }
-
-/// Reads a run of the colour whose first pel is `from`, mostly by one look-up.
-#[inline(always)]
-pub(crate) fn next_run(
-    source: &mut BitSource,
-    colour: Colour,
-    width: u32,
-    from: u32,
-) -> Result<ReadRun, RowFault>
-    requires width { width < 2 ^ 16 }
-    requires from { from ≤ width }
-    ensures ok { IfOk result (λ run. IsRun colour source.old.left run.pels source.new.left) }
-    ensures chosen { IfOk result (λ run. IsTrue run.is_chosen
-        → source.old.left ≡ run_bits colour run.pels ++ source.new.left) }
-    ensures within { IfOk result (λ run. from + run.pels ≤ width) }
-    ensures err { IfErr result (λ fault. IsRunFault colour width from source.old.left fault) }
-    ensures same_end { KeepsEnd source.old source.new }
-    ensures shorter { OnOk result (length source.new.left < length source.old.left) }
-{
-    if let Some(pels) = source.run_within(colour, width - from) {
-        return Ok(ReadRun {
-            pels,
-            is_chosen: true,
-        });
-    }
-    long_run(source, colour, width, from)
-}

@@ -1,13 +1,15 @@
 //! Rows in two-dimensional coding (ITU-T T.4, section 4.2.1.3, and T.6, section 2.2), read into
 //! places of change over a reference row's places.
 ghost use Rattle.std.specs.Prelude.{◌≡◌, ◌+◌, ◌-◌, ◌≤◌};
-ghost use Rattle.std.specs.Prelude.{◌++◌, length, slice_index, OnOk, IfOk, IfErr, IsTrue};
+ghost use Rattle.std.specs.Prelude.{◌++◌, length, slice_index, OnOk, OnErr, IfOk, IfErr, IsTrue};
+ghost use Rattle.std.specs.Prelude.{false};
 ghost use Rattle.fax_bits.specs.views.Source.{KeepsEnd};
 ghost use Rattle.fax_rows.specs.Coded.{two_dimensional_bits};
 ghost use Rattle.fax_rows.specs.Rows as Spec;
 ghost use Rattle.fax_rows.specs.Faults as Fault;
 ghost use Rattle.fax_rows.specs.code.PlacedRow.{placed_pels};
 ghost use Rattle.fax_rows.specs.code.Put.{ArePut, HasRoom};
+ghost use Rattle.fax_rows.specs.code.Stop.{IsStopOf};
 ghost use Rattle.fax_rows.specs.code.Turns.{row_of};
 
 use crate::RowFault;
@@ -33,47 +35,36 @@ struct ReadRow {
     is_chosen: bool,
 }
 
-/// Reads the modes of a row over the reference row with `EXACT`, and where they are not T.4's
-/// choice once more, for their pels alone.
-#[inline(never)]
-fn read_exactly<const CHOICE: bool>(
+/// What `read_modes` does without `EXACT`. Near the end of the bytes it stops at once.
+#[inline(always)]
+fn read_quickly<const CHOICE: bool>(
     source: &mut BitSource,
     reference: PlacedRow,
     places: &mut [u32],
-) -> Result<ReadRow, RowFault>
+) -> Result<usize, Stop>
     requires room { HasRoom reference.width places.old }
-    ensures ok { IfOk result (λ read. Spec.IsTwoDimensionalRow (placed_pels reference.entry)
-        source.old.left (row_of places.new read.end reference.entry.width) source.new.left) }
-    ensures chosen { IfOk result (λ read. IsTrue read.is_chosen
-        → source.old.left ≡ two_dimensional_bits (placed_pels reference.entry)
-        (row_of places.new read.end reference.entry.width) ++ source.new.left) }
+    ensures ok { IfOk result (λ end. Spec.IsTwoDimensionalRow (placed_pels reference.entry)
+        source.old.left (row_of places.new end reference.entry.width) source.new.left) }
     ensures put { IfOk result
-        (λ read. ArePut reference.entry.width places.new read.end reference.entry.width) }
-    ensures err { IfErr result (λ fault. Fault.IsTwoDimensionalFault
-        (placed_pels reference.entry) source.old.left fault) }
+        (λ end. ArePut reference.entry.width places.new end reference.entry.width) }
+    ensures chosen { IfOk result (λ end. IsTrue CHOICE
+        → source.old.left ≡ two_dimensional_bits (placed_pels reference.entry)
+        (row_of places.new end reference.entry.width) ++ source.new.left) }
+    ensures err { IfErr result (λ stop. IsStopOf CHOICE false
+        (λ fault. Fault.IsTwoDimensionalFault (placed_pels reference.entry)
+        source.old.left fault) stop) }
+    ensures unchanged { OnErr result (source.new ≡ source.old) }
     ensures room { HasRoom reference.entry.width places.new }
     ensures same_end { KeepsEnd source.old source.new }
 {
-    match read_modes::<CHOICE, true>(source, reference, places) {
-        Ok(end) => return Ok(ReadRow {
-            end,
-            is_chosen: CHOICE,
-        }),
-        Err(Stop::Fault(fault)) => return Err(fault),
-        Err(Stop::Doubt) => {}
+    if source.is_near_end() {
+        return Err(Stop::Doubt);
     }
-    match read_modes::<false, true>(source, reference, places) {
-        Ok(end) => Ok(ReadRow {
-            end,
-            is_chosen: false,
-        }),
-        Err(Stop::Fault(fault)) => Err(fault),
-        Err(Stop::Doubt) => unreachable!(),
-    }
+    read_modes::<CHOICE, false>(source, reference, places)
 }
 
-/// Reads the modes of a row over the reference row. Near the end of the bytes and after a doubt it
-/// reads them with `EXACT`.
+/// Reads the modes of a row over the reference row. After a doubt it reads them again, with
+/// `EXACT`; and where they are not T.4's choice, for their pels alone.
 #[inline(always)]
 fn read_places<const CHOICE: bool>(
     source: &mut BitSource,
@@ -93,16 +84,29 @@ fn read_places<const CHOICE: bool>(
     ensures room { HasRoom reference.entry.width places.new }
     ensures same_end { KeepsEnd source.old source.new }
 {
-    if source.is_near_end() {
-        return read_exactly::<CHOICE>(source, reference, places);
-    }
-    match read_modes::<CHOICE, false>(source, reference, places) {
-        Ok(end) => Ok(ReadRow {
+    match read_quickly::<CHOICE>(source, reference, places) {
+        Ok(end) => return Ok(ReadRow {
             end,
             is_chosen: CHOICE,
         }),
+        Err(Stop::Fault(fault)) => return Err(fault),
+        Err(Stop::Doubt) => {}
+    }
+    match read_modes::<CHOICE, true>(source, reference, places) {
+        Ok(end) => return Ok(ReadRow {
+            end,
+            is_chosen: CHOICE,
+        }),
+        Err(Stop::Fault(fault)) => return Err(fault),
+        Err(Stop::Doubt) => {}
+    }
+    match read_modes::<false, true>(source, reference, places) {
+        Ok(end) => Ok(ReadRow {
+            end,
+            is_chosen: false,
+        }),
         Err(Stop::Fault(fault)) => Err(fault),
-        Err(Stop::Doubt) => read_exactly::<CHOICE>(source, reference, places),
+        Err(Stop::Doubt) => unreachable!(),
     }
 }
 
