@@ -5,6 +5,7 @@ pub mod laws;
 mod lines;
 mod notes;
 mod reader;
+mod turns;
 mod writer;
 
 pub use fax_rows::{Colour, FillOrder, Memory, Row, RowFault};

@@ -2,13 +2,13 @@
 ghost use Rattle.std.specs.Prelude.{◌≡◌, ◌*◌, ◌<◌, ◌≤◌, length, IfOk, IfSome};
 ghost use Rattle.std.specs.Borrow.{sem};
 
-use crate::lines::{line_fault, read_line};
+use crate::lines::line_fault;
+use crate::turns::RowsInTurn;
 use crate::{StripFault, StripForm};
 use fax_bits::laws::bits_stand_by_place;
 use fax_rows::{BitSource, Memory, Row};
 use std::alloc::Global;
 use std::marker::Model;
-use std::mem::swap;
 
 /// Reads strips row by row, one strip after another. Contracts see how far a strip is read: its
 /// form, its bytes, the place in bits and the number of the row that is due, how many rows the
@@ -24,9 +24,8 @@ pub struct StripReader<'a> {
     /// How many rows were read before the strip was begun, and at which of its rows that was.
     read_before: u64,
     begun: u32,
-    reference: Row,
-    /// Where the row that is due is read to.
-    next: Row,
+    /// The row before the one that is due, and the one that it is read to.
+    rows: RowsInTurn,
     fault: Option<StripFault>,
 }
 
@@ -42,12 +41,12 @@ impl<'a> Model for StripReader<'a> {
       place = r.place;
       row = r.row;
       read = rows_read r.read_before r.begun r.row;
-      reference = r.reference;
+      reference = r.rows;
       fault = r.fault;
     } };
 
     ghost invariant = { λ r.
-        IsReading r.form r.bytes.now r.source r.place r.begun r.row r.reference r.next r.fault };
+        IsReading r.form r.bytes.now r.source r.place r.begun r.row r.rows r.fault };
 }
 
 impl<'a> StripReader<'a> {
@@ -67,8 +66,7 @@ impl<'a> StripReader<'a> {
         requires limits { IsStripForm form }
         ensures { IfOk result (λ reader. reader ≡ strip_beginning form bytes.now) }
     {
-        let reference = Row::white(alloc, form.width)?;
-        let next = Row::white(alloc, form.width)?;
+        let rows = RowsInTurn::new(alloc, form.width)?;
         Ok(StripReader {
             bytes,
             source: BitSource::new(bytes, form.order),
@@ -77,8 +75,7 @@ impl<'a> StripReader<'a> {
             row: 0,
             read_before: 0,
             begun: 0,
-            reference,
-            next,
+            rows,
             fault: None,
         })
     }
@@ -99,7 +96,7 @@ impl<'a> StripReader<'a> {
         self.place = 0;
         self.begun = 0;
         self.row = 0;
-        self.reference.whiten();
+        self.rows.whiten();
         self.fault = None;
     }
 
@@ -125,7 +122,7 @@ impl<'a> StripReader<'a> {
         self.place = bits;
         self.begun = row;
         self.row = row;
-        self.reference.set_from(reference);
+        self.rows.set_reference(reference);
         self.fault = None;
     }
 
@@ -146,15 +143,8 @@ impl<'a> StripReader<'a> {
         if self.row == self.form.rows {
             return Ok(false);
         }
-        match read_line(
-            &mut self.source,
-            self.form,
-            self.row,
-            &self.reference,
-            &mut self.next,
-        ) {
+        match self.rows.read(&mut self.source, self.form, self.row) {
             Ok(()) => {
-                swap(&mut self.reference, &mut self.next);
                 self.place = self.source.place();
                 self.row += 1;
                 Ok(true)
@@ -175,7 +165,7 @@ impl<'a> StripReader<'a> {
         ensures pels { result.now ≡ self.now.reference }
         ensures width { length result.now ≡ self.now.form.width }
     {
-        &self.reference
+        self.rows.reference()
     }
 
     /// Lends the next row, or answers `None` once all rows are read. It takes no memory. It is for
@@ -190,7 +180,7 @@ impl<'a> StripReader<'a> {
         ensures* next { sem 𝓛 (EndsAs self.entry (IsNextRow self.old result)) }
     {
         if self.advance()? {
-            Ok(Some(&self.reference))
+            Ok(Some(self.rows.reference()))
         } else {
             Ok(None)
         }

@@ -12,13 +12,16 @@ ghost use Rattle.fax_walk.specs.Items.{IsInnerOn};
 ghost use Rattle.fax_walk.specs.code.Places.{strip_at};
 ghost use Rattle.fax_walk.specs.code.Opening.{IsFileChain, page_with};
 ghost use Rattle.fax_walk.specs.views.Walk.{place_inside};
+ghost use Rattle.fax_files.specs.declared.Cause.TheVariants.{File};
+ghost use Rattle.fax_files.specs.declared.FileFault.TheVariants.{StripOutside};
+ghost use Rattle.fax_walk.specs.declared.end.End.TheVariants.{Fault};
 ghost use Rattle.fax_walk.specs.code.Stages as Spec;
 ghost use Rattle.fax_walk.specs.code.Stages.{place_of, row_of};
 
 use crate::opening::{DuePage, OpenFault};
 use crate::{Cursor, End, LongCursor, PlaceInside};
 use fax_bits::Memory;
-use fax_files::{Cause, Chain, PageForm, Strips};
+use fax_files::{Cause, Chain, FileFault, PageForm, Strips};
 use fax_page::{StripForm, StripReader};
 use fax_rows::Row;
 use std::alloc::Global;
@@ -298,16 +301,17 @@ impl<'a> OpenPage<'a> {
         }))
     }
 
-    /// Goes to the next strip, or answers how the rows end where it lies outside the file.
+    /// Goes to the next strip, and answers whether it lies in the file.
     #[cold]
     #[inline(never)]
-    fn next_strip(&mut self) -> Result<(), End>
+    fn next_strip(&mut self) -> bool
         requires open { Spec.IsOpen self.old }
         requires all_read { self.old.strip.row ≡ self.old.strip.form.rows }
         requires due { row_of self.old < self.old.form.rows }
         ensures keeps { Spec.KeepsPlace self.old self.new }
-        ensures ok { OnOk result (Spec.IsNextStrip self.old self.new) }
-        ensures err { IfErr result (Spec.StopsAtRow self.old) }
+        ensures there { result ≡ true → Spec.IsNextStrip self.old self.new }
+        ensures outside { result ≡ false → Spec.StopsAtRow self.old
+            (Fault self.old.page (row_of self.old) (File StripOutside)) }
     {
         let number = self.number + 1;
         match self.strips.bytes(number) {
@@ -315,9 +319,9 @@ impl<'a> OpenPage<'a> {
                 let form = self.form.strip_form(number);
                 self.strip.restart(bytes, form.rows);
                 self.number = number;
-                Ok(())
+                true
             }
-            Err(fault) => Err(End::of_file(self.page, self.due(), fault)),
+            Err(_outside) => false,
         }
     }
 
@@ -348,7 +352,12 @@ impl<'a> OpenPage<'a> {
                 }
                 // Only here it is asked whether the page is read, and not at each row.
                 Ok(false) if self.is_read() => return Ok(false),
-                Ok(false) => self.next_strip()?,
+                Ok(false) => {
+                    if !self.next_strip() {
+                        let outside = FileFault::StripOutside;
+                        return Err(End::of_file(self.page, self.due(), outside));
+                    }
+                }
                 Err(fault) => {
                     return Err(End::Fault {
                         page: self.page,

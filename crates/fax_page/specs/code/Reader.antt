@@ -1,21 +1,24 @@
 -- A strip that is read row by row.
 use Rattle.std.specs.Prelude.{◌≡◌, ℕ, ◌*◌, ◌≤◌, List}
-use Rattle.std.specs.Prelude.{length, Option, None}
+use Rattle.std.specs.Prelude.{Bool, true, false, length, Option, None}
 use Rattle.fax_bits.specs.declared.Colour.{Colour}
 use Rattle.fax_bits.specs.views.Source.{Source, source_of}
 use Rattle.fax_page.specs.declared.StripForm.{StripForm}
 use Rattle.fax_page.specs.declared.StripFault.{StripFault}
 use Rattle.fax_page.specs.views.Strip.{IsStripForm}
 
--- the form is within the limits, the bytes can be read, the reference and the row to come have its
--- width, the row that is due is none before the one that was begun at and none after the last, the
+-- the row before the one that is due, of two that take turns
+abbrev pub row_before : Bool → List Colour → List Colour → List Colour
+row_before true first second = second
+row_before false first second = first
+
+-- the form is within the limits, the bytes can be read, the reference has its width, the row that is due is none before the one that was begun at and none after the last, the
 -- place lies in the bytes, and until a fault was met the source stands where the row that is due
 -- begins
 pub record IsReading (form : StripForm) (bytes : List ℕ) (source : Source) (place begun row : ℕ)
-    (reference next : List Colour) (fault : Option StripFault) : Type 0 where
+    (reference : List Colour) (fault : Option StripFault) : Type 0 where
   pub limits : IsStripForm form
   pub width : length reference ≡ form.width
-  pub next_width : length next ≡ form.width
   pub count : length bytes ≤ 4294967295
   pub begun_before : begun ≤ row
   pub within : row ≤ form.rows

@@ -7,7 +7,6 @@ pub invariant_of-self : goal.invariant_of-self
 invariant_of-self c = record {
   limits = c.self.invariant.limits;
   width = search rules;
-  next_width = search rules;
   count = search rules;
   begun_before = search rules;
   within = search rules;
@@ -46,7 +45,7 @@ returns-in-Err c =
     let here = c.self.invariant.at_row c.in_default.is in
     let again = bits_again reader.form.order reader.bytes.now reader.place _ _ _ c.new-start.ensures c.skip.ensures here in
     let cause =
-    cause_there reader.form reader.row reader.reference reader.bytes.now reader.place reader.source c.line_fault-fault.result here
-    (rw again (c.line_fault-fault.ensures reader.reference (rw again at c.in-Err.ensures.err))) in
+    cause_there reader.form reader.row reader.rows reader.bytes.now reader.place reader.source c.line_fault-fault.result here
+    (rw again (c.line_fault-fault.ensures reader.rows (rw again at c.in-Err.ensures.err))) in
     rw (← c.self.view_is)
     (inr (record { no_fault = search rules; due = search rules; cause = cause; told = search rules }))

@@ -1,6 +1,5 @@
-use Rattle.std.proofs.Common.{◌+◌, sym, arith}
-use Rattle.std.proofs.lemmas.Result.{err_from_is_err_and}
-use Rattle.fax_walk.specs.code.Stages.{row_shown}
+use Rattle.std.proofs.Common.{◌+◌, ◌∙◌, ap, sym, arith}
+use Rattle.fax_walk.specs.code.Stages.{PageState, row_shown}
 use Rattle.fax_walk.proofs.OpenPageLemmas.{few_read, fault_stops, reads_kept, stops_kept, state}
 use Rattle.fax_walk.proofs.page.OpenPage.advance.Goals as goal
 
@@ -24,14 +23,15 @@ returns-in-Err-clause-err c =
     let page = state p.page p.chain p.strips.directory p.form p.first p.number p.strip (row_shown p.strip p.exchanged) (p.before + p.strip.read) in
     stops_kept _ page keeps _
     (fault_stops page c.advance.new.self c.in-Err.fault is_open c.self.invariant.limits c.self.invariant.strip_is
-    c.self.invariant.its c.in-Err.ensures _ c.due.ensures.due)
+    c.self.invariant.its c.in-Err.ensures _ c.due-in-Err.ensures.due)
 
-pub returns-in_err-next_strip-in-Ok-false-2-clause-err : goal.returns-in_err-next_strip-in-Ok-false-2-clause-err
-returns-in_err-next_strip-in-Ok-false-2-clause-err c =
-    let p = err_from_is_err_and c.from_residual.result c.from_residual.ensures.1 in
+pub returns-then-not-next_strip-clause-err : goal.returns-then-not-next_strip-clause-err
+returns-then-not-next_strip-clause-err c =
     let keeps = rw (sym c.self.view_is) at c.strips.invariant.keeps in
     let same = rw c.in-Ok-false.field-0-test at c.in-Ok-false.ensures in
-    let stops = c.in_err-next_strip-in-Ok-false-2.ensures.err in
+    let kept = rw same.unchanged at c.next_strip.ensures.keeps in
+    let stops = rw same.unchanged at (c.next_strip.ensures.outside c.if-not-next_strip.true) in
     let q = c.self.inside in
     let page = state q.page q.chain q.strips.directory q.form q.first q.number q.strip (row_shown q.strip q.exchanged) (q.before + q.strip.read) in
-    rw (p.1, p.2) (stops_kept _ page keeps _ (rw same.unchanged at stops))
+    let its_page = ap (λ (p : PageState). p.page) c.self-in-Ok-false-2.view_is ∙ kept.same.page in
+    rw (c.of_file.ensures, c.due.ensures.due, its_page, kept.row) (stops_kept _ page keeps _ stops)

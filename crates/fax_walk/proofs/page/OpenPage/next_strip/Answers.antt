@@ -27,11 +27,11 @@ returns-in-Ok-clause-keeps c =
     (next_keeps page c.restart.new.self _ c.self.invariant.limits c.self.invariant.strip_is all_read due
     (ap (λ (s : StripState). s.row) c.restart.ensures) _ (ap (λ (s : StripState). p.before + s.read) c.restart.ensures))
 
-pub returns-in-Err-clause-err : goal.returns-in-Err-clause-err
-returns-in-Err-clause-err c =
+pub returns-in-Err-clause-outside : goal.returns-in-Err-clause-outside
+returns-in-Err-clause-outside c _ =
     let due = rw (sym c.self.view_is) at c.requires.due in
     let all_read = rw (sym c.self.view_is) at c.requires.all_read in
     let p = c.self.inside in
     let page = state p.page p.chain p.strips.directory p.form p.first p.number p.strip (row_shown p.strip p.exchanged) (p.before + p.strip.read) in
-    rw (c.of_file.ensures, c.in-Err.ensures.fault, c.due.ensures.due, ← c.self.view_is)
+    rw (← c.self.view_is)
     (next_stops page c.self.invariant.limits c.self.invariant.strip_is c.self.invariant.its all_read due c.in-Err.ensures.outside)

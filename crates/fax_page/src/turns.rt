@@ -1,0 +1,111 @@
+//! The two rows of a strip that is read: a row and the row before it.
+ghost use Rattle.std.specs.Prelude.{◌≡◌, ◌<◌, length, IfOk, IfErr, OnErr, OnOk};
+ghost use Rattle.fax_bits.specs.views.Source.{KeepsEnd};
+ghost use Rattle.fax_page.specs.Lines.{IsLine, white_row};
+ghost use Rattle.fax_page.specs.code.LineStops.{IsLineStop};
+
+use crate::StripForm;
+use crate::lines::{LineStop, read_line};
+use fax_rows::{BitSource, Memory, Row};
+use std::alloc::Global;
+use std::marker::Model;
+
+/// Two rows of one width that take turns: one is the reference, and the next row is read to the
+/// other, which is the reference then. Neither is moved. Contracts see the reference.
+#[derive(Drop)]
+pub(crate) struct RowsInTurn {
+    first: Row,
+    second: Row,
+    /// Whether the second one is the reference.
+    is_turned: bool,
+}
+
+impl Model for RowsInTurn {
+    ghost use Rattle.std.specs.Prelude.{◌≡◌, List, length};
+    ghost use Rattle.fax_bits.specs.declared.Colour.{Colour};
+    ghost use Rattle.fax_page.specs.code.Reader.{row_before};
+
+    ghost Value = { List Colour };
+
+    ghost view = { λ rows. row_before rows.is_turned rows.first rows.second };
+
+    ghost invariant = { λ rows. length rows.first ≡ length rows.second };
+}
+
+impl RowsInTurn {
+    /// Before the first row, whose reference is white.
+    pub fn new(alloc: Global, width: u32) -> Result<Self, Memory>
+        requires some { 0 < width }
+        requires short { width < 65536 }
+        ensures { IfOk result (λ rows. rows ≡ white_row width) }
+    {
+        let first = Row::white(alloc, width)?;
+        let second = Row::white(alloc, width)?;
+        Ok(RowsInTurn {
+            first,
+            second,
+            is_turned: false,
+        })
+    }
+
+    /// The reference of the next row.
+    #[inline(always)]
+    pub fn reference(&self) -> &Row
+        ensures { result.now ≡ self.now }
+    {
+        if self.is_turned {
+            &self.second
+        } else {
+            &self.first
+        }
+    }
+
+    /// Goes before a first row again.
+    pub fn whiten(&mut self)
+        ensures { self.new ≡ white_row (length self.old) }
+    {
+        self.is_turned = false;
+        self.first.whiten();
+    }
+
+    /// Takes the pels of a row of the same width as the reference.
+    pub fn set_reference(&mut self, row: &Row)
+        requires { length row.now ≡ length self.old }
+        ensures { self.new ≡ row.now }
+    {
+        self.is_turned = false;
+        self.first.set_from(row);
+    }
+
+    /// Reads row `i` of a strip, which is the reference then. Where it cannot be read, the
+    /// reference stays.
+    #[inline(always)]
+    pub fn read(&mut self, source: &mut BitSource, form: StripForm, i: u32) -> Result<(), LineStop>
+        requires width { length self.old ≡ form.width }
+        requires some_pels { 0 < form.width }
+        ensures ok { OnOk result
+            (IsLine form i self.old source.old.left self.new source.new.left) }
+        ensures err { IfErr result (IsLineStop form i self.old source.old.left) }
+        ensures kept { OnErr result (self.new ≡ self.old) }
+        ensures same_width { length self.new ≡ length self.old }
+        ensures same_end { KeepsEnd source.old source.new }
+    {
+        if self.is_turned {
+            match read_line(source, form, i, &self.second, &mut self.first) {
+                Ok(()) => {
+                    self.is_turned = false;
+                    Ok(())
+                }
+                Err(why) => Err(why),
+            }
+        } else {
+            match read_line(source, form, i, &self.first, &mut self.second) {
+                Ok(()) => {
+                    self.is_turned = true;
+                    Ok(())
+                }
+                Err(why) => Err(why),
+            }
+        }
+    }
+}
