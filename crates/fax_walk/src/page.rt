@@ -1,8 +1,9 @@
 //! A page whose rows are read, strip by strip.
 ghost use Rattle.fax_walk.specs.Pages.{ends_as};
 ghost use Rattle.fax_files.specs.Page.{most_rows};
-ghost use Rattle.std.specs.Prelude.{◌≡◌, ◌*◌, ◌<◌, ◌≤◌, false, length, true, IfErr, IfOk};
+ghost use Rattle.std.specs.Prelude.{◌≡◌, ◌*◌, ◌<◌, ◌≤◌, false, length, map, true, IfErr, IfOk};
 ghost use Rattle.std.specs.Prelude.{OnErr, OnOk, Err};
+ghost use Rattle.fax_rows.specs.Rows.{other};
 ghost use Rattle.fax_page.specs.views.Strip.{IsStripForm};
 ghost use Rattle.fax_files.specs.views.Page.{IsPageForm};
 ghost use Rattle.fax_walk.specs.Items.{IsRow, exchanged, first_at, inner_at};
@@ -78,6 +79,16 @@ fn row_for_exchange(alloc: Global, form: &PageForm) -> Result<Option<Row>, Memor
     } else {
         Ok(None)
     }
+}
+
+/// Takes the pels of another row of the same width, with their colours exchanged.
+#[inline(never)]
+fn set_exchanged(row: &mut Row, from: &Row)
+    requires { length from.now ≡ length row.old }
+    ensures { row.new ≡ map other from.now }
+{
+    row.set_from(from);
+    row.exchange();
 }
 
 /// Opens a page that is due, at the strip that holds the first row that is handed out. So many
@@ -326,13 +337,13 @@ impl<'a> OpenPage<'a> {
     }
 
     /// Exchanges the colours of the row that was read, where they are exchanged.
+    #[inline(always)]
     fn exchange(&mut self)
         ensures same { self.new ≡ record self.old { shown = self.new.shown } }
         ensures shown { self.new.shown ≡ exchanged self.old.form self.old.strip.reference }
     {
         if let Some(row) = &mut self.exchanged {
-            row.set_from(self.strip.reference());
-            row.exchange();
+            set_exchanged(row, self.strip.reference());
         }
     }
 

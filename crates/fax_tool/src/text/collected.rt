@@ -25,7 +25,7 @@ impl Model for Collected {
 }
 
 /// How many bytes of room are made at least, so that few lines have to make some.
-const LEAST_ROOM: usize = 4096;
+const LEAST_ROOM: usize = 1024;
 
 /// Makes room for so many bytes after a text that ends here.
 pub(crate) fn make_room(bytes: &mut Vec<u8>, end: usize, more: usize) -> Result<(), Memory>
