@@ -105,7 +105,7 @@ no_third : (a b : ℕ) → ((a + b) % 2 + 0) % 2 ≡ (a + b) % 2
 no_third a b = omega arith
 
 -- a bit is 1 where it differs from the one before it
-change_bit : (before word i : ℕ) → word < 2 ^ 64 → i < 64
+pub change_bit : (before word i : ℕ) → word < 2 ^ 64 → i < 64
     → word_bit (changes_of before word) i ≡ turns_bit (word_bit word i) (bit_before before word i)
 change_bit before word zero fits inside =
     let none : bit_at (word / 2 ^ 1) 63 ≡ 0 = ap (λ n. n % 2) (shr-shr word 1 63) ∙ bit_at_above word 64 64 fits (omega arith) in
@@ -127,13 +127,13 @@ change_bit before word (suc i) fits inside =
     ∙ ap (λ b. ((bit_at word k + bit_at word (63 - i)) % 2 + b) % 2) none ∙ no_third (bit_at word k) (bit_at word (63 - i)))
     ∙ two_digits (bit_at word k) (bit_at word (63 - i)) (bit_at-lt word k) (bit_at-lt word (63 - i))
 
-equal_bits : (a b : Bool) → turns_bit a b ≡ false → a ≡ b
+pub equal_bits : (a b : Bool) → turns_bit a b ≡ false → a ≡ b
 equal_bits true true h = refl
 equal_bits false false h = refl
 equal_bits true false h = cc
 equal_bits false true h = cc
 
-other_colour : (a b : Bool) → turns_bit a b ≡ true → other (colour_of_bit b) ≡ colour_of_bit a
+pub other_colour : (a b : Bool) → turns_bit a b ≡ true → other (colour_of_bit b) ≡ colour_of_bit a
 other_colour true false h = refl
 other_colour false true h = refl
 other_colour true true h = cc

@@ -12,11 +12,15 @@ ghost use Rattle.fax_rows.specs.code.Turns.{row_of, turned, IsAscending};
 ghost use Rattle.fax_rows.specs.code.Unpacked.{IsUnpackedTo};
 
 use crate::lanes::first_other;
+use crate::ones::put_ones;
 use crate::packed::WORD;
 use crate::runs::other;
 use crate::turns::{turn, turn_right};
 use fax_bits::Colour;
 use fax_bits::laws::bits_stand_by_place;
+
+/// From so many changes on, those of a word are put a byte at a time.
+const MANY_CHANGES: u32 = 10;
 
 /// The word of eight bytes from a place on, the highest first.
 #[inline(always)]
@@ -72,6 +76,12 @@ fn put_word(places: &mut [u32], end: usize, from: u32, before: u64, word: u64) -
 {
     // A bit is 1 where a pel has another colour than the one before it.
     let mut left = word ^ (word >> 1) ^ (before << 63);
+    if left == 0 {
+        return end;
+    }
+    if left.count_ones() >= MANY_CHANGES {
+        return put_ones(places, end, from, left);
+    }
     let mut end = end;
     while left != 0 {
         let at = left.leading_zeros();

@@ -1,0 +1,147 @@
+-- The table of the ones in a byte.
+use Rattle.std.proofs.Common.{◌≡◌, ℕ, zero, suc, ◌+◌, ◌-◌, ◌*◌, ◌^◌, ◌<◌, ◌≤◌, List, [], ◌∷◌, ◌++◌, map, length, take, drop, replicate}
+use Rattle.std.proofs.Common.{if◌then◌else◌, get_or, Bool, true, false, nat_eq, refl, ap, sym, ◌∙◌, subst, arith, w8, w32}
+use Rattle.std.specs.Prelude.{◌&&◌, nat_le}
+use Rattle.std.specs.Int.{bit_at}
+use Rattle.std.proofs.lemmas.Bool.{and_parts}
+use Rattle.std.proofs.lemmas.Bool.Decides.{nat_tests}
+use Rattle.std.proofs.lemmas.List.{drop-drop, length-map, length-take-le, map-append, take-append-le, take-map}
+use Rattle.std.proofs.Math.Seq.{take-append-add}
+use Rattle.std.proofs.lemmas.Simd.{put_chunk_is, zip2_splat}
+use borrow.Rule.Simd.Lanes.{act1, act2}
+use borrow.Table.Row.{s_int}
+use mir.Syntax.{wrap_add, cast, unsigned}
+use lib.Lanes.{zip2, put_chunk}
+use Rattle.fax_rows.specs.declared.ones.TheConstants.{COUNTS, PLACES}
+use Rattle.fax_rows.specs.code.Ones.{ones_among}
+
+-- equal lists, by a test
+abbrev same : List ℕ → List ℕ → Bool
+same [] [] = true
+same [] (y ∷ ys) = false
+same (x ∷ xs) [] = false
+same (x ∷ xs) (y ∷ ys) = nat_eq x y && same xs ys
+
+is_equal : (n m : ℕ) → nat_eq n m ≡ true → n ≡ m
+is_equal n m h = grind (arith, nat_tests)
+
+is_at_most : (n m : ℕ) → nat_le n m ≡ true → n ≤ m
+is_at_most n m h = grind (arith, nat_tests)
+
+are_same : (xs ys : List ℕ) → same xs ys ≡ true → xs ≡ ys
+are_same [] [] h = refl
+are_same [] (y ∷ ys) h = cc
+are_same (x ∷ xs) [] h = cc
+are_same (x ∷ xs) (y ∷ ys) h =
+    let parts = and_parts (nat_eq x y) (same xs ys) h in
+    ap (λ z. z ∷ xs) (is_equal x y parts.0) ∙ ap (λ zs. y ∷ zs) (are_same xs ys parts.1)
+
+-- what the table has for a byte
+abbrev fits : ℕ → ℕ → List ℕ → Bool
+fits byte count eight = nat_le count 8 && (nat_eq (length eight) 8 && same (take count eight) (ones_among 0 7 byte 8))
+
+-- and for all bytes from one on
+abbrev all_fit : ℕ → List ℕ → List ℕ → Bool
+all_fit byte [] places = true
+all_fit byte (count ∷ counts) places = fits byte count (take 8 places) && all_fit (suc byte) counts (drop 8 places)
+
+table_fits : all_fit 0 COUNTS PLACES ≡ true
+table_fits = refl
+
+fits_at : (byte : ℕ) (counts places : List ℕ) (i : ℕ) → all_fit byte counts places ≡ true → i < length counts
+    → fits (byte + i) (get_or counts i 0) (take 8 (drop (8 * i) places)) ≡ true
+fits_at byte [] places i all within = absurd (omega arith)
+fits_at byte (count ∷ counts) places zero all within =
+    let here : byte + zero ≡ byte = omega arith in
+    rw here (and_parts (fits byte count (take 8 places)) (all_fit (suc byte) counts (drop 8 places)) all).0
+fits_at byte (count ∷ counts) places (suc i) all within =
+    let next : suc byte + i ≡ byte + suc i = omega arith in
+    let place : 8 + 8 * i ≡ 8 * suc i = omega arith in
+    let rest = (and_parts (fits byte count (take 8 places)) (all_fit (suc byte) counts (drop 8 places)) all).1 in
+    subst (λ n. fits n (get_or counts i 0) (take 8 (drop (8 * suc i) places)) ≡ true) next
+    (subst (λ ps. fits (suc byte + i) (get_or counts i 0) (take 8 ps) ≡ true)
+    (drop-drop (8 * i) 8 places ∙ ap (λ n. drop n places) place)
+    (fits_at (suc byte) counts (drop 8 places) i rest (omega arith)))
+
+-- the eight numbers for a byte
+abbrev pub eight_of : ℕ → List ℕ
+eight_of byte = take 8 (drop (8 * byte) PLACES)
+
+-- the first of them are the places of its ones
+pub record HasOnes (byte count : ℕ) (eight : List ℕ) : Type 0 where
+  pub few : count ≤ 8
+  pub eight_are : length eight ≡ 8
+  pub places : take count eight ≡ ones_among 0 7 byte 8
+
+pub has_ones : (byte : ℕ) → byte < 256 → HasOnes byte (get_or COUNTS byte 0) (eight_of byte)
+has_ones byte within =
+    let count = get_or COUNTS byte 0 in
+    let eight = eight_of byte in
+    let none : 0 + byte ≡ byte = omega arith in
+    let here = subst (λ n. fits n count eight ≡ true) none (fits_at 0 COUNTS PLACES byte table_fits within) in
+    let first = and_parts (nat_le count 8) (nat_eq (length eight) 8 && same (take count eight) (ones_among 0 7 byte 8)) here in
+    let second = and_parts (nat_eq (length eight) 8) (same (take count eight) (ones_among 0 7 byte 8)) first.1 in
+    record {
+      few = is_at_most count 8 first.0;
+      eight_are = is_equal (length eight) 8 second.0;
+      places = are_same (take count eight) (ones_among 0 7 byte 8) second.1;
+    }
+
+pub few_ones : (end byte : ℕ) → byte < 256 → end + get_or COUNTS byte 0 ≤ end + 8
+few_ones end byte within = omega (arith, (has_ones byte within).few)
+
+-- the operators of a lane
+abbrev pub added : ℕ → ℕ → ℕ
+added = act2 wrap_add (s_int w32) (s_int w32) (s_int w32)
+
+abbrev pub widened : ℕ → ℕ
+widened = act1 (cast unsigned unsigned w32) (s_int w8) (s_int w32)
+
+map_widened : (xs : List ℕ) → map widened xs ≡ xs
+map_widened [] = refl
+map_widened (x ∷ xs) = ap (λ zs. x ∷ zs) (map_widened xs)
+
+-- the places of ones, from another place on
+added_if : (one : Bool) (from k : ℕ) → from + k < 2 ^ 32
+    → map (λ y. added y from) (if one then (0 + k) ∷ [] else []) ≡ (if one then (from + k) ∷ [] else [])
+added_if true from k small =
+    let sum : added (0 + k) from ≡ from + k = omega arith in
+    ap (λ z. z ∷ []) sum
+added_if false from k small = refl
+
+ones_added : (byte from k : ℕ) → k ≤ 8 → from + 8 < 2 ^ 32
+    → map (λ y. added y from) (ones_among 0 7 byte k) ≡ ones_among from 7 byte k
+ones_added byte from zero few small = refl
+ones_added byte from (suc k) few small =
+    let one = nat_eq (bit_at byte (7 - k)) 1 in
+    map-append (λ y. added y from) (ones_among 0 7 byte k) (if one then (0 + k) ∷ [] else [])
+    ∙ ap (λ xs. xs ++ map (λ y. added y from) (if one then (0 + k) ∷ [] else [])) (ones_added byte from k (omega arith) small)
+    ∙ ap (λ xs. ones_among from 7 byte k ++ xs) (added_if one from k (omega arith))
+
+-- eight places are put, of which the first are those of the ones
+pub byte_put : (places eight : List ℕ) (end count from byte : ℕ) → end + 8 ≤ length places → from + 8 < 2 ^ 32
+    → HasOnes byte count eight
+    → take (end + count) (put_chunk end places (zip2 added (map widened eight) (replicate 8 from)))
+    ≡ take end places ++ ones_among from 7 byte 8
+byte_put places eight end count from byte room small has =
+    ap (take (end + count)) (put_chunk_is end places lanes (omega (arith, room, long)))
+    ∙ ap (λ n. take (n + count) (take end places ++ (lanes ++ rest))) (sym (length-take-le end places (omega (arith, room))))
+    ∙ take-append-add (take end places) (lanes ++ rest) count
+    ∙ ap (λ xs. take end places ++ xs) (take-append-le count lanes rest (omega (arith, has.few, long)) ∙ shown)
+  where
+    lanes : List ℕ
+    lanes = zip2 added (map widened eight) (replicate 8 from)
+
+    rest : List ℕ
+    rest = drop (length lanes) (drop end places)
+
+    lanes_are : lanes ≡ map (λ y. added y from) eight
+    lanes_are = ap (λ xs. zip2 added xs (replicate 8 from)) (map_widened eight) ∙ zip2_splat added eight 8 from has.eight_are
+
+    long : length lanes ≡ 8
+    long = ap length lanes_are ∙ length-map eight (λ y. added y from) ∙ has.eight_are
+
+    shown : take count lanes ≡ ones_among from 7 byte 8
+    shown =
+        ap (take count) lanes_are ∙ take-map (λ y. added y from) count eight ∙ ap (map (λ y. added y from)) has.places
+        ∙ ones_added byte from 8 (omega arith) small

@@ -1,0 +1,163 @@
+-- The places of the changes of a word, put together.
+use Rattle.std.proofs.Common.{◌≡◌, ℕ, zero, suc, ◌+◌, ◌-◌, ◌^◌, ◌<◌, ◌≤◌, List, [], ◌∷◌, ◌++◌, length, take, get_or}
+use Rattle.std.proofs.Common.{if◌then◌else◌, Bool, true, false, nat_eq, refl, ap, sym, ◌∙◌, subst, arith, inl, inr}
+use Rattle.std.specs.Int.{bit_at}
+use Rattle.std.proofs.lemmas.Bool.{cases_lt}
+use Rattle.std.proofs.lemmas.List.{append-nil, append_assoc, get_or-take, get_or_append_left, length-append, length-take-le}
+use Rattle.fax_bits.specs.declared.Colour.TheVariants.{Black}
+use Rattle.fax_rows.specs.Rows.{other}
+use Rattle.fax_rows.specs.Coded.{colour_of_bit}
+use Rattle.fax_rows.specs.code.Ones.{ones_among}
+use Rattle.fax_rows.specs.code.PackedWord.{word_bit}
+use Rattle.fax_rows.specs.code.Turns.{turned, IsAscending}
+use Rattle.fax_rows.proofs.TurnLemmas.{turned-push_left, turned-push_right}
+use Rattle.fax_rows.proofs.UnpackedWordLemmas.{bit_before, change_bit, changes_of, equal_bits, other_colour, turns_bit}
+
+-- the places of the first r pels of a word are put after the old ones
+pub record HasPut (old places : List ℕ) (from before word r : ℕ) : Type 0 where
+  pub kept : (k : ℕ) → k < from → turned Black places k ≡ turned Black old k
+  pub done : (i : ℕ) → i < r → turned Black places (from + i) ≡ colour_of_bit (word_bit word i)
+  pub after : (k : ℕ) → from + r ≤ k → turned Black places k ≡ colour_of_bit (bit_before before word r)
+  pub ascending : IsAscending places (length places)
+  pub last : 1 < length places → get_or places (length places - 1) 0 < from + r
+
+last_is : (places : List ℕ) (place : ℕ) → get_or (places ++ place ∷ []) (length places) 0 ≡ place
+last_is [] place = refl
+last_is (x ∷ xs) place = last_is xs place
+
+-- a place after the last one goes on ascending
+ascending_on : (places : List ℕ) (place : ℕ) → IsAscending places (length places)
+    → (1 < length places → get_or places (length places - 1) 0 < place)
+    → IsAscending (places ++ place ∷ []) (length (places ++ place ∷ []))
+ascending_on places place up right = record {
+  started = omega (arith, len, up.started);
+  within = omega arith;
+  first = get_or_append_left places (place ∷ []) 0 0 up.started ∙ up.first;
+  steps = λ i some h. elim (cases_lt (i + 1) (length places)) [
+    | inl less ↦
+        rw (get_or_append_left places (place ∷ []) 0 i (omega arith), get_or_append_left places (place ∷ []) 0 (i + 1) less)
+        (up.steps i some less)
+    | inr more ↦
+        let end : i + 1 ≡ length places = omega (arith, len) in
+        let before : length places - 1 ≡ i = omega arith in
+        let there : get_or (places ++ place ∷ []) (i + 1) 0 ≡ place =
+        ap (λ n. get_or (places ++ place ∷ []) n 0) end ∙ last_is places place in
+        rw (get_or_append_left places (place ∷ []) 0 i (omega arith), there)
+        (subst (λ n. get_or places n 0 < place) before (right (omega arith)))
+  ];
+}
+  where
+    len : length (places ++ place ∷ []) ≡ length places + 1
+    len = length-append places (place ∷ [])
+
+-- a pel more: its place is put where it has another colour than the one before it
+pel_put : (one : Bool) (old places : List ℕ) (from before word r : ℕ)
+    → one ≡ turns_bit (word_bit word r) (bit_before before word r) → HasPut old places from before word r
+    → HasPut old (places ++ (if one then (from + r) ∷ [] else [])) from before word (suc r)
+pel_put false old places from before word r is put =
+    let same = equal_bits (word_bit word r) (bit_before before word r) (sym is) in
+    rw (append-nil places) (record {
+      kept = put.kept;
+      done = λ i h. elim (cases_lt i r) [
+        | inl less ↦ put.done i less
+        | inr more ↦
+            let last : i ≡ r = omega arith in
+            put.after (from + i) (omega arith) ∙ ap colour_of_bit (sym same) ∙ ap (λ n. colour_of_bit (word_bit word n)) (sym last)
+      ];
+      after = λ k h. put.after k (omega arith) ∙ ap colour_of_bit (sym same);
+      ascending = put.ascending;
+      last = λ h. omega (arith, put.last h);
+    })
+pel_put true old places from before word r is put = record {
+  kept = λ k h. turned-push_left Black places (from + r) k (omega arith) ∙ put.kept k h;
+  done = λ i h. elim (cases_lt i r) [
+    | inl less ↦ turned-push_left Black places (from + r) (from + i) (omega arith) ∙ put.done i less
+    | inr more ↦
+        let last : i ≡ r = omega arith in
+        there (from + i) (omega arith) ∙ ap (λ n. colour_of_bit (word_bit word n)) (sym last)
+  ];
+  after = λ k h. there k (omega arith);
+  ascending = ascending_on places (from + r) put.ascending put.last;
+  last = λ h.
+      let end : length (places ++ (from + r) ∷ []) - 1 ≡ length places = omega (arith, length-append places ((from + r) ∷ [])) in
+      let place = ap (λ n. get_or (places ++ (from + r) ∷ []) n 0) end ∙ last_is places (from + r) in
+      omega (arith, place);
+}
+  where
+    there : (k : ℕ) → from + r ≤ k → turned Black (places ++ (from + r) ∷ []) k ≡ colour_of_bit (word_bit word r)
+    there k far =
+        turned-push_right Black places (from + r) k far ∙ ap other (put.after k far)
+        ∙ other_colour (word_bit word r) (bit_before before word r) (sym is)
+
+-- the places of the changes among the first r pels are those of these pels
+pels_put : (old : List ℕ) (from before word r : ℕ) → word < 2 ^ 64 → r ≤ 64 → HasPut old old from before word 0
+    → HasPut old (old ++ ones_among from 63 (changes_of before word) r) from before word r
+pels_put old from before word zero fits within put = rw (append-nil old) put
+pels_put old from before word (suc r) fits within put =
+    let changes = changes_of before word in
+    let one = nat_eq (bit_at changes (63 - r)) 1 in
+    subst (λ ps. HasPut old ps from before word (suc r))
+    (append_assoc old (ones_among from 63 changes r) (if one then (from + r) ∷ [] else []))
+    (pel_put one old (old ++ ones_among from 63 changes r) from before word r (change_bit before word r fits (omega arith))
+    (pels_put old from before word r fits (omega arith) put))
+
+-- what ascends does so in the list that is cut at its end, and back
+ascending_in : (places : List ℕ) (end : ℕ) → IsAscending places end → IsAscending (take end places) (length (take end places))
+ascending_in places end up = record {
+  started = omega (arith, len, up.started);
+  within = omega arith;
+  first = get_or-take end places 0 0 up.started ∙ up.first;
+  steps = λ i some h. rw (get_or-take end places i 0 (omega (arith, len)), get_or-take end places (i + 1) 0 (omega (arith, len)))
+      (up.steps i some (omega (arith, len)));
+}
+  where
+    len : length (take end places) ≡ end
+    len = length-take-le end places up.within
+
+-- the places of a row before a word
+none_put : (places : List ℕ) (end from before word : ℕ) → IsAscending places end → (1 < end → get_or places (end - 1) 0 < from)
+    → ((k : ℕ) → from ≤ k → turned Black (take end places) k ≡ colour_of_bit (word_bit before 63))
+    → HasPut (take end places) (take end places) from before word 0
+none_put places end from before word up left colour = record {
+  kept = λ k h. refl;
+  done = λ i h. absurd (omega arith);
+  after = λ k h. colour k (omega arith);
+  ascending = ascending_in places end up;
+  last = λ h.
+      let len = length-take-le end places up.within in
+      let more : 1 < end = omega (arith, len) in
+      let place : get_or (take end places) (length (take end places) - 1) 0 ≡ get_or places (end - 1) 0 =
+      ap (λ n. get_or (take end places) (n - 1) 0) len ∙ get_or-take end places (end - 1) 0 (omega arith) in
+      omega (arith, place, left more);
+}
+
+-- the changes of a word are put
+pub record IsWordPut (old new : List ℕ) (end next from before word : ℕ) : Type 0 where
+  pub ascending : IsAscending new next
+  pub left : 1 < next → get_or new (next - 1) 0 < from + 64
+  pub put : HasPut (take end old) (take next new) from before word 64
+
+pub word_put : (old new : List ℕ) (end next from before word : ℕ) → word < 2 ^ 64 → next ≤ length new → IsAscending old end
+    → (1 < end → get_or old (end - 1) 0 < from)
+    → ((k : ℕ) → from ≤ k → turned Black (take end old) k ≡ colour_of_bit (word_bit before 63))
+    → take next new ≡ take end old ++ ones_among from 63 (changes_of before word) 64
+    → IsWordPut old new end next from before word
+word_put old new end next from before word fits within up left colour is =
+    let put = subst (λ ps. HasPut (take end old) ps from before word 64) (sym is)
+        (pels_put (take end old) from before word 64 fits (omega arith) (none_put old end from before word up left colour)) in
+    let len = length-take-le next new within in
+    let here = put.ascending in
+    record {
+      ascending = record {
+        started = omega (arith, len, here.started);
+        within = within;
+        first = sym (get_or-take next new 0 0 (omega (arith, len, here.started))) ∙ here.first;
+        steps = λ i some h. rw (sym (get_or-take next new i 0 (omega arith)), sym (get_or-take next new (i + 1) 0 h))
+            (here.steps i some (omega (arith, len)));
+      };
+      left = λ h.
+          let place : get_or (take next new) (length (take next new) - 1) 0 ≡ get_or new (next - 1) 0 =
+          ap (λ n. get_or (take next new) (n - 1) 0) len ∙ get_or-take next new (next - 1) 0 (omega arith) in
+          omega (arith, place, put.last (omega (arith, len)));
+      put = put;
+    }

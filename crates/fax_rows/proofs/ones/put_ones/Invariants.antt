@@ -1,0 +1,10 @@
+use Rattle.std.proofs.Common.{◌≡◌, ◌+◌, ◌*◌, ◌≤◌, ◌++◌, take}
+use Rattle.fax_rows.specs.code.Ones.{ones_among}
+use Rattle.fax_rows.proofs.ones.put_ones.Given as goal
+
+-- the ones of the bytes before k are put
+abbrev pub invariant-loop-k : goal.invariant-loop-k
+invariant-loop-k l = record {
+  put : take l.end l.places ≡ take l.initial.end l.initial.places ++ ones_among l.from 63 l.word (8 * l.k);
+  within : l.end ≤ l.initial.end + 8 * l.k;
+}
