@@ -144,7 +144,7 @@ pub word_put : (old new : List ℕ) (end next from before word : ℕ) → word <
     → IsWordPut old new end next from before word
 word_put old new end next from before word fits within up left colour is =
     let put = subst (λ ps. HasPut (take end old) ps from before word 64) (sym is)
-        (pels_put (take end old) from before word 64 fits (omega arith) (none_put old end from before word up left colour)) in
+    (pels_put (take end old) from before word 64 fits (omega arith) (none_put old end from before word up left colour)) in
     let len = length-take-le next new within in
     let here = put.ascending in
     record {

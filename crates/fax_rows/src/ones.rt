@@ -1,4 +1,4 @@
-//! The places of the ones in a byte, by a table.
+//! The places of the ones in a word, by a table of those in a byte, which the check proves right.
 ghost use Rattle.std.specs.Prelude.{◌≡◌, ◌≤◌, ◌<◌, ◌+◌, ◌^◌, ◌++◌, length, take};
 ghost use Rattle.fax_rows.specs.code.Ones.{ones_among};
 
@@ -16,8 +16,7 @@ static COUNTS: [u8; 256] = [
     3, 4, 4, 5, 4, 5, 5, 6, 4, 5, 5, 6, 5, 6, 6, 7, 4, 5, 5, 6, 5, 6, 6, 7, 5, 6, 6, 7, 6, 7, 7, 8,
 ];
 
-/// Eight numbers for each byte: the places of its ones, from 0 for the highest bit, and zeros after
-/// them.
+/// Eight numbers for each byte: the places of its ones, from 0 for the highest bit, then zeros.
 static PLACES: [u8; 2048] = [
     0, 0, 0, 0, 0, 0, 0, 0, 7, 0, 0, 0, 0, 0, 0, 0, 6, 0, 0, 0, 0, 0, 0, 0, 6, 7, 0, 0, 0, 0, 0, 0,
     5, 0, 0, 0, 0, 0, 0, 0, 5, 7, 0, 0, 0, 0, 0, 0, 5, 6, 0, 0, 0, 0, 0, 0, 5, 6, 7, 0, 0, 0, 0, 0,

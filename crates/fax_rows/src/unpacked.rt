@@ -19,7 +19,7 @@ use crate::turns::{turn, turn_right};
 use fax_bits::Colour;
 use fax_bits::laws::bits_stand_by_place;
 
-/// From so many changes on, those of a word are put a byte at a time.
+/// From so many changes in a word on, they are put by bytes and no longer one by one.
 const MANY_CHANGES: u32 = 10;
 
 /// The word of eight bytes from a place on, the highest first.
