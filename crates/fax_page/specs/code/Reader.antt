@@ -12,9 +12,9 @@ abbrev pub row_before : Bool → List Colour → List Colour → List Colour
 row_before true first second = second
 row_before false first second = first
 
--- the form is within the limits, the bytes can be read, the reference has its width, the row that is due is none before the one that was begun at and none after the last, the
--- place lies in the bytes, and until a fault was met the source stands where the row that is due
--- begins
+-- the form is within the limits, the bytes can be read, the reference has its width, the row that
+-- is due stands from the one that was begun at up to the place after the last, the place lies in
+-- the bytes, and until a fault was met the source stands where the row that is due begins
 pub record IsReading (form : StripForm) (bytes : List ℕ) (source : Source) (place begun row : ℕ)
     (reference : List Colour) (fault : Option StripFault) : Type 0 where
   pub limits : IsStripForm form
