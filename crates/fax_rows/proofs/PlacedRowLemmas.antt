@@ -214,6 +214,13 @@ module _ {places : List ℕ} {end width : ℕ} (all : ArePlaces places end width
   pub width_is : {row : List Colour} → pels_by width (take end places) ≡ row → width ≡ length row
   width_is is = subst (λ r. width ≡ length r) is (sym (length-pels_by width (take end places)))
 
+  -- a row without a change is white
+  pub all_white : {row : List Colour} → pels_by width (take end places) ≡ row → end ≡ 1 → row ≡ replicate (length row) White
+  all_white is alone =
+      sym is ∙ ap (λ n. pels_by width (take n places)) alone
+      ∙ ap (pels_by width) (take-first places (omega (arith, all.room)) all.ascending.first) ∙ white_row width
+      ∙ ap (λ n. replicate n White) (width_is is)
+
   -- the colour of the pel at a place, by how many places it lies after
   pub pel_here : {row : List Colour} → pels_by width (take end places) ≡ row → (i k : ℕ) → i < length row → ArePlacesUpTo places end i k
       → pel row i ≡ alternate Black k

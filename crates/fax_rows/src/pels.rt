@@ -119,11 +119,14 @@ impl Row {
         self.end = turn_first(places, self.end, self.width);
     }
 
-    /// Takes the pels of a row of the same width.
+    /// Takes the pels of a row of the same width. Mostly that row is white.
     pub fn set_from(&mut self, row: &Row)
         requires { length self.old ≡ length row.now }
         ensures { self.new ≡ row.now }
     {
+        if row.end == 1 {
+            return self.whiten();
+        }
         let places = self.places.as_mut_slice();
         copy_places(places, &row.places, row.end, self.width);
         self.end = row.end;

@@ -1,7 +1,9 @@
 use Rattle.std.proofs.Common.{◌≡◌, take, ap, sym, subst, ◌∙◌, arith}
+use Rattle.std.specs.Prelude.{replicate}
+use Rattle.fax_bits.specs.declared.Colour.TheVariants.{White}
 use Rattle.fax_rows.specs.code.Turns.{pels_by, ArePlaces}
 use Rattle.fax_rows.proofs.PlacedReadLemmas.{refilled}
-use Rattle.fax_rows.proofs.PlacedRowLemmas.{width_is}
+use Rattle.fax_rows.proofs.PlacedRowLemmas.{all_white, width_is}
 use Rattle.fax_rows.proofs.pels.Row.set_from.Goals as goal
 
 pub copy_places-requires-clause-row : goal.copy_places-requires-clause-row
@@ -22,3 +24,7 @@ returns c =
     ap (λ places. pels_by c.self.inside.width (take c.row.inside.end places))
     (refilled c.self.inside.places.len c.copy_places.new.places c.self.inside.places.items (omega arith))
     ∙ copied ∙ ap (λ width. pels_by width (take c.row.inside.end c.row.inside.places.items)) same ∙ c.row.view_is
+
+pub returns-then-row-eq1 : goal.returns-then-row-eq1
+returns-then-row-eq1 c =
+    c.whiten.ensures ∙ ap (λ n. replicate n White) c.requires ∙ sym (all_white c.row.invariant c.row.view_is c.if-row-eq1.true)

@@ -1,14 +1,10 @@
-use Rattle.std.proofs.Common.{◌≡◌, ◌<◌, ℕ, List, [], ◌∷◌, length, get_or, take, ap, ◌∙◌, arith}
+use Rattle.std.proofs.Common.{◌<◌, length, take, ap, ◌∙◌, arith}
 use Rattle.std.specs.Prelude.{replicate}
 use Rattle.fax_bits.specs.declared.Colour.TheVariants.{White}
 use Rattle.fax_rows.specs.code.Turns.{pels_by}
 use Rattle.fax_rows.proofs.PlacedReadLemmas.{refilled}
-use Rattle.fax_rows.proofs.PlacedRowLemmas.{white_row, width_is}
+use Rattle.fax_rows.proofs.PlacedRowLemmas.{take-first, white_row, width_is}
 use Rattle.fax_rows.proofs.pels.Row.whiten.Goals as goal
-
-first_place : (places : List ℕ) → 0 < length places → get_or places 0 0 ≡ 0 → take 1 places ≡ 0 ∷ []
-first_place [] some is = absurd (omega arith)
-first_place (place ∷ places) some is = ap (λ n. n ∷ []) is
 
 pub returns : goal.returns
 returns c =
@@ -17,6 +13,6 @@ returns c =
     ap (λ places. pels_by c.self.inside.width (take c.close-self-inside.result places))
     (refilled c.self.inside.places.len c.close-self-inside.new.places c.self.inside.places.items (omega arith))
     ∙ closed
-    ∙ ap (pels_by c.self.inside.width) (first_place c.self.inside.places.items some c.self.invariant.ascending.first)
+    ∙ ap (pels_by c.self.inside.width) (take-first c.self.inside.places.items some c.self.invariant.ascending.first)
     ∙ white_row c.self.inside.width
     ∙ ap (λ n. replicate n White) (width_is c.self.invariant c.self.view_is)
