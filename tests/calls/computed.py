@@ -10,7 +10,9 @@ import sys
 sys.dont_write_bytecode = True
 
 import named  # noqa: E402
-from plain import EOL, one_dimensional, runs_of, strip_bits, to_bytes, two_dimensional  # noqa: E402
+from plain import (  # noqa: E402
+    CODES, EOL, MODE_CODES, OTHER, one_dimensional, runs_of, strip_bits, to_bytes, two_dimensional,
+)
 
 HERE = os.path.dirname(os.path.abspath(__file__))
 
@@ -119,6 +121,28 @@ def marked_rows():
     yield from read_and_put(white, black_first, "the row of most runs, the first of which has no pels")
 
 
+def coded_run(colour, make_up, last):
+    """A run of these make-up codes, and how many pels it has."""
+    table = CODES[colour]
+    return "".join(table["more", pels] for pels in make_up) + table["end", last], sum(make_up) + last
+
+
+def long_codes():
+    """Rows in horizontal mode, over a white row or one that is black after ten white pels, whose runs have several
+    make-up codes: as T.4 chooses them, or others. They stand near the end of the bytes, and far from it."""
+    width, lists = 12_000, [[2560, 64], [2560, 2560], [64, 64], [64, 2560], [64] * 40]
+    for first, white, after in itertools.product(lists, (0, 10), (0, 200)):
+        colour = "WB"[white > 0]
+        one, length = coded_run(colour, first, 5)
+        for second in lists:
+            two, more = coded_run(OTHER[colour], second, 7)
+            bits = (MODE_CODES[0] if white else "") + MODE_CODES["horizontal"] + one + two + MODE_CODES[0]
+            reference = "W" * (white or width) + "B" * (width - (white or width))
+            runs = numbers(([white] if white else []) + [length, more, width - white - length - more])
+            data = to_bytes(bits) + bytes(after)
+            yield line(f"read_2d {packed(reference)} {digits(data)}", f"{runs} {len(bits)}", "several make-up codes")
+
+
 def rows_of_width(width):
     return ["".join(pels) for pels in itertools.product("WB", repeat=width)]
 
@@ -143,6 +167,7 @@ def each_row(pool):
 def rows(pool):
     yield from first_others()
     yield from marked_rows()
+    yield from long_codes()
     yield from each_row(pool)
 
 

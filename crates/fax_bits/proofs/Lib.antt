@@ -29,5 +29,6 @@ pub mod LaneLemmas
 pub mod WrittenRunLemmas
 pub mod PairLemmas
 pub mod LookUpLemmas
+pub mod LongRunLemmas
 pub mod LookedAtLemmas
 pub mod LastBitsLemmas

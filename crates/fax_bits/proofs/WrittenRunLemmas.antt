@@ -113,3 +113,17 @@ long_written colour b m n middle rest first last =
     up.bits ∙ ap (λ c. f (MakeUp m) ++ c) low.bits ∙ sym (append_assoc (f (MakeUp m)) (f (Terminating n)) rest)
     ∙ ap (λ c. (f (MakeUp m) ++ c) ++ rest) (sym (append-nil (f (Terminating n))))
     ∙ ap (λ cs. flat_map f cs ++ rest) (sym codes)
+
+-- a make-up code of 2560 pels stands before the codes of what is left
+pub most_written : (colour : Colour) (b : List Bool) (n : ℕ) (middle rest : List Bool) → Takes (run_table colour) b (MakeUp 2560) middle
+    → middle ≡ run_bits colour n ++ rest → b ≡ run_bits colour (2560 + n) ++ rest
+unfolding run_bits
+most_written colour b n middle rest first written =
+    let up = code_taken colour b (MakeUp 2560) middle first in
+    let f = run_code_bits colour in
+    let often : (2560 + n) / 2560 ≡ suc (n / 2560) = omega arith in
+    let more : (2560 + n) % 2560 ≡ n % 2560 = omega arith in
+    let last : (2560 + n) % 64 ≡ n % 64 = omega arith in
+    let codes : run_codes (2560 + n) ≡ MakeUp 2560 ∷ run_codes n = rw (often, more, last) refl in
+    up.bits ∙ ap (λ c. f (MakeUp 2560) ++ c) written ∙ sym (append_assoc (f (MakeUp 2560)) (flat_map f (run_codes n)) rest)
+    ∙ ap (λ cs. flat_map f cs ++ rest) (sym codes)

@@ -1,6 +1,6 @@
 //! What one look-up of the next bits finds: a run, a white run and the black one after it, a mode.
 ghost use Rattle.std.specs.Prelude.{◌≡◌, ◌+◌, ◌^◌, ◌<◌, ◌≤◌, ◌++◌, length};
-ghost use Rattle.std.specs.Prelude.{IfSome, IsSome, None, take, replicate, true};
+ghost use Rattle.std.specs.Prelude.{IfSome, IsSome, IsTrue, None, take, replicate, true};
 ghost use Rattle.fax_bits.specs.Codes.{Takes, IsRun};
 ghost use Rattle.fax_bits.specs.Tables.{modes};
 ghost use Rattle.fax_bits.specs.Written.{run_bits};
@@ -11,9 +11,9 @@ ghost use Rattle.fax_bits.specs.code.LookUp.{IsLookedUp, IsFoundAhead};
 use crate::codes::LONGEST_CODE;
 use crate::modes::{ModeCode, find_mode};
 use crate::pairs::{Pair, find_pair};
-use crate::runs::{TERMINATING_CODES, find_run_code};
+use crate::runs::{LONGEST_MAKE_UP, TERMINATING_CODES, find_run_code};
 use crate::window::Window;
-use crate::{BitSource, Colour, FillOrder};
+use crate::{BitSource, Colour, FillOrder, ReadRun};
 
 /// How many bits are looked at: those of a make-up code and a terminating code, and some more.
 const LOOKED_AT: u32 = 32;
@@ -70,6 +70,39 @@ impl LookUp for RunWithin {
             len += more;
             pels = 64 * (pels - terminating + 1) + last;
         }
+        if pels > self.most {
+            return None;
+        }
+        Some((len, pels))
+    }
+}
+
+/// A make-up code of the colour, of at most so many pels.
+#[derive(Clone, Copy)]
+struct MakeUpWithin {
+    colour: Colour,
+    most: u32,
+}
+
+impl LookUp for MakeUpWithin {
+    ghost use Rattle.std.specs.Prelude.{◌≤◌};
+    ghost use Rattle.fax_bits.specs.Tables.{run_table};
+    ghost use Rattle.fax_bits.specs.code.LookUp.{IsCode};
+    ghost use Rattle.fax_bits.specs.declared.runs.RunCode.TheVariants.{MakeUp};
+
+    type Found = u32;
+
+    ghost Means = { λ s b pels.
+        IsCode (run_table s.colour) b (MakeUp pels) × (pels ≤ s.most) };
+
+    #[inline(always)]
+    fn find(self, bits: u32) -> Option<(u32, u32)> {
+        let terminating = u32::from(TERMINATING_CODES);
+        let (len, place) = find_run_code(self.colour, bits >> AFTER_CODE)?;
+        if place < terminating {
+            return None;
+        }
+        let pels = 64 * (place - terminating + 1);
         if pels > self.most {
             return None;
         }
@@ -219,6 +252,39 @@ impl<'a> BitSource<'a> {
         ensures shorter { IsSome result → length self.new.left < length self.old.left }
     {
         self.look_up_last(RunWithin { colour, most })
+    }
+
+    /// Reads a run of the colour that has a make-up code, and at most so many pels: its first make-up
+    /// codes by a look-up each, and the rest by one more (T.4, section 4.1.1). Where it is not found
+    /// so, the source goes on somewhere in the same bits.
+    #[inline(always)]
+    pub fn long_run_within(&mut self, colour: Colour, most: u32) -> Option<ReadRun>
+        ensures run { IfSome result
+            (λ run. IsRun colour self.old.left run.pels self.new.left) }
+        ensures chosen { IfSome result (λ run. IsTrue run.is_chosen
+            → self.old.left ≡ run_bits colour run.pels ++ self.new.left) }
+        ensures few { IfSome result (λ run. run.pels ≤ most) }
+
+        // The source goes on in the same bits.
+        ensures same_end { KeepsEnd self.old self.new }
+        ensures shorter { IsSome result → length self.new.left < length self.old.left }
+    {
+        let mut pels = 0;
+        let mut is_chosen = true;
+        while let Some(more) = self.look_up(MakeUpWithin {
+            colour,
+            most: most - pels,
+        }) {
+            pels += more;
+            is_chosen = is_chosen && more == LONGEST_MAKE_UP;
+            if let Some(last) = self.run_within(colour, most - pels) {
+                return Some(ReadRun {
+                    pels: pels + last,
+                    is_chosen,
+                });
+            }
+        }
+        None
     }
 
     /// Reads a mode by one look-up at most (T.4, table 4). Where it finds none, the source is as it

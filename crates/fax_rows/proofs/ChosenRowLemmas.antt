@@ -6,7 +6,7 @@ use Rattle.fax_bits.specs.declared.FillOrder.TheVariants.{MsbFirst}
 use Rattle.fax_bits.specs.views.Sink.{Sink}
 use Rattle.fax_rows.specs.Coded.{two_dimensional_bits}
 use Rattle.fax_rows.specs.Rows.{Position, first_pel}
-use Rattle.fax_rows.specs.code.Ahead.{bits_from}
+use Rattle.fax_rows.specs.code.ChangesAhead.{bits_from}
 use Rattle.fax_rows.specs.code.Chosen.{GoesOnFrom, IsChosenStep}
 use Rattle.fax_rows.proofs.ChangeLemmas.{first_of}
 use Rattle.fax_rows.proofs.PlacedLemmas.{IsPutToPlace, place_begins, place_goes_on, place_ends}

@@ -3,7 +3,7 @@ use Rattle.std.proofs.Common.{◌≡◌, ℕ, zero, suc, ◌+◌, ◌-◌, ◌<�
 use Rattle.std.specs.Prelude.{Option, Some, None}
 use Rattle.fax_bits.specs.declared.Colour.{Colour}
 use Rattle.fax_bits.specs.views.Sink.{Sink, Appends, AppendsPrefix, AppendsAllBut}
-use Rattle.fax_rows.specs.code.Ahead.{bits_from, place_from}
+use Rattle.fax_rows.specs.code.ChangesAhead.{bits_from, place_from}
 use Rattle.fax_rows.specs.Coded.{step_bits, two_dimensional_bits}
 use Rattle.fax_rows.proofs.ChangeLemmas.{first_of}
 use Rattle.fax_rows.proofs.ChoiceLemmas.{passed, passed_within, place_ahead}

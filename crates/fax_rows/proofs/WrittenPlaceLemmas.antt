@@ -2,30 +2,30 @@
 use Rattle.std.proofs.Common.{◌≡◌, ◌<◌, ◌≤◌, length, sym, ◌∙◌, arith}
 use Rattle.std.specs.Prelude.{Some, unwrap_or}
 use Rattle.fax_rows.specs.declared.put.ChangesAhead.{ChangesAhead}
-use Rattle.fax_rows.specs.declared.rows.Rows.{Rows}
-use Rattle.fax_rows.specs.code.Ahead.{IsAhead}
+use Rattle.fax_rows.specs.declared.rows.RowPair.{RowPair}
+use Rattle.fax_rows.specs.code.ChangesAhead.{AreAhead}
 use Rattle.fax_rows.specs.code.PlacedRow.{placed_pels}
 use Rattle.fax_rows.proofs.ChangeLemmas.{first_of, next_change_is, next_is_ahead, next_of_within}
 use Rattle.fax_rows.proofs.ChoiceLemmas.{a1_is, a1_ahead}
 use Rattle.fax_rows.proofs.PlacedB1Lemmas.{length-placed_pels}
 
-pub written_width : (rows : Rows) → length (placed_pels rows.row) ≡ rows.row.width
+pub written_width : (rows : RowPair) → length (placed_pels rows.row) ≡ rows.row.width
 written_width rows = length-placed_pels rows.row
 
-reference_width : (rows : Rows) → length (placed_pels rows.reference) ≡ rows.reference.width
+reference_width : (rows : RowPair) → length (placed_pels rows.reference) ≡ rows.reference.width
 reference_width rows = length-placed_pels rows.reference
 
-pub same_widths : (rows : Rows) → length (placed_pels rows.reference) ≡ length (placed_pels rows.row)
+pub same_widths : (rows : RowPair) → length (placed_pels rows.reference) ≡ length (placed_pels rows.row)
 same_widths rows = reference_width rows ∙ rows.same_width ∙ sym (written_width rows)
 
 -- the places ascend, within the row
-pub record AreBounded (rows : Rows) (ahead : ChangesAhead) : Type 0 where
+pub record AreBounded (rows : RowPair) (ahead : ChangesAhead) : Type 0 where
   pub a0 : unwrap_or ahead.a0 0 ≤ ahead.a1
   pub a1_a2 : ahead.a1 ≤ ahead.a2
   pub a2 : ahead.a2 ≤ rows.row.width
   pub b1 : ahead.b1 ≤ rows.row.width
 
-pub known_bounds : {rows : Rows} {ahead : ChangesAhead} → IsAhead rows ahead → AreBounded rows ahead
+pub known_bounds : {rows : RowPair} {ahead : ChangesAhead} → AreAhead rows ahead → AreBounded rows ahead
 known_bounds {rows} {ahead} is =
     let width = written_width rows in
     let inside : first_of ahead.a0 < length (placed_pels rows.row) = omega (arith, width) in

@@ -12,9 +12,9 @@ use Rattle.fax_bits.specs.declared.Colour.{Colour}
 use Rattle.fax_bits.specs.declared.Colour.TheVariants.{Black}
 use Rattle.fax_rows.specs.declared.put.ChangesAhead.{ChangesAhead}
 use Rattle.fax_rows.specs.declared.rows.PlacedRow.{PlacedRow}
-use Rattle.fax_rows.specs.declared.rows.Rows.{Rows}
+use Rattle.fax_rows.specs.declared.rows.RowPair.{RowPair}
 use Rattle.fax_rows.specs.Rows.{other, is_right_of, next_change, b1, b2}
-use Rattle.fax_rows.specs.code.Ahead.{IsAhead, IsWrittenTo, mode_from, bits_from, place_from, run_pair}
+use Rattle.fax_rows.specs.code.ChangesAhead.{AreAhead, IsWrittenTo, mode_from, bits_from, place_from, run_pair}
 use Rattle.fax_rows.specs.code.PlacedRow.{placed_pels, IsBeforeB1, IsB1At}
 use Rattle.fax_rows.specs.code.Turns.{alternate, IsFrom, ArePlacesUpTo}
 use Rattle.fax_rows.proofs.ChangeLemmas.{first_of}
@@ -48,7 +48,7 @@ module _ (row : PlacedRow) where
   colour_here None k at inside = ap (alternate Black) at
   colour_here (Some a) k at inside = sym (pel_after row.placed.ascending row.width a k inside at)
 
-module _ {rows : Rows} {ahead : ChangesAhead} (is : IsAhead rows ahead) where
+module _ {rows : RowPair} {ahead : ChangesAhead} (is : AreAhead rows ahead) where
   row_at : (0 < ahead.row) × (ahead.row ≤ rows.row.end)
   row_at = at_from rows.row.placed ahead.a0 ahead.row is.row
 
@@ -191,7 +191,7 @@ module _ {rows : Rows} {ahead : ChangesAhead} (is : IsAhead rows ahead) where
       sym (ap (λ m. next_a0 m at) (under_mode same) ∙ sym is.a1)
 
 -- before the first step a1 and b1 are the first changes
-pub starts : (rows : Rows) → IsWrittenTo rows (record { a0 = None; row = 1; reference = 1 })
+pub starts : (rows : RowPair) → IsWrittenTo rows (record { a0 = None; row = 1; reference = 1 })
 starts rows = record {
   row = λ inside. refl;
   reference = λ inside. record {

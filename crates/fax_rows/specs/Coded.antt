@@ -5,9 +5,8 @@ use Rattle.std.specs.Prelude.{nat_lt, nat_le, nat_eq, if◌then◌else◌, List,
 use Rattle.std.specs.Prelude.{map, take, Option, Some, None, unwrap_or}
 use Rattle.fax_bits.specs.declared.FillOrder.TheVariants.{MsbFirst}
 use Rattle.fax_bits.specs.declared.modes.ModeCode.TheVariants.{Pass, Horizontal, Vertical}
-use Rattle.fax_bits.specs.Bits.{bits}
+use Rattle.fax_bits.specs.Bits.{bits, packed}
 use Rattle.fax_bits.specs.Written.{run_bits, mode_bits}
-use Rattle.fax_bits.specs.Bits.{packed}
 use Rattle.fax_rows.specs.Rows.{Colour, White, Black, other, pel, next_change, b1, b2, runs_of}
 
 -- the bits of runs of alternating colours (T.4, section 4.1.1)

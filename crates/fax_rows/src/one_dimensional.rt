@@ -12,7 +12,7 @@ ghost use Rattle.fax_rows.specs.code.Put.{ArePut, HasRoom};
 
 use crate::RowFault;
 use crate::pels::Row;
-use crate::runs::long_run;
+use crate::runs::last_run;
 use crate::turns::{close, turn_after, turn_right};
 use fax_bits::{BitSource, Colour};
 
@@ -69,7 +69,7 @@ fn next_run(
     if let Some(pels) = ahead.run_within(colour, width - runs.total) {
         return Ok(pels);
     }
-    let run = long_run(ahead, colour, width, runs.total)?;
+    let run = last_run(ahead, colour, width, runs.total)?;
     runs.is_chosen = runs.is_chosen && run.is_chosen;
     Ok(run.pels)
 }

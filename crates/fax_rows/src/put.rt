@@ -1,18 +1,18 @@
 //! Rows as they are written, in T.4's own choice of codes (ITU-T T.4, sections 4.1.1 and
-//! 4.2.1.3.3; T.6, section 2.2.3).
+//! 4.2.1.3.3; T.6, section 2.2.4).
 ghost use Rattle.std.specs.Prelude.{◌≡◌, ◌+◌, ◌-◌, ◌≤◌, ◌<◌, ◌^◌, ◌++◌, length, true, unwrap_or};
 ghost use Rattle.std.specs.Prelude.{Some, None, OnOk, OnErr, IfOk};
 ghost use Rattle.fax_bits.specs.Written.{run_bits};
 ghost use Rattle.fax_bits.specs.views.Sink.{Appends, AppendsPrefix, AppendsAllBut};
 ghost use Rattle.fax_rows.specs.Rows.{other as other_than};
-ghost use Rattle.fax_rows.specs.code.Ahead as Spec;
+ghost use Rattle.fax_rows.specs.code.ChangesAhead as Spec;
 ghost use Rattle.fax_rows.specs.code.Choice as Choice;
 ghost use Rattle.fax_rows.specs.Coded as Coded;
 ghost use Rattle.fax_rows.specs.code.PlacedRow.{placed_pels};
 
 use crate::longest_runs::LongestRuns;
 use crate::pels::Row;
-use crate::rows::Rows;
+use crate::rows::RowPair;
 use crate::runs::other;
 use crate::turns::colour_after;
 use fax_bits::{BitSink, Colour, Memory, ModeCode, PendingBits, SHORT_RUN};
@@ -66,7 +66,7 @@ pub fn put_1d(row: &Row, sink: &mut BitSink) -> Result<(), Memory>
 
 /// How far a row is written (T.4, section 4.2.1.3.1).
 #[derive(Clone, Copy)]
-struct Written {
+struct WrittenTo {
     /// The place of a0, where `None` is just before the first pel.
     a0: Option<u32>,
     /// The index of a1 among the row's places.
@@ -95,10 +95,10 @@ struct ChangesAhead {
 impl ChangesAhead {
     /// What stands ahead inside a row.
     #[inline(always)]
-    fn of(rows: Rows, at: Written) -> ChangesAhead
+    fn of(rows: RowPair, at: WrittenTo) -> ChangesAhead
         requires places { Spec.IsWrittenTo rows at }
         requires unfinished { unwrap_or at.a0 0 < rows.row.width }
-        ensures places { Spec.IsAhead rows.entry result }
+        ensures places { Spec.AreAhead rows.entry result }
         ensures start { result.a0 ≡ at.a0 }
     {
         ChangesAhead {
@@ -115,13 +115,13 @@ impl ChangesAhead {
 
     /// After pass mode: a0 is put under b2.
     #[inline(always)]
-    fn after_pass(self, rows: Rows) -> Written
-        requires places { Spec.IsAhead rows self }
+    fn after_pass(self, rows: RowPair) -> WrittenTo
+        requires places { Spec.AreAhead rows self }
         requires left { self.b2 < self.a1 }
         ensures places { Spec.IsWrittenTo rows.entry result }
         ensures start { result.a0 ≡ Some self.b2 }
     {
-        Written {
+        WrittenTo {
             a0: Some(self.b2),
             row: self.row,
             reference: self.reference + 2,
@@ -130,13 +130,13 @@ impl ChangesAhead {
 
     /// After a1 that is under b1: the next b1 is the reference row's next changing element.
     #[inline(always)]
-    fn after_b1(self, rows: Rows) -> Written
-        requires places { Spec.IsAhead rows self }
+    fn after_b1(self, rows: RowPair) -> WrittenTo
+        requires places { Spec.AreAhead rows self }
         requires same { self.a1 ≡ self.b1 }
         ensures places { Spec.IsWrittenTo rows.entry result }
         ensures start { result.a0 ≡ Some self.a1 }
     {
-        Written {
+        WrittenTo {
             a0: Some(self.a1),
             row: self.row + 1,
             reference: self.reference + 1,
@@ -145,12 +145,12 @@ impl ChangesAhead {
 
     /// After any a1.
     #[inline(always)]
-    fn after_a1(self, rows: Rows) -> Written
-        requires places { Spec.IsAhead rows self }
+    fn after_a1(self, rows: RowPair) -> WrittenTo
+        requires places { Spec.AreAhead rows self }
         ensures places { Spec.IsWrittenTo rows.entry result }
         ensures start { result.a0 ≡ Some self.a1 }
     {
-        Written {
+        WrittenTo {
             a0: Some(self.a1),
             row: self.row + 1,
             reference: rows.reference.turned_b1_after(self.reference, self.a1),
@@ -159,12 +159,12 @@ impl ChangesAhead {
 
     /// After horizontal mode: a0 is put on a2.
     #[inline(always)]
-    fn after_a2(self, rows: Rows) -> Written
-        requires places { Spec.IsAhead rows self }
+    fn after_a2(self, rows: RowPair) -> WrittenTo
+        requires places { Spec.AreAhead rows self }
         ensures places { Spec.IsWrittenTo rows.entry result }
         ensures start { result.a0 ≡ Some self.a2 }
     {
-        Written {
+        WrittenTo {
             a0: Some(self.a2),
             row: self.row + 2,
             reference: rows.reference.b1_after(self.reference, self.a2),
@@ -195,12 +195,12 @@ fn choose(a1: u32, b1: u32, b2: u32) -> ModeCode
 /// which bits are pending.
 #[inline(always)]
 fn put_far_step(
-    rows: Rows,
+    rows: RowPair,
     ahead: ChangesAhead,
     pending: PendingBits,
     sink: &mut BitSink,
-) -> Result<(Written, PendingBits), Memory>
-    requires places { Spec.IsAhead rows ahead }
+) -> Result<(WrittenTo, PendingBits), Memory>
+    requires places { Spec.AreAhead rows ahead }
     ensures ok { IfOk result (λ next. AppendsAllBut sink.old
         (pending ++ Spec.bits_from (placed_pels rows.entry.reference)
         (placed_pels rows.entry.row) ahead.a0) next.1 sink.new) }
@@ -236,11 +236,11 @@ fn put_far_step(
 /// Puts the next step, and answers how far the row is written then, and which bits are pending.
 #[inline(always)]
 fn put_step(
-    rows: Rows,
-    at: Written,
+    rows: RowPair,
+    at: WrittenTo,
     pending: PendingBits,
     sink: &mut BitSink,
-) -> Result<(Written, PendingBits), Memory>
+) -> Result<(WrittenTo, PendingBits), Memory>
     requires places { Spec.IsWrittenTo rows at }
     requires unfinished { unwrap_or at.a0 0 < rows.row.width }
     ensures ok { IfOk result (λ next. AppendsAllBut sink.old
@@ -263,13 +263,13 @@ fn put_step(
 }
 
 /// Puts the steps of a row.
-fn put_steps(rows: Rows, sink: &mut BitSink) -> Result<(), Memory>
+fn put_steps(rows: RowPair, sink: &mut BitSink) -> Result<(), Memory>
     ensures ok { OnOk result (Appends sink.old (Coded.two_dimensional_bits
         (placed_pels rows.entry.reference) (placed_pels rows.entry.row)) sink.new) }
     ensures err { OnErr result (AppendsPrefix sink.old (Coded.two_dimensional_bits
         (placed_pels rows.entry.reference) (placed_pels rows.entry.row)) sink.new) }
 {
-    let mut at = Written {
+    let mut at = WrittenTo {
         a0: None,
         row: 1,
         reference: 1,
@@ -282,7 +282,7 @@ fn put_steps(rows: Rows, sink: &mut BitSink) -> Result<(), Memory>
 }
 
 /// Puts a row in two-dimensional coding over its reference row (T.4, section 4.2.1.3.3; T.6,
-/// section 2.2.3). It takes time in proportion to the changing elements of both rows.
+/// section 2.2.4). It takes time in proportion to the changing elements of both rows.
 ///
 /// # Errors
 ///
@@ -294,7 +294,7 @@ pub fn put_2d(reference: &Row, row: &Row, sink: &mut BitSink) -> Result<(), Memo
     ensures err { OnErr result
         (AppendsPrefix sink.old (Coded.two_dimensional_bits reference.now row.now) sink.new) }
 {
-    let rows = Rows {
+    let rows = RowPair {
         reference: reference.placed(),
         row: row.placed(),
     };

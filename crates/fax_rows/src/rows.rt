@@ -110,7 +110,7 @@ impl PlacedRow<'_> {
 
 /// The row that is written, and its reference row.
 #[derive(Clone, Copy)]
-pub(crate) struct Rows<'a> {
+pub(crate) struct RowPair<'a> {
     pub reference: PlacedRow<'a>,
     pub row: PlacedRow<'a>,
     pub ghost same_width: { reference.width ≡ row.width },

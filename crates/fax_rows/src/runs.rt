@@ -9,7 +9,7 @@ ghost use Rattle.fax_rows.specs.Rows.{other as other_than};
 ghost use Rattle.fax_rows.specs.Faults.{IsRunFault};
 
 use crate::RowFault;
-use fax_bits::{BitSource, BlackRuns, CodeFault, Colour, RunCode, WhiteRuns, read_code};
+use fax_bits::{BitSource, BlackRuns, CodeFault, Colour, ReadRun, RunCode, WhiteRuns, read_code};
 
 /// The opposite colour.
 pub(crate) fn other(colour: Colour) -> Colour
@@ -69,14 +69,6 @@ fn read_run(source: &mut BitSource, colour: Colour, width: u32, from: u32) -> Re
     }
 }
 
-/// A run that is read.
-#[derive(Clone, Copy)]
-pub(crate) struct ReadRun {
-    pub pels: u32,
-    /// Whether its codes are seen to be those that T.4 chooses.
-    pub is_chosen: bool,
-}
-
 /// What `read_run` does: by one look-up, where that finds the run, and then the codes are seen to be
 /// those that T.4 chooses.
 #[cold]
@@ -112,7 +104,7 @@ fn read_last_run(
 
 /// What `read_last_run` does for a source that stands in a value: only a copy of it is lent.
 #[inline(always)]
-pub(crate) fn long_run(
+pub(crate) fn last_run(
     source: &mut BitSource,
     colour: Colour,
     width: u32,

@@ -37,7 +37,7 @@ struct ReadRow {
 
 /// What `read_modes` does without `EXACT`. Near the end of the bytes it stops at once.
 #[inline(always)]
-fn read_quickly<const CHOICE: bool>(
+fn read_by_look_ups<const CHOICE: bool>(
     source: &mut BitSource,
     reference: PlacedRow,
     places: &mut [u32],
@@ -84,7 +84,7 @@ fn read_places<const CHOICE: bool>(
     ensures room { HasRoom reference.entry.width places.new }
     ensures same_end { KeepsEnd source.old source.new }
 {
-    match read_quickly::<CHOICE>(source, reference, places) {
+    match read_by_look_ups::<CHOICE>(source, reference, places) {
         Ok(end) => return Ok(ReadRow {
             end,
             is_chosen: CHOICE,
@@ -143,8 +143,8 @@ fn read_row<const CHOICE: bool>(
 }
 
 /// Reads a row in two-dimensional coding over the reference row: modes from just before the first
-/// pel on, up to the row's width (T.4, sections 4.2.1.3.1 to 4.2.1.3.4; T.6, sections 2.2.1 to
-/// 2.2.4). It takes no memory.
+/// pel on, up to the row's width (T.4, sections 4.2.1.3.1 to 4.2.1.3.4; T.6, sections 2.2.2 to
+/// 2.2.5). It takes no memory.
 ///
 /// # Errors
 ///
@@ -166,7 +166,7 @@ pub fn read_2d(source: &mut BitSource, reference: &Row, row: &mut Row) -> Result
 }
 
 /// Reads a row as `read_2d` does, and answers whether its codes are seen to be those that T.4
-/// chooses (T.4, section 4.2.1.3.3; T.6, section 2.2.3). Where they are not seen to be so, nothing
+/// chooses (T.4, section 4.2.1.3.3; T.6, section 2.2.4). Where they are not seen to be so, nothing
 /// is said of them.
 ///
 /// # Errors

@@ -7,7 +7,7 @@ use Rattle.fax_bits.specs.Codes.{IsRun}
 use Rattle.fax_bits.specs.Written.{run_bits}
 use Rattle.fax_rows.specs.Rows.{other, pel, is_right_of, Position, first_pel, AreSteps}
 use Rattle.fax_rows.specs.code.Seen.{b1_from, b2_from}
-use Rattle.fax_rows.specs.code.Ahead.{bits_from, place_from}
+use Rattle.fax_rows.specs.code.ChangesAhead.{bits_from, place_from}
 
 -- the row has the pels that are read, and a0's colour at a0 (T.4, section 4.2.1.3.1)
 pub record GoesOnFrom (row : List Colour) (at : Position) : Type 0 where

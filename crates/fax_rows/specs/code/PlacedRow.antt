@@ -10,14 +10,14 @@ use Rattle.fax_rows.specs.code.Turns.{row_of, alternate}
 abbrev pub placed_pels : PlacedRow → List Colour
 placed_pels row = row_of row.places.now row.end row.width
 
--- where the search for b1 right of the pel a begins: no change of the other colour left of place b
+-- where the search for b1 right of the pel a begins: no change of the other colour left of index b
 -- is right of a (T.4, section 4.2.1.3.1)
 pub record IsBeforeB1 (row : PlacedRow) (a : ℕ) (colour : Colour) (b : ℕ) : Type 0 where
   pub within : b ≤ row.end + 1
   pub colour_is : alternate Black b ≡ colour
   pub passed : 2 < b → slice_index row.places.now (b - 2) ≤ a
 
--- b1 stands at place b of the reference row, as seen from a0 of this colour
+-- b1 stands at index b of the reference row, as seen from a0 of this colour
 -- (T.4, section 4.2.1.3.1)
 pub record IsB1At (row : PlacedRow) (a0 : Option ℕ) (colour : Colour) (b : ℕ) : Type 0 where
   pub some : 0 < b

@@ -4,7 +4,7 @@ use Rattle.fax_rows.specs.declared.RowFault.{RowFault}
 use Rattle.fax_rows.specs.declared.two_dimensional.codes.Stop.{Stop}
 use Rattle.fax_rows.specs.declared.two_dimensional.codes.Stop.TheVariants.{Doubt, Fault}
 
--- a fault of these; or a doubt, but not where a row is read exactly and T.4's choice is not asked for
+-- a fault of these; or a doubt, but with `EXACT` only where T.4's choice is asked for
 abbrev pub IsStopOf : Bool → Bool → (RowFault → Type 0) → Stop → Type 0
 IsStopOf choice exact faults Doubt = IsTrue exact → IsTrue choice
 IsStopOf choice exact faults (Fault fault) = faults fault

@@ -14,7 +14,7 @@ ghost use Rattle.fax_rows.specs.code.Stop.{IsStopOf};
 
 use super::choices::is_taken;
 use crate::RowFault;
-use crate::runs::{long_run, other};
+use crate::runs::{last_run, other};
 use fax_bits::{BitSource, CodeFault, Colour, ModeCode, Modes, read_code};
 
 /// Why a row is not read to its end.
@@ -40,7 +40,7 @@ impl From<RowFault> for Stop {
 /// Reads a mode by a look-up near the end of the bytes too, or else by its table.
 #[cold]
 #[inline(never)]
-fn read_mode(source: &mut BitSource) -> Result<ModeCode, CodeFault>
+fn read_last_mode(source: &mut BitSource) -> Result<ModeCode, CodeFault>
     ensures ok { IfOk result (λ mode. Takes modes source.old.left mode source.new.left) }
     ensures err { IfErr result (λ fault. IsFaultOf modes source.old.left fault) }
     ensures same_end { KeepsEnd source.old source.new }
@@ -68,7 +68,7 @@ pub(super) fn next_mode<const EXACT: bool>(source: &mut BitSource) -> Result<Mod
         return Err(Stop::Doubt);
     }
     let mut copy = source.again();
-    match read_mode(&mut copy) {
+    match read_last_mode(&mut copy) {
         Ok(mode) => {
             source.skip_to(copy.place());
             Ok(mode)
@@ -100,10 +100,13 @@ fn next_run<const CHOICE: bool, const EXACT: bool>(
     if let Some(n) = source.run_within(colour, width - from) {
         return Ok(n);
     }
-    if !EXACT {
-        return Err(Stop::Doubt);
-    }
-    let run = long_run(source, colour, width, from)?;
+    let run = if EXACT {
+        last_run(source, colour, width, from)?
+    } else {
+        source
+            .long_run_within(colour, width - from)
+            .ok_or(Stop::Doubt)?
+    };
     if is_taken::<CHOICE>(run.is_chosen) {
         Ok(run.pels)
     } else {

@@ -64,7 +64,7 @@ fn horizontal<const CHOICE: bool, const EXACT: bool>(
 
 /// Vertical mode: goes on to a1, which is `d` pels right of b1, where the colour changes (T.4,
 /// section 4.2.1.3.2). Vertical mode always is T.4's choice where a1 is not right of b1 (T.4,
-/// section 4.2.1.3.3).
+/// section 4.2.1.3.3). `EXACT` stands in the clauses alone.
 #[inline(always)]
 fn vertical<const CHOICE: bool, const EXACT: bool>(
     reference: PlacedRow,
@@ -100,7 +100,8 @@ fn vertical<const CHOICE: bool, const EXACT: bool>(
     }
 }
 
-/// Pass mode, where that is T.4's choice or this is not asked for (T.4, section 4.2.1.3.3).
+/// Pass mode, where that is T.4's choice or this is not asked for (T.4, section 4.2.1.3.3). `EXACT`
+/// stands in the clauses alone.
 #[inline(always)]
 fn pass<const CHOICE: bool, const EXACT: bool>(
     reference: PlacedRow,

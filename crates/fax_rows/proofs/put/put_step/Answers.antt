@@ -1,6 +1,6 @@
 use Rattle.std.proofs.Common.{◌∙◌, ap}
 use Rattle.std.specs.Prelude.{Some}
-use Rattle.fax_rows.specs.code.Ahead.{place_from}
+use Rattle.fax_rows.specs.code.ChangesAhead.{place_from}
 use Rattle.fax_rows.specs.code.PlacedRow.{placed_pels}
 use Rattle.fax_rows.proofs.WrittenStepLemmas.{under_bits, under_place}
 use Rattle.fax_rows.proofs.put.put_step.Goals as goal

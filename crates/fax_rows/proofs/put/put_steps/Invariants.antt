@@ -1,5 +1,5 @@
 use Rattle.std.proofs.Common.{◌+◌, ◌-◌}
-use Rattle.fax_rows.specs.code.Ahead.{IsWrittenTo}
+use Rattle.fax_rows.specs.code.ChangesAhead.{IsWrittenTo}
 use Rattle.fax_rows.specs.code.PlacedRow.{placed_pels}
 use Rattle.fax_rows.proofs.ChoiceLemmas.{passed}
 use Rattle.fax_rows.proofs.PlacedLemmas.{IsPutToPlace}

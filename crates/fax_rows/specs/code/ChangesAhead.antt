@@ -6,8 +6,8 @@ use Rattle.fax_bits.specs.declared.Colour.TheVariants.{Black}
 use Rattle.fax_bits.specs.declared.modes.ModeCode.{ModeCode}
 use Rattle.fax_bits.specs.Written.{run_bits, mode_bits}
 use Rattle.fax_rows.specs.declared.put.ChangesAhead.{ChangesAhead}
-use Rattle.fax_rows.specs.declared.put.Written.{Written}
-use Rattle.fax_rows.specs.declared.rows.Rows.{Rows}
+use Rattle.fax_rows.specs.declared.put.WrittenTo.{WrittenTo}
+use Rattle.fax_rows.specs.declared.rows.RowPair.{RowPair}
 use Rattle.fax_rows.specs.code.Choice.{places, colour_of, chosen_mode, run_pair_bits, next_a0}
 use Rattle.fax_rows.specs.Rows.{other, next_change, b1, b2}
 use Rattle.fax_rows.specs.code.PlacedRow.{placed_pels, IsB1At}
@@ -15,7 +15,7 @@ use Rattle.fax_rows.specs.code.Turns.{alternate, IsFrom}
 
 -- the indexes are those of a1 and b1 as seen from a0, while the row is not at its end
 -- (T.4, section 4.2.1.3.1)
-pub record IsWrittenTo (rows : Rows) (at : Written) : Type 0 where
+pub record IsWrittenTo (rows : RowPair) (at : WrittenTo) : Type 0 where
   pub row : unwrap_or at.a0 0 < rows.row.width
       → IsFrom rows.row.places.now rows.row.end at.a0 at.row
   pub reference : unwrap_or at.a0 0 < rows.row.width
@@ -23,7 +23,7 @@ pub record IsWrittenTo (rows : Rows) (at : Written) : Type 0 where
 
 -- the places are those of the two rows as seen from a0 inside the row, and stand at these indexes
 -- (T.4, section 4.2.1.3.1)
-pub record IsAhead (rows : Rows) (ahead : ChangesAhead) : Type 0 where
+pub record AreAhead (rows : RowPair) (ahead : ChangesAhead) : Type 0 where
   pub unfinished : unwrap_or ahead.a0 0 < rows.row.width
   pub a1 : ahead.a1 ≡ next_change (placed_pels rows.row) ahead.a0
   pub a2 : ahead.a2 ≡ next_change (placed_pels rows.row) (Some ahead.a1)

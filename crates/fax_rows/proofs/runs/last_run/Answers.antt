@@ -3,7 +3,7 @@ use Rattle.fax_bits.specs.Codes.{IsRun}
 use Rattle.fax_bits.specs.Written.{run_bits}
 use Rattle.fax_bits.specs.views.Source.{Source}
 use Rattle.fax_rows.proofs.RunLemmas.{run_after, from_there}
-use Rattle.fax_rows.proofs.runs.long_run.Goals as goal
+use Rattle.fax_rows.proofs.runs.last_run.Goals as goal
 
 pub returns-clause-ok : goal.returns-clause-ok
 returns-clause-ok c =
