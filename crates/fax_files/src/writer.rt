@@ -7,7 +7,7 @@ ghost use Rattle.fax_files.specs.views.Writing as Spec;
 
 use crate::PageForm;
 use crate::written::{
-    MAX_FILE, TO_LINK, append, laid_out, page_end, page_tail, set_link, strips_end,
+    MAX_FILE, StripsAt, TO_LINK, append, laid_out, page_end, page_tail, set_link, strips_end,
 };
 use fax_bits::Memory;
 use std::alloc::Global;
@@ -100,7 +100,8 @@ impl TiffWriter {
             return Err(WriteFault::OutputTooLarge);
         }
         let at = laid_out(form.strips, start, end, self.added, self.total);
-        let Ok(tail) = page_tail(self.alloc, form, strips, start, end, &at) else {
+        let placed = StripsAt { strips, start, end };
+        let Ok(tail) = page_tail(self.alloc, form, placed, &at) else {
             return Err(WriteFault::Memory);
         };
         if self

@@ -269,22 +269,31 @@ fn put_strips(out: &mut Vec<u8>, strips: &[Vec<u8>]) -> Result<(), AllocError>
     Ok(())
 }
 
-/// The bytes of a page that stand after its strips, which begin at `start` and end at `end`: a
-/// zero byte to an even place, the directory, and the values that do not fit it.
+/// The strips of a page that is written, which begin and end at these places of the file.
+#[derive(Clone, Copy)]
+pub(crate) struct StripsAt<'a> {
+    pub strips: &'a [Vec<u8>],
+    pub start: u32,
+    pub end: u32,
+}
+
+/// The bytes of a page that stand after its strips: a zero byte to an even place, the directory,
+/// and the values that do not fit it.
 pub(crate) fn page_tail(
     alloc: Global,
     form: &PageForm,
-    strips: &[Vec<u8>],
-    start: u32,
-    end: u32,
+    placed: StripsAt,
     at: &Layout,
 ) -> Result<Vec<u8>, AllocError>
-    requires end { end ≡ start + length (Parts.joined_strips (contents strips.now)) }
+    requires end { placed.end
+        ≡ placed.start + length (Parts.joined_strips (contents placed.strips.now)) }
     requires limit { at.now.directory ≤ max_file }
-    requires strips { at.now.strips ≡ length strips.now }
+    requires strips { at.now.strips ≡ length placed.strips.now }
     ensures { IfOk result (λ tail. tail.items
-        ≡ tail_bytes end (laid_out_fields at.now form.now) form.now start (contents strips.now)) }
+        ≡ tail_bytes placed.end (laid_out_fields at.now form.now) form.now placed.start
+        (contents placed.strips.now)) }
 {
+    let StripsAt { strips, start, end } = placed;
     let mut tail = Vec::new(alloc);
     if end % 2 == 1 {
         tail.extend_from_slice(&[0])?;

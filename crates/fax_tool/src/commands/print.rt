@@ -216,32 +216,39 @@ fn give_next<L: Lines, W: Sink>(
     give_all(out, interruptions, next.as_bytes())
 }
 
+/// What the last line says: how the printing ended, `None` at its limit, and whether it tells where
+/// to go on by a long cursor.
+#[derive(Clone, Copy)]
+struct LastLine {
+    ending: Option<End>,
+    long: bool,
+}
+
 /// Writes the last line of the output: `end`, or where to go on, or none for a cursor outside of
 /// the file. Where printing ended at its limit there is no end.
 fn give_last_line<L: Lines, W: Sink>(
     alloc: Global,
     lines: &L,
-    long: bool,
-    ending: Option<End>,
+    last: LastLine,
     out: &mut W,
     interruptions: &mut Interruptions,
 ) -> Result<(), Refusal>
     requires { W.counts out.old ≡ counted interruptions.old }
     ensures ok { OnOk result ((line : List ℕ) × IsLastLine (L.tail lines.now)
-        (L.begun lines.now) (L.given lines.now) long ending line
+        (L.begun lines.now) (L.given lines.now) last.long last.ending line
         × Appends (W.written out.old) (W.written out.new) line) }
     ensures worked { OnOk result (HasWorked (W.counts out.new)) }
     ensures err { IfErr result (λ refusal. StopsPrinting
-        (λ printed. IsLastLine (L.tail lines.now) (L.begun lines.now) (L.given lines.now) long
-        ending printed.output)
+        (λ printed. IsLastLine (L.tail lines.now) (L.begun lines.now) (L.given lines.now)
+        last.long last.ending printed.output)
         (IsNextLine (L.tail lines.now) (L.begun lines.now) (L.given lines.now) false) refusal
         (output_after (W.written out.old) (W.written out.new) (W.counts out.new))) }
 {
-    match ending {
+    match last.ending {
         Some(End::Proper) => give_all(out, interruptions, b"end\n"),
         Some(End::Outside) => give_all(out, interruptions, b""),
-        Some(End::Fault { .. }) => give_next(alloc, lines, long, out, interruptions),
-        None => give_next(alloc, lines, long, out, interruptions),
+        Some(End::Fault { .. }) => give_next(alloc, lines, last.long, out, interruptions),
+        None => give_next(alloc, lines, last.long, out, interruptions),
     }
 }
 
@@ -268,7 +275,8 @@ fn print_all<L: Lines, W: Sink>(
     lines.are_one();
     let mut interruptions = Interruptions::NONE;
     let ending = print_lines(alloc, lines, max, out, &mut interruptions)?;
-    give_last_line(alloc, lines, long, ending, out, &mut interruptions)?;
+    let last = LastLine { ending, long };
+    give_last_line(alloc, lines, last, out, &mut interruptions)?;
     Ok(end_line(ending))
 }
 

@@ -11,17 +11,17 @@ use Rattle.fax_files.proofs.written.page_tail.Goals.{then-at-ne1+in_ok-put_offse
 
 pub returns : goal.returns
 returns c =
-    let strips = contents c.args.strips.now in
-    let offsets = offsets_from c.args.start strips in
+    let strips = contents c.args.placed.strips.now in
+    let offsets = offsets_from c.args.placed.start strips in
     let offsets_len : length offsets ≡ c.args.at.now.strips =
-    length-offsets_from c.args.start strips ∙ length-contents c.args.strips.now ∙ sym c.requires.strips in
+    length-offsets_from c.args.placed.start strips ∙ length-contents c.args.placed.strips.now ∙ sym c.requires.strips in
     let lengths_len : length (lengths_of strips) ≡ c.args.at.now.strips =
-    length-lengths_of strips ∙ length-contents c.args.strips.now ∙ sym c.requires.strips in
-    let pad : c.if-end-eq1.tail.items ≡ replicate (c.args.end % 2) 0 =
+    length-lengths_of strips ∙ length-contents c.args.placed.strips.now ∙ sym c.requires.strips in
+    let pad : c.if-end-eq1.tail.items ≡ replicate (c.args.placed.end % 2) 0 =
     elim c.if-end-eq1.branch [
       | then-end-eq1+in_ok-extend_from_slice w
           ↦ rw (w.tail-is, w.in_ok-extend_from_slice.ensures.items, c.new-tail.ensures.items, w.if-end-eq1.true) refl
-      | else-end-eq1 w ↦ (let even : c.args.end % 2 ≡ 0 =
+      | else-end-eq1 w ↦ (let even : c.args.placed.end % 2 ≡ 0 =
           omega (arith, w.if-end-eq1.false) in rw (w.tail-is, c.new-tail.ensures.items, even) refl)
     ] in
     let arrays : c.if-at-ne1.tail.items ≡ c.put_rational-2.new.out.items ++ array_bytes offsets ++ array_bytes (lengths_of strips) =
