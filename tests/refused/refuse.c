@@ -2,7 +2,7 @@
  *
  *   REFUSE_KIND   words (malloc and realloc before a file is opened), memory (after that), read, write
  *                 (standard output) or error (the error stream)
- *   REFUSE_HOW    fail (no memory, or EIO), short (1 byte) or interrupt (EINTR)
+ *   REFUSE_HOW    fail (no memory, or EIO), short (1 byte), nothing (0 bytes) or interrupt (EINTR)
  *   REFUSE_FROM   the first call of this kind that is refused, from 1
  *   REFUSE_CALLS  how many are, one after another
  *   REFUSE_BYTES  at most so many bytes go through any call of this kind that is not refused
@@ -90,6 +90,8 @@ static ssize_t transfer(const char *of, long call, int stream, long place, size_
     if (strcmp(kind, of) == 0 && size > bytes)
         size = bytes;
     if (refused(of)) {
+        if (strcmp(how, "nothing") == 0)
+            return 0;
         if (strcmp(how, "short") != 0) {
             errno = strcmp(how, "fail") == 0 ? EIO : EINTR;
             return -1;

@@ -5,7 +5,6 @@ pub mod Transfers
 pub mod Printing
 pub mod ReportParts
 pub mod Outcome
-pub mod Caller
 pub mod Entries
 pub mod CommandLine
 pub mod Scan

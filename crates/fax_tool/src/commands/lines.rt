@@ -127,6 +127,7 @@ impl Lines for Pages<'_> {
 
     fn long_cursor(&self, _alloc: Global) -> Result<Option<LongCursor>, Memory> {
         fax_walk::laws::form_tails_are_one();
+        // For the proof: what a cursor says is known of the pages.
         let _after = Pages::cursor(self);
         Ok(None)
     }
