@@ -60,12 +60,6 @@ one_put all left rest at to run old now so_far is =
           ∙ ap (λ l. l ++ drop (to + 1) old) (append_assoc (take at old) front (run ∷ []));
     }
 
-pub below_end : (all left rest : List ℕ) (at to run : ℕ) (old now : List ℕ) → AreRunsPut all left at to old now → left ≡ run ∷ rest
-    → length now ≡ length old → to < length now
-below_end all left rest at to run old now so_far is same =
-    let len_all : length all ≡ length so_far.front + length left = ap length so_far.all_is ∙ length-append so_far.front left in
-    omega (arith, len_all, ap length is, so_far.room, so_far.to_is, same)
-
 pub all_put : (all left : List ℕ) (at to : ℕ) (old now : List ℕ) → AreRunsPut all left at to old now → left ≡ []
     → now ≡ take at old ++ all ++ drop (at + length all) old
 all_put all left at to old now so_far none =

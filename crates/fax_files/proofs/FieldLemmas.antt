@@ -80,11 +80,6 @@ tag_searched tag found h = answer found (searched TAGS tag found h not_below)
       | inr le ↦ (let above = apart.2 k le inside in absurd (omega arith))
     ]
 
--- nothing is found before an entry was seen
-pub none_seen : (first : List (Option Entry)) → length first ≡ length TAGS → ((i : ℕ) → i < length TAGS → get_or first i None ≡ None)
-    → AreFirst [] first
-none_seen first count none = record { count = count; first_is = none }
-
 -- an entry of a tag that is looked for
 pub seen : (entry : Entry) (fields : List Entry) (first : List (Option Entry)) (slot : ℕ) → slot < length TAGS
     → get_or TAGS slot 0 ≡ entry.tag

@@ -79,12 +79,7 @@ stop_is dimension width reference b cause fault (inl (inl marker)) in_codes = in
 stop_is dimension width reference b cause fault (inl (inr short)) in_codes = inr (inl short)
 stop_is dimension width reference b cause fault (inr code) in_codes = inr (inr (code.0, cause, in_codes, code.1))
 
--- the cause in a start
-pub cause_at_start : (form : StripForm) (i : ℕ) (reference : List Colour) (b : List Bool) (fault : StripFault)
-    → IsStartFault form.coding i b fault → IsCause form i reference b fault
-cause_at_start form i reference b fault stop = inl (fault_is form.coding i b fault stop)
-
--- and in codes
+-- the cause in codes
 pub cause_in_codes : (form : StripForm) (i : ℕ) (reference : List Colour) (b : List Bool) (dimension : Dimension) (codes : List Bool)
     (cause : RowFault) (fault : StripFault)
     → IsStarted form.coding i b dimension codes → IsStop codes cause fault → IsRowFaultIn dimension form.width reference codes cause

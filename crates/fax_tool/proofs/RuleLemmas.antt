@@ -10,7 +10,6 @@ use Rattle.std.specs.List.{slice_index_or}
 use Rattle.fax_tool.specs.code.CommandLine.{faxpages_app, file_rule, flag_rule, number_rule, text_rule}
 use Rattle.fax_tool.specs.Grammar.{Item, Text, commands, file, flag, letter, number, text}
 use Rattle.fax_tool.specs.code.Scan.{has_letter, has_long}
-use Rattle.clap.proofs.OnLiterals.{clap_on_literals}
 use Rattle.clap.specs.Simple.{new_rule}
 
 abbrev pub letter_rule : ℕ → Rule
@@ -32,14 +31,6 @@ items_at i = (slice_index_or commands i ([], [])).1
 
 abbrev pub sub_at : ℕ → Shape
 sub_at i = slice_index_or (built faxpages_app).subs i (new_shape [])
-
-list_rules : (sub_at 0).rules ≡ rules_of (items_at 0)
-unfolding clap_on_literals
-list_rules = refl
-
-convert_rules : (sub_at 2).rules ≡ rules_of (items_at 2)
-unfolding clap_on_literals
-convert_rules = refl
 
 or_false : (b : Bool) → (b || false) ≡ b
 or_false true = refl

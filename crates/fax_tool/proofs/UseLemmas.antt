@@ -84,9 +84,6 @@ IsItem (number name most) = most < 2 ^ 63
 IsItem (letter x) = length (encode_utf8 x) ≡ 1
 IsItem item = Unit {0}
 
-true_passes : {A : Type 0} (r : Option A) → guard (or_else [] []) r ≡ r
-true_passes r = refl
-
 both_fit : (num low : Bool) (n most : ℕ) → most < 2 ^ 63
     → (num && (nat_lt n (2 ^ 63) && (low && nat_le n most))) ≡ (num && (low && nat_le n most))
 both_fit num low n most fits = ap (λ b. num && b) (go (nat_le n most) refl)

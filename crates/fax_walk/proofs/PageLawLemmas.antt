@@ -23,7 +23,7 @@ use Rattle.fax_walk.specs.laws.Tails.{FilesHaveOneForms, CursorsHaveOneFormTail,
 use Rattle.fax_walk.specs.laws.Tails.{FormTailsGoOn}
 use Rattle.fax_walk.specs.code.Places.{AreBegun}
 use Rattle.fax_walk.proofs.TailLemmas.{begun_of_forms, forms_of_begun}
-use Rattle.fax_walk.proofs.InOrderLemmas.{IsOneAnswer, IsListed, same_answer, same_step, one_list, one_begun, split_at_number}
+use Rattle.fax_walk.proofs.InOrderLemmas.{IsOneAnswer, IsListed, one_list, one_begun, split_at_number}
 use Rattle.fax_walk.specs.Pages.{Step, goes_on, ends_as}
 
 -- an equation has one answer
@@ -108,30 +108,6 @@ module _ (chains : FilesHaveOneChain) (file : List ℕ) where
       let form_of : FilePage → Step FormItem ℕ = λ here. goes_on (record { page = p; form = here.form }) (p + 1) in
       let only = one_on_page (record { page = p; row = 0 }) (λ here step. step ≡ form_of here) ends_as (λ here. only_it (form_of here)) in
       record { it = only.it; is = only.is; one = only.one }
-
--- the forms from page p on, with what is at the page
-abbrev pub FormsAt : List ℕ → ℕ → Result FilePage End → List FormItem → End → Type 0
-FormsAt file p (Err none) forms end = (forms ≡ []) × (end ≡ none)
-FormsAt file p (Ok here) forms end =
-    (others : List FormItem) × (forms ≡ record { page = p; form = here.form } ∷ others) × AreFrom (IsForm file) (p + 1) others end
-
-module _ (chains : FilesHaveOneChain) (file : List ℕ) where
-  pub forms_at : (p : ℕ) (found : Result FilePage End) → IsPageAt file (record { page = p; row = 0 }) found
-      → (forms : List FormItem) (end : End)
-      → AreFrom (IsForm file) p forms end → FormsAt file p found forms end
-  forms_at p (Err none) is [] end step =
-      let same = same_answer (one_form chains file p) (ends_as end) (ends_as none) step (Err none, is, refl) in
-      (refl, cc)
-  forms_at p (Err none) is (x ∷ forms) end (to, step, rest) =
-      let same = same_answer (one_form chains file p) (goes_on x to) (ends_as none) step (Err none, is, refl) in
-      absurd cc
-  forms_at p (Ok here) is [] end step =
-      let same =
-      same_answer (one_form chains file p) (ends_as end) (goes_on (record { page = p; form = here.form }) (p + 1)) step (Ok here, is, refl) in
-      absurd cc
-  forms_at p (Ok here) is (x ∷ forms) end (to, step, rest) =
-      let same = same_step (one_form chains file p) x (record { page = p; form = here.form }) to (p + 1) step (Ok here, is, refl) in
-      (forms, ap (λ (i : FormItem). i ∷ forms) same.0, subst (λ (n : ℕ). AreFrom (IsForm file) n forms end) same.1 rest)
 
 -- the pages after a directory that stands in the chain
 module _ (file : List ℕ) (head : Header) (is_head : header file ≡ Ok head) (offsets : List ℕ) (fault : Option FileFault)

@@ -20,7 +20,7 @@ use Rattle.fax_walk.specs.Pages.{AreFrom}
 use Rattle.fax_walk.specs.views.InOrder.{EndsAfter, HandsOut, HasEndedAs, HasToldNoOther}
 use Rattle.fax_walk.specs.laws.InOrder.{LeadTo, IsLeftOf}
 use Rattle.fax_walk.specs.Pages.{LongPlace}
-use Rattle.fax_walk.specs.views.Walk.{AreRead, EndsBefore, EntersPage, IsCursorOf, IsItemNumber, IsLongOf, IsNext, row_limit}
+use Rattle.fax_walk.specs.views.Walk.{AreRead, EndsBefore, EntersPage, IsCursorOf, IsItemNumber, IsLongOf, row_limit}
 use Rattle.fax_walk.specs.laws.Left.{IsLeft}
 use Rattle.fax_walk.specs.views.Walk.{WalkView}
 use Rattle.fax_walk.specs.Items.{IsRow, IsTailFrom, RowItem, RowPlace, begun_cursor, first_at}
@@ -28,8 +28,6 @@ use Rattle.fax_walk.specs.code.Places.{place_over}
 use Rattle.fax_walk.specs.code.Places.{dropped, long_at}
 use Rattle.fax_walk.specs.laws.Tails.{BeginningsHaveOneTail}
 use Rattle.fax_walk.specs.code.Stages.{GivesNone, GivesRow, IsOpen, IsOpenedAt, PageState, place_of, row_of, skipped}
-use Rattle.fax_walk.specs.declared.end.WalkFault.{WalkFault}
-use Rattle.fax_walk.specs.declared.end.WalkFault.TheVariants.{Memory as NoMemory, AtRow, CursorOutside}
 use Rattle.fax_walk.specs.code.Walk.{IsAdvance, answer_of, GoesOnFrom, HasCome, HasEndedOn, HasReadTo, IsAfterItem, IsEntered, IsOpenOrNone}
 use Rattle.fax_walk.specs.code.Walk.{IsOpenedFirst}
 use Rattle.fax_walk.specs.code.Walk.{IsDueOn, IsReadNext, IsShown, IsSound, StandsAt, cursor_on}
@@ -149,14 +147,6 @@ refused_later file begun first on new fault is (inl same) =
     subst (λ (p : Option PageState). IsReadNext file begun p (Err fault) new) same (refused_next file begun on new fault is)
 refused_later file begun first None new fault is (inr due) = absurd due
 refused_later file begun first (Some on) new fault is (inr due) = absurd (omega (arith, is.0, due))
-
--- the page that was entered has a row that is due
-pub entered_open : (file : List ℕ) (begun : Begun) (old new : Option PageState) → IsEntered file begun old (Ok tt) new
-    → IsOpenOrNone new × IsDueOn new
-entered_open file begun None (Some page) first = (first.from.opened.is_open, first.from.opened.row_due)
-entered_open file begun (Some old) (Some page) (all, opened) = (opened.is_open, opened.row_due)
-entered_open file begun None None none = absurd none
-entered_open file begun (Some old) None none = absurd none
 
 module _ (by_place : AreBitsByPlace) (lines_read : LinesAreRead) (chains : FilesHaveOneChain) (file : List ℕ) (begun : Begun) (given : ℕ)
     (cursor : Cursor) where
@@ -525,11 +515,6 @@ pub ends_now : (walk : WalkView) (cursor : Cursor) (old new : Option PageState) 
     → HasEndedAs IsTailFrom walk end (record walk { told = Some end })
 ends_now walk cursor old new end untold sound next =
     has_ended walk cursor new end (next walk.given cursor (rw untold at sound).0) (rw untold tt)
-
-pub fault_answer : (old new : WalkView) (fault : WalkFault) → IsAdvance old (Err fault) new → IsNext old (Err fault) new
-fault_answer old new NoMemory refused = refused
-fault_answer old new (AtRow page row cause) ended = ended
-fault_answer old new CursorOutside ended = ended
 
 -- the row that a walk went to is lent with its place
 pub lent : (old walk : WalkView) (cursor : Cursor) (page : Option PageState) → IsAdvance old (Ok true) walk → (at : PageState)
