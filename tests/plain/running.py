@@ -11,16 +11,25 @@ class Streams:
 
     def __init__(self):
         self.files = [os.memfd_create(name) for name in ("input", "output", "error")]
+        signal.signal(signal.SIGALRM, stop)
 
-    def fill(self, contents):
-        for file, content in zip(self.files, contents):
-            os.ftruncate(file, 0)
-            os.pwrite(file, content, 0)
-            os.lseek(file, 0, os.SEEK_SET)
+    def fill(self, content):
+        """Makes these bytes all that is read."""
+        file = self.files[0]
+        os.ftruncate(file, len(content))
+        os.pwrite(file, content, 0)
+        os.lseek(file, 0, os.SEEK_SET)
 
-    def text(self, number):
+    def taken(self, number):
+        """The text that was written to a stream, which is empty then."""
         file = self.files[number]
-        return os.pread(file, os.fstat(file).st_size, 0).decode()
+        size = os.fstat(file).st_size
+        if size == 0:
+            return ""
+        content = os.pread(file, size, 0)
+        os.ftruncate(file, 0)
+        os.lseek(file, 0, os.SEEK_SET)
+        return content.decode()
 
 
 class Overtime(Exception):
@@ -33,7 +42,6 @@ def stop(_signal, _frame):
 
 def wait(process):
     """The status that a process ends with; it is killed where that takes too long."""
-    signal.signal(signal.SIGALRM, stop)
     signal.alarm(LIMIT)
     try:
         status = os.waitpid(process, 0)[1]
@@ -54,8 +62,8 @@ def run(program, words, data):
     if not STREAMS:
         STREAMS.append(Streams())
     streams = STREAMS[0]
-    streams.fill([data, b"", b""])
+    streams.fill(data)
     places = [(os.POSIX_SPAWN_DUP2, file, number) for number, file in enumerate(streams.files)]
-    process = os.posix_spawn(program, [program, *words], os.environ, file_actions=places)
+    process = os.posix_spawn(program, [program, *words], {}, file_actions=places)
     status = wait(process)
-    return streams.text(1), streams.text(2), status
+    return streams.taken(1), streams.taken(2), status
