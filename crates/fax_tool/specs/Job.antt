@@ -18,8 +18,7 @@ use Rattle.fax_walk.specs.declared.options.Target.{Target}
 use Rattle.fax_walk.specs.declared.options.Target.TheVariants.{Mh, Mmr, Mr, Pbm}
 use Rattle.fax_walk.specs.Pages.{IsCursor, cursor_text, start, IsLongCursor, LongPlace}
 use Rattle.fax_walk.specs.Pages.{long_cursor_text}
-use Rattle.fax_tool.specs.Grammar.{AreOfCommand, AreOfNoCommand, Text, Use, most_lines}
-use Rattle.fax_tool.specs.Grammar.{text_in}
+use Rattle.fax_tool.specs.Grammar.{AreOfCommand, AreOfNoCommand, Text, Use, most_lines, text_in}
 use Rattle.fax_tool.specs.declared.words.Command.{Command}
 use Rattle.fax_tool.specs.declared.words.Command.TheVariants.{Check, Convert, List as Forms, Rows}
 use Rattle.fax_tool.specs.declared.words.Job.{Job}
@@ -130,7 +129,7 @@ HasRanges (Convert options) =
     IsInRange most_rows options.k × IfSome options.strip (IsInRange most_rows)
 HasRanges Check = Unit {0}
 
--- a command's cursor is one, and so is its long cursor, which has a run
+-- a command's cursor is one, as not each `Cursor` is, and so is its `LongPlace`, which has a run
 abbrev pub HasCursors : Command → Type 0
 HasCursors (Forms part) = IsCursor part.cursor
 HasCursors (Rows part) = IsCursor part.cursor × IfSome part.from IsLongCursor

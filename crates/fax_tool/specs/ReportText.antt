@@ -36,7 +36,8 @@ report_text report = record {
 abbrev pub IsCheckText : List ℕ → Printed → Type 0
 IsCheckText file printed = (report : Report) × IsReport file report × (printed ≡ report_text report)
 
--- the error line of a file that is not converted: `fault image I: Name` for one image of several
+-- the error line of a file that is not converted: `fault image I: Name` for one image of several;
+-- that of Memory is asked for by nothing, since `IsNotConverted` is never so there
 abbrev pub convert_fault_line : ConvertFault → List ℕ
 convert_fault_line Refused.UnknownInput = codes "fault: UnknownInput\n"
 convert_fault_line (Refused.Pbm image fault) =
