@@ -290,8 +290,8 @@ pub(crate) fn page_tail(
     requires limit { at.now.directory ≤ max_file }
     requires strips { at.now.strips ≡ length placed.strips.now }
     ensures { IfOk result (λ tail. tail.items
-        ≡ tail_bytes placed.end (laid_out_fields at.now form.now) form.now placed.start
-        (contents placed.strips.now)) }
+        ≡ tail_bytes placed.entry.end (laid_out_fields at.now form.now) form.now
+        placed.entry.start (contents placed.entry.strips.now)) }
 {
     let StripsAt { strips, start, end } = placed;
     let mut tail = Vec::new(alloc);
