@@ -257,7 +257,6 @@ impl<'a> BitSource<'a> {
     /// Reads a run of the colour that has a make-up code, and at most so many pels: its first make-up
     /// codes by a look-up each, and the rest by one more (T.4, section 4.1.1). Where it is not found
     /// so, the source goes on somewhere in the same bits.
-    #[inline(always)]
     pub fn long_run_within(&mut self, colour: Colour, most: u32) -> Option<ReadRun>
         ensures run { IfSome result
             (λ run. IsRun colour self.old.left run.pels self.new.left) }

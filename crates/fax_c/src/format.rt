@@ -87,6 +87,7 @@ impl RowFormat for Changes {
 
     #[tactic(auto, using(crate::proofs::FormatLemmas::has_few_changes))]
     fn put(row: &Row, out: &mut [u32], at: usize) -> Option<usize> {
+        // For the proof: a row has no more changes than pels.
         let _width = row.width();
         let changes = row.changes();
         if out.len() - at < changes.len() {

@@ -132,7 +132,7 @@ impl<'a> StripReader<'a> {
     ///
     /// Why the row that is due could not be read. Every later call answers the same, until
     /// `restart` or `restart_at`.
-    #[inline(never)]
+    #[inline(always)]
     pub fn advance(&mut self) -> Result<bool, StripFault>
         ensures { IsAdvance self.old result self.new }
     {

@@ -69,8 +69,8 @@ fn read_run(source: &mut BitSource, colour: Colour, width: u32, from: u32) -> Re
     }
 }
 
-/// What `read_run` does: by one look-up, where that finds the run, and then the codes are seen to be
-/// those that T.4 chooses.
+/// What `read_run` does: by one look-up, or a look-up for each code, where these find the run, and
+/// then the codes may be seen to be those that T.4 chooses.
 #[cold]
 #[inline(never)]
 fn read_last_run(
@@ -94,6 +94,11 @@ fn read_last_run(
             pels,
             is_chosen: true,
         });
+    }
+    let mut ahead = source.again();
+    if let Some(run) = ahead.long_run_within(colour, width - from) {
+        source.go_to(&ahead);
+        return Ok(run);
     }
     let pels = read_run(source, colour, width, from)?;
     Ok(ReadRun {

@@ -33,14 +33,18 @@ struct ReadRow {
     end: usize,
     /// Whether its codes are seen to be those that T.4 chooses.
     is_chosen: bool,
+    /// Whether it had a code that no look-up finds.
+    is_doubted: bool,
 }
 
-/// What `read_modes` does without `EXACT`. Near the end of the bytes it stops at once.
+/// What `read_modes` does without `EXACT`. After a row that was doubted, and near the end of the
+/// bytes, it stops at once.
 #[inline(always)]
 fn read_by_look_ups<const CHOICE: bool>(
     source: &mut BitSource,
     reference: PlacedRow,
     places: &mut [u32],
+    is_doubted: bool,
 ) -> Result<usize, Stop>
     requires room { HasRoom reference.width places.old }
     ensures ok { IfOk result (λ end. Spec.IsTwoDimensionalRow (placed_pels reference.entry)
@@ -57,7 +61,7 @@ fn read_by_look_ups<const CHOICE: bool>(
     ensures room { HasRoom reference.entry.width places.new }
     ensures same_end { KeepsEnd source.old source.new }
 {
-    if source.is_near_end() {
+    if is_doubted || source.is_near_end() {
         return Err(Stop::Doubt);
     }
     read_modes::<CHOICE, false>(source, reference, places)
@@ -70,6 +74,7 @@ fn read_places<const CHOICE: bool>(
     source: &mut BitSource,
     reference: PlacedRow,
     places: &mut [u32],
+    is_doubted: bool,
 ) -> Result<ReadRow, RowFault>
     requires room { HasRoom reference.width places.old }
     ensures ok { IfOk result (λ read. Spec.IsTwoDimensionalRow (placed_pels reference.entry)
@@ -84,18 +89,22 @@ fn read_places<const CHOICE: bool>(
     ensures room { HasRoom reference.entry.width places.new }
     ensures same_end { KeepsEnd source.old source.new }
 {
-    match read_by_look_ups::<CHOICE>(source, reference, places) {
+    match read_by_look_ups::<CHOICE>(source, reference, places, is_doubted) {
         Ok(end) => return Ok(ReadRow {
             end,
             is_chosen: CHOICE,
+            is_doubted: false,
         }),
         Err(Stop::Fault(fault)) => return Err(fault),
         Err(Stop::Doubt) => {}
     }
+    // Else the end of the bytes was near, and no code was doubted.
+    let is_doubted_now = is_doubted || !source.is_near_end();
     match read_modes::<CHOICE, true>(source, reference, places) {
         Ok(end) => return Ok(ReadRow {
             end,
             is_chosen: CHOICE,
+            is_doubted: is_doubted_now,
         }),
         Err(Stop::Fault(fault)) => return Err(fault),
         Err(Stop::Doubt) => {}
@@ -104,6 +113,7 @@ fn read_places<const CHOICE: bool>(
         Ok(end) => Ok(ReadRow {
             end,
             is_chosen: false,
+            is_doubted,
         }),
         Err(Stop::Fault(fault)) => Err(fault),
         Err(Stop::Doubt) => unreachable!(),
@@ -129,10 +139,12 @@ fn read_row<const CHOICE: bool>(
 {
     let reference = reference.placed();
     let width = row.width;
+    let is_doubted = row.is_doubted;
     let places = row.places.as_mut_slice();
-    match read_places::<CHOICE>(source, reference, places) {
+    match read_places::<CHOICE>(source, reference, places, is_doubted) {
         Ok(read) => {
             row.end = close(places, read.end, width);
+            row.is_doubted = read.is_doubted;
             Ok(read.is_chosen)
         }
         Err(fault) => {

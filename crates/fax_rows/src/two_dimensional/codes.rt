@@ -100,13 +100,10 @@ fn next_run<const CHOICE: bool, const EXACT: bool>(
     if let Some(n) = source.run_within(colour, width - from) {
         return Ok(n);
     }
-    let run = if EXACT {
-        last_run(source, colour, width, from)?
-    } else {
-        source
-            .long_run_within(colour, width - from)
-            .ok_or(Stop::Doubt)?
-    };
+    if !EXACT {
+        return Err(Stop::Doubt);
+    }
+    let run = last_run(source, colour, width, from)?;
     if is_taken::<CHOICE>(run.is_chosen) {
         Ok(run.pels)
     } else {
