@@ -1,4 +1,4 @@
-use Rattle.std.proofs.Common.{◌≡◌, ◌+◌, length, refl, arith}
+use Rattle.std.proofs.Common.{refl, arith}
 use Rattle.std.proofs.lemmas.Bool.{eqb-true}
 use Rattle.fax_bits.proofs.LongRunLemmas.{none_made_up, none_chosen, one_made_up, one_chosen}
 use Rattle.fax_bits.proofs.source.BitSource.long_run_within.Goals as goal
