@@ -8,7 +8,7 @@ use Rattle.fax_bits.specs.declared.Colour.{Colour}
 use Rattle.fax_bits.specs.declared.Colour.TheVariants.{White, Black}
 use Rattle.fax_rows.specs.declared.two_dimensional.steps.Reached.{Reached}
 use Rattle.fax_rows.specs.declared.two_dimensional.steps.PlacedReached.{PlacedReached}
-use Rattle.fax_rows.specs.Rows.{other, is_right_of, b2, Position, a0_number, coloured_up_to}
+use Rattle.fax_rows.specs.Rows.{other, is_right_of, b2, Position, beginning, a0_number, coloured_up_to}
 use Rattle.fax_rows.specs.Rows.{IsInRow, IsVerticalStep, IsHorizontalStep, IsTwoDimensionalRow}
 use Rattle.fax_rows.specs.declared.RowFault.{RowFault}
 use Rattle.fax_rows.specs.Faults.{IsStepFault, IsTwoDimensionalFault}
@@ -18,9 +18,9 @@ use Rattle.fax_rows.specs.code.PlacedRow.{placed_pels, IsB1At}
 use Rattle.fax_rows.specs.code.Put.{ArePut, HasRoom}
 use Rattle.fax_rows.specs.code.Turns.{turned, pels_by, IsTurnedFrom, TurnsAt}
 use Rattle.fax_rows.specs.code.PlacedReached.{placed_position, IsReadTo, IsReadInside}
-use Rattle.fax_rows.specs.code.Chosen.{after_pair}
+use Rattle.fax_rows.specs.code.Chosen.{after_pair, GoesOn}
 use Rattle.fax_bits.specs.Codes.{IsRun}
-use Rattle.fax_rows.proofs.StepLemmas.{AreStepsSoFar, unfinished_below, abs-same, vertical_step}
+use Rattle.fax_rows.proofs.StepLemmas.{unfinished_below, abs-same, vertical_step}
 use Rattle.std.proofs.Math.Seq.{take-length}
 use Rattle.fax_rows.proofs.PaintLemmas.{painted_front}
 use Rattle.fax_rows.proofs.TurnLemmas.{other-other, length-pels_by, pel-pels_by}
@@ -338,7 +338,7 @@ nothing_read {reference} {places} room = record {
 
 -- the row is read to its end
 pub steps_done : (reference : List Colour) (b : List Bool) (at : Reached) (row : List Colour) (rest : List Bool) (width : ℕ)
-    → AreStepsSoFar reference b (position_of at row) rest → 0 < width → reached_pel at ≡ width → length row ≡ width
+    → GoesOn reference beginning b (position_of at row) rest → 0 < width → reached_pel at ≡ width → length row ≡ width
     → length reference ≡ width
     → IsTwoDimensionalRow reference b row rest
 steps_done reference b at row rest width so_far some done len same = record {
@@ -362,7 +362,7 @@ two_dimensional_as {reference = reference} {b = b} {shown = shown} {rest = rest}
 
 -- a step that is no part of the row
 pub fault_here : (reference : List Colour) (b : List Bool) (at : Reached) (row : List Colour) (mid : List Bool)
-    → AreStepsSoFar reference b (position_of at row) mid → reached_pel at < length reference
+    → GoesOn reference beginning b (position_of at row) mid → reached_pel at < length reference
     → (fault : RowFault) → IsStepFault reference (position_of at row) mid fault → IsTwoDimensionalFault reference b fault
 fault_here reference b at row mid so_far less fault step = record {
   positions = so_far.positions;

@@ -6,8 +6,7 @@ use Rattle.std.proofs.lemmas.Int.{ints}
 use Rattle.fax_bits.specs.declared.Colour.{Colour}
 use Rattle.fax_bits.specs.declared.Colour.TheVariants.{White}
 use Rattle.fax_rows.specs.declared.two_dimensional.steps.Reached.{Reached}
-use Rattle.fax_rows.specs.Rows.{other, Position, beginning, coloured_up_to, IsInRow, IsVerticalStep}
-use Rattle.fax_rows.specs.Rows.{AreSteps}
+use Rattle.fax_rows.specs.Rows.{other, Position, coloured_up_to, IsInRow, IsVerticalStep}
 use Rattle.fax_rows.specs.code.Seen.{b1_from}
 use Rattle.fax_rows.specs.code.Reached.{position_of}
 
@@ -37,15 +36,6 @@ vertical_step reference old new at next d a1 colour in_row a1_is coloured turn =
   a1_is = a1_is;
   new_is = turned at next old new a1 colour coloured turn;
 }
-
--- steps of a row so far
-pub record AreStepsSoFar (reference : List Colour) (b : List Bool) (at : Position) (rest : List Bool) : Type 0 where
-  pub positions : List Position
-  pub steps : AreSteps reference beginning b positions at rest
-
-pub steps_begin : (reference row : List Colour) (b : List Bool)
-    → AreStepsSoFar reference b (position_of (record { a0 = None; colour = White }) row) b
-steps_begin reference row b = record { positions = []; steps = (refl, refl) }
 
 -- a row is unfinished while a pel is left
 pub unfinished_below : (reference : List Colour) (o : Option ℕ) → unwrap_or o 0 < length reference → o ≡ Some (length reference) → ⊥

@@ -1,10 +1,11 @@
 -- A row in one-dimensional coding whose next run has a fault, and why a row in two-dimensional coding is not read on.
 use Rattle.std.proofs.Common.{ℕ, ◌<◌, List, Bool, subst, arith}
+use Rattle.std.specs.Prelude.{Result, Ok, Err, IfErr}
 use Rattle.fax_bits.specs.declared.Colour.{Colour}
 use Rattle.fax_bits.specs.declared.Colour.TheVariants.{White}
 use Rattle.fax_rows.specs.declared.RowFault.{RowFault}
 use Rattle.fax_rows.specs.declared.two_dimensional.codes.Stop.{Stop}
-use Rattle.fax_rows.specs.declared.two_dimensional.codes.Stop.TheVariants.{Doubt, Fault}
+use Rattle.fax_rows.specs.declared.two_dimensional.codes.Stop.TheVariants.{Due, Other, Fault}
 use Rattle.fax_rows.specs.Faults.{IsOneDimensionalFault, IsRunFault}
 use Rattle.fax_rows.specs.code.Stop.{IsStopOf}
 use Rattle.fax_rows.proofs.CodedRunLemmas.{stop_from}
@@ -21,8 +22,16 @@ row_stops {width} {b} {chosen} {total} {colour} {places} {end} {left} {fault} re
           (subst (λ c. IsRunFault c width total left fault) so_far.colour_is stops);
     }
 
--- a fault of some is one of others
-pub stop_as : (choice exact : Bool) {faults others : RowFault → Type 0} (stop : Stop) → IsStopOf choice exact faults stop
-    → ((fault : RowFault) → faults fault → others fault) → IsStopOf choice exact others stop
-stop_as choice exact Doubt is all = is
-stop_as choice exact (Fault fault) is all = all fault is
+-- why a row is not read on, by what else holds of a fault and of what is due
+pub stop_as : {D : Type 0} (choice : Bool) {faults others : RowFault → Type 0} {dues more : D → Type 0} (stop : Stop D)
+    → IsStopOf choice faults dues stop → ((fault : RowFault) → faults fault → others fault) → ((due : D) → dues due → more due)
+    → IsStopOf choice others more stop
+stop_as choice (Due due) is all each = each due is
+stop_as choice Other is all each = is
+stop_as choice (Fault fault) is all each = all fault is
+
+pub stops_as : {A D : Type 0} (choice : Bool) {faults others : RowFault → Type 0} {dues more : D → Type 0} (found : Result A (Stop D))
+    → IfErr found (λ stop. IsStopOf choice faults dues stop) → ((fault : RowFault) → faults fault → others fault)
+    → ((due : D) → dues due → more due) → IfErr found (λ stop. IsStopOf choice others more stop)
+stops_as choice (Ok x) is all each = tt
+stops_as choice (Err stop) is all each = stop_as choice stop is all each

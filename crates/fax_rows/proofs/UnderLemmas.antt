@@ -22,44 +22,11 @@ use Rattle.fax_rows.specs.code.PlacedRow.{placed_pels}
 use Rattle.fax_rows.specs.code.PlacedReached.{placed_position, IsReadTo, IsReadInside, IsReadOn}
 use Rattle.fax_rows.specs.code.Reached.{position_of}
 use Rattle.fax_rows.specs.code.Turns.{turned, alternate, pels_by, IsAscending, IsTurnedFrom, TurnsAt}
-use Rattle.fax_rows.proofs.ChosenRowLemmas.{IsChosenSoFar, chosen_goes_on as row_goes_on}
 use Rattle.fax_rows.proofs.ChosenStepLemmas.{under_chosen}
 use Rattle.fax_rows.proofs.PlacedB1Lemmas.{length-placed_pels, b1_next}
 use Rattle.fax_rows.proofs.PlacedStepLemmas.{vertical_placed, turned_so_far, under_right, under_ahead, under_within, from_start, room_left}
-use Rattle.fax_rows.proofs.StepLemmas.{AreStepsSoFar, unfinished_below}
+use Rattle.fax_rows.proofs.StepLemmas.{unfinished_below}
 use Rattle.fax_rows.proofs.TurnLemmas.{alternate-suc, turned-push_left, turned-push_right}
-
-AreSteps-append : (reference : List Colour) (first : Position) (b : List Bool) (before : List Position) (old : Position)
-    (mid : List Bool) (after : List Position) (new : Position) (rest : List Bool)
-    → AreSteps reference first b before old mid → AreSteps reference old mid after new rest
-    → AreSteps reference first b (before ++ after) new rest
-AreSteps-append reference first b [] old mid after new rest steps more =
-    subst (λ c. AreSteps reference first c after new rest) (sym steps.1)
-    (subst (λ at. AreSteps reference at mid after new rest) steps.0 more)
-AreSteps-append reference first b (next ∷ before) old mid after new rest steps more =
-    (steps.0, steps.1, steps.2, AreSteps-append reference next steps.1 before old mid after new rest steps.3 more)
-
--- more steps of a row
-pub all_go_on : {reference : List Colour} {b : List Bool} {old : Position} {mid : List Bool} {new : Position} {rest : List Bool}
-    → AreStepsSoFar reference b old mid → GoesOn reference old mid new rest → AreStepsSoFar reference b new rest
-all_go_on {reference = reference} {b = b} {old = old} {mid = mid} {new = new} {rest = rest} so_far more = record {
-  positions = so_far.positions ++ more.positions;
-  steps = AreSteps-append reference beginning b so_far.positions old mid more.positions new rest so_far.steps more.steps;
-}
-
-chosen_on : (reference : List Colour) (b : List Bool) (old : Position) (mid : List Bool) (positions : List Position) (new : Position)
-    (rest : List Bool) → IsChosenSoFar reference b old mid → AreChosenSteps reference old mid positions new rest
-    → IsChosenSoFar reference b new rest
-chosen_on reference b old mid [] new rest so_far more =
-    subst (λ at. IsChosenSoFar reference b at rest) (sym more.0) (subst (λ c. IsChosenSoFar reference b old c) more.1 so_far)
-chosen_on reference b old mid (next ∷ positions) new rest so_far more =
-    chosen_on reference b next more.1 positions new rest
-    (row_goes_on reference b old mid next more.1 so_far more.2 more.0) more.3
-
--- and more steps that T.4 would have chosen
-pub all_chosen_go_on : (reference : List Colour) (b : List Bool) (old : Position) (mid : List Bool) (new : Position) (rest : List Bool)
-    → IsChosenSoFar reference b old mid → GoesOnAsChosen reference old mid new rest → IsChosenSoFar reference b new rest
-all_chosen_go_on reference b old mid new rest so_far more = chosen_on reference b old mid more.positions new rest so_far more.steps
 
 -- one step from where the row is read to
 pub step_goes_on : {reference : PlacedRow} {places : List ℕ} {at : PlacedReached} → IsReadInside reference places at

@@ -19,9 +19,6 @@ pub struct Row {
     /// The index after the last change.
     pub(crate) end: usize,
     pub(crate) width: u32,
-    /// Whether the row that was last read to it had a code that no look-up finds, so that the next
-    /// one may have such too: a hint, of which nothing is said.
-    pub(crate) is_doubted: bool,
 }
 
 impl Model for Row {
@@ -68,7 +65,6 @@ impl Row {
             places,
             end: 1,
             width,
-            is_doubted: false,
         })
     }
 
@@ -161,6 +157,5 @@ impl Row {
     {
         let places = self.places.as_mut_slice();
         self.end = close(places, 1, self.width);
-        self.is_doubted = false;
     }
 }

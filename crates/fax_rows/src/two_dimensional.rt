@@ -2,7 +2,6 @@
 //! places of change over a reference row's places.
 ghost use Rattle.std.specs.Prelude.{◌≡◌, ◌+◌, ◌-◌, ◌≤◌};
 ghost use Rattle.std.specs.Prelude.{◌++◌, length, slice_index, OnOk, OnErr, IfOk, IfErr, IsTrue};
-ghost use Rattle.std.specs.Prelude.{false};
 ghost use Rattle.fax_bits.specs.views.Source.{KeepsEnd};
 ghost use Rattle.fax_rows.specs.Coded.{two_dimensional_bits};
 ghost use Rattle.fax_rows.specs.Rows as Spec;
@@ -16,13 +15,15 @@ use crate::RowFault;
 use crate::pels::Row;
 use crate::rows::PlacedRow;
 use crate::turns::close;
-use codes::Stop;
+use codes::{Due, Stop};
+use due::read_on;
 use fax_bits::BitSource;
-use modes::read_modes;
+use modes::read_by_look_ups;
 
 mod choices;
 mod codes;
 mod copied;
+mod due;
 mod modes;
 mod steps;
 
@@ -33,19 +34,17 @@ struct ReadRow {
     end: usize,
     /// Whether its codes are seen to be those that T.4 chooses.
     is_chosen: bool,
-    /// Whether it had a code that no look-up finds.
-    is_doubted: bool,
 }
 
-/// What `read_modes` does without `EXACT`. After a row that was doubted, and near the end of the
-/// bytes, it stops at once.
+/// Reads the modes of a row over the reference row, and answers where its places end: by look-ups,
+/// and from a code on that none of them finds, by the tables. With `CHOICE` it stops at the first
+/// step that is not seen to be T.4's choice; the source is then as it was.
 #[inline(always)]
-fn read_by_look_ups<const CHOICE: bool>(
+fn read_modes<const CHOICE: bool>(
     source: &mut BitSource,
     reference: PlacedRow,
     places: &mut [u32],
-    is_doubted: bool,
-) -> Result<usize, Stop>
+) -> Result<usize, Stop<Due>>
     requires room { HasRoom reference.width places.old }
     ensures ok { IfOk result (λ end. Spec.IsTwoDimensionalRow (placed_pels reference.entry)
         source.old.left (row_of places.new end reference.entry.width) source.new.left) }
@@ -54,27 +53,28 @@ fn read_by_look_ups<const CHOICE: bool>(
     ensures chosen { IfOk result (λ end. IsTrue CHOICE
         → source.old.left ≡ two_dimensional_bits (placed_pels reference.entry)
         (row_of places.new end reference.entry.width) ++ source.new.left) }
-    ensures err { IfErr result (λ stop. IsStopOf CHOICE false
+    ensures err { IfErr result (λ stop. IsStopOf CHOICE
         (λ fault. Fault.IsTwoDimensionalFault (placed_pels reference.entry)
-        source.old.left fault) stop) }
+        source.old.left fault) (λ due. ⊥) stop) }
     ensures unchanged { OnErr result (source.new ≡ source.old) }
     ensures room { HasRoom reference.entry.width places.new }
     ensures same_end { KeepsEnd source.old source.new }
 {
-    if is_doubted || source.is_near_end() {
-        return Err(Stop::Doubt);
+    match read_by_look_ups::<CHOICE>(source, reference, places) {
+        Ok(end) => Ok(end),
+        Err(Stop::Due(left)) => read_on::<CHOICE>(source, reference, places, left),
+        Err(Stop::Other) => Err(Stop::Other),
+        Err(Stop::Fault(fault)) => Err(Stop::Fault(fault)),
     }
-    read_modes::<CHOICE, false>(source, reference, places)
 }
 
-/// Reads the modes of a row over the reference row. After a doubt it reads them again, with
-/// `EXACT`; and where they are not T.4's choice, for their pels alone.
+/// Reads the modes of a row over the reference row; where they are not T.4's choice, once more, for
+/// their pels alone.
 #[inline(always)]
 fn read_places<const CHOICE: bool>(
     source: &mut BitSource,
     reference: PlacedRow,
     places: &mut [u32],
-    is_doubted: bool,
 ) -> Result<ReadRow, RowFault>
     requires room { HasRoom reference.width places.old }
     ensures ok { IfOk result (λ read. Spec.IsTwoDimensionalRow (placed_pels reference.entry)
@@ -89,34 +89,22 @@ fn read_places<const CHOICE: bool>(
     ensures room { HasRoom reference.entry.width places.new }
     ensures same_end { KeepsEnd source.old source.new }
 {
-    match read_by_look_ups::<CHOICE>(source, reference, places, is_doubted) {
+    match read_modes::<CHOICE>(source, reference, places) {
         Ok(end) => return Ok(ReadRow {
             end,
             is_chosen: CHOICE,
-            is_doubted: false,
         }),
         Err(Stop::Fault(fault)) => return Err(fault),
-        Err(Stop::Doubt) => {}
+        Err(Stop::Other) => {}
+        Err(Stop::Due(_)) => unreachable!(),
     }
-    // Else the end of the bytes was near, and no code was doubted.
-    let is_doubted_now = is_doubted || !source.is_near_end();
-    match read_modes::<CHOICE, true>(source, reference, places) {
-        Ok(end) => return Ok(ReadRow {
-            end,
-            is_chosen: CHOICE,
-            is_doubted: is_doubted_now,
-        }),
-        Err(Stop::Fault(fault)) => return Err(fault),
-        Err(Stop::Doubt) => {}
-    }
-    match read_modes::<false, true>(source, reference, places) {
+    match read_modes::<false>(source, reference, places) {
         Ok(end) => Ok(ReadRow {
             end,
             is_chosen: false,
-            is_doubted,
         }),
         Err(Stop::Fault(fault)) => Err(fault),
-        Err(Stop::Doubt) => unreachable!(),
+        Err(Stop::Other | Stop::Due(_)) => unreachable!(),
     }
 }
 
@@ -139,12 +127,10 @@ fn read_row<const CHOICE: bool>(
 {
     let reference = reference.placed();
     let width = row.width;
-    let is_doubted = row.is_doubted;
     let places = row.places.as_mut_slice();
-    match read_places::<CHOICE>(source, reference, places, is_doubted) {
+    match read_places::<CHOICE>(source, reference, places) {
         Ok(read) => {
             row.end = close(places, read.end, width);
-            row.is_doubted = read.is_doubted;
             Ok(read.is_chosen)
         }
         Err(fault) => {

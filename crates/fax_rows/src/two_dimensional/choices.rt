@@ -4,6 +4,7 @@ ghost use Rattle.fax_rows.specs.Rows.{b1, b2, is_right_of};
 ghost use Rattle.fax_rows.specs.code.PlacedRow.{placed_pels, IsB1At};
 ghost use Rattle.fax_rows.specs.code.Reached.{reached_pel};
 
+use super::codes::TwoRuns;
 use super::steps::PlacedReached;
 use crate::rows::PlacedRow;
 
@@ -31,34 +32,35 @@ pub(super) fn chooses_b2<const CHOICE: bool>(reference: PlacedRow, next: PlacedR
     CHOICE && next.reached.first_pel() < reference.width
 }
 
-/// Whether T.4 chooses horizontal mode with two runs of so many pels, as far as the row is read
-/// (T.4, section 4.2.1.3.3).
+/// Whether T.4 chooses horizontal mode with these two runs, as far as the row is read (T.4, section
+/// 4.2.1.3.3).
 #[inline(always)]
 pub(super) fn chooses_runs<const CHOICE: bool>(
     reference: PlacedRow,
     at: PlacedReached,
-    first: u32,
-    second: u32,
+    runs: TwoRuns,
 ) -> bool
     requires b1 { IsB1At reference at.reached.a0 at.reached.colour at.b1 }
-    requires within { reached_pel at.reached + first + second ≤ reference.width }
+    requires within { reached_pel at.reached + runs.first + runs.second ≤ reference.width }
+    ensures codes { IsTrue result → IsTrue runs.is_chosen }
     ensures right { IsTrue result
-        → is_right_of at.reached.a0 (reached_pel at.reached + first) ≡ true }
+        → is_right_of at.reached.a0 (reached_pel at.reached + runs.first) ≡ true }
     ensures second { IsTrue result
-        → reached_pel at.reached + first < reference.entry.width → 0 < second }
-    ensures left { IsTrue result → reached_pel at.reached + first
+        → reached_pel at.reached + runs.first < reference.entry.width → 0 < runs.second }
+    ensures left { IsTrue result → reached_pel at.reached + runs.first
         ≤ b2 (placed_pels reference.entry) at.reached.a0 at.reached.colour }
-    ensures far { IsTrue result → (reached_pel at.reached + first + 3
+    ensures far { IsTrue result → (reached_pel at.reached + runs.first + 3
         < b1 (placed_pels reference.entry) at.reached.a0 at.reached.colour)
         ⊎ (b1 (placed_pels reference.entry) at.reached.a0 at.reached.colour + 3
-        < reached_pel at.reached + first) }
+        < reached_pel at.reached + runs.first) }
 {
-    let a1 = at.reached.first_pel() + first;
+    let a1 = at.reached.first_pel() + runs.first;
     let b1 = reference.places[at.b1];
     let b2 = reference.places[at.b1 + 1];
     CHOICE
+        && runs.is_chosen
         && at.reached.is_left_of(a1)
-        && (second > 0 || a1 == reference.width)
+        && (runs.second > 0 || a1 == reference.width)
         && a1 <= b2
         && (a1 + 3 < b1 || b1 + 3 < a1)
 }

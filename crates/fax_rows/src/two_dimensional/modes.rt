@@ -1,14 +1,19 @@
 //! The modes of a row in two-dimensional coding, read over its reference row (ITU-T T.4, section
 //! 4.2.1.3.3). The bits ahead stand in a value.
-ghost use Rattle.std.specs.Prelude.{◌≡◌, ◌+◌, ◌-◌, ◌≤◌, ◌<◌, ◌++◌, IsTrue, length, slice_index};
-ghost use Rattle.std.specs.Prelude.{IfOk, IfErr, OnOk, OnErr};
+ghost use Rattle.std.specs.Prelude.{◌≡◌, ◌+◌, ◌≤◌, ◌<◌, ◌++◌, Bool, List, IsTrue, length};
+ghost use Rattle.std.specs.Prelude.{IfOk, IfErr, IfSome, Option, OnOk, OnErr};
+ghost use Rattle.fax_bits.specs.Codes.{Takes};
+ghost use Rattle.fax_bits.specs.Tables.{modes};
+ghost use Rattle.fax_bits.specs.Written.{run_bits};
 ghost use Rattle.fax_bits.specs.views.Source.{KeepsEnd};
 ghost use Rattle.fax_rows.specs.Coded.{two_dimensional_bits};
-ghost use Rattle.fax_rows.specs.Rows.{b2};
+ghost use Rattle.fax_rows.specs.Rows.{b2, other as other_than};
 ghost use Rattle.fax_rows.specs.Rows as Spec;
 ghost use Rattle.fax_rows.specs.Faults as Fault;
 ghost use Rattle.fax_rows.specs.declared.RowFault.TheVariants.{OutOfRow};
 ghost use Rattle.fax_rows.specs.code.Chosen as Chosen;
+ghost use Rattle.fax_rows.specs.code.Due.{AreRunsDue, IsDueAt, IsHorizontalDue};
+ghost use Rattle.fax_rows.specs.code.Left.{IsLeft};
 ghost use Rattle.fax_rows.specs.code.Seen.{b2_from};
 ghost use Rattle.fax_rows.specs.code.PlacedRow.{placed_pels};
 ghost use Rattle.fax_rows.specs.code.RowFaults.{IsHorizontalFault};
@@ -19,23 +24,57 @@ ghost use Rattle.fax_rows.specs.code.Reached.{reached_pel};
 ghost use Rattle.fax_rows.specs.code.PlacedReached.{placed_position, IsReadTo, IsReadInside};
 
 use super::choices::{chooses_a1, chooses_b2, chooses_runs, is_taken};
-use super::codes::{Stop, next_mode, two_runs};
+use super::codes::{Due, Stop, TwoRuns, last_two_runs, two_runs};
 use super::copied::under_several;
+use super::due::Left;
 use super::steps::{PlacedReached, after_runs, left_of_b1, right_of_b1, under_b1, under_b2};
 use crate::RowFault;
 use crate::rows::PlacedRow;
 use crate::turns::colour_after;
 use fax_bits::{BitSource, ModeCode};
 
+/// Horizontal mode, after its two runs, where that is T.4's choice or this is not asked for (T.4,
+/// sections 4.2.1.3.2 and 4.2.1.3.3).
+#[inline(always)]
+fn past_runs<const CHOICE: bool>(
+    reference: PlacedRow,
+    places: &mut [u32],
+    at: PlacedReached,
+    runs: TwoRuns,
+) -> Result<PlacedReached, Stop<Due>>
+    requires inside { IsReadInside reference places.old at }
+    requires within { reached_pel at.reached + runs.first + runs.second ≤ reference.width }
+    ensures ok { (b rest : List Bool)
+        → Chosen.AreTwoRuns at.reached.colour b runs.first runs.second rest
+        → IfOk result (λ next. Spec.IsHorizontalStep (placed_pels reference.entry)
+        (placed_position reference.entry.width places.old at) b
+        (placed_position reference.entry.width places.new next) rest) }
+    ensures so_far { IfOk result (λ next. IsReadTo reference.entry places.new next) }
+    ensures chosen { (b rest : List Bool) → (IsTrue runs.is_chosen
+        → b ≡ (run_bits at.reached.colour runs.first
+        ++ run_bits (other_than at.reached.colour) runs.second) ++ rest)
+        → IfOk result (λ next. IsTrue CHOICE → Chosen.IsChosenPair (placed_pels reference.entry)
+        (placed_position reference.entry.width places.old at) b
+        (placed_position reference.entry.width places.new next) rest) }
+    ensures err { IfErr result (λ stop. IsStopOf CHOICE (λ fault. ⊥) (λ due. ⊥) stop) }
+    ensures room { HasRoom reference.entry.width places.new }
+{
+    let chosen = chooses_runs::<CHOICE>(reference, at, runs);
+    if !is_taken::<CHOICE>(chosen) {
+        return Err(Stop::Other);
+    }
+    Ok(after_runs(reference, places, at, runs.first, runs.second))
+}
+
 /// Horizontal mode: two runs from a0 on, the first of a0's colour, which stays (T.4, section
 /// 4.2.1.3.2). The index of b1 tells that colour.
 #[inline(always)]
-fn horizontal<const CHOICE: bool, const EXACT: bool>(
+fn horizontal<const CHOICE: bool>(
     source: &mut BitSource,
     reference: PlacedRow,
     places: &mut [u32],
     at: PlacedReached,
-) -> Result<PlacedReached, Stop>
+) -> Result<PlacedReached, Stop<Due>>
     requires inside { IsReadInside reference places.old at }
     ensures ok { IfOk result (λ next. Spec.IsHorizontalStep (placed_pels reference.entry)
         (placed_position reference.entry.width places.old at) source.old.left
@@ -45,33 +84,31 @@ fn horizontal<const CHOICE: bool, const EXACT: bool>(
         → Chosen.IsChosenPair (placed_pels reference.entry)
         (placed_position reference.entry.width places.old at) source.old.left
         (placed_position reference.entry.width places.new next) source.new.left) }
-    ensures err { IfErr result (λ stop. IsStopOf CHOICE EXACT
-        (λ fault. IsHorizontalFault (placed_pels reference.entry)
-        (placed_position reference.entry.width places.old at) source.old.left fault) stop) }
+    ensures err { IfErr result (λ stop. IsStopOf CHOICE (λ fault. ⊥)
+        (λ due. IsHorizontalDue reference.entry places.old places.new at source.old.left due
+        source.new.left) stop) }
     ensures room { HasRoom reference.entry.width places.new }
     ensures same_end { KeepsEnd source.old source.new }
-    ensures shorter { OnOk result (length source.new.left < length source.old.left) }
+    ensures no_longer { OnOk result (length source.new.left ≤ length source.old.left) }
 {
     let from = at.reached.first_pel();
     let colour = colour_after(at.b1);
-    let (first, second) = two_runs::<CHOICE, EXACT>(source, colour, reference.width, from)?;
-    let chosen = chooses_runs::<CHOICE>(reference, at, first, second);
-    if !is_taken::<CHOICE>(chosen) {
-        return Err(Stop::Doubt);
+    match two_runs(source, colour, reference.width, from) {
+        Ok(runs) => past_runs::<CHOICE>(reference, places, at, runs),
+        Err(first) => Err(Stop::Due(Due::Runs(first))),
     }
-    Ok(after_runs(reference, places, at, first, second))
 }
 
 /// Vertical mode: goes on to a1, which is `d` pels right of b1, where the colour changes (T.4,
 /// section 4.2.1.3.2). Vertical mode always is T.4's choice where a1 is not right of b1 (T.4,
-/// section 4.2.1.3.3). `EXACT` stands in the clauses alone.
+/// section 4.2.1.3.3).
 #[inline(always)]
-fn vertical<const CHOICE: bool, const EXACT: bool>(
+fn vertical<const CHOICE: bool>(
     reference: PlacedRow,
     places: &mut [u32],
     at: PlacedReached,
     d: i8,
-) -> Result<PlacedReached, Stop>
+) -> Result<PlacedReached, Stop<Due>>
     requires inside { IsReadInside reference places.old at }
     ensures ok { IfOk result (λ next. Spec.IsVerticalStep (placed_pels reference.entry)
         (placed_position reference.entry.width places.old at) d
@@ -79,9 +116,9 @@ fn vertical<const CHOICE: bool, const EXACT: bool>(
     ensures so_far { IfOk result (λ next. IsReadTo reference.entry places.new next) }
     ensures left { IfOk result (λ next. IsTrue CHOICE → reached_pel next.reached
         ≤ b2 (placed_pels reference.entry) at.reached.a0 at.reached.colour) }
-    ensures err { IfErr result (λ stop. IsStopOf CHOICE EXACT
+    ensures err { IfErr result (λ stop. IsStopOf CHOICE
         (λ fault. (Spec.IsInRow (placed_pels reference.entry)
-        (placed_position reference.entry.width places.old at) d → ⊥) × (fault ≡ OutOfRow)) stop) }
+        (placed_position reference.entry.width places.old at) d → ⊥) × (fault ≡ OutOfRow)) (λ due. ⊥) stop) }
     ensures room { HasRoom reference.entry.width places.new }
 {
     let out = Stop::Fault(RowFault::OutOfRow);
@@ -96,18 +133,17 @@ fn vertical<const CHOICE: bool, const EXACT: bool>(
     if is_taken::<CHOICE>(chosen) {
         Ok(next)
     } else {
-        Err(Stop::Doubt)
+        Err(Stop::Other)
     }
 }
 
-/// Pass mode, where that is T.4's choice or this is not asked for (T.4, section 4.2.1.3.3). `EXACT`
-/// stands in the clauses alone.
+/// Pass mode, where that is T.4's choice or this is not asked for (T.4, section 4.2.1.3.3).
 #[inline(always)]
-fn pass<const CHOICE: bool, const EXACT: bool>(
+fn pass<const CHOICE: bool>(
     reference: PlacedRow,
     places: &[u32],
     at: PlacedReached,
-) -> Result<PlacedReached, Stop>
+) -> Result<PlacedReached, Stop<Due>>
     requires inside { IsReadInside reference places.now at }
     ensures ok { let from = placed_position reference.entry.width places.now at in
         IfOk result (λ next. placed_position reference.entry.width places.now next
@@ -115,26 +151,105 @@ fn pass<const CHOICE: bool, const EXACT: bool>(
     ensures so_far { IfOk result (λ next. IsReadTo reference.entry places.now next) }
     ensures inside { IfOk result (λ next. IsTrue CHOICE
         → reached_pel next.reached < reference.entry.width) }
-    ensures err { IfErr result (λ stop. IsStopOf CHOICE EXACT (λ fault. ⊥) stop) }
+    ensures err { IfErr result (λ stop. IsStopOf CHOICE (λ fault. ⊥) (λ due. ⊥) stop) }
 {
     let next = under_b2(reference, places, at);
     let chosen = chooses_b2::<CHOICE>(reference, next);
     if is_taken::<CHOICE>(chosen) {
         Ok(next)
     } else {
-        Err(Stop::Doubt)
+        Err(Stop::Other)
     }
 }
 
-/// Reads one mode, and goes on by what it says; where a1 is under b1 it reads more such modes too
-/// (T.4, section 4.2.1.3.3).
-#[inline(always)]
-fn next_steps<const CHOICE: bool, const EXACT: bool>(
+/// Horizontal mode as `horizontal` reads it, but with runs by their tables: the first of them where
+/// it is not read, and the second.
+pub(super) fn last_horizontal<const CHOICE: bool>(
     source: &mut BitSource,
     reference: PlacedRow,
     places: &mut [u32],
     at: PlacedReached,
-) -> Result<PlacedReached, Stop>
+    first: Option<u32>,
+) -> Result<PlacedReached, Stop<Due>>
+    requires inside { IsReadInside reference places.old at }
+    requires fits { IfSome first (λ n. reached_pel at.reached + n ≤ reference.width) }
+    ensures ok { (b : List Bool) → AreRunsDue at.reached.colour b first source.old.left
+        → IfOk result (λ next. Spec.IsHorizontalStep (placed_pels reference.entry)
+        (placed_position reference.entry.width places.old at) b
+        (placed_position reference.entry.width places.new next) source.new.left) }
+    ensures so_far { IfOk result (λ next. IsReadTo reference.entry places.new next) }
+    ensures chosen { (b : List Bool) → AreRunsDue at.reached.colour b first source.old.left
+        → IfOk result (λ next. IsTrue CHOICE → Chosen.IsChosenPair (placed_pels reference.entry)
+        (placed_position reference.entry.width places.old at) b
+        (placed_position reference.entry.width places.new next) source.new.left) }
+    ensures err { (b : List Bool) → AreRunsDue at.reached.colour b first source.old.left
+        → IfErr result (λ stop. IsStopOf CHOICE (λ fault. IsHorizontalFault
+        (placed_pels reference.entry) (placed_position reference.entry.width places.old at) b fault)
+        (λ due. ⊥) stop) }
+    ensures room { HasRoom reference.entry.width places.new }
+    ensures same_end { KeepsEnd source.old source.new }
+    ensures shorter { OnOk result (length source.new.left < length source.old.left) }
+{
+    let from = at.reached.first_pel();
+    let colour = colour_after(at.b1);
+    let runs = last_two_runs(source, colour, reference.width, from, first)?;
+    past_runs::<CHOICE>(reference, places, at, runs)
+}
+
+/// Goes on by a mode, after its code; where a1 is under b1 it reads more such modes too (T.4,
+/// section 4.2.1.3.3). With `LAST` it reads runs by their tables.
+#[inline(always)]
+pub(super) fn by_mode<const CHOICE: bool, const LAST: bool>(
+    source: &mut BitSource,
+    reference: PlacedRow,
+    places: &mut [u32],
+    at: PlacedReached,
+    mode: ModeCode,
+) -> Result<PlacedReached, Stop<Due>>
+    requires inside { IsReadInside reference places.old at }
+    ensures ok { (b : List Bool) → Takes modes b mode source.old.left
+        → IfOk result (λ next. Chosen.GoesOn (placed_pels reference.entry)
+        (placed_position reference.entry.width places.old at) b
+        (placed_position reference.entry.width places.new next) source.new.left) }
+    ensures so_far { (b : List Bool) → Takes modes b mode source.old.left
+        → IfOk result (λ next. IsReadTo reference.entry places.new next) }
+    ensures chosen { (b : List Bool) → Takes modes b mode source.old.left
+        → IfOk result (λ next. IsTrue CHOICE → Chosen.GoesOnAsChosen (placed_pels reference.entry)
+        (placed_position reference.entry.width places.old at) b
+        (placed_position reference.entry.width places.new next) source.new.left) }
+    ensures err { (b : List Bool) → Takes modes b mode source.old.left
+        → IfErr result (λ stop. IsStopOf CHOICE (λ fault. Fault.IsStepFault
+        (placed_pels reference.entry) (placed_position reference.entry.width places.old at) b fault)
+        (λ due. (IsTrue LAST → ⊥) × (places.new ≡ places.old)
+        × IsDueAt reference.entry places.old at b due source.new.left) stop) }
+    ensures room { OnErr result (HasRoom reference.entry.width places.new) }
+    ensures same_end { KeepsEnd source.old source.new }
+    ensures no_longer { OnOk result (length source.new.left ≤ length source.old.left) }
+{
+    match mode {
+        ModeCode::Vertical(0) => Ok(under_several(source, reference, places, at)),
+        ModeCode::Vertical(d) => vertical::<CHOICE>(reference, places, at, d),
+        ModeCode::Pass => pass::<CHOICE>(reference, places, at),
+        ModeCode::Horizontal => {
+            if LAST {
+                last_horizontal::<CHOICE>(source, reference, places, at, None)
+            } else {
+                horizontal::<CHOICE>(source, reference, places, at)
+            }
+        }
+        ModeCode::Extension => Err(Stop::Fault(RowFault::Extension)),
+    }
+}
+
+/// Reads one mode by a look-up, and goes on by what it says; where a1 is under b1 it reads more such
+/// modes too (T.4, section 4.2.1.3.3).
+#[inline(always)]
+pub(super) fn next_steps<const CHOICE: bool>(
+    source: &mut BitSource,
+    reference: PlacedRow,
+    places: &mut [u32],
+    at: PlacedReached,
+) -> Result<PlacedReached, Stop<Due>>
     requires inside { IsReadInside reference places.old at }
     ensures ok { IfOk result (λ next. Chosen.GoesOn (placed_pels reference.entry)
         (placed_position reference.entry.width places.old at) source.old.left
@@ -144,32 +259,29 @@ fn next_steps<const CHOICE: bool, const EXACT: bool>(
         → Chosen.GoesOnAsChosen (placed_pels reference.entry)
         (placed_position reference.entry.width places.old at) source.old.left
         (placed_position reference.entry.width places.new next) source.new.left) }
-    ensures err { IfErr result (λ stop. IsStopOf CHOICE EXACT
-        (λ fault. Fault.IsStepFault (placed_pels reference.entry)
-        (placed_position reference.entry.width places.old at) source.old.left fault) stop) }
+    ensures err { IfErr result (λ stop. IsStopOf CHOICE (λ fault. Fault.IsStepFault
+        (placed_pels reference.entry) (placed_position reference.entry.width places.old at)
+        source.old.left fault) (λ due. (places.new ≡ places.old)
+        × IsDueAt reference.entry places.old at source.old.left due source.new.left) stop) }
     ensures room { HasRoom reference.entry.width places.new }
     ensures same_end { KeepsEnd source.old source.new }
     ensures shorter { OnOk result (length source.new.left < length source.old.left) }
 {
-    let mode = next_mode::<EXACT>(source)?;
-    match mode {
-        ModeCode::Vertical(0) => Ok(under_several(source, reference, places, at)),
-        ModeCode::Vertical(d) => vertical::<CHOICE, EXACT>(reference, places, at, d),
-        ModeCode::Pass => pass::<CHOICE, EXACT>(reference, places, at),
-        ModeCode::Horizontal => horizontal::<CHOICE, EXACT>(source, reference, places, at),
-        ModeCode::Extension => Err(Stop::Fault(RowFault::Extension)),
-    }
+    let Some(mode) = source.mode() else {
+        return Err(Stop::Due(Due::Mode));
+    };
+    by_mode::<CHOICE, false>(source, reference, places, at, mode)
 }
 
-/// Reads the modes of a row over the reference row, and answers where its places end. With `CHOICE`
-/// it stops at the first step that is not seen to be T.4's choice, without `EXACT` at the first code
-/// that no look-up finds. Where it stops the source is as it was.
+/// Reads the modes of a row over the reference row by look-ups, and answers where its places end.
+/// It stops where no look-up finds the next code, and with `CHOICE` at the first step that is not
+/// seen to be T.4's choice. Where it stops the source is as it was.
 #[inline(never)]
-pub(super) fn read_modes<const CHOICE: bool, const EXACT: bool>(
+pub(super) fn read_by_look_ups<const CHOICE: bool>(
     source: &mut BitSource,
     reference: PlacedRow,
     places: &mut [u32],
-) -> Result<usize, Stop>
+) -> Result<usize, Stop<Left>>
     requires room { HasRoom reference.width places.old }
     ensures ok { IfOk result (λ end. Spec.IsTwoDimensionalRow (placed_pels reference.entry)
         source.old.left (row_of places.new end reference.entry.width) source.new.left) }
@@ -178,9 +290,10 @@ pub(super) fn read_modes<const CHOICE: bool, const EXACT: bool>(
     ensures chosen { IfOk result (λ end. IsTrue CHOICE
         → source.old.left ≡ two_dimensional_bits (placed_pels reference.entry)
         (row_of places.new end reference.entry.width) ++ source.new.left) }
-    ensures err { IfErr result (λ stop. IsStopOf CHOICE EXACT
+    ensures err { IfErr result (λ stop. IsStopOf CHOICE
         (λ fault. Fault.IsTwoDimensionalFault (placed_pels reference.entry)
-        source.old.left fault) stop) }
+        source.old.left fault)
+        (λ left. IsLeft CHOICE reference.entry source.old places.new left) stop) }
     ensures unchanged { OnErr result (source.new ≡ source.old) }
     ensures room { HasRoom reference.entry.width places.new }
     ensures same_end { KeepsEnd source.old source.new }
@@ -188,7 +301,20 @@ pub(super) fn read_modes<const CHOICE: bool, const EXACT: bool>(
     let mut ahead = source.again();
     let mut at = PlacedReached::BEGINNING;
     while at.reached.first_pel() < reference.width {
-        at = next_steps::<CHOICE, EXACT>(&mut ahead, reference, places, at)?;
+        match next_steps::<CHOICE>(&mut ahead, reference, places, at) {
+            Ok(next) => at = next,
+            Err(Stop::Due(due)) => {
+                return Err(Stop::Due(Left {
+                    due,
+                    place: ahead.place(),
+                    a0: at.reached.number(),
+                    end: at.end,
+                    b1: at.b1,
+                }));
+            }
+            Err(Stop::Other) => return Err(Stop::Other),
+            Err(Stop::Fault(fault)) => return Err(Stop::Fault(fault)),
+        }
     }
     source.go_to(&ahead);
     Ok(at.end)

@@ -37,7 +37,7 @@ impl Reached {
 
     /// a0 as a number: -1 just before the first pel.
     #[inline(always)]
-    fn number(self) -> i32
+    pub fn number(self) -> i32
         requires { reached_pel self < 2 ^ 16 }
         ensures { result ≡ Spec.a0_number (position_of self []) }
     {

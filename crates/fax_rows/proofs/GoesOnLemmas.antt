@@ -1,0 +1,120 @@
+-- Steps after steps, and the bits that they leave.
+use Rattle.std.proofs.Common.{◌≡◌, ℕ, ◌+◌, ◌-◌, List, [], ◌∷◌, ◌++◌, length, drop, Bool}
+use Rattle.std.proofs.Common.{refl, ap, sym, ◌∙◌, subst, append_assoc, arith}
+use Rattle.std.proofs.Math.Seq.{drop-append_seam}
+use Rattle.std.specs.Prelude.{Option, Some, None}
+use Rattle.fax_bits.specs.declared.codes.CodeEntry.{CodeEntry}
+use Rattle.fax_bits.specs.declared.Colour.{Colour}
+use Rattle.fax_bits.specs.declared.modes.ModeCode.{ModeCode}
+use Rattle.fax_bits.specs.declared.modes.ModeCode.TheVariants.{Pass, Horizontal, Vertical, Extension}
+use Rattle.fax_bits.specs.Codes.{Takes, bits_of}
+use Rattle.fax_bits.specs.views.Source.{Source}
+use Rattle.fax_rows.specs.declared.two_dimensional.codes.Due.{Due}
+use Rattle.fax_rows.specs.declared.two_dimensional.codes.Due.TheVariants.{Mode, Runs}
+use Rattle.fax_rows.specs.Rows.{Position, beginning, AreSteps, IsStep, IsStepBy}
+use Rattle.fax_rows.specs.code.Chosen.{AreChosenSteps, GoesOn, GoesOnAsChosen}
+use Rattle.fax_rows.specs.code.Due.{AreRunsDue, IsDue}
+use Rattle.fax_rows.proofs.ChosenRowLemmas.{IsChosenSoFar, chosen_begins, chosen_goes_on as row_goes_on}
+use Rattle.fax_rows.proofs.RunLemmas.{run_after}
+
+pub no_step : (reference : List Colour) (at : Position) (b : List Bool) → GoesOn reference at b at b
+no_step reference at b = record { positions = []; steps = (refl, refl) }
+
+pub no_chosen_step : (reference : List Colour) (at : Position) (b : List Bool) → GoesOnAsChosen reference at b at b
+no_chosen_step reference at b = record { positions = []; steps = (refl, refl) }
+
+more_steps : (reference : List Colour) (first : Position) (b : List Bool) (before : List Position) (old : Position)
+    (mid : List Bool) (after : List Position) (new : Position) (rest : List Bool)
+    → AreSteps reference first b before old mid → AreSteps reference old mid after new rest
+    → AreSteps reference first b (before ++ after) new rest
+more_steps reference first b [] old mid after new rest steps more =
+    subst (λ c. AreSteps reference first c after new rest) (sym steps.1)
+    (subst (λ at. AreSteps reference at mid after new rest) steps.0 more)
+more_steps reference first b (next ∷ before) old mid after new rest steps more =
+    (steps.0, steps.1, steps.2, more_steps reference next steps.1 before old mid after new rest steps.3 more)
+
+pub goes_further : {reference : List Colour} {first : Position} {b : List Bool} {old : Position} {mid : List Bool} {new : Position}
+    {rest : List Bool} → GoesOn reference first b old mid → GoesOn reference old mid new rest → GoesOn reference first b new rest
+goes_further {reference} {first} {b} {old} {mid} {new} {rest} some more = record {
+  positions = some.positions ++ more.positions;
+  steps = more_steps reference first b some.positions old mid more.positions new rest some.steps more.steps;
+}
+
+more_chosen : (reference : List Colour) (first : Position) (b : List Bool) (before : List Position) (old : Position)
+    (mid : List Bool) (after : List Position) (new : Position) (rest : List Bool)
+    → AreChosenSteps reference first b before old mid → AreChosenSteps reference old mid after new rest
+    → AreChosenSteps reference first b (before ++ after) new rest
+more_chosen reference first b [] old mid after new rest steps more =
+    subst (λ c. AreChosenSteps reference first c after new rest) (sym steps.1)
+    (subst (λ at. AreChosenSteps reference at mid after new rest) steps.0 more)
+more_chosen reference first b (next ∷ before) old mid after new rest steps more =
+    (steps.0, steps.1, steps.2, more_chosen reference next steps.1 before old mid after new rest steps.3 more)
+
+pub chosen_further : {reference : List Colour} {first : Position} {b : List Bool} {old : Position} {mid : List Bool} {new : Position}
+    {rest : List Bool} → GoesOnAsChosen reference first b old mid → GoesOnAsChosen reference old mid new rest
+    → GoesOnAsChosen reference first b new rest
+chosen_further {reference} {first} {b} {old} {mid} {new} {rest} some more = record {
+  positions = some.positions ++ more.positions;
+  steps = more_chosen reference first b some.positions old mid more.positions new rest some.steps more.steps;
+}
+
+chosen_on : (reference : List Colour) (b : List Bool) (old : Position) (mid : List Bool) (positions : List Position) (new : Position)
+    (rest : List Bool) → IsChosenSoFar reference b old mid → AreChosenSteps reference old mid positions new rest
+    → IsChosenSoFar reference b new rest
+chosen_on reference b old mid [] new rest so_far more =
+    subst (λ at. IsChosenSoFar reference b at rest) (sym more.0) (subst (λ c. IsChosenSoFar reference b old c) more.1 so_far)
+chosen_on reference b old mid (next ∷ positions) new rest so_far more =
+    chosen_on reference b next more.1 positions new rest
+    (row_goes_on reference b old mid next more.1 so_far more.2 more.0) more.3
+
+-- steps that T.4 would have chosen, from the row's beginning
+pub chosen_so_far : (reference : List Colour) (b : List Bool) (at : Position) (rest : List Bool)
+    → GoesOnAsChosen reference beginning b at rest → IsChosenSoFar reference b at rest
+chosen_so_far reference b at rest steps =
+    chosen_on reference b beginning b steps.positions at rest (chosen_begins reference b beginning refl) steps.steps
+
+-- the bits end with those that are left
+abbrev pub Leaves : List Bool → List Bool → Type 0
+Leaves b rest = (front : List Bool) × (b ≡ front ++ rest)
+
+pub leaves_more : {b mid rest : List Bool} → Leaves b mid → Leaves mid rest → Leaves b rest
+leaves_more {b} {mid} {rest} some more =
+    (some.0 ++ more.0, some.1 ∙ ap (λ c. some.0 ++ c) more.1 ∙ sym (append_assoc some.0 more.0 rest))
+
+code_leaves : {M : Type 0} {table : List (CodeEntry M)} {b : List Bool} {m : M} {rest : List Bool} → Takes table b m rest → Leaves b rest
+code_leaves taken = (bits_of taken.entry, taken.spelled)
+
+step_leaves : (reference : List Colour) (old : Position) (b : List Bool) (new : Position) (rest : List Bool)
+    → IsStep reference old b new rest → Leaves b rest
+step_leaves reference old b new rest step = leaves_more (code_leaves step.taken) (by step.mode step.step)
+  where
+    by : (m : ModeCode) → IsStepBy m reference old step.after new rest → Leaves step.after rest
+    by Pass is = ([], is.1)
+    by (Vertical d) is = ([], is.1)
+    by Horizontal is = leaves_more (run_after is.first_run) (run_after is.second_run)
+    by Extension is = absurd is
+
+steps_leave : (reference : List Colour) (old : Position) (b : List Bool) (positions : List Position) (new : Position) (rest : List Bool)
+    → AreSteps reference old b positions new rest → Leaves b rest
+steps_leave reference old b [] new rest steps = ([], steps.1)
+steps_leave reference old b (next ∷ positions) new rest steps =
+    leaves_more (step_leaves reference old b next steps.1 steps.2) (steps_leave reference next steps.1 positions new rest steps.3)
+
+pub goes_on_leaves : {reference : List Colour} {old : Position} {b : List Bool} {new : Position} {rest : List Bool}
+    → GoesOn reference old b new rest → Leaves b rest
+goes_on_leaves {reference} {old} {b} {new} {rest} goes = steps_leave reference old b goes.positions new rest goes.steps
+
+pub due_leaves : (colour : Colour) (b : List Bool) (due : Due) (rest : List Bool) → IsDue colour b due rest → Leaves b rest
+due_leaves colour b Mode rest is = ([], is)
+due_leaves colour b (Runs first) rest is = leaves_more (code_leaves is.1) (runs is.0 first is.2)
+  where
+    runs : (middle : List Bool) (first : Option ℕ) → AreRunsDue colour middle first rest → Leaves middle rest
+    runs middle None is = ([], is)
+    runs middle (Some n) is = run_after is.0
+
+-- the bits from a place on, before which so many stand
+pub rest_there : (source : Source) (place : ℕ) (front rest : List Bool) → source.left ≡ front ++ rest
+    → place ≡ source.place + length front → drop (place - source.place) source.left ≡ rest
+rest_there source place front rest parts is =
+    let n : place - source.place ≡ length front = omega (arith, is) in
+    ap (λ k. drop k source.left) n ∙ ap (drop (length front)) parts ∙ drop-append_seam front rest

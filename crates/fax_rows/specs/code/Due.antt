@@ -1,0 +1,53 @@
+-- What of a row in two-dimensional coding is due where no look-up finds the next code.
+use Rattle.std.specs.Prelude.{◌≡◌, ℕ, ℤ, ◌+◌, ◌≤◌, ◌++◌, Bool, List, Option, None, Some, IfSome, IsTrue, ⊤}
+use Rattle.std.specs.Prelude.{length}
+use Rattle.fax_bits.specs.declared.Colour.{Colour}
+use Rattle.fax_bits.specs.declared.modes.ModeCode.TheVariants.{Horizontal}
+use Rattle.fax_bits.specs.Codes.{Takes, IsRun}
+use Rattle.fax_bits.specs.Tables.{modes}
+use Rattle.fax_bits.specs.Written.{run_bits}
+use Rattle.fax_bits.specs.views.Source.{Source}
+use Rattle.fax_rows.specs.declared.rows.PlacedRow.{PlacedRow}
+use Rattle.fax_rows.specs.declared.two_dimensional.codes.Due.{Due}
+use Rattle.fax_rows.specs.declared.two_dimensional.codes.Due.TheVariants.{Mode, Runs}
+use Rattle.fax_rows.specs.declared.two_dimensional.due.Left.{Left}
+use Rattle.fax_rows.specs.declared.two_dimensional.steps.PlacedReached.{PlacedReached}
+use Rattle.fax_rows.specs.Rows.{beginning, a0_number}
+use Rattle.fax_rows.specs.code.Chosen.{GoesOn, GoesOnAsChosen}
+use Rattle.fax_rows.specs.code.PlacedReached.{placed_position, IsReadInside}
+use Rattle.fax_rows.specs.code.PlacedRow.{placed_pels}
+use Rattle.fax_rows.specs.code.Reached.{reached_pel, position_of}
+
+-- two runs are due, or the second one after a first one that T.4 chooses
+abbrev pub AreRunsDue : Colour → List Bool → Option ℕ → List Bool → Type 0
+AreRunsDue colour b None left = b ≡ left
+AreRunsDue colour b (Some first) left = IsRun colour b first left × (b ≡ run_bits colour first ++ left)
+
+-- a mode is due, or runs of horizontal mode
+abbrev pub IsDue : Colour → List Bool → Due → List Bool → Type 0
+IsDue colour b Mode left = b ≡ left
+IsDue colour b (Runs first) left =
+    (middle : List Bool) × Takes modes b Horizontal middle × AreRunsDue colour middle first left
+
+-- the first run is within the row
+abbrev pub IsDueWithin : ℕ → ℕ → Due → Type 0
+IsDueWithin width from Mode = ⊤
+IsDueWithin width from (Runs first) = IfSome first (λ n. from + n ≤ width)
+
+-- this is due at a place inside the row
+pub record IsDueAt (reference : PlacedRow) (places : List ℕ) (at : PlacedReached) (b : List Bool)
+    (due : Due) (left : List Bool) : Type 0 where
+  pub inside : IsReadInside reference places at
+  pub within : IsDueWithin reference.width (reached_pel at.reached) due
+  pub read : IsDue at.reached.colour b due left
+  pub no_longer : length left ≤ length b
+
+-- runs of horizontal mode are due, after its code, and no place was put
+pub record IsHorizontalDue (reference : PlacedRow) (old new : List ℕ) (at : PlacedReached)
+    (b : List Bool) (due : Due) (left : List Bool) : Type 0 where
+  pub first : Option ℕ
+  pub due_is : due ≡ Runs first
+  pub same : new ≡ old
+  pub fits : IfSome first (λ n. reached_pel at.reached + n ≤ reference.width)
+  pub read : AreRunsDue at.reached.colour b first left
+  pub no_longer : length left ≤ length b

@@ -1,0 +1,166 @@
+//! A row in two-dimensional coding, read on from where no look-up finds the next code (ITU-T T.4,
+//! section 4.2.1.3.2).
+ghost use Rattle.std.specs.Prelude.{◌≡◌, ◌≤◌, ◌<◌, ◌++◌, Bool, List, [], length, IsTrue};
+ghost use Rattle.std.specs.Prelude.{OnOk, OnErr, IfOk, IfErr};
+ghost use Rattle.fax_bits.specs.declared.Colour.TheVariants.{Black};
+ghost use Rattle.fax_bits.specs.views.Source.{KeepsEnd};
+ghost use Rattle.fax_rows.specs.Coded.{two_dimensional_bits};
+ghost use Rattle.fax_rows.specs.Rows as Spec;
+ghost use Rattle.fax_rows.specs.Faults as Fault;
+ghost use Rattle.fax_rows.specs.code.Chosen.{GoesOn, GoesOnAsChosen};
+ghost use Rattle.fax_rows.specs.code.Due.{IsDue, IsDueWithin};
+ghost use Rattle.fax_rows.specs.code.Left.{IsLeft};
+ghost use Rattle.fax_rows.specs.code.PlacedReached.{placed_position, IsReadTo, IsReadInside};
+ghost use Rattle.fax_rows.specs.code.PlacedRow.{placed_pels};
+ghost use Rattle.fax_rows.specs.code.Put.{ArePut, HasRoom};
+ghost use Rattle.fax_rows.specs.code.Reached.{position_of, reached_pel};
+ghost use Rattle.fax_rows.specs.code.Stop.{IsStopOf};
+ghost use Rattle.fax_rows.specs.code.Turns.{row_of, alternate};
+
+use super::codes::{Due, Stop};
+use super::modes::{by_mode, last_horizontal, next_steps};
+use super::steps::{PlacedReached, Reached};
+use crate::RowFault;
+use crate::rows::PlacedRow;
+use crate::turns::colour_after;
+use fax_bits::{BitSource, Modes, read_code};
+
+/// Where a row is to be read on, by the numbers that the loop over its modes keeps.
+#[derive(Clone, Copy)]
+pub(super) struct Left {
+    /// What no look-up finds.
+    pub due: Due,
+    /// Its place in the bits of the source.
+    pub place: u64,
+    /// a0 as a number: -1 just before the first pel.
+    pub a0: i32,
+    /// The index after the last place that is put.
+    pub end: usize,
+    /// The index of b1 among the reference row's places, which tells a0's colour.
+    pub b1: usize,
+}
+
+impl Left {
+    /// How far the row is read.
+    fn reached(self) -> PlacedReached
+        ensures { (at : PlacedReached) → self.a0 ≡ Spec.a0_number (position_of at.reached [])
+            → self.end ≡ at.end → self.b1 ≡ at.b1 → alternate Black at.b1 ≡ at.reached.colour
+            → result ≡ at }
+    {
+        let a0 = if self.a0 < 0 {
+            None
+        } else {
+            Some(self.a0 as u32)
+        };
+        PlacedReached {
+            reached: Reached {
+                a0,
+                colour: colour_after(self.b1),
+            },
+            end: self.end,
+            b1: self.b1,
+        }
+    }
+}
+
+/// Reads what is due, and goes on by it.
+#[cold]
+#[inline(never)]
+fn read_due<const CHOICE: bool>(
+    source: &mut BitSource,
+    reference: PlacedRow,
+    places: &mut [u32],
+    at: PlacedReached,
+    due: Due,
+) -> Result<PlacedReached, Stop<Due>>
+    requires inside { IsReadInside reference places.old at }
+    requires within { IsDueWithin reference.width (reached_pel at.reached) due }
+    ensures ok { (b : List Bool) → IsDue at.reached.colour b due source.old.left
+        → IfOk result (λ next. GoesOn (placed_pels reference.entry)
+        (placed_position reference.entry.width places.old at) b
+        (placed_position reference.entry.width places.new next) source.new.left) }
+    ensures so_far { IfOk result (λ next. IsReadTo reference.entry places.new next) }
+    ensures chosen { (b : List Bool) → IsDue at.reached.colour b due source.old.left
+        → IfOk result (λ next. IsTrue CHOICE → GoesOnAsChosen (placed_pels reference.entry)
+        (placed_position reference.entry.width places.old at) b
+        (placed_position reference.entry.width places.new next) source.new.left) }
+    ensures err { (b : List Bool) → IsDue at.reached.colour b due source.old.left
+        → IfErr result (λ stop. IsStopOf CHOICE (λ fault. Fault.IsStepFault
+        (placed_pels reference.entry) (placed_position reference.entry.width places.old at) b fault)
+        (λ more. ⊥) stop) }
+    ensures room { HasRoom reference.entry.width places.new }
+    ensures same_end { KeepsEnd source.old source.new }
+    ensures shorter { OnOk result (length source.new.left < length source.old.left) }
+{
+    match due {
+        Due::Mode => match read_code::<Modes>(source) {
+            Ok(mode) => by_mode::<CHOICE, true>(source, reference, places, at, mode),
+            Err(fault) => Err(Stop::Fault(RowFault::from(fault))),
+        },
+        Due::Runs(first) => last_horizontal::<CHOICE>(source, reference, places, at, first),
+    }
+}
+
+/// Reads one mode, or more of them with a1 under b1, as `next_steps` does, or else what is due.
+fn any_steps<const CHOICE: bool>(
+    source: &mut BitSource,
+    reference: PlacedRow,
+    places: &mut [u32],
+    at: PlacedReached,
+) -> Result<PlacedReached, Stop<Due>>
+    requires inside { IsReadInside reference places.old at }
+    ensures ok { IfOk result (λ next. GoesOn (placed_pels reference.entry)
+        (placed_position reference.entry.width places.old at) source.old.left
+        (placed_position reference.entry.width places.new next) source.new.left) }
+    ensures so_far { IfOk result (λ next. IsReadTo reference.entry places.new next) }
+    ensures chosen { IfOk result (λ next. IsTrue CHOICE
+        → GoesOnAsChosen (placed_pels reference.entry)
+        (placed_position reference.entry.width places.old at) source.old.left
+        (placed_position reference.entry.width places.new next) source.new.left) }
+    ensures err { IfErr result (λ stop. IsStopOf CHOICE (λ fault. Fault.IsStepFault
+        (placed_pels reference.entry) (placed_position reference.entry.width places.old at)
+        source.old.left fault) (λ more. ⊥) stop) }
+    ensures room { HasRoom reference.entry.width places.new }
+    ensures same_end { KeepsEnd source.old source.new }
+    ensures shorter { OnOk result (length source.new.left < length source.old.left) }
+{
+    match next_steps::<CHOICE>(source, reference, places, at) {
+        Err(Stop::Due(due)) => read_due::<CHOICE>(source, reference, places, at, due),
+        step => step,
+    }
+}
+
+/// Reads a row on from what is due, and answers where its places end. Where it stops the source is
+/// as it was.
+#[cold]
+#[inline(never)]
+pub(super) fn read_on<const CHOICE: bool>(
+    source: &mut BitSource,
+    reference: PlacedRow,
+    places: &mut [u32],
+    left: Left,
+) -> Result<usize, Stop<Due>>
+    requires left { IsLeft CHOICE reference source.old places.old left }
+    ensures ok { IfOk result (λ end. Spec.IsTwoDimensionalRow (placed_pels reference.entry)
+        source.old.left (row_of places.new end reference.entry.width) source.new.left) }
+    ensures put { IfOk result
+        (λ end. ArePut reference.entry.width places.new end reference.entry.width) }
+    ensures chosen { IfOk result (λ end. IsTrue CHOICE
+        → source.old.left ≡ two_dimensional_bits (placed_pels reference.entry)
+        (row_of places.new end reference.entry.width) ++ source.new.left) }
+    ensures err { IfErr result (λ stop. IsStopOf CHOICE
+        (λ fault. Fault.IsTwoDimensionalFault (placed_pels reference.entry)
+        source.old.left fault) (λ more. ⊥) stop) }
+    ensures unchanged { OnErr result (source.new ≡ source.old) }
+    ensures room { HasRoom reference.entry.width places.new }
+    ensures same_end { KeepsEnd source.old source.new }
+{
+    let mut ahead = source.again();
+    ahead.skip_to(left.place);
+    let mut at = read_due::<CHOICE>(&mut ahead, reference, places, left.reached(), left.due)?;
+    while at.reached.first_pel() < reference.width {
+        at = any_steps::<CHOICE>(&mut ahead, reference, places, at)?;
+    }
+    source.go_to(&ahead);
+    Ok(at.end)
+}
