@@ -37,6 +37,11 @@ pub map_both : {A E : Type 0} {P Q R : A → Type 0} (found : Result A E) → If
 map_both (Ok x) p q f = f x p q
 map_both (Err e) p q f = tt
 
+pub map_three : {A E : Type 0} {P Q R S : A → Type 0} (found : Result A E) → IfOk found P → IfOk found Q → IfOk found R
+    → ((x : A) → P x → Q x → R x → S x) → IfOk found S
+map_three (Ok x) p q r f = f x p q r
+map_three (Err e) p q r f = tt
+
 module _ {reference : PlacedRow} {places : List ℕ} {at : PlacedReached} (here : IsReadInside reference places at) where
   -- a0's colour just before the first pel
   start : at.reached.a0 ≡ None → White ≡ at.reached.colour

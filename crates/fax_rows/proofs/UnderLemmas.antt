@@ -16,8 +16,8 @@ use Rattle.fax_bits.specs.Written.{mode_bits}
 use Rattle.fax_bits.specs.laws.Codes.{ModeBitsAreRead}
 use Rattle.fax_rows.specs.declared.two_dimensional.steps.PlacedReached.{PlacedReached}
 use Rattle.fax_rows.specs.declared.rows.PlacedRow.{PlacedRow}
-use Rattle.fax_rows.specs.Rows.{other, is_right_of, Position, beginning, AreSteps, IsStep, IsVerticalStep}
-use Rattle.fax_rows.specs.code.Chosen.{IsChosenStep, AreChosenSteps, GoesOn, GoesOnAsChosen}
+use Rattle.fax_rows.specs.Rows.{other, is_right_of, Position, IsStep, IsVerticalStep}
+use Rattle.fax_rows.specs.code.Chosen.{IsChosenStep, GoesOn, GoesOnAsChosen}
 use Rattle.fax_rows.specs.code.PlacedRow.{placed_pels}
 use Rattle.fax_rows.specs.code.PlacedReached.{placed_position, IsReadTo, IsReadInside, IsReadOn}
 use Rattle.fax_rows.specs.code.Reached.{position_of}
@@ -276,7 +276,7 @@ pub several_read : (reference : PlacedRow) (places new : List ℕ) (at : PlacedR
     → IsReadInside reference places at → at.b1 + (more + 1) ≤ reference.end → length new ≡ length places → take at.end new ≡ take at.end places
     → ((i : ℕ) → i < (more + 1) → get_or new (at.end + i) 0 ≡ get_or reference.places.now (at.b1 + i) 0)
     → colour ≡ alternate Black (at.b1 + (more + 1))
-    → IsReadOn reference places new at
+    → IsReadOn true reference places new at
     (placed (get_or reference.places.now (at.b1 + (more + 1) - 1) 0) colour (at.end + (more + 1)) (at.b1 + (more + 1))) b rest
 several_read reference places new at more colour b first rest law taken ones here inside len kept copied is =
     let spells = subst (λ c. Spells modes c (replicate more (Vertical (pos 0))) rest) (sym ones) (ones_are_spelled law more rest) in
@@ -287,10 +287,10 @@ several_read reference places new at more colour b first rest law taken ones her
     let next_is = ap (λ c. placed (get_or reference.places.now (at.b1 + (more + 1) - 1) 0) c (at.end + (more + 1)) (at.b1 + (more + 1))) is
     ∙ under_all_as ((more + 1)) reference at (omega arith) (here.so_far.b1 here.unfinished).colour_is in
     let from = ap (λ ps. position_of at.reached (pels_by reference.width ps)) kept in
-    subst (λ next. IsReadOn reference places new at next b rest) (sym next_is) (record {
+    subst (λ next. IsReadOn true reference places new at next b rest) (sym next_is) (record {
       steps = subst (λ old. GoesOn (placed_pels reference) old b
           (placed_position reference.width new (under_all (more + 1) reference at)) rest) from all.goes_on;
-      chosen = subst (λ old. GoesOnAsChosen (placed_pels reference) old b
+      chosen = λ asked. subst (λ old. GoesOnAsChosen (placed_pels reference) old b
           (placed_position reference.width new (under_all (more + 1) reference at)) rest) from all.chosen;
       so_far = all.so_far;
     })
@@ -299,13 +299,12 @@ several_read reference places new at more colour b first rest law taken ones her
 pub one_read : (reference : PlacedRow) (places new : List ℕ) (at next : PlacedReached) (b rest : List Bool)
     → Takes modes b (Vertical (pos 0)) rest → IsReadInside reference places at
     → IsVerticalStep (placed_pels reference) (placed_position reference.width places at) (pos 0) (placed_position reference.width new next)
-    → IsReadTo reference new next → IsReadOn reference places new at next b rest
+    → IsReadTo reference new next → IsReadOn true reference places new at next b rest
 one_read reference places new at next b rest taken here vertical read =
     let position = placed_position reference.width new next in
     record {
       steps = step_goes_on here b position rest
           (record { mode = Vertical (pos 0); after = rest; taken = taken; step = (vertical, refl) });
-      chosen = chosen_goes_on here b position rest
-          (under_chosen here taken vertical);
+      chosen = λ asked. chosen_goes_on here b position rest (under_chosen here taken vertical);
       so_far = read;
     }

@@ -8,7 +8,8 @@ ghost use Rattle.fax_rows.specs.Rows as Spec;
 ghost use Rattle.fax_rows.specs.Faults as Fault;
 ghost use Rattle.fax_rows.specs.code.PlacedRow.{placed_pels};
 ghost use Rattle.fax_rows.specs.code.Put.{ArePut, HasRoom};
-ghost use Rattle.fax_rows.specs.code.Stop.{IsStopOf};
+ghost use Rattle.fax_rows.specs.code.Stop.{IsRowStop};
+ghost use Rattle.fax_rows.specs.code.ReadRow.{IsReadRow};
 ghost use Rattle.fax_rows.specs.code.Turns.{row_of};
 
 use crate::RowFault;
@@ -46,16 +47,10 @@ fn read_modes<const CHOICE: bool>(
     places: &mut [u32],
 ) -> Result<usize, Stop<Due>>
     requires room { HasRoom reference.width places.old }
-    ensures ok { IfOk result (λ end. Spec.IsTwoDimensionalRow (placed_pels reference.entry)
-        source.old.left (row_of places.new end reference.entry.width) source.new.left) }
-    ensures put { IfOk result
-        (λ end. ArePut reference.entry.width places.new end reference.entry.width) }
-    ensures chosen { IfOk result (λ end. IsTrue CHOICE
-        → source.old.left ≡ two_dimensional_bits (placed_pels reference.entry)
-        (row_of places.new end reference.entry.width) ++ source.new.left) }
-    ensures err { IfErr result (λ stop. IsStopOf CHOICE
-        (λ fault. Fault.IsTwoDimensionalFault (placed_pels reference.entry)
-        source.old.left fault) (λ due. ⊥) stop) }
+    ensures read { IfOk result (λ end. IsReadRow CHOICE reference.entry source.old.left places.new
+        end source.new.left) }
+    ensures stop { IfErr result (λ stop. IsRowStop CHOICE reference.entry source.old.left
+        (λ due. ⊥) stop) }
     ensures unchanged { OnErr result (source.new ≡ source.old) }
     ensures room { HasRoom reference.entry.width places.new }
     ensures same_end { KeepsEnd source.old source.new }
@@ -77,13 +72,8 @@ fn read_places<const CHOICE: bool>(
     places: &mut [u32],
 ) -> Result<ReadRow, RowFault>
     requires room { HasRoom reference.width places.old }
-    ensures ok { IfOk result (λ read. Spec.IsTwoDimensionalRow (placed_pels reference.entry)
-        source.old.left (row_of places.new read.end reference.entry.width) source.new.left) }
-    ensures chosen { IfOk result (λ read. IsTrue read.is_chosen
-        → source.old.left ≡ two_dimensional_bits (placed_pels reference.entry)
-        (row_of places.new read.end reference.entry.width) ++ source.new.left) }
-    ensures put { IfOk result
-        (λ read. ArePut reference.entry.width places.new read.end reference.entry.width) }
+    ensures read { IfOk result (λ read. IsReadRow read.is_chosen reference.entry source.old.left
+        places.new read.end source.new.left) }
     ensures err { IfErr result (λ fault. Fault.IsTwoDimensionalFault
         (placed_pels reference.entry) source.old.left fault) }
     ensures room { HasRoom reference.entry.width places.new }

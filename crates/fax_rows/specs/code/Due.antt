@@ -1,22 +1,28 @@
 -- What of a row in two-dimensional coding is due where no look-up finds the next code.
-use Rattle.std.specs.Prelude.{◌≡◌, ℕ, ℤ, ◌+◌, ◌≤◌, ◌++◌, Bool, List, Option, None, Some, IfSome, IsTrue, ⊤}
+use Rattle.std.specs.Prelude.{◌≡◌, ℕ, ◌+◌, ◌≤◌, ◌++◌, Bool, List, Option, None, Some, IfSome, IsTrue, ⊤}
 use Rattle.std.specs.Prelude.{length}
 use Rattle.fax_bits.specs.declared.Colour.{Colour}
 use Rattle.fax_bits.specs.declared.modes.ModeCode.TheVariants.{Horizontal}
 use Rattle.fax_bits.specs.Codes.{Takes, IsRun}
 use Rattle.fax_bits.specs.Tables.{modes}
 use Rattle.fax_bits.specs.Written.{run_bits}
-use Rattle.fax_bits.specs.views.Source.{Source}
 use Rattle.fax_rows.specs.declared.rows.PlacedRow.{PlacedRow}
 use Rattle.fax_rows.specs.declared.two_dimensional.codes.Due.{Due}
 use Rattle.fax_rows.specs.declared.two_dimensional.codes.Due.TheVariants.{Mode, Runs}
-use Rattle.fax_rows.specs.declared.two_dimensional.due.Left.{Left}
+use Rattle.fax_rows.specs.declared.two_dimensional.codes.TwoRuns.{TwoRuns}
 use Rattle.fax_rows.specs.declared.two_dimensional.steps.PlacedReached.{PlacedReached}
-use Rattle.fax_rows.specs.Rows.{beginning, a0_number}
-use Rattle.fax_rows.specs.code.Chosen.{GoesOn, GoesOnAsChosen}
-use Rattle.fax_rows.specs.code.PlacedReached.{placed_position, IsReadInside}
-use Rattle.fax_rows.specs.code.PlacedRow.{placed_pels}
-use Rattle.fax_rows.specs.code.Reached.{reached_pel, position_of}
+use Rattle.fax_rows.specs.Rows.{other}
+use Rattle.fax_rows.specs.code.Chosen.{AreTwoRuns}
+use Rattle.fax_rows.specs.code.PlacedReached.{IsReadInside}
+use Rattle.fax_rows.specs.code.Reached.{reached_pel}
+
+-- the bits begin with two runs within the row, which may be seen to be written as T.4 chooses
+pub record AreReadRuns (colour : Colour) (width from : ℕ) (b : List Bool) (runs : TwoRuns)
+    (rest : List Bool) : Type 0 where
+  pub found : AreTwoRuns colour b runs.first runs.second rest
+  pub written : IsTrue runs.is_chosen
+      → b ≡ (run_bits colour runs.first ++ run_bits (other colour) runs.second) ++ rest
+  pub within : from + runs.first + runs.second ≤ width
 
 -- two runs are due, or the second one after a first one that T.4 chooses
 abbrev pub AreRunsDue : Colour → List Bool → Option ℕ → List Bool → Type 0

@@ -1,12 +1,12 @@
 -- How far a row is read in two-dimensional coding into its places of change.
-use Rattle.std.specs.Prelude.{◌≡◌, ℕ, ◌+◌, ◌-◌, ◌≤◌, ◌<◌, Bool, List, None, length, take}
+use Rattle.std.specs.Prelude.{◌≡◌, ℕ, ◌+◌, ◌-◌, ◌≤◌, ◌<◌, Bool, List, None, IsTrue, length, take}
 use Rattle.std.specs.Prelude.{slice_index}
 use Rattle.fax_bits.specs.declared.Colour.TheVariants.{Black}
 use Rattle.fax_rows.specs.declared.two_dimensional.steps.PlacedReached.{PlacedReached}
-use Rattle.fax_rows.specs.Rows.{Position}
+use Rattle.fax_rows.specs.Rows.{Position, IsHorizontalStep}
 use Rattle.fax_rows.specs.code.Reached.{reached_pel, position_of}
 use Rattle.fax_rows.specs.declared.rows.PlacedRow.{PlacedRow}
-use Rattle.fax_rows.specs.code.Chosen.{GoesOn, GoesOnAsChosen}
+use Rattle.fax_rows.specs.code.Chosen.{GoesOn, GoesOnAsChosen, IsChosenPair}
 use Rattle.fax_rows.specs.code.PlacedRow.{placed_pels, IsB1At}
 use Rattle.fax_rows.specs.code.Turns.{turned, pels_by, IsAscending}
 
@@ -32,11 +32,22 @@ pub record IsReadInside (reference : PlacedRow) (places : List ℕ) (at : Placed
   pub so_far : IsReadTo reference places at
   pub unfinished : reached_pel at.reached < reference.width
 
--- the bits begin with steps that T.4 chooses, over which the row is read on
-pub record IsReadOn (reference : PlacedRow) (old new : List ℕ) (at next : PlacedReached)
-    (b rest : List Bool) : Type 0 where
+-- the bits begin with steps over which the row is read on, where it is asked for those that T.4
+-- chooses
+pub record IsReadOn (choice : Bool) (reference : PlacedRow) (old new : List ℕ)
+    (at next : PlacedReached) (b rest : List Bool) : Type 0 where
   pub steps : GoesOn (placed_pels reference) (placed_position reference.width old at) b
       (placed_position reference.width new next) rest
-  pub chosen : GoesOnAsChosen (placed_pels reference) (placed_position reference.width old at) b
+  pub chosen : IsTrue choice → GoesOnAsChosen (placed_pels reference)
+      (placed_position reference.width old at) b (placed_position reference.width new next) rest
+  pub so_far : IsReadTo reference new next
+
+-- the bits begin with the two runs of a step in horizontal mode, where it is asked for as T.4
+-- chooses it
+pub record IsPairReadOn (choice : Bool) (reference : PlacedRow) (old new : List ℕ)
+    (at next : PlacedReached) (b rest : List Bool) : Type 0 where
+  pub step : IsHorizontalStep (placed_pels reference) (placed_position reference.width old at) b
       (placed_position reference.width new next) rest
+  pub chosen : IsTrue choice → IsChosenPair (placed_pels reference)
+      (placed_position reference.width old at) b (placed_position reference.width new next) rest
   pub so_far : IsReadTo reference new next

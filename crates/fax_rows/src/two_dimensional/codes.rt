@@ -1,12 +1,9 @@
 //! The next codes of a row in two-dimensional coding: by look-ups, or else by their tables (ITU-T T.4,
 //! section 4.2.1.3.2).
-ghost use Rattle.std.specs.Prelude.{◌≡◌, ◌+◌, ◌≤◌, ◌<◌, ◌^◌, ◌++◌, Bool, List, length, IsTrue};
+ghost use Rattle.std.specs.Prelude.{◌+◌, ◌≤◌, ◌<◌, ◌^◌, Bool, List, length};
 ghost use Rattle.std.specs.Prelude.{OnOk, IfOk, IfErr, IfSome};
-ghost use Rattle.fax_bits.specs.Written.{run_bits};
 ghost use Rattle.fax_bits.specs.views.Source.{KeepsEnd};
-ghost use Rattle.fax_rows.specs.Rows.{other as other_than};
-ghost use Rattle.fax_rows.specs.code.Chosen.{AreTwoRuns};
-ghost use Rattle.fax_rows.specs.code.Due.{AreRunsDue};
+ghost use Rattle.fax_rows.specs.code.Due.{AreReadRuns, AreRunsDue};
 ghost use Rattle.fax_rows.specs.code.RowFaults.{IsPairFault};
 
 use crate::RowFault;
@@ -64,12 +61,8 @@ fn run_by_run(
     from: u32,
 ) -> Result<TwoRuns, Option<u32>>
     requires from { from ≤ width }
-    ensures ok { IfOk result
-        (λ runs. AreTwoRuns colour source.old.left runs.first runs.second source.new.left) }
-    ensures written { IfOk result (λ runs. source.old.left
-        ≡ (run_bits colour runs.first ++ run_bits (other_than colour) runs.second)
-        ++ source.new.left) }
-    ensures within { IfOk result (λ runs. from + runs.first + runs.second ≤ width) }
+    ensures read { IfOk result
+        (λ runs. AreReadRuns colour width from source.old.left runs source.new.left) }
     ensures due { IfErr result
         (λ first. AreRunsDue colour source.old.left first source.new.left) }
     ensures fits { IfErr result (λ first. IfSome first (λ n. from + n ≤ width)) }
@@ -99,12 +92,8 @@ pub(super) fn two_runs(
 ) -> Result<TwoRuns, Option<u32>>
     requires width { width < 2 ^ 16 }
     requires from { from ≤ width }
-    ensures ok { IfOk result
-        (λ runs. AreTwoRuns colour source.old.left runs.first runs.second source.new.left) }
-    ensures written { IfOk result (λ runs. source.old.left
-        ≡ (run_bits colour runs.first ++ run_bits (other_than colour) runs.second)
-        ++ source.new.left) }
-    ensures within { IfOk result (λ runs. from + runs.first + runs.second ≤ width) }
+    ensures read { IfOk result
+        (λ runs. AreReadRuns colour width from source.old.left runs source.new.left) }
     ensures due { IfErr result
         (λ first. AreRunsDue colour source.old.left first source.new.left) }
     ensures fits { IfErr result (λ first. IfSome first (λ n. from + n ≤ width)) }
@@ -136,12 +125,8 @@ pub(super) fn last_two_runs(
     requires width { width < 2 ^ 16 }
     requires from { from ≤ width }
     requires fits { IfSome first (λ n. from + n ≤ width) }
-    ensures ok { (b : List Bool) → AreRunsDue colour b first source.old.left
-        → IfOk result (λ runs. AreTwoRuns colour b runs.first runs.second source.new.left) }
-    ensures written { (b : List Bool) → AreRunsDue colour b first source.old.left
-        → IfOk result (λ runs. IsTrue runs.is_chosen → b
-        ≡ (run_bits colour runs.first ++ run_bits (other_than colour) runs.second)
-        ++ source.new.left) }
+    ensures read { (b : List Bool) → AreRunsDue colour b first source.old.left
+        → IfOk result (λ runs. AreReadRuns colour width from b runs source.new.left) }
     ensures within { IfOk result (λ runs. from + runs.first + runs.second ≤ width) }
     ensures err { (b : List Bool) → AreRunsDue colour b first source.old.left
         → IfErr result (λ fault. IsPairFault colour width from b fault) }

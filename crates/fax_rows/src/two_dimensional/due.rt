@@ -10,11 +10,12 @@ ghost use Rattle.fax_rows.specs.Faults as Fault;
 ghost use Rattle.fax_rows.specs.code.Chosen.{GoesOn, GoesOnAsChosen};
 ghost use Rattle.fax_rows.specs.code.Due.{IsDue, IsDueWithin};
 ghost use Rattle.fax_rows.specs.code.Left.{IsLeft};
-ghost use Rattle.fax_rows.specs.code.PlacedReached.{placed_position, IsReadTo, IsReadInside};
+ghost use Rattle.fax_rows.specs.code.PlacedReached.{placed_position, IsReadTo, IsReadInside, IsReadOn, IsPairReadOn};
 ghost use Rattle.fax_rows.specs.code.PlacedRow.{placed_pels};
 ghost use Rattle.fax_rows.specs.code.Put.{ArePut, HasRoom};
 ghost use Rattle.fax_rows.specs.code.Reached.{position_of, reached_pel};
-ghost use Rattle.fax_rows.specs.code.Stop.{IsStopOf};
+ghost use Rattle.fax_rows.specs.code.Stop.{IsStopOf, IsStepStop, IsRowStop};
+ghost use Rattle.fax_rows.specs.code.ReadRow.{IsReadRow};
 ghost use Rattle.fax_rows.specs.code.Turns.{row_of, alternate};
 
 use super::codes::{Due, Stop};
@@ -75,19 +76,12 @@ fn read_due<const CHOICE: bool>(
 ) -> Result<PlacedReached, Stop<Due>>
     requires inside { IsReadInside reference places.old at }
     requires within { IsDueWithin reference.width (reached_pel at.reached) due }
-    ensures ok { (b : List Bool) → IsDue at.reached.colour b due source.old.left
-        → IfOk result (λ next. GoesOn (placed_pels reference.entry)
-        (placed_position reference.entry.width places.old at) b
-        (placed_position reference.entry.width places.new next) source.new.left) }
-    ensures so_far { IfOk result (λ next. IsReadTo reference.entry places.new next) }
-    ensures chosen { (b : List Bool) → IsDue at.reached.colour b due source.old.left
-        → IfOk result (λ next. IsTrue CHOICE → GoesOnAsChosen (placed_pels reference.entry)
-        (placed_position reference.entry.width places.old at) b
-        (placed_position reference.entry.width places.new next) source.new.left) }
-    ensures err { (b : List Bool) → IsDue at.reached.colour b due source.old.left
-        → IfErr result (λ stop. IsStopOf CHOICE (λ fault. Fault.IsStepFault
-        (placed_pels reference.entry) (placed_position reference.entry.width places.old at) b fault)
-        (λ more. ⊥) stop) }
+    ensures read { (b : List Bool) → IsDue at.reached.colour b due source.old.left
+        → IfOk result (λ next. IsReadOn CHOICE reference.entry places.old places.new at next
+        b source.new.left) }
+    ensures stop { (b : List Bool) → IsDue at.reached.colour b due source.old.left
+        → IfErr result (λ stop. IsStepStop CHOICE reference.entry places.old at b (λ more. ⊥)
+        stop) }
     ensures room { HasRoom reference.entry.width places.new }
     ensures same_end { KeepsEnd source.old source.new }
     ensures shorter { OnOk result (length source.new.left < length source.old.left) }
@@ -109,17 +103,10 @@ fn any_steps<const CHOICE: bool>(
     at: PlacedReached,
 ) -> Result<PlacedReached, Stop<Due>>
     requires inside { IsReadInside reference places.old at }
-    ensures ok { IfOk result (λ next. GoesOn (placed_pels reference.entry)
-        (placed_position reference.entry.width places.old at) source.old.left
-        (placed_position reference.entry.width places.new next) source.new.left) }
-    ensures so_far { IfOk result (λ next. IsReadTo reference.entry places.new next) }
-    ensures chosen { IfOk result (λ next. IsTrue CHOICE
-        → GoesOnAsChosen (placed_pels reference.entry)
-        (placed_position reference.entry.width places.old at) source.old.left
-        (placed_position reference.entry.width places.new next) source.new.left) }
-    ensures err { IfErr result (λ stop. IsStopOf CHOICE (λ fault. Fault.IsStepFault
-        (placed_pels reference.entry) (placed_position reference.entry.width places.old at)
-        source.old.left fault) (λ more. ⊥) stop) }
+    ensures read { IfOk result (λ next. IsReadOn CHOICE reference.entry places.old places.new
+        at next source.old.left source.new.left) }
+    ensures stop { IfErr result (λ stop. IsStepStop CHOICE reference.entry places.old at
+        source.old.left (λ more. ⊥) stop) }
     ensures room { HasRoom reference.entry.width places.new }
     ensures same_end { KeepsEnd source.old source.new }
     ensures shorter { OnOk result (length source.new.left < length source.old.left) }
@@ -141,16 +128,10 @@ pub(super) fn read_on<const CHOICE: bool>(
     left: Left,
 ) -> Result<usize, Stop<Due>>
     requires left { IsLeft CHOICE reference source.old places.old left }
-    ensures ok { IfOk result (λ end. Spec.IsTwoDimensionalRow (placed_pels reference.entry)
-        source.old.left (row_of places.new end reference.entry.width) source.new.left) }
-    ensures put { IfOk result
-        (λ end. ArePut reference.entry.width places.new end reference.entry.width) }
-    ensures chosen { IfOk result (λ end. IsTrue CHOICE
-        → source.old.left ≡ two_dimensional_bits (placed_pels reference.entry)
-        (row_of places.new end reference.entry.width) ++ source.new.left) }
-    ensures err { IfErr result (λ stop. IsStopOf CHOICE
-        (λ fault. Fault.IsTwoDimensionalFault (placed_pels reference.entry)
-        source.old.left fault) (λ more. ⊥) stop) }
+    ensures read { IfOk result (λ end. IsReadRow CHOICE reference.entry source.old.left places.new
+        end source.new.left) }
+    ensures stop { IfErr result (λ stop. IsRowStop CHOICE reference.entry source.old.left
+        (λ more. ⊥) stop) }
     ensures unchanged { OnErr result (source.new ≡ source.old) }
     ensures room { HasRoom reference.entry.width places.new }
     ensures same_end { KeepsEnd source.old source.new }

@@ -12,16 +12,17 @@ ghost use Rattle.fax_rows.specs.Rows as Spec;
 ghost use Rattle.fax_rows.specs.Faults as Fault;
 ghost use Rattle.fax_rows.specs.declared.RowFault.TheVariants.{OutOfRow};
 ghost use Rattle.fax_rows.specs.code.Chosen as Chosen;
-ghost use Rattle.fax_rows.specs.code.Due.{AreRunsDue, IsDueAt, IsHorizontalDue};
+ghost use Rattle.fax_rows.specs.code.Due.{AreReadRuns, AreRunsDue, IsDueAt, IsHorizontalDue};
 ghost use Rattle.fax_rows.specs.code.Left.{IsLeft};
 ghost use Rattle.fax_rows.specs.code.Seen.{b2_from};
 ghost use Rattle.fax_rows.specs.code.PlacedRow.{placed_pels};
 ghost use Rattle.fax_rows.specs.code.RowFaults.{IsHorizontalFault};
-ghost use Rattle.fax_rows.specs.code.Stop.{IsStopOf};
+ghost use Rattle.fax_rows.specs.code.Stop.{IsStopOf, IsStepStop, IsRowStop};
+ghost use Rattle.fax_rows.specs.code.ReadRow.{IsReadRow};
 ghost use Rattle.fax_rows.specs.code.Put.{ArePut, HasRoom};
 ghost use Rattle.fax_rows.specs.code.Turns.{row_of};
 ghost use Rattle.fax_rows.specs.code.Reached.{reached_pel};
-ghost use Rattle.fax_rows.specs.code.PlacedReached.{placed_position, IsReadTo, IsReadInside};
+ghost use Rattle.fax_rows.specs.code.PlacedReached.{placed_position, IsReadTo, IsReadInside, IsReadOn, IsPairReadOn};
 
 use super::choices::{chooses_a1, chooses_b2, chooses_runs, is_taken};
 use super::codes::{Due, Stop, TwoRuns, last_two_runs, two_runs};
@@ -44,18 +45,10 @@ fn past_runs<const CHOICE: bool>(
 ) -> Result<PlacedReached, Stop<Due>>
     requires inside { IsReadInside reference places.old at }
     requires within { reached_pel at.reached + runs.first + runs.second ≤ reference.width }
-    ensures ok { (b rest : List Bool)
-        → Chosen.AreTwoRuns at.reached.colour b runs.first runs.second rest
-        → IfOk result (λ next. Spec.IsHorizontalStep (placed_pels reference.entry)
-        (placed_position reference.entry.width places.old at) b
-        (placed_position reference.entry.width places.new next) rest) }
-    ensures so_far { IfOk result (λ next. IsReadTo reference.entry places.new next) }
-    ensures chosen { (b rest : List Bool) → (IsTrue runs.is_chosen
-        → b ≡ (run_bits at.reached.colour runs.first
-        ++ run_bits (other_than at.reached.colour) runs.second) ++ rest)
-        → IfOk result (λ next. IsTrue CHOICE → Chosen.IsChosenPair (placed_pels reference.entry)
-        (placed_position reference.entry.width places.old at) b
-        (placed_position reference.entry.width places.new next) rest) }
+    ensures read { (b rest : List Bool)
+        → AreReadRuns at.reached.colour reference.entry.width (reached_pel at.reached) b runs rest
+        → IfOk result (λ next. IsPairReadOn CHOICE reference.entry places.old places.new at next
+        b rest) }
     ensures err { IfErr result (λ stop. IsStopOf CHOICE (λ fault. ⊥) (λ due. ⊥) stop) }
     ensures room { HasRoom reference.entry.width places.new }
 {
@@ -76,14 +69,8 @@ fn horizontal<const CHOICE: bool>(
     at: PlacedReached,
 ) -> Result<PlacedReached, Stop<Due>>
     requires inside { IsReadInside reference places.old at }
-    ensures ok { IfOk result (λ next. Spec.IsHorizontalStep (placed_pels reference.entry)
-        (placed_position reference.entry.width places.old at) source.old.left
-        (placed_position reference.entry.width places.new next) source.new.left) }
-    ensures so_far { IfOk result (λ next. IsReadTo reference.entry places.new next) }
-    ensures chosen { IfOk result (λ next. IsTrue CHOICE
-        → Chosen.IsChosenPair (placed_pels reference.entry)
-        (placed_position reference.entry.width places.old at) source.old.left
-        (placed_position reference.entry.width places.new next) source.new.left) }
+    ensures read { IfOk result (λ next. IsPairReadOn CHOICE reference.entry places.old places.new
+        at next source.old.left source.new.left) }
     ensures err { IfErr result (λ stop. IsStopOf CHOICE (λ fault. ⊥)
         (λ due. IsHorizontalDue reference.entry places.old places.new at source.old.left due
         source.new.left) stop) }
@@ -173,15 +160,9 @@ pub(super) fn last_horizontal<const CHOICE: bool>(
 ) -> Result<PlacedReached, Stop<Due>>
     requires inside { IsReadInside reference places.old at }
     requires fits { IfSome first (λ n. reached_pel at.reached + n ≤ reference.width) }
-    ensures ok { (b : List Bool) → AreRunsDue at.reached.colour b first source.old.left
-        → IfOk result (λ next. Spec.IsHorizontalStep (placed_pels reference.entry)
-        (placed_position reference.entry.width places.old at) b
-        (placed_position reference.entry.width places.new next) source.new.left) }
-    ensures so_far { IfOk result (λ next. IsReadTo reference.entry places.new next) }
-    ensures chosen { (b : List Bool) → AreRunsDue at.reached.colour b first source.old.left
-        → IfOk result (λ next. IsTrue CHOICE → Chosen.IsChosenPair (placed_pels reference.entry)
-        (placed_position reference.entry.width places.old at) b
-        (placed_position reference.entry.width places.new next) source.new.left) }
+    ensures read { (b : List Bool) → AreRunsDue at.reached.colour b first source.old.left
+        → IfOk result (λ next. IsPairReadOn CHOICE reference.entry places.old places.new at next
+        b source.new.left) }
     ensures err { (b : List Bool) → AreRunsDue at.reached.colour b first source.old.left
         → IfErr result (λ stop. IsStopOf CHOICE (λ fault. IsHorizontalFault
         (placed_pels reference.entry) (placed_position reference.entry.width places.old at) b fault)
@@ -207,19 +188,11 @@ pub(super) fn by_mode<const CHOICE: bool, const LAST: bool>(
     mode: ModeCode,
 ) -> Result<PlacedReached, Stop<Due>>
     requires inside { IsReadInside reference places.old at }
-    ensures ok { (b : List Bool) → Takes modes b mode source.old.left
-        → IfOk result (λ next. Chosen.GoesOn (placed_pels reference.entry)
-        (placed_position reference.entry.width places.old at) b
-        (placed_position reference.entry.width places.new next) source.new.left) }
-    ensures so_far { (b : List Bool) → Takes modes b mode source.old.left
-        → IfOk result (λ next. IsReadTo reference.entry places.new next) }
-    ensures chosen { (b : List Bool) → Takes modes b mode source.old.left
-        → IfOk result (λ next. IsTrue CHOICE → Chosen.GoesOnAsChosen (placed_pels reference.entry)
-        (placed_position reference.entry.width places.old at) b
-        (placed_position reference.entry.width places.new next) source.new.left) }
-    ensures err { (b : List Bool) → Takes modes b mode source.old.left
-        → IfErr result (λ stop. IsStopOf CHOICE (λ fault. Fault.IsStepFault
-        (placed_pels reference.entry) (placed_position reference.entry.width places.old at) b fault)
+    ensures read { (b : List Bool) → Takes modes b mode source.old.left
+        → IfOk result (λ next. IsReadOn CHOICE reference.entry places.old places.new at next
+        b source.new.left) }
+    ensures stop { (b : List Bool) → Takes modes b mode source.old.left
+        → IfErr result (λ stop. IsStepStop CHOICE reference.entry places.old at b
         (λ due. (IsTrue LAST → ⊥) × (places.new ≡ places.old)
         × IsDueAt reference.entry places.old at b due source.new.left) stop) }
     ensures room { OnErr result (HasRoom reference.entry.width places.new) }
@@ -251,17 +224,10 @@ pub(super) fn next_steps<const CHOICE: bool>(
     at: PlacedReached,
 ) -> Result<PlacedReached, Stop<Due>>
     requires inside { IsReadInside reference places.old at }
-    ensures ok { IfOk result (λ next. Chosen.GoesOn (placed_pels reference.entry)
-        (placed_position reference.entry.width places.old at) source.old.left
-        (placed_position reference.entry.width places.new next) source.new.left) }
-    ensures so_far { IfOk result (λ next. IsReadTo reference.entry places.new next) }
-    ensures chosen { IfOk result (λ next. IsTrue CHOICE
-        → Chosen.GoesOnAsChosen (placed_pels reference.entry)
-        (placed_position reference.entry.width places.old at) source.old.left
-        (placed_position reference.entry.width places.new next) source.new.left) }
-    ensures err { IfErr result (λ stop. IsStopOf CHOICE (λ fault. Fault.IsStepFault
-        (placed_pels reference.entry) (placed_position reference.entry.width places.old at)
-        source.old.left fault) (λ due. (places.new ≡ places.old)
+    ensures read { IfOk result (λ next. IsReadOn CHOICE reference.entry places.old places.new
+        at next source.old.left source.new.left) }
+    ensures stop { IfErr result (λ stop. IsStepStop CHOICE reference.entry places.old at
+        source.old.left (λ due. (places.new ≡ places.old)
         × IsDueAt reference.entry places.old at source.old.left due source.new.left) stop) }
     ensures room { HasRoom reference.entry.width places.new }
     ensures same_end { KeepsEnd source.old source.new }
@@ -283,16 +249,9 @@ pub(super) fn read_by_look_ups<const CHOICE: bool>(
     places: &mut [u32],
 ) -> Result<usize, Stop<Left>>
     requires room { HasRoom reference.width places.old }
-    ensures ok { IfOk result (λ end. Spec.IsTwoDimensionalRow (placed_pels reference.entry)
-        source.old.left (row_of places.new end reference.entry.width) source.new.left) }
-    ensures put { IfOk result
-        (λ end. ArePut reference.entry.width places.new end reference.entry.width) }
-    ensures chosen { IfOk result (λ end. IsTrue CHOICE
-        → source.old.left ≡ two_dimensional_bits (placed_pels reference.entry)
-        (row_of places.new end reference.entry.width) ++ source.new.left) }
-    ensures err { IfErr result (λ stop. IsStopOf CHOICE
-        (λ fault. Fault.IsTwoDimensionalFault (placed_pels reference.entry)
-        source.old.left fault)
+    ensures read { IfOk result (λ end. IsReadRow CHOICE reference.entry source.old.left places.new
+        end source.new.left) }
+    ensures stop { IfErr result (λ stop. IsRowStop CHOICE reference.entry source.old.left
         (λ left. IsLeft CHOICE reference.entry source.old places.new left) stop) }
     ensures unchanged { OnErr result (source.new ≡ source.old) }
     ensures room { HasRoom reference.entry.width places.new }

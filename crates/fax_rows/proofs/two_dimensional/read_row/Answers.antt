@@ -26,14 +26,14 @@ close-row-inside-requires-clause-put g c =
     let own = width_is c.row.invariant c.row.view_is in
     let others = placed_width c.placed-reference.result c.args.reference.now c.placed-reference.ensures in
     let same : c.placed-reference.result.width ≡ c.row.inside.width = omega arith in
-    subst (λ width. ArePut width c.read_places.new.places c.in-Ok.read.end width) same c.in-Ok.ensures.put
+    subst (λ width. ArePut width c.read_places.new.places c.in-Ok.read.end width) same c.in-Ok.ensures.read.put
 
 pub returns-in-Ok-clause-ok : goal.returns-in-Ok-clause-ok
 returns-in-Ok-clause-ok g c =
     let own = width_is c.row.invariant c.row.view_is in
     let others = placed_width c.placed-reference.result c.args.reference.now c.placed-reference.ensures in
     let same : c.row.inside.width ≡ c.placed-reference.result.width = omega arith in
-    two_dimensional_as c.in-Ok.ensures.ok c.placed-reference.ensures
+    two_dimensional_as c.in-Ok.ensures.read.row c.placed-reference.ensures
     (ap (λ places. pels_by c.row.inside.width (take c.close-row-inside.result places)) (refilled c.row.inside.places.len
     c.close-row-inside.new.places c.row.inside.places.items (omega arith)) ∙ c.close-row-inside.ensures.pels ∙ ap (λ width. pels_by width
     (take c.in-Ok.read.end c.read_places.new.places)) same)
@@ -51,7 +51,7 @@ returns-in-Ok-clause-chosen g c is =
     let own = width_is c.row.invariant c.row.view_is in
     let others = placed_width c.placed-reference.result c.args.reference.now c.placed-reference.ensures in
     let same : c.row.inside.width ≡ c.placed-reference.result.width = omega arith in
-    c.in-Ok.ensures.chosen is
+    c.in-Ok.ensures.read.chosen is
     ∙ ap (λ reference. two_dimensional_bits reference (pels_by c.placed-reference.result.width
     (take c.in-Ok.read.end c.read_places.new.places)) ++ c.read_places.new.source.left) c.placed-reference.ensures
     ∙ ap (λ row. two_dimensional_bits c.args.reference.now row ++ c.read_places.new.source.left) (sym

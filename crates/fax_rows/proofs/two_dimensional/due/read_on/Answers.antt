@@ -1,21 +1,18 @@
-use Rattle.std.proofs.Common.{◌≡◌, ◌+◌, length, length-append, take, refl, ap, sym, ◌∙◌, arith}
+use Rattle.std.proofs.Common.{length, length-append, take, ap, ◌∙◌, arith}
 use Rattle.std.proofs.lemmas.Result.{err_from_is_err_and}
 use Rattle.fax_bits.specs.views.Source.{Source}
 use Rattle.fax_rows.specs.code.Due.{IsDue}
 use Rattle.fax_rows.specs.code.PlacedRow.{placed_pels}
 use Rattle.fax_rows.specs.code.Turns.{pels_by}
-use Rattle.fax_rows.specs.code.PlacedReached.{placed_position}
-use Rattle.fax_rows.proofs.TurnLemmas.{length-pels_by}
 use Rattle.fax_rows.proofs.PlacedB1Lemmas.{length-placed_pels}
-use Rattle.fax_rows.proofs.ChangeLemmas.{first_of}
-use Rattle.fax_rows.proofs.ChosenRowLemmas.{chosen_ends}
-use Rattle.fax_rows.proofs.GoesOnLemmas.{goes_further, chosen_further, chosen_so_far, rest_there}
-use Rattle.fax_rows.proofs.PlacedStepLemmas.{steps_done, fault_here}
+use Rattle.fax_rows.proofs.GoesOnLemmas.{goes_further, chosen_further, rest_there}
+use Rattle.fax_rows.proofs.ReadRowLemmas.{row_done}
+use Rattle.fax_rows.proofs.PlacedStepLemmas.{fault_here}
 use Rattle.fax_rows.proofs.StopLemmas.{stop_as}
 use Rattle.fax_rows.proofs.two_dimensional.due.read_on.Goals as goal
 
-pub returns-in_err-at-clause-err : goal.returns-in_err-at-clause-err
-returns-in_err-at-clause-err g c =
+pub returns-in_err-at-clause-stop : goal.returns-in_err-at-clause-stop
+returns-in_err-at-clause-stop g c =
     let left = c.requires.left in
     let same =
     c.reached.ensures left.at left.a0 left.end left.b1 (left.due.inside.so_far.b1 left.due.inside.unfinished).colour_is in
@@ -26,7 +23,7 @@ returns-in_err-at-clause-err g c =
     (pels_by c.args.reference.width (take left.at.end c.args.places.now)) left.middle left.steps
     (omega (arith, length-placed_pels c.args.reference, left.due.inside.unfinished)) in
     let p = err_from_is_err_and c.from_residual.result c.from_residual.ensures.1 in
-    rw (p.1, p.2) (stop_as _ c.in_err-at.field-0.0 (rw same at (c.in_err-at.ensures.err left.middle due)) here (λ more h. h))
+    rw (p.1, p.2) (stop_as _ c.in_err-at.field-0.0 (rw same at (c.in_err-at.ensures.stop left.middle due)) here (λ more h. h))
 
 pub loop-ahead-init : goal.loop-ahead-init
 loop-ahead-init g c =
@@ -37,10 +34,11 @@ loop-ahead-init g c =
     ∙ rw c.again-ahead.ensures (rest_there c.args.source.now c.args.left.place left.front left.rest left.bits left.place) in
     let place = ap (λ (s : Source). s.place) c.skip_to.ensures in
     let due : IsDue c.reached.result.reached.colour left.middle c.args.left.due c.skip_to.new.self.left = rw (same, there) left.due.read in
+    let read = rw same at (c.in_ok-at.ensures.read left.middle due) in
     record {
-      steps = goes_further left.steps (rw same at (c.in_ok-at.ensures.ok left.middle due));
-      chosen = λ h. chosen_further (left.chosen h) (rw same at (c.in_ok-at.ensures.chosen left.middle due h));
-      so_far = c.in_ok-at.ensures.so_far;
+      steps = goes_further left.steps read.steps;
+      chosen = λ h. chosen_further (left.chosen h) (read.chosen h);
+      so_far = read.so_far;
       same_end = omega (
         arith,
         c.in_ok-at.ensures.same_end,
@@ -54,37 +52,21 @@ loop-ahead-init g c =
 
 pub loop-ahead-preserved : goal.loop-ahead-preserved
 loop-ahead-preserved g c = record {
-  steps = goes_further c.loop-ahead.invariant.steps c.in_ok-at-2.ensures.ok;
-  chosen = λ h. chosen_further (c.loop-ahead.invariant.chosen h) (c.in_ok-at-2.ensures.chosen h);
-  so_far = c.in_ok-at-2.ensures.so_far;
+  steps = goes_further c.loop-ahead.invariant.steps c.in_ok-at-2.ensures.read.steps;
+  chosen = λ h. chosen_further (c.loop-ahead.invariant.chosen h) (c.in_ok-at-2.ensures.read.chosen h);
+  so_far = c.in_ok-at-2.ensures.read.so_far;
   same_end = omega (arith, c.in_ok-at-2.ensures.same_end, c.loop-ahead.invariant.same_end);
 }
 
-pub returns-in_err-at-2-clause-err : goal.returns-in_err-at-2-clause-err
-returns-in_err-at-2-clause-err g c =
+pub returns-in_err-at-2-clause-stop : goal.returns-in_err-at-2-clause-stop
+returns-in_err-at-2-clause-stop g c =
     let here = fault_here (placed_pels c.args.reference) c.args.source.now.left c.loop-ahead.at.reached
     (pels_by c.args.reference.width (take c.loop-ahead.at.end c.loop-ahead.places)) c.loop-ahead.ahead.left
     c.loop-ahead.invariant.steps (omega (arith, length-placed_pels c.args.reference)) in
     let p = err_from_is_err_and c.from_residual-in_err-at-2.result c.from_residual-in_err-at-2.ensures.1 in
-    rw (p.1, p.2) (stop_as _ c.in_err-at-2.field-0.0 c.in_err-at-2.ensures.err here (λ more h. h))
+    rw (p.1, p.2) (stop_as _ c.in_err-at-2.field-0.0 c.in_err-at-2.ensures.stop here (λ more h. h))
 
-pub returns-clause-ok : goal.returns-clause-ok
-returns-clause-ok g c =
-    rw c.go_to.ensures
-    (steps_done (placed_pels c.args.reference) c.args.source.now.left c.loop-ahead.at.reached
-    (pels_by c.args.reference.width (take c.loop-ahead.at.end c.loop-ahead.places)) c.loop-ahead.ahead.left c.args.reference.width
-    c.loop-ahead.invariant.steps c.args.reference.placed.some (omega arith)
-    (length-pels_by c.args.reference.width _) (length-pels_by c.args.reference.width _))
-
-pub returns-clause-chosen : goal.returns-clause-chosen
-returns-clause-chosen g c is =
-    let len = length-placed_pels c.args.reference in
-    let row_len = length-pels_by c.args.reference.width (take c.loop-ahead.at.end c.loop-ahead.places) in
-    let at = placed_position c.args.reference.width c.loop-ahead.places c.loop-ahead.at in
-    rw c.go_to.ensures
-    (chosen_ends (placed_pels c.args.reference) (pels_by c.args.reference.width (take c.loop-ahead.at.end c.loop-ahead.places))
-    c.args.source.now.left at c.loop-ahead.ahead.left
-    (chosen_so_far (placed_pels c.args.reference) c.args.source.now.left at c.loop-ahead.ahead.left (c.loop-ahead.invariant.chosen is))
-    (row_len ∙ sym len)
-    (record { read = refl; coloured = λ a at inside. absurd (let first = ap first_of at in omega (arith, row_len)) })
-    (omega (arith, row_len)))
+pub returns-clause-read : goal.returns-clause-read
+returns-clause-read g c =
+    rw c.go_to.ensures (row_done c.args.reference c.args.source.now.left c.loop-ahead.places c.loop-ahead.at c.loop-ahead.ahead.left
+    c.loop-ahead.invariant.steps c.loop-ahead.invariant.chosen c.loop-ahead.invariant.so_far (omega arith))

@@ -1,4 +1,4 @@
-use Rattle.std.proofs.Common.{◌∙◌, arith}
+use Rattle.std.proofs.Common.{◌∙◌}
 use Rattle.std.proofs.lemmas.Result.{err_from_is_err_and}
 use Rattle.fax_rows.proofs.PlacedB1Lemmas.{length-placed_pels}
 use Rattle.fax_rows.proofs.two_dimensional.modes.last_horizontal.Goals as goal

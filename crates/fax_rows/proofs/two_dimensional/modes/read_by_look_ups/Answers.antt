@@ -1,16 +1,13 @@
-use Rattle.std.proofs.Common.{◌+◌, length, length-append, take, refl, ap, sym, ◌∙◌, arith}
+use Rattle.std.proofs.Common.{length, length-append, take, refl, ap, arith}
 use Rattle.std.proofs.lemmas.Int.{ints}
 use Rattle.fax_rows.specs.Rows.{beginning}
 use Rattle.fax_rows.specs.code.PlacedRow.{placed_pels}
 use Rattle.fax_rows.specs.code.Turns.{pels_by}
-use Rattle.fax_rows.specs.code.PlacedReached.{placed_position}
-use Rattle.fax_rows.proofs.TurnLemmas.{length-pels_by}
 use Rattle.fax_rows.proofs.PlacedB1Lemmas.{length-placed_pels}
-use Rattle.fax_rows.proofs.ChangeLemmas.{first_of}
-use Rattle.fax_rows.proofs.ChosenRowLemmas.{chosen_ends}
-use Rattle.fax_rows.proofs.GoesOnLemmas.{no_step, no_chosen_step, goes_further, chosen_further, chosen_so_far}
+use Rattle.fax_rows.proofs.GoesOnLemmas.{no_step, no_chosen_step, goes_further, chosen_further}
 use Rattle.fax_rows.proofs.GoesOnLemmas.{goes_on_leaves, due_leaves, leaves_more}
-use Rattle.fax_rows.proofs.PlacedStepLemmas.{nothing_read, steps_done, fault_here}
+use Rattle.fax_rows.proofs.ReadRowLemmas.{row_done}
+use Rattle.fax_rows.proofs.PlacedStepLemmas.{nothing_read, fault_here}
 use Rattle.fax_rows.proofs.two_dimensional.modes.read_by_look_ups.Goals as goal
 
 pub loop-ahead-init : goal.loop-ahead-init
@@ -23,44 +20,28 @@ loop-ahead-init g c = rw c.again-ahead.ensures (record {
 
 pub loop-ahead-preserved : goal.loop-ahead-preserved
 loop-ahead-preserved g c = record {
-  steps = goes_further c.loop-ahead.invariant.steps c.in-Ok.ensures.ok;
-  chosen = λ h. chosen_further (c.loop-ahead.invariant.chosen h) (c.in-Ok.ensures.chosen h);
-  so_far = c.in-Ok.ensures.so_far;
+  steps = goes_further c.loop-ahead.invariant.steps c.in-Ok.ensures.read.steps;
+  chosen = λ h. chosen_further (c.loop-ahead.invariant.chosen h) (c.in-Ok.ensures.read.chosen h);
+  so_far = c.in-Ok.ensures.read.so_far;
   same_end = omega (arith, c.in-Ok.ensures.same_end, c.loop-ahead.invariant.same_end);
 }
 
-pub returns-clause-ok : goal.returns-clause-ok
-returns-clause-ok g c =
-    rw c.go_to.ensures
-    (steps_done (placed_pels c.args.reference) c.args.source.now.left c.loop-ahead.at.reached
-    (pels_by c.args.reference.width (take c.loop-ahead.at.end c.loop-ahead.places)) c.loop-ahead.ahead.left c.args.reference.width
-    c.loop-ahead.invariant.steps c.args.reference.placed.some (omega arith)
-    (length-pels_by c.args.reference.width _) (length-pels_by c.args.reference.width _))
+pub returns-clause-read : goal.returns-clause-read
+returns-clause-read g c =
+    rw c.go_to.ensures (row_done c.args.reference c.args.source.now.left c.loop-ahead.places c.loop-ahead.at c.loop-ahead.ahead.left
+    c.loop-ahead.invariant.steps c.loop-ahead.invariant.chosen c.loop-ahead.invariant.so_far (omega arith))
 
-pub returns-clause-chosen : goal.returns-clause-chosen
-returns-clause-chosen g c is =
-    let len = length-placed_pels c.args.reference in
-    let row_len = length-pels_by c.args.reference.width (take c.loop-ahead.at.end c.loop-ahead.places) in
-    let at = placed_position c.args.reference.width c.loop-ahead.places c.loop-ahead.at in
-    rw c.go_to.ensures
-    (chosen_ends (placed_pels c.args.reference) (pels_by c.args.reference.width (take c.loop-ahead.at.end c.loop-ahead.places))
-    c.args.source.now.left at c.loop-ahead.ahead.left
-    (chosen_so_far (placed_pels c.args.reference) c.args.source.now.left at c.loop-ahead.ahead.left (c.loop-ahead.invariant.chosen is))
-    (row_len ∙ sym len)
-    (record { read = refl; coloured = λ a at inside. absurd (let first = ap first_of at in omega (arith, row_len)) })
-    (omega (arith, row_len)))
-
-pub returns-in-Err-Fault-clause-err : goal.returns-in-Err-Fault-clause-err
-returns-in-Err-Fault-clause-err g c =
+pub returns-in-Err-Fault-clause-stop : goal.returns-in-Err-Fault-clause-stop
+returns-in-Err-Fault-clause-stop g c =
     let len = length-placed_pels c.args.reference in
     fault_here (placed_pels c.args.reference) c.args.source.now.left c.loop-ahead.at.reached
     (pels_by c.args.reference.width (take c.loop-ahead.at.end c.loop-ahead.places)) c.loop-ahead.ahead.left
     c.loop-ahead.invariant.steps (omega (arith, len)) c.in-Err-Fault.fault
-    (rw c.in-Err-Fault.field-0-is at c.in-Err-Fault.ensures.err)
+    (rw c.in-Err-Fault.field-0-is at c.in-Err-Fault.ensures.stop)
 
-pub returns-in-Err-Due-clause-err : goal.returns-in-Err-Due-clause-err
-returns-in-Err-Due-clause-err g c =
-    let due = rw c.in-Err-Due.field-0-is at c.in-Err-Due.ensures.err in
+pub returns-in-Err-Due-clause-stop : goal.returns-in-Err-Due-clause-stop
+returns-in-Err-Due-clause-stop g c =
+    let due = rw c.in-Err-Due.field-0-is at c.in-Err-Due.ensures.stop in
     let rest = c.next_steps.new.source.left in
     let left = leaves_more (goes_on_leaves c.loop-ahead.invariant.steps)
     (due_leaves c.loop-ahead.at.reached.colour c.loop-ahead.ahead.left c.in-Err-Due.due rest due.1.read) in

@@ -1,0 +1,54 @@
+-- A row that is read on by one mode.
+use Rattle.std.proofs.Common.{◌≡◌, ℕ, ◌<◌, ◌≤◌, List, Bool, true, ℤ, refl, arith}
+use Rattle.std.specs.Prelude.{IsTrue}
+use Rattle.fax_bits.specs.declared.modes.ModeCode.TheVariants.{Pass, Horizontal, Vertical}
+use Rattle.fax_bits.specs.Codes.{Takes}
+use Rattle.fax_bits.specs.Tables.{modes}
+use Rattle.fax_rows.specs.declared.rows.PlacedRow.{PlacedRow}
+use Rattle.fax_rows.specs.declared.two_dimensional.steps.PlacedReached.{PlacedReached}
+use Rattle.fax_rows.specs.Rows.{coloured_up_to, IsVerticalStep}
+use Rattle.fax_rows.specs.code.PlacedReached.{placed_position, IsReadTo, IsReadInside, IsReadOn, IsPairReadOn}
+use Rattle.fax_rows.specs.code.PlacedRow.{placed_pels}
+use Rattle.fax_rows.specs.code.Reached.{reached_pel}
+use Rattle.fax_rows.specs.code.Seen.{b2_from}
+use Rattle.fax_rows.proofs.ChosenStepLemmas.{vertical_chosen_as, pass_chosen, pair_chosen}
+use Rattle.fax_rows.proofs.PlacedB1Lemmas.{length-placed_pels}
+use Rattle.fax_rows.proofs.UnderLemmas.{step_goes_on, vertical_goes_on, chosen_goes_on}
+
+-- what T.4 chooses, whether that is asked for or not
+pub asked_or_not : {choice : Bool} {reference : PlacedRow} {old new : List ℕ} {at next : PlacedReached} {b rest : List Bool}
+    → IsReadOn true reference old new at next b rest → IsReadOn choice reference old new at next b rest
+asked_or_not read = record { steps = read.steps; chosen = λ asked. read.chosen refl; so_far = read.so_far }
+
+module _ {choice : Bool} {reference : PlacedRow} {places new : List ℕ} {at next : PlacedReached}
+    (here : IsReadInside reference places at) where
+  pub vertical_read : {b : List Bool} {d distance : ℤ} {rest : List Bool} → Takes modes b (Vertical d) rest → distance ≡ d
+      → IsVerticalStep (placed_pels reference) (placed_position reference.width places at) distance
+      (placed_position reference.width new next) → IsReadTo reference new next
+      → (IsTrue choice → reached_pel next.reached ≤ b2_from (placed_pels reference) (placed_position reference.width places at))
+      → IsReadOn choice reference places new at next b rest
+  vertical_read {b} {d} {distance} {rest} taken same step so_far left = record {
+    steps = vertical_goes_on here b _ rest d distance taken step same;
+    chosen = λ asked. chosen_goes_on here b _ rest (vertical_chosen_as here taken step (left asked) same);
+    so_far = so_far;
+  }
+
+  pub pass_read : {b rest : List Bool} → Takes modes b Pass rest
+      → placed_position reference.width new next ≡ coloured_up_to (placed_position reference.width places at)
+      (b2_from (placed_pels reference) (placed_position reference.width places at))
+      → IsReadTo reference new next → (IsTrue choice → reached_pel next.reached < reference.width)
+      → IsReadOn choice reference places new at next b rest
+  pass_read {b} {rest} taken step so_far inside = record {
+    steps = step_goes_on here b _ rest (record { mode = Pass; after = rest; taken = taken; step = (step, refl) });
+    chosen = λ asked. chosen_goes_on here b _ rest
+        (pass_chosen here taken step (omega (arith, length-placed_pels reference, inside asked)));
+    so_far = so_far;
+  }
+
+  pub pair_read : {b middle rest : List Bool} → Takes modes b Horizontal middle
+      → IsPairReadOn choice reference places new at next middle rest → IsReadOn choice reference places new at next b rest
+  pair_read {b} {middle} {rest} taken read = record {
+    steps = step_goes_on here b _ rest (record { mode = Horizontal; after = middle; taken = taken; step = read.step });
+    chosen = λ asked. chosen_goes_on here b _ rest (pair_chosen here taken (read.chosen asked));
+    so_far = read.so_far;
+  }
