@@ -1,6 +1,6 @@
 //! Code tables, and the code that bits begin with.
 ghost use Rattle.std.specs.Prelude.{◌≡◌, ℕ, ◌^◌, ◌<◌, ◌≤◌, List, length, slice_get};
-ghost use Rattle.std.specs.Prelude.{OnOk, OnErr, IfOk, IfErr, MatchOption, Some, None, IsSome};
+ghost use Rattle.std.specs.Prelude.{OnOk, OnErr, IfOk, IfErr, MatchOption, Some, None};
 ghost use Rattle.fax_bits.specs.Bits.{code_bits};
 ghost use Rattle.fax_bits.specs.Codes.{Takes, IsFaultOf, HasNoCode};
 ghost use Rattle.fax_bits.specs.code.Meeting.{IsMeeting};

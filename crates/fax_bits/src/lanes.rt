@@ -1,5 +1,5 @@
 //! The bits of bytes, turned round in lanes.
-ghost use Rattle.std.specs.Prelude.{◌≡◌, ◌+◌, ◌≤◌, length, map, ℕ};
+ghost use Rattle.std.specs.Prelude.{◌≡◌, ◌+◌, map};
 ghost use Rattle.std.specs.Int.{reverse_bits as turned_round, w8};
 ghost use Rattle.fax_bits.specs.declared.FillOrder.{FillOrder};
 ghost use Rattle.fax_bits.specs.Bits.{bits};

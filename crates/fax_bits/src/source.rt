@@ -1,12 +1,12 @@
 //! Bits of bytes, read from a place on.
 ghost use Rattle.std.specs.Prelude.{◌≡◌, ◌+◌, ◌≤◌, ◌<◌, ◌++◌, length, take, drop, replicate};
-ghost use Rattle.std.specs.Prelude.{slice_index_or, false, IfSome, MatchOption, IsTrue, ◌↔◌};
+ghost use Rattle.std.specs.Prelude.{slice_index_or, false, MatchOption, IsTrue, ◌↔◌};
 ghost use Rattle.std.specs.Prelude.{◌^◌, ◌-◌};
 ghost use Rattle.fax_bits.specs.Bits.{bits, IsAllZeros, code_bits, BeginsWith};
 ghost use Rattle.fax_bits.specs.views.Source.{HasZerosAhead, IsTaken, KeepsEnd};
 ghost use Rattle.fax_bits.specs.Bits.{bits_number};
 ghost use Rattle.fax_bits.specs.laws.Codes.{bit_in_byte};
-ghost use Rattle.fax_bits.specs.code.Source.{IsPlaced, IsZeroByteAt};
+ghost use Rattle.fax_bits.specs.code.Source.{IsZeroByteAt};
 
 use crate::FillOrder;
 use crate::window::Window;

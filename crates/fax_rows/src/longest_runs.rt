@@ -1,6 +1,6 @@
 //! The longest runs of a row, one after another (ITU-T T.4, section 4.1.1).
 ghost use Rattle.std.specs.Prelude.{◌≡◌, ◌+◌, ◌-◌, ◌<◌, ◌≤◌, ◌^◌, ◌↔◌, [], ◌∷◌};
-ghost use Rattle.std.specs.Prelude.{MatchOption, IfNone, IfSome, IsTrue, length, slice_index, sum};
+ghost use Rattle.std.specs.Prelude.{MatchOption, IfNone, IfSome, IsTrue, length, sum};
 ghost use Rattle.std.specs.Prelude.{take, drop};
 ghost use Rattle.fax_rows.specs.Rows.{runs_of, pels_of};
 ghost use Rattle.fax_rows.specs.code.LongestRuns.{AreLongest};

@@ -1,5 +1,5 @@
 //! Rows in one-dimensional coding (ITU-T T.4, section 4.1.1).
-ghost use Rattle.std.specs.Prelude.{◌≡◌, ◌+◌, ◌-◌, ◌≤◌, ◌<◌, ◌^◌, ◌⊎◌, length, slice_index, take};
+ghost use Rattle.std.specs.Prelude.{◌≡◌, ◌+◌, ◌-◌, ◌≤◌, ◌<◌, ◌^◌, ◌⊎◌, length};
 ghost use Rattle.std.specs.Prelude.{◌++◌, OnOk, IfOk, IfErr, IsTrue};
 ghost use Rattle.fax_bits.specs.Codes.{IsRun};
 ghost use Rattle.fax_bits.specs.Written.{run_bits};

@@ -1,5 +1,5 @@
 //! Changing elements, and the places b1 and b2 of a reference row (ITU-T T.4, section 4.2.1.3.1).
-ghost use Rattle.std.specs.Prelude.{◌≡◌, ℕ, ◌≤◌, ◌<◌, ◌&&◌, not, length, true, false};
+ghost use Rattle.std.specs.Prelude.{◌≡◌, ◌≤◌, ◌<◌, length, true};
 ghost use Rattle.fax_rows.specs.Rows as Spec;
 
 use crate::pels::Row;

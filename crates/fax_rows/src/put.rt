@@ -1,6 +1,6 @@
 //! Rows as they are written, in T.4's own choice of codes (ITU-T T.4, sections 4.1.1 and
 //! 4.2.1.3.3; T.6, section 2.2.4).
-ghost use Rattle.std.specs.Prelude.{◌≡◌, ◌+◌, ◌-◌, ◌≤◌, ◌<◌, ◌^◌, ◌++◌, length, true, unwrap_or};
+ghost use Rattle.std.specs.Prelude.{◌≡◌, ◌+◌, ◌-◌, ◌<◌, ◌^◌, ◌++◌, length, unwrap_or};
 ghost use Rattle.std.specs.Prelude.{Some, None, OnOk, OnErr, IfOk};
 ghost use Rattle.fax_bits.specs.Written.{run_bits};
 ghost use Rattle.fax_bits.specs.views.Sink.{Appends, AppendsPrefix, AppendsAllBut};

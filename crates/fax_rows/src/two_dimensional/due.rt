@@ -1,22 +1,19 @@
 //! A row in two-dimensional coding, read on from where no look-up finds the next code (ITU-T T.4,
 //! section 4.2.1.3.2).
-ghost use Rattle.std.specs.Prelude.{◌≡◌, ◌≤◌, ◌<◌, ◌++◌, Bool, List, [], length, IsTrue};
+ghost use Rattle.std.specs.Prelude.{◌≡◌, ◌<◌, Bool, List, [], length};
 ghost use Rattle.std.specs.Prelude.{OnOk, OnErr, IfOk, IfErr};
 ghost use Rattle.fax_bits.specs.declared.Colour.TheVariants.{Black};
 ghost use Rattle.fax_bits.specs.views.Source.{KeepsEnd};
-ghost use Rattle.fax_rows.specs.Coded.{two_dimensional_bits};
 ghost use Rattle.fax_rows.specs.Rows as Spec;
 ghost use Rattle.fax_rows.specs.Faults as Fault;
-ghost use Rattle.fax_rows.specs.code.Chosen.{GoesOn, GoesOnAsChosen};
 ghost use Rattle.fax_rows.specs.code.Due.{IsDue, IsDueWithin};
 ghost use Rattle.fax_rows.specs.code.Left.{IsLeft};
-ghost use Rattle.fax_rows.specs.code.PlacedReached.{placed_position, IsReadTo, IsReadInside, IsReadOn, IsPairReadOn};
-ghost use Rattle.fax_rows.specs.code.PlacedRow.{placed_pels};
-ghost use Rattle.fax_rows.specs.code.Put.{ArePut, HasRoom};
+ghost use Rattle.fax_rows.specs.code.PlacedReached.{IsReadInside, IsReadOn};
+ghost use Rattle.fax_rows.specs.code.Put.{HasRoom};
 ghost use Rattle.fax_rows.specs.code.Reached.{position_of, reached_pel};
-ghost use Rattle.fax_rows.specs.code.Stop.{IsStopOf, IsStepStop, IsRowStop};
+ghost use Rattle.fax_rows.specs.code.Stop.{IsStepStop, IsRowStop};
 ghost use Rattle.fax_rows.specs.code.ReadRow.{IsReadRow};
-ghost use Rattle.fax_rows.specs.code.Turns.{row_of, alternate};
+ghost use Rattle.fax_rows.specs.code.Turns.{alternate};
 
 use super::codes::{Due, Stop};
 use super::modes::{by_mode, last_horizontal, next_steps};

@@ -1,17 +1,14 @@
 //! The modes of a row in two-dimensional coding, read over its reference row (ITU-T T.4, section
 //! 4.2.1.3.3). The bits ahead stand in a value.
-ghost use Rattle.std.specs.Prelude.{◌≡◌, ◌+◌, ◌≤◌, ◌<◌, ◌++◌, Bool, List, IsTrue, length};
+ghost use Rattle.std.specs.Prelude.{◌≡◌, ◌+◌, ◌≤◌, ◌<◌, Bool, List, IsTrue, length};
 ghost use Rattle.std.specs.Prelude.{IfOk, IfErr, IfSome, Option, OnOk, OnErr};
 ghost use Rattle.fax_bits.specs.Codes.{Takes};
 ghost use Rattle.fax_bits.specs.Tables.{modes};
-ghost use Rattle.fax_bits.specs.Written.{run_bits};
 ghost use Rattle.fax_bits.specs.views.Source.{KeepsEnd};
-ghost use Rattle.fax_rows.specs.Coded.{two_dimensional_bits};
-ghost use Rattle.fax_rows.specs.Rows.{b2, other as other_than};
+ghost use Rattle.fax_rows.specs.Rows.{b2};
 ghost use Rattle.fax_rows.specs.Rows as Spec;
 ghost use Rattle.fax_rows.specs.Faults as Fault;
 ghost use Rattle.fax_rows.specs.declared.RowFault.TheVariants.{OutOfRow};
-ghost use Rattle.fax_rows.specs.code.Chosen as Chosen;
 ghost use Rattle.fax_rows.specs.code.Due.{AreReadRuns, AreRunsDue, IsDueAt, IsHorizontalDue};
 ghost use Rattle.fax_rows.specs.code.Left.{IsLeft};
 ghost use Rattle.fax_rows.specs.code.Seen.{b2_from};
@@ -19,8 +16,7 @@ ghost use Rattle.fax_rows.specs.code.PlacedRow.{placed_pels};
 ghost use Rattle.fax_rows.specs.code.RowFaults.{IsHorizontalFault};
 ghost use Rattle.fax_rows.specs.code.Stop.{IsStopOf, IsStepStop, IsRowStop};
 ghost use Rattle.fax_rows.specs.code.ReadRow.{IsReadRow};
-ghost use Rattle.fax_rows.specs.code.Put.{ArePut, HasRoom};
-ghost use Rattle.fax_rows.specs.code.Turns.{row_of};
+ghost use Rattle.fax_rows.specs.code.Put.{HasRoom};
 ghost use Rattle.fax_rows.specs.code.Reached.{reached_pel};
 ghost use Rattle.fax_rows.specs.code.PlacedReached.{placed_position, IsReadTo, IsReadInside, IsReadOn, IsPairReadOn};
 

@@ -1,7 +1,7 @@
 //! Steps of two-dimensional coding over a reference row, after their codes (ITU-T T.4, section
 //! 4.2.1.3.2).
 ghost use Rattle.std.specs.Prelude.{◌≡◌, ◌+◌, ◌-◌, ◌≤◌, ◌<◌, ◌^◌, ◌+ℤ◌, ◌≤ℤ◌, ◌<ℤ◌, pos, negsuc};
-ghost use Rattle.std.specs.Prelude.{ℤ, [], List, Bool, Some, true, length, slice_index, IfSome, IfNone};
+ghost use Rattle.std.specs.Prelude.{ℤ, [], List, Bool, Some, true, slice_index, IfSome, IfNone};
 ghost use Rattle.std.specs.Prelude.{IsTrue};
 ghost use Rattle.fax_bits.specs.Codes.{IsRun};
 ghost use Rattle.fax_rows.specs.Rows.{other as other_than};
