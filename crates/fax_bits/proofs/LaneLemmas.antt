@@ -1,10 +1,8 @@
 -- Bytes whose bits are turned round lane by lane.
-use Rattle.std.proofs.Common.{◌≡◌, ◌≢◌, ℕ, zero, suc, ◌+◌, ◌-◌, ◌<◌, ◌≤◌, List, [], ◌∷◌, map, length, drop, get_or, Bool, true, false}
+use Rattle.std.proofs.Common.{◌≡◌, ◌≢◌, ℕ, zero, suc, ◌+◌, ◌-◌, ◌<◌, ◌≤◌, List, [], ◌∷◌, map, length, drop, get_or, Bool, true}
 use Rattle.std.proofs.Common.{nat_eq, refl, ap, sym, ◌∙◌, subst, arith, replicate, inl, inr, length-drop, get_or-drop, get_or-set_other}
 use Rattle.std.proofs.Common.{get_or-set_same}
-use Rattle.std.specs.Prelude.{◌&&◌}
-use Rattle.std.proofs.lemmas.Bool.{eqb-true}
-use Rattle.std.proofs.Math.Nat.{eq-or-lt_of_le}
+use Rattle.std.proofs.lemmas.Bool.{agree_below, agree_below_at, eqb-true}
 use Rattle.std.proofs.Math.ListN.{set}
 use Rattle.std.proofs.lemmas.Bool.{cases_lt}
 use Rattle.std.proofs.lemmas.List.{ext_get_or, get_or-map, get_or-take, length-map, length-set, length-take-le}
@@ -15,24 +13,7 @@ use mir.Val.{Fits}
 
 -- the two functions are the same at each number below n
 abbrev pub same_below : (ℕ → ℕ) → (ℕ → ℕ) → ℕ → Bool
-same_below f g zero = true
-same_below f g (suc n) = nat_eq (f n) (g n) && same_below f g n
-
-both_true : (a b : Bool) → (a && b) ≡ true → (a ≡ true) × (b ≡ true)
-both_true true b h = (refl, h)
-both_true false b h = cc
-
-omega_le : (x n : ℕ) → x < suc n → x ≤ n
-omega_le x n h = omega arith
-
-same_at : (f g : ℕ → ℕ) (n x : ℕ) → same_below f g n ≡ true → x < n → f x ≡ g x
-same_at f g zero x all within = absurd (omega arith)
-same_at f g (suc n) x all within =
-    let parts = both_true (nat_eq (f n) (g n)) (same_below f g n) all in
-    elim (eq-or-lt_of_le (omega_le x n within)) [
-      | inl same ↦ subst (λ k. f k ≡ g k) (sym same) (eqb-true _ _ parts.0)
-      | inr less ↦ same_at f g n x parts.1 less
-    ]
+same_below f g n = agree_below (λ x. nat_eq (f x) (g x)) (λ x. true) n
 
 -- lanes are turned round by halves, pairs and single bits
 abbrev halves : (or right left : ℕ → ℕ → ℕ) → ℕ → ℕ
@@ -69,7 +50,7 @@ each_turned or and right left (suc n) (x ∷ v) len =
 each_same : (f g : ℕ → ℕ) → same_below f g 256 ≡ true → (v : List ℕ) → Each1 (Fits w8) v → map f v ≡ map g v
 each_same f g all [] fits = refl
 each_same f g all (x ∷ v) fits =
-    let here : f x ≡ g x = same_at f g 256 x all fits.0.fits in
+    let here : f x ≡ g x = eqb-true _ _ (agree_below_at (λ y. nat_eq (f y) (g y)) (λ y. true) 256 x all fits.0.fits) in
     ap (λ y. y ∷ map f v) here ∙ ap (λ more. g x ∷ more) (each_same f g all v fits.1)
 
 -- sixteen lanes, where a test of all bytes says that the steps make up a function

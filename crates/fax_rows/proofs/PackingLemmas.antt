@@ -1,9 +1,10 @@
 -- A row packed by its places of change.
-use Rattle.std.proofs.Common.{◌≡◌, ℕ, zero, suc, ◌+◌, ◌-◌, ◌^◌, ◌<◌, ◌≤◌, List, map, length, take, drop, get_or}
-use Rattle.std.proofs.Common.{false, nat_eq, ap, sym, ◌∙◌, subst, refl, arith, inl, inr}
+use Rattle.std.proofs.Common.{◌≡◌, ℕ, ◌+◌, ◌-◌, ◌^◌, ◌<◌, ◌≤◌, List, map, length, take, drop, get_or}
+use Rattle.std.proofs.Common.{false, nat_eq, ap, sym, ◌∙◌, subst, arith, inl, inr}
 use borrow.Rule.Slice.PartMut.{put_mid}
 use Rattle.std.specs.Int.{bit_at}
 use Rattle.std.proofs.lemmas.Bool.{cases_lt}
+use Rattle.std.proofs.lemmas.Bool.Decides.{nat_tests}
 use Rattle.std.proofs.lemmas.List.{length-map, get_or-map, get_or-take, get_or_past, length-take-le, get_or_append_left, get_or-append_right}
 use Rattle.std.proofs.lemmas.Nat.Bits.{bit_at-lt, bit_at-zero, bit_at_ones, same_from_bits_below}
 use Rattle.fax_bits.specs.declared.Colour.{Colour}
@@ -19,12 +20,7 @@ use Rattle.fax_rows.proofs.PlacedRowLemmas.{at_end, end_within}
 use Rattle.fax_rows.proofs.TurnLemmas.{length-pels_by, pel_after}
 
 same_digit : (a b : ℕ) → a < 2 → b < 2 → nat_eq a 1 ≡ nat_eq b 1 → a ≡ b
-same_digit zero zero ha hb e = refl
-same_digit (suc zero) (suc zero) ha hb e = refl
-same_digit zero (suc zero) ha hb e = cc
-same_digit (suc zero) zero ha hb e = cc
-same_digit (suc (suc a)) b ha hb e = absurd (omega arith)
-same_digit a (suc (suc b)) ha hb e = absurd (omega arith)
+same_digit a b ha hb e = grind (arith, nat_tests)
 
 plain_fits : (colour : Colour) → plain_byte colour < 2 ^ 8
 plain_fits White = omega arith

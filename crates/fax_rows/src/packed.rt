@@ -100,7 +100,12 @@ fn pack_words(row: PlacedRow, words: u32, out: &mut [u8]) -> usize
         let change = row.places[passed] / WORD;
         if k < change {
             // No colour changes in the words before that of the next change.
-            out[at..8 * change as usize].fill(plain_byte(colour_after(passed)));
+            fill(
+                out,
+                at,
+                8 * change as usize,
+                plain_byte(colour_after(passed)),
+            );
             k = change;
         } else {
             let (word, after) = word_up_to(row, k, WORD * k + WORD, passed);
@@ -110,6 +115,19 @@ fn pack_words(row: PlacedRow, words: u32, out: &mut [u8]) -> usize
         }
     }
     passed
+}
+
+/// Writes this byte from a place on up to another.
+fn fill(out: &mut [u8], from: usize, to: usize, byte: u8)
+    requires order { from ≤ to }
+    requires within { to ≤ length out.old }
+    ensures before { (i : ℕ) → i < from → slice_index out.new i ≡ slice_index out.old i }
+    ensures filled { (i : ℕ) → from ≤ i → i < to → slice_index out.new i ≡ byte }
+    ensures same_len { length out.new ≡ length out.old }
+{
+    for at in from..to {
+        out[at] = byte;
+    }
 }
 
 /// Word `k` of 64 pels, before which so many places of change are passed, with no change from the

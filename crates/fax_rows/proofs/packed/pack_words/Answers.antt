@@ -1,4 +1,5 @@
-use Rattle.std.proofs.Common.{◌≡◌, ◌+◌, ◌-◌, ◌*◌, ◌/◌, ◌≤◌, ◌∙◌, length, get_or, ap, refl, subst, arith, rules}
+use Rattle.std.proofs.Common.{◌≡◌, ◌+◌, ◌*◌, ◌≤◌, ◌∙◌, length, get_or, ap, subst, arith, rules, inl, inr}
+use Rattle.std.proofs.lemmas.Bool.{cases_lt}
 use Rattle.std.proofs.lemmas.List.{places}
 use Rattle.fax_rows.specs.code.FirstOther.{plain_byte}
 use Rattle.fax_rows.specs.code.PackedByte.{packed_byte}
@@ -17,21 +18,17 @@ loop-k-preserved-then-k-change c =
     let at = 8 * c.loop-k.k in
     let so_far = c.loop-k.invariant.so_far in
     let most = place_at_most c.args.row.placed (64 * c.loop-k.k) c.loop-k.passed so_far in
-    let room : at ≤ length c.loop-k.out = omega (arith, c.loop-k.invariant.len, c.requires.room) in
-    let long : length c.fill.new.self ≡ 8 * (get_or c.args.row.places.now c.loop-k.passed 0 / 64) - at =
-    c.fill.ensures.len ∙ search (rules, places) in
     record {
       within = omega (arith, most, c.requires.within);
-      done = λ i h.
-          part_written (λ j. packed_byte (placed_pels c.args.row) (8 * j)) c.loop-k.out c.fill.new.self at _ room c.loop-k.invariant.done
-          (λ j l.
-          c.fill.ensures.clones j 0 (omega (arith, c.fill.ensures.len)) refl ∙ c.plain_byte.ensures
-          ∙ ap plain_byte c.colour_after.ensures
-          ∙ whole_byte c.args.row.placed c.bits_stand_by_place.ensures c.eight_bits_are_a_byte.ensures (64 * c.loop-k.k) (8 * (at + j))
-          c.loop-k.passed so_far (omega arith) (omega (arith, long)))
-          i (omega (arith, long));
+      done = λ i h. elim (cases_lt i at) [
+        | inl less ↦ c.fill.ensures.before i less ∙ c.loop-k.invariant.done i less
+        | inr more ↦
+            c.fill.ensures.filled i more h ∙ c.plain_byte.ensures ∙ ap plain_byte c.colour_after.ensures
+            ∙ whole_byte c.args.row.placed c.bits_stand_by_place.ensures c.eight_bits_are_a_byte.ensures (64 * c.loop-k.k) (8 * i)
+            c.loop-k.passed so_far (omega arith) (omega arith)
+      ];
       so_far = still_passed c.args.row.placed (64 * c.loop-k.k) _ c.loop-k.passed so_far (omega arith) (omega arith);
-      len = search (rules, places);
+      len = c.fill.ensures.same_len ∙ c.loop-k.invariant.len;
     }
 
 pub loop-k-preserved : goal.loop-k-preserved
