@@ -1,11 +1,9 @@
 -- Bytes whose bits are turned round lane by lane.
-use Rattle.std.proofs.Common.{◌≡◌, ◌≢◌, ℕ, zero, suc, ◌+◌, ◌-◌, ◌<◌, ◌≤◌, List, [], ◌∷◌, map, length, drop, get_or, Bool, true}
-use Rattle.std.proofs.Common.{nat_eq, refl, ap, sym, ◌∙◌, subst, arith, replicate, inl, inr, length-drop, get_or-drop, get_or-set_other}
-use Rattle.std.proofs.Common.{get_or-set_same}
+use Rattle.std.proofs.Common.{◌≡◌, ℕ, zero, suc, ◌+◌, ◌-◌, ◌<◌, ◌≤◌, List, [], ◌∷◌, map, length, drop, get_or, Bool, true}
+use Rattle.std.proofs.Common.{nat_eq, refl, ap, sym, ◌∙◌, arith, replicate, inl, inr, length-drop, get_or-drop}
 use Rattle.std.proofs.lemmas.Bool.{agree_below, agree_below_at, eqb-true}
-use Rattle.std.proofs.Math.ListN.{set}
 use Rattle.std.proofs.lemmas.Bool.{cases_lt}
-use Rattle.std.proofs.lemmas.List.{ext_get_or, get_or-map, get_or-take, length-map, length-set, length-take-le}
+use Rattle.std.proofs.lemmas.List.{ext_get_or, get_or-map, get_or-take, length-map, length-take-le}
 use Rattle.std.proofs.lemmas.Simd.{length-put_chunk, get_or-put_chunk_below, get_or-put_chunk_at, get_or-put_chunk_above}
 use lib.Lanes.{zip2, Each1, chunk, put_chunk}
 use mir.Syntax.{w8}
@@ -65,9 +63,6 @@ pub record IsTurnedUpTo (g : ℕ → ℕ) (old new : List ℕ) (n : ℕ) : Type 
   pub done : (k : ℕ) → k < n → k < length old → get_or new k 0 ≡ g (get_or old k 0)
   pub left : (k : ℕ) → n ≤ k → get_or new k 0 ≡ get_or old k 0
 
-pub turned_none : (g : ℕ → ℕ) (old : List ℕ) → IsTurnedUpTo g old old 0
-turned_none g old = record { len = refl; done = λ k h l. absurd (omega arith); left = λ k h. refl }
-
 -- sixteen more
 pub turned_group : (g : ℕ → ℕ) (old new ys : List ℕ) (n : ℕ) → IsTurnedUpTo g old new n → ys ≡ map g (chunk n 16 new) → n + 16 ≤ length old
     → IsTurnedUpTo g old (put_chunk n new ys) (n + 16)
@@ -95,21 +90,6 @@ turned_group g old new ys n so_far ys_is within = record {
         ∙ ap (λ xs. get_or xs (k - n) 0) ys_is ∙ get_or-map g (chunk n 16 new) (k - n) 0 0 (omega (arith, long))
         ∙ ap g (get_or-take 16 (drop n new) (k - n) 0 near ∙ get_or-drop n new (k - n) 0 ∙ ap (λ m. get_or new m 0) at
         ∙ so_far.left k after)
-
--- one more
-pub turned_one : (g : ℕ → ℕ) (old new : List ℕ) (n y : ℕ) → IsTurnedUpTo g old new n → y ≡ g (get_or new n 0) → n < length old
-    → IsTurnedUpTo g old (set new n y) (n + 1)
-turned_one g old new n y so_far y_is within = record {
-  len = length-set new n y ∙ so_far.len;
-  done = λ k h l. elim (cases_lt k n) [
-    | inl before ↦ let other : k ≢ n = omega arith in get_or-set_other new n k y 0 other ∙ so_far.done k before l
-    | inr after ↦
-        let at : n ≡ k = omega arith in
-        subst (λ m. get_or (set new n y) m 0 ≡ g (get_or old m 0)) at
-        (get_or-set_same new n y 0 (omega (arith, so_far.len)) ∙ y_is ∙ ap g (so_far.left n (omega arith)))
-  ];
-  left = λ k h. let other : k ≢ n = omega arith in get_or-set_other new n k y 0 other ∙ so_far.left k (omega arith);
-}
 
 pub turned_all : (g : ℕ → ℕ) (old new : List ℕ) (n : ℕ) → IsTurnedUpTo g old new n → length old ≤ n → new ≡ map g old
 turned_all g old new n so_far all =

@@ -57,15 +57,6 @@ module _ {places : List ℕ} {end width : ℕ} (all : ArePlaces places end width
       get_or-map is_black (row_of places end width) i White false (omega (arith, length-pels_by width (take end places)))
       ∙ ap is_black (pel_after all.ascending width i k within at)
 
-  -- no place is passed before the first pel but the first
-  pub passed_none : HasPassed places end 0 1
-  passed_none = record {
-    some = omega arith;
-    within = all.ascending.started;
-    left = omega (arith, all.ascending.first);
-    right = λ h. omega arith;
-  }
-
   pub passed-lt : (i k : ℕ) → HasPassed places end i k → k < length places
   passed-lt i k passed = omega (arith, passed.within, all.room, end_within all)
 

@@ -230,21 +230,6 @@ module _ {places : List ℕ} {end width : ℕ} (all : ArePlaces places end width
 -- the same places elsewhere
 module _ (places other : List ℕ) (end width : ℕ) (all : ArePlaces other end width) (room : length places ≡ width + 4)
     (same : (i : ℕ) → i < end + 3 → get_or places i 0 ≡ get_or other i 0) where
-  pub same_places : ArePlaces places end width
-  same_places = record {
-    some = all.some;
-    short = all.short;
-    room = room;
-    ascending = record {
-      started = all.ascending.started;
-      within = omega (arith, room, end_within all);
-      first = same 0 (omega arith) ∙ all.ascending.first;
-      steps = λ i h l. omega (arith, same i (omega arith), same (i + 1) (omega arith), all.ascending.steps i h l);
-    };
-    below = λ i h l. omega (arith, same i (omega arith), all.below i h l);
-    after = λ i h. same (end + i) (omega arith) ∙ all.after i h;
-  }
-
   pub same_pels : pels_by width (take end places) ≡ pels_by width (take end other)
   same_pels =
       ap (pels_by width)
