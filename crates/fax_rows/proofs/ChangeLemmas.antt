@@ -179,9 +179,6 @@ pub still_left : (right change : Bool) → (right ≡ true → change ≡ false)
 still_left true change h = h refl
 still_left false change h = refl
 
-pub both : (a b : Bool) → a ≡ true → b ≡ true → (a && b) ≡ true
-both a b h l = rw h l
-
 pub same_as : (a b : Colour) → a ≡ b → not (same_colour a b) ≡ false
 same_as White White h = refl
 same_as Black Black h = refl

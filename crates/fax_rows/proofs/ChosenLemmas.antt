@@ -3,7 +3,7 @@ use Rattle.std.proofs.Common.{◌≡◌, ℕ, zero, suc, ◌+◌, ◌-◌, ◌<�
 use Rattle.std.proofs.Common.{Bool, true, false, pos, refl, ap, sym, ◌∙◌, subst, arith, inl, inr, take-take, take_at, append_assoc}
 use Rattle.std.proofs.Common.{append-nil}
 use Rattle.std.specs.Prelude.{◌⊎◌, not, Option, Some, None, unwrap_or, ◌<ℤ◌, nat_abs, nat_lt, nat_le}
-use Rattle.std.proofs.lemmas.Bool.{cases_lt, ltb-true, lt-ltb, true≢false}
+use Rattle.std.proofs.lemmas.Bool.{and_from, cases_lt, ltb-true, lt-ltb, true≢false}
 use Rattle.std.proofs.lemmas.Bool.Decides.{nat_tests}
 use Rattle.std.proofs.lemmas.Int.{ints}
 use Rattle.std.proofs.lemmas.List.{get_or-take, get_or-replicate, length-replicate}
@@ -21,7 +21,7 @@ use Rattle.fax_rows.specs.Rows.{IsVerticalStep}
 use Rattle.fax_rows.specs.code.Seen.{b1_from, b2_from}
 use Rattle.fax_rows.specs.code.Choice.{Places, places, colour_of, chosen_mode, run_pair_bits, next_a0}
 use Rattle.fax_rows.specs.code.Chosen.{GoesOnFrom, IsStepOf, IsChosenPair}
-use Rattle.fax_rows.proofs.ChangeLemmas.{first_of, next_change_is, still_left, both, same_as}
+use Rattle.fax_rows.proofs.ChangeLemmas.{first_of, next_change_is, still_left, same_as}
 use Rattle.fax_rows.proofs.PlaceLemmas.{next_change_at}
 use Rattle.fax_rows.proofs.PlacedStepLemmas.{right_after_first}
 use Rattle.fax_rows.proofs.TakenModeLemmas.{is_near}
@@ -54,7 +54,7 @@ module _ (row : List Colour) (from : Option ℕ) (colour : Colour) (to : ℕ) (s
       next_change_at row from to within
       (λ k h. still_left (is_right_of from k) (is_changing row k)
       (λ l. same_as (pel row k) (pel_before row k) (each k (right_after_first from k l) h ∙ sym (before_is k (omega arith) l))))
-      (λ h. both (is_right_of from to) (is_changing row to) right
+      (λ h. and_from (is_right_of from to) (is_changing row to) right
       (turned_apart (pel row to) (pel_before row to) (turn h ∙ ap other (sym (before_is to (omega arith) right)))))
 
   -- where the colour goes on, the next changing element is further right

@@ -4,6 +4,7 @@ use Rattle.std.proofs.Common.{get_or, true, false, not, nat_eq, refl, ap, sym, �
 use Rattle.std.specs.Int.{bit_at, to_be_bytes, w64}
 use Rattle.std.specs.Int.RustNames.{bit_xor}
 use Rattle.std.proofs.lemmas.Bool.{cases_lt}
+use Rattle.std.proofs.lemmas.Bool.Decides.{nat_tests}
 use Rattle.std.proofs.lemmas.Nat.{xor_lt, shr_le, shr-shr, shr_split}
 use Rattle.std.proofs.lemmas.Nat.Bits.{bit_at-lt, bit_at-zero, bit_at_xor, bit_at_ones, bit_at_ones_above, bit_at_cat_low, ones_shr}
 use Rattle.fax_bits.specs.laws.Codes.{AreBitsByPlace, AreBitsOfOneByte}
@@ -22,14 +23,10 @@ use Rattle.fax_rows.proofs.TurnLemmas.{alternate-suc, not_later}
 
 -- a bit turned, and one that is not
 turned_bit : (bit : ℕ) → bit < 2 → nat_eq ((bit + 1) % 2) 1 ≡ not (nat_eq bit 1)
-turned_bit zero h = refl
-turned_bit (suc zero) h = refl
-turned_bit (suc (suc bit)) h = absurd (omega arith)
+turned_bit bit h = grind (arith, nat_tests)
 
 same_bit : (bit : ℕ) → bit < 2 → nat_eq ((bit + 0) % 2) 1 ≡ nat_eq bit 1
-same_bit zero h = refl
-same_bit (suc zero) h = refl
-same_bit (suc (suc bit)) h = absurd (omega arith)
+same_bit bit h = grind (arith, nat_tests)
 
 -- a word with its bits turned from one on
 abbrev pub turned_word : ℕ → ℕ → ℕ

@@ -2,7 +2,7 @@
 use Rattle.std.proofs.Common.{◌≡◌, ◌≢◌, ℕ, zero, suc, ◌+◌, ◌-◌, ◌<◌, ◌≤◌, List, length, take, get_or, true, false, not, refl, ap, sym, ◌∙◌}
 use Rattle.std.proofs.Common.{subst, arith, inl, inr}
 use Rattle.std.specs.Prelude.{◌⊎◌, ◌&&◌, Option, Some, None, unwrap_or}
-use Rattle.std.proofs.lemmas.Bool.{cases_lt, ltb-true, lt-ltb, le-ltb, true≢false}
+use Rattle.std.proofs.lemmas.Bool.{and_from, cases_lt, ltb-true, lt-ltb, le-ltb, true≢false}
 use Rattle.std.proofs.Math.Nat.{eq-or-lt_of_le}
 use Rattle.fax_bits.specs.declared.Colour.{Colour}
 use Rattle.fax_bits.specs.declared.Colour.TheVariants.{White, Black}
@@ -11,7 +11,7 @@ use Rattle.fax_rows.specs.Rows.{b2}
 use Rattle.fax_rows.specs.declared.rows.PlacedRow.{PlacedRow}
 use Rattle.fax_rows.specs.code.PlacedRow.{placed_pels, IsBeforeB1, IsB1At}
 use Rattle.fax_rows.specs.code.Turns.{alternate, ArePlacesUpTo, IsFrom}
-use Rattle.fax_rows.proofs.ChangeLemmas.{still_left, both, next_change_is}
+use Rattle.fax_rows.proofs.ChangeLemmas.{still_left, next_change_is}
 use Rattle.fax_rows.proofs.PlaceLemmas.{next_of_at}
 use Rattle.fax_rows.proofs.TurnLemmas.{other-other, length-pels_by, alternate-suc, below_later, not_later, pel_after, changing_at}
 use Rattle.fax_rows.proofs.TurnLemmas.{unchanging}
@@ -188,8 +188,8 @@ module _ (row : PlacedRow) where
           && not (same_colour (pel (placed_pels row) (get_or row.places.now b 0)) colour))) ≡ true
       there h =
           let inside = inside_end b at.some at.within (omega (arith, len)) in
-          both (is_right_of a0 (get_or row.places.now b 0)) _ (at.ahead inside)
-          (both (is_changing (placed_pels row) (get_or row.places.now b 0)) _
+          and_from (is_right_of a0 (get_or row.places.now b 0)) _ (at.ahead inside)
+          (and_from (is_changing (placed_pels row) (get_or row.places.now b 0)) _
           (changing_at row.placed.ascending row.width (get_or row.places.now b 0) b at.some inside refl (omega (arith, len)))
           (other_than (pel (placed_pels row) (get_or row.places.now b 0)) colour
           (pel_after row.placed.ascending row.width (get_or row.places.now b 0) (suc b) (omega (arith, len)) (after inside)

@@ -4,8 +4,7 @@ use Rattle.std.proofs.Common.{sym, ◌∙◌, subst, arith, inl, inr}
 use Rattle.std.specs.Prelude.{◌⊎◌}
 use Rattle.std.proofs.Math.ListN.{set}
 use Rattle.std.proofs.Math.Nat.{eq-or-lt_of_le}
-use Rattle.std.proofs.Math.Seq.{take-length}
-use Rattle.std.proofs.lemmas.List.{take-append-le, take_more, take_more_set, ext_get_or}
+use Rattle.std.proofs.lemmas.List.{take_at, take_more, take_more_set, ext_get_or}
 use Rattle.fax_bits.specs.declared.Colour.{Colour}
 use Rattle.fax_bits.specs.declared.Colour.TheVariants.{White, Black}
 use Rattle.fax_bits.specs.Codes.{IsRun}
@@ -125,10 +124,6 @@ run_turned {width =
     (λ k h. pel-pels_by width new k (omega arith) ∙ turn.left k (omega arith) ∙ sym (pel-pels_by width old k (omega arith)))
     (λ k h l. pel-pels_by width new k (omega arith) ∙ turn.left k (omega arith) ∙ after k h)
 
--- the width that is put three times after the places
-abbrev pub closed : List ℕ → ℕ → ℕ → List ℕ
-closed places end width = set (set (set places end width) (end + 1) width) (end + 2) width
-
 -- a row that is shown otherwise
 pub one_dimensional_as : {width wide : ℕ} {b : List Bool} {row shown : List Colour} {rest : List Bool}
     → IsOneDimensionalRow width b row rest → width ≡ wide → shown ≡ row → IsOneDimensionalRow wide b shown rest
@@ -137,6 +132,4 @@ one_dimensional_as {width = width} {b = b} {shown = shown} {rest = rest} is same
 
 -- elements that are all written over
 pub refilled : (len : ℕ) (new old : List ℕ) → length new ≡ len → take len (new ++ drop (length new) old) ≡ new
-refilled len new old same =
-    ap (λ n. take n (new ++ drop (length new) old)) (sym same) ∙ take-append-le (length new) new (drop (length new) old) (omega arith)
-    ∙ take-length new
+refilled len new old same = take_at new (drop (length new) old) len same

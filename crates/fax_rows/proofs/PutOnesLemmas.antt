@@ -3,7 +3,7 @@ use Rattle.std.proofs.Common.{◌≡◌, ℕ, zero, suc, ◌+◌, ◌-◌, ◌^�
 use Rattle.std.proofs.Common.{if◌then◌else◌, Bool, true, false, nat_eq, refl, ap, sym, ◌∙◌, subst, arith, inl, inr}
 use Rattle.std.specs.Int.{bit_at}
 use Rattle.std.proofs.lemmas.Bool.{cases_lt}
-use Rattle.std.proofs.lemmas.List.{append-nil, append_assoc, get_or-take, get_or_append_left, length-append, length-take-le}
+use Rattle.std.proofs.lemmas.List.{append-nil, append_assoc, get_or-take, get_or_push, get_or_append_left, length-append, length-take-le}
 use Rattle.fax_bits.specs.declared.Colour.TheVariants.{Black}
 use Rattle.fax_rows.specs.Rows.{other}
 use Rattle.fax_rows.specs.Coded.{colour_of_bit}
@@ -21,10 +21,6 @@ pub record HasPut (old places : List ℕ) (from before word r : ℕ) : Type 0 wh
   pub ascending : IsAscending places (length places)
   pub last : 1 < length places → get_or places (length places - 1) 0 < from + r
 
-last_is : (places : List ℕ) (place : ℕ) → get_or (places ++ place ∷ []) (length places) 0 ≡ place
-last_is [] place = refl
-last_is (x ∷ xs) place = last_is xs place
-
 -- a place after the last one goes on ascending
 ascending_on : (places : List ℕ) (place : ℕ) → IsAscending places (length places)
     → (1 < length places → get_or places (length places - 1) 0 < place)
@@ -41,7 +37,7 @@ ascending_on places place up right = record {
         let end : i + 1 ≡ length places = omega (arith, len) in
         let before : length places - 1 ≡ i = omega arith in
         let there : get_or (places ++ place ∷ []) (i + 1) 0 ≡ place =
-        ap (λ n. get_or (places ++ place ∷ []) n 0) end ∙ last_is places place in
+        ap (λ n. get_or (places ++ place ∷ []) n 0) end ∙ get_or_push places place 0 (length places) refl in
         rw (get_or_append_left places (place ∷ []) 0 i (omega arith), there)
         (subst (λ n. get_or places n 0 < place) before (right (omega arith)))
   ];
@@ -80,7 +76,7 @@ pel_put true old places from before word r is put = record {
   ascending = ascending_on places (from + r) put.ascending put.last;
   last = λ h.
       let end : length (places ++ (from + r) ∷ []) - 1 ≡ length places = omega (arith, length-append places ((from + r) ∷ [])) in
-      let place = ap (λ n. get_or (places ++ (from + r) ∷ []) n 0) end ∙ last_is places (from + r) in
+      let place = ap (λ n. get_or (places ++ (from + r) ∷ []) n 0) end ∙ get_or_push places (from + r) 0 (length places) refl in
       omega (arith, place);
 }
   where

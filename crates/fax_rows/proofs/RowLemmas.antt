@@ -1,12 +1,12 @@
 -- A row in one-dimensional coding, run by run.
-use Rattle.std.proofs.Common.{◌≡◌, ℕ, zero, suc, ◌+◌, ◌-◌, ◌<◌, ◌≤◌, List, [], ◌∷◌, ◌++◌, length, take, get_or, replicate, Bool, refl, ap}
+use Rattle.std.proofs.Common.{◌≡◌, ℕ, ◌+◌, ◌-◌, ◌<◌, ◌≤◌, List, [], ◌∷◌, ◌++◌, length, take, get_or, replicate, Bool, refl, ap}
 use Rattle.std.proofs.Common.{sym, ◌∙◌, subst, arith, append_assoc, length-append, inl, inr}
 use Rattle.std.specs.Prelude.{sum, ◌⊎◌}
 use Rattle.std.proofs.lemmas.Bool.{cases_lt}
 use Rattle.std.proofs.Math.Nat.{eq-or-lt_of_le}
 use Rattle.std.proofs.Math.ListN.{get_or-append}
 use Rattle.std.proofs.Math.Seq.{get_or-append_right, take-length}
-use Rattle.std.proofs.lemmas.List.{append-nil, get_or-replicate, take-append-le}
+use Rattle.std.proofs.lemmas.List.{append-nil, ext_get_or, get_or-replicate, take-append-le}
 use Rattle.fax_bits.specs.declared.Colour.{Colour}
 use Rattle.fax_bits.specs.declared.Colour.TheVariants.{White}
 use Rattle.fax_bits.specs.Codes.{IsRun}
@@ -31,15 +31,6 @@ pels_of-push c [] n = append-nil (replicate n c)
 pels_of-push c (m ∷ runs) n =
     ap (λ ys. replicate m c ++ ys) (pels_of-push (other c) runs n)
     ∙ sym (append_assoc (replicate m c) (pels_of (other c) runs) (replicate n (colour_after_runs (other c) runs)))
-
-same_pels : (xs ys : List Colour) → length xs ≡ length ys → ((k : ℕ) → k < length xs → get_or xs k White ≡ get_or ys k White) → xs ≡ ys
-same_pels [] [] len each = refl
-same_pels [] (y ∷ ys) len each = absurd (omega arith)
-same_pels (x ∷ xs) [] len each = absurd (omega arith)
-same_pels (x ∷ xs) (y ∷ ys) len each =
-    let first : x ≡ y = each zero (omega arith) in
-    let more = same_pels xs ys (omega arith) (λ k h. each (suc k) (omega arith)) in
-    cc
 
 -- runs of a row so far
 pub record IsRowSoFar (width : ℕ) (b : List Bool) (total : ℕ) (colour : Colour) (row : List Colour) (rest : List Bool) : Type 0 where
@@ -111,7 +102,7 @@ row_done {width = width} {b = b} {row = row} {rest = rest} so_far done len = rec
   runs = so_far.runs;
   coded = runs_from width White 0 b so_far.runs rest so_far.coded (omega (arith, so_far.sum_is, done))
       (λ k h. omega (arith, so_far.below k h));
-  pels = same_pels row (pels_of White so_far.runs)
+  pels = ext_get_or White row (pels_of White so_far.runs)
       (len ∙ sym done ∙ so_far.sum_is ∙ sym (length-pels_of White so_far.runs))
       (λ k h. so_far.pels k (omega arith));
 }
