@@ -1,8 +1,9 @@
 -- The first bit that is not of a colour, found by bytes.
+use Rattle.std.proofs.lemmas.Grind.{common_steps}
 use Rattle.std.proofs.Common.{◌≡◌, ◌≢◌, ℕ, suc, ◌+◌, ◌-◌, ◌*◌, ◌/◌, ◌%◌, ◌^◌, ◌<◌, ◌≤◌, List, [], ◌∷◌, map, length, get_or, Bool}
 use Rattle.std.proofs.Common.{true, false, if◌then◌else◌, nat_eq, nat_lt, refl, ap, sym, ◌∙◌, subst, arith, inl, inr}
 use Rattle.std.specs.Prelude.{◌||◌, not, slice_index_or}
-use Rattle.std.proofs.lemmas.Bool.{agree_below, agree_below_at, cases_lt, eqb-true, eqb-false, ltb-true, not-false, not-true, or_cases, true≢false}
+use Rattle.std.proofs.lemmas.Bool.{agree_below, agree_below_at, cases_lt, eqb-true, eqb-false, ltb-true, not-false, not-true, or_cases}
 use Rattle.std.proofs.lemmas.Simd.{length-chunk, get_or-chunk, trailing_mask_l, run_in_chunk_le, run_in_chunk_fails, run_in_chunk_stops}
 use Rattle.std.proofs.lemmas.Simd.{none_from_empty_mask}
 use Rattle.std.specs.List.{prefix_len}
@@ -47,11 +48,7 @@ in_byte_is byte from colour fits within =
     (at_below (λ f. all_below (is_by_zeros colour f) 256) 8 from (each_by_zeros colour) within) fits)
 
 by_branch : (ahead more from r : ℕ) → (if nat_eq ahead 0 then 8 else from + more) ≡ r → (ahead ≡ 0 → 8 ≡ r) × (ahead ≢ 0 → from + more ≡ r)
-by_branch ahead more from r is = by (nat_eq ahead 0) refl is
-  where
-    by : (b : Bool) → nat_eq ahead 0 ≡ b → (if b then 8 else from + more) ≡ r → (ahead ≡ 0 → 8 ≡ r) × (ahead ≢ 0 → from + more ≡ r)
-    by true same h = (λ none. h, λ some. absurd (some (eqb-true ahead 0 same)))
-    by false same h = (λ none. absurd (true≢false (sym (ap (λ n. nat_eq n 0) none) ∙ same)), λ some. h)
+by_branch ahead more from r is = grind (arith, common_steps)
 
 pub none_ahead : (byte from : ℕ) (colour : Colour) (bits : ℕ) → byte < 256 → from < 8 → bits ≡ others byte colour
     → bits * 2 ^ from % 256 ≡ 0
@@ -168,22 +165,14 @@ first_other_is bytes from r colour right within plain other =
 
 pub plain_on : (bytes : List ℕ) (colour : Colour) (from middle to : ℕ) → IsPlain bytes colour from middle → IsPlain bytes colour middle to
     → IsPlain bytes colour from to
-plain_on bytes colour from middle to before after k l h =
-    elim (cases_lt k middle) [
-      | inl near ↦ before k l near
-      | inr far ↦ after k far h
-    ]
+plain_on bytes colour from middle to before after k l h = grind (arith, common_steps)
 
 -- by the law of the bits of bytes
 module _ (law : AreBitsByPlace) where
   -- bit i of the byte q
   bit_of : (bytes : List ℕ) (colour : Colour) (q i k : ℕ) → q < length bytes → i < 8 → 8 * q + i ≡ k
       → is_other bytes colour k ≡ is_other_bit (get_or bytes q 0) colour i
-  bit_of bytes colour q i k inside within at =
-      let byte : k / 8 ≡ q = omega arith in
-      let place : k % 8 ≡ i = omega arith in
-      ap (λ bit. not (same_colour (colour_of_bit bit) colour)) (law.of_bytes MsbFirst bytes k (omega arith))
-      ∙ ap (λ m. is_other_bit (get_or bytes m 0) colour (k % 8)) byte ∙ ap (is_other_bit (get_or bytes q 0) colour) place
+  bit_of bytes colour q i k inside within at = grind (arith, common_steps)
 
   pub plain_in_byte : (bytes : List ℕ) (colour : Colour) (q from to : ℕ) → q < length bytes → from < 8
       → to ≤ first_other_in_byte (get_or bytes q 0) from colour → IsPlain bytes colour (8 * q + from) (8 * q + to)

@@ -1,8 +1,9 @@
 -- Packing and unpacking of rows undo one another.
+use Rattle.std.proofs.lemmas.Grind.{common_steps}
 use Rattle.std.proofs.Common.{◌≡◌, ℕ, ◌+◌, ◌-◌, ◌*◌, ◌/◌, ◌%◌, ◌<◌, List, [], ◌∷◌, ◌++◌, map, length, take, drop, replicate, get_or, Bool}
 use Rattle.std.proofs.Common.{true, false, nat_eq, refl, ap, sym, ◌∙◌, arith, length-append, get_or-drop}
 use Rattle.std.specs.Int.{bit_at}
-use Rattle.std.proofs.lemmas.List.{length-replicate, length-map, get_or-map, get_or-take, length-take-le, take-map, ext_get_or}
+use Rattle.std.proofs.lemmas.List.{length-replicate, length-map, get_or-map, get_or-take, take-map, ext_get_or}
 use Rattle.std.proofs.lemmas.List.FromFn.{length-map-range_with_len, get_or-map-range_with_len}
 use Rattle.fax_bits.specs.declared.FillOrder.TheVariants.{MsbFirst}
 use Rattle.fax_bits.specs.declared.Colour.{Colour}
@@ -90,9 +91,7 @@ module _ (places : AreBitsByPlace) (one_byte : AreBitsOfOneByte) where
 
   length-unpacked_row : (width : ℕ) (bytes : List ℕ) → length bytes ≡ packed_len width → length (unpacked_row width bytes) ≡ width
   unfolding unpacked_row
-  length-unpacked_row width bytes whole =
-      length-take-le width (map colour_of_bit (bits MsbFirst bytes))
-      (omega (arith, length-map (bits MsbFirst bytes) colour_of_bit, places.count MsbFirst bytes))
+  length-unpacked_row width bytes whole = grind (arith, common_steps)
 
   packed_back : IsPackedBack
   packed_back width bytes whole =

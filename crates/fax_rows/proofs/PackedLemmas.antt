@@ -1,10 +1,10 @@
 -- Rows as packed bytes, bit by bit.
+use Rattle.std.proofs.lemmas.Grind.{common_steps}
 use Rattle.std.proofs.Common.{◌≡◌, ℕ, zero, suc, ◌+◌, ◌*◌, ◌/◌, ◌<◌, ◌≤◌, List, [], ◌∷◌, ◌++◌, map, length, take, drop, replicate}
 use Rattle.std.proofs.Common.{get_or}
-use Rattle.std.proofs.Common.{Bool, false, refl, ap, sym, ◌∙◌, arith, inl, inr, length-append, length-drop}
+use Rattle.std.proofs.Common.{Bool, false, refl, ap, sym, ◌∙◌, arith}
 use Rattle.std.proofs.Common.{below_more}
-use Rattle.std.proofs.lemmas.Bool.{cases_lt}
-use Rattle.std.proofs.lemmas.List.{length-replicate, length-map, get_or-map, get_or-take, ext_get_or, length-take-le, drop-drop}
+use Rattle.std.proofs.lemmas.List.{length-map, get_or-map, get_or-take, ext_get_or, length-take-le, drop-drop}
 use Rattle.std.proofs.lemmas.List.FromFn.{fill_by_all}
 use Rattle.fax_bits.specs.declared.FillOrder.TheVariants.{MsbFirst}
 use Rattle.fax_bits.specs.declared.Colour.{Colour}
@@ -50,13 +50,7 @@ unpacked_none b places is = record {
 -- pels more of the colour
 pub unpacked_run : (b : List Bool) (places : List ℕ) (i j : ℕ) (colour : Colour) → IsUnpackedTo b places i colour → i ≤ j
     → ((k : ℕ) → i ≤ k → k < j → colour_of_bit (get_or b k false) ≡ colour) → IsUnpackedTo b places j colour
-unpacked_run b places i j colour so_far further same = record {
-  before = λ k h. elim (cases_lt k i) [
-    | inl near ↦ so_far.before k near
-    | inr far ↦ so_far.after k far ∙ sym (same k far h)
-  ];
-  after = λ k h. so_far.after k (omega arith);
-}
+unpacked_run b places i j colour so_far further same = grind (arith, common_steps)
 
 -- and one of the other colour, where it turns
 pub unpacked_turned : (b : List Bool) (old new : List ℕ) (i : ℕ) (colour pel : Colour) → IsUnpackedTo b old i colour → pel ≡ other colour
@@ -80,15 +74,7 @@ get_or-padded (x ∷ b) n zero = refl
 get_or-padded (x ∷ b) n (suc i) = get_or-padded b n i
 
 pub eight_padded : (row : List Colour) (from : ℕ) → from < length row → length (take 8 (drop from (padded_bits row))) ≡ 8
-eight_padded row from within =
-    length-take-le 8 (drop from (padded_bits row))
-    (omega (
-      arith,
-      length-drop from (padded_bits row),
-      length-append (map is_black row) (replicate 7 false),
-      length-map row is_black,
-      length-replicate 7 false,
-    ))
+eight_padded row from within = grind (arith, common_steps)
 
 -- chunks of eight from a place on, each by its number
 chunks_at : (f : List Bool → ℕ) (n j : ℕ) (b : List Bool)

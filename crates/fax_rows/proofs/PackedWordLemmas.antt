@@ -1,4 +1,5 @@
 -- A row packed by words of 64 pels.
+use Rattle.std.proofs.lemmas.Grind.{common_steps}
 use Rattle.std.proofs.Common.{◌≡◌, ℕ, zero, suc, ◌+◌, ◌-◌, ◌*◌, ◌/◌, ◌%◌, ◌^◌, ◌<◌, ◌≤◌, List, map, length, Bool, add-one}
 use Rattle.std.proofs.Common.{get_or, true, false, not, nat_eq, refl, ap, sym, ◌∙◌, arith, inl, inr}
 use Rattle.std.specs.Int.{bit_at, to_be_bytes, w64}
@@ -69,14 +70,7 @@ module _ (row : PlacedRow) where
 
   pub word_begun : (from word k : ℕ) → HasPassed row.places.now row.end from k → word < 2 ^ 64
       → ((i : ℕ) → word_bit word i ≡ is_black (alternate Black k)) → IsWordTo row from word k
-  word_begun from word k passed fits is = record {
-    fits = fits;
-    some = passed.some;
-    within = passed.within;
-    ahead = passed.right;
-    before = λ i h l. absurd (omega (arith, passed.left));
-    after = λ i h l. is i;
-  }
+  word_begun from word k passed fits is = grind (arith, common_steps)
 
   -- the pels up to the next place
   pub pel_of_word : {from word k : ℕ} → IsWordTo row from word k → (i : ℕ) → i < 64 → from + i < row.width

@@ -1,11 +1,12 @@
 -- A row packed by its places of change.
+use Rattle.std.proofs.lemmas.Grind.{common_steps}
 use Rattle.std.proofs.Common.{◌≡◌, ℕ, ◌+◌, ◌-◌, ◌^◌, ◌<◌, ◌≤◌, List, map, length, take, drop, get_or}
 use Rattle.std.proofs.Common.{false, nat_eq, ap, sym, ◌∙◌, subst, arith, inl, inr}
 use borrow.Rule.Slice.PartMut.{put_mid}
 use Rattle.std.specs.Int.{bit_at}
 use Rattle.std.proofs.lemmas.Bool.{cases_lt}
 use Rattle.std.proofs.lemmas.Bool.Decides.{nat_tests}
-use Rattle.std.proofs.lemmas.List.{length-map, get_or-map, get_or-take, get_or_past, length-take-le, get_or_append_left, get_or-append_right}
+use Rattle.std.proofs.lemmas.List.{length-map, get_or-map, get_or_past}
 use Rattle.std.proofs.lemmas.Nat.Bits.{bit_at-lt, bit_at-zero, bit_at_ones, same_from_bits_below}
 use Rattle.fax_bits.specs.declared.Colour.{Colour}
 use Rattle.fax_bits.specs.declared.Colour.TheVariants.{White, Black}
@@ -62,12 +63,7 @@ module _ {places : List ℕ} {end width : ℕ} (all : ArePlaces places end width
 
   -- a place further right is passed too where none stands between
   pub still_passed : (at next k : ℕ) → HasPassed places end at k → at ≤ next → next ≤ get_or places k 0 → HasPassed places end next k
-  still_passed at next k passed order before = record {
-    some = passed.some;
-    within = passed.within;
-    left = omega (arith, passed.left);
-    right = λ h. before;
-  }
+  still_passed at next k passed order before = grind (arith, common_steps)
 
   pub place_at_most : (at k : ℕ) → HasPassed places end at k → get_or places k 0 ≤ width
   place_at_most at k passed =
@@ -94,11 +90,4 @@ module _ {places : List ℕ} {end width : ℕ} (all : ArePlaces places end width
 -- a list of which the first places have what they are to have, after a write to the part that follows
 pub part_written : (P : ℕ → ℕ) (out part : List ℕ) (a k : ℕ) → a ≤ length out → ((i : ℕ) → i < a → get_or out i 0 ≡ P i)
     → ((i : ℕ) → i < length part → get_or part i 0 ≡ P (a + i)) → (i : ℕ) → i < a + length part → get_or (put_mid a k out part) i 0 ≡ P i
-part_written P out part a k within before written i h =
-    elim (cases_lt i a) [
-      | inl less ↦
-          get_or_append_left (take a out) _ 0 i (omega (arith, length-take-le a out within)) ∙ get_or-take a out i 0 less ∙ before i less
-      | inr more ↦
-          get_or-append_right (take a out) _ a i 0 (length-take-le a out within) more
-          ∙ get_or_append_left part _ 0 (i - a) (omega arith) ∙ written (i - a) (omega arith) ∙ ap P (omega arith)
-    ]
+part_written P out part a k within before written i h = grind (arith, common_steps)

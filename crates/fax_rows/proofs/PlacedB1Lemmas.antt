@@ -1,4 +1,5 @@
 -- b1 and b2 by an index into the reference row's places of change.
+use Rattle.std.proofs.lemmas.Grind.{common_steps}
 use Rattle.std.proofs.Common.{◌≡◌, ◌≢◌, ℕ, zero, suc, ◌+◌, ◌-◌, ◌<◌, ◌≤◌, List, length, take, get_or, true, false, not, refl, ap, sym, ◌∙◌}
 use Rattle.std.proofs.Common.{subst, arith, inl, inr}
 use Rattle.std.specs.Prelude.{◌⊎◌, ◌&&◌, Option, Some, None, unwrap_or}
@@ -265,17 +266,7 @@ module _ (row : PlacedRow) where
   -- and ends at b1
   pub search_ends : (place b : ℕ) → place < get_or row.places.now b 0 → (colour : Colour)
       → IsBeforeB1 row place colour b → IsB1At row (Some place) colour b
-  search_ends place b right colour before = record {
-    some = some b right;
-    within = before.within;
-    colour_is = before.colour_is;
-    passed = λ h. le-ltb place (get_or row.places.now (b - 2) 0) (before.passed h);
-    ahead = λ h. lt-ltb place (get_or row.places.now b 0) right;
-  }
-    where
-      some : (n : ℕ) → place < get_or row.places.now n 0 → 0 < n
-      some zero h = absurd (omega (arith, row.placed.ascending.first))
-      some (suc n) h = omega arith
+  search_ends place b right colour before = grind (arith, common_steps)
 
   -- b1 is not left of a0
   pub b1_ahead : (a0 : Option ℕ) {colour : Colour} {b : ℕ} → IsB1At row a0 colour b → unwrap_or a0 0 < row.width

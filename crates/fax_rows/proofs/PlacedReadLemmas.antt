@@ -1,10 +1,11 @@
 -- Places of change that are put one after the other while a row is read.
+use Rattle.std.proofs.lemmas.Grind.{common_steps}
 use Rattle.std.proofs.Common.{◌≡◌, ℕ, ◌+◌, ◌-◌, ◌<◌, ◌≤◌, ◌≢◌, List, [], ◌∷◌, ◌++◌, length, take, drop, get_or, Bool, ap}
 use Rattle.std.proofs.Common.{sym, ◌∙◌, subst, arith, inl, inr}
 use Rattle.std.specs.Prelude.{◌⊎◌}
 use Rattle.std.proofs.Math.ListN.{set}
 use Rattle.std.proofs.Math.Nat.{eq-or-lt_of_le}
-use Rattle.std.proofs.lemmas.List.{take_at, take_more, take_more_set, ext_get_or}
+use Rattle.std.proofs.lemmas.List.{take_at, take_more_set, ext_get_or}
 use Rattle.fax_bits.specs.declared.Colour.{Colour}
 use Rattle.fax_bits.specs.declared.Colour.TheVariants.{White, Black}
 use Rattle.fax_bits.specs.Codes.{IsRun}
@@ -28,10 +29,7 @@ turned_on places end place room = record {
 -- the last place stands after the others
 last_split : (places : List ℕ) (end place : ℕ) → 0 < end → end ≤ length places → get_or places (end - 1) 0 ≡ place
     → take end places ≡ take (end - 1) places ++ place ∷ []
-last_split places end place some within is =
-    let inside : end - 1 < length places = omega arith in
-    let same : end ≡ end - 1 + 1 = omega arith in
-    ap (λ n. take n places) same ∙ take_more places (end - 1) 0 inside ∙ ap (λ p. take (end - 1) places ++ p ∷ []) is
+last_split places end place some within is = grind (arith, common_steps)
 
 -- the last place that is taken away again
 pub turned_back : (places : List ℕ) (end place : ℕ) → 0 < end → end ≤ length places → get_or places (end - 1) 0 ≡ place
@@ -67,13 +65,7 @@ places_within places end total up last = omega (arith, up.started, at_least up (
 
 -- before the first pel
 pub none_put : {width : ℕ} {places : List ℕ} (total : ℕ) → HasRoom width places → total ≤ width → ArePut width places 1 total
-none_put total room within = record {
-  room = room.len;
-  ascending =
-      record { started = omega arith; within = omega (arith, room.len); first = room.first; steps = λ i h l. absurd (omega arith) };
-  last = omega (arith, room.first);
-  within = within;
-}
+none_put total room within = grind (arith, common_steps)
 
 -- there is room for two places more
 pub more_room : {width : ℕ} {places : List ℕ} {end total : ℕ} → ArePut width places end total → end + 1 < length places

@@ -1,4 +1,5 @@
 -- The places of the changes of a word, put together.
+use Rattle.std.proofs.lemmas.Grind.{common_steps}
 use Rattle.std.proofs.Common.{◌≡◌, ℕ, zero, suc, ◌+◌, ◌-◌, ◌^◌, ◌<◌, ◌≤◌, List, [], ◌∷◌, ◌++◌, length, take, get_or}
 use Rattle.std.proofs.Common.{if◌then◌else◌, Bool, true, false, nat_eq, refl, ap, sym, ◌∙◌, subst, arith, inl, inr}
 use Rattle.std.specs.Int.{bit_at}
@@ -99,33 +100,13 @@ pels_put old from before word (suc r) fits within put =
 
 -- what ascends does so in the list that is cut at its end, and back
 ascending_in : (places : List ℕ) (end : ℕ) → IsAscending places end → IsAscending (take end places) (length (take end places))
-ascending_in places end up = record {
-  started = omega (arith, len, up.started);
-  within = omega arith;
-  first = get_or-take end places 0 0 up.started ∙ up.first;
-  steps = λ i some h. rw (get_or-take end places i 0 (omega (arith, len)), get_or-take end places (i + 1) 0 (omega (arith, len)))
-      (up.steps i some (omega (arith, len)));
-}
-  where
-    len : length (take end places) ≡ end
-    len = length-take-le end places up.within
+ascending_in places end up = grind (arith, common_steps)
 
 -- the places of a row before a word
 none_put : (places : List ℕ) (end from before word : ℕ) → IsAscending places end → (1 < end → get_or places (end - 1) 0 < from)
     → ((k : ℕ) → from ≤ k → turned Black (take end places) k ≡ colour_of_bit (word_bit before 63))
     → HasPut (take end places) (take end places) from before word 0
-none_put places end from before word up left colour = record {
-  kept = λ k h. refl;
-  done = λ i h. absurd (omega arith);
-  after = λ k h. colour k (omega arith);
-  ascending = ascending_in places end up;
-  last = λ h.
-      let len = length-take-le end places up.within in
-      let more : 1 < end = omega (arith, len) in
-      let place : get_or (take end places) (length (take end places) - 1) 0 ≡ get_or places (end - 1) 0 =
-      ap (λ n. get_or (take end places) (n - 1) 0) len ∙ get_or-take end places (end - 1) 0 (omega arith) in
-      omega (arith, place, left more);
-}
+none_put places end from before word up left colour = grind (arith, common_steps)
 
 -- the changes of a word are put
 pub record IsWordPut (old new : List ℕ) (end next from before word : ℕ) : Type 0 where

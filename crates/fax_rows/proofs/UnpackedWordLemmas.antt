@@ -1,9 +1,10 @@
 -- A row unpacked by words of 64 pels.
+use Rattle.std.proofs.lemmas.Grind.{common_steps}
 use Rattle.std.proofs.Common.{◌≡◌, ◌≢◌, ℕ, zero, suc, ◌+◌, ◌-◌, ◌*◌, ◌/◌, ◌%◌, ◌^◌, ◌<◌, ◌≤◌, List, length, get_or, Bool, true}
 use Rattle.std.proofs.Common.{false, not, nat_eq, refl, ap, sym, ◌∙◌, arith, inl, inr, take, drop, length-drop, get_or-drop}
 use Rattle.std.specs.Int.{bit_at, from_be_bytes, to_be_bytes, w64}
 use Rattle.std.specs.Int.RustNames.{bit_xor}
-use Rattle.std.proofs.lemmas.Bool.{cases_lt, eqb-true, true≢false}
+use Rattle.std.proofs.lemmas.Bool.{cases_lt, eqb-true}
 use Rattle.std.proofs.Math.Nat.{pow-succ'}
 use Rattle.std.proofs.lemmas.List.{get_or_past, get_or-take, length-take-le}
 use Rattle.std.proofs.lemmas.Nat.{be_bytes_8, leading_top, one_shl, pow_pos, shr-shr, xor_block, xor_lt}
@@ -261,11 +262,7 @@ module _ (old places : List ℕ) (from before word left r : ℕ) (so_far : IsPut
 
   -- the next change is not left of them
   pub not_gone : (at : ℕ) → IsHighest left at → r ≤ at
-  not_gone at top =
-      elim (cases_lt at r) [
-        | inl less ↦ absurd (true≢false (sym top.there ∙ so_far.gone at less))
-        | inr more ↦ more
-      ]
+  not_gone at top = grind (arith, common_steps)
 
   pub put_more : (new : List ℕ) (at place next : ℕ) → IsHighest left at → place ≡ from + at → next ≡ at + 1 → IsTurnedFrom places new place
       → IsPutTo old new from before word (without left at) next
@@ -339,10 +336,4 @@ unpacked_word b old new from next before word sum so_far kept pels after bit = r
 -- the last place is below a number where it is one of the changes, and 0 else
 pub last_below : (places : List ℕ) (end n : ℕ) → IsAscending places end → (1 < end → get_or places (end - 1) 0 < n) → 0 < n
     → get_or places (end - 1) 0 < n
-last_below places end n up last some =
-    elim (cases_lt 1 end) [
-      | inl more ↦ last more
-      | inr one ↦
-          let first : end - 1 ≡ 0 = omega arith in
-          omega (arith, ap (λ k. get_or places k 0) first, up.first)
-    ]
+last_below places end n up last some = grind (arith, common_steps)
