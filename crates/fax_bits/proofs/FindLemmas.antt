@@ -1,22 +1,18 @@
 -- A code that begins the bits of a number.
-use Rattle.std.proofs.Common.{◌≡◌, ℕ, zero, suc, ◌+◌, ◌-◌, ◌/◌, ◌%◌, ◌^◌, ◌<◌, ◌≤◌, List, ◌++◌, length, take, get_or, Bool, false, nat_eq}
-use Rattle.std.proofs.Common.{refl, ap, sym, ◌∙◌, subst, arith, length-append}
+use Rattle.std.proofs.Common.{◌≡◌, ℕ, ◌+◌, ◌-◌, ◌/◌, ◌%◌, ◌^◌, ◌<◌, ◌≤◌, List, ◌++◌, length, take, get_or, Bool, false, nat_eq}
+use Rattle.std.proofs.Common.{ap, sym, ◌∙◌, subst, arith, length-append}
 use Rattle.std.proofs.Math.Seq.{take-append_seam}
 use Rattle.std.proofs.lemmas.Nat.{pow_pos, mod_below, shr_below, shr_split}
 use Rattle.std.proofs.lemmas.Nat.Bits.{bit_at-lt, same_from_bits_below}
 use Rattle.std.specs.Int.{bit_at}
+use Rattle.std.proofs.lemmas.Bool.Decides.{nat_tests}
 use Rattle.fax_bits.specs.Bits.{code_bits}
 use Rattle.fax_bits.specs.Bits.{BeginsWith}
 use Rattle.fax_bits.proofs.CodeBitsLemmas.{code_bits-add}
 use Rattle.fax_bits.proofs.MeetingLemmas.{length-code_bits, get_or-code_bits}
 
 same_digit : (n m : ℕ) → n < 2 → m < 2 → nat_eq n 1 ≡ nat_eq m 1 → n ≡ m
-same_digit zero zero h k e = refl
-same_digit zero (suc zero) h k e = cc
-same_digit (suc zero) zero h k e = cc
-same_digit (suc zero) (suc zero) h k e = refl
-same_digit (suc (suc n)) m h k e = absurd (omega arith)
-same_digit n (suc (suc m)) h k e = absurd (omega arith)
+same_digit n m h k e = grind (arith, nat_tests)
 
 -- numbers with the same bits are the same
 pub same_number : (len n m : ℕ) → n < 2 ^ len → m < 2 ^ len → code_bits len n ≡ code_bits len m → n ≡ m

@@ -1,13 +1,9 @@
 -- Bytes whose bits are turned round lane by lane.
-use Rattle.std.proofs.Common.{◌≡◌, ◌≢◌, ℕ, zero, suc, ◌+◌, ◌-◌, ◌<◌, ◌≤◌, List, [], ◌∷◌, map, length, drop, get_or, Bool, true, false}
-use Rattle.std.proofs.Common.{nat_eq, refl, ap, sym, ◌∙◌, subst, arith, replicate, inl, inr, length-drop, get_or-drop, get_or-set_other}
-use Rattle.std.proofs.Common.{get_or-set_same}
-use Rattle.std.specs.Prelude.{◌&&◌}
-use Rattle.std.proofs.lemmas.Bool.{eqb-true}
-use Rattle.std.proofs.Math.Nat.{eq-or-lt_of_le}
-use Rattle.std.proofs.Math.ListN.{set}
+use Rattle.std.proofs.Common.{◌≡◌, ℕ, zero, suc, ◌+◌, ◌-◌, ◌<◌, ◌≤◌, List, [], ◌∷◌, map, length, drop, get_or, Bool, true}
+use Rattle.std.proofs.Common.{nat_eq, refl, ap, sym, ◌∙◌, arith, replicate, inl, inr, length-drop, get_or-drop}
+use Rattle.std.proofs.lemmas.Bool.{agree_below, agree_below_at, eqb-true}
 use Rattle.std.proofs.lemmas.Bool.{cases_lt}
-use Rattle.std.proofs.lemmas.List.{ext_get_or, get_or-map, get_or-take, length-map, length-set, length-take-le}
+use Rattle.std.proofs.lemmas.List.{ext_get_or, get_or-map, get_or-take, length-map, length-take-le}
 use Rattle.std.proofs.lemmas.Simd.{length-put_chunk, get_or-put_chunk_below, get_or-put_chunk_at, get_or-put_chunk_above}
 use lib.Lanes.{zip2, Each1, chunk, put_chunk}
 use mir.Syntax.{w8}
@@ -15,24 +11,7 @@ use mir.Val.{Fits}
 
 -- the two functions are the same at each number below n
 abbrev pub same_below : (ℕ → ℕ) → (ℕ → ℕ) → ℕ → Bool
-same_below f g zero = true
-same_below f g (suc n) = nat_eq (f n) (g n) && same_below f g n
-
-both_true : (a b : Bool) → (a && b) ≡ true → (a ≡ true) × (b ≡ true)
-both_true true b h = (refl, h)
-both_true false b h = cc
-
-omega_le : (x n : ℕ) → x < suc n → x ≤ n
-omega_le x n h = omega arith
-
-same_at : (f g : ℕ → ℕ) (n x : ℕ) → same_below f g n ≡ true → x < n → f x ≡ g x
-same_at f g zero x all within = absurd (omega arith)
-same_at f g (suc n) x all within =
-    let parts = both_true (nat_eq (f n) (g n)) (same_below f g n) all in
-    elim (eq-or-lt_of_le (omega_le x n within)) [
-      | inl same ↦ subst (λ k. f k ≡ g k) (sym same) (eqb-true _ _ parts.0)
-      | inr less ↦ same_at f g n x parts.1 less
-    ]
+same_below f g n = agree_below (λ x. nat_eq (f x) (g x)) (λ x. true) n
 
 -- lanes are turned round by halves, pairs and single bits
 abbrev halves : (or right left : ℕ → ℕ → ℕ) → ℕ → ℕ
@@ -69,7 +48,7 @@ each_turned or and right left (suc n) (x ∷ v) len =
 each_same : (f g : ℕ → ℕ) → same_below f g 256 ≡ true → (v : List ℕ) → Each1 (Fits w8) v → map f v ≡ map g v
 each_same f g all [] fits = refl
 each_same f g all (x ∷ v) fits =
-    let here : f x ≡ g x = same_at f g 256 x all fits.0.fits in
+    let here : f x ≡ g x = eqb-true _ _ (agree_below_at (λ y. nat_eq (f y) (g y)) (λ y. true) 256 x all fits.0.fits) in
     ap (λ y. y ∷ map f v) here ∙ ap (λ more. g x ∷ more) (each_same f g all v fits.1)
 
 -- sixteen lanes, where a test of all bytes says that the steps make up a function
@@ -83,9 +62,6 @@ pub record IsTurnedUpTo (g : ℕ → ℕ) (old new : List ℕ) (n : ℕ) : Type 
   pub len : length new ≡ length old
   pub done : (k : ℕ) → k < n → k < length old → get_or new k 0 ≡ g (get_or old k 0)
   pub left : (k : ℕ) → n ≤ k → get_or new k 0 ≡ get_or old k 0
-
-pub turned_none : (g : ℕ → ℕ) (old : List ℕ) → IsTurnedUpTo g old old 0
-turned_none g old = record { len = refl; done = λ k h l. absurd (omega arith); left = λ k h. refl }
 
 -- sixteen more
 pub turned_group : (g : ℕ → ℕ) (old new ys : List ℕ) (n : ℕ) → IsTurnedUpTo g old new n → ys ≡ map g (chunk n 16 new) → n + 16 ≤ length old
@@ -114,21 +90,6 @@ turned_group g old new ys n so_far ys_is within = record {
         ∙ ap (λ xs. get_or xs (k - n) 0) ys_is ∙ get_or-map g (chunk n 16 new) (k - n) 0 0 (omega (arith, long))
         ∙ ap g (get_or-take 16 (drop n new) (k - n) 0 near ∙ get_or-drop n new (k - n) 0 ∙ ap (λ m. get_or new m 0) at
         ∙ so_far.left k after)
-
--- one more
-pub turned_one : (g : ℕ → ℕ) (old new : List ℕ) (n y : ℕ) → IsTurnedUpTo g old new n → y ≡ g (get_or new n 0) → n < length old
-    → IsTurnedUpTo g old (set new n y) (n + 1)
-turned_one g old new n y so_far y_is within = record {
-  len = length-set new n y ∙ so_far.len;
-  done = λ k h l. elim (cases_lt k n) [
-    | inl before ↦ let other : k ≢ n = omega arith in get_or-set_other new n k y 0 other ∙ so_far.done k before l
-    | inr after ↦
-        let at : n ≡ k = omega arith in
-        subst (λ m. get_or (set new n y) m 0 ≡ g (get_or old m 0)) at
-        (get_or-set_same new n y 0 (omega (arith, so_far.len)) ∙ y_is ∙ ap g (so_far.left n (omega arith)))
-  ];
-  left = λ k h. let other : k ≢ n = omega arith in get_or-set_other new n k y 0 other ∙ so_far.left k (omega arith);
-}
 
 pub turned_all : (g : ℕ → ℕ) (old new : List ℕ) (n : ℕ) → IsTurnedUpTo g old new n → length old ≤ n → new ≡ map g old
 turned_all g old new n so_far all =

@@ -1,5 +1,5 @@
 -- A run of several make-up codes, read by a look-up each.
-use Rattle.std.proofs.Common.{◌≡◌, ℕ, ◌+◌, ◌*◌, ◌-◌, ◌/◌, ◌^◌, ◌<◌, ◌≤◌, List, ◌∷◌, ◌++◌, length, Bool, ap, ◌∙◌, subst, arith}
+use Rattle.std.proofs.Common.{◌≡◌, ℕ, ◌+◌, ◌*◌, ◌-◌, ◌/◌, ◌^◌, ◌<◌, ◌≤◌, List, ◌∷◌, ◌++◌, Bool, ap, ◌∙◌, subst, arith}
 use Rattle.std.specs.Prelude.{sum}
 use Rattle.std.proofs.lemmas.Grind.{common_steps}
 use Rattle.fax_bits.specs.Bits.{code_bits}

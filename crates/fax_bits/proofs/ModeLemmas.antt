@@ -95,18 +95,6 @@ vertical_short (negsuc (suc zero)) written = lit< tt
 vertical_short (negsuc (suc (suc zero))) written = lit< tt
 vertical_short (negsuc (suc (suc (suc n)))) written = absurd (omega (arith, few (negsuc (suc (suc (suc n)))) written))
 
--- a distance is itself as a number of eight bits
-pub distance_is : (d : ℤ) → IsWritten (Vertical d) → to_z w8 (of_z w8 d) ≡ d
-distance_is (pos zero) written = refl
-distance_is (pos (suc zero)) written = refl
-distance_is (pos (suc (suc zero))) written = refl
-distance_is (pos (suc (suc (suc zero)))) written = refl
-distance_is (pos (suc (suc (suc (suc n))))) written = absurd (omega (arith, few (pos (suc (suc (suc (suc n))))) written))
-distance_is (negsuc zero) written = refl
-distance_is (negsuc (suc zero)) written = refl
-distance_is (negsuc (suc (suc zero))) written = refl
-distance_is (negsuc (suc (suc (suc n)))) written = absurd (omega (arith, few (negsuc (suc (suc (suc n)))) written))
-
 -- a mode that is written is read again
 takes_mode : (place : ℕ) (listed_entry : CodeEntry ModeCode) (mode : ModeCode) (more : List Bool) → slice_get modes place
     ≡ Some listed_entry

@@ -1,5 +1,5 @@
 -- Bits that wait for a sink, and go to it word by word.
-use Rattle.std.proofs.Common.{◌≡◌, ℕ, ◌+◌, ◌*◌, ◌%◌, ◌^◌, ◌<◌, List, [], ◌++◌, length, Bool, refl}
+use Rattle.std.proofs.Common.{◌≡◌, ℕ, ◌+◌, ◌*◌, ◌%◌, ◌^◌, ◌<◌, List, [], ◌++◌, length, Bool}
 use Rattle.std.proofs.Common.{ap, sym, ◌∙◌, arith, append_assoc, append-nil}
 use Rattle.std.specs.Prelude.{bit_or, flat_map}
 use Rattle.std.proofs.lemmas.List.Concat.{flat_map-append}
@@ -33,15 +33,6 @@ all_left sink all left same = record {
   done = [];
   appended = ap (λ b. record { order = sink.order; bits = b }) (sym (append-nil sink.bits));
   parts = sym same;
-}
-
--- where a growth was refused before any bit was put, or in the second of two parts
-pub none_put : (old new : Sink) (all : List Bool) → new ≡ old → AppendsPrefix old all new
-none_put old new all same = record {
-  done = [];
-  missing = all;
-  appended = same ∙ ap (λ b. record { order = old.order; bits = b }) (sym (append-nil old.bits));
-  parts = refl;
 }
 
 pub prefix-second : (old mid new : Sink) (first second : List Bool) → Appends old first mid → AppendsPrefix mid second new

@@ -3,8 +3,7 @@ use Rattle.std.proofs.Common.{◌≡◌, ℕ, ◌+◌, ◌-◌, ◌*◌, ◌/◌
 use Rattle.std.proofs.Common.{replicate, Bool, true, false, refl, ap, sym, ◌∙◌, subst, arith, append_assoc, append-nil, add-zero}
 use Rattle.std.proofs.Common.{length-append}
 use Rattle.std.specs.Prelude.{bit_and, bit_or, Result, Ok, Err, OnOk, is_ok}
-use Rattle.std.proofs.Math.Seq.{take-length}
-use Rattle.std.proofs.lemmas.List.{take-append-le}
+use Rattle.std.proofs.lemmas.List.{take_at}
 use Rattle.std.proofs.lemmas.List.Concat.{flat_map-append}
 use Rattle.fax_bits.proofs.WordLemmas.{be_bits}
 use Rattle.std.proofs.lemmas.Nat.{from_be_bytes-to_be_bytes_4, pow-add, pow_pos, or_shifted, shl_whole, one_shl, and_mask, mul-add-lt}
@@ -82,9 +81,7 @@ bits-reversed (byte ∷ bytes) =
 
 -- bytes that are all written over
 pub written_over : (len : ℕ) (new old : List ℕ) → length new ≡ len → take len (new ++ drop (length new) old) ≡ new
-written_over len new old same =
-    ap (λ n. take n (new ++ drop (length new) old)) (sym same) ∙ take-append-le (length new) new (drop (length new) old) (omega arith)
-    ∙ take-length new
+written_over len new old same = take_at new (drop (length new) old) len same
 
 -- a byte that became whole is pushed
 pub pushed_bits : (order : FillOrder) (bytes pushed : List ℕ) (byte n : ℕ) (all rest : List Bool) → pushed ≡ bytes ++ byte ∷ []

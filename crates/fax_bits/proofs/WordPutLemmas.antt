@@ -6,7 +6,7 @@ use Rattle.fax_bits.specs.declared.FillOrder.TheVariants.{MsbFirst}
 use Rattle.fax_bits.specs.Bits.{bits, code_bits}
 use Rattle.fax_bits.specs.views.Sink.{Sink}
 use Rattle.fax_bits.specs.code.Sink.{sink_of}
-use Rattle.fax_bits.proofs.SinkLemmas.{first_part-lt, masked-lt, word_stored}
+use Rattle.fax_bits.proofs.SinkLemmas.{first_part-lt, word_stored}
 
 -- so many bits and a word after them, as one number
 module _ (count pending : ℕ) (short : count + 32 ≤ 64) (fits : pending < 2 ^ (count + 32)) where
@@ -16,11 +16,6 @@ module _ (count pending : ℕ) (short : count + 32 ≤ 64) (fits : pending < 2 ^
   pub high_word-lt : pending / 2 ^ count < 2 ^ 32
   high_word-lt =
       subst (λ n. pending / 2 ^ n < 2 ^ 32) left_are (first_part-lt 32 (count + 32) pending (omega arith) (omega arith) short fits)
-
-  pub left_of_word-lt : bit_and pending (1 * 2 ^ count % 2 ^ 64 - 1) < 2 ^ count
-  left_of_word-lt =
-      subst (λ n. bit_and pending (1 * 2 ^ n % 2 ^ 64 - 1) < 2 ^ n) left_are
-      (masked-lt 32 (count + 32) pending (omega arith) (omega arith) short fits)
 
 -- its first 32 bits are stored
 pub word_put : (order : FillOrder) (bytes pushed : List ℕ) (count pending : ℕ) (sink : Sink) → count + 32 ≤ 64

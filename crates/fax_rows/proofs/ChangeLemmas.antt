@@ -2,7 +2,7 @@
 use Rattle.std.proofs.Common.{◌≡◌, ℕ, zero, suc, ◌+◌, ◌-◌, ◌<◌, ◌≤◌, List, [], ◌∷◌, ◌++◌, length, take, replicate, Bool, true, false, not}
 use Rattle.std.proofs.Common.{refl, ap, sym, ◌∙◌, subst, arith, inl, inr}
 use Rattle.std.specs.Prelude.{◌&&◌, Option, Some, None, unwrap_or}
-use Rattle.std.proofs.lemmas.Bool.{cases_lt, ltb-true, lt-ltb}
+use Rattle.std.proofs.lemmas.Bool.{and_parts, cases_lt, ltb-true, lt-ltb}
 use Rattle.std.proofs.Math.Nat.{eq-or-lt_of_le}
 use Rattle.fax_bits.specs.declared.Colour.{Colour}
 use Rattle.fax_bits.specs.declared.Colour.TheVariants.{White, Black}
@@ -62,10 +62,6 @@ pub both_false : (a b : Bool) → (a && b) ≡ false → a ≡ true → b ≡ fa
 both_false true b h is = h
 both_false false b h is = cc
 
-both_true : (a b : Bool) → (a && b) ≡ true → (a ≡ true) × (b ≡ true)
-both_true true b h = (refl, h)
-both_true false b h = cc
-
 pub next_change_is : (row : List Colour) (from : Option ℕ) → IsNextChange row from (next_change row from)
 unfolding next_change
 next_change_is row from =
@@ -73,8 +69,8 @@ next_change_is row from =
     record {
       within = omega (arith, first.within);
       before = λ k h l. both_false (is_right_of from k) (is_changing row k) (first.before k (omega arith) h) l;
-      right = λ h. (both_true (is_right_of from _) (is_changing row _) (first.there (omega arith))).0;
-      there = λ h. (both_true (is_right_of from _) (is_changing row _) (first.there (omega arith))).1;
+      right = λ h. (and_parts (is_right_of from _) (is_changing row _) (first.there (omega arith))).0;
+      there = λ h. (and_parts (is_right_of from _) (is_changing row _) (first.there (omega arith))).1;
     }
 
 -- the colour before a pel that is not a changing element is its own
@@ -177,14 +173,11 @@ pub next_of_right : (row : List Colour) (from : Option ℕ) (colour : Colour) �
 unfolding b1
 next_of_right row from colour inside =
     let first = first_place_is (λ i. is_right_of from i && (is_changing row i && not (same_colour (pel row i) colour))) 0 (length row) in
-    (both_true (is_right_of from _) _ (first.there (omega arith))).0
+    (and_parts (is_right_of from _) _ (first.there (omega arith))).0
 
 pub still_left : (right change : Bool) → (right ≡ true → change ≡ false) → (right && change) ≡ false
 still_left true change h = h refl
 still_left false change h = refl
-
-pub both : (a b : Bool) → a ≡ true → b ≡ true → (a && b) ≡ true
-both a b h l = rw h l
 
 pub same_as : (a b : Colour) → a ≡ b → not (same_colour a b) ≡ false
 same_as White White h = refl

@@ -1,8 +1,9 @@
 -- The step that T.4 chooses is a step to the place that it leads to.
+use Rattle.std.proofs.lemmas.Grind.{common_steps}
 use Rattle.std.proofs.Common.{◌≡◌, ℕ, suc, ◌+◌, ◌-◌, ◌<◌, ◌≤◌, List, ◌++◌, length, take, replicate, Bool, true, false, refl, ap, sym, ◌∙◌}
-use Rattle.std.proofs.Common.{arith, inl, inr, append_assoc}
+use Rattle.std.proofs.Common.{arith, append_assoc}
 use Rattle.std.specs.Prelude.{ℤ, pos, negsuc, ◌-ℤ◌, ◌+ℤ◌, ◌<ℤ◌, ◌≤ℤ◌, nat_abs, nat_lt, nat_le, if◌then◌else◌, Option, Some, None}
-use Rattle.std.proofs.lemmas.Bool.{cases_lt, ltb-true, lt-ltb}
+use Rattle.std.proofs.lemmas.Bool.{ltb-true, lt-ltb}
 use Rattle.std.proofs.lemmas.Bool.Decides.{nat_tests}
 use Rattle.std.proofs.lemmas.Int.{ints}
 use Rattle.fax_bits.specs.declared.Colour.{Colour}
@@ -54,11 +55,7 @@ passed_within (Some a) width h = omega arith
 -- a place right of the start of a step, or the width, is passed later
 passes : (from : Option ℕ) (place width : ℕ) → first_of from < width → place ≤ width → (place < width → is_right_of from place ≡ true)
     → passed from ≤ place
-passes from place width unfinished within right =
-    elim (cases_lt place width) [
-      | inl inside ↦ right_passes from place (right inside)
-      | inr over ↦ omega (arith, passed_within from width unfinished)
-    ]
+passes from place width unfinished within right = grind (arith, common_steps)
 
 pub first_passed : (from : Option ℕ) (place : ℕ) → passed from ≤ place → first_of from ≤ place
 first_passed None place h = omega arith

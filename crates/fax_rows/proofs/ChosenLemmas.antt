@@ -1,13 +1,13 @@
 -- A step that is read as T.4 would have chosen it.
+use Rattle.std.proofs.lemmas.Grind.{common_steps}
 use Rattle.std.proofs.Common.{◌≡◌, ℕ, zero, suc, ◌+◌, ◌-◌, ◌<◌, ◌≤◌, ℤ, negsuc, ◌-ℤ◌, List, ◌++◌, length, take, replicate, get_or}
 use Rattle.std.proofs.Common.{Bool, true, false, pos, refl, ap, sym, ◌∙◌, subst, arith, inl, inr, take-take, take_at, append_assoc}
 use Rattle.std.proofs.Common.{append-nil}
 use Rattle.std.specs.Prelude.{◌⊎◌, not, Option, Some, None, unwrap_or, ◌<ℤ◌, nat_abs, nat_lt, nat_le}
-use Rattle.std.proofs.lemmas.Bool.{cases_lt, ltb-true, lt-ltb, true≢false}
+use Rattle.std.proofs.lemmas.Bool.{and_from, cases_lt, ltb-true, lt-ltb, true≢false}
 use Rattle.std.proofs.lemmas.Bool.Decides.{nat_tests}
 use Rattle.std.proofs.lemmas.Int.{ints}
-use Rattle.std.proofs.lemmas.List.{get_or-take, get_or-replicate, length-replicate}
-use Rattle.std.proofs.Math.ListN.{get_or-append}
+use Rattle.std.proofs.lemmas.List.{get_or-take, get_or-replicate}
 use Rattle.std.proofs.Math.Seq.{get_or-append_right}
 use Rattle.std.proofs.Math.Nat.{eq-or-lt_of_le}
 use Rattle.fax_bits.specs.declared.Colour.{Colour}
@@ -21,7 +21,7 @@ use Rattle.fax_rows.specs.Rows.{IsVerticalStep}
 use Rattle.fax_rows.specs.code.Seen.{b1_from, b2_from}
 use Rattle.fax_rows.specs.code.Choice.{Places, places, colour_of, chosen_mode, run_pair_bits, next_a0}
 use Rattle.fax_rows.specs.code.Chosen.{GoesOnFrom, IsStepOf, IsChosenPair}
-use Rattle.fax_rows.proofs.ChangeLemmas.{first_of, next_change_is, still_left, both, same_as}
+use Rattle.fax_rows.proofs.ChangeLemmas.{first_of, next_change_is, still_left, same_as}
 use Rattle.fax_rows.proofs.PlaceLemmas.{next_change_at}
 use Rattle.fax_rows.proofs.PlacedStepLemmas.{right_after_first}
 use Rattle.fax_rows.proofs.TakenModeLemmas.{is_near}
@@ -54,7 +54,7 @@ module _ (row : List Colour) (from : Option ℕ) (colour : Colour) (to : ℕ) (s
       next_change_at row from to within
       (λ k h. still_left (is_right_of from k) (is_changing row k)
       (λ l. same_as (pel row k) (pel_before row k) (each k (right_after_first from k l) h ∙ sym (before_is k (omega arith) l))))
-      (λ h. both (is_right_of from to) (is_changing row to) right
+      (λ h. and_from (is_right_of from to) (is_changing row to) right
       (turned_apart (pel row to) (pel_before row to) (turn h ∙ ap other (sym (before_is to (omega arith) right)))))
 
   -- where the colour goes on, the next changing element is further right
@@ -125,22 +125,13 @@ module _ (reference row : List Colour) (same : length row ≡ length reference) 
   }
 
   old_colour : GoesOnFrom row old → first_pel old < length row → colour_of row old.a0 ≡ old.colour
-  old_colour goes inside = by old.a0 refl
-    where
-      by : (a0 : Option ℕ) → old.a0 ≡ a0 → colour_of row a0 ≡ old.colour
-      by None is = start is
-      by (Some a) is = goes.coloured a is (let here = ap first_of is in omega arith)
+  old_colour goes inside = grind (arith, common_steps)
 
   -- what the mode that is chosen writes, and where it leads
   step_is : (at : Places) (mode : ModeCode) (b : List Bool) (new : Position) (rest : List Bool) → GoesOnFrom row old
       → places reference row old.a0 ≡ at → chosen_mode at ≡ mode → new.a0 ≡ Some (next_a0 mode at)
       → b ≡ (mode_bits mode ++ run_pair_bits mode row old.a0 at) ++ rest → IsStepOf reference row old b new rest
-  step_is at mode b new rest goes at_is mode_is place bits = record {
-    before = goes;
-    place = place ∙ ap (λ m. Some (next_a0 m at)) (sym mode_is) ∙ ap (λ p. Some (next_a0 (chosen_mode p) p)) (sym at_is);
-    bits = bits ∙ ap (λ m. (mode_bits m ++ run_pair_bits m row old.a0 at) ++ rest) (sym mode_is)
-        ∙ ap (λ p. (mode_bits (chosen_mode p) ++ run_pair_bits (chosen_mode p) row old.a0 p) ++ rest) (sym at_is);
-  }
+  step_is at mode b new rest goes at_is mode_is place bits = grind (arith, common_steps)
 
   places_are : (a1 a2 : ℕ) → a1 ≡ next_change row old.a0 → a2 ≡ next_change row (Some a1) → colour_of row old.a0 ≡ old.colour
       → places reference row old.a0 ≡ record { a1 = a1; a2 = a2; b1 = b1_from reference old; b2 = b2_from reference old }
@@ -198,18 +189,11 @@ module _ (reference row : List Colour) (same : length row ≡ length reference) 
   -- the pels of two runs
   run_first : (first second k : ℕ) → k < first
       → get_or (replicate first old.colour ++ replicate second (other old.colour)) k White ≡ old.colour
-  run_first first second k h =
-      get_or-append (replicate first old.colour) (replicate second (other old.colour)) White k
-      (omega (arith, length-replicate first old.colour))
-      ∙ get_or-replicate first k old.colour White h
+  run_first first second k h = grind (arith, common_steps)
 
   run_second : (first second k : ℕ) → first ≤ k → k < first + second
       → get_or (replicate first old.colour ++ replicate second (other old.colour)) k White ≡ other old.colour
-  run_second first second k h l =
-      get_or-append_right (replicate first old.colour) (replicate second (other old.colour)) k White
-      (omega (arith, length-replicate first old.colour))
-      ∙ get_or-replicate second (k - length (replicate first old.colour)) (other old.colour) White
-      (omega (arith, length-replicate first old.colour))
+  run_second first second k h l = grind (arith, common_steps)
 
   -- where the second of two runs ends
   second_ends : (a1 to : ℕ) → a1 ≤ to → to ≤ length row → (a1 < length row → a1 < to)

@@ -1,10 +1,8 @@
 -- A row in one-dimensional coding that is read by its longest runs has the bits that are written.
+use Rattle.std.proofs.lemmas.Grind.{common_steps}
 use Rattle.std.proofs.Common.{◌≡◌, ℕ, ◌-◌, ◌<◌, ◌≤◌, ◌^◌, List, [], ◌∷◌, ◌++◌, length, get_or, Bool, refl, ap, sym, ◌∙◌}
-use Rattle.std.proofs.Common.{subst, arith, inl, inr, append_assoc, append-nil, length-append}
+use Rattle.std.proofs.Common.{subst, arith, inl, inr, append_assoc, append-nil}
 use Rattle.std.specs.Prelude.{◌⊎◌, sum}
-use Rattle.std.proofs.lemmas.Bool.{cases_lt}
-use Rattle.std.proofs.Math.ListN.{get_or-append}
-use Rattle.std.proofs.Math.Seq.{get_or-append_right}
 use Rattle.fax_bits.specs.declared.Colour.{Colour}
 use Rattle.fax_bits.specs.declared.Colour.TheVariants.{White}
 use Rattle.fax_bits.specs.Written.{run_bits}
@@ -50,17 +48,7 @@ first_alone (n ∷ m ∷ runs) none colour some =
 -- each run but the first has pels still
 some_push : (runs : List ℕ) (n : ℕ) → ((i : ℕ) → 0 < i → i < length runs → 0 < get_or runs i 0) → (0 < n) ⊎ (length runs ≡ 0)
     → (i : ℕ) → 0 < i → i < length (runs ++ n ∷ []) → 0 < get_or (runs ++ n ∷ []) i 0
-some_push runs n some fits i h l =
-    elim (cases_lt i (length runs)) [
-      | inl less ↦ omega (arith, some i h less, get_or-append runs (n ∷ []) 0 i less)
-      | inr over ↦
-          let last : i - length runs ≡ 0 = omega (arith, length-append runs (n ∷ [])) in
-          let here : get_or (runs ++ n ∷ []) i 0 ≡ n = get_or-append_right runs (n ∷ []) i 0 over ∙ ap (λ k. get_or (n ∷ []) k 0) last in
-          elim fits [
-            | inl pels ↦ omega (arith, here)
-            | inr none ↦ absurd (omega (arith, length-append runs (n ∷ [])))
-          ]
-    ]
+some_push runs n some fits i h l = grind (arith, common_steps)
 
 pub runs_go_on : (b : List Bool) (total place : ℕ) (colour : Colour) (mid rest : List Bool) → AreWrittenRuns b total colour mid
     → total ≤ place → mid ≡ run_bits colour (place - total) ++ rest → (0 < place - total) ⊎ ((total ≡ 0) × (colour ≡ White))

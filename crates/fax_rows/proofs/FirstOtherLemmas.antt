@@ -1,9 +1,9 @@
 -- The first bit that is not of a colour, found by bytes.
-use Rattle.std.proofs.Common.{◌≡◌, ◌≢◌, ℕ, zero, suc, ◌+◌, ◌-◌, ◌*◌, ◌/◌, ◌%◌, ◌^◌, ◌<◌, ◌≤◌, List, [], ◌∷◌, map, length, get_or, Bool}
+use Rattle.std.proofs.lemmas.Grind.{common_steps}
+use Rattle.std.proofs.Common.{◌≡◌, ◌≢◌, ℕ, suc, ◌+◌, ◌-◌, ◌*◌, ◌/◌, ◌%◌, ◌^◌, ◌<◌, ◌≤◌, List, [], ◌∷◌, map, length, get_or, Bool}
 use Rattle.std.proofs.Common.{true, false, if◌then◌else◌, nat_eq, nat_lt, refl, ap, sym, ◌∙◌, subst, arith, inl, inr}
-use Rattle.std.specs.Prelude.{◌&&◌, ◌||◌, not, slice_index_or}
-use Rattle.std.proofs.lemmas.Bool.{cases_lt, eqb-true, eqb-false, ltb-true, true≢false}
-use Rattle.std.proofs.Math.Nat.{eq-or-lt_of_le}
+use Rattle.std.specs.Prelude.{◌||◌, not, slice_index_or}
+use Rattle.std.proofs.lemmas.Bool.{agree_below, agree_below_at, cases_lt, eqb-true, eqb-false, ltb-true, not-false, not-true, or_cases}
 use Rattle.std.proofs.lemmas.Simd.{length-chunk, get_or-chunk, trailing_mask_l, run_in_chunk_le, run_in_chunk_fails, run_in_chunk_stops}
 use Rattle.std.proofs.lemmas.Simd.{none_from_empty_mask}
 use Rattle.std.specs.List.{prefix_len}
@@ -23,24 +23,10 @@ use Rattle.fax_rows.proofs.PlaceLemmas.{first_place_at}
 
 -- each number below n passes the test
 abbrev all_below : (ℕ → Bool) → ℕ → Bool
-all_below test zero = true
-all_below test (suc n) = test n && all_below test n
-
-both_true : (a b : Bool) → (a && b) ≡ true → (a ≡ true) × (b ≡ true)
-both_true true b h = (refl, h)
-both_true false b h = cc
-
-omega_le : (x n : ℕ) → x < suc n → x ≤ n
-omega_le x n h = omega arith
+all_below test n = agree_below test (λ x. true) n
 
 at_below : (test : ℕ → Bool) (n x : ℕ) → all_below test n ≡ true → x < n → test x ≡ true
-at_below test zero x all within = absurd (omega arith)
-at_below test (suc n) x all within =
-    let parts = both_true (test n) (all_below test n) all in
-    elim (eq-or-lt_of_le (omega_le x n within)) [
-      | inl same ↦ subst (λ k. test k ≡ true) (sym same) parts.0
-      | inr less ↦ at_below test n x parts.1 less
-    ]
+at_below test n x all within = agree_below_at test (λ x. true) n x all within
 
 -- by leading zeros
 abbrev by_zeros : ℕ → ℕ → Colour → ℕ
@@ -62,11 +48,7 @@ in_byte_is byte from colour fits within =
     (at_below (λ f. all_below (is_by_zeros colour f) 256) 8 from (each_by_zeros colour) within) fits)
 
 by_branch : (ahead more from r : ℕ) → (if nat_eq ahead 0 then 8 else from + more) ≡ r → (ahead ≡ 0 → 8 ≡ r) × (ahead ≢ 0 → from + more ≡ r)
-by_branch ahead more from r is = by (nat_eq ahead 0) refl is
-  where
-    by : (b : Bool) → nat_eq ahead 0 ≡ b → (if b then 8 else from + more) ≡ r → (ahead ≡ 0 → 8 ≡ r) × (ahead ≢ 0 → from + more ≡ r)
-    by true same h = (λ none. h, λ some. absurd (some (eqb-true ahead 0 same)))
-    by false same h = (λ none. absurd (true≢false (sym (ap (λ n. nat_eq n 0) none) ∙ same)), λ some. h)
+by_branch ahead more from r is = grind (arith, common_steps)
 
 pub none_ahead : (byte from : ℕ) (colour : Colour) (bits : ℕ) → byte < 256 → from < 8 → bits ≡ others byte colour
     → bits * 2 ^ from % 256 ≡ 0
@@ -88,12 +70,8 @@ plain_has_none : (colour : Colour) → all_below (λ i. not (is_other_bit (plain
 plain_has_none White = refl
 plain_has_none Black = refl
 
-not_true : (b : Bool) → not b ≡ true → b ≡ false
-not_true true h = cc
-not_true false h = refl
-
 plain_bit : (colour : Colour) (i : ℕ) → i < 8 → is_other_bit (plain_byte colour) colour i ≡ false
-plain_bit colour i within = not_true _ (at_below (λ k. not (is_other_bit (plain_byte colour) colour k)) 8 i (plain_has_none colour) within)
+plain_bit colour i within = not-true _ (at_below (λ k. not (is_other_bit (plain_byte colour) colour k)) 8 i (plain_has_none colour) within)
 
 -- and each other byte has one
 abbrev is_plain_or_less : Colour → ℕ → Bool
@@ -104,17 +82,12 @@ unfolding first_other_in_byte first_place
 other_has_one White = refl
 other_has_one Black = refl
 
-one_of_two : (byte plain found : ℕ) → (nat_eq byte plain || nat_lt found 8) ≡ true → byte ≢ plain → found < 8
-one_of_two byte plain found either differs = by (nat_eq byte plain) refl either
-  where
-    by : (b : Bool) → nat_eq byte plain ≡ b → (b || nat_lt found 8) ≡ true → found < 8
-    by true same h = absurd (differs (eqb-true byte plain same))
-    by false same h = ltb-true found 8 h
-
 pub found_in_byte : (byte : ℕ) (colour : Colour) → byte < 256 → byte ≢ plain_byte colour → first_other_in_byte byte 0 colour < 8
 found_in_byte byte colour fits differs =
-    one_of_two byte (plain_byte colour) (first_other_in_byte byte 0 colour)
-    (at_below (is_plain_or_less colour) 256 byte (other_has_one colour) fits) differs
+    elim (or_cases _ _ (at_below (is_plain_or_less colour) 256 byte (other_has_one colour) fits)) [
+      | inl same ↦ absurd (differs (eqb-true byte (plain_byte colour) same))
+      | inr less ↦ ltb-true (first_other_in_byte byte 0 colour) 8 less
+    ]
 
 pub in_byte-ge : (byte from : ℕ) (colour : Colour) → from ≤ first_other_in_byte byte from colour
 unfolding first_other_in_byte
@@ -130,14 +103,10 @@ abbrev pub differs : ℕ → ℕ → Bool
 differs plain byte = not (nat_eq byte plain)
 
 differs_false : (plain byte : ℕ) → differs plain byte ≡ false → byte ≡ plain
-differs_false plain byte h = eqb-true byte plain (by (nat_eq byte plain) h)
-  where
-    by : (b : Bool) → not b ≡ false → b ≡ true
-    by true h = refl
-    by false h = cc
+differs_false plain byte h = eqb-true byte plain (not-false (nat_eq byte plain) h)
 
 differs_true : (plain byte : ℕ) → differs plain byte ≡ true → byte ≢ plain
-differs_true plain byte h same = eqb-false byte plain (not_true (nat_eq byte plain) h) same
+differs_true plain byte h same = eqb-false byte plain (not-true (nat_eq byte plain) h) same
 
 -- the lanes of sixteen bytes, where those that differ are set
 module _ (bytes : List ℕ) (from at plain : ℕ) (right : from ≤ at) (room : at + 16 ≤ length bytes)
@@ -196,22 +165,14 @@ first_other_is bytes from r colour right within plain other =
 
 pub plain_on : (bytes : List ℕ) (colour : Colour) (from middle to : ℕ) → IsPlain bytes colour from middle → IsPlain bytes colour middle to
     → IsPlain bytes colour from to
-plain_on bytes colour from middle to before after k l h =
-    elim (cases_lt k middle) [
-      | inl near ↦ before k l near
-      | inr far ↦ after k far h
-    ]
+plain_on bytes colour from middle to before after k l h = grind (arith, common_steps)
 
 -- by the law of the bits of bytes
 module _ (law : AreBitsByPlace) where
   -- bit i of the byte q
   bit_of : (bytes : List ℕ) (colour : Colour) (q i k : ℕ) → q < length bytes → i < 8 → 8 * q + i ≡ k
       → is_other bytes colour k ≡ is_other_bit (get_or bytes q 0) colour i
-  bit_of bytes colour q i k inside within at =
-      let byte : k / 8 ≡ q = omega arith in
-      let place : k % 8 ≡ i = omega arith in
-      ap (λ bit. not (same_colour (colour_of_bit bit) colour)) (law.of_bytes MsbFirst bytes k (omega arith))
-      ∙ ap (λ m. is_other_bit (get_or bytes m 0) colour (k % 8)) byte ∙ ap (is_other_bit (get_or bytes q 0) colour) place
+  bit_of bytes colour q i k inside within at = grind (arith, common_steps)
 
   pub plain_in_byte : (bytes : List ℕ) (colour : Colour) (q from to : ℕ) → q < length bytes → from < 8
       → to ≤ first_other_in_byte (get_or bytes q 0) from colour → IsPlain bytes colour (8 * q + from) (8 * q + to)

@@ -3,8 +3,7 @@ use Rattle.std.proofs.Common.{◌≡◌, ℕ, zero, suc, ◌+◌, ◌-◌, ◌*�
 use Rattle.std.proofs.Common.{if◌then◌else◌, get_or, Bool, true, false, nat_eq, refl, ap, sym, ◌∙◌, subst, arith, w8, w32}
 use Rattle.std.specs.Prelude.{◌&&◌, nat_le}
 use Rattle.std.specs.Int.{bit_at}
-use Rattle.std.proofs.lemmas.Bool.{and_parts}
-use Rattle.std.proofs.lemmas.Bool.Decides.{nat_tests}
+use Rattle.std.proofs.lemmas.Bool.{and_parts, eqb-true, leb-true}
 use Rattle.std.proofs.lemmas.List.{drop-drop, length-map, length-take-le, map-append, take-append-le, take-map}
 use Rattle.std.proofs.Math.Seq.{take-append-add}
 use Rattle.std.proofs.lemmas.Simd.{put_chunk_is, zip2_splat}
@@ -22,19 +21,13 @@ same [] (y ∷ ys) = false
 same (x ∷ xs) [] = false
 same (x ∷ xs) (y ∷ ys) = nat_eq x y && same xs ys
 
-is_equal : (n m : ℕ) → nat_eq n m ≡ true → n ≡ m
-is_equal n m h = grind (arith, nat_tests)
-
-is_at_most : (n m : ℕ) → nat_le n m ≡ true → n ≤ m
-is_at_most n m h = grind (arith, nat_tests)
-
 are_same : (xs ys : List ℕ) → same xs ys ≡ true → xs ≡ ys
 are_same [] [] h = refl
 are_same [] (y ∷ ys) h = cc
 are_same (x ∷ xs) [] h = cc
 are_same (x ∷ xs) (y ∷ ys) h =
     let parts = and_parts (nat_eq x y) (same xs ys) h in
-    ap (λ z. z ∷ xs) (is_equal x y parts.0) ∙ ap (λ zs. y ∷ zs) (are_same xs ys parts.1)
+    ap (λ z. z ∷ xs) (eqb-true x y parts.0) ∙ ap (λ zs. y ∷ zs) (are_same xs ys parts.1)
 
 -- what the table has for a byte
 abbrev fits : ℕ → ℕ → List ℕ → Bool
@@ -82,8 +75,8 @@ has_ones byte within =
     let first = and_parts (nat_le count 8) (nat_eq (length eight) 8 && same (take count eight) (ones_among 0 7 byte 8)) here in
     let second = and_parts (nat_eq (length eight) 8) (same (take count eight) (ones_among 0 7 byte 8)) first.1 in
     record {
-      few = is_at_most count 8 first.0;
-      eight_are = is_equal (length eight) 8 second.0;
+      few = leb-true count 8 first.0;
+      eight_are = eqb-true (length eight) 8 second.0;
       places = are_same (take count eight) (ones_among 0 7 byte 8) second.1;
     }
 

@@ -1,8 +1,9 @@
 -- Packing and unpacking of rows undo one another.
+use Rattle.std.proofs.lemmas.Grind.{common_steps}
 use Rattle.std.proofs.Common.{◌≡◌, ℕ, ◌+◌, ◌-◌, ◌*◌, ◌/◌, ◌%◌, ◌<◌, List, [], ◌∷◌, ◌++◌, map, length, take, drop, replicate, get_or, Bool}
-use Rattle.std.proofs.Common.{true, false, nat_eq, refl, ap, sym, ◌∙◌, arith, length-append, length-drop, get_or-drop}
+use Rattle.std.proofs.Common.{true, false, nat_eq, refl, ap, sym, ◌∙◌, arith, length-append, get_or-drop}
 use Rattle.std.specs.Int.{bit_at}
-use Rattle.std.proofs.lemmas.List.{length-replicate, length-map, get_or-map, get_or-take, length-take-le, take-map, ext_get_or}
+use Rattle.std.proofs.lemmas.List.{length-replicate, length-map, get_or-map, get_or-take, take-map, ext_get_or}
 use Rattle.std.proofs.lemmas.List.FromFn.{length-map-range_with_len, get_or-map-range_with_len}
 use Rattle.fax_bits.specs.declared.FillOrder.TheVariants.{MsbFirst}
 use Rattle.fax_bits.specs.declared.Colour.{Colour}
@@ -14,7 +15,7 @@ use Rattle.fax_rows.specs.Coded.{packed_len, is_black, colour_of_bit, packed_row
 use Rattle.fax_rows.specs.code.PackedByte.{packed_byte}
 use Rattle.fax_rows.specs.laws.Packed.{HasBitsOfPels, IsReadBack}
 use Rattle.fax_rows.specs.laws.Packed.{IsPackedBack, PackingUndoesUnpacking}
-use Rattle.fax_rows.proofs.PackedLemmas.{get_or-padded, padded_bits, row_bytes, unpacked_at}
+use Rattle.fax_rows.proofs.PackedLemmas.{eight_padded, get_or-padded, padded_bits, row_bytes, unpacked_at}
 
 length-packed_row : (row : List Colour) → length (packed_row row) ≡ packed_len (length row)
 length-packed_row row = ap length (row_bytes row) ∙ length-map-range_with_len (λ k. packed_byte row (8 * k)) 0 (packed_len (length row))
@@ -31,17 +32,8 @@ module _ (places : AreBitsByPlace) (one_byte : AreBitsOfOneByte) where
       → nat_eq (bit_at (packed_byte row from) (7 - r)) 1 ≡ get_or (map is_black row) (from + r) false
   unfolding packed_byte
   bit-packed_byte row from r within in_byte =
-      let eight : length (take 8 (drop from (padded_bits row))) ≡ 8 =
-      length-take-le 8 (drop from (padded_bits row))
-      (omega (
-        arith,
-        length-drop from (padded_bits row),
-        length-append (map is_black row) (replicate 7 false),
-        length-map row is_black,
-        length-replicate 7 false,
-      )) in
       sym (places.of_byte MsbFirst (bits_number (take 8 (drop from (padded_bits row)))) r in_byte)
-      ∙ ap (λ b. get_or b r false) (one_byte.spelled (take 8 (drop from (padded_bits row))) eight)
+      ∙ ap (λ b. get_or b r false) (one_byte.spelled (take 8 (drop from (padded_bits row))) (eight_padded row from within))
       ∙ get_or-take 8 (drop from (padded_bits row)) r false in_byte
       ∙ get_or-drop from (padded_bits row) r false
       ∙ get_or-padded (map is_black row) 7 (from + r)
@@ -99,9 +91,7 @@ module _ (places : AreBitsByPlace) (one_byte : AreBitsOfOneByte) where
 
   length-unpacked_row : (width : ℕ) (bytes : List ℕ) → length bytes ≡ packed_len width → length (unpacked_row width bytes) ≡ width
   unfolding unpacked_row
-  length-unpacked_row width bytes whole =
-      length-take-le width (map colour_of_bit (bits MsbFirst bytes))
-      (omega (arith, length-map (bits MsbFirst bytes) colour_of_bit, places.count MsbFirst bytes))
+  length-unpacked_row width bytes whole = grind (arith, common_steps)
 
   packed_back : IsPackedBack
   packed_back width bytes whole =

@@ -1,14 +1,11 @@
 -- Rows as packed bytes, bit by bit.
-use Rattle.std.proofs.Common.{◌≡◌, ℕ, zero, suc, ◌+◌, ◌*◌, ◌/◌, ◌^◌, ◌<◌, ◌≤◌, List, [], ◌∷◌, ◌++◌, map, length, take, drop, replicate}
+use Rattle.std.proofs.lemmas.Grind.{common_steps}
+use Rattle.std.proofs.Common.{◌≡◌, ℕ, zero, suc, ◌+◌, ◌*◌, ◌/◌, ◌<◌, ◌≤◌, List, [], ◌∷◌, ◌++◌, map, length, take, drop, replicate}
 use Rattle.std.proofs.Common.{get_or}
-use Rattle.std.proofs.Common.{Bool, true, false, if◌then◌else◌, refl, ap, sym, ◌∙◌, arith, inl, inr, length-append, length-drop}
-use Rattle.std.proofs.Common.{get_or-drop, add-one, below_more}
-use mir.Val.{bool_byte}
-use Rattle.std.proofs.lemmas.Bool.{cases_lt}
-use Rattle.std.proofs.Math.Nat.{pow-succ'}
-use Rattle.std.proofs.lemmas.List.{length-replicate, length-map, get_or-map, get_or-take, ext_get_or, length-take-le, drop-drop}
+use Rattle.std.proofs.Common.{Bool, false, refl, ap, sym, ◌∙◌, arith}
+use Rattle.std.proofs.Common.{below_more}
+use Rattle.std.proofs.lemmas.List.{length-map, get_or-map, get_or-take, ext_get_or, length-take-le, drop-drop}
 use Rattle.std.proofs.lemmas.List.FromFn.{fill_by_all}
-use Rattle.std.proofs.lemmas.List.Sums.{fold_more}
 use Rattle.fax_bits.specs.declared.FillOrder.TheVariants.{MsbFirst}
 use Rattle.fax_bits.specs.declared.Colour.{Colour}
 use Rattle.fax_bits.specs.declared.Colour.TheVariants.{White, Black}
@@ -53,13 +50,7 @@ unpacked_none b places is = record {
 -- pels more of the colour
 pub unpacked_run : (b : List Bool) (places : List ℕ) (i j : ℕ) (colour : Colour) → IsUnpackedTo b places i colour → i ≤ j
     → ((k : ℕ) → i ≤ k → k < j → colour_of_bit (get_or b k false) ≡ colour) → IsUnpackedTo b places j colour
-unpacked_run b places i j colour so_far further same = record {
-  before = λ k h. elim (cases_lt k i) [
-    | inl near ↦ so_far.before k near
-    | inr far ↦ so_far.after k far ∙ sym (same k far h)
-  ];
-  after = λ k h. so_far.after k (omega arith);
-}
+unpacked_run b places i j colour so_far further same = grind (arith, common_steps)
 
 -- and one of the other colour, where it turns
 pub unpacked_turned : (b : List Bool) (old new : List ℕ) (i : ℕ) (colour pel : Colour) → IsUnpackedTo b old i colour → pel ≡ other colour
@@ -82,39 +73,8 @@ get_or-padded [] (suc n) (suc i) = get_or-padded [] n i
 get_or-padded (x ∷ b) n zero = refl
 get_or-padded (x ∷ b) n (suc i) = get_or-padded b n i
 
-bit_digit : (bit : Bool) → bool_byte bit ≡ (if bit then 1 else 0)
-bit_digit true = refl
-bit_digit false = refl
-
--- one more bit of a byte
-pub byte_more : (row : List Colour) (from i byte digit : ℕ) (bit : Bool) → from < length row → i < 8
-    → byte ≡ bits_number (take i (drop from (padded_bits row))) → bit ≡ get_or (map is_black row) (from + i) false → digit ≡ bool_byte bit
-    → 2 * byte + digit ≡ bits_number (take (i + 1) (drop from (padded_bits row)))
-byte_more row from i byte digit bit within few byte_is bit_is digit_is =
-    let long : i < length (drop from (padded_bits row)) =
-    omega (
-      arith,
-      length-drop from (padded_bits row),
-      length-append (map is_black row) (replicate 7 false),
-      length-map row is_black,
-      length-replicate 7 false,
-    ) in
-    let here : get_or (drop from (padded_bits row)) i false ≡ bit =
-    get_or-drop from (padded_bits row) i false ∙ get_or-padded (map is_black row) 7 (from + i) ∙ sym bit_is in
-    let digit_of : digit ≡ (if get_or (drop from (padded_bits row)) i false then 1 else 0) =
-    digit_is ∙ bit_digit bit ∙ ap (λ (b : Bool). if b then 1 else 0) (sym here) in
-    let more : bits_number (take (i + 1) (drop from (padded_bits row)))
-    ≡ 2 * bits_number (take i (drop from (padded_bits row))) + (if get_or (drop from (padded_bits row)) i false then 1 else 0) =
-    fold_more (λ number b. 2 * number + (if b then 1 else 0)) 0 (drop from (padded_bits row)) i false long in
-    omega arith
-
-digit-le : (bit : Bool) → bool_byte bit ≤ 1
-digit-le true = omega arith
-digit-le false = omega arith
-
--- and it fits
-pub byte_fits : (byte digit i : ℕ) (bit : Bool) → byte < 2 ^ i → i < 8 → digit ≡ bool_byte bit → 2 * byte + digit < 2 ^ (i + 1)
-byte_fits byte digit i bit fits few digit_is = rw (add-one, pow-succ' 2 i) (omega (arith, digit-le bit))
+pub eight_padded : (row : List Colour) (from : ℕ) → from < length row → length (take 8 (drop from (padded_bits row))) ≡ 8
+eight_padded row from within = grind (arith, common_steps)
 
 -- chunks of eight from a place on, each by its number
 chunks_at : (f : List Bool → ℕ) (n j : ℕ) (b : List Bool)
@@ -138,9 +98,3 @@ pub packed_at : (row : List Colour) (bytes : List ℕ) → length bytes ≡ pack
 packed_at row bytes len each =
     fill_by_all (λ k. packed_byte row (8 * k)) bytes (packed_len (length row)) 0 len (λ k h. each k (omega arith))
     ∙ sym (row_bytes row)
-
--- after the eighth bit
-pub byte_done : (row : List Colour) (from byte : ℕ) → byte ≡ bits_number (take 8 (drop from (padded_bits row)))
-    → byte ≡ packed_byte row from
-unfolding packed_byte
-byte_done row from byte number = number

@@ -1,4 +1,5 @@
 -- A row in one-dimensional coding that is read run by run, and a white run and the black one after it that are read at once.
+use Rattle.std.proofs.lemmas.Grind.{common_steps}
 use Rattle.std.proofs.Common.{◌≡◌, ℕ, ◌+◌, ◌-◌, ◌<◌, ◌≤◌, List, [], ◌∷◌, ◌++◌, take, Bool, ap, sym, ◌∙◌, subst, arith, inl}
 use Rattle.std.specs.Prelude.{◌⊎◌}
 use Rattle.fax_bits.specs.declared.Colour.{Colour}
@@ -85,6 +86,4 @@ pair_read_on {width} {b} {chosen} {total} {colour} {old} {mid} {new} {end} {next
 pub white_read : {width : ℕ} {b : List Bool} {chosen : Type 0} {ahead again : Source} {total : ℕ} {colour : Colour} {places : List ℕ}
     {end : ℕ} → HasRead width b chosen total colour places end ahead.left → colour ≡ White → again ≡ ahead
     → HasRead width b chosen total White places end again.left
-white_read {width} {b} {chosen} {ahead} {again} {total} {colour} {places} {end} read white same =
-    subst (λ (s : Source). HasRead width b chosen total White places end s.left) (sym same)
-    (subst (λ c. HasRead width b chosen total c places end ahead.left) white read)
+white_read {width} {b} {chosen} {ahead} {again} {total} {colour} {places} {end} read white same = grind (arith, common_steps)

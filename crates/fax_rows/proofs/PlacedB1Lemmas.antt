@@ -1,8 +1,9 @@
 -- b1 and b2 by an index into the reference row's places of change.
+use Rattle.std.proofs.lemmas.Grind.{common_steps}
 use Rattle.std.proofs.Common.{◌≡◌, ◌≢◌, ℕ, zero, suc, ◌+◌, ◌-◌, ◌<◌, ◌≤◌, List, length, take, get_or, true, false, not, refl, ap, sym, ◌∙◌}
 use Rattle.std.proofs.Common.{subst, arith, inl, inr}
 use Rattle.std.specs.Prelude.{◌⊎◌, ◌&&◌, Option, Some, None, unwrap_or}
-use Rattle.std.proofs.lemmas.Bool.{cases_lt, ltb-true, lt-ltb, le-ltb, true≢false}
+use Rattle.std.proofs.lemmas.Bool.{and_from, cases_lt, ltb-true, lt-ltb, le-ltb, true≢false}
 use Rattle.std.proofs.Math.Nat.{eq-or-lt_of_le}
 use Rattle.fax_bits.specs.declared.Colour.{Colour}
 use Rattle.fax_bits.specs.declared.Colour.TheVariants.{White, Black}
@@ -11,7 +12,7 @@ use Rattle.fax_rows.specs.Rows.{b2}
 use Rattle.fax_rows.specs.declared.rows.PlacedRow.{PlacedRow}
 use Rattle.fax_rows.specs.code.PlacedRow.{placed_pels, IsBeforeB1, IsB1At}
 use Rattle.fax_rows.specs.code.Turns.{alternate, ArePlacesUpTo, IsFrom}
-use Rattle.fax_rows.proofs.ChangeLemmas.{still_left, both, next_change_is}
+use Rattle.fax_rows.proofs.ChangeLemmas.{still_left, next_change_is}
 use Rattle.fax_rows.proofs.PlaceLemmas.{next_of_at}
 use Rattle.fax_rows.proofs.TurnLemmas.{other-other, length-pels_by, alternate-suc, below_later, not_later, pel_after, changing_at}
 use Rattle.fax_rows.proofs.TurnLemmas.{unchanging}
@@ -188,8 +189,8 @@ module _ (row : PlacedRow) where
           && not (same_colour (pel (placed_pels row) (get_or row.places.now b 0)) colour))) ≡ true
       there h =
           let inside = inside_end b at.some at.within (omega (arith, len)) in
-          both (is_right_of a0 (get_or row.places.now b 0)) _ (at.ahead inside)
-          (both (is_changing (placed_pels row) (get_or row.places.now b 0)) _
+          and_from (is_right_of a0 (get_or row.places.now b 0)) _ (at.ahead inside)
+          (and_from (is_changing (placed_pels row) (get_or row.places.now b 0)) _
           (changing_at row.placed.ascending row.width (get_or row.places.now b 0) b at.some inside refl (omega (arith, len)))
           (other_than (pel (placed_pels row) (get_or row.places.now b 0)) colour
           (pel_after row.placed.ascending row.width (get_or row.places.now b 0) (suc b) (omega (arith, len)) (after inside)
@@ -265,17 +266,7 @@ module _ (row : PlacedRow) where
   -- and ends at b1
   pub search_ends : (place b : ℕ) → place < get_or row.places.now b 0 → (colour : Colour)
       → IsBeforeB1 row place colour b → IsB1At row (Some place) colour b
-  search_ends place b right colour before = record {
-    some = some b right;
-    within = before.within;
-    colour_is = before.colour_is;
-    passed = λ h. le-ltb place (get_or row.places.now (b - 2) 0) (before.passed h);
-    ahead = λ h. lt-ltb place (get_or row.places.now b 0) right;
-  }
-    where
-      some : (n : ℕ) → place < get_or row.places.now n 0 → 0 < n
-      some zero h = absurd (omega (arith, row.placed.ascending.first))
-      some (suc n) h = omega arith
+  search_ends place b right colour before = grind (arith, common_steps)
 
   -- b1 is not left of a0
   pub b1_ahead : (a0 : Option ℕ) {colour : Colour} {b : ℕ} → IsB1At row a0 colour b → unwrap_or a0 0 < row.width

@@ -1,4 +1,5 @@
 -- A row whose colours are exchanged: it begins with one change at 0 more, or with one less.
+use Rattle.std.proofs.lemmas.Grind.{common_steps}
 use Rattle.std.proofs.Common.{◌≡◌, ℕ, zero, suc, ◌+◌, ◌-◌, ◌<◌, ◌≤◌, List, [], ◌∷◌, length, take, drop, get_or, map, Bool, true, false}
 use Rattle.std.proofs.Common.{refl, sym, ap, ◌∙◌, subst, arith, inl, inr}
 use Rattle.std.proofs.Math.Nat.{eq-or-lt_of_le}
@@ -56,15 +57,7 @@ begins_with_0 (p ∷ places) some first = ap (λ q. q ∷ places) first
 module _ (old new : List ℕ) (end width : ℕ) (all : ArePlaces old end width) (black : get_or old 1 0 ≡ 0) (len : length new ≡ length old)
     (each : (k : ℕ) → suc k < length old → get_or new k 0 ≡ get_or old (suc k) 0) where
   pub some_change : 1 < end
-  some_change =
-      elim (eq-or-lt_of_le all.ascending.started) [
-        | inl one ↦
-            let at : end + 0 ≡ 1 = omega arith in
-            let wide : get_or old 1 0 ≡ width = subst (λ m. get_or old m 0 ≡ width) at (all.after 0 (omega arith)) in
-            let some = all.some in
-            absurd (omega arith)
-        | inr more ↦ more
-      ]
+  some_change = grind (arith, common_steps)
 
   pub without_first : ArePlaces new (end - 1) width
   without_first = record {

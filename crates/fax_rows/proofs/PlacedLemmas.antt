@@ -7,7 +7,7 @@ use Rattle.fax_rows.specs.code.ChangesAhead.{bits_from, place_from}
 use Rattle.fax_rows.specs.Coded.{step_bits, two_dimensional_bits}
 use Rattle.fax_rows.proofs.ChangeLemmas.{first_of}
 use Rattle.fax_rows.proofs.ChoiceLemmas.{passed, passed_within, place_ahead}
-use Rattle.fax_rows.proofs.PutLemmas.{put_begins, put_goes_on, put_stops, put_pending, pending_stops}
+use Rattle.fax_rows.proofs.PutLemmas.{put_begins, put_goes_on, put_stops, put_pending}
 use Rattle.fax_rows.proofs.WrittenLemmas.{step_bits-end, step_bits-more}
 
 -- the steps before a0 are put, but for the pending bits, and those that are left are enough to end the row
@@ -32,10 +32,6 @@ module _ (reference row : List Colour) (old mid new : Sink) (a0 : Option ℕ) (p
 
   pub place_ends : Appends mid pending new → Appends old (two_dimensional_bits reference row) new
   place_ends more = put_pending old mid new _ pending _ placed.so_far none more
-
-pub place_ends_early : {reference row : List Colour} {old mid new : Sink} {a0 : Option ℕ} {pending : List Bool}
-    → IsPutToPlace reference row old a0 pending mid → new ≡ mid → AppendsPrefix old (two_dimensional_bits reference row) new
-place_ends_early {old = old} {mid = mid} {new = new} placed same = pending_stops placed.so_far same
 
 -- a step is left inside the row
 record IsStepLeft (reference row : List Colour) (old : Sink) (a0 : Option ℕ) (pending : List Bool) (new : Sink) : Type 0 where

@@ -1,17 +1,17 @@
 -- Places of change that are put one after the other while a row is read.
-use Rattle.std.proofs.Common.{◌≡◌, ℕ, zero, suc, ◌+◌, ◌-◌, ◌<◌, ◌≤◌, ◌^◌, ◌≢◌, List, [], ◌∷◌, ◌++◌, length, take, drop, get_or, Bool, ap}
-use Rattle.std.proofs.Common.{sym, ◌∙◌, subst, arith, inl, inr, get_or-set_other, get_or-set_same}
+use Rattle.std.proofs.lemmas.Grind.{common_steps}
+use Rattle.std.proofs.Common.{◌≡◌, ℕ, ◌+◌, ◌-◌, ◌<◌, ◌≤◌, ◌≢◌, List, [], ◌∷◌, ◌++◌, length, take, drop, get_or, Bool, ap}
+use Rattle.std.proofs.Common.{sym, ◌∙◌, subst, arith, inl, inr}
 use Rattle.std.specs.Prelude.{◌⊎◌}
 use Rattle.std.proofs.Math.ListN.{set}
 use Rattle.std.proofs.Math.Nat.{eq-or-lt_of_le}
-use Rattle.std.proofs.Math.Seq.{take-length}
-use Rattle.std.proofs.lemmas.List.{take-append-le, take_more, take_more_set, take-set-le, length-set, ext_get_or}
+use Rattle.std.proofs.lemmas.List.{take_at, take_more_set, ext_get_or}
 use Rattle.fax_bits.specs.declared.Colour.{Colour}
 use Rattle.fax_bits.specs.declared.Colour.TheVariants.{White, Black}
 use Rattle.fax_bits.specs.Codes.{IsRun}
 use Rattle.fax_rows.specs.Rows.{other, IsOneDimensionalRow}
 use Rattle.fax_rows.specs.code.Put.{ArePut, HasRoom}
-use Rattle.fax_rows.specs.code.Turns.{turned, pels_by, IsAscending, ArePlaces, IsTurnedFrom, TurnsAt}
+use Rattle.fax_rows.specs.code.Turns.{turned, pels_by, IsAscending, IsTurnedFrom, TurnsAt}
 use Rattle.fax_rows.proofs.TurnLemmas.{other-other, length-pels_by, pel-pels_by, turned-push_left, turned-push_right, at_least, below_later}
 use Rattle.fax_rows.proofs.RowLemmas.{IsRowSoFar, row_goes_on}
 
@@ -29,10 +29,7 @@ turned_on places end place room = record {
 -- the last place stands after the others
 last_split : (places : List ℕ) (end place : ℕ) → 0 < end → end ≤ length places → get_or places (end - 1) 0 ≡ place
     → take end places ≡ take (end - 1) places ++ place ∷ []
-last_split places end place some within is =
-    let inside : end - 1 < length places = omega arith in
-    let same : end ≡ end - 1 + 1 = omega arith in
-    ap (λ n. take n places) same ∙ take_more places (end - 1) 0 inside ∙ ap (λ p. take (end - 1) places ++ p ∷ []) is
+last_split places end place some within is = grind (arith, common_steps)
 
 -- the last place that is taken away again
 pub turned_back : (places : List ℕ) (end place : ℕ) → 0 < end → end ≤ length places → get_or places (end - 1) 0 ≡ place
@@ -68,13 +65,7 @@ places_within places end total up last = omega (arith, up.started, at_least up (
 
 -- before the first pel
 pub none_put : {width : ℕ} {places : List ℕ} (total : ℕ) → HasRoom width places → total ≤ width → ArePut width places 1 total
-none_put total room within = record {
-  room = room.len;
-  ascending =
-      record { started = omega arith; within = omega (arith, room.len); first = room.first; steps = λ i h l. absurd (omega arith) };
-  last = omega (arith, room.first);
-  within = within;
-}
+none_put total room within = grind (arith, common_steps)
 
 -- there is room for two places more
 pub more_room : {width : ℕ} {places : List ℕ} {end total : ℕ} → ArePut width places end total → end + 1 < length places
@@ -125,67 +116,6 @@ run_turned {width =
     (λ k h. pel-pels_by width new k (omega arith) ∙ turn.left k (omega arith) ∙ sym (pel-pels_by width old k (omega arith)))
     (λ k h l. pel-pels_by width new k (omega arith) ∙ turn.left k (omega arith) ∙ after k h)
 
--- the width that is put three times after the places
-abbrev pub closed : List ℕ → ℕ → ℕ → List ℕ
-closed places end width = set (set (set places end width) (end + 1) width) (end + 2) width
-
-closed-before : (places : List ℕ) (end width k : ℕ) → k < end → get_or (closed places end width) k 0 ≡ get_or places k 0
-closed-before places end width k h =
-    let first : k ≢ end = omega arith in
-    let second : k ≢ end + 1 = omega arith in
-    let third : k ≢ end + 2 = omega arith in
-    get_or-set_other (set (set places end width) (end + 1) width) (end + 2) k width 0 third
-    ∙ get_or-set_other (set places end width) (end + 1) k width 0 second ∙ get_or-set_other places end k width 0 first
-
-length-closed : (places : List ℕ) (end width : ℕ) → length (closed places end width) ≡ length places
-length-closed places end width =
-    length-set (set (set places end width) (end + 1) width) (end + 2) width
-    ∙ length-set (set places end width) (end + 1) width ∙ length-set places end width
-
-pub are_closed : (places : List ℕ) (end width : ℕ) → 0 < width → width < 2 ^ 16 → length places ≡ width + 4 → end ≤ width + 1
-    → IsAscending places end → ((i : ℕ) → 0 < i → i < end → get_or places i 0 < width) → ArePlaces (closed places end width) end width
-are_closed places end width some short room within up below = record {
-  some = some;
-  short = short;
-  room = length-closed places end width ∙ room;
-  ascending = record {
-    started = up.started;
-    within = omega (arith, length-closed places end width);
-    first = closed-before places end width 0 up.started ∙ up.first;
-    steps = λ i h l.
-        let less = up.steps i h l in
-        omega (arith, closed-before places end width i (omega arith), closed-before places end width (i + 1) l);
-  };
-  below = λ i h l. let less = below i h l in omega (arith, closed-before places end width i l);
-  after = after;
-}
-  where
-    len_two : length (set (set places end width) (end + 1) width) ≡ length places
-    len_two = length-set (set places end width) (end + 1) width ∙ length-set places end width
-
-    after : (i : ℕ) → i < 3 → get_or (closed places end width) (end + i) 0 ≡ width
-    after zero h =
-        let same : end + zero ≡ end = omega arith in
-        let second : end ≢ end + 1 = omega arith in
-        let third : end ≢ end + 2 = omega arith in
-        ap (λ m. get_or (closed places end width) m 0) same
-        ∙ get_or-set_other (set (set places end width) (end + 1) width) (end + 2) end width 0 third
-        ∙ get_or-set_other (set places end width) (end + 1) end width 0 second
-        ∙ get_or-set_same places end width 0 (omega arith)
-    after (suc zero) h =
-        let third : end + 1 ≢ end + 2 = omega arith in
-        get_or-set_other (set (set places end width) (end + 1) width) (end + 2) (end + 1) width 0 third
-        ∙ get_or-set_same (set places end width) (end + 1) width 0 (omega (arith, length-set places end width))
-    after (suc (suc zero)) h =
-        get_or-set_same (set (set places end width) (end + 1) width) (end + 2) width 0 (omega (arith, len_two))
-    after (suc (suc (suc i))) h = absurd (omega arith)
-
-pub pels_closed : (places : List ℕ) (end width : ℕ) → pels_by width (take end (closed places end width)) ≡ pels_by width (take end places)
-pels_closed places end width =
-    ap (λ ps. pels_by width ps)
-    (take-set-le end (set (set places end width) (end + 1) width) (end + 2) width (omega arith)
-    ∙ take-set-le end (set places end width) (end + 1) width (omega arith) ∙ take-set-le end places end width (omega arith))
-
 -- a row that is shown otherwise
 pub one_dimensional_as : {width wide : ℕ} {b : List Bool} {row shown : List Colour} {rest : List Bool}
     → IsOneDimensionalRow width b row rest → width ≡ wide → shown ≡ row → IsOneDimensionalRow wide b shown rest
@@ -194,6 +124,4 @@ one_dimensional_as {width = width} {b = b} {shown = shown} {rest = rest} is same
 
 -- elements that are all written over
 pub refilled : (len : ℕ) (new old : List ℕ) → length new ≡ len → take len (new ++ drop (length new) old) ≡ new
-refilled len new old same =
-    ap (λ n. take n (new ++ drop (length new) old)) (sym same) ∙ take-append-le (length new) new (drop (length new) old) (omega arith)
-    ∙ take-length new
+refilled len new old same = take_at new (drop (length new) old) len same

@@ -3,7 +3,7 @@ use Rattle.std.proofs.Common.{◌≡◌, ℕ, zero, suc, ◌+◌, ◌-◌, ◌<�
 use Rattle.std.proofs.Common.{false, refl, ap, sym, ◌∙◌, subst, arith, inl, inr, drop-cons}
 use Rattle.std.specs.Prelude.{◌⊎◌, Option, Some, None}
 use Rattle.std.specs.List.{filter, range_with_len}
-use Rattle.std.proofs.lemmas.Bool.{cases_lt, ltb-true, lt-ltb, le-leb}
+use Rattle.std.proofs.lemmas.Bool.{and_from, cases_lt, ltb-true, lt-ltb, le-leb}
 use Rattle.std.proofs.Math.Nat.{eq-or-lt_of_le}
 use Rattle.std.proofs.Math.ListN.{set}
 use Rattle.std.proofs.Math.Seq.{take-nil}
@@ -12,7 +12,7 @@ use Rattle.fax_bits.specs.declared.Colour.{Colour}
 use Rattle.fax_bits.specs.declared.Colour.TheVariants.{White, Black}
 use Rattle.fax_rows.specs.Rows.{pel, is_changing, is_right_of, next_change}
 use Rattle.fax_rows.specs.code.Turns.{turned, pels_by, alternate, ArePlaces, ArePlacesUpTo, IsFrom}
-use Rattle.fax_rows.proofs.ChangeLemmas.{still_left, both}
+use Rattle.fax_rows.proofs.ChangeLemmas.{still_left}
 use Rattle.fax_rows.proofs.PlaceLemmas.{next_change_at}
 use Rattle.fax_rows.proofs.TurnLemmas.{length-pels_by, pel-pels_by, at_least, below_later, pel_after}
 use Rattle.fax_rows.proofs.TurnLemmas.{changing_at, unchanging}
@@ -116,7 +116,7 @@ module _ {places : List ℕ} {end width : ℕ} (all : ArePlaces places end width
     place = next_change_at (pels_by width (take end places)) from (get_or places k 0) (omega (arith, len, within))
         (λ i h. still_left (is_right_of from i) (is_changing (pels_by width (take end places)) i)
         (none_between from k at i h (omega (arith, within))))
-        (λ h. both (is_right_of from (get_or places k 0)) (is_changing (pels_by width (take end places)) (get_or places k 0)) (right h)
+        (λ h. and_from (is_right_of from (get_or places k 0)) (is_changing (pels_by width (take end places)) (get_or places k 0)) (right h)
         (changing_at all.ascending width (get_or places k 0) k bounds.0 (less h) refl (omega (arith, len))));
     within = omega (arith, len, within);
     right = right;
@@ -226,33 +226,3 @@ module _ {places : List ℕ} {end width : ℕ} (all : ArePlaces places end width
       → pel row i ≡ alternate Black k
   pel_here is i k inside at =
       subst (λ r. pel r i ≡ alternate Black k) is (pel_after all.ascending width i k (omega (arith, width_is is)) at)
-
--- the same places elsewhere
-module _ (places other : List ℕ) (end width : ℕ) (all : ArePlaces other end width) (room : length places ≡ width + 4)
-    (same : (i : ℕ) → i < end + 3 → get_or places i 0 ≡ get_or other i 0) where
-  pub same_places : ArePlaces places end width
-  same_places = record {
-    some = all.some;
-    short = all.short;
-    room = room;
-    ascending = record {
-      started = all.ascending.started;
-      within = omega (arith, room, end_within all);
-      first = same 0 (omega arith) ∙ all.ascending.first;
-      steps = λ i h l. omega (arith, same i (omega arith), same (i + 1) (omega arith), all.ascending.steps i h l);
-    };
-    below = λ i h l. omega (arith, same i (omega arith), all.below i h l);
-    after = λ i h. same (end + i) (omega arith) ∙ all.after i h;
-  }
-
-  pub same_pels : pels_by width (take end places) ≡ pels_by width (take end other)
-  same_pels =
-      ap (pels_by width)
-      (ext_get_or 0 (take end places) (take end other) (long places (omega (arith, room, end_within all))
-      ∙ sym (long other all.ascending.within))
-      (λ k h.
-      let inside : k < end = omega (arith, long places (omega (arith, room, end_within all))) in
-      get_or-take end places k 0 inside ∙ same k (omega arith) ∙ sym (get_or-take end other k 0 inside)))
-    where
-      long : (xs : List ℕ) → end ≤ length xs → length (take end xs) ≡ end
-      long xs within = length-take-le end xs within

@@ -1,8 +1,9 @@
 -- Steps of two-dimensional coding over places of change.
+use Rattle.std.proofs.lemmas.Grind.{common_steps}
 use Rattle.std.proofs.Common.{◌≡◌, ℕ, ◌+◌, ◌-◌, ℤ, negsuc, ◌+ℤ◌, ◌≤ℤ◌, ◌<◌, ◌≤◌, List, [], ◌++◌, length, take, get_or, replicate, Bool}
 use Rattle.std.proofs.Common.{true, refl, ap, sym, ◌∙◌, subst, arith, pos, inl, inr}
 use Rattle.std.specs.Prelude.{Option, Some, None, unwrap_or, ◌<ℤ◌, nat_abs}
-use Rattle.std.proofs.lemmas.Bool.{lt-ltb, ltb-true}
+use Rattle.std.proofs.lemmas.Bool.{ltb-true}
 use Rattle.std.proofs.lemmas.Int.{ints}
 use Rattle.fax_bits.specs.declared.Colour.{Colour}
 use Rattle.fax_bits.specs.declared.Colour.TheVariants.{White, Black}
@@ -20,10 +21,9 @@ use Rattle.fax_rows.specs.code.Turns.{turned, pels_by, IsTurnedFrom, TurnsAt}
 use Rattle.fax_rows.specs.code.PlacedReached.{placed_position, IsReadTo, IsReadInside}
 use Rattle.fax_rows.specs.code.Chosen.{after_pair, GoesOn}
 use Rattle.fax_bits.specs.Codes.{IsRun}
-use Rattle.fax_rows.proofs.StepLemmas.{unfinished_below, abs-same, vertical_step}
-use Rattle.std.proofs.Math.Seq.{take-length}
+use Rattle.fax_rows.proofs.StepLemmas.{abs-same, vertical_step}
 use Rattle.fax_rows.proofs.PaintLemmas.{painted_front}
-use Rattle.fax_rows.proofs.TurnLemmas.{other-other, length-pels_by, pel-pels_by}
+use Rattle.fax_rows.proofs.TurnLemmas.{length-pels_by, pel-pels_by}
 use Rattle.fax_rows.proofs.PlacedRowLemmas.{end_within, take-first, turned-first}
 use Rattle.fax_rows.proofs.PlacedReadLemmas.{more_room, none_put}
 use Rattle.fax_rows.proofs.PlacedB1Lemmas.{b1_is, b1_within, b1_at_most, b1_ahead, b2_ahead, b2_at_most, b2_is, b1_passed}
@@ -51,11 +51,7 @@ coloured width old new at to order within same after =
 
 -- a0 is no less than just before the first pel
 pub from_start : (at : Reached) → negsuc 0 ≤ℤ a0_number (position_of at [])
-from_start at = by at.a0
-  where
-    by : (a0 : Option ℕ) → negsuc 0 ≤ℤ a0_number (record { a0 = a0; colour = at.colour; pels = [] })
-    by None = omega (arith, ints)
-    by (Some a) = omega (arith, ints)
+from_start at = grind (arith, common_steps)
 
 -- a0's number, just before the first pel and in the row
 pub number_at_start : (at : Reached) → at.a0 ≡ None → negsuc 0 ≡ a0_number (position_of at [])
@@ -74,11 +70,7 @@ number_inside at place is = by at.a0 is
 
 -- a place right of a0's number is right of a0
 pub number_right : (at : Reached) (a1 : ℕ) → a0_number (position_of at []) <ℤ pos a1 → is_right_of at.a0 a1 ≡ true
-number_right at a1 h = by at.a0 h
-  where
-    by : (a0 : Option ℕ) → a0_number (record { a0 = a0; colour = at.colour; pels = [] }) <ℤ pos a1 → is_right_of a0 a1 ≡ true
-    by None l = refl
-    by (Some a) l = lt-ltb a a1 (omega (arith, ints))
+number_right at a1 h = grind (arith, common_steps)
 
 pub right_after_first : (a0 : Option ℕ) (a1 : ℕ) → is_right_of a0 a1 ≡ true → unwrap_or a0 0 ≤ a1
 right_after_first None a1 h = omega arith
@@ -135,15 +127,7 @@ module _ {reference : PlacedRow} {places : List ℕ} {at : PlacedReached} (here 
       → TurnsAt places new at.end next_end a1
       → (a1 < reference.width → IsB1At reference (Some a1) (other at.reached.colour) next_b1) → colour ≡ other at.reached.colour
       → IsReadTo reference new (record { reached = record { a0 = Some a1; colour = colour }; end = next_end; b1 = next_b1 })
-  turned_so_far {new} {next_end} {a1} {next_b1} order within turns b1 is = record {
-    room = turns.same_len ∙ here.so_far.room;
-    within = within;
-    started = λ h. cc;
-    ascending = turns.ascending;
-    last = turns.last;
-    after = λ i h. turns.turned.right i h ∙ ap other (here.so_far.after i (omega arith)) ∙ sym is;
-    b1 = λ h. subst (λ c. IsB1At reference (Some a1) c next_b1) (sym is) (b1 h);
-  }
+  turned_so_far {new} {next_end} {a1} {next_b1} order within turns b1 is = grind (arith, common_steps)
 
   -- and up to it the pels have a0's colour
   pub turned_position : (new : List ℕ) (next_end a1 : ℕ) → reached_pel at.reached ≤ a1 → a1 ≤ reference.width
@@ -305,17 +289,7 @@ module _ {reference : PlacedRow} {places : List ℕ} {at : PlacedReached} (here 
         b1 =
             next_b1;
       })
-  horizontal_so_far first second within turns again b1 = record {
-    room = again.same_len ∙ turns.same_len ∙ here.so_far.room;
-    within = within;
-    started = λ h. cc;
-    ascending = again.ascending;
-    last = again.last;
-    after = λ i h.
-        again.turned.right i h ∙ ap other (turns.turned.right i (omega arith) ∙ ap other (here.so_far.after i (omega arith)))
-        ∙ other-other at.reached.colour;
-    b1 = b1;
-  }
+  horizontal_so_far first second within turns again b1 = grind (arith, common_steps)
 
 -- before the first pel
 pub nothing_read : {reference : PlacedRow} {places : List ℕ} → HasRoom reference.width places
@@ -341,17 +315,7 @@ pub steps_done : (reference : List Colour) (b : List Bool) (at : Reached) (row :
     → GoesOn reference beginning b (position_of at row) rest → 0 < width → reached_pel at ≡ width → length row ≡ width
     → length reference ≡ width
     → IsTwoDimensionalRow reference b row rest
-steps_done reference b at row rest width so_far some done len same = record {
-  positions = so_far.positions;
-  last = position_of at row;
-  steps = so_far.steps;
-  ends = by at.a0 done;
-  pels = sym (ap (λ n. take n row) (done ∙ sym len) ∙ take-length row);
-}
-  where
-    by : (a0 : Option ℕ) → unwrap_or a0 0 ≡ width → a0 ≡ Some (length reference)
-    by None h = absurd (omega arith)
-    by (Some a) h = ap Some (h ∙ sym same)
+steps_done reference b at row rest width so_far some done len same = grind (arith, common_steps)
 
 -- a row that is shown otherwise
 pub two_dimensional_as : {reference shown_reference : List Colour} {b : List Bool} {row shown : List Colour} {rest : List Bool}
@@ -364,11 +328,4 @@ two_dimensional_as {reference = reference} {b = b} {shown = shown} {rest = rest}
 pub fault_here : (reference : List Colour) (b : List Bool) (at : Reached) (row : List Colour) (mid : List Bool)
     → GoesOn reference beginning b (position_of at row) mid → reached_pel at < length reference
     → (fault : RowFault) → IsStepFault reference (position_of at row) mid fault → IsTwoDimensionalFault reference b fault
-fault_here reference b at row mid so_far less fault step = record {
-  positions = so_far.positions;
-  last = position_of at row;
-  left = mid;
-  steps = so_far.steps;
-  unfinished = unfinished_below reference at.a0 less;
-  at_step = step;
-}
+fault_here reference b at row mid so_far less fault step = grind (arith, common_steps)

@@ -1,7 +1,8 @@
 -- Bits that are put part by part.
-use Rattle.std.proofs.Common.{◌≡◌, ℕ, List, [], ◌∷◌, ◌++◌, Bool, refl, ap, sym, ◌∙◌, append_assoc}
+use Rattle.std.proofs.Common.{arith}
+use Rattle.std.proofs.lemmas.Grind.{common_steps}
+use Rattle.std.proofs.Common.{◌≡◌, ℕ, List, [], ◌∷◌, ◌++◌, Bool, ap, sym, ◌∙◌, append_assoc}
 use Rattle.std.specs.Prelude.{Result, Ok, Err, OnErr}
-use Rattle.std.proofs.lemmas.List.{append-nil}
 use Rattle.fax_bits.specs.declared.Colour.{Colour}
 use Rattle.fax_bits.specs.declared.Colour.TheVariants.{White, Black}
 use Rattle.fax_bits.specs.Written.{run_bits}
@@ -12,16 +13,10 @@ use Rattle.fax_rows.specs.Rows.{other}
 -- bits that are put after others
 appends_two : (old mid new : Sink) (first second : List Bool) → Appends old first mid → Appends mid second new
     → Appends old (first ++ second) new
-appends_two old mid new first second before after =
-    let bits = append_assoc old.bits first second in
-    cc
+appends_two old mid new first second before after = grind (arith, common_steps)
 
 pub put_begins : (sink : Sink) (all : List Bool) → AppendsAllBut sink all all sink
-put_begins sink all = record {
-  done = [];
-  appended = ap (λ b. record { order = sink.order; bits = b }) (sym (append-nil sink.bits));
-  parts = refl;
-}
+put_begins sink all = grind (arith, common_steps)
 
 -- bits are put in two parts, some of them pending before, between and after
 module _ (old mid new : Sink) (front first second pending : List Bool) (one : AppendsAllBut old (front ++ first) pending mid) where
@@ -30,58 +25,27 @@ module _ (old mid new : Sink) (front first second pending : List Bool) (one : Ap
 
   pub pair_put : (left : List Bool) → AppendsAllBut mid (pending ++ second) left new
       → AppendsAllBut old (front ++ (first ++ second)) left new
-  pair_put left two = record {
-    done = one.done ++ two.done;
-    appended = appends_two old mid new one.done two.done one.appended two.appended;
-    parts = parts_are ∙ ap (λ b. one.done ++ b) two.parts ∙ sym (append_assoc one.done two.done left);
-  }
+  pair_put left two = grind (arith, common_steps)
 
   -- and where a growth was refused, the first of them
   pub pair_stops : AppendsPrefix mid (pending ++ second) new → AppendsPrefix old (front ++ (first ++ second)) new
-  pair_stops two = record {
-    done = one.done ++ two.done;
-    missing = two.missing;
-    appended = appends_two old mid new one.done two.done one.appended two.appended;
-    parts = parts_are ∙ ap (λ b. one.done ++ b) two.parts ∙ sym (append_assoc one.done two.done two.missing);
-  }
+  pair_stops two = grind (arith, common_steps)
 
 -- some of the missing bits are pending, and more are put after them: the first of the others
 pub put_goes_on : (old mid new : Sink) (all pending left first missing pending' : List Bool)
     → AppendsAllBut old all (pending ++ left) mid → left ≡ first ++ missing → AppendsAllBut mid (pending ++ first) pending' new
     → AppendsAllBut old all (pending' ++ missing) new
-put_goes_on old mid new all pending left first missing pending' so_far is more = record {
-  done = so_far.done ++ more.done;
-  appended = appends_two old mid new so_far.done more.done so_far.appended more.appended;
-  parts =
-      so_far.parts
-      ∙ ap (λ b. so_far.done ++ b)
-      (ap (λ b. pending ++ b) is ∙ sym (append_assoc pending first missing) ∙ ap (λ b. b ++ missing) more.parts
-      ∙ append_assoc more.done pending' missing)
-      ∙ sym (append_assoc so_far.done more.done (pending' ++ missing));
-}
+put_goes_on old mid new all pending left first missing pending' so_far is more = grind (arith, common_steps)
 
 -- where a growth was refused, the first bits are put
 pub put_stops : (old mid new : Sink) (all pending left first missing : List Bool) → AppendsAllBut old all (pending ++ left) mid
     → left ≡ first ++ missing → AppendsPrefix mid (pending ++ first) new → AppendsPrefix old all new
-put_stops old mid new all pending left first missing so_far is more = record {
-  done = so_far.done ++ more.done;
-  missing = more.missing ++ missing;
-  appended = appends_two old mid new so_far.done more.done so_far.appended more.appended;
-  parts =
-      so_far.parts
-      ∙ ap (λ b. so_far.done ++ b)
-      (ap (λ b. pending ++ b) is ∙ sym (append_assoc pending first missing) ∙ ap (λ b. b ++ missing) more.parts
-      ∙ append_assoc more.done more.missing missing)
-      ∙ sym (append_assoc so_far.done more.done (more.missing ++ missing));
-}
+put_stops old mid new all pending left first missing so_far is more = grind (arith, common_steps)
 
 -- none but the pending bits are missing, and they are put too
 pub put_pending : (old mid new : Sink) (all pending left : List Bool) → AppendsAllBut old all (pending ++ left) mid → left ≡ []
     → Appends mid pending new → Appends old all new
-put_pending old mid new all pending left so_far none more =
-    let parts = so_far.parts ∙ ap (λ b. so_far.done ++ (pending ++ b)) none ∙ ap (λ b. so_far.done ++ b) (append-nil pending) in
-    let appended = appends_two old mid new so_far.done pending so_far.appended more in
-    cc
+put_pending old mid new all pending left so_far none more = grind (arith, common_steps)
 
 -- and where a growth was refused for them
 pub pending_stops : {old mid new : Sink} {all left : List Bool} → AppendsAllBut old all left mid → new ≡ mid → AppendsPrefix old all new

@@ -1,9 +1,10 @@
 -- The places of the changes of a word, put together.
+use Rattle.std.proofs.lemmas.Grind.{common_steps}
 use Rattle.std.proofs.Common.{◌≡◌, ℕ, zero, suc, ◌+◌, ◌-◌, ◌^◌, ◌<◌, ◌≤◌, List, [], ◌∷◌, ◌++◌, length, take, get_or}
 use Rattle.std.proofs.Common.{if◌then◌else◌, Bool, true, false, nat_eq, refl, ap, sym, ◌∙◌, subst, arith, inl, inr}
 use Rattle.std.specs.Int.{bit_at}
 use Rattle.std.proofs.lemmas.Bool.{cases_lt}
-use Rattle.std.proofs.lemmas.List.{append-nil, append_assoc, get_or-take, get_or_append_left, length-append, length-take-le}
+use Rattle.std.proofs.lemmas.List.{append-nil, append_assoc, get_or-take, get_or_push, get_or_append_left, length-append, length-take-le}
 use Rattle.fax_bits.specs.declared.Colour.TheVariants.{Black}
 use Rattle.fax_rows.specs.Rows.{other}
 use Rattle.fax_rows.specs.Coded.{colour_of_bit}
@@ -21,10 +22,6 @@ pub record HasPut (old places : List ℕ) (from before word r : ℕ) : Type 0 wh
   pub ascending : IsAscending places (length places)
   pub last : 1 < length places → get_or places (length places - 1) 0 < from + r
 
-last_is : (places : List ℕ) (place : ℕ) → get_or (places ++ place ∷ []) (length places) 0 ≡ place
-last_is [] place = refl
-last_is (x ∷ xs) place = last_is xs place
-
 -- a place after the last one goes on ascending
 ascending_on : (places : List ℕ) (place : ℕ) → IsAscending places (length places)
     → (1 < length places → get_or places (length places - 1) 0 < place)
@@ -41,7 +38,7 @@ ascending_on places place up right = record {
         let end : i + 1 ≡ length places = omega (arith, len) in
         let before : length places - 1 ≡ i = omega arith in
         let there : get_or (places ++ place ∷ []) (i + 1) 0 ≡ place =
-        ap (λ n. get_or (places ++ place ∷ []) n 0) end ∙ last_is places place in
+        ap (λ n. get_or (places ++ place ∷ []) n 0) end ∙ get_or_push places place 0 (length places) refl in
         rw (get_or_append_left places (place ∷ []) 0 i (omega arith), there)
         (subst (λ n. get_or places n 0 < place) before (right (omega arith)))
   ];
@@ -80,7 +77,7 @@ pel_put true old places from before word r is put = record {
   ascending = ascending_on places (from + r) put.ascending put.last;
   last = λ h.
       let end : length (places ++ (from + r) ∷ []) - 1 ≡ length places = omega (arith, length-append places ((from + r) ∷ [])) in
-      let place = ap (λ n. get_or (places ++ (from + r) ∷ []) n 0) end ∙ last_is places (from + r) in
+      let place = ap (λ n. get_or (places ++ (from + r) ∷ []) n 0) end ∙ get_or_push places (from + r) 0 (length places) refl in
       omega (arith, place);
 }
   where
@@ -103,33 +100,13 @@ pels_put old from before word (suc r) fits within put =
 
 -- what ascends does so in the list that is cut at its end, and back
 ascending_in : (places : List ℕ) (end : ℕ) → IsAscending places end → IsAscending (take end places) (length (take end places))
-ascending_in places end up = record {
-  started = omega (arith, len, up.started);
-  within = omega arith;
-  first = get_or-take end places 0 0 up.started ∙ up.first;
-  steps = λ i some h. rw (get_or-take end places i 0 (omega (arith, len)), get_or-take end places (i + 1) 0 (omega (arith, len)))
-      (up.steps i some (omega (arith, len)));
-}
-  where
-    len : length (take end places) ≡ end
-    len = length-take-le end places up.within
+ascending_in places end up = grind (arith, common_steps)
 
 -- the places of a row before a word
 none_put : (places : List ℕ) (end from before word : ℕ) → IsAscending places end → (1 < end → get_or places (end - 1) 0 < from)
     → ((k : ℕ) → from ≤ k → turned Black (take end places) k ≡ colour_of_bit (word_bit before 63))
     → HasPut (take end places) (take end places) from before word 0
-none_put places end from before word up left colour = record {
-  kept = λ k h. refl;
-  done = λ i h. absurd (omega arith);
-  after = λ k h. colour k (omega arith);
-  ascending = ascending_in places end up;
-  last = λ h.
-      let len = length-take-le end places up.within in
-      let more : 1 < end = omega (arith, len) in
-      let place : get_or (take end places) (length (take end places) - 1) 0 ≡ get_or places (end - 1) 0 =
-      ap (λ n. get_or (take end places) (n - 1) 0) len ∙ get_or-take end places (end - 1) 0 (omega arith) in
-      omega (arith, place, left more);
-}
+none_put places end from before word up left colour = grind (arith, common_steps)
 
 -- the changes of a word are put
 pub record IsWordPut (old new : List ℕ) (end next from before word : ℕ) : Type 0 where

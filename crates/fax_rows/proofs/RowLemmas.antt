@@ -1,12 +1,12 @@
 -- A row in one-dimensional coding, run by run.
-use Rattle.std.proofs.Common.{◌≡◌, ℕ, zero, suc, ◌+◌, ◌-◌, ◌<◌, ◌≤◌, List, [], ◌∷◌, ◌++◌, length, take, get_or, replicate, Bool, refl, ap}
-use Rattle.std.proofs.Common.{sym, ◌∙◌, subst, arith, append_assoc, length-append, inl, inr}
+use Rattle.std.proofs.lemmas.Grind.{common_steps}
+use Rattle.std.proofs.Common.{◌≡◌, ℕ, ◌+◌, ◌-◌, ◌<◌, ◌≤◌, List, [], ◌∷◌, ◌++◌, length, take, get_or, replicate, Bool, refl, ap}
+use Rattle.std.proofs.Common.{sym, ◌∙◌, subst, arith, append_assoc, inl, inr}
 use Rattle.std.specs.Prelude.{sum, ◌⊎◌}
 use Rattle.std.proofs.lemmas.Bool.{cases_lt}
-use Rattle.std.proofs.Math.Nat.{eq-or-lt_of_le}
 use Rattle.std.proofs.Math.ListN.{get_or-append}
-use Rattle.std.proofs.Math.Seq.{get_or-append_right, take-length}
-use Rattle.std.proofs.lemmas.List.{append-nil, get_or-replicate, take-append-le}
+use Rattle.std.proofs.Math.Seq.{get_or-append_right}
+use Rattle.std.proofs.lemmas.List.{append-nil, ext_get_or, get_or-replicate}
 use Rattle.fax_bits.specs.declared.Colour.{Colour}
 use Rattle.fax_bits.specs.declared.Colour.TheVariants.{White}
 use Rattle.fax_bits.specs.Codes.{IsRun}
@@ -32,15 +32,6 @@ pels_of-push c (m ∷ runs) n =
     ap (λ ys. replicate m c ++ ys) (pels_of-push (other c) runs n)
     ∙ sym (append_assoc (replicate m c) (pels_of (other c) runs) (replicate n (colour_after_runs (other c) runs)))
 
-same_pels : (xs ys : List Colour) → length xs ≡ length ys → ((k : ℕ) → k < length xs → get_or xs k White ≡ get_or ys k White) → xs ≡ ys
-same_pels [] [] len each = refl
-same_pels [] (y ∷ ys) len each = absurd (omega arith)
-same_pels (x ∷ xs) [] len each = absurd (omega arith)
-same_pels (x ∷ xs) (y ∷ ys) len each =
-    let first : x ≡ y = each zero (omega arith) in
-    let more = same_pels xs ys (omega arith) (λ k h. each (suc k) (omega arith)) in
-    cc
-
 -- runs of a row so far
 pub record IsRowSoFar (width : ℕ) (b : List Bool) (total : ℕ) (colour : Colour) (row : List Colour) (rest : List Bool) : Type 0 where
   pub runs : List ℕ
@@ -51,27 +42,11 @@ pub record IsRowSoFar (width : ℕ) (b : List Bool) (total : ℕ) (colour : Colo
   pub below : (k : ℕ) → k < length runs → sum (take k runs) < width
 
 pub row_begins : (width : ℕ) (b : List Bool) (row : List Colour) → IsRowSoFar width b 0 White row b
-row_begins width b row = record {
-  runs = [];
-  coded = refl;
-  sum_is = refl;
-  colour_is = refl;
-  pels = λ k h. absurd (omega arith);
-  below = λ k h. absurd (omega arith);
-}
+row_begins width b row = grind (arith, common_steps)
 
 below_push : (width : ℕ) (runs : List ℕ) (n : ℕ) → ((k : ℕ) → k < length runs → sum (take k runs) < width) → sum runs < width
     → (k : ℕ) → k < length (runs ++ n ∷ []) → sum (take k (runs ++ n ∷ [])) < width
-below_push width runs n below all k h =
-    let within : k ≤ length runs = omega (arith, length-append runs (n ∷ [])) in
-    rw (take-append-le k runs (n ∷ []) within) (at_most k within)
-  where
-    by : (k : ℕ) → (k ≡ length runs) ⊎ (k < length runs) → sum (take k runs) < width
-    by k (inl same) = rw same (rw (take-length runs) all)
-    by k (inr less) = below k less
-
-    at_most : (k : ℕ) → k ≤ length runs → sum (take k runs) < width
-    at_most k within = by k (eq-or-lt_of_le within)
+below_push width runs n below all k h = grind (arith, common_steps)
 
 pub row_goes_on : (width : ℕ) (b : List Bool) (total n : ℕ) (colour : Colour) (old new : List Colour) (mid rest : List Bool)
     → IsRowSoFar width b total colour old mid → total < width → IsRun colour mid n rest
@@ -111,7 +86,7 @@ row_done {width = width} {b = b} {row = row} {rest = rest} so_far done len = rec
   runs = so_far.runs;
   coded = runs_from width White 0 b so_far.runs rest so_far.coded (omega (arith, so_far.sum_is, done))
       (λ k h. omega (arith, so_far.below k h));
-  pels = same_pels row (pels_of White so_far.runs)
+  pels = ext_get_or White row (pels_of White so_far.runs)
       (len ∙ sym done ∙ so_far.sum_is ∙ sym (length-pels_of White so_far.runs))
       (λ k h. so_far.pels k (omega arith));
 }

@@ -1,8 +1,9 @@
 -- The longest runs of a row, pel by pel.
+use Rattle.std.proofs.lemmas.Grind.{common_steps}
 use Rattle.std.proofs.Common.{◌≡◌, ◌≢◌, ℕ, zero, suc, ◌+◌, ◌-◌, ◌<◌, ◌≤◌, List, [], ◌∷◌, ◌++◌, length, take, drop, get_or, Bool, true}
 use Rattle.std.proofs.Common.{false, not, refl, ap, sym, ◌∙◌, subst, arith, inl, inr, drop-cons, get_or-drop, length-drop}
 use Rattle.std.proofs.Math.Numerals.{suc-eq-add-one}
-use Rattle.std.proofs.lemmas.List.{take_more, drop_all, get_or-take, length-take-le}
+use Rattle.std.proofs.lemmas.List.{take_more, drop_all, length-take-le}
 use Rattle.fax_bits.specs.declared.Colour.{Colour}
 use Rattle.fax_bits.specs.declared.Colour.TheVariants.{White, Black}
 use Rattle.std.specs.List.{filter, range_with_len}
@@ -130,9 +131,7 @@ length-gaps from (next ∷ ends) = omega (arith, length-gaps next ends)
 ascend_on : (next : ℕ) (changes : List ℕ)
     → ((i : ℕ) → i + 1 < length (next ∷ changes) → get_or (next ∷ changes) i 0 ≤ get_or (next ∷ changes) (i + 1) 0)
     → (i : ℕ) → i < length changes → get_or (next ∷ changes) i 0 ≤ get_or changes i 0
-ascend_on next changes up i h =
-    let same : i + 1 ≡ suc i = omega arith in
-    subst (λ k. get_or (next ∷ changes) i 0 ≤ get_or (next ∷ changes) k 0) same (up i (omega arith))
+ascend_on next changes up i h = grind (arith, common_steps)
 
 below_all : (next : ℕ) (changes : List ℕ) → ((i : ℕ) → i < length changes → get_or (next ∷ changes) i 0 ≤ get_or changes i 0)
     → (i : ℕ) → i < length changes → next ≤ get_or changes i 0
@@ -161,9 +160,7 @@ module _ {places : List ℕ} {end width : ℕ} (all : ArePlaces places end width
   few_ends = length-take-le end (drop 1 places) (omega (arith, length-drop 1 places, all.room, end_within all))
 
   end_at : (i j : ℕ) → i + 1 ≡ j → i < end → get_or (take end (drop 1 places)) i 0 ≡ get_or places j 0
-  end_at i j at within =
-      let next : 1 + i ≡ j = omega arith in
-      get_or-take end (drop 1 places) i 0 within ∙ get_or-drop 1 places i 0 ∙ ap (λ k. get_or places k 0) next
+  end_at i j at within = grind (arith, common_steps)
 
   pub ahead_of_row : AreAheadOf 0 (take end (drop 1 places))
   ahead_of_row = record {

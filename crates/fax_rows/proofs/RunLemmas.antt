@@ -1,7 +1,6 @@
 -- Runs, code by code.
-use Rattle.std.proofs.Common.{◌≡◌, ℕ, ◌+◌, ◌-◌, List, [], ◌∷◌, ◌++◌, map, length, drop, Bool, refl, ap, sym, ◌∙◌, subst, arith}
-use Rattle.std.proofs.Common.{append_assoc, length-append}
-use Rattle.std.proofs.Math.Seq.{drop-append_seam}
+use Rattle.std.proofs.Common.{◌≡◌, ℕ, ◌+◌, ◌-◌, List, [], ◌∷◌, ◌++◌, map, drop, Bool, refl, ap, sym, ◌∙◌, subst, arith}
+use Rattle.std.proofs.Common.{append_assoc}
 use Rattle.fax_bits.specs.views.Source.{Source, KeepsEnd}
 use Rattle.std.specs.Prelude.{sum}
 use Rattle.std.proofs.lemmas.Grind.{common_steps}
@@ -55,12 +54,7 @@ spells_after table b (m ∷ ms) rest spelled =
 -- the bits from a place on, where others end at the same place
 pub from_there : (old new : Source) (front : List Bool) → old.left ≡ front ++ new.left → KeepsEnd old new
     → record { left = drop (new.place - old.place) old.left; place = new.place } ≡ new
-from_there old new front parts same_end =
-    let len = ap length parts in
-    let n : new.place - old.place ≡ length front = omega (arith, len, length-append front new.left, same_end) in
-    let left : drop (new.place - old.place) old.left ≡ new.left =
-    ap (λ k. drop k old.left) n ∙ ap (drop (length front)) parts ∙ drop-append_seam front new.left in
-    ap (λ l. record { left = l; place = new.place }) left
+from_there old new front parts same_end = grind (arith, common_steps)
 
 pub run_after : {colour : Colour} {b : List Bool} {n : ℕ} {rest : List Bool} → IsRun colour b n rest
     → (front : List Bool) × (b ≡ front ++ rest)

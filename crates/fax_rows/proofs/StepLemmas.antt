@@ -1,4 +1,5 @@
 -- A row in two-dimensional coding, step by step.
+use Rattle.std.proofs.lemmas.Grind.{common_steps}
 use Rattle.std.proofs.Common.{◌≡◌, ℕ, ◌<◌, List, length, Option, Some, None, pos, negsuc, ◌+ℤ◌, ◌≤ℤ◌, ℤ}
 use Rattle.std.proofs.Common.{ap, ◌∙◌, arith}
 use Rattle.std.specs.Prelude.{unwrap_or, nat_abs}
@@ -29,12 +30,7 @@ pub vertical_step : (reference old new : List Colour) (at next : Reached) (d : �
     → IsInRow reference (position_of at old) d → pos a1 ≡ (pos (b1_from reference (position_of at old)) +ℤ d)
     → position_of next new ≡ coloured_up_to (position_of at old) a1 → colour ≡ other at.colour
     → IsVerticalStep reference (position_of at old) d (position_of (record { a0 = next.a0; colour = colour }) new)
-vertical_step reference old new at next d a1 colour in_row a1_is coloured turn = record {
-  in_row = in_row;
-  a1 = a1;
-  a1_is = a1_is;
-  new_is = turned at next old new a1 colour coloured turn;
-}
+vertical_step reference old new at next d a1 colour in_row a1_is coloured turn = grind (arith, common_steps)
 
 -- a row is unfinished while a pel is left
 pub unfinished_below : (reference : List Colour) (o : Option ℕ) → unwrap_or o 0 < length reference → o ≡ Some (length reference) → ⊥

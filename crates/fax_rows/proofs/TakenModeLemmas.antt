@@ -1,5 +1,6 @@
 -- A mode that is read has the bits that are written.
-use Rattle.std.proofs.Common.{◌≡◌, ℕ, zero, suc, ◌<◌, List, ◌++◌, length, Bool, true, refl, ap, sym, ◌∙◌, subst, arith}
+use Rattle.std.proofs.lemmas.Grind.{common_steps}
+use Rattle.std.proofs.Common.{◌≡◌, ℕ, zero, suc, ◌<◌, List, ◌++◌, length, Bool, true, refl, ap, sym, ◌∙◌, arith}
 use Rattle.std.specs.Prelude.{Some, slice_get, nat_abs, nat_le}
 use Rattle.std.proofs.lemmas.Option.{slice_get_read}
 use Rattle.fax_bits.specs.declared.codes.CodeEntry.{CodeEntry}
@@ -22,9 +23,7 @@ record IsOwn (entry : CodeEntry ModeCode) : Type 0 where
 
 own : (entry listed : CodeEntry ModeCode) → Some listed ≡ Some entry → bits_of listed ≡ mode_bits listed.meaning
     → is_near listed.meaning ≡ true → IsOwn entry
-own entry listed found bits near =
-    let same : listed ≡ entry = cc in
-    subst IsOwn same (record { bits = bits; near = near })
+own entry listed found bits near = grind (arith, common_steps)
 
 own_at : (place : ℕ) → place < 10 → (entry : CodeEntry ModeCode) → slice_get modes place ≡ Some entry → IsOwn entry
 unfolding modes mode_bits code_bits

@@ -1,9 +1,10 @@
 -- Steps with a1 under b1, one after another, over places of change that are copied.
+use Rattle.std.proofs.lemmas.Grind.{common_steps}
 use Rattle.std.proofs.Common.{◌≡◌, ℕ, zero, suc, ◌+◌, ◌-◌, ◌<◌, ◌≤◌, List, [], ◌∷◌, ◌++◌, length, take, get_or, replicate, Bool, ℤ}
 use Rattle.std.proofs.Common.{pos, refl, ap, sym, ◌∙◌, subst, arith, inl, inr, true, rules}
 use Prim.{search}
-use Rattle.std.specs.Prelude.{◌⊎◌, Option, Some, None, unwrap_or}
-use Rattle.std.proofs.lemmas.Bool.{cases_lt, ltb-true}
+use Rattle.std.specs.Prelude.{◌⊎◌, Some}
+use Rattle.std.proofs.lemmas.Bool.{cases_lt}
 use Rattle.std.proofs.lemmas.Int.{ints}
 use Rattle.std.proofs.lemmas.List.{take_more, get_or-take}
 use Rattle.fax_bits.specs.declared.Colour.{Colour}
@@ -16,7 +17,7 @@ use Rattle.fax_bits.specs.Written.{mode_bits}
 use Rattle.fax_bits.specs.laws.Codes.{ModeBitsAreRead}
 use Rattle.fax_rows.specs.declared.two_dimensional.steps.PlacedReached.{PlacedReached}
 use Rattle.fax_rows.specs.declared.rows.PlacedRow.{PlacedRow}
-use Rattle.fax_rows.specs.Rows.{other, is_right_of, Position, IsStep, IsVerticalStep}
+use Rattle.fax_rows.specs.Rows.{other, Position, IsStep, IsVerticalStep}
 use Rattle.fax_rows.specs.code.Chosen.{IsChosenStep, GoesOn, GoesOnAsChosen}
 use Rattle.fax_rows.specs.code.PlacedRow.{placed_pels}
 use Rattle.fax_rows.specs.code.PlacedReached.{placed_position, IsReadTo, IsReadInside, IsReadOn}
@@ -87,16 +88,7 @@ module _ (reference : PlacedRow) (places : List ℕ) where
   -- the last place is left of b1
   last_left : (at : PlacedReached) → IsReadInside reference places at → at.b1 < reference.end → 1 < at.end
       → get_or places (at.end - 1) 0 < get_or reference.places.now at.b1 0
-  last_left at here inside some =
-      by at.reached.a0 refl
-    where
-      by : (a0 : Option ℕ) → at.reached.a0 ≡ a0 → get_or places (at.end - 1) 0 < get_or reference.places.now at.b1 0
-      by None is = absurd (omega (arith, here.so_far.started is))
-      by (Some a) is =
-          let b1 = here.so_far.b1 here.unfinished in
-          let right = subst (λ a0. is_right_of a0 (get_or reference.places.now at.b1 0) ≡ true) is (b1.ahead inside) in
-          let last = subst (λ a0. get_or places (at.end - 1) 0 ≤ unwrap_or a0 0) is here.so_far.last in
-          omega (arith, ltb-true a (get_or reference.places.now at.b1 0) right, last)
+  last_left at here inside some = grind (arith, common_steps)
 
   -- the places ascend with the next one too
   ascending_more : (at : PlacedReached) → IsReadInside reference places at → at.b1 < reference.end

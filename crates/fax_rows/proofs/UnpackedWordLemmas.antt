@@ -1,11 +1,12 @@
 -- A row unpacked by words of 64 pels.
-use Rattle.std.proofs.Common.{◌≡◌, ◌≢◌, ℕ, zero, suc, ◌+◌, ◌-◌, ◌*◌, ◌/◌, ◌%◌, ◌^◌, ◌<◌, ◌≤◌, List, [], ◌∷◌, length, get_or, Bool, true}
-use Rattle.std.proofs.Common.{false, not, nat_eq, refl, ap, sym, ◌∙◌, arith, inl, inr}
-use Rattle.std.specs.Int.{bit_at, from_be_bytes, w64}
+use Rattle.std.proofs.lemmas.Grind.{common_steps}
+use Rattle.std.proofs.Common.{◌≡◌, ◌≢◌, ℕ, zero, suc, ◌+◌, ◌-◌, ◌*◌, ◌/◌, ◌%◌, ◌^◌, ◌<◌, ◌≤◌, List, length, get_or, Bool, true}
+use Rattle.std.proofs.Common.{false, not, nat_eq, refl, ap, sym, ◌∙◌, arith, inl, inr, take, drop, length-drop, get_or-drop}
+use Rattle.std.specs.Int.{bit_at, from_be_bytes, to_be_bytes, w64}
 use Rattle.std.specs.Int.RustNames.{bit_xor}
-use Rattle.std.proofs.lemmas.Bool.{cases_lt, eqb-true, true≢false}
+use Rattle.std.proofs.lemmas.Bool.{cases_lt, eqb-true}
 use Rattle.std.proofs.Math.Nat.{pow-succ'}
-use Rattle.std.proofs.lemmas.List.{get_or_past}
+use Rattle.std.proofs.lemmas.List.{get_or_past, get_or-take, length-take-le}
 use Rattle.std.proofs.lemmas.Nat.{be_bytes_8, leading_top, one_shl, pow_pos, shr-shr, xor_block, xor_lt}
 use Rattle.std.proofs.lemmas.Nat.Bits.{bit_at-lt, bit_at-zero, bit_at_xor, bit_at-pow_same, bit_at-pow_other, bit_at_above, bit_at_cat_low}
 use Rattle.std.proofs.lemmas.Nat.Bits.{bit_at_cat_high, bit_at_lowest}
@@ -22,34 +23,9 @@ use Rattle.fax_rows.specs.code.Unpacked.{IsUnpackedTo}
 use Rattle.fax_rows.proofs.PackedWordLemmas.{be_byte, byte_bit}
 use Rattle.fax_rows.proofs.PlacedReadLemmas.{places_within}
 
--- the eight bytes from a place on
-abbrev pub eight_at : List ℕ → ℕ → List ℕ
-eight_at bytes at =
-    get_or bytes at 0 ∷ get_or bytes (at + 1) 0 ∷ get_or bytes (at + 2) 0 ∷ get_or bytes (at + 3) 0 ∷ get_or bytes (at + 4) 0
-    ∷ get_or bytes (at + 5) 0 ∷ get_or bytes (at + 6) 0 ∷ get_or bytes (at + 7) 0 ∷ []
-
-one_of_eight : (bytes : List ℕ) (at i : ℕ) → i < 8 → get_or (eight_at bytes at) i 0 ≡ get_or bytes (at + i) 0
-one_of_eight bytes at zero h = let same : at ≡ at + 0 = omega arith in ap (λ k. get_or bytes k 0) same
-one_of_eight bytes at (suc zero) h = refl
-one_of_eight bytes at (suc (suc zero)) h = refl
-one_of_eight bytes at (suc (suc (suc zero))) h = refl
-one_of_eight bytes at (suc (suc (suc (suc zero)))) h = refl
-one_of_eight bytes at (suc (suc (suc (suc (suc zero))))) h = refl
-one_of_eight bytes at (suc (suc (suc (suc (suc (suc zero)))))) h = refl
-one_of_eight bytes at (suc (suc (suc (suc (suc (suc (suc zero))))))) h = refl
-one_of_eight bytes at (suc (suc (suc (suc (suc (suc (suc (suc i)))))))) h = absurd (omega arith)
-
--- a byte past the last one is 0
-eight_fit : (bytes : List ℕ) (at : ℕ) → ((i : ℕ) → get_or bytes i 0 < 256) → (i : ℕ) → get_or (eight_at bytes at) i 0 < 256
-eight_fit bytes at fit i =
-    elim (cases_lt i 8) [
-      | inl less ↦ rw (one_of_eight bytes at i less) (fit (at + i))
-      | inr more ↦ rw (get_or_past (eight_at bytes at) i 0 more) (omega arith)
-    ]
-
 -- the bits of a word are those of its bytes
 pub bits_of_word : (law : AreBitsByPlace) (bytes : List ℕ) (at word : ℕ) → at + 8 ≤ length bytes → ((i : ℕ) → get_or bytes i 0 < 256)
-    → word ≡ from_be_bytes w64 (eight_at bytes at) → (i : ℕ) → i < 64
+    → word ≡ from_be_bytes w64 (take 8 (drop at bytes)) → (i : ℕ) → i < 64
     → word_bit word i ≡ get_or (bits MsbFirst bytes) (8 * at + i) false
 bits_of_word law bytes at word room fit is i inside =
     let q = i / 8 in
@@ -60,12 +36,29 @@ bits_of_word law bytes at word room fit is i inside =
     let few : q < 8 = omega arith in
     ap (λ k. nat_eq (bit_at word (63 - k)) 1) (sym whole)
     ∙ ap (λ b. nat_eq b 1)
-    (sym (byte_bit word q r few (omega arith)) ∙ ap (λ b. bit_at b (7 - r))
-    (sym (be_byte word q few) ∙ ap (λ b. get_or b q 0) (be_bytes_8 (eight_at bytes at) word refl (eight_fit bytes at fit) is)
-    ∙ one_of_eight bytes at q few))
+    (sym (byte_bit word q r few (omega arith)) ∙ ap (λ b. bit_at b (7 - r)) (sym (be_byte word q few) ∙ byte_there q few))
     ∙ sym (law.of_bytes MsbFirst bytes (8 * at + i) (omega arith)
     ∙ ap (λ k. nat_eq (bit_at (get_or bytes k 0) (7 - (8 * at + i) % 8)) 1) byte
     ∙ ap (λ k. nat_eq (bit_at (get_or bytes (at + q) 0) (7 - k)) 1) place)
+  where
+    eight : List ℕ
+    eight = take 8 (drop at bytes)
+
+    long : length eight ≡ 8
+    long = length-take-le 8 (drop at bytes) (omega (arith, length-drop at bytes))
+
+    there : (k : ℕ) → k < 8 → get_or eight k 0 ≡ get_or bytes (at + k) 0
+    there k h = get_or-take 8 (drop at bytes) k 0 h ∙ get_or-drop at bytes k 0
+
+    -- a byte past the last one is 0
+    fits : (k : ℕ) → get_or eight k 0 < 256
+    fits k = elim (cases_lt k 8) [
+      | inl less ↦ rw (there k less) (fit (at + k))
+      | inr more ↦ rw (get_or_past eight k 0 (omega (arith, long))) (omega arith)
+    ]
+
+    byte_there : (k : ℕ) → k < 8 → get_or (to_be_bytes w64 word) k 0 ≡ get_or bytes (at + k) 0
+    byte_there k h = ap (λ b. get_or b k 0) (be_bytes_8 eight word long fits is) ∙ there k h
 
 -- one bit or the other
 abbrev pub turns_bit : Bool → Bool → Bool
@@ -269,11 +262,7 @@ module _ (old places : List ℕ) (from before word left r : ℕ) (so_far : IsPut
 
   -- the next change is not left of them
   pub not_gone : (at : ℕ) → IsHighest left at → r ≤ at
-  not_gone at top =
-      elim (cases_lt at r) [
-        | inl less ↦ absurd (true≢false (sym top.there ∙ so_far.gone at less))
-        | inr more ↦ more
-      ]
+  not_gone at top = grind (arith, common_steps)
 
   pub put_more : (new : List ℕ) (at place next : ℕ) → IsHighest left at → place ≡ from + at → next ≡ at + 1 → IsTurnedFrom places new place
       → IsPutTo old new from before word (without left at) next
@@ -347,10 +336,4 @@ unpacked_word b old new from next before word sum so_far kept pels after bit = r
 -- the last place is below a number where it is one of the changes, and 0 else
 pub last_below : (places : List ℕ) (end n : ℕ) → IsAscending places end → (1 < end → get_or places (end - 1) 0 < n) → 0 < n
     → get_or places (end - 1) 0 < n
-last_below places end n up last some =
-    elim (cases_lt 1 end) [
-      | inl more ↦ last more
-      | inr one ↦
-          let first : end - 1 ≡ 0 = omega arith in
-          omega (arith, ap (λ k. get_or places k 0) first, up.first)
-    ]
+last_below places end n up last some = grind (arith, common_steps)

@@ -1,4 +1,5 @@
 -- A row that is written is read back.
+use Rattle.std.proofs.lemmas.Grind.{common_steps}
 use Rattle.std.proofs.Common.{◌≡◌, ◌≢◌, ℕ, zero, suc, ◌+◌, ◌^◌, ◌<◌, ◌≤◌, List, [], ◌∷◌, ◌++◌, length, take, replicate, Bool, true, false}
 use Rattle.std.proofs.Common.{refl, ap, sym, ◌∙◌, subst, arith, inl, inr, append_assoc}
 use Rattle.std.specs.Prelude.{nat_eq, sum, Option, Some, None, unwrap_or}
@@ -73,11 +74,7 @@ chosen_in : (reference row : List Colour) (a0 : Option ℕ) (first second : Bool
     ) else by_mode reference row a0 Horizontal))
     ≡ by_mode reference row a0 (if first then Pass else (if second
     then Vertical (pos (places reference row a0).a1 -ℤ pos (places reference row a0).b1) else Horizontal))
-chosen_in reference row a0 first second =
-    by_tests first second (mode_bits Pass) (mode_bits (Vertical (pos (places reference row a0).a1 -ℤ pos (places reference row a0).b1)))
-    (places reference row a0).b2 (places reference row a0).a1 (by_mode reference row a0 Horizontal)
-    ∙ chosen_by first second (by_mode reference row a0) Pass
-    (Vertical (pos (places reference row a0).a1 -ℤ pos (places reference row a0).b1)) Horizontal
+chosen_in reference row a0 first second = grind (arith, common_steps)
 
 chosen_step_is : (reference row : List Colour) (a0 : Option ℕ)
     → chosen_step reference row a0 ≡ by_mode reference row a0 (chosen_mode (places reference row a0))
@@ -91,9 +88,7 @@ pub step_bits-more : (limit : ℕ) (reference row : List Colour) (a0 : Option �
     (places reference row a0)
     ++ step_bits limit reference row (Some (next_a0 (chosen_mode (places reference row a0)) (places reference row a0)))
 unfolding step_bits
-step_bits-more limit reference row a0 unfinished =
-    let goes_on : nat_eq (unwrap_or a0 0) (length row) ≡ false = grind (arith, nat_tests) in
-    rw goes_on (ap (λ s. s.0 ++ step_bits limit reference row (Some s.1)) (chosen_step_is reference row a0))
+step_bits-more limit reference row a0 unfinished = grind (arith, common_steps)
 
 -- a0 at the width
 at_width : (a0 : Option ℕ) (width : ℕ) → 0 < width → first_of a0 ≡ width → a0 ≡ Some width

@@ -1,4 +1,5 @@
 -- How far a row is written after a step: the indexes of a1 and b1 after each mode.
+use Rattle.std.proofs.lemmas.Grind.{common_steps}
 use Rattle.std.proofs.Common.{◌≡◌, ℕ, suc, ◌+◌, ◌-◌, ◌<◌, ◌≤◌, ◌++◌, length, get_or, true, false, refl, ap, sym, ◌∙◌, subst, arith}
 use Rattle.std.specs.Prelude.{Option, Some, None, unwrap_or, pos, ◌-ℤ◌, nat_lt}
 use Rattle.std.proofs.lemmas.Bool.Decides.{nat_tests}
@@ -6,7 +7,7 @@ use Rattle.std.proofs.lemmas.Int.{ints}
 use Rattle.std.proofs.lemmas.List.{append-nil}
 use Rattle.fax_bits.specs.declared.modes.ModeCode.{ModeCode}
 use Rattle.fax_bits.specs.declared.modes.ModeCode.TheVariants.{Horizontal, Vertical}
-use Rattle.fax_bits.specs.Written.{run_bits, mode_bits}
+use Rattle.fax_bits.specs.Written.{mode_bits}
 use Rattle.fax_rows.specs.code.Choice.{places, colour_of, chosen_mode, run_pair_bits, next_a0}
 use Rattle.fax_bits.specs.declared.Colour.{Colour}
 use Rattle.fax_bits.specs.declared.Colour.TheVariants.{Black}
@@ -21,21 +22,13 @@ use Rattle.fax_rows.proofs.ChangeLemmas.{first_of}
 use Rattle.fax_rows.proofs.ChoiceLemmas.{a1_right, passed_right}
 use Rattle.fax_rows.proofs.PlacedB1Lemmas.{inside_end, b1_ahead, b2_ahead, b1_next, b1_passed, same_start}
 use Rattle.fax_rows.proofs.PlacedRowLemmas.{at_from}
-use Rattle.fax_rows.proofs.TurnLemmas.{alternate-suc, below_later, pel_after}
+use Rattle.fax_rows.proofs.TurnLemmas.{alternate-suc, pel_after}
 use Rattle.fax_rows.proofs.WrittenPlaceLemmas.{known_bounds, same_widths, written_width}
 
 module _ (row : PlacedRow) where
   -- a change is the last of the places that are not right of it
   after_place : (k : ℕ) → 0 < k → k < row.end → ArePlacesUpTo row.places.now row.end (get_or row.places.now k 0) (k + 1)
-  after_place k some inside = record {
-    some = omega arith;
-    within = omega arith;
-    left = subst (λ m. get_or row.places.now m 0 ≤ get_or row.places.now k 0) same (omega arith);
-    right = λ l. below_later row.placed.ascending k (k + 1) some (omega arith) l;
-  }
-    where
-      same : k ≡ k + 1 - 1
-      same = omega arith
+  after_place k some inside = grind (arith, common_steps)
 
   -- the places before that index are not right of a0
   first_left : (a0 : Option ℕ) (k : ℕ) → IsFrom row.places.now row.end a0 k → get_or row.places.now (k - 1) 0 ≤ unwrap_or a0 0
@@ -91,9 +84,7 @@ module _ {rows : RowPair} {ahead : ChangesAhead} (is : AreAhead rows ahead) wher
       ap other is.after ∙ sym (alternate-suc Black ahead.row) ∙ ap (alternate Black) (sym next)
 
   same_colour : ahead.colour ≡ alternate Black (ahead.row + 2)
-  same_colour =
-      let next : ahead.row + 2 ≡ suc (suc ahead.row) = omega arith in
-      is.after ∙ ap (alternate Black) (sym next)
+  same_colour = grind (arith, common_steps)
 
   pub b1_after_pass : ahead.b2 < rows.row.width
       → IsB1At rows.reference (Some ahead.b2) (alternate Black ahead.row) (ahead.reference + 2)
@@ -151,22 +142,12 @@ module _ {rows : RowPair} {ahead : ChangesAhead} (is : AreAhead rows ahead) wher
   -- the runs of horizontal mode
   pub pair_is : run_pair_bits Horizontal (placed_pels rows.row) ahead.a0
       (places (placed_pels rows.reference) (placed_pels rows.row) ahead.a0) ≡ run_pair ahead
-  pair_is =
-      let row = placed_pels rows.row in
-      let from = unwrap_or ahead.a0 0 in
-      sym (ap (λ c. run_bits c (ahead.a1 - from) ++ run_bits (other c) (ahead.a2 - ahead.a1)) is.colour
-      ∙ ap (λ p. run_bits (colour_of row ahead.a0) (ahead.a1 - from) ++ run_bits (other (colour_of row ahead.a0)) (p - ahead.a1))
-      (is.a2 ∙ ap (λ p. next_change row (Some p)) is.a1)
-      ∙ ap (λ p. run_bits (colour_of row ahead.a0) (p - from) ++ run_bits (other (colour_of row ahead.a0))
-      (next_change row (Some (next_change row ahead.a0)) - p)) is.a1)
+  pair_is = grind (arith, common_steps)
 
   pub horizontal_bits : (mode : ModeCode) → mode ≡ chosen_mode (record { a1 = ahead.a1; a2 = 0; b1 = ahead.b1; b2 = ahead.b2 })
       → mode ≡ Horizontal
       → bits_from (placed_pels rows.reference) (placed_pels rows.row) ahead.a0 ≡ mode_bits Horizontal ++ run_pair ahead
-  horizontal_bits mode chosen is_horizontal =
-      let at = places (placed_pels rows.reference) (placed_pels rows.row) ahead.a0 in
-      ap (λ m. mode_bits m ++ run_pair_bits m (placed_pels rows.row) ahead.a0 at) (mode_is ∙ sym chosen ∙ is_horizontal)
-      ∙ ap (λ b. mode_bits Horizontal ++ b) pair_is
+  horizontal_bits mode chosen is_horizontal = grind (arith, common_steps)
 
   -- a1 under b1
   under_mode : ahead.a1 ≡ ahead.b1 → mode_from (placed_pels rows.reference) (placed_pels rows.row) ahead.a0 ≡ Vertical (pos 0)
@@ -192,13 +173,4 @@ module _ {rows : RowPair} {ahead : ChangesAhead} (is : AreAhead rows ahead) wher
 
 -- before the first step a1 and b1 are the first changes
 pub starts : (rows : RowPair) → IsWrittenTo rows (record { a0 = None; row = 1; reference = 1 })
-starts rows = record {
-  row = λ inside. refl;
-  reference = λ inside. record {
-    some = omega arith;
-    within = omega arith;
-    colour_is = refl;
-    passed = λ h. absurd (omega arith);
-    ahead = λ h. refl;
-  };
-}
+starts rows = grind (arith, common_steps)

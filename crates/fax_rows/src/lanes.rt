@@ -12,7 +12,7 @@ use std::simd::prelude::*;
 const LANES: usize = 16;
 
 /// The byte of eight pels of the colour.
-fn plain_byte(colour: Colour) -> u8
+pub(crate) fn plain_byte(colour: Colour) -> u8
     ensures { result ≡ plain_byte colour }
 {
     match colour {

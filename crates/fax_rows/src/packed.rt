@@ -6,16 +6,17 @@ ghost use Rattle.fax_bits.specs.Bits.{bits};
 ghost use Rattle.fax_bits.specs.declared.FillOrder.TheVariants.{MsbFirst};
 ghost use Rattle.fax_rows.specs.Coded as Spec;
 ghost use Rattle.fax_rows.specs.code.PackedByte.{packed_byte};
-ghost use Rattle.fax_rows.specs.code.PackedWord.{IsPackedWord};
+ghost use Rattle.fax_rows.specs.code.PackedWord.{IsPackedWord, IsWordTo};
 ghost use Rattle.fax_rows.specs.code.PlacedRow.{placed_pels};
 ghost use Rattle.fax_rows.specs.code.Turns.{HasPassed};
 
+use crate::lanes::plain_byte;
 use crate::pels::Row;
 use crate::rows::PlacedRow;
-use crate::turns::close;
+use crate::turns::{close, colour_after};
 use crate::unpacked::places_of_bits;
-use fax_bits::Memory;
 use fax_bits::laws::{bits_stand_by_place, eight_bits_are_a_byte};
+use fax_bits::{Colour, Memory};
 use std::alloc::Global;
 
 /// How many pels a word has.
@@ -69,13 +70,20 @@ fn pack_row(row: PlacedRow, out: &mut [u8])
     requires { length out.old ≡ Spec.packed_len row.width }
     ensures { out.new ≡ Spec.packed_row (placed_pels row.entry) }
 {
-    let words = (row.width / WORD) as usize;
+    bits_stand_by_place();
+    eight_bits_are_a_byte();
+    let words = row.width / WORD;
     let passed = pack_words(row, words, out);
-    pack_rest(row, 8 * words, passed, out);
+    if row.width % WORD > 0 {
+        let from = 8 * words as usize;
+        let left = out.len() - from;
+        let bytes = last_word(row, words, passed).to_be_bytes();
+        out[from..].copy_from_slice(&bytes[..left]);
+    }
 }
 
 /// Writes so many words of 64 pels, and answers how many places of change are passed after them.
-fn pack_words(row: PlacedRow, words: usize, out: &mut [u8]) -> usize
+fn pack_words(row: PlacedRow, words: u32, out: &mut [u8]) -> usize
     requires within { words ≡ row.width / 64 }
     requires room { 8 * words ≤ length out.old }
     ensures written { (i : ℕ) → i < 8 * words
@@ -88,86 +96,25 @@ fn pack_words(row: PlacedRow, words: usize, out: &mut [u8]) -> usize
     let mut passed = 1;
     let mut k = 0;
     while k < words {
-        let change = (row.places[passed] / WORD) as usize;
+        let at = 8 * k as usize;
+        let change = row.places[passed] / WORD;
         if k < change {
             // No colour changes in the words before that of the next change.
-            let byte = if passed % 2 == 1 { 0x00 } else { 0xFF };
-            fill(out, 8 * k, 8 * change, byte);
+            fill(
+                out,
+                at,
+                8 * change as usize,
+                plain_byte(colour_after(passed)),
+            );
             k = change;
         } else {
-            let (word, after) = packed_word(row, k as u32, passed);
-            write_word(out, 8 * k, word);
+            let (word, after) = word_up_to(row, k, WORD * k + WORD, passed);
+            out[at..at + 8].copy_from_slice(&word.to_be_bytes());
             passed = after;
             k += 1;
         }
     }
     passed
-}
-
-/// Word `k` of 64 pels, before which so many places of change are passed; and how many are passed
-/// after it.
-#[inline(always)]
-fn packed_word(row: PlacedRow, k: u32, passed: usize) -> (u64, usize)
-    requires within { 64 * k + 64 ≤ row.width }
-    requires so_far { HasPassed row.places.now row.end (64 * k) passed }
-    ensures word { IsPackedWord (placed_pels row.entry) (64 * k) result.0 }
-    ensures so_far { HasPassed row.entry.places.now row.entry.end (64 * k + 64) result.1 }
-{
-    let to = WORD * k + WORD;
-    let mut word = if passed % 2 == 1 { 0 } else { u64::MAX };
-    let mut after = passed;
-    while row.places[after] < to {
-        word ^= u64::MAX >> (row.places[after] % WORD);
-        after += 1;
-    }
-    (word, after)
-}
-
-/// Writes a word at a place, the highest byte first.
-#[inline(always)]
-fn write_word(out: &mut [u8], at: usize, word: u64)
-    requires { at + 8 ≤ length out.old }
-    ensures before { (i : ℕ) → i < at → slice_index out.new i ≡ slice_index out.old i }
-    ensures written { (i : ℕ) → i < 8 → slice_index out.new (at + i)
-        ≡ word / 2 ^ (8 * (7 - i)) % 256 }
-    ensures same_len { length out.new ≡ length out.old }
-{
-    let [a, b, c, d, e, f, g, h] = word.to_be_bytes();
-    out[at] = a;
-    out[at + 1] = b;
-    out[at + 2] = c;
-    out[at + 3] = d;
-    out[at + 4] = e;
-    out[at + 5] = f;
-    out[at + 6] = g;
-    out[at + 7] = h;
-}
-
-/// Writes the bytes of a row from one on, where so many places of change are passed before it.
-fn pack_rest(row: PlacedRow, from: usize, passed: usize, out: &mut [u8])
-    requires whole { length out.old ≡ Spec.packed_len row.width }
-    requires written { (i : ℕ) → i < from
-        → slice_index out.old i ≡ packed_byte (placed_pels row) (8 * i) }
-    requires within { from ≤ length out.old }
-    requires so_far { HasPassed row.places.now row.end (8 * from) passed }
-    ensures { out.new ≡ Spec.packed_row (placed_pels row.entry) }
-{
-    let mut passed = passed;
-    let mut k = from;
-    while k < out.len() {
-        let change = (row.places[passed] / 8) as usize;
-        if k < change {
-            // No colour changes in the bytes before that of the next change.
-            let byte = if passed % 2 == 1 { 0x00 } else { 0xFF };
-            fill(out, k, change, byte);
-            k = change;
-        } else {
-            let (byte, after) = packed_byte(row, 8 * k as u32, passed);
-            out[k] = byte;
-            passed = after;
-            k += 1;
-        }
-    }
 }
 
 /// Writes this byte from a place on up to another.
@@ -183,40 +130,38 @@ fn fill(out: &mut [u8], from: usize, to: usize, byte: u8)
     }
 }
 
-/// The byte of the eight pels from a place on, with zeros after the last pel, where so many places
-/// of change are passed; and how many are passed after it.
-fn packed_byte(row: PlacedRow, from: u32, passed: usize) -> (u8, usize)
-    requires within { from < row.width }
-    requires so_far { HasPassed row.places.now row.end from passed }
-    ensures byte { result.0 ≡ packed_byte (placed_pels row.entry) from }
-    ensures so_far { HasPassed row.entry.places.now row.entry.end (from + 8) result.1 }
+/// Word `k` of 64 pels, before which so many places of change are passed, with no change from the
+/// pel `to` on; and how many are passed before that pel.
+#[inline(always)]
+fn word_up_to(row: PlacedRow, k: u32, to: u32, passed: usize) -> (u64, usize)
+    requires order { 64 * k ≤ to }
+    requires inside { to ≤ 64 * k + 64 }
+    requires within { to ≤ row.width }
+    requires so_far { HasPassed row.places.now row.end (64 * k) passed }
+    ensures word { IsWordTo row.entry (64 * k) result.0 result.1 }
+    ensures so_far { HasPassed row.entry.places.now row.entry.end to result.1 }
 {
-    let to = row.width.min(from + 8);
-    let mut byte = 0;
-    let mut at = from;
+    let mut word = match colour_after(passed) {
+        Colour::White => 0,
+        Colour::Black => u64::MAX,
+    };
     let mut after = passed;
-    while at < to {
-        let next = to.min(row.places[after]);
-        byte = with_run(byte, next - at, after % 2 == 0);
-        at = next;
-        if at < to {
-            after += 1;
-        }
+    while row.places[after] < to {
+        word ^= u64::MAX >> (row.places[after] % WORD);
+        after += 1;
     }
-    let padded = with_run(byte, from + 8 - to, false);
-    (padded as u8, after)
+    (word, after)
 }
 
-/// The number of these bits, and `n` bits more of one colour after them.
-fn with_run(number: u32, n: u32, black: bool) -> u32
-    requires few { n ≤ 8 }
-    requires fits { number < 2 ^ 8 }
-    ensures { result ≡ number * 2 ^ n + (if black then 2 ^ n - 1 else 0) }
+/// Word `k` of 64 pels, in which the row ends, with zeros after the last pel.
+fn last_word(row: PlacedRow, k: u32, passed: usize) -> u64
+    requires last { k ≡ row.width / 64 }
+    requires so_far { HasPassed row.places.now row.end (64 * k) passed }
+    ensures { IsPackedWord (placed_pels row.entry) (64 * k) result }
 {
-    let power = 1 << n;
-    if black {
-        number * power + (power - 1)
-    } else {
-        number * power
+    let (word, after) = word_up_to(row, k, row.width, passed);
+    match colour_after(after) {
+        Colour::White => word,
+        Colour::Black => word ^ (u64::MAX >> (row.width % WORD)),
     }
 }

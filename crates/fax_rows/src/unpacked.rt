@@ -30,16 +30,9 @@ fn word_at(bytes: &[u8], at: usize) -> u64
         → word_bit result i ≡ slice_index_or (bits MsbFirst bytes.now) (8 * at + i) false }
 {
     bits_stand_by_place();
-    u64::from_be_bytes([
-        bytes[at],
-        bytes[at + 1],
-        bytes[at + 2],
-        bytes[at + 3],
-        bytes[at + 4],
-        bytes[at + 5],
-        bytes[at + 6],
-        bytes[at + 7],
-    ])
+    let mut word = [0; 8];
+    word.copy_from_slice(&bytes[at..at + 8]);
+    u64::from_be_bytes(word)
 }
 
 /// The colour of the last pel of a word.

@@ -1,12 +1,9 @@
 use Rattle.std.proofs.Common.{◌∙◌, ap, arith}
 use Rattle.std.specs.Int.{reverse_bits, w8}
-use Rattle.fax_bits.proofs.LaneLemmas.{turned_none, turned_group, turned_one, turned_all}
+use Rattle.fax_bits.proofs.LaneLemmas.{turned_group, turned_all}
 use Rattle.fax_bits.proofs.WordLemmas.{bits-reversed}
 use Rattle.fax_bits.specs.Bits.{bits}
 use Rattle.fax_bits.proofs.lanes.reverse_bits.Goals as goal
-
-pub loop-at-init : goal.loop-at-init
-loop-at-init c = record { within = omega arith; turned = turned_none (reverse_bits w8) c.args.bytes.now }
 
 pub loop-at-preserved : goal.loop-at-preserved
 loop-at-preserved c = record {
@@ -14,11 +11,6 @@ loop-at-preserved c = record {
   turned = turned_group (reverse_bits w8) c.args.bytes.now c.loop-at.bytes c.turned-lanes.result c.loop-at.at c.loop-at.invariant.turned
       c.turned-lanes.ensures (omega arith);
 }
-
-pub loop-i-preserved : goal.loop-i-preserved
-loop-i-preserved c =
-    turned_one (reverse_bits w8) c.args.bytes.now c.loop-i.bytes c.loop-i.i c.reverse_bits.result c.loop-i.invariant c.reverse_bits.ensures
-    (omega arith)
 
 pub returns-clause-turned : goal.returns-clause-turned
 returns-clause-turned c = turned_all (reverse_bits w8) c.args.bytes.now c.loop-i.bytes c.loop-i.i c.loop-i.invariant (omega arith)

@@ -1,7 +1,6 @@
 use Rattle.std.proofs.Common.{ap, sym, ◌∙◌}
-use Rattle.fax_bits.specs.declared.modes.ModeCode.TheVariants.{Vertical}
 use Rattle.fax_bits.specs.Written.{mode_bits}
-use Rattle.fax_bits.proofs.ModeLemmas.{bits_at-pass, bits_at-horizontal, distance_is}
+use Rattle.fax_bits.proofs.ModeLemmas.{bits_at-pass, bits_at-horizontal}
 use Rattle.fax_bits.proofs.put.mode_code.Goals as goal
 
 pub returns-in-Pass : goal.returns-in-Pass
@@ -9,9 +8,3 @@ returns-in-Pass c = c.entry_code.ensures.bits ∙ bits_at-pass ∙ ap mode_bits 
 
 pub returns-in-Horizontal : goal.returns-in-Horizontal
 returns-in-Horizontal c = c.entry_code-in-Horizontal.ensures.bits ∙ bits_at-horizontal ∙ ap mode_bits (sym c.in-Horizontal.is)
-
-pub returns-in-Vertical : goal.returns-in-Vertical
-returns-in-Vertical c =
-    let written = rw c.in-Vertical.is at c.requires in
-    c.vertical_code.ensures ∙ ap (λ at. mode_bits (Vertical at)) (distance_is c.in-Vertical.d written)
-    ∙ ap mode_bits (sym c.in-Vertical.is)

@@ -1,5 +1,5 @@
 use Rattle.std.proofs.Common.{◌≡◌, ◌∙◌, ◌/◌, replicate, subst, arith}
-use Rattle.std.proofs.lemmas.Result.{on_ok_weaker, on_err_weaker}
+use Rattle.std.proofs.lemmas.Result.{on_ok_weaker}
 use Rattle.fax_bits.specs.declared.runs.RunCode.TheVariants.{MakeUp}
 use Rattle.fax_bits.specs.views.Sink.{Appends}
 use Rattle.fax_bits.proofs.PutLemmas.{Put, put-prefix, first_codes, put-rest, on_err-of}
@@ -14,13 +14,6 @@ returns-clause-ok c =
     (λ put. put-rest c.args.colour c.args.n c.args.sink.now c.loop.sink c.put_all-2.new.sink often
     (subst (λ b. Appends c.loop.sink b c.put_all-2.new.sink) c.codes_of_run.ensures put))
     c.put_all-2.ensures.ok
-
-pub returns-clause-err : goal.returns-clause-err
-returns-clause-err c =
-    on_err_weaker c.put_all-2.result
-    (λ same. put-prefix c.args.colour c.args.n c.args.sink.now c.put_all-2.new.sink _ _ (same ∙ c.loop.invariant)
-    (first_codes c.args.n c.loop.counter (omega arith)))
-    c.put_all-2.ensures.err
 
 pub returns-in_err-put_all-clause-err : goal.returns-in_err-put_all-clause-err
 returns-in_err-put_all-clause-err c =

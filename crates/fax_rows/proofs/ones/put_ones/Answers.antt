@@ -1,11 +1,7 @@
-use Rattle.std.proofs.Common.{◌≡◌, ◌*◌, ◌++◌, take, get_or, ap, sym, ◌∙◌, arith}
-use Rattle.std.proofs.lemmas.List.{append-nil}
+use Rattle.std.proofs.Common.{◌≡◌, ◌*◌, ◌++◌, take, get_or, ap, ◌∙◌, arith}
 use Rattle.fax_rows.specs.code.Ones.{ones_among}
 use Rattle.fax_rows.proofs.OnesLemmas.{byte_goes_on}
 use Rattle.fax_rows.proofs.ones.put_ones.Goals as goal
-
-pub loop-k-init : goal.loop-k-init
-loop-k-init c = record { put = sym (append-nil (take c.args.end c.args.places.now)); within = omega arith }
 
 pub loop-k-preserved : goal.loop-k-preserved
 loop-k-preserved c = record {

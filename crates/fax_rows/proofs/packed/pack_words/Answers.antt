@@ -1,79 +1,58 @@
-use Rattle.std.proofs.Common.{◌≡◌, ℕ, ◌+◌, ◌-◌, ◌*◌, ◌/◌, ◌<◌, ◌≤◌, ◌∙◌, refl, get_or, take, ap, subst, sym, arith, inl, inr}
+use Rattle.std.proofs.Common.{◌≡◌, ◌+◌, ◌*◌, ◌≤◌, ◌∙◌, length, get_or, ap, subst, arith, rules, inl, inr}
 use Rattle.std.proofs.lemmas.Bool.{cases_lt}
+use Rattle.std.proofs.lemmas.List.{places}
+use Rattle.fax_rows.specs.code.FirstOther.{plain_byte}
 use Rattle.fax_rows.specs.code.PackedByte.{packed_byte}
-use Rattle.fax_rows.specs.code.Turns.{row_of, HasPassed}
-use Rattle.fax_rows.proofs.PackedWordLemmas.{byte_of_word}
-use Rattle.fax_rows.proofs.PackingLemmas.{passed_none, passed-lt, whole_white, whole_black, still_passed, place_at_most}
-use Rattle.fax_rows.proofs.TurnLemmas.{length-pels_by}
+use Rattle.fax_rows.specs.code.PlacedRow.{placed_pels}
+use Rattle.fax_rows.specs.code.Turns.{HasPassed}
+use Rattle.fax_rows.proofs.PackedWordLemmas.{word_done, byte_of_word}
+use Rattle.fax_rows.proofs.PackingLemmas.{passed-lt, place_at_most, still_passed, whole_byte, part_written}
+use Rattle.fax_rows.proofs.PlacedB1Lemmas.{length-placed_pels}
 use Rattle.fax_rows.proofs.packed.pack_words.Goals as goal
-use Rattle.fax_rows.proofs.packed.pack_words.Goals.{then-passed-eq1, else-passed-eq1}
-
-pub loop-k-init : goal.loop-k-init
-loop-k-init c = record {
-  within = omega arith;
-  done = λ i h. absurd (omega arith);
-  so_far = passed_none c.args.row.placed;
-  len = refl;
-}
 
 pub bounds-row-passed : goal.bounds-row-passed
 bounds-row-passed c = passed-lt c.args.row.placed (64 * c.loop-k.k) c.loop-k.passed c.loop-k.invariant.so_far
 
-pub fill-requires-clause-within : goal.fill-requires-clause-within
-fill-requires-clause-within c =
-    let most = place_at_most c.args.row.placed (64 * c.loop-k.k) c.loop-k.passed c.loop-k.invariant.so_far in
-    omega (arith, most, c.requires.within, c.requires.room, c.loop-k.invariant.len)
-
 pub loop-k-preserved-then-k-change : goal.loop-k-preserved-then-k-change
 loop-k-preserved-then-k-change c =
-    let change = get_or c.args.row.places.now c.loop-k.passed 0 in
-    let row = row_of c.args.row.places.now c.args.row.end c.args.row.width in
+    let at = 8 * c.loop-k.k in
     let so_far = c.loop-k.invariant.so_far in
     let most = place_at_most c.args.row.placed (64 * c.loop-k.k) c.loop-k.passed so_far in
-    let passed : (i : ℕ) → 8 * c.loop-k.k ≤ i → i < 8 * (change / 64) → HasPassed c.args.row.places.now c.args.row.end (8 * i) c.loop-k.passed =
-    λ i h l. still_passed c.args.row.placed (64 * c.loop-k.k) (8 * i) c.loop-k.passed so_far (omega arith) (λ r. omega arith) in
-    let whole : (i : ℕ) → 8 * c.loop-k.k ≤ i → i < 8 * (change / 64) → c.if-passed-eq1.byte ≡ packed_byte row (8 * i) =
-    λ i h l. elim c.if-passed-eq1.branch [
-      | then-passed-eq1 w ↦ w.byte-is ∙ whole_white c.args.row.placed (8 * i) c.loop-k.passed (passed i h l) (omega (arith, most)) (omega
-          arith) (omega (arith, w.if-passed-eq1))
-      | else-passed-eq1 w ↦ w.byte-is ∙ whole_black c.args.row.placed (8 * i) c.loop-k.passed (passed i h l) (omega (arith, most)) (omega
-          arith) (omega (arith, w.if-passed-eq1))
-    ] in
     record {
       within = omega (arith, most, c.requires.within);
-      done = λ i h. elim (cases_lt i (8 * c.loop-k.k)) [
+      done = λ i h. elim (cases_lt i at) [
         | inl less ↦ c.fill.ensures.before i less ∙ c.loop-k.invariant.done i less
-        | inr more ↦ c.fill.ensures.filled i more h ∙ whole i more h
+        | inr more ↦
+            c.fill.ensures.filled i more h ∙ c.plain_byte.ensures ∙ ap plain_byte c.colour_after.ensures
+            ∙ whole_byte c.args.row.placed c.bits_stand_by_place.ensures c.eight_bits_are_a_byte.ensures (64 * c.loop-k.k) (8 * i)
+            c.loop-k.passed so_far (omega arith) (omega arith)
       ];
-      so_far = still_passed c.args.row.placed (64 * c.loop-k.k) (64 * (change / 64)) c.loop-k.passed so_far (omega arith) (λ r. omega
-          arith);
+      so_far = still_passed c.args.row.placed (64 * c.loop-k.k) _ c.loop-k.passed so_far (omega arith) (omega arith);
       len = c.fill.ensures.same_len ∙ c.loop-k.invariant.len;
     }
 
 pub loop-k-preserved : goal.loop-k-preserved
 loop-k-preserved c =
-    let row = row_of c.args.row.places.now c.args.row.end c.args.row.width in
-    let wide = length-pels_by c.args.row.width (take c.args.row.end c.args.row.places.now) in
+    let at = 8 * c.loop-k.k in
+    let word = c.word_up_to-word.ensures in
+    let wide = length-placed_pels c.args.row in
     let next : 64 * c.loop-k.k + 64 ≡ 64 * (c.loop-k.k + 1) = omega arith in
+    let room : at ≤ length c.loop-k.out = omega (arith, c.loop-k.invariant.len, c.requires.room) in
+    let bytes = c.copy_from_slice.ensures.after ∙ c.to_be_bytes.ensures in
+    let long : length c.copy_from_slice.new.self ≡ 8 = ap length bytes in
+    let packed = word_done c.args.row word.word word.so_far (omega (arith, c.requires.within)) in
     record {
       within = omega arith;
-      done = λ i h. elim (cases_lt i (8 * c.loop-k.k)) [
-        | inl less ↦ c.write_word.ensures.before i less ∙ c.loop-k.invariant.done i less
-        | inr more ↦
-            let place : 8 * c.loop-k.k + (i - 8 * c.loop-k.k) ≡ i = omega arith in
-            let at : 64 * c.loop-k.k + 8 * (i - 8 * c.loop-k.k) ≡ 8 * i = omega arith in
-            ap (λ k. get_or c.write_word.new.out k 0) (sym place)
-            ∙ c.write_word.ensures.written (i - 8 * c.loop-k.k) (omega arith)
-            ∙ byte_of_word c.bits_stand_by_place.ensures c.eight_bits_are_a_byte.ensures row (64 * c.loop-k.k) c.packed_word-word.result.0
-            (i - 8 * c.loop-k.k)
-            c.packed_word-word.ensures.word (omega (arith, wide, c.requires.within)) (omega arith)
-            ∙ ap (packed_byte row) at
-      ];
-      so_far =
-          subst (λ n. HasPassed c.args.row.places.now c.args.row.end n c.packed_word-word.result.1) next c.packed_word-word.ensures.so_far;
-      len = c.write_word.ensures.same_len ∙ c.loop-k.invariant.len;
+      done = λ i h.
+          part_written (λ j. packed_byte (placed_pels c.args.row) (8 * j)) c.loop-k.out c.copy_from_slice.new.self at _ room
+          c.loop-k.invariant.done
+          (λ j l.
+          let place : 64 * c.loop-k.k + 8 * j ≡ 8 * (at + j) = omega arith in
+          ap (λ part. get_or part j 0) bytes
+          ∙ byte_of_word c.bits_stand_by_place.ensures c.eight_bits_are_a_byte.ensures _ (64 * c.loop-k.k) c.word_up_to-word.result.0 j packed
+          (omega (arith, long, wide, c.requires.within)) (omega (arith, long))
+          ∙ ap (packed_byte (placed_pels c.args.row)) place)
+          i (omega (arith, long));
+      so_far = subst (λ n. HasPassed c.args.row.places.now c.args.row.end n c.word_up_to-word.result.1) next word.so_far;
+      len = search (rules, places);
     }
-
-pub returns-clause-so_far : goal.returns-clause-so_far
-returns-clause-so_far c = subst (λ n. HasPassed c.args.row.places.now c.args.row.end (64 * n) c.loop-k.passed)
-    (omega (arith, c.loop-k.invariant.within)) c.loop-k.invariant.so_far

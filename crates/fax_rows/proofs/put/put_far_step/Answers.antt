@@ -4,11 +4,6 @@ use Rattle.fax_rows.proofs.WrittenStepLemmas.{horizontal_bits}
 use Rattle.fax_rows.proofs.PutLemmas.{on_err, pair_put, pair_stops}
 use Rattle.fax_rows.proofs.put.put_far_step.Goals as goal
 
-pub choose-mode-requires-clause-a1 : goal.choose-mode-requires-clause-a1
-choose-mode-requires-clause-a1 c =
-    let known = known_bounds c.requires.places in
-    omega (arith, known.a2, known.a1_a2, c.args.rows.row.placed.short)
-
 pub choose-mode-requires-clause-b1 : goal.choose-mode-requires-clause-b1
 choose-mode-requires-clause-b1 c =
     let known = known_bounds c.requires.places in

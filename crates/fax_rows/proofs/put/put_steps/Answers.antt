@@ -1,9 +1,9 @@
 use Rattle.std.proofs.Common.{refl, ◌<◌, ◌≤◌, length, arith}
-use Rattle.std.proofs.lemmas.Result.{on_ok_weaker, on_err_weaker}
+use Rattle.std.proofs.lemmas.Result.{on_ok_weaker}
 use Rattle.fax_rows.specs.code.PlacedRow.{placed_pels}
 use Rattle.fax_rows.proofs.ChangeLemmas.{first_of}
 use Rattle.fax_rows.proofs.WrittenPlaceLemmas.{same_widths, written_width}
-use Rattle.fax_rows.proofs.PlacedLemmas.{place_begins, place_goes_on, place_stops, place_ends, place_ends_early, step_smaller}
+use Rattle.fax_rows.proofs.PlacedLemmas.{place_begins, place_goes_on, place_stops, place_ends, step_smaller}
 use Rattle.fax_rows.proofs.PutLemmas.{on_err}
 use Rattle.fax_rows.proofs.WrittenStepLemmas.{starts}
 use Rattle.fax_rows.proofs.put.put_steps.Goals as goal
@@ -51,9 +51,3 @@ returns-clause-ok c =
     (place_ends (placed_pels c.args.rows.reference) (placed_pels c.args.rows.row) c.args.sink.now c.loop-at.sink c.put_all.new.sink
     c.loop-at.at.a0 c.loop-at.pending c.loop-at.invariant.placed over)
     c.put_all.ensures.ok
-
-pub returns-clause-err : goal.returns-clause-err
-returns-clause-err c =
-    on_err_weaker c.put_all.result
-    (place_ends_early c.loop-at.invariant.placed)
-    c.put_all.ensures.err

@@ -1,7 +1,7 @@
 use Rattle.std.proofs.Common.{◌+◌, ◌^◌, ◌<◌, ◌≤◌, ◌++◌, arith, ap, ◌∙◌}
 use Rattle.fax_bits.specs.Bits.{code_bits}
 use Rattle.fax_bits.proofs.SinkLemmas.{joined-lt, put_after}
-use Rattle.fax_bits.proofs.WordPutLemmas.{high_word-lt, left_of_word-lt, word_put}
+use Rattle.fax_bits.proofs.WordPutLemmas.{high_word-lt, word_put}
 use Rattle.fax_bits.proofs.sink.BitSink.put_word.Goals as goal
 
 pub overflow_cast-pending : goal.overflow_cast-pending
@@ -11,20 +11,6 @@ overflow_cast-pending c =
     let short : inside.count + 32 ≤ 64 = omega (arith, c.self.invariant.within, c.self.invariant.few) in
     let joined = joined-lt inside.count inside.pending 32 c.from.result c.self.invariant.fits fits short in
     omega (arith, high_word-lt inside.count _ short joined)
-
-pub invariant_of-self : goal.invariant_of-self
-invariant_of-self c =
-    let inside = c.self.inside in
-    let fits : c.from.result < 2 ^ 32 = omega (arith, c.from.ensures) in
-    let short : inside.count + 32 ≤ 64 = omega (arith, c.self.invariant.within, c.self.invariant.few) in
-    let joined = joined-lt inside.count inside.pending 32 c.from.result c.self.invariant.fits fits short in
-    record {
-      within = c.self.invariant.within;
-      few = c.self.invariant.few;
-      word = c.self.invariant.word;
-      fits = left_of_word-lt inside.count _ short joined;
-      room = λ some. omega (arith, c.push_word.ensures.len, c.push_word.ensures.room);
-    }
 
 pub returns-clause-ok : goal.returns-clause-ok
 returns-clause-ok c =

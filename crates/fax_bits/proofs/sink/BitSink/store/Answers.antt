@@ -3,7 +3,7 @@ use Rattle.std.specs.Prelude.{bit_or}
 use Rattle.fax_bits.specs.declared.FillOrder.TheVariants.{MsbFirst}
 use Rattle.fax_bits.specs.Bits.{bits, code_bits}
 use Rattle.fax_bits.specs.code.Sink.{sink_of}
-use Rattle.fax_bits.proofs.SinkLemmas.{on_ok-holds, joined-lt, first_part-lt, masked-lt, put_after, word_stored}
+use Rattle.fax_bits.proofs.SinkLemmas.{on_ok-holds, joined-lt, first_part-lt, put_after, word_stored}
 use Rattle.fax_bits.proofs.sink.BitSink.store.Goals as goal
 
 pub invariant_of-self-then-count-lt32 : goal.invariant_of-self-then-count-lt32
@@ -37,22 +37,6 @@ overflow_cast-pending-2 c =
     let short : inside.count + c.args.len ≤ 64 = omega (arith, c.self.invariant.within, c.self.invariant.few, c.requires.short) in
     let joined = joined-lt inside.count inside.pending c.args.len c.from.result c.self.invariant.fits fits short in
     omega (arith, first_part-lt 32 (inside.count + c.args.len) _ (omega arith) c.if-count-lt32.false short joined)
-
-pub invariant_of-self-2 : goal.invariant_of-self-2
-invariant_of-self-2 c =
-    let inside = c.self.inside in
-    let fits : c.from.result < 2 ^ c.args.len = omega (arith, c.from.ensures, c.requires.fits) in
-    let short : inside.count + c.args.len ≤ 64 = omega (arith, c.self.invariant.within, c.self.invariant.few, c.requires.short) in
-    let all = bit_or (inside.pending * 2 ^ c.args.len % 2 ^ 64) c.from.result in
-    let joined = joined-lt inside.count inside.pending c.args.len c.from.result c.self.invariant.fits fits short in
-    let reserved : is_ok c.reserve.result ≡ true = sym c.map_err.ensures.variant ∙ ap is_ok c.in_ok-map_err.was in
-    record {
-      within = omega (arith, short);
-      few = omega arith;
-      word = λ some. refl;
-      fits = masked-lt 32 (inside.count + c.args.len) all (omega arith) c.if-count-lt32.false short joined;
-      room = λ some. omega (arith, on_ok-holds _ reserved c.reserve.ensures.ok, c.push_word.ensures.len, c.push_word.ensures.room);
-    }
 
 pub returns-clause-ok : goal.returns-clause-ok
 returns-clause-ok c =

@@ -3,9 +3,6 @@ use Rattle.fax_bits.specs.Bits.{bits}
 use Rattle.fax_bits.proofs.WordLemmas.{bits-drop, bits-from}
 use Rattle.fax_bits.proofs.window.Window.from_place.Goals as goal
 
-pub with_byte-requires-clause-left : goal.with_byte-requires-clause-left
-with_byte-requires-clause-left c = omega (arith, c.requires.within)
-
 pub returns-then-bits-eq0-clause-ahead : goal.returns-then-bits-eq0-clause-ahead
 returns-then-bits-eq0-clause-ahead c =
     let order = c.args.order in

@@ -1,13 +1,7 @@
 use Rattle.std.proofs.Common.{◌≡◌, ◌+◌, ◌-◌, subst, arith}
 use Rattle.fax_rows.specs.code.PlacedRow.{IsBeforeB1}
-use Rattle.fax_rows.proofs.PlacedRowLemmas.{end_within}
 use Rattle.fax_rows.proofs.PlacedB1Lemmas.{b1_at_most, b2_ahead, search_goes_on, search_ends}
 use Rattle.fax_rows.proofs.rows.PlacedRow.b1_before.Goals as goal
-
-pub bounds-self-b1 : goal.bounds-self-b1
-bounds-self-b1 c =
-    let row = c.args.self in
-    omega (arith, row.placed.room, end_within row.placed)
 
 pub returns-else-self-b1 : goal.returns-else-self-b1
 returns-else-self-b1 c = λ colour before.

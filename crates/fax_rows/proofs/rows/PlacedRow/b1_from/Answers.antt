@@ -1,4 +1,4 @@
-use Rattle.std.proofs.Common.{◌≡◌, ◌≢◌, ◌+◌, suc, refl, inl, inr, sym, ap, ◌∙◌, arith, rules}
+use Rattle.std.proofs.Common.{◌≡◌, ◌≢◌, ◌+◌, suc, refl, inr, sym, ap, ◌∙◌, arith}
 use Rattle.fax_bits.specs.contracts.Colour.{the_type}
 use Rattle.fax_bits.specs.declared.Colour.TheVariants.{Black}
 use Rattle.fax_rows.specs.Rows.{other}
@@ -6,13 +6,7 @@ use Rattle.fax_rows.specs.code.Turns.{alternate}
 use Rattle.fax_rows.proofs.TurnLemmas.{other-other, alternate-suc}
 use Rattle.fax_rows.proofs.PlacedB1Lemmas.{differs_is, b1_here}
 use Rattle.fax_rows.proofs.rows.PlacedRow.b1_from.Goals as goal
-use denote.Enum.Bare.{same_true, same_false}
-
-pub returns-then-eq : goal.returns-then-eq
-returns-then-eq c =
-    let same : c.colour_after.result ≡ c.args.colour = same_true the_type (search rules) _ _ (sym c.if-eq.ensures) in
-    b1_here c.args.self c.args.a0 c.change_after-next.result c.change_after-next.result c.args.colour c.change_after-next.ensures
-    (inl refl) (sym c.colour_after.ensures ∙ same)
+use denote.Enum.Bare.{same_false}
 
 pub returns-else-eq : goal.returns-else-eq
 returns-else-eq c =

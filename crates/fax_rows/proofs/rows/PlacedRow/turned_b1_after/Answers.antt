@@ -1,20 +1,13 @@
 use Rattle.std.proofs.Common.{arith}
 use Rattle.fax_rows.specs.Rows.{other}
 use Rattle.fax_rows.proofs.PlacedRowLemmas.{end_within}
-use Rattle.fax_rows.proofs.PlacedB1Lemmas.{right_start, left_start, inside_end}
+use Rattle.fax_rows.proofs.PlacedB1Lemmas.{right_start, left_start}
 use Rattle.fax_rows.proofs.rows.PlacedRow.turned_b1_after.Goals as goal
 
 pub bounds-self-b1 : goal.bounds-self-b1
 bounds-self-b1 c =
     let row = c.args.self in
     omega (arith, row.placed.room, end_within row.placed)
-
-pub b1_after-requires : goal.b1_after-requires
-b1_after-requires c = record {
-  within = λ inside.
-      let less = inside_end c.args.self c.args.b1 c.requires.some c.requires.within (omega arith) in
-      omega arith;
-}
 
 pub returns : goal.returns
 returns c = λ inside a0 colour at right.
