@@ -29,6 +29,4 @@ pub mod LaneLemmas
 pub mod WrittenRunLemmas
 pub mod PairLemmas
 pub mod LookUpLemmas
-pub mod LongRunLemmas
 pub mod LookedAtLemmas
-pub mod LastBitsLemmas

@@ -61,6 +61,12 @@ pub fn runs_are_read_as_nothing_else()
     ensures { Law.RunBitsAreOneRun }
 {}
 
+/// Bits that begin with codes of a run as T.4 chooses them, code by code, begin as `put_run` writes
+/// that run (T.4, section 4.1.1).
+pub fn chosen_codes_are_written()
+    ensures { Law.ChosenCodesAreWritten }
+{}
+
 /// A mode, as `put_mode` writes it, is read as that mode, whatever bits follow it (T.4, section
 /// 4.2.1.3.2).
 pub fn modes_are_read_back()

@@ -1,19 +1,18 @@
 //! What one look-up of the next bits finds: a run, a white run and the black one after it, a mode.
 ghost use Rattle.std.specs.Prelude.{◌≡◌, ◌+◌, ◌^◌, ◌<◌, ◌≤◌, ◌++◌, length};
-ghost use Rattle.std.specs.Prelude.{IfSome, IsSome, IsTrue, None, take, replicate, true};
+ghost use Rattle.std.specs.Prelude.{IfSome, IsSome, None, take, replicate, true};
 ghost use Rattle.fax_bits.specs.Codes.{Takes, IsRun};
 ghost use Rattle.fax_bits.specs.Tables.{modes};
 ghost use Rattle.fax_bits.specs.Written.{run_bits};
 ghost use Rattle.fax_bits.specs.views.Pairs.{IsPairRead};
 ghost use Rattle.fax_bits.specs.views.Source.{KeepsEnd};
-ghost use Rattle.fax_bits.specs.code.LookUp.{IsLookedUp, IsFoundAhead};
+ghost use Rattle.fax_bits.specs.code.LookUp.{IsLookedUp};
 
 use crate::codes::LONGEST_CODE;
 use crate::modes::{ModeCode, find_mode};
 use crate::pairs::{Pair, find_pair};
-use crate::runs::{LONGEST_MAKE_UP, TERMINATING_CODES, find_run_code};
-use crate::window::Window;
-use crate::{BitSource, Colour, FillOrder, ReadRun};
+use crate::runs::{TERMINATING_CODES, find_run_code};
+use crate::{BitSource, Colour};
 
 /// How many bits are looked at: those of a make-up code and a terminating code, and some more.
 const LOOKED_AT: u32 = 32;
@@ -77,39 +76,6 @@ impl LookUp for RunWithin {
     }
 }
 
-/// A make-up code of the colour, of at most so many pels.
-#[derive(Clone, Copy)]
-struct MakeUpWithin {
-    colour: Colour,
-    most: u32,
-}
-
-impl LookUp for MakeUpWithin {
-    ghost use Rattle.std.specs.Prelude.{◌≤◌};
-    ghost use Rattle.fax_bits.specs.Tables.{run_table};
-    ghost use Rattle.fax_bits.specs.code.LookUp.{IsCode};
-    ghost use Rattle.fax_bits.specs.declared.runs.RunCode.TheVariants.{MakeUp};
-
-    type Found = u32;
-
-    ghost Means = { λ s b pels.
-        IsCode (run_table s.colour) b (MakeUp pels) × (pels ≤ s.most) };
-
-    #[inline(always)]
-    fn find(self, bits: u32) -> Option<(u32, u32)> {
-        let terminating = u32::from(TERMINATING_CODES);
-        let (len, place) = find_run_code(self.colour, bits >> AFTER_CODE)?;
-        if place < terminating {
-            return None;
-        }
-        let pels = 64 * (place - terminating + 1);
-        if pels > self.most {
-            return None;
-        }
-        Some((len, pels))
-    }
-}
-
 /// A white run and the black one after it, which take few bits, in a row of `width` pels of which
 /// `total` stand before them.
 #[derive(Clone, Copy)]
@@ -156,27 +122,6 @@ impl LookUp for Mode {
     }
 }
 
-/// What one look-up finds of the bits of some bytes, where it stands whole in them, and the bits
-/// after it.
-#[inline(always)]
-fn find_last<L: LookUp>(
-    window: Window,
-    bytes: &[u8],
-    order: FillOrder,
-    what: L,
-) -> Option<(Window, L::Found)>
-    requires within { window.at ≤ length bytes.now }
-    ensures { IfSome result
-        (λ found. IsFoundAhead (L.Means what) order bytes.now window found.1 found.0) }
-{
-    let last = window.with_last_bytes(bytes, order);
-    let (len, found) = what.find(last.number(LOOKED_AT))?;
-    if len > last.count {
-        return None;
-    }
-    Some((last.after(len), found))
-}
-
 impl<'a> BitSource<'a> {
     /// Goes past what one look-up finds of the next bits. Where it finds nothing, and near the end
     /// of the bytes, the source is as it was.
@@ -190,18 +135,6 @@ impl<'a> BitSource<'a> {
         self.window = window;
         let (len, found) = what.find(window.number(LOOKED_AT))?;
         self.window = window.after(len);
-        Some(found)
-    }
-
-    /// What `look_up` does, near the end of the bytes too.
-    #[inline(always)]
-    fn look_up_last<L: LookUp>(&mut self, what: L) -> Option<L::Found>
-        ensures found { IfSome result
-            (λ found. IsLookedUp (L.Means what) self.old found self.new) }
-        ensures unchanged { result ≡ None → self.new ≡ self.old }
-    {
-        let (window, found) = find_last(self.window, self.bytes, self.order, what)?;
-        self.window = window;
         Some(found)
     }
 
@@ -239,53 +172,6 @@ impl<'a> BitSource<'a> {
         self.look_up(RunWithin { colour, most })
     }
 
-    /// What `run_within` does, near the end of the bytes too. It is slower.
-    pub fn last_run_within(&mut self, colour: Colour, most: u32) -> Option<u32>
-        ensures run { IfSome result (λ pels. IsRun colour self.old.left pels self.new.left) }
-        ensures written { IfSome result
-            (λ pels. self.old.left ≡ run_bits colour pels ++ self.new.left) }
-        ensures few { IfSome result (λ pels. pels ≤ most) }
-        ensures unchanged { result ≡ None → self.new ≡ self.old }
-
-        // The source goes on in the same bits.
-        ensures same_end { KeepsEnd self.old self.new }
-        ensures shorter { IsSome result → length self.new.left < length self.old.left }
-    {
-        self.look_up_last(RunWithin { colour, most })
-    }
-
-    /// Reads a run of the colour that has a make-up code, and at most so many pels: its first make-up
-    /// codes by a look-up each, and the rest by one more (T.4, section 4.1.1). Where it is not found
-    /// so, the source goes on somewhere in the same bits.
-    pub fn long_run_within(&mut self, colour: Colour, most: u32) -> Option<ReadRun>
-        ensures run { IfSome result
-            (λ run. IsRun colour self.old.left run.pels self.new.left) }
-        ensures chosen { IfSome result (λ run. IsTrue run.is_chosen
-            → self.old.left ≡ run_bits colour run.pels ++ self.new.left) }
-        ensures few { IfSome result (λ run. run.pels ≤ most) }
-
-        // The source goes on in the same bits.
-        ensures same_end { KeepsEnd self.old self.new }
-        ensures shorter { IsSome result → length self.new.left < length self.old.left }
-    {
-        let mut pels = 0;
-        let mut is_chosen = true;
-        while let Some(more) = self.look_up(MakeUpWithin {
-            colour,
-            most: most - pels,
-        }) {
-            pels += more;
-            is_chosen = is_chosen && more == LONGEST_MAKE_UP;
-            if let Some(last) = self.run_within(colour, most - pels) {
-                return Some(ReadRun {
-                    pels: pels + last,
-                    is_chosen,
-                });
-            }
-        }
-        None
-    }
-
     /// Reads a mode by one look-up at most (T.4, table 4). Where it finds none, the source is as it
     /// was.
     #[inline(always)]
@@ -302,18 +188,6 @@ impl<'a> BitSource<'a> {
             return Some(ModeCode::Vertical(0));
         }
         self.look_up(Mode)
-    }
-
-    /// What `mode` does, near the end of the bytes too. It is slower.
-    pub fn last_mode(&mut self) -> Option<ModeCode>
-        ensures takes { IfSome result (λ mode. Takes modes self.old.left mode self.new.left) }
-        ensures unchanged { result ≡ None → self.new ≡ self.old }
-
-        // The source goes on in the same bits.
-        ensures same_end { KeepsEnd self.old self.new }
-        ensures shorter { IsSome result → length self.new.left < length self.old.left }
-    {
-        self.look_up_last(Mode)
     }
 
     /// Whether few bytes are left to be loaded: a hint, of which nothing is said.

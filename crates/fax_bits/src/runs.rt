@@ -22,14 +22,6 @@ pub enum RunCode {
     Extension,
 }
 
-/// A run that is read.
-#[derive(Clone, Copy, Debug)]
-pub struct ReadRun {
-    pub pels: u32,
-    /// Whether its codes are seen to be those that T.4 chooses.
-    pub is_chosen: bool,
-}
-
 /// How many entries a run table has: 64 terminating codes, 27 make-up codes of its own, 13 that
 /// both colours share, and the extension prefix.
 const RUN_ENTRIES: usize = 105;
@@ -40,8 +32,8 @@ pub(crate) const TERMINATING_CODES: u8 = 64;
 /// Where the extension prefix stands, after all codes of runs.
 const EXTENSION: usize = RUN_ENTRIES - 1;
 
-/// The most pels that one make-up code means.
-pub(crate) const LONGEST_MAKE_UP: u32 = 64 * (EXTENSION as u32 - TERMINATING_CODES as u32);
+/// The most pels that one make-up code means, 2560 (T.4, table 3b).
+pub const LONGEST_MAKE_UP: u32 = 64 * (EXTENSION as u32 - TERMINATING_CODES as u32);
 
 // The codes in the order of their meaning, which `meaning_at` gives, and their lengths in bits.
 

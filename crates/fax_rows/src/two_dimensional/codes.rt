@@ -37,7 +37,7 @@ impl From<RowFault> for Stop {
     }
 }
 
-/// Reads a mode by a look-up near the end of the bytes too, or else by its table.
+/// Reads a mode by its table.
 #[cold]
 #[inline(never)]
 fn read_last_mode(source: &mut BitSource) -> Result<ModeCode, CodeFault>
@@ -46,9 +46,6 @@ fn read_last_mode(source: &mut BitSource) -> Result<ModeCode, CodeFault>
     ensures same_end { KeepsEnd source.old source.new }
     ensures shorter { OnOk result (length source.new.left < length source.old.left) }
 {
-    if let Some(mode) = source.last_mode() {
-        return Ok(mode);
-    }
     read_code::<Modes>(source)
 }
 

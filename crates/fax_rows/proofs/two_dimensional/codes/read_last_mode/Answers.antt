@@ -1,5 +1,0 @@
-use Rattle.std.proofs.Common.{refl}
-use Rattle.fax_rows.proofs.two_dimensional.codes.read_last_mode.Goals as goal
-
-pub returns-clause-err : goal.returns-clause-err
-returns-clause-err c = rw (c.in_default.ensures.unchanged refl) at c.read_code.ensures.err
