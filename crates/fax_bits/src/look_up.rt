@@ -11,7 +11,7 @@ ghost use Rattle.fax_bits.specs.code.LookUp.{IsLookedUp};
 use crate::codes::LONGEST_CODE;
 use crate::modes::{ModeCode, find_mode};
 use crate::pairs::{Pair, find_pair};
-use crate::runs::{TERMINATING_CODES, find_run_code};
+use crate::runs::{RunCode, find_run};
 use crate::{BitSource, Colour};
 
 /// How many bits are looked at: those of a make-up code and a terminating code, and some more.
@@ -59,16 +59,18 @@ impl LookUp for RunWithin {
 
     #[inline(always)]
     fn find(self, bits: u32) -> Option<(u32, u32)> {
-        let terminating = u32::from(TERMINATING_CODES);
-        let (mut len, mut pels) = find_run_code(self.colour, bits >> AFTER_CODE)?;
-        if pels >= terminating {
-            let (more, last) = find_run_code(self.colour, (bits << len) >> AFTER_CODE)?;
-            if last >= terminating {
-                return None;
+        let (first, code) = find_run(self.colour, bits >> AFTER_CODE, LONGEST_CODE)?;
+        let (len, pels) = match code {
+            RunCode::Terminating(pels) => (first, u32::from(pels)),
+            RunCode::MakeUp(more) => {
+                let next = find_run(self.colour, (bits << first) >> AFTER_CODE, LONGEST_CODE)?;
+                let (second, RunCode::Terminating(last)) = next else {
+                    return None;
+                };
+                (first + second, u32::from(more) + u32::from(last))
             }
-            len += more;
-            pels = 64 * (pels - terminating + 1) + last;
-        }
+            RunCode::Extension => return None,
+        };
         if pels > self.most {
             return None;
         }

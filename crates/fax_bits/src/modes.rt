@@ -23,67 +23,32 @@ const MODE_ENTRIES: usize = 10;
 
 // Where the modes stand in their table.
 
-pub(crate) const PASS: usize = 0;
+const PASS: usize = 0;
 
-pub(crate) const HORIZONTAL: usize = 1;
+const HORIZONTAL: usize = 1;
 
-/// a1 under b1, and after it a1 one, two and three pels right of b1.
-pub(crate) const UNDER: usize = 2;
+/// An entry of the table.
+macro_rules! entry {
+    ($code:literal, $len:literal, $meaning:expr) => {
+        CodeEntry {
+            code: $code,
+            len: $len,
+            meaning: $meaning,
+        }
+    };
+}
 
-/// Before a1 one pel left of b1, after which stand two and three pels.
-pub(crate) const LEFT: usize = 5;
-
-pub(crate) const MODES: [CodeEntry<ModeCode>; MODE_ENTRIES] = [
-    CodeEntry {
-        code: 0b0001,
-        len: 4,
-        meaning: ModeCode::Pass,
-    },
-    CodeEntry {
-        code: 0b001,
-        len: 3,
-        meaning: ModeCode::Horizontal,
-    },
-    CodeEntry {
-        code: 0b1,
-        len: 1,
-        meaning: ModeCode::Vertical(0),
-    },
-    CodeEntry {
-        code: 0b011,
-        len: 3,
-        meaning: ModeCode::Vertical(1),
-    },
-    CodeEntry {
-        code: 0b000011,
-        len: 6,
-        meaning: ModeCode::Vertical(2),
-    },
-    CodeEntry {
-        code: 0b0000011,
-        len: 7,
-        meaning: ModeCode::Vertical(3),
-    },
-    CodeEntry {
-        code: 0b010,
-        len: 3,
-        meaning: ModeCode::Vertical(-1),
-    },
-    CodeEntry {
-        code: 0b000010,
-        len: 6,
-        meaning: ModeCode::Vertical(-2),
-    },
-    CodeEntry {
-        code: 0b0000010,
-        len: 7,
-        meaning: ModeCode::Vertical(-3),
-    },
-    CodeEntry {
-        code: 0b0000001,
-        len: 7,
-        meaning: ModeCode::Extension,
-    },
+const MODES: [CodeEntry<ModeCode>; MODE_ENTRIES] = [
+    entry!(0b0001, 4, ModeCode::Pass),
+    entry!(0b001, 3, ModeCode::Horizontal),
+    entry!(0b1, 1, ModeCode::Vertical(0)),
+    entry!(0b011, 3, ModeCode::Vertical(1)),
+    entry!(0b000011, 6, ModeCode::Vertical(2)),
+    entry!(0b0000011, 7, ModeCode::Vertical(3)),
+    entry!(0b010, 3, ModeCode::Vertical(-1)),
+    entry!(0b000010, 6, ModeCode::Vertical(-2)),
+    entry!(0b0000010, 7, ModeCode::Vertical(-3)),
+    entry!(0b0000001, 7, ModeCode::Extension),
 ];
 
 /// The codes of modes (T.4, table 4).

@@ -1,5 +1,5 @@
 //! The codes of runs (ITU-T T.4, tables 2, 3a and 3b).
-ghost use Rattle.std.specs.Prelude.{◌≡◌, ◌<◌, ◌≤◌, ◌^◌, Some, IfSome, MatchOption, slice_get};
+ghost use Rattle.std.specs.Prelude.{◌≡◌, ◌<◌, ◌≤◌, ◌^◌, Some, MatchOption, slice_get};
 ghost use Rattle.fax_bits.specs.Bits.{code_bits};
 ghost use Rattle.fax_bits.specs.views.Codes.{HasCodeAhead};
 ghost use Rattle.fax_bits.specs.Codes.{HasNoCode};
@@ -27,7 +27,7 @@ pub enum RunCode {
 const RUN_ENTRIES: usize = 105;
 
 /// How many of them are terminating codes, which stand first.
-pub(crate) const TERMINATING_CODES: u8 = 64;
+pub(crate) const TERMINATING_CODES: u16 = 64;
 
 /// Where the extension prefix stands, after all codes of runs.
 const EXTENSION: usize = RUN_ENTRIES - 1;
@@ -332,10 +332,9 @@ impl CodeTable for BlackRuns {
 
 /// The entry at a place of the run table of a colour.
 #[inline(always)]
-fn run_entry(colour: Colour, i: usize) -> CodeEntry<RunCode>
+pub(crate) fn run_entry(colour: Colour, i: usize) -> CodeEntry<RunCode>
     requires { i < 105 }
     ensures found { slice_get (run_table colour) i ≡ Some result }
-    ensures means { result.meaning ≡ run_meaning i }
 {
     let (code, len) = match colour {
         Colour::White => (WHITE_CODES[i], WHITE_LENS[i]),
@@ -349,7 +348,8 @@ fn run_entry(colour: Colour, i: usize) -> CodeEntry<RunCode>
 }
 
 /// What `find` of the run table of a colour says.
-fn find_run(colour: Colour, window: u32, n: u32) -> Option<(u32, RunCode)>
+#[inline(always)]
+pub(crate) fn find_run(colour: Colour, window: u32, n: u32) -> Option<(u32, RunCode)>
     requires few { n ≤ LONGEST_CODE }
     requires fits { window < 2 ^ n }
     ensures { MatchOption result (HasNoCode (run_table colour) (code_bits n window))
@@ -379,39 +379,15 @@ fn run_place(colour: Colour, bits: u32) -> usize
     }
 }
 
-/// The length and the place of the code for a run of the colour that begins thirteen bits, but for
-/// the extension. `None` where no such code does. Short codes are looked up first.
-#[inline(always)]
-pub(crate) fn find_run_code(colour: Colour, bits: u32) -> Option<(u32, u32)>
-    requires { bits < 2 ^ LONGEST_CODE }
-    ensures { IfSome result (λ found. (found.1 < 104) × HasCodeAhead (run_table colour)
-        (code_bits LONGEST_CODE bits) found.0 (run_meaning found.1)) }
-{
-    let at = bits as usize;
-    let short = match colour {
-        Colour::White => WHITE_SHORT[at >> 4],
-        Colour::Black => BLACK_SHORT[at >> 7],
-    };
-    let mut place = usize::from(short);
-    if place >= EXTENSION {
-        place = run_place(colour, bits);
-        if place >= EXTENSION {
-            return None;
-        }
-    }
-    Some((u32::from(run_entry(colour, place).len), place as u32))
-}
-
 /// What the code at a place of a run table means.
 fn meaning_at(i: u16) -> RunCode
     requires { i < 105 }
     ensures { result ≡ run_meaning i }
 {
-    let terminating = u16::from(TERMINATING_CODES);
-    if i < terminating {
+    if i < TERMINATING_CODES {
         RunCode::Terminating(i)
     } else if usize::from(i) < EXTENSION {
-        RunCode::MakeUp(64 * (i - terminating + 1))
+        RunCode::MakeUp(64 * (i - TERMINATING_CODES + 1))
     } else {
         RunCode::Extension
     }
