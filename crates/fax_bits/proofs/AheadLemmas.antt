@@ -14,7 +14,7 @@ use Rattle.fax_bits.specs.Tables.{modes}
 use Rattle.fax_bits.specs.code.Window.{first_bits}
 use Rattle.fax_bits.specs.code.BitsAhead.{bits_ahead, IsAhead, place_before}
 use Rattle.fax_bits.proofs.SourceLemmas.{length-left}
-use Rattle.fax_bits.proofs.MeetingLemmas.{length-code_bits}
+use Rattle.fax_bits.proofs.CodeBitsLemmas.{length-code_bits}
 use Rattle.fax_bits.proofs.TableLemmas.{listed, left_after}
 use Rattle.fax_bits.proofs.PeekLemmas.{padded}
 use Rattle.fax_bits.proofs.ReadLemmas.{peeked_bits}

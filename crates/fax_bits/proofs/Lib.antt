@@ -1,7 +1,6 @@
 pub mod CodeBitsLemmas
 pub mod SinkLemmas
 pub mod SourceLemmas
-pub mod MeetingLemmas
 pub mod TableLemmas
 pub mod ArrayLemmas
 pub mod ZeroLemmas

@@ -16,7 +16,7 @@ use Rattle.fax_bits.specs.views.Pairs.{IsPairRead}
 use Rattle.fax_bits.specs.views.Source.{Source}
 use Rattle.fax_bits.specs.code.Pairs.{IsPairAhead}
 use Rattle.fax_bits.specs.code.LookUp.{IsBegun, IsLookedUp, IsCode, IsOneRun, AreTwoRuns}
-use Rattle.fax_bits.proofs.MeetingLemmas.{length-code_bits}
+use Rattle.fax_bits.proofs.CodeBitsLemmas.{length-code_bits}
 use Rattle.fax_bits.proofs.ReadBackLemmas.{run_bits_are_read}
 use Rattle.fax_bits.proofs.WrittenRunLemmas.{short_written, long_written, terminating_few, make_up_few}
 use Rattle.fax_bits.proofs.LookedAtLemmas.{begins_all, begins_next}

@@ -14,7 +14,7 @@ use Rattle.fax_bits.specs.Bits.{BeginsWith}
 use Rattle.fax_bits.specs.code.Places.{begins, place_after, place_of}
 use Rattle.fax_bits.proofs.CodeBitsLemmas.{code_bits-add}
 use Rattle.fax_bits.proofs.FindLemmas.{code_ahead, ahead_is_short, ahead_is_first}
-use Rattle.fax_bits.proofs.MeetingLemmas.{length-code_bits}
+use Rattle.fax_bits.proofs.CodeBitsLemmas.{length-code_bits}
 use Rattle.fax_bits.proofs.PrefixLemmas.{takes_one}
 use Rattle.fax_bits.proofs.TableLemmas.{listed}
 

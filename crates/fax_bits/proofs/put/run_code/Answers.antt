@@ -1,7 +1,7 @@
 use Rattle.std.proofs.Common.{length, ap, sym, ◌∙◌, arith}
 use Rattle.fax_bits.specs.Tables.{run_table}
 use Rattle.fax_bits.specs.code.TableLaws.{run_table_has_short_codes}
-use Rattle.fax_bits.proofs.MeetingLemmas.{length-code_bits}
+use Rattle.fax_bits.proofs.CodeBitsLemmas.{length-code_bits}
 use Rattle.fax_bits.proofs.RunCodeLemmas.{bits_at-found, bits_at-run_table}
 use Rattle.fax_bits.proofs.TableLemmas.{listed}
 use Rattle.fax_bits.proofs.put.run_code.Goals as goal

@@ -1,5 +1,5 @@
 use Rattle.std.proofs.Common.{◌≡◌, ◌+◌, length, ap, inl, arith, length-append}
-use Rattle.fax_bits.proofs.MeetingLemmas.{length-code_bits}
+use Rattle.fax_bits.proofs.CodeBitsLemmas.{length-code_bits}
 use Rattle.fax_bits.proofs.AheadLemmas.{front_taken, front_end_kept, front_shorter}
 use Rattle.fax_bits.proofs.source.BitSource.look_up.Goals as goal
 
