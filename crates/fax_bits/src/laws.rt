@@ -25,11 +25,6 @@ pub fn bits_are_packed_in_one_way()
     ensures { Law.PacksOneWay }
 {}
 
-/// At most one code of a table is taken of any bits, with one rest after it.
-pub fn one_code_is_taken<T: CodeTable>()
-    ensures { Law.HasOneAnswer (Takes T.table) }
-{}
-
 /// Bits are read by any table in one way: at most one code is taken, which has at least one bit; a
 /// code is taken or there is a fault, never both, and never two faults.
 pub fn codes_are_read_in_one_way<T: CodeTable>()

@@ -21,12 +21,6 @@ pub enum ModeCode {
 /// How many entries the mode table has: nine modes, and the extension prefix.
 const MODE_ENTRIES: usize = 10;
 
-// Where the modes stand in their table.
-
-const PASS: usize = 0;
-
-const HORIZONTAL: usize = 1;
-
 /// An entry of the table.
 macro_rules! entry {
     ($code:literal, $len:literal, $meaning:expr) => {
@@ -88,22 +82,6 @@ impl CodeTable for Modes {
     ghost prefix_free = { Laws.modes_is_prefix_free };
 }
 
-/// The length and the meaning of the code at a place of the table, where it begins thirteen bits.
-#[inline(always)]
-fn begins(bits: u32, place: usize) -> Option<(u32, ModeCode)>
-    requires bits { bits < 2 ^ LONGEST_CODE }
-    requires place { place < 10 }
-    ensures { IfSome result
-        (λ found. HasCodeAhead modes (code_bits LONGEST_CODE bits) found.0 found.1) }
-{
-    let entry = Modes::entry(place);
-    let len = u32::from(entry.len);
-    if bits >> (LONGEST_CODE - len) == u32::from(entry.code) {
-        return Some((len, entry.meaning));
-    }
-    None
-}
-
 /// The length and the meaning of the code of a mode that begins thirteen bits. Vertical modes,
 /// which most are, take one look-up; of the extension it says nothing.
 #[inline(always)]
@@ -118,11 +96,9 @@ pub(crate) fn find_mode(bits: u32) -> Option<(u32, ModeCode)>
         let mode = ModeCode::Vertical(VERTICAL_MODES.shifts[at]);
         return Some((u32::from(len), mode));
     }
-    if let Some(found) = begins(bits, PASS) {
-        return Some(found);
+    match bits >> (LONGEST_CODE - 4) {
+        0b0001 => Some((4, ModeCode::Pass)),
+        0b0010 | 0b0011 => Some((3, ModeCode::Horizontal)),
+        _ => None,
     }
-    if let Some(found) = begins(bits, HORIZONTAL) {
-        return Some(found);
-    }
-    None
 }
