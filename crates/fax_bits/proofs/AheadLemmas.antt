@@ -6,13 +6,14 @@ use Rattle.std.proofs.lemmas.List.{drop-drop, take-append-drop, take-take, take-
 use Rattle.fax_bits.specs.declared.FillOrder.{FillOrder}
 use Rattle.fax_bits.specs.declared.window.Window.{Window}
 use Rattle.fax_bits.specs.declared.modes.ModeCode.TheVariants.{Vertical}
-use Rattle.fax_bits.specs.Bits.{bits, code_bits, BeginsWith}
+use Rattle.fax_bits.specs.Bits.{bits, code_bits}
 use Rattle.fax_bits.specs.views.Source.{HasZerosAhead, Source, source_of, KeepsEnd}
 use Rattle.fax_bits.specs.Bits.{bits_number}
 use Rattle.fax_bits.specs.Codes.{Takes}
 use Rattle.fax_bits.specs.Tables.{modes}
 use Rattle.fax_bits.specs.code.Window.{first_bits}
 use Rattle.fax_bits.specs.code.BitsAhead.{bits_ahead, IsAhead, place_before}
+use Rattle.fax_bits.specs.code.LookUp.{IsBegun, IsLookedUp}
 use Rattle.fax_bits.proofs.SourceLemmas.{length-left}
 use Rattle.fax_bits.proofs.CodeBitsLemmas.{length-code_bits}
 use Rattle.fax_bits.proofs.TableLemmas.{listed, left_after}
@@ -35,6 +36,12 @@ takes_one (bit ∷ left) rest is = record {
   means = refl;
   spelled = is ∙ ap (λ b. true ∷ b) (sym (ap (drop 1) is));
 }
+
+-- what begins thirty-two bits is no longer
+pub begun_short : {F : Type 0} {means : List Bool → F → Type 0} (number : ℕ) {len : ℕ} {found : F}
+    → IsBegun means (code_bits 32 number) len found → len ≤ 32
+begun_short number begun =
+    omega (arith, begun.long, ap length begun.ahead.1, length-append begun.front begun.ahead.0, length-code_bits 32 number)
 
 -- a window at the place of another, of which more may be loaded
 module _ (order : FillOrder) (bytes : List ℕ) (old window : Window) (source : Source) (is : IsAhead order bytes old)
@@ -112,28 +119,34 @@ module _ (order : FillOrder) (bytes : List ℕ) (old window : Window) (source : 
     spelled_is : number ≡ bits_number (take 32 (padded source.left 32))
     spelled_is = number_is ∙ ap (λ b. bits_number (take 32 (padded b 32))) loaded_left
 
-    -- the first of them
-    module _ (front : List Bool) (ahead : BeginsWith (code_bits 32 number) front) (after : Window)
-        (count : after.count + length front ≡ window.count) (at : after.at ≡ window.at) where
-      pub front_short : length front ≤ 32
-      front_short = omega (arith, ap length ahead.1, length-append front ahead.0, length-code_bits 32 number)
+    -- the first of them mean what is found, and the window after them stands behind these
+    module _ {F : Type 0} {means : List Bool → F → Type 0} {len : ℕ} {found : F} (begun : IsBegun means (code_bits 32 number) len found)
+        (after : Window) (count : after.count + len ≡ window.count) (at : after.at ≡ window.at) where
+      front_left : drop (place_before after) (bits order bytes) ≡ drop (length begun.front) source.left
+      front_left = left_after_code len after (begun_short number begun) count at ∙ ap (λ n. drop n source.left) (sym begun.long)
 
-      front_left : drop (place_before after) (bits order bytes) ≡ drop (length front) source.left
-      front_left = left_after_code (length front) after (omega (arith, front_short)) count at
-
-      pub front_taken : source.left ≡ front ++ drop (place_before after) (bits order bytes)
+      front_taken : source.left ≡ begun.front ++ drop (place_before after) (bits order bytes)
       front_taken =
-          left_after source.left front (ahead.0 ++ drop 32 source.left) (length front)
+          left_after source.left begun.front (begun.ahead.0 ++ drop 32 source.left) (length begun.front)
           (sym (take-append-drop 32 source.left)
           ∙ ap (λ b. b ++ drop 32 source.left)
-          (sym (peeked_bits source.left 32 (omega (arith, many, loaded-left)) number spelled_is) ∙ ahead.1)
-          ∙ append_assoc front ahead.0 (drop 32 source.left))
+          (sym (peeked_bits source.left 32 (omega (arith, many, loaded-left)) number spelled_is) ∙ begun.ahead.1)
+          ∙ append_assoc begun.front begun.ahead.0 (drop 32 source.left))
           refl
-          ∙ ap (λ rest. front ++ rest) (sym front_left)
+          ∙ ap (λ rest. begun.front ++ rest) (sym front_left)
 
-      pub front_end_kept : KeepsEnd source (source_of order bytes (place_before after))
-      front_end_kept = end_kept (length front) after (omega (arith, front_short)) count at
-
-      pub front_shorter : 0 < length front → length (drop (place_before after) (bits order bytes)) < length source.left
-      front_shorter some =
-          omega (arith, front_short, some, many, loaded-left, ap length front_left, length-drop (length front) source.left)
+      pub looked_up : IsLookedUp means source found (source_of order bytes (place_before after))
+      looked_up = record {
+        front = begun.front;
+        meaning = begun.meaning;
+        taken = front_taken;
+        same_end = end_kept len after (begun_short number begun) count at;
+        shorter =
+            omega (
+              arith,
+              begun.some,
+              begun.long,
+              ap length front_taken,
+              length-append begun.front (drop (place_before after) (bits order bytes)),
+            );
+      }

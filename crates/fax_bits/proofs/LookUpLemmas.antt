@@ -75,32 +75,27 @@ pub run_code_short : (colour : Colour) (b : List Bool) (len : ℕ) (code : RunCo
 run_code_short colour b len code found = omega (arith, (run_table_has_short_codes colour found.entry found.listed).1, found.length)
 
 -- a run of a terminating code alone
-pub short_run_begins : (colour : Colour) (most : ℕ) (b : List Bool) (len pels : ℕ)
-    → HasCodeAhead (run_table colour) b len (Terminating pels) → pels ≤ most
-    → IsBegun (λ front pels. IsOneRun colour front pels × (pels ≤ most)) b len pels
-short_run_begins colour most b len pels found few =
+pub short_run_begins : (colour : Colour) (b : List Bool) (len pels : ℕ)
+    → HasCodeAhead (run_table colour) b len (Terminating pels) → IsBegun (IsOneRun colour) b len pels
+short_run_begins colour b len pels found =
     let begun = run_code_begins colour b len (Terminating pels) found in
     record {
       front = begun.front;
       ahead = begun.ahead;
       long = begun.long;
       some = begun.some;
-      meaning = (
-        record {
-          spelled = short_written colour begun.front pels [] begun.meaning ∙ append-nil (run_bits colour pels);
-          short = omega (arith, terminating_few colour begun.front pels [] begun.meaning);
-        },
-        few,
-      );
+      meaning = record {
+        spelled = short_written colour begun.front pels [] begun.meaning ∙ append-nil (run_bits colour pels);
+        short = omega (arith, terminating_few colour begun.front pels [] begun.meaning);
+      };
     }
 
 -- a run of a make-up code and a terminating code
-pub long_run_begins : (colour : Colour) (most number len first more last : ℕ)
+pub long_run_begins : (colour : Colour) (number len first more last : ℕ)
     → HasCodeAhead (run_table colour) (code_bits 13 (number / 2 ^ 19)) len (MakeUp first)
     → HasCodeAhead (run_table colour) (code_bits 13 (number * 2 ^ len % 2 ^ 32 / 2 ^ 19)) more (Terminating last)
-    → first + last ≤ most
-    → IsBegun (λ front pels. IsOneRun colour front pels × (pels ≤ most)) (code_bits 32 number) (len + more) (first + last)
-long_run_begins colour most number len first more last found after few =
+    → IsBegun (IsOneRun colour) (code_bits 32 number) (len + more) (first + last)
+long_run_begins colour number len first more last found after =
     let begun = begins_more _ number len (MakeUp first) (run_code_begins colour (code_bits 13 (number / 2 ^ 19)) len (MakeUp first) found) in
     let next = run_code_begins colour (code_bits 13 (number * 2 ^ len % 2 ^ 32 / 2 ^ 19)) more (Terminating last) after in
     let make_up : Takes (run_table colour) (begun.front ++ next.front) (MakeUp first) next.front = record {
@@ -115,47 +110,45 @@ long_run_begins colour most number len first more last found after few =
           begins_next number len begun.front next.front (run_code_short colour _ len (MakeUp first) found) begun.long begun.ahead next.ahead;
       long = length-append begun.front next.front ∙ ap (λ n. n + length next.front) begun.long ∙ ap (λ n. len + n) next.long;
       some = omega (arith, begun.some);
-      meaning = (
-        record {
-          spelled =
-              long_written colour (begun.front ++ next.front) first last next.front [] make_up next.meaning
-              ∙ append-nil (run_bits colour (first + last));
-          short =
-              omega (
-                arith,
-                make_up_few colour (begun.front ++ next.front) first next.front make_up,
-                terminating_few colour next.front last [] next.meaning,
-              );
-        },
-        few,
-      );
+      meaning = record {
+        spelled =
+            long_written colour (begun.front ++ next.front) first last next.front [] make_up next.meaning
+            ∙ append-nil (run_bits colour (first + last));
+        short =
+            omega (
+              arith,
+              make_up_few colour (begun.front ++ next.front) first next.front make_up,
+              terminating_few colour next.front last [] next.meaning,
+            );
+      };
     }
+
+-- stands before the bits after it, as it is written
+pub run_written : (colour : Colour) (front left : List Bool) (pels : ℕ) (rest : List Bool) → IsOneRun colour front pels
+    → left ≡ front ++ rest → left ≡ run_bits colour pels ++ rest
+run_written colour front left pels rest is taken = taken ∙ ap (λ b. b ++ rest) is.spelled
 
 -- and is read
 pub run_taken : (colour : Colour) (front left : List Bool) (pels : ℕ) (rest : List Bool) → IsOneRun colour front pels
     → left ≡ front ++ rest → IsRun colour left pels rest
 run_taken colour front left pels rest is taken =
-    subst (λ b. IsRun colour b pels rest) (sym (taken ∙ ap (λ b. b ++ rest) is.spelled)) (run_bits_are_read colour pels rest is.short)
+    subst (λ b. IsRun colour b pels rest) (sym (run_written colour front left pels rest is taken))
+    (run_bits_are_read colour pels rest is.short)
 
 -- two runs that begin the bits are found
-pub pair_begins : (total width : ℕ) (b : List Bool) (len : ℕ) (pair : Pair) → IsPairAhead b len pair
-    → total + pair.white + pair.black ≤ width
-    → IsBegun (λ front (found : Pair). AreTwoRuns front found × (total + found.white + found.black ≤ width)) b len pair
-pair_begins total width b len pair found within = record {
+pub pair_begins : (b : List Bool) (len : ℕ) (pair : Pair) → IsPairAhead b len pair → IsBegun AreTwoRuns b len pair
+pair_begins b len pair found = record {
   front = code_bits len found.code;
   ahead = found.ahead;
   long = length-code_bits len found.code;
   some = found.some;
-  meaning = (
-    record {
-      white = found.white;
-      black = found.black;
-      short_white = found.short_white;
-      short_black = found.short_black;
-      spelled = found.spelled;
-    },
-    within,
-  );
+  meaning = record {
+    white = found.white;
+    black = found.black;
+    short_white = found.short_white;
+    short_black = found.short_black;
+    spelled = found.spelled;
+  };
 }
 
 -- and are read

@@ -6,7 +6,8 @@ ghost use Rattle.fax_bits.specs.Tables.{modes};
 ghost use Rattle.fax_bits.specs.Written.{run_bits};
 ghost use Rattle.fax_bits.specs.views.Pairs.{IsPairRead};
 ghost use Rattle.fax_bits.specs.views.Source.{KeepsEnd};
-ghost use Rattle.fax_bits.specs.code.LookUp.{IsLookedUp};
+ghost use Rattle.fax_bits.specs.Bits.{code_bits};
+ghost use Rattle.fax_bits.specs.code.LookUp.{IsBegun, IsOneRun};
 
 use crate::codes::LONGEST_CODE;
 use crate::modes::{ModeCode, find_mode};
@@ -23,123 +24,28 @@ const AFTER_CODE: u32 = LOOKED_AT - LONGEST_CODE;
 /// Where fewer bytes are left to be loaded, the end is near.
 const NEAR_END: usize = 128;
 
-/// What is looked up by the next bits.
-pub(crate) trait LookUp: Copy {
-    ghost use Rattle.std.specs.Prelude.{Bool, List};
-    ghost use Rattle.fax_bits.specs.Bits.{code_bits};
-    ghost use Rattle.fax_bits.specs.code.LookUp.{IsBegun};
-
-    /// What is found.
-    type Found: Copy;
-
-    /// The bits mean what is found.
-    ghost Means: { Self → List Bool → Self.Found → Type 0 };
-
-    /// How many of the first of thirty-two bits mean something, and what. `None` says nothing of
-    /// the bits.
-    fn find(self, bits: u32) -> Option<(u32, Self::Found)>
-        ensures { IfSome result
-            (λ found. IsBegun (Means self) (code_bits LOOKED_AT bits) found.0 found.1) };
-}
-
-/// A run of the colour, of one make-up code at most and of at most so many pels.
-#[derive(Clone, Copy)]
-struct RunWithin {
-    colour: Colour,
-    most: u32,
-}
-
-impl LookUp for RunWithin {
-    ghost use Rattle.std.specs.Prelude.{◌≤◌};
-    ghost use Rattle.fax_bits.specs.code.LookUp.{IsOneRun};
-
-    type Found = u32;
-
-    ghost Means = { λ s b pels. IsOneRun s.colour b pels × (pels ≤ s.most) };
-
-    #[inline(always)]
-    fn find(self, bits: u32) -> Option<(u32, u32)> {
-        let (first, code) = find_run(self.colour, bits >> AFTER_CODE, LONGEST_CODE)?;
-        let (len, pels) = match code {
-            RunCode::Terminating(pels) => (first, u32::from(pels)),
-            RunCode::MakeUp(more) => {
-                let next = find_run(self.colour, (bits << first) >> AFTER_CODE, LONGEST_CODE)?;
-                let (second, RunCode::Terminating(last)) = next else {
-                    return None;
-                };
-                (first + second, u32::from(more) + u32::from(last))
-            }
-            RunCode::Extension => return None,
-        };
-        if pels > self.most {
-            return None;
+/// The length of a run of the colour that begins thirty-two bits, of one make-up code at most, and
+/// how many pels it has. `None` says nothing of the bits.
+#[inline(always)]
+fn find_whole_run(colour: Colour, bits: u32) -> Option<(u32, u32)>
+    ensures { IfSome result
+        (λ found. IsBegun (IsOneRun colour) (code_bits LOOKED_AT bits) found.0 found.1) }
+{
+    let (first, code) = find_run(colour, bits >> AFTER_CODE, LONGEST_CODE)?;
+    match code {
+        RunCode::Terminating(pels) => Some((first, u32::from(pels))),
+        RunCode::MakeUp(more) => {
+            let next = find_run(colour, (bits << first) >> AFTER_CODE, LONGEST_CODE)?;
+            let (second, RunCode::Terminating(last)) = next else {
+                return None;
+            };
+            Some((first + second, u32::from(more) + u32::from(last)))
         }
-        Some((len, pels))
-    }
-}
-
-/// A white run and the black one after it, which take few bits, in a row of `width` pels of which
-/// `total` stand before them.
-#[derive(Clone, Copy)]
-struct PairWithin {
-    total: u32,
-    width: u32,
-    ghost few: { total < 2 ^ 31 },
-}
-
-impl LookUp for PairWithin {
-    ghost use Rattle.std.specs.Prelude.{◌≤◌, ◌+◌};
-    ghost use Rattle.fax_bits.specs.code.LookUp.{AreTwoRuns};
-
-    type Found = Pair;
-
-    ghost Means = { λ s b pair.
-        AreTwoRuns b pair × (s.total + pair.white + pair.black ≤ s.width) };
-
-    #[inline(always)]
-    fn find(self, bits: u32) -> Option<(u32, Pair)> {
-        let (len, pair) = find_pair(bits >> AFTER_CODE)?;
-        if self.total + pair.white + pair.black > self.width {
-            return None;
-        }
-        Some((len, pair))
-    }
-}
-
-/// A mode.
-#[derive(Clone, Copy)]
-struct Mode;
-
-impl LookUp for Mode {
-    ghost use Rattle.fax_bits.specs.Tables.{modes};
-    ghost use Rattle.fax_bits.specs.code.LookUp.{IsCode};
-
-    type Found = ModeCode;
-
-    ghost Means = { λ s b mode. IsCode modes b mode };
-
-    #[inline(always)]
-    fn find(self, bits: u32) -> Option<(u32, ModeCode)> {
-        find_mode(bits >> AFTER_CODE)
+        RunCode::Extension => None,
     }
 }
 
 impl<'a> BitSource<'a> {
-    /// Goes past what one look-up finds of the next bits. Where it finds nothing, and near the end
-    /// of the bytes, the source is as it was.
-    #[inline(always)]
-    fn look_up<L: LookUp>(&mut self, what: L) -> Option<L::Found>
-        ensures found { IfSome result
-            (λ found. IsLookedUp (L.Means what) self.old found self.new) }
-        ensures unchanged { result ≡ None → self.new ≡ self.old }
-    {
-        let window = self.window.loaded(self.bytes, self.order)?;
-        self.window = window;
-        let (len, found) = what.find(window.number(LOOKED_AT))?;
-        self.window = window.after(len);
-        Some(found)
-    }
-
     /// Reads a white run and the black one after it by one look-up, in a row of `width` pels of
     /// which `total` stand before them (T.4, section 4.1.1). Where they go past the row's end, or
     /// where that look-up has no such pair, the source is as it was.
@@ -154,7 +60,13 @@ impl<'a> BitSource<'a> {
         ensures same_end { KeepsEnd self.old self.new }
         ensures shorter { IsSome result → length self.new.left < length self.old.left }
     {
-        self.look_up(PairWithin { total, width })
+        self.window = self.window.loaded(self.bytes, self.order)?;
+        let (len, pair) = find_pair(self.window.number(LOOKED_AT) >> AFTER_CODE)?;
+        if total + pair.white + pair.black > width {
+            return None;
+        }
+        self.window = self.window.after(len);
+        Some(pair)
     }
 
     /// Reads a run of the colour, of one make-up code at most and of at most so many pels (T.4,
@@ -171,7 +83,13 @@ impl<'a> BitSource<'a> {
         ensures same_end { KeepsEnd self.old self.new }
         ensures shorter { IsSome result → length self.new.left < length self.old.left }
     {
-        self.look_up(RunWithin { colour, most })
+        self.window = self.window.loaded(self.bytes, self.order)?;
+        let (len, pels) = find_whole_run(colour, self.window.number(LOOKED_AT))?;
+        if pels > most {
+            return None;
+        }
+        self.window = self.window.after(len);
+        Some(pels)
     }
 
     /// Reads a mode by one look-up at most (T.4, table 4). Where it finds none, the source is as it
@@ -189,7 +107,10 @@ impl<'a> BitSource<'a> {
             self.window = self.window.after(1);
             return Some(ModeCode::Vertical(0));
         }
-        self.look_up(Mode)
+        self.window = self.window.loaded(self.bytes, self.order)?;
+        let (len, mode) = find_mode(self.window.number(LOOKED_AT) >> AFTER_CODE)?;
+        self.window = self.window.after(len);
+        Some(mode)
     }
 
     /// Whether few bytes are left to be loaded: a hint, of which nothing is said.

@@ -1,4 +1,4 @@
-use Rattle.std.proofs.Common.{◌≡◌, ◌/◌, ◌^◌, lit<, refl, arith}
+use Rattle.std.proofs.Common.{◌≡◌, ◌/◌, ◌^◌, refl, arith}
 use Rattle.fax_bits.specs.Tables.{modes}
 use Rattle.fax_bits.specs.declared.modes.ModeCode.TheVariants.{Pass, Horizontal}
 use Rattle.fax_bits.proofs.ModeLemmas.{mode_begins, vertical_is_ahead}

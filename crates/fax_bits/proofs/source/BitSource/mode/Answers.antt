@@ -1,11 +1,11 @@
-use Rattle.std.proofs.lemmas.Option.{IfSome_then}
 use Rattle.fax_bits.specs.Tables.{modes}
-use Rattle.fax_bits.proofs.LookUpLemmas.{code_taken}
-use Rattle.std.proofs.Common.{◌≡◌, ◌+◌, drop, refl, ap, ◌∙◌, arith}
+use Rattle.fax_bits.proofs.LookUpLemmas.{begins_more, code_begins, code_taken}
+use Rattle.std.proofs.Common.{◌≡◌, ◌+◌, ◌/◌, ◌^◌, drop, inl, refl, ap, ◌∙◌, arith}
 use Rattle.std.proofs.lemmas.List.{drop-drop}
-use Rattle.fax_bits.specs.Bits.{bits}
+use Rattle.fax_bits.specs.Bits.{bits, code_bits}
+use Rattle.fax_bits.specs.code.TableLaws.{modes_has_short_codes}
 use Rattle.fax_bits.specs.code.BitsAhead.{place_before}
-use Rattle.fax_bits.proofs.AheadLemmas.{one_taken, one_end_kept, one_shorter}
+use Rattle.fax_bits.proofs.AheadLemmas.{begun_short, looked_up, one_taken, one_end_kept, one_shorter}
 use Rattle.fax_bits.proofs.source.BitSource.mode.Goals as goal
 
 pub invariant_of-self : goal.invariant_of-self
@@ -48,6 +48,27 @@ returns-then-begins_with_one-clause-shorter c = λ some.
     c.self.invariant.within
     c.after-self-inside.result (c.if-begins_with_one.ensures.ahead refl order bytes) c.after-self-inside.ensures.count c.after-self-inside.ensures.at
 
-pub returns-clause-takes : goal.returns-clause-takes
-returns-clause-takes c =
-    IfSome_then c.look_up.result c.look_up.ensures.found (λ mode is. code_taken modes c.args.self.now mode c.look_up.new.self is)
+pub after-self-inside-requires-2 : goal.after-self-inside-requires-2
+after-self-inside-requires-2 c =
+    let begun = begins_more _ c.number.result c.in_ok-len.len c.in_ok-len.mode
+    (code_begins modes (code_bits 13 (c.number.result / 2 ^ 19)) c.in_ok-len.len c.in_ok-len.mode modes_has_short_codes c.in_ok-len.ensures) in
+    let short = begun_short c.number.result begun in
+    record { loaded = omega (arith, short, c.in_ok-self-inside.ensures.many); short = omega (arith, short) }
+
+pub returns : goal.returns
+returns c =
+    let order = c.self.inside.order in
+    let bytes = c.self.inside.bytes.now in
+    let w = c.in_ok-self-inside in
+    let begun = begins_more _ c.number.result c.in_ok-len.len c.in_ok-len.mode
+    (code_begins modes (code_bits 13 (c.number.result / 2 ^ 19)) c.in_ok-len.len c.in_ok-len.mode modes_has_short_codes c.in_ok-len.ensures) in
+    let is =
+    looked_up order bytes c.self.inside.window w.field-0 c.args.self.now c.self.invariant c.self.view_is w.ensures.ahead
+    w.ensures.place w.ensures.within w.ensures.many c.number.result (c.number.ensures.number order bytes (inl (omega (arith, w.ensures.many))))
+    begun c.after-self-inside-2.result c.after-self-inside-2.ensures.count c.after-self-inside-2.ensures.at in
+    record {
+      takes = code_taken modes c.args.self.now c.in_ok-len.mode _ is;
+      unchanged = λ none. cc;
+      same_end = is.same_end;
+      shorter = λ some. is.shorter;
+    }
