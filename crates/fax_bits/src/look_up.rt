@@ -12,7 +12,7 @@ ghost use Rattle.fax_bits.specs.code.LookUp.{IsBegun, IsOneRun};
 use crate::codes::LONGEST_CODE;
 use crate::modes::{ModeCode, find_mode};
 use crate::pairs::{Pair, find_pair};
-use crate::runs::{RunCode, find_run};
+use crate::runs::{RunCode, find_run_code};
 use crate::{BitSource, Colour};
 
 /// How many bits are looked at: those of a make-up code and a terminating code, and some more.
@@ -31,11 +31,11 @@ fn find_whole_run(colour: Colour, bits: u32) -> Option<(u32, u32)>
     ensures { IfSome result
         (λ found. IsBegun (IsOneRun colour) (code_bits LOOKED_AT bits) found.0 found.1) }
 {
-    let (first, code) = find_run(colour, bits >> AFTER_CODE, LONGEST_CODE)?;
+    let (first, code) = find_run_code(colour, bits >> AFTER_CODE)?;
     match code {
         RunCode::Terminating(pels) => Some((first, u32::from(pels))),
         RunCode::MakeUp(more) => {
-            let next = find_run(colour, (bits << first) >> AFTER_CODE, LONGEST_CODE)?;
+            let next = find_run_code(colour, (bits << first) >> AFTER_CODE)?;
             let (second, RunCode::Terminating(last)) = next else {
                 return None;
             };
