@@ -2,7 +2,7 @@
 use Rattle.std.proofs.Common.{◌≡◌, ℕ, zero, suc, ◌+◌, ◌-◌, ◌*◌, ◌/◌, ◌%◌, ◌^◌, ◌<◌, ◌≤◌, List, [], ◌∷◌, ◌++◌, map, length, get_or, Bool, true, false}
 use Rattle.std.proofs.Common.{if◌then◌else◌, refl, ap, sym, ◌∙◌, subst, arith, zero-add}
 use Rattle.std.specs.Prelude.{◌&&◌, nat_lt, nat_le, nat_eq}
-use Rattle.std.proofs.lemmas.Bool.{and_parts}
+use Rattle.std.proofs.lemmas.Bool.{and_parts, eqb-true, leb-true, ltb-true}
 use Rattle.std.proofs.lemmas.Bool.Decides.{nat_tests}
 use Rattle.std.proofs.lemmas.List.FromFn.{get_or-map-range_with_len}
 use Rattle.std.proofs.lemmas.Nat.{mul-add-lt, pow-add}
@@ -76,15 +76,6 @@ pub record IsPair (number white black len : ℕ) : Type 0 where
   pub len_is : len ≡ get_or WHITE_LENS white 0 + get_or BLACK_LENS black 0
   pub spelled : number / 2 ^ (12 - len) ≡ get_or WHITE_CODES white 0 * 2 ^ get_or BLACK_LENS black 0 + get_or BLACK_CODES black 0
 
-lt-from_test : (n m : ℕ) → nat_lt n m ≡ true → n < m
-lt-from_test n m h = grind (arith, nat_tests)
-
-le-from_test : (n m : ℕ) → nat_le n m ≡ true → n ≤ m
-le-from_test n m h = grind (arith, nat_tests)
-
-eq-from_test : (n m : ℕ) → nat_eq n m ≡ true → n ≡ m
-eq-from_test n m h = grind (arith, nat_tests)
-
 from_test : (number white black len : ℕ) → is_pair number white black len ≡ true → IsPair number white black len
 from_test number white black len is =
     let one = and_parts (nat_lt 0 white) _ is in
@@ -94,13 +85,13 @@ from_test number white black len is =
     let five = and_parts (nat_le len 12) _ four.1 in
     let six = and_parts (nat_eq len (get_or WHITE_LENS white 0 + get_or BLACK_LENS black 0)) (spells_pair number white black len) five.1 in
     record {
-      white_some = lt-from_test 0 white one.0;
-      black_some = lt-from_test 0 black two.0;
-      white_short = lt-from_test white 64 three.0;
-      black_short = lt-from_test black 64 four.0;
-      within = le-from_test len 12 five.0;
-      len_is = eq-from_test len _ six.0;
-      spelled = eq-from_test (number / 2 ^ (12 - len)) _ six.1;
+      white_some = ltb-true 0 white one.0;
+      black_some = ltb-true 0 black two.0;
+      white_short = ltb-true white 64 three.0;
+      black_short = ltb-true black 64 four.0;
+      within = leb-true len 12 five.0;
+      len_is = eqb-true len _ six.0;
+      spelled = eqb-true (number / 2 ^ (12 - len)) _ six.1;
     }
 
 pub found : (number : ℕ) → number < 4096 → 0 < get_or PAIRS.lens number 0

@@ -1,9 +1,8 @@
 -- A code that is found by its place in a table.
 use Rattle.std.proofs.Common.{◌≡◌, ℕ, zero, suc, ◌+◌, ◌-◌, ◌*◌, ◌/◌, ◌%◌, ◌^◌, ◌<◌, ◌≤◌, List, [], ◌∷◌, ◌++◌, length, get_or, Bool, true}
 use Rattle.std.proofs.Common.{false, nat_eq, refl, ap, sym, ◌∙◌, subst, arith, inl, inr, append_assoc, length-append}
-use Rattle.std.specs.Prelude.{◌&&◌, ◌||◌, ◌⊎◌, Option, Some, None, MatchOption, slice_get, Contains, nat_le}
-use Rattle.std.proofs.lemmas.Bool.Decides.{nat_tests}
-use Rattle.std.proofs.lemmas.Bool.{eqb-true, eq-eqb}
+use Rattle.std.specs.Prelude.{◌&&◌, ◌||◌, Option, Some, None, MatchOption, slice_get, Contains, nat_le}
+use Rattle.std.proofs.lemmas.Bool.{and_parts, and_from, cases_Bool, eqb-true, eq-eqb, le-leb, leb-true, or_cases}
 use Rattle.std.proofs.lemmas.Nat.{pow-add, pow_pos, shl_below, shl-shr}
 use Rattle.std.proofs.Math.Nat.{div-div-eq-div-mul, lt-div-mul-add}
 use Rattle.fax_bits.specs.declared.codes.CodeEntry.{CodeEntry}
@@ -18,32 +17,18 @@ use Rattle.fax_bits.proofs.CodeBitsLemmas.{length-code_bits}
 use Rattle.fax_bits.proofs.PrefixLemmas.{takes_one}
 use Rattle.fax_bits.proofs.TableLemmas.{listed}
 
-and_both : (a b : Bool) → (a && b) ≡ true → (a ≡ true) × (b ≡ true)
-and_both true b h = (refl, h)
-and_both false b h = cc
-
-and_from : (a b : Bool) → a ≡ true → b ≡ true → (a && b) ≡ true
-and_from true b h k = k
-and_from false b h k = cc
-
-le-from_test : (n m : ℕ) → nat_le n m ≡ true → n ≤ m
-le-from_test n m h = grind (arith, nat_tests)
-
-test-from_le : (n m : ℕ) → n ≤ m → nat_le n m ≡ true
-test-from_le n m h = grind (arith, nat_tests)
-
 -- what it says that an entry begins the bits
 begins_true : {M : Type 0} (entry : CodeEntry M) (width number : ℕ) → begins entry width number ≡ true
     → (entry.len ≤ width) × (number / 2 ^ (width - entry.len) ≡ entry.code)
 begins_true entry width number h =
-    let both = and_both (nat_le entry.len width) (nat_eq (number / 2 ^ (width - entry.len)) entry.code) h in
-    (le-from_test entry.len width both.0, eqb-true _ _ both.1)
+    let both = and_parts (nat_le entry.len width) (nat_eq (number / 2 ^ (width - entry.len)) entry.code) h in
+    (leb-true entry.len width both.0, eqb-true _ _ both.1)
 
 pub begins_from : {M : Type 0} (entry : CodeEntry M) (width number : ℕ) → entry.len ≤ width → number / 2 ^ (width - entry.len) ≡ entry.code
     → begins entry width number ≡ true
 begins_from entry width number short is =
     and_from (nat_le entry.len width) (nat_eq (number / 2 ^ (width - entry.len)) entry.code)
-    (test-from_le entry.len width short) (eq-eqb _ _ is)
+    (le-leb entry.len width short) (eq-eqb _ _ is)
 
 -- the place of the first entry, by what it is
 first_place : {M : Type 0} (first : CodeEntry M) (table : List (CodeEntry M)) (width number : ℕ) → begins first width number ≡ true
@@ -54,16 +39,12 @@ later_place : {M : Type 0} (first : CodeEntry M) (table : List (CodeEntry M)) (w
     → place_of (first ∷ table) width number ≡ suc (place_of table width number)
 later_place first table width number h = ap (λ b. place_after b (place_of table width number)) h
 
-decided : (b : Bool) → (b ≡ true) ⊎ (b ≡ false)
-decided true = inl refl
-decided false = inr refl
-
 -- at the place of a table stands an entry that begins the bits
 place_begins : {M : Type 0} (table : List (CodeEntry M)) (width number : ℕ) (entry : CodeEntry M)
     → slice_get table (place_of table width number) ≡ Some entry → begins entry width number ≡ true
 place_begins [] width number entry at = cc
 place_begins (first ∷ table) width number entry at =
-    elim (decided (begins first width number)) [
+    elim (cases_Bool (begins first width number)) [
       | inl begun ↦
           let here : Some first ≡ Some entry = ap (slice_get (first ∷ table)) (sym (first_place first table width number begun)) ∙ at in
           let same : first ≡ entry = cc in
@@ -94,7 +75,7 @@ past_begins_none (first ∷ table) width number past zero entry within is begun 
     let here : begins first width number ≡ true = ap (λ (e : CodeEntry _). begins e width number) is ∙ begun in
     omega (arith, past, first_place first table width number here)
 past_begins_none (first ∷ table) width number past (suc k) entry within is begun =
-    elim (decided (begins first width number)) [
+    elim (cases_Bool (begins first width number)) [
       | inl here ↦ omega (arith, past, first_place first table width number here)
       | inr other ↦
           past_begins_none table width number (omega (arith, past, later_place first table width number other)) k entry (omega arith) is
@@ -107,10 +88,6 @@ long_codes_test short low [] = true
 long_codes_test short low (entry ∷ table) =
     (nat_le entry.len 13 && (nat_le entry.len short || nat_le ((entry.code + 1) * 2 ^ (13 - entry.len)) low))
     && long_codes_test short low table
-
-either : (a b : Bool) → (a || b) ≡ true → (a ≡ true) ⊎ (b ≡ true)
-either true b h = inl refl
-either false b h = inr h
 
 same_test : (a b : Bool) → (a ≡ true → b ≡ true) → (b ≡ true → a ≡ true) → a ≡ b
 same_test true b there back = sym (there refl)
@@ -138,19 +115,19 @@ same_begins : {M : Type 0} (entry : CodeEntry M) (short low number : ℕ) → sh
     → (nat_le entry.len 13 && (nat_le entry.len short || nat_le ((entry.code + 1) * 2 ^ (13 - entry.len)) low)) ≡ true
     → begins entry short (number / 2 ^ (13 - short)) ≡ begins entry 13 number
 same_begins entry short low number few above test =
-    let parts = and_both (nat_le entry.len 13) (nat_le entry.len short || nat_le ((entry.code + 1) * 2 ^ (13 - entry.len)) low) test in
-    let in_thirteen = le-from_test entry.len 13 parts.0 in
+    let parts = and_parts (nat_le entry.len 13) (nat_le entry.len short || nat_le ((entry.code + 1) * 2 ^ (13 - entry.len)) low) test in
+    let in_thirteen = leb-true entry.len 13 parts.0 in
     same_test _ _
     (λ h.
     let is = begins_true entry short (number / 2 ^ (13 - short)) h in
     begins_from entry 13 number in_thirteen (sym (first_of_first number 13 short entry.len is.0 few) ∙ is.1))
     (λ h.
     let is = begins_true entry 13 number h in
-    elim (either (nat_le entry.len short) (nat_le ((entry.code + 1) * 2 ^ (13 - entry.len)) low) parts.1) [
+    elim (or_cases (nat_le entry.len short) (nat_le ((entry.code + 1) * 2 ^ (13 - entry.len)) low) parts.1) [
       | inl within ↦
-          let in_short = le-from_test entry.len short within in
+          let in_short = leb-true entry.len short within in
           begins_from entry short (number / 2 ^ (13 - short)) in_short (first_of_first number 13 short entry.len in_short few ∙ is.1)
-      | inr below ↦ absurd (long_is_low entry low number above (le-from_test _ low below) is.1)
+      | inr below ↦ absurd (long_is_low entry low number above (leb-true _ low below) is.1)
     ])
 
 -- the first `short` bits of 13 tell as much, where they are no beginning of a long code
@@ -158,7 +135,7 @@ pub short_place : {M : Type 0} (table : List (CodeEntry M)) (short low number : 
     → low ≤ number → place_of table short (number / 2 ^ (13 - short)) ≡ place_of table 13 number
 short_place [] short low number few test above = refl
 short_place (first ∷ table) short low number few test above =
-    let parts = and_both (nat_le first.len 13 && (nat_le first.len short || nat_le ((first.code + 1) * 2 ^ (13 - first.len)) low))
+    let parts = and_parts (nat_le first.len 13 && (nat_le first.len short || nat_le ((first.code + 1) * 2 ^ (13 - first.len)) low))
     (long_codes_test short low table) test in
     ap (λ b. place_after b (place_of table short (number / 2 ^ (13 - short)))) (same_begins first short low number few above parts.0)
     ∙ ap (place_after (begins first 13 number)) (short_place table short low number few parts.1 above)
