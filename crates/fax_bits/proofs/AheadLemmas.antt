@@ -1,6 +1,6 @@
 -- Bits that are loaded, and codes that are read from them.
-use Rattle.std.proofs.Common.{Bool, true, false, replicate, ◌≡◌, ℕ, ◌+◌, ◌*◌, ◌<◌, ◌≤◌, List, [], ◌∷◌, ◌++◌, length, take, drop, refl, ap}
-use Rattle.std.proofs.Common.{sym, ◌∙◌, subst, arith, append_assoc, length-append, length-drop, inl, inr, ◌⊎◌}
+use Rattle.std.proofs.Common.{Bool, true, replicate, ◌≡◌, ℕ, ◌+◌, ◌*◌, ◌≤◌, List, [], ◌∷◌, ◌++◌, length, take, drop, refl, ap}
+use Rattle.std.proofs.Common.{sym, ◌∙◌, arith, append_assoc, length-append, inl, inr, ◌⊎◌}
 use Rattle.std.specs.Prelude.{pos}
 use Rattle.std.proofs.lemmas.List.{drop-drop, take-append-drop, take-take, take-replicate}
 use Rattle.fax_bits.specs.declared.FillOrder.{FillOrder}
@@ -9,11 +9,10 @@ use Rattle.fax_bits.specs.declared.modes.ModeCode.TheVariants.{Vertical}
 use Rattle.fax_bits.specs.Bits.{bits, code_bits}
 use Rattle.fax_bits.specs.views.Source.{HasZerosAhead, Source, source_of, KeepsEnd}
 use Rattle.fax_bits.specs.Bits.{bits_number}
-use Rattle.fax_bits.specs.Codes.{Takes}
 use Rattle.fax_bits.specs.Tables.{modes}
 use Rattle.fax_bits.specs.code.Window.{first_bits}
 use Rattle.fax_bits.specs.code.BitsAhead.{bits_ahead, IsAhead, place_before}
-use Rattle.fax_bits.specs.code.LookUp.{IsBegun, IsLookedUp}
+use Rattle.fax_bits.specs.code.LookUp.{IsBegun, IsCode, IsLookedUp}
 use Rattle.fax_bits.proofs.SourceLemmas.{length-left}
 use Rattle.fax_bits.proofs.CodeBitsLemmas.{length-code_bits}
 use Rattle.fax_bits.proofs.TableLemmas.{listed, left_after}
@@ -27,14 +26,14 @@ pub enough : (n : ℕ) (bytes : List ℕ) (window : Window) → n ≤ 32 → (32
 enough n bytes window few (inl many) = inl (omega arith)
 enough n bytes window few (inr all) = inr (omega arith)
 
-takes_one : (left rest : List Bool) → left ≡ replicate 0 false ++ true ∷ rest → Takes modes left (Vertical (pos 0)) (drop 1 left)
+-- a 1 is a mode of its own
+one_is_code : IsCode modes (true ∷ []) (Vertical (pos 0))
 unfolding modes code_bits
-takes_one [] rest is = cc
-takes_one (bit ∷ left) rest is = record {
+one_is_code = record {
   entry = record { code = 1; len = 1; meaning = Vertical (pos 0) };
   listed = listed modes 2 (record { code = 1; len = 1; meaning = Vertical (pos 0) }) refl;
   means = refl;
-  spelled = is ∙ ap (λ b. true ∷ b) (sym (ap (drop 1) is));
+  spelled = refl;
 }
 
 -- what begins thirty-two bits is no longer
@@ -42,6 +41,21 @@ pub begun_short : {F : Type 0} {means : List Bool → F → Type 0} (number : �
     → IsBegun means (code_bits 32 number) len found → len ≤ 32
 begun_short number begun =
     omega (arith, begun.long, ap length begun.ahead.1, length-append begun.front begun.ahead.0, length-code_bits 32 number)
+
+-- a window after some of its bits
+pub after_ahead : (order : FillOrder) (bytes : List ℕ) (old after : Window) (n : ℕ) → IsAhead order bytes old
+    → bits_ahead order bytes after ≡ drop n (bits_ahead order bytes old) → after.count + n ≡ old.count → after.at ≡ old.at
+    → IsAhead order bytes after
+after_ahead order bytes old after n is ahead count at =
+    let place_is : place_before old + n ≡ place_before after = omega (arith, is.before, at, count) in
+    record {
+      within = omega (arith, is.within, at);
+      before = omega (arith, is.before, at, count);
+      counted = is.counted;
+      bits_are =
+          ahead ∙ ap (drop n) is.bits_are ∙ drop-drop n (place_before old) (bits order bytes)
+          ∙ ap (λ p. drop p (bits order bytes)) place_is;
+    }
 
 -- a window at the place of another, of which more may be loaded
 module _ (order : FillOrder) (bytes : List ℕ) (old window : Window) (source : Source) (is : IsAhead order bytes old)
@@ -83,19 +97,21 @@ module _ (order : FillOrder) (bytes : List ℕ) (old window : Window) (source : 
           ap (λ (s : Source). length s.left) shown,
         )
 
-  -- a 1, which is a mode of its own
-  module _ (after : Window) (one : HasZerosAhead (bits_ahead order bytes window) 0) (count : after.count + 1 ≡ window.count)
-      (at : after.at ≡ window.at) where
-    pub one_taken : Takes modes source.left (Vertical (pos 0)) (drop (place_before after) (bits order bytes))
-    one_taken =
-        subst (λ rest. Takes modes source.left (Vertical (pos 0)) rest) (sym (left_after_code 1 after (omega arith) count at))
-        (takes_one source.left one.0 (sym loaded_left ∙ one.1))
-
-    pub one_end_kept : KeepsEnd source (source_of order bytes (place_before after))
-    one_end_kept = end_kept 1 after (omega arith) count at
-
-    pub one_shorter : length (drop (place_before after) (bits order bytes)) < length source.left
-    one_shorter = omega (arith, loaded-left, count, ap length (left_after_code 1 after (omega arith) count at), length-drop 1 source.left)
+  -- a 1 is gone past
+  pub one_looked_up : (after : Window) → HasZerosAhead (bits_ahead order bytes window) 0 → after.count + 1 ≡ window.count
+      → after.at ≡ window.at
+      → IsLookedUp (IsCode modes) source (Vertical (pos 0)) (source_of order bytes (place_before after))
+  one_looked_up after one count at =
+      let is : source.left ≡ true ∷ one.0 = sym loaded_left ∙ one.1 in
+      let rest : one.0 ≡ drop (place_before after) (bits order bytes) =
+      sym (ap (drop 1) is) ∙ sym (left_after_code 1 after (omega arith) count at) in
+      record {
+        front = true ∷ [];
+        meaning = one_is_code;
+        taken = is ∙ ap (λ b. true ∷ b) rest;
+        same_end = end_kept 1 after (omega arith) count at;
+        shorter = omega (arith, ap length is, ap length rest);
+      }
 
   -- ones that stand next
   module _ (n : ℕ) (all : n ≤ window.count) (ones : take n (bits_ahead order bytes window) ≡ replicate n true) where
