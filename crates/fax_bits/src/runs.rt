@@ -176,43 +176,44 @@ fn find_run(colour: Colour, window: u32, n: u32) -> Option<(u32, RunCode)>
     }
 }
 
-/// The length and the meaning of the code for a run of the colour that begins thirteen bits, but for
-/// the extension. `None` where no such code does.
-#[inline(always)]
-pub(crate) fn find_run_code(colour: Colour, bits: u32) -> Option<(u32, RunCode)>
-    requires { bits < 2 ^ LONGEST_CODE }
-    ensures { IfSome result
-        (λ found. HasCodeAhead (run_table colour) (code_bits LONGEST_CODE bits) found.0 found.1) }
-{
-    let place = run_place(colour, bits);
-    if place >= EXTENSION {
-        return None;
-    }
-    let entry = run_entry(colour, place);
-    Some((u32::from(entry.len), entry.meaning))
-}
-
 /// The place of the code that begins thirteen bits in the run table of a colour, or the number of
-/// codes where none does. Short codes are looked up first.
+/// codes where none does.
 #[inline(always)]
 fn run_place(colour: Colour, bits: u32) -> usize
     requires { bits < 2 ^ LONGEST_CODE }
     ensures { result ≡ place_of (run_table colour) LONGEST_CODE bits }
 {
     let at = bits as usize;
+    match colour {
+        Colour::White if at < 64 => usize::from(WHITE_LONG[at]),
+        Colour::White => usize::from(WHITE_SHORT[at >> 4]),
+        Colour::Black if at < 512 => usize::from(BLACK_LONG[at]),
+        Colour::Black => usize::from(BLACK_SHORT[at >> 7]),
+    }
+}
+
+/// The length and the meaning of the code for a run of the colour that begins thirteen bits, but for
+/// the extension. `None` where no such code does. Short codes are looked up first.
+#[inline(always)]
+pub(crate) fn find_run_code(colour: Colour, bits: u32) -> Option<(u32, RunCode)>
+    requires { bits < 2 ^ LONGEST_CODE }
+    ensures { IfSome result
+        (λ found. HasCodeAhead (run_table colour) (code_bits LONGEST_CODE bits) found.0 found.1) }
+{
+    let at = bits as usize;
     let short = match colour {
         Colour::White => WHITE_SHORT[at >> 4],
         Colour::Black => BLACK_SHORT[at >> 7],
     };
-    let place = usize::from(short);
-    if place < EXTENSION {
-        return place;
+    let mut place = usize::from(short);
+    if place >= EXTENSION {
+        place = run_place(colour, bits);
+        if place >= EXTENSION {
+            return None;
+        }
     }
-    match colour {
-        Colour::White if at < 64 => usize::from(WHITE_LONG[at]),
-        Colour::Black if at < 512 => usize::from(BLACK_LONG[at]),
-        Colour::White | Colour::Black => place,
-    }
+    let entry = run_entry(colour, place);
+    Some((u32::from(entry.len), entry.meaning))
 }
 
 /// What the code at a place of a run table means.
