@@ -192,8 +192,8 @@ fn run_place(colour: Colour, bits: u32) -> usize
     }
 }
 
-/// The length and the meaning of the code for a run of the colour that begins thirteen bits, but for
-/// the extension. `None` where no such code does. Short codes are looked up first.
+/// The length and the meaning of the code for a run of the colour that begins thirteen bits, but
+/// for the extension. `None` where no such code does. Short codes are looked up first.
 #[inline(always)]
 pub(crate) fn find_run_code(colour: Colour, bits: u32) -> Option<(u32, RunCode)>
     requires { bits < 2 ^ LONGEST_CODE }

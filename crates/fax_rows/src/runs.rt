@@ -39,7 +39,7 @@ fn read_run_code(source: &mut BitSource, colour: Colour) -> Result<RunCode, Code
 }
 
 /// A run that is read.
-#[derive(Clone, Copy, Debug)]
+#[derive(Clone, Copy)]
 pub(crate) struct ReadRun {
     pub pels: u32,
     /// Whether its codes are seen to be those that T.4 chooses.
@@ -47,7 +47,7 @@ pub(crate) struct ReadRun {
 }
 
 /// Reads a run of the colour whose first pel is `from`, code by code, and names its fault where it
-/// has one. T.4 chooses its codes where only the last make-up code may not be the longest.
+/// has one. Its codes are T.4's choice where each make-up code but the last is the longest.
 #[cold]
 #[inline(never)]
 fn read_run(
@@ -68,6 +68,7 @@ fn read_run(
 {
     fax_bits::laws::chosen_codes_are_written();
     let mut pels = 0;
+    // Whether T.4 chooses the codes so far where the next one ends the run, and where it does not.
     let mut is_chosen = true;
     let mut are_longest = true;
     loop {
