@@ -1,20 +1,20 @@
 -- Bits that are loaded, and codes that are read from them.
-use Rattle.std.proofs.Common.{Bool, true, false, replicate, ◌≡◌, ℕ, ◌+◌, ◌*◌, ◌<◌, ◌≤◌, List, [], ◌∷◌, ◌++◌, length, take, drop, refl, ap}
-use Rattle.std.proofs.Common.{sym, ◌∙◌, subst, arith, append_assoc, length-append, length-drop, inl, inr, ◌⊎◌}
+use Rattle.std.proofs.Common.{Bool, true, replicate, ◌≡◌, ℕ, ◌+◌, ◌*◌, ◌≤◌, List, [], ◌∷◌, ◌++◌, length, take, drop, refl, ap}
+use Rattle.std.proofs.Common.{sym, ◌∙◌, arith, append_assoc, length-append, inl, inr, ◌⊎◌}
 use Rattle.std.specs.Prelude.{pos}
 use Rattle.std.proofs.lemmas.List.{drop-drop, take-append-drop, take-take, take-replicate}
 use Rattle.fax_bits.specs.declared.FillOrder.{FillOrder}
 use Rattle.fax_bits.specs.declared.window.Window.{Window}
 use Rattle.fax_bits.specs.declared.modes.ModeCode.TheVariants.{Vertical}
-use Rattle.fax_bits.specs.Bits.{bits, code_bits, BeginsWith}
+use Rattle.fax_bits.specs.Bits.{bits, code_bits}
 use Rattle.fax_bits.specs.views.Source.{HasZerosAhead, Source, source_of, KeepsEnd}
 use Rattle.fax_bits.specs.Bits.{bits_number}
-use Rattle.fax_bits.specs.Codes.{Takes}
 use Rattle.fax_bits.specs.Tables.{modes}
 use Rattle.fax_bits.specs.code.Window.{first_bits}
 use Rattle.fax_bits.specs.code.BitsAhead.{bits_ahead, IsAhead, place_before}
+use Rattle.fax_bits.specs.code.LookUp.{IsBegun, IsCode, IsLookedUp}
 use Rattle.fax_bits.proofs.SourceLemmas.{length-left}
-use Rattle.fax_bits.proofs.MeetingLemmas.{length-code_bits}
+use Rattle.fax_bits.proofs.CodeBitsLemmas.{length-code_bits}
 use Rattle.fax_bits.proofs.TableLemmas.{listed, left_after}
 use Rattle.fax_bits.proofs.PeekLemmas.{padded}
 use Rattle.fax_bits.proofs.ReadLemmas.{peeked_bits}
@@ -26,15 +26,36 @@ pub enough : (n : ℕ) (bytes : List ℕ) (window : Window) → n ≤ 32 → (32
 enough n bytes window few (inl many) = inl (omega arith)
 enough n bytes window few (inr all) = inr (omega arith)
 
-takes_one : (left rest : List Bool) → left ≡ replicate 0 false ++ true ∷ rest → Takes modes left (Vertical (pos 0)) (drop 1 left)
+-- a 1 is a mode of its own
+one_is_code : IsCode modes (true ∷ []) (Vertical (pos 0))
 unfolding modes code_bits
-takes_one [] rest is = cc
-takes_one (bit ∷ left) rest is = record {
+one_is_code = record {
   entry = record { code = 1; len = 1; meaning = Vertical (pos 0) };
   listed = listed modes 2 (record { code = 1; len = 1; meaning = Vertical (pos 0) }) refl;
   means = refl;
-  spelled = is ∙ ap (λ b. true ∷ b) (sym (ap (drop 1) is));
+  spelled = refl;
 }
+
+-- what begins thirty-two bits is no longer
+pub begun_short : {F : Type 0} {means : List Bool → F → Type 0} (number : ℕ) {len : ℕ} {found : F}
+    → IsBegun means (code_bits 32 number) len found → len ≤ 32
+begun_short number begun =
+    omega (arith, begun.long, ap length begun.ahead.1, length-append begun.front begun.ahead.0, length-code_bits 32 number)
+
+-- a window after some of its bits
+pub after_ahead : (order : FillOrder) (bytes : List ℕ) (old after : Window) (n : ℕ) → IsAhead order bytes old
+    → bits_ahead order bytes after ≡ drop n (bits_ahead order bytes old) → after.count + n ≡ old.count → after.at ≡ old.at
+    → IsAhead order bytes after
+after_ahead order bytes old after n is ahead count at =
+    let place_is : place_before old + n ≡ place_before after = omega (arith, is.before, at, count) in
+    record {
+      within = omega (arith, is.within, at);
+      before = omega (arith, is.before, at, count);
+      counted = is.counted;
+      bits_are =
+          ahead ∙ ap (drop n) is.bits_are ∙ drop-drop n (place_before old) (bits order bytes)
+          ∙ ap (λ p. drop p (bits order bytes)) place_is;
+    }
 
 -- a window at the place of another, of which more may be loaded
 module _ (order : FillOrder) (bytes : List ℕ) (old window : Window) (source : Source) (is : IsAhead order bytes old)
@@ -76,19 +97,21 @@ module _ (order : FillOrder) (bytes : List ℕ) (old window : Window) (source : 
           ap (λ (s : Source). length s.left) shown,
         )
 
-  -- a 1, which is a mode of its own
-  module _ (after : Window) (one : HasZerosAhead (bits_ahead order bytes window) 0) (count : after.count + 1 ≡ window.count)
-      (at : after.at ≡ window.at) where
-    pub one_taken : Takes modes source.left (Vertical (pos 0)) (drop (place_before after) (bits order bytes))
-    one_taken =
-        subst (λ rest. Takes modes source.left (Vertical (pos 0)) rest) (sym (left_after_code 1 after (omega arith) count at))
-        (takes_one source.left one.0 (sym loaded_left ∙ one.1))
-
-    pub one_end_kept : KeepsEnd source (source_of order bytes (place_before after))
-    one_end_kept = end_kept 1 after (omega arith) count at
-
-    pub one_shorter : length (drop (place_before after) (bits order bytes)) < length source.left
-    one_shorter = omega (arith, loaded-left, count, ap length (left_after_code 1 after (omega arith) count at), length-drop 1 source.left)
+  -- a 1 is gone past
+  pub one_looked_up : (after : Window) → HasZerosAhead (bits_ahead order bytes window) 0 → after.count + 1 ≡ window.count
+      → after.at ≡ window.at
+      → IsLookedUp (IsCode modes) source (Vertical (pos 0)) (source_of order bytes (place_before after))
+  one_looked_up after one count at =
+      let is : source.left ≡ true ∷ one.0 = sym loaded_left ∙ one.1 in
+      let rest : one.0 ≡ drop (place_before after) (bits order bytes) =
+      sym (ap (drop 1) is) ∙ sym (left_after_code 1 after (omega arith) count at) in
+      record {
+        front = true ∷ [];
+        meaning = one_is_code;
+        taken = is ∙ ap (λ b. true ∷ b) rest;
+        same_end = end_kept 1 after (omega arith) count at;
+        shorter = omega (arith, ap length is, ap length rest);
+      }
 
   -- ones that stand next
   module _ (n : ℕ) (all : n ≤ window.count) (ones : take n (bits_ahead order bytes window) ≡ replicate n true) where
@@ -112,28 +135,34 @@ module _ (order : FillOrder) (bytes : List ℕ) (old window : Window) (source : 
     spelled_is : number ≡ bits_number (take 32 (padded source.left 32))
     spelled_is = number_is ∙ ap (λ b. bits_number (take 32 (padded b 32))) loaded_left
 
-    -- the first of them
-    module _ (front : List Bool) (ahead : BeginsWith (code_bits 32 number) front) (after : Window)
-        (count : after.count + length front ≡ window.count) (at : after.at ≡ window.at) where
-      pub front_short : length front ≤ 32
-      front_short = omega (arith, ap length ahead.1, length-append front ahead.0, length-code_bits 32 number)
+    -- the first of them mean what is found, and the window after them stands behind these
+    module _ {F : Type 0} {means : List Bool → F → Type 0} {len : ℕ} {found : F} (begun : IsBegun means (code_bits 32 number) len found)
+        (after : Window) (count : after.count + len ≡ window.count) (at : after.at ≡ window.at) where
+      front_left : drop (place_before after) (bits order bytes) ≡ drop (length begun.front) source.left
+      front_left = left_after_code len after (begun_short number begun) count at ∙ ap (λ n. drop n source.left) (sym begun.long)
 
-      front_left : drop (place_before after) (bits order bytes) ≡ drop (length front) source.left
-      front_left = left_after_code (length front) after (omega (arith, front_short)) count at
-
-      pub front_taken : source.left ≡ front ++ drop (place_before after) (bits order bytes)
+      front_taken : source.left ≡ begun.front ++ drop (place_before after) (bits order bytes)
       front_taken =
-          left_after source.left front (ahead.0 ++ drop 32 source.left) (length front)
+          left_after source.left begun.front (begun.ahead.0 ++ drop 32 source.left) (length begun.front)
           (sym (take-append-drop 32 source.left)
           ∙ ap (λ b. b ++ drop 32 source.left)
-          (sym (peeked_bits source.left 32 (omega (arith, many, loaded-left)) number spelled_is) ∙ ahead.1)
-          ∙ append_assoc front ahead.0 (drop 32 source.left))
+          (sym (peeked_bits source.left 32 (omega (arith, many, loaded-left)) number spelled_is) ∙ begun.ahead.1)
+          ∙ append_assoc begun.front begun.ahead.0 (drop 32 source.left))
           refl
-          ∙ ap (λ rest. front ++ rest) (sym front_left)
+          ∙ ap (λ rest. begun.front ++ rest) (sym front_left)
 
-      pub front_end_kept : KeepsEnd source (source_of order bytes (place_before after))
-      front_end_kept = end_kept (length front) after (omega (arith, front_short)) count at
-
-      pub front_shorter : 0 < length front → length (drop (place_before after) (bits order bytes)) < length source.left
-      front_shorter some =
-          omega (arith, front_short, some, many, loaded-left, ap length front_left, length-drop (length front) source.left)
+      pub looked_up : IsLookedUp means source found (source_of order bytes (place_before after))
+      looked_up = record {
+        front = begun.front;
+        meaning = begun.meaning;
+        taken = front_taken;
+        same_end = end_kept len after (begun_short number begun) count at;
+        shorter =
+            omega (
+              arith,
+              begun.some,
+              begun.long,
+              ap length front_taken,
+              length-append begun.front (drop (place_before after) (bits order bytes)),
+            );
+      }

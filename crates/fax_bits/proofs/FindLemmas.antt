@@ -9,7 +9,7 @@ use Rattle.std.proofs.lemmas.Bool.Decides.{nat_tests}
 use Rattle.fax_bits.specs.Bits.{code_bits}
 use Rattle.fax_bits.specs.Bits.{BeginsWith}
 use Rattle.fax_bits.proofs.CodeBitsLemmas.{code_bits-add}
-use Rattle.fax_bits.proofs.MeetingLemmas.{length-code_bits, get_or-code_bits}
+use Rattle.fax_bits.proofs.CodeBitsLemmas.{length-code_bits, get_or-code_bits}
 
 same_digit : (n m : ℕ) → n < 2 → m < 2 → nat_eq n 1 ≡ nat_eq m 1 → n ≡ m
 same_digit n m h k e = grind (arith, nat_tests)

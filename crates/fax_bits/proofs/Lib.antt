@@ -1,7 +1,6 @@
 pub mod CodeBitsLemmas
 pub mod SinkLemmas
 pub mod SourceLemmas
-pub mod MeetingLemmas
 pub mod TableLemmas
 pub mod ArrayLemmas
 pub mod ZeroLemmas
@@ -29,6 +28,4 @@ pub mod LaneLemmas
 pub mod WrittenRunLemmas
 pub mod PairLemmas
 pub mod LookUpLemmas
-pub mod LongRunLemmas
 pub mod LookedAtLemmas
-pub mod LastBitsLemmas

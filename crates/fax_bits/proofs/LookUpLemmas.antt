@@ -1,5 +1,5 @@
 -- What one look-up finds, and what was read then.
-use Rattle.std.proofs.Common.{◌≡◌, ℕ, ◌+◌, ◌*◌, ◌-◌, ◌/◌, ◌%◌, ◌^◌, ◌<◌, ◌≤◌, List, [], ◌++◌, length, Bool, refl, ap, sym, ◌∙◌, subst, arith}
+use Rattle.std.proofs.Common.{◌≡◌, ℕ, ◌+◌, ◌*◌, ◌/◌, ◌%◌, ◌^◌, ◌≤◌, List, [], ◌++◌, length, Bool, refl, ap, sym, ◌∙◌, subst, arith}
 use Rattle.std.proofs.Common.{append_assoc, append-nil, length-append}
 use Rattle.fax_bits.specs.declared.codes.CodeEntry.{CodeEntry}
 use Rattle.fax_bits.specs.declared.pairs.Pair.{Pair}
@@ -8,17 +8,17 @@ use Rattle.fax_bits.specs.Codes.{bits_of, Takes, IsRun}
 use Rattle.fax_bits.specs.Written.{run_bits}
 use Rattle.fax_bits.specs.declared.Colour.{Colour}
 use Rattle.fax_bits.specs.Tables.{run_table}
-use Rattle.fax_bits.specs.code.Codes.{run_meaning}
+use Rattle.fax_bits.specs.declared.runs.RunCode.{RunCode}
+use Rattle.fax_bits.specs.declared.runs.RunCode.TheVariants.{Terminating, MakeUp}
 use Rattle.fax_bits.specs.code.TableLaws.{run_table_has_short_codes}
 use Rattle.fax_bits.specs.views.Codes.{HasCodeAhead, HasShortCodes}
 use Rattle.fax_bits.specs.views.Pairs.{IsPairRead}
 use Rattle.fax_bits.specs.views.Source.{Source}
 use Rattle.fax_bits.specs.code.Pairs.{IsPairAhead}
 use Rattle.fax_bits.specs.code.LookUp.{IsBegun, IsLookedUp, IsCode, IsOneRun, AreTwoRuns}
-use Rattle.fax_bits.proofs.MeetingLemmas.{length-code_bits}
+use Rattle.fax_bits.proofs.CodeBitsLemmas.{length-code_bits}
 use Rattle.fax_bits.proofs.ReadBackLemmas.{run_bits_are_read}
-use Rattle.fax_bits.proofs.RunCodeLemmas.{run_meaning-terminating, make_up-at}
-use Rattle.fax_bits.proofs.WrittenRunLemmas.{short_written, long_written}
+use Rattle.fax_bits.proofs.WrittenRunLemmas.{short_written, long_written, terminating_few, make_up_few}
 use Rattle.fax_bits.proofs.LookedAtLemmas.{begins_all, begins_next}
 
 -- a code that begins the bits is found
@@ -53,11 +53,11 @@ begins_more means number len found begun = record {
   meaning = begun.meaning;
 }
 
--- a code for a run that is found by its place, and no bits after it
-place_begins : (colour : Colour) (b : List Bool) (len place : ℕ) → HasCodeAhead (run_table colour) b len (run_meaning place)
-    → IsBegun (λ front at. Takes (run_table colour) front (run_meaning at) []) b len place
-place_begins colour b len place found =
-    let begun = code_begins (run_table colour) b len (run_meaning place) (run_table_has_short_codes colour) found in
+-- a code for a run that begins the bits is taken of its own
+run_code_begins : (colour : Colour) (b : List Bool) (len : ℕ) (code : RunCode) → HasCodeAhead (run_table colour) b len code
+    → IsBegun (λ front code. Takes (run_table colour) front code []) b len code
+run_code_begins colour b len code found =
+    let begun = code_begins (run_table colour) b len code (run_table_has_short_codes colour) found in
     record {
       front = begun.front;
       ahead = begun.ahead;
@@ -71,89 +71,84 @@ place_begins colour b len place found =
       };
     }
 
-pub place_short : (colour : Colour) (b : List Bool) (len place : ℕ) → HasCodeAhead (run_table colour) b len (run_meaning place) → len ≤ 13
-place_short colour b len place found = omega (arith, (run_table_has_short_codes colour found.entry found.listed).1, found.length)
+pub run_code_short : (colour : Colour) (b : List Bool) (len : ℕ) (code : RunCode) → HasCodeAhead (run_table colour) b len code → len ≤ 13
+run_code_short colour b len code found = omega (arith, (run_table_has_short_codes colour found.entry found.listed).1, found.length)
 
 -- a run of a terminating code alone
-pub short_run_begins : (colour : Colour) (most : ℕ) (b : List Bool) (len place : ℕ)
-    → HasCodeAhead (run_table colour) b len (run_meaning place) → place < 64 → place ≤ most
-    → IsBegun (λ front pels. IsOneRun colour front pels × (pels ≤ most)) b len place
-short_run_begins colour most b len place found low few =
-    let begun = place_begins colour b len place found in
-    let takes = subst (λ code. Takes (run_table colour) begun.front code []) (run_meaning-terminating place low) begun.meaning in
+pub short_run_begins : (colour : Colour) (b : List Bool) (len pels : ℕ)
+    → HasCodeAhead (run_table colour) b len (Terminating pels) → IsBegun (IsOneRun colour) b len pels
+short_run_begins colour b len pels found =
+    let begun = run_code_begins colour b len (Terminating pels) found in
     record {
       front = begun.front;
       ahead = begun.ahead;
       long = begun.long;
       some = begun.some;
-      meaning = (
-        record {
-          spelled = short_written colour begun.front place [] takes ∙ append-nil (run_bits colour place);
-          short = omega (arith, low);
-        },
-        few,
-      );
+      meaning = record {
+        spelled = short_written colour begun.front pels [] begun.meaning ∙ append-nil (run_bits colour pels);
+        short = omega (arith, terminating_few colour begun.front pels [] begun.meaning);
+      };
     }
 
 -- a run of a make-up code and a terminating code
-pub long_run_begins : (colour : Colour) (most number len first more last : ℕ)
-    → HasCodeAhead (run_table colour) (code_bits 13 (number / 2 ^ 19)) len (run_meaning first) → 64 ≤ first → first < 104
-    → HasCodeAhead (run_table colour) (code_bits 13 (number * 2 ^ len % 2 ^ 32 / 2 ^ 19)) more (run_meaning last) → last < 64
-    → 64 * (first - 63) + last ≤ most
-    → IsBegun (λ front pels. IsOneRun colour front pels × (pels ≤ most)) (code_bits 32 number) (len + more) (64 * (first - 63) + last)
-long_run_begins colour most number len first more last found high within after low few =
-    let begun = begins_more _ number len first (place_begins colour (code_bits 13 (number / 2 ^ 19)) len first found) in
-    let next = place_begins colour (code_bits 13 (number * 2 ^ len % 2 ^ 32 / 2 ^ 19)) more last after in
-    let make_up =
-    subst (λ code. Takes (run_table colour) (begun.front ++ next.front) code next.front) (make_up-at first high within) (record {
+pub long_run_begins : (colour : Colour) (number len first more last : ℕ)
+    → HasCodeAhead (run_table colour) (code_bits 13 (number / 2 ^ 19)) len (MakeUp first)
+    → HasCodeAhead (run_table colour) (code_bits 13 (number * 2 ^ len % 2 ^ 32 / 2 ^ 19)) more (Terminating last)
+    → IsBegun (IsOneRun colour) (code_bits 32 number) (len + more) (first + last)
+long_run_begins colour number len first more last found after =
+    let begun = begins_more _ number len (MakeUp first) (run_code_begins colour (code_bits 13 (number / 2 ^ 19)) len (MakeUp first) found) in
+    let next = run_code_begins colour (code_bits 13 (number * 2 ^ len % 2 ^ 32 / 2 ^ 19)) more (Terminating last) after in
+    let make_up : Takes (run_table colour) (begun.front ++ next.front) (MakeUp first) next.front = record {
       entry = begun.meaning.entry;
       listed = begun.meaning.listed;
       means = begun.meaning.means;
       spelled = ap (λ front. front ++ next.front) (begun.meaning.spelled ∙ append-nil (bits_of begun.meaning.entry));
-    }) in
-    let terminating = subst (λ code. Takes (run_table colour) next.front code []) (run_meaning-terminating last low) next.meaning in
+    } in
     record {
       front = begun.front ++ next.front;
       ahead =
-          begins_next number len begun.front next.front (place_short colour _ len first found) begun.long begun.ahead next.ahead;
+          begins_next number len begun.front next.front (run_code_short colour _ len (MakeUp first) found) begun.long begun.ahead next.ahead;
       long = length-append begun.front next.front ∙ ap (λ n. n + length next.front) begun.long ∙ ap (λ n. len + n) next.long;
       some = omega (arith, begun.some);
-      meaning = (
-        record {
-          spelled =
-              long_written colour (begun.front ++ next.front) (64 * (first - 63)) last next.front [] make_up terminating
-              ∙ append-nil (run_bits colour (64 * (first - 63) + last));
-          short = omega (arith, within, low);
-        },
-        few,
-      );
+      meaning = record {
+        spelled =
+            long_written colour (begun.front ++ next.front) first last next.front [] make_up next.meaning
+            ∙ append-nil (run_bits colour (first + last));
+        short =
+            omega (
+              arith,
+              make_up_few colour (begun.front ++ next.front) first next.front make_up,
+              terminating_few colour next.front last [] next.meaning,
+            );
+      };
     }
+
+-- stands before the bits after it, as it is written
+pub run_written : (colour : Colour) (front left : List Bool) (pels : ℕ) (rest : List Bool) → IsOneRun colour front pels
+    → left ≡ front ++ rest → left ≡ run_bits colour pels ++ rest
+run_written colour front left pels rest is taken = taken ∙ ap (λ b. b ++ rest) is.spelled
 
 -- and is read
 pub run_taken : (colour : Colour) (front left : List Bool) (pels : ℕ) (rest : List Bool) → IsOneRun colour front pels
     → left ≡ front ++ rest → IsRun colour left pels rest
 run_taken colour front left pels rest is taken =
-    subst (λ b. IsRun colour b pels rest) (sym (taken ∙ ap (λ b. b ++ rest) is.spelled)) (run_bits_are_read colour pels rest is.short)
+    subst (λ b. IsRun colour b pels rest) (sym (run_written colour front left pels rest is taken))
+    (run_bits_are_read colour pels rest is.short)
 
 -- two runs that begin the bits are found
-pub pair_begins : (total width : ℕ) (b : List Bool) (len : ℕ) (pair : Pair) → IsPairAhead b len pair
-    → total + pair.white + pair.black ≤ width
-    → IsBegun (λ front (found : Pair). AreTwoRuns front found × (total + found.white + found.black ≤ width)) b len pair
-pair_begins total width b len pair found within = record {
+pub pair_begins : (b : List Bool) (len : ℕ) (pair : Pair) → IsPairAhead b len pair → IsBegun AreTwoRuns b len pair
+pair_begins b len pair found = record {
   front = code_bits len found.code;
   ahead = found.ahead;
   long = length-code_bits len found.code;
   some = found.some;
-  meaning = (
-    record {
-      white = found.white;
-      black = found.black;
-      short_white = found.short_white;
-      short_black = found.short_black;
-      spelled = found.spelled;
-    },
-    within,
-  );
+  meaning = record {
+    white = found.white;
+    black = found.black;
+    short_white = found.short_white;
+    short_black = found.short_black;
+    spelled = found.spelled;
+  };
 }
 
 -- and are read

@@ -1,5 +1,5 @@
 -- The codes of modes by their places in the mode table.
-use Rattle.std.proofs.Common.{◌≡◌, List, ◌++◌, Bool, lit<, ℕ, zero, suc, ◌+◌, ◌-◌, ◌/◌, ◌^◌, ◌<◌, ◌≤◌, ℤ, pos, negsuc, unsigned_abs, get_or}
+use Rattle.std.proofs.Common.{◌≡◌, List, ◌++◌, Bool, lit<, ℕ, zero, suc, ◌-◌, ◌/◌, ◌^◌, ◌<◌, ◌≤◌, ℤ, pos, negsuc, unsigned_abs, get_or}
 use Rattle.std.proofs.Common.{map, to_z, of_z, w8, w32, refl, ap, sym, ◌∙◌, arith}
 use Rattle.std.specs.Prelude.{Option, None, Some, slice_get, nat_abs, ◌+ℤ◌}
 use Rattle.fax_bits.specs.declared.indexes.TheConstants.{MODE_PLACES, VERTICAL_MODES}
@@ -12,41 +12,14 @@ use Rattle.fax_bits.specs.declared.modes.ModeCode.TheVariants.{Pass, Horizontal,
 use Rattle.fax_bits.specs.Bits.{code_bits}
 use Rattle.fax_bits.specs.views.Codes.{HasCodeAhead, IsWritten}
 use Rattle.fax_bits.specs.code.Places.{place_of}
-use Rattle.fax_bits.specs.Codes.{Takes}
-use Rattle.fax_bits.specs.code.Codes.{bits_at}
+use Rattle.fax_bits.specs.Codes.{Takes, bits_of}
 use Rattle.fax_bits.specs.Written.{mode_bits}
 use Rattle.fax_bits.specs.laws.Codes.{ModeBitsAreRead}
 use Rattle.fax_bits.specs.Tables.{modes}
 use Rattle.fax_bits.proofs.FindLemmas.{code_ahead}
 use Rattle.fax_bits.proofs.IndexLemmas.{mode_place}
 use Rattle.fax_bits.proofs.PlaceLemmas.{found_at_place}
-use Rattle.fax_bits.proofs.RunCodeLemmas.{bits_at-found}
 use Rattle.fax_bits.proofs.TableLemmas.{listed}
-
-pub bits_at-pass : bits_at modes 0 ≡ mode_bits Pass
-unfolding modes mode_bits code_bits
-bits_at-pass = refl
-
-pub bits_at-horizontal : bits_at modes 1 ≡ mode_bits Horizontal
-unfolding modes mode_bits code_bits
-bits_at-horizontal = refl
-
--- a1 right of b1, or at it
-pub bits_at-right : (n : ℕ) → n < 4 → bits_at modes (2 + n) ≡ mode_bits (Vertical (pos n))
-unfolding modes mode_bits code_bits
-bits_at-right zero few = refl
-bits_at-right (suc zero) few = refl
-bits_at-right (suc (suc zero)) few = refl
-bits_at-right (suc (suc (suc zero))) few = refl
-bits_at-right (suc (suc (suc (suc n)))) few = absurd (omega arith)
-
--- a1 left of b1
-pub bits_at-left : (n : ℕ) → n < 3 → bits_at modes (6 + n) ≡ mode_bits (Vertical (negsuc n))
-unfolding modes mode_bits code_bits
-bits_at-left zero few = refl
-bits_at-left (suc zero) few = refl
-bits_at-left (suc (suc zero)) few = refl
-bits_at-left (suc (suc (suc n))) few = absurd (omega arith)
 
 -- a mode that is written has a distance of at most 3
 few : (d : ℤ) → IsWritten (Vertical d) → unsigned_abs d < 4
@@ -57,72 +30,49 @@ few (negsuc n) written = omega (arith, ints, written.0)
 abbrev place_of_distance : ℤ → ℕ
 place_of_distance d = nat_abs (to_z w32 (of_z w32 (to_z w32 (of_z w32 (to_z w8 (of_z w8 d))) +ℤ pos 3)))
 
-pub vertical_bits : (d : ℤ) → IsWritten (Vertical d)
-    → code_bits (get_or VERTICAL_CODES.lens (place_of_distance d) 0) (get_or VERTICAL_CODES.codes (place_of_distance d) 0)
-    ≡ mode_bits (Vertical d)
+-- a distance that is written is itself as a number of eight bits, and its code stands at its place
+pub record HasCode (d : ℤ) : Type 0 where
+  pub distance_is : to_z w8 (of_z w8 d) ≡ d
+  pub short : get_or VERTICAL_CODES.lens (place_of_distance d) 0 < 8
+  pub fits : get_or VERTICAL_CODES.codes (place_of_distance d) 0 < 2 ^ get_or VERTICAL_CODES.lens (place_of_distance d) 0
+  pub bits : code_bits (get_or VERTICAL_CODES.lens (place_of_distance d) 0) (get_or VERTICAL_CODES.codes (place_of_distance d) 0)
+      ≡ mode_bits (Vertical d)
+
+pub has_code : (d : ℤ) → IsWritten (Vertical d) → HasCode d
 unfolding modes mode_bits code_bits
-vertical_bits (pos zero) written = refl
-vertical_bits (pos (suc zero)) written = refl
-vertical_bits (pos (suc (suc zero))) written = refl
-vertical_bits (pos (suc (suc (suc zero)))) written = refl
-vertical_bits (pos (suc (suc (suc (suc n))))) written = absurd (omega (arith, few (pos (suc (suc (suc (suc n))))) written))
-vertical_bits (negsuc zero) written = refl
-vertical_bits (negsuc (suc zero)) written = refl
-vertical_bits (negsuc (suc (suc zero))) written = refl
-vertical_bits (negsuc (suc (suc (suc n)))) written = absurd (omega (arith, few (negsuc (suc (suc (suc n)))) written))
-
-pub vertical_fits : (d : ℤ) → IsWritten (Vertical d)
-    → get_or VERTICAL_CODES.codes (place_of_distance d) 0 < 2 ^ get_or VERTICAL_CODES.lens (place_of_distance d) 0
-vertical_fits (pos zero) written = lit< tt
-vertical_fits (pos (suc zero)) written = lit< tt
-vertical_fits (pos (suc (suc zero))) written = lit< tt
-vertical_fits (pos (suc (suc (suc zero)))) written = lit< tt
-vertical_fits (pos (suc (suc (suc (suc n))))) written = absurd (omega (arith, few (pos (suc (suc (suc (suc n))))) written))
-vertical_fits (negsuc zero) written = lit< tt
-vertical_fits (negsuc (suc zero)) written = lit< tt
-vertical_fits (negsuc (suc (suc zero))) written = lit< tt
-vertical_fits (negsuc (suc (suc (suc n)))) written = absurd (omega (arith, few (negsuc (suc (suc (suc n)))) written))
-
-pub vertical_short : (d : ℤ) → IsWritten (Vertical d)
-    → get_or VERTICAL_CODES.lens (place_of_distance d) 0 < 8
-vertical_short (pos zero) written = lit< tt
-vertical_short (pos (suc zero)) written = lit< tt
-vertical_short (pos (suc (suc zero))) written = lit< tt
-vertical_short (pos (suc (suc (suc zero)))) written = lit< tt
-vertical_short (pos (suc (suc (suc (suc n))))) written = absurd (omega (arith, few (pos (suc (suc (suc (suc n))))) written))
-vertical_short (negsuc zero) written = lit< tt
-vertical_short (negsuc (suc zero)) written = lit< tt
-vertical_short (negsuc (suc (suc zero))) written = lit< tt
-vertical_short (negsuc (suc (suc (suc n)))) written = absurd (omega (arith, few (negsuc (suc (suc (suc n)))) written))
+has_code (pos zero) written = record { distance_is = refl; short = lit< tt; fits = lit< tt; bits = refl }
+has_code (pos (suc zero)) written = record { distance_is = refl; short = lit< tt; fits = lit< tt; bits = refl }
+has_code (pos (suc (suc zero))) written = record { distance_is = refl; short = lit< tt; fits = lit< tt; bits = refl }
+has_code (pos (suc (suc (suc zero)))) written = record { distance_is = refl; short = lit< tt; fits = lit< tt; bits = refl }
+has_code (pos (suc (suc (suc (suc n))))) written = absurd (omega (arith, few (pos (suc (suc (suc (suc n))))) written))
+has_code (negsuc zero) written = record { distance_is = refl; short = lit< tt; fits = lit< tt; bits = refl }
+has_code (negsuc (suc zero)) written = record { distance_is = refl; short = lit< tt; fits = lit< tt; bits = refl }
+has_code (negsuc (suc (suc zero))) written = record { distance_is = refl; short = lit< tt; fits = lit< tt; bits = refl }
+has_code (negsuc (suc (suc (suc n)))) written = absurd (omega (arith, few (negsuc (suc (suc (suc n)))) written))
 
 -- a mode that is written is read again
-takes_mode : (place : ℕ) (listed_entry : CodeEntry ModeCode) (mode : ModeCode) (more : List Bool) → slice_get modes place
-    ≡ Some listed_entry
-    → listed_entry.meaning ≡ mode → bits_at modes place ≡ mode_bits mode → Takes modes (mode_bits mode ++ more) mode more
-takes_mode place listed_entry mode more found means same = record {
-  entry = listed_entry;
-  listed = listed modes place listed_entry found;
-  means = means;
-  spelled = ap (λ b. b ++ more) (sym same ∙ bits_at-found modes place listed_entry found);
+takes_mode : (place : ℕ) (entry : CodeEntry ModeCode) (more : List Bool) → slice_get modes place ≡ Some entry
+    → bits_of entry ≡ mode_bits entry.meaning → Takes modes (mode_bits entry.meaning ++ more) entry.meaning more
+takes_mode place entry more found same = record {
+  entry = entry;
+  listed = listed modes place entry found;
+  means = refl;
+  spelled = ap (λ b. b ++ more) (sym same);
 }
 
 pub mode_bits_are_read : ModeBitsAreRead
-unfolding modes
-mode_bits_are_read Pass more written = takes_mode 0 _ Pass more refl refl bits_at-pass
-mode_bits_are_read Horizontal more written = takes_mode 1 _ Horizontal more refl refl bits_at-horizontal
-mode_bits_are_read (Vertical (pos zero)) more written = takes_mode 2 _ (Vertical (pos 0)) more refl refl (bits_at-right 0 (lit< tt))
-mode_bits_are_read (Vertical (pos (suc zero))) more written = takes_mode 3 _ (Vertical (pos 1)) more refl refl (bits_at-right 1 (lit< tt))
-mode_bits_are_read (Vertical (pos (suc (suc zero)))) more written =
-    takes_mode 4 _ (Vertical (pos 2)) more refl refl (bits_at-right 2 (lit< tt))
-mode_bits_are_read (Vertical (pos (suc (suc (suc zero))))) more written =
-    takes_mode 5 _ (Vertical (pos 3)) more refl refl (bits_at-right 3 (lit< tt))
+unfolding modes mode_bits code_bits
+mode_bits_are_read Pass more written = takes_mode 0 _ more refl refl
+mode_bits_are_read Horizontal more written = takes_mode 1 _ more refl refl
+mode_bits_are_read (Vertical (pos zero)) more written = takes_mode 2 _ more refl refl
+mode_bits_are_read (Vertical (pos (suc zero))) more written = takes_mode 3 _ more refl refl
+mode_bits_are_read (Vertical (pos (suc (suc zero)))) more written = takes_mode 4 _ more refl refl
+mode_bits_are_read (Vertical (pos (suc (suc (suc zero))))) more written = takes_mode 5 _ more refl refl
 mode_bits_are_read (Vertical (pos (suc (suc (suc (suc n)))))) more written =
     absurd (omega (arith, few (pos (suc (suc (suc (suc n))))) written))
-mode_bits_are_read (Vertical (negsuc zero)) more written = takes_mode 6 _ (Vertical (negsuc 0)) more refl refl (bits_at-left 0 (lit< tt))
-mode_bits_are_read (Vertical (negsuc (suc zero))) more written =
-    takes_mode 7 _ (Vertical (negsuc 1)) more refl refl (bits_at-left 1 (lit< tt))
-mode_bits_are_read (Vertical (negsuc (suc (suc zero)))) more written =
-    takes_mode 8 _ (Vertical (negsuc 2)) more refl refl (bits_at-left 2 (lit< tt))
+mode_bits_are_read (Vertical (negsuc zero)) more written = takes_mode 6 _ more refl refl
+mode_bits_are_read (Vertical (negsuc (suc zero))) more written = takes_mode 7 _ more refl refl
+mode_bits_are_read (Vertical (negsuc (suc (suc zero)))) more written = takes_mode 8 _ more refl refl
 mode_bits_are_read (Vertical (negsuc (suc (suc (suc n))))) more written = absurd (omega (arith, few (negsuc (suc (suc (suc n)))) written))
 mode_bits_are_read ModeExtension more written = absurd written
 

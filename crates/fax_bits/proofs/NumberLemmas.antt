@@ -10,7 +10,7 @@ use Rattle.fax_bits.specs.Bits.{code_bits, byte_bits}
 use Rattle.fax_bits.specs.Bits.{bits_number}
 use Rattle.fax_bits.proofs.CodeBitsLemmas.{code_bits-low}
 use Rattle.fax_bits.proofs.FindLemmas.{same_number}
-use Rattle.fax_bits.proofs.MeetingLemmas.{length-code_bits}
+use Rattle.fax_bits.proofs.CodeBitsLemmas.{length-code_bits}
 use Rattle.fax_bits.proofs.PeekLemmas.{bits_number-lt}
 
 abbrev digit_of : Bool → ℕ

@@ -8,7 +8,7 @@ use Rattle.fax_bits.specs.Bits.{code_bits}
 use Rattle.fax_bits.specs.Written.{run_codes, run_code_bits, run_bits}
 use Rattle.fax_bits.specs.code.Sink.{AreWaiting}
 use Rattle.fax_bits.specs.views.Sink.{Sink, Appends, AppendsPrefix, AppendsAllBut, AppendsCodes}
-use Rattle.fax_bits.proofs.MeetingLemmas.{length-code_bits}
+use Rattle.fax_bits.proofs.CodeBitsLemmas.{length-code_bits}
 use Rattle.fax_bits.proofs.PutLemmas.{appends-then}
 use Rattle.fax_bits.proofs.SinkLemmas.{joined-lt, joined_bits}
 

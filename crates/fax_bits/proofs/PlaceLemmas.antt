@@ -2,7 +2,7 @@
 use Rattle.std.proofs.Common.{◌≡◌, ℕ, zero, suc, ◌+◌, ◌-◌, ◌*◌, ◌/◌, ◌%◌, ◌^◌, ◌<◌, ◌≤◌, List, [], ◌∷◌, ◌++◌, length, get_or, Bool, true}
 use Rattle.std.proofs.Common.{false, nat_eq, refl, ap, sym, ◌∙◌, subst, arith, inl, inr, append_assoc, length-append}
 use Rattle.std.specs.Prelude.{◌&&◌, ◌||◌, Option, Some, None, MatchOption, slice_get, Contains, nat_le}
-use Rattle.std.proofs.lemmas.Bool.{and_from, and_parts, cases_Bool, eqb-true, eq-eqb, le-leb, leb-true, or_cases}
+use Rattle.std.proofs.lemmas.Bool.{and_parts, and_from, cases_Bool, eqb-true, eq-eqb, le-leb, leb-true, or_cases}
 use Rattle.std.proofs.lemmas.Nat.{pow-add, pow_pos, shl_below, shl-shr}
 use Rattle.std.proofs.Math.Nat.{div-div-eq-div-mul, lt-div-mul-add}
 use Rattle.fax_bits.specs.declared.codes.CodeEntry.{CodeEntry}
@@ -13,7 +13,7 @@ use Rattle.fax_bits.specs.Bits.{BeginsWith}
 use Rattle.fax_bits.specs.code.Places.{begins, place_after, place_of}
 use Rattle.fax_bits.proofs.CodeBitsLemmas.{code_bits-add}
 use Rattle.fax_bits.proofs.FindLemmas.{code_ahead, ahead_is_short, ahead_is_first}
-use Rattle.fax_bits.proofs.MeetingLemmas.{length-code_bits}
+use Rattle.fax_bits.proofs.CodeBitsLemmas.{length-code_bits}
 use Rattle.fax_bits.proofs.PrefixLemmas.{takes_one}
 use Rattle.fax_bits.proofs.TableLemmas.{listed}
 

@@ -7,7 +7,7 @@ use Rattle.fax_bits.specs.declared.codes.CodeEntry.{CodeEntry}
 use Rattle.fax_bits.specs.Codes.{bits_of, Takes}
 use Rattle.fax_bits.specs.views.Codes.{HasShortCodes, IsPrefixFree}
 use Rattle.fax_bits.specs.laws.Codes.{HasOneAnswer, TakesBits, ReadsOneWay}
-use Rattle.fax_bits.proofs.MeetingLemmas.{length-code_bits}
+use Rattle.fax_bits.proofs.CodeBitsLemmas.{length-code_bits}
 use Rattle.fax_bits.proofs.ReadingLemmas.{takes_or_fails, taken_has_no_fault, has_one_fault}
 
 -- of two codes that begin the same bits one begins the other

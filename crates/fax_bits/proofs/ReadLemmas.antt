@@ -1,18 +1,14 @@
 -- A code that is read by the number of the next bits.
 use Rattle.std.proofs.Common.{◌≡◌, ℕ, ◌+◌, ◌-◌, ◌^◌, ◌<◌, ◌≤◌, List, ◌∷◌, ◌++◌, length, take, drop, replicate, Bool, false, ap, sym, ◌∙◌}
-use Rattle.std.proofs.Common.{subst, arith, inl, inr, append_assoc, length-append, length-take}
-use Rattle.std.specs.Prelude.{◌⊎◌}
+use Rattle.std.proofs.Common.{subst, arith, append_assoc, length-append, length-take}
 use Rattle.std.proofs.Math.Seq.{take-append-add}
 use Rattle.std.proofs.lemmas.List.{take-append-drop, take-append-le}
 use Rattle.fax_bits.specs.declared.codes.CodeEntry.{CodeEntry}
 use Rattle.fax_bits.specs.Bits.{bits_number}
-use Rattle.fax_bits.specs.Bits.{code_bits, BeginsWith}
-use Rattle.fax_bits.specs.declared.codes.Meeting.{Meeting}
-use Rattle.fax_bits.specs.declared.codes.Meeting.TheVariants.{Whole, Cut, Other}
-use Rattle.fax_bits.specs.code.Meeting.{IsMeeting, IsCutBy}
+use Rattle.fax_bits.specs.Bits.{code_bits}
 use Rattle.fax_bits.specs.Codes.{bits_of, HasNoCode, IsCutShort, Takes}
 use Rattle.fax_bits.specs.views.Codes.{HasCodeAhead, HasShortCodes}
-use Rattle.fax_bits.proofs.MeetingLemmas.{length-code_bits, ahead_fits}
+use Rattle.fax_bits.proofs.CodeBitsLemmas.{length-code_bits, ahead_fits}
 use Rattle.fax_bits.proofs.NumberLemmas.{code_bits-number}
 use Rattle.fax_bits.proofs.PeekLemmas.{padded, bits_number-lt}
 use Rattle.fax_bits.proofs.TableLemmas.{left_after}
@@ -84,11 +80,3 @@ not_cut table left short long cut =
       ap length
           cut.2.2,
     )
-
--- a code that does not begin the bits, and is not cut by their end
-pub meets_uncut : (meeting : Meeting) (code b : List Bool) → IsMeeting meeting code b → (meeting ≡ Whole) ⊎ (meeting ≡ Other)
-    → (BeginsWith b code → ⊥) → IsCutBy code b → ⊥
-meets_uncut Whole code b met is none cut = none met
-meets_uncut Other code b met is none cut = met.1 cut
-meets_uncut Cut code b met (inl is) none cut = cc
-meets_uncut Cut code b met (inr is) none cut = cc

@@ -1,12 +1,19 @@
 -- Bits begin with a code of a table, or they have one fault.
-use Rattle.std.proofs.Common.{◌≡◌, ℕ, zero, suc, ◌<◌, List, [], ◌∷◌, length, get_or, Bool, true, false, refl, sym, subst, arith, inl, inr}
+use Rattle.std.proofs.Common.{◌≡◌, ℕ, zero, suc, ◌<◌, List, [], ◌∷◌, ◌++◌, length, length-append, ap, get_or, Bool, true, false, refl, sym, subst, arith, inl, inr}
 use Rattle.std.specs.Prelude.{◌⊎◌, Contains}
 use Rattle.fax_bits.specs.declared.codes.CodeEntry.{CodeEntry}
 use Rattle.fax_bits.specs.declared.codes.CodeFault.TheVariants.{DataEnds, BadCode}
 use Rattle.fax_bits.specs.declared.codes.CodeFault.{CodeFault}
 use Rattle.fax_bits.specs.Codes.{bits_of, Takes, IsFaultOf}
-use Rattle.fax_bits.specs.code.Meeting.{IsCutBy}
 use Rattle.fax_bits.specs.Bits.{BeginsWith}
+
+-- the bits begin the code, and are not all of it
+abbrev pub IsCutBy : List Bool → List Bool → Type 0
+IsCutBy code b = (missing : Bool) × (more : List Bool) × (b ++ missing ∷ more ≡ code)
+
+pub cut_by : (code b : List Bool) → BeginsWith code b → length b < length code → IsCutBy code b
+cut_by code b ([], is) short = absurd (omega (arith, ap length is, length-append b []))
+cut_by code b (missing ∷ more, is) short = (missing, more, sym is)
 
 same_bit : (a b : Bool) → (a ≡ b) ⊎ (a ≡ b → ⊥)
 same_bit true true = inl refl

@@ -15,7 +15,7 @@ use Rattle.fax_bits.specs.Bits.{bits, byte_bits, code_bits}
 use Rattle.fax_bits.specs.views.Sink.{Sink, IsPadded}
 use Rattle.fax_bits.specs.code.Sink.{sink_of}
 use Rattle.fax_bits.proofs.CodeBitsLemmas.{code_bits-add, code_bits-zeros, byte_bits-reversed}
-use Rattle.fax_bits.proofs.MeetingLemmas.{length-code_bits}
+use Rattle.fax_bits.proofs.CodeBitsLemmas.{length-code_bits}
 use Rattle.fax_bits.proofs.SourceLemmas.{length-bits}
 
 -- a call that succeeded

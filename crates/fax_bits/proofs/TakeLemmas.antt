@@ -13,7 +13,7 @@ use Rattle.fax_bits.specs.Bits.{bits, byte_bits, code_bits, BeginsWith}
 use Rattle.fax_bits.specs.Bits.{bits_number}
 use Rattle.fax_bits.proofs.SinkLemmas.{bits-push, byte_bits-msb}
 use Rattle.fax_bits.specs.views.Source.{IsTaken}
-use Rattle.fax_bits.proofs.MeetingLemmas.{length-code_bits}
+use Rattle.fax_bits.proofs.CodeBitsLemmas.{length-code_bits}
 use Rattle.fax_bits.proofs.NumberLemmas.{code_bits-number, number-code_bits}
 use Rattle.fax_bits.proofs.PeekLemmas.{padded}
 

@@ -77,6 +77,17 @@ make_up_means place m within means =
       ]
     ]
 
+-- a code means so many pels at most
+pub terminating_few : (colour : Colour) (b : List Bool) (n : ℕ) (rest : List Bool) → Takes (run_table colour) b (Terminating n) rest → n < 64
+terminating_few colour b n rest takes =
+    let code = code_taken colour b (Terminating n) rest takes in short_means code.place n code.within code.means
+
+pub make_up_few : (colour : Colour) (b : List Bool) (m : ℕ) (rest : List Bool) → Takes (run_table colour) b (MakeUp m) rest → m ≤ 2560
+make_up_few colour b m rest takes =
+    let code = code_taken colour b (MakeUp m) rest takes in
+    let steps = make_up_means code.place m code.within code.means in
+    omega (arith, steps.are, steps.few)
+
 pub short_written : (colour : Colour) (b : List Bool) (n : ℕ) (rest : List Bool) → Takes (run_table colour) b (Terminating n) rest
     → b ≡ run_bits colour n ++ rest
 short_written colour b n rest takes =

@@ -1,7 +1,6 @@
 -- What speaks of this code alone: how its types are seen, and computed tests of the tables.
 pub mod Source
 pub mod Sink
-pub mod Meeting
 pub mod TableTests
 pub mod TableLaws
 pub mod Window

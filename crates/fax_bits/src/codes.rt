@@ -3,7 +3,6 @@ ghost use Rattle.std.specs.Prelude.{◌≡◌, ℕ, ◌^◌, ◌<◌, ◌≤◌,
 ghost use Rattle.std.specs.Prelude.{OnOk, OnErr, IfOk, IfErr, MatchOption, Some, None};
 ghost use Rattle.fax_bits.specs.Bits.{code_bits};
 ghost use Rattle.fax_bits.specs.Codes.{Takes, IsFaultOf, HasNoCode};
-ghost use Rattle.fax_bits.specs.code.Meeting.{IsMeeting};
 ghost use Rattle.fax_bits.specs.views.Source.{KeepsEnd};
 
 use crate::BitSource;
@@ -97,37 +96,6 @@ pub(crate) fn within<M: Copy>(entry: CodeEntry<M>, n: u32) -> Option<(u32, M)>
     }
 }
 
-/// How bits begin beside a code.
-#[derive(Clone, Copy)]
-enum Meeting {
-    /// With the code.
-    Whole,
-    /// They end within the code.
-    Cut,
-    /// Neither.
-    Other,
-}
-
-impl<'a> BitSource<'a> {
-    /// How the bits that are left begin beside a code.
-    fn meeting(&self, code: u16, len: u8) -> Meeting
-        requires { len ≤ LONGEST_CODE }
-        ensures { IsMeeting result (code_bits len code) self.now.left }
-    {
-        let left = self.remaining();
-        for i in 0..len {
-            if u64::from(i) >= left {
-                return Meeting::Cut;
-            }
-            let wanted = (code >> (len - 1 - i)) & 1 == 1;
-            if self.bit(u64::from(i)) != wanted {
-                return Meeting::Other;
-            }
-        }
-        Meeting::Whole
-    }
-}
-
 /// Reads a code of the table.
 ///
 /// # Errors
@@ -144,27 +112,30 @@ pub fn read_code<T: CodeTable>(source: &mut BitSource) -> Result<T::Meaning, Cod
     ensures shorter { OnOk result (length source.new.left < length source.old.left) }
 {
     let n = source.remaining().min(u64::from(LONGEST_CODE)) as u32;
-    match T::find(source.peek(n), n) {
+    let window = source.peek(n);
+    match T::find(window, n) {
         Some(found) => {
             source.skip(u64::from(found.0));
             Ok(found.1)
         }
-        None if n < LONGEST_CODE => Err(fault_at_end::<T>(source)),
+        None if n < LONGEST_CODE => Err(fault_at_end::<T>(window, n)),
         None => Err(CodeFault::BadCode),
     }
 }
 
-/// Which fault it is that no code begins the bits, by all entries: the bits may end within a code.
+/// Which fault it is that no code begins the last `n` bits, the lowest of `window`, by all entries:
+/// they may end within a code.
 #[inline(never)]
-fn fault_at_end<T: CodeTable>(source: &BitSource) -> CodeFault
-    requires { HasNoCode T.table source.now.left }
-    ensures { IsFaultOf T.table source.now.left result }
+fn fault_at_end<T: CodeTable>(window: u32, n: u32) -> CodeFault
+    requires fits { window < 2 ^ n }
+    requires none { HasNoCode T.table (code_bits n window) }
+    ensures { IsFaultOf T.table (code_bits n window) result }
 {
     for i in 0..T::COUNT {
         let entry = T::entry(i);
-        match source.meeting(entry.code, entry.len) {
-            Meeting::Cut => return CodeFault::DataEnds,
-            Meeting::Whole | Meeting::Other => {}
+        let len = u32::from(entry.len);
+        if n < len && u32::from(entry.code) >> (len - n) == window {
+            return CodeFault::DataEnds;
         }
     }
     CodeFault::BadCode

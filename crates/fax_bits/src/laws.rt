@@ -25,11 +25,6 @@ pub fn bits_are_packed_in_one_way()
     ensures { Law.PacksOneWay }
 {}
 
-/// At most one code of a table is taken of any bits, with one rest after it.
-pub fn one_code_is_taken<T: CodeTable>()
-    ensures { Law.HasOneAnswer (Takes T.table) }
-{}
-
 /// Bits are read by any table in one way: at most one code is taken, which has at least one bit; a
 /// code is taken or there is a fault, never both, and never two faults.
 pub fn codes_are_read_in_one_way<T: CodeTable>()
@@ -59,6 +54,12 @@ pub fn runs_are_read_back()
 /// left after it (T.4, section 4.1.1).
 pub fn runs_are_read_as_nothing_else()
     ensures { Law.RunBitsAreOneRun }
+{}
+
+/// Bits that begin with codes of a run as T.4 chooses them, code by code, begin as `put_run` writes
+/// that run (T.4, section 4.1.1).
+pub fn chosen_codes_are_written()
+    ensures { Law.ChosenCodesAreWritten }
 {}
 
 /// A mode, as `put_mode` writes it, is read as that mode, whatever bits follow it (T.4, section

@@ -21,7 +21,7 @@ pub use modes::{ModeCode, Modes};
 pub use pairs::{Pair, SHORT_RUN};
 pub use pending::PendingBits;
 pub use put::{put_mode, put_run};
-pub use runs::{BlackRuns, ReadRun, RunCode, WhiteRuns};
+pub use runs::{BlackRuns, LONGEST_MAKE_UP, RunCode, WhiteRuns};
 pub use sink::BitSink;
 pub use source::BitSource;
 use thiserror::Error;

@@ -1,19 +1,19 @@
 //! What one look-up of the next bits finds: a run, a white run and the black one after it, a mode.
 ghost use Rattle.std.specs.Prelude.{◌≡◌, ◌+◌, ◌^◌, ◌<◌, ◌≤◌, ◌++◌, length};
-ghost use Rattle.std.specs.Prelude.{IfSome, IsSome, IsTrue, None, take, replicate, true};
+ghost use Rattle.std.specs.Prelude.{IfSome, IsSome, None, take, replicate, true};
 ghost use Rattle.fax_bits.specs.Codes.{Takes, IsRun};
 ghost use Rattle.fax_bits.specs.Tables.{modes};
 ghost use Rattle.fax_bits.specs.Written.{run_bits};
 ghost use Rattle.fax_bits.specs.views.Pairs.{IsPairRead};
 ghost use Rattle.fax_bits.specs.views.Source.{KeepsEnd};
-ghost use Rattle.fax_bits.specs.code.LookUp.{IsLookedUp, IsFoundAhead};
+ghost use Rattle.fax_bits.specs.Bits.{code_bits};
+ghost use Rattle.fax_bits.specs.code.LookUp.{IsBegun, IsOneRun};
 
 use crate::codes::LONGEST_CODE;
 use crate::modes::{ModeCode, find_mode};
 use crate::pairs::{Pair, find_pair};
-use crate::runs::{LONGEST_MAKE_UP, TERMINATING_CODES, find_run_code};
-use crate::window::Window;
-use crate::{BitSource, Colour, FillOrder, ReadRun};
+use crate::runs::{RunCode, find_run_code};
+use crate::{BitSource, Colour};
 
 /// How many bits are looked at: those of a make-up code and a terminating code, and some more.
 const LOOKED_AT: u32 = 32;
@@ -21,190 +21,28 @@ const LOOKED_AT: u32 = 32;
 /// How many of them stand after those of the longest code.
 const AFTER_CODE: u32 = LOOKED_AT - LONGEST_CODE;
 
-/// Where fewer bytes are left to be loaded, the end is near.
-const NEAR_END: usize = 128;
-
-/// What is looked up by the next bits.
-pub(crate) trait LookUp: Copy {
-    ghost use Rattle.std.specs.Prelude.{Bool, List};
-    ghost use Rattle.fax_bits.specs.Bits.{code_bits};
-    ghost use Rattle.fax_bits.specs.code.LookUp.{IsBegun};
-
-    /// What is found.
-    type Found: Copy;
-
-    /// The bits mean what is found.
-    ghost Means: { Self → List Bool → Self.Found → Type 0 };
-
-    /// How many of the first of thirty-two bits mean something, and what. `None` says nothing of
-    /// the bits.
-    fn find(self, bits: u32) -> Option<(u32, Self::Found)>
-        ensures { IfSome result
-            (λ found. IsBegun (Means self) (code_bits LOOKED_AT bits) found.0 found.1) };
-}
-
-/// A run of the colour, of one make-up code at most and of at most so many pels.
-#[derive(Clone, Copy)]
-struct RunWithin {
-    colour: Colour,
-    most: u32,
-}
-
-impl LookUp for RunWithin {
-    ghost use Rattle.std.specs.Prelude.{◌≤◌};
-    ghost use Rattle.fax_bits.specs.code.LookUp.{IsOneRun};
-
-    type Found = u32;
-
-    ghost Means = { λ s b pels. IsOneRun s.colour b pels × (pels ≤ s.most) };
-
-    #[inline(always)]
-    fn find(self, bits: u32) -> Option<(u32, u32)> {
-        let terminating = u32::from(TERMINATING_CODES);
-        let (mut len, mut pels) = find_run_code(self.colour, bits >> AFTER_CODE)?;
-        if pels >= terminating {
-            let (more, last) = find_run_code(self.colour, (bits << len) >> AFTER_CODE)?;
-            if last >= terminating {
-                return None;
-            }
-            len += more;
-            pels = 64 * (pels - terminating + 1) + last;
-        }
-        if pels > self.most {
-            return None;
-        }
-        Some((len, pels))
-    }
-}
-
-/// A make-up code of the colour, of at most so many pels.
-#[derive(Clone, Copy)]
-struct MakeUpWithin {
-    colour: Colour,
-    most: u32,
-}
-
-impl LookUp for MakeUpWithin {
-    ghost use Rattle.std.specs.Prelude.{◌≤◌};
-    ghost use Rattle.fax_bits.specs.Tables.{run_table};
-    ghost use Rattle.fax_bits.specs.code.LookUp.{IsCode};
-    ghost use Rattle.fax_bits.specs.declared.runs.RunCode.TheVariants.{MakeUp};
-
-    type Found = u32;
-
-    ghost Means = { λ s b pels.
-        IsCode (run_table s.colour) b (MakeUp pels) × (pels ≤ s.most) };
-
-    #[inline(always)]
-    fn find(self, bits: u32) -> Option<(u32, u32)> {
-        let terminating = u32::from(TERMINATING_CODES);
-        let (len, place) = find_run_code(self.colour, bits >> AFTER_CODE)?;
-        if place < terminating {
-            return None;
-        }
-        let pels = 64 * (place - terminating + 1);
-        if pels > self.most {
-            return None;
-        }
-        Some((len, pels))
-    }
-}
-
-/// A white run and the black one after it, which take few bits, in a row of `width` pels of which
-/// `total` stand before them.
-#[derive(Clone, Copy)]
-struct PairWithin {
-    total: u32,
-    width: u32,
-    ghost few: { total < 2 ^ 31 },
-}
-
-impl LookUp for PairWithin {
-    ghost use Rattle.std.specs.Prelude.{◌≤◌, ◌+◌};
-    ghost use Rattle.fax_bits.specs.code.LookUp.{AreTwoRuns};
-
-    type Found = Pair;
-
-    ghost Means = { λ s b pair.
-        AreTwoRuns b pair × (s.total + pair.white + pair.black ≤ s.width) };
-
-    #[inline(always)]
-    fn find(self, bits: u32) -> Option<(u32, Pair)> {
-        let (len, pair) = find_pair(bits >> AFTER_CODE)?;
-        if self.total + pair.white + pair.black > self.width {
-            return None;
-        }
-        Some((len, pair))
-    }
-}
-
-/// A mode.
-#[derive(Clone, Copy)]
-struct Mode;
-
-impl LookUp for Mode {
-    ghost use Rattle.fax_bits.specs.Tables.{modes};
-    ghost use Rattle.fax_bits.specs.code.LookUp.{IsCode};
-
-    type Found = ModeCode;
-
-    ghost Means = { λ s b mode. IsCode modes b mode };
-
-    #[inline(always)]
-    fn find(self, bits: u32) -> Option<(u32, ModeCode)> {
-        find_mode(bits >> AFTER_CODE)
-    }
-}
-
-/// What one look-up finds of the bits of some bytes, where it stands whole in them, and the bits
-/// after it.
+/// The length of a run of the colour that begins thirty-two bits, of one make-up code at most, and
+/// how many pels it has. `None` says nothing of the bits.
 #[inline(always)]
-fn find_last<L: LookUp>(
-    window: Window,
-    bytes: &[u8],
-    order: FillOrder,
-    what: L,
-) -> Option<(Window, L::Found)>
-    requires within { window.at ≤ length bytes.now }
+fn find_whole_run(colour: Colour, bits: u32) -> Option<(u32, u32)>
     ensures { IfSome result
-        (λ found. IsFoundAhead (L.Means what) order bytes.now window found.1 found.0) }
+        (λ found. IsBegun (IsOneRun colour) (code_bits LOOKED_AT bits) found.0 found.1) }
 {
-    let last = window.with_last_bytes(bytes, order);
-    let (len, found) = what.find(last.number(LOOKED_AT))?;
-    if len > last.count {
-        return None;
+    let (first, code) = find_run_code(colour, bits >> AFTER_CODE)?;
+    match code {
+        RunCode::Terminating(pels) => Some((first, u32::from(pels))),
+        RunCode::MakeUp(more) => {
+            let next = find_run_code(colour, (bits << first) >> AFTER_CODE)?;
+            let (second, RunCode::Terminating(last)) = next else {
+                return None;
+            };
+            Some((first + second, u32::from(more) + u32::from(last)))
+        }
+        RunCode::Extension => None,
     }
-    Some((last.after(len), found))
 }
 
 impl<'a> BitSource<'a> {
-    /// Goes past what one look-up finds of the next bits. Where it finds nothing, and near the end
-    /// of the bytes, the source is as it was.
-    #[inline(always)]
-    fn look_up<L: LookUp>(&mut self, what: L) -> Option<L::Found>
-        ensures found { IfSome result
-            (λ found. IsLookedUp (L.Means what) self.old found self.new) }
-        ensures unchanged { result ≡ None → self.new ≡ self.old }
-    {
-        let window = self.window.loaded(self.bytes, self.order)?;
-        self.window = window;
-        let (len, found) = what.find(window.number(LOOKED_AT))?;
-        self.window = window.after(len);
-        Some(found)
-    }
-
-    /// What `look_up` does, near the end of the bytes too.
-    #[inline(always)]
-    fn look_up_last<L: LookUp>(&mut self, what: L) -> Option<L::Found>
-        ensures found { IfSome result
-            (λ found. IsLookedUp (L.Means what) self.old found self.new) }
-        ensures unchanged { result ≡ None → self.new ≡ self.old }
-    {
-        let (window, found) = find_last(self.window, self.bytes, self.order, what)?;
-        self.window = window;
-        Some(found)
-    }
-
     /// Reads a white run and the black one after it by one look-up, in a row of `width` pels of
     /// which `total` stand before them (T.4, section 4.1.1). Where they go past the row's end, or
     /// where that look-up has no such pair, the source is as it was.
@@ -219,7 +57,13 @@ impl<'a> BitSource<'a> {
         ensures same_end { KeepsEnd self.old self.new }
         ensures shorter { IsSome result → length self.new.left < length self.old.left }
     {
-        self.look_up(PairWithin { total, width })
+        self.window = self.window.loaded(self.bytes, self.order)?;
+        let (len, pair) = find_pair(self.window.number(LOOKED_AT) >> AFTER_CODE)?;
+        if total + pair.white + pair.black > width {
+            return None;
+        }
+        self.window = self.window.after(len);
+        Some(pair)
     }
 
     /// Reads a run of the colour, of one make-up code at most and of at most so many pels (T.4,
@@ -236,54 +80,13 @@ impl<'a> BitSource<'a> {
         ensures same_end { KeepsEnd self.old self.new }
         ensures shorter { IsSome result → length self.new.left < length self.old.left }
     {
-        self.look_up(RunWithin { colour, most })
-    }
-
-    /// What `run_within` does, near the end of the bytes too. It is slower.
-    pub fn last_run_within(&mut self, colour: Colour, most: u32) -> Option<u32>
-        ensures run { IfSome result (λ pels. IsRun colour self.old.left pels self.new.left) }
-        ensures written { IfSome result
-            (λ pels. self.old.left ≡ run_bits colour pels ++ self.new.left) }
-        ensures few { IfSome result (λ pels. pels ≤ most) }
-        ensures unchanged { result ≡ None → self.new ≡ self.old }
-
-        // The source goes on in the same bits.
-        ensures same_end { KeepsEnd self.old self.new }
-        ensures shorter { IsSome result → length self.new.left < length self.old.left }
-    {
-        self.look_up_last(RunWithin { colour, most })
-    }
-
-    /// Reads a run of the colour that has a make-up code, and at most so many pels: its first make-up
-    /// codes by a look-up each, and the rest by one more (T.4, section 4.1.1). Where it is not found
-    /// so, the source goes on somewhere in the same bits.
-    pub fn long_run_within(&mut self, colour: Colour, most: u32) -> Option<ReadRun>
-        ensures run { IfSome result
-            (λ run. IsRun colour self.old.left run.pels self.new.left) }
-        ensures chosen { IfSome result (λ run. IsTrue run.is_chosen
-            → self.old.left ≡ run_bits colour run.pels ++ self.new.left) }
-        ensures few { IfSome result (λ run. run.pels ≤ most) }
-
-        // The source goes on in the same bits.
-        ensures same_end { KeepsEnd self.old self.new }
-        ensures shorter { IsSome result → length self.new.left < length self.old.left }
-    {
-        let mut pels = 0;
-        let mut is_chosen = true;
-        while let Some(more) = self.look_up(MakeUpWithin {
-            colour,
-            most: most - pels,
-        }) {
-            pels += more;
-            is_chosen = is_chosen && more == LONGEST_MAKE_UP;
-            if let Some(last) = self.run_within(colour, most - pels) {
-                return Some(ReadRun {
-                    pels: pels + last,
-                    is_chosen,
-                });
-            }
+        self.window = self.window.loaded(self.bytes, self.order)?;
+        let (len, pels) = find_whole_run(colour, self.window.number(LOOKED_AT))?;
+        if pels > most {
+            return None;
         }
-        None
+        self.window = self.window.after(len);
+        Some(pels)
     }
 
     /// Reads a mode by one look-up at most (T.4, table 4). Where it finds none, the source is as it
@@ -301,25 +104,10 @@ impl<'a> BitSource<'a> {
             self.window = self.window.after(1);
             return Some(ModeCode::Vertical(0));
         }
-        self.look_up(Mode)
-    }
-
-    /// What `mode` does, near the end of the bytes too. It is slower.
-    pub fn last_mode(&mut self) -> Option<ModeCode>
-        ensures takes { IfSome result (λ mode. Takes modes self.old.left mode self.new.left) }
-        ensures unchanged { result ≡ None → self.new ≡ self.old }
-
-        // The source goes on in the same bits.
-        ensures same_end { KeepsEnd self.old self.new }
-        ensures shorter { IsSome result → length self.new.left < length self.old.left }
-    {
-        self.look_up_last(Mode)
-    }
-
-    /// Whether few bytes are left to be loaded: a hint, of which nothing is said.
-    #[inline(always)]
-    pub fn is_near_end(&self) -> bool {
-        self.bytes.len() - self.window.at < NEAR_END
+        self.window = self.window.loaded(self.bytes, self.order)?;
+        let (len, mode) = find_mode(self.window.number(LOOKED_AT) >> AFTER_CODE)?;
+        self.window = self.window.after(len);
+        Some(mode)
     }
 
     /// So many ones are next. More of them may follow.

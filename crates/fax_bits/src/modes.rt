@@ -21,69 +21,28 @@ pub enum ModeCode {
 /// How many entries the mode table has: nine modes, and the extension prefix.
 const MODE_ENTRIES: usize = 10;
 
-// Where the modes stand in their table.
+/// An entry of the table.
+macro_rules! entry {
+    ($code:literal, $len:literal, $meaning:expr) => {
+        CodeEntry {
+            code: $code,
+            len: $len,
+            meaning: $meaning,
+        }
+    };
+}
 
-pub(crate) const PASS: usize = 0;
-
-pub(crate) const HORIZONTAL: usize = 1;
-
-/// a1 under b1, and after it a1 one, two and three pels right of b1.
-pub(crate) const UNDER: usize = 2;
-
-/// Before a1 one pel left of b1, after which stand two and three pels.
-pub(crate) const LEFT: usize = 5;
-
-pub(crate) const MODES: [CodeEntry<ModeCode>; MODE_ENTRIES] = [
-    CodeEntry {
-        code: 0b0001,
-        len: 4,
-        meaning: ModeCode::Pass,
-    },
-    CodeEntry {
-        code: 0b001,
-        len: 3,
-        meaning: ModeCode::Horizontal,
-    },
-    CodeEntry {
-        code: 0b1,
-        len: 1,
-        meaning: ModeCode::Vertical(0),
-    },
-    CodeEntry {
-        code: 0b011,
-        len: 3,
-        meaning: ModeCode::Vertical(1),
-    },
-    CodeEntry {
-        code: 0b000011,
-        len: 6,
-        meaning: ModeCode::Vertical(2),
-    },
-    CodeEntry {
-        code: 0b0000011,
-        len: 7,
-        meaning: ModeCode::Vertical(3),
-    },
-    CodeEntry {
-        code: 0b010,
-        len: 3,
-        meaning: ModeCode::Vertical(-1),
-    },
-    CodeEntry {
-        code: 0b000010,
-        len: 6,
-        meaning: ModeCode::Vertical(-2),
-    },
-    CodeEntry {
-        code: 0b0000010,
-        len: 7,
-        meaning: ModeCode::Vertical(-3),
-    },
-    CodeEntry {
-        code: 0b0000001,
-        len: 7,
-        meaning: ModeCode::Extension,
-    },
+const MODES: [CodeEntry<ModeCode>; MODE_ENTRIES] = [
+    entry!(0b0001, 4, ModeCode::Pass),
+    entry!(0b001, 3, ModeCode::Horizontal),
+    entry!(0b1, 1, ModeCode::Vertical(0)),
+    entry!(0b011, 3, ModeCode::Vertical(1)),
+    entry!(0b000011, 6, ModeCode::Vertical(2)),
+    entry!(0b0000011, 7, ModeCode::Vertical(3)),
+    entry!(0b010, 3, ModeCode::Vertical(-1)),
+    entry!(0b000010, 6, ModeCode::Vertical(-2)),
+    entry!(0b0000010, 7, ModeCode::Vertical(-3)),
+    entry!(0b0000001, 7, ModeCode::Extension),
 ];
 
 /// The codes of modes (T.4, table 4).
@@ -123,22 +82,6 @@ impl CodeTable for Modes {
     ghost prefix_free = { Laws.modes_is_prefix_free };
 }
 
-/// The length and the meaning of the code at a place of the table, where it begins thirteen bits.
-#[inline(always)]
-fn begins(bits: u32, place: usize) -> Option<(u32, ModeCode)>
-    requires bits { bits < 2 ^ LONGEST_CODE }
-    requires place { place < 10 }
-    ensures { IfSome result
-        (λ found. HasCodeAhead modes (code_bits LONGEST_CODE bits) found.0 found.1) }
-{
-    let entry = Modes::entry(place);
-    let len = u32::from(entry.len);
-    if bits >> (LONGEST_CODE - len) == u32::from(entry.code) {
-        return Some((len, entry.meaning));
-    }
-    None
-}
-
 /// The length and the meaning of the code of a mode that begins thirteen bits. Vertical modes,
 /// which most are, take one look-up; of the extension it says nothing.
 #[inline(always)]
@@ -153,11 +96,9 @@ pub(crate) fn find_mode(bits: u32) -> Option<(u32, ModeCode)>
         let mode = ModeCode::Vertical(VERTICAL_MODES.shifts[at]);
         return Some((u32::from(len), mode));
     }
-    if let Some(found) = begins(bits, PASS) {
-        return Some(found);
+    match bits >> (LONGEST_CODE - 4) {
+        0b0001 => Some((4, ModeCode::Pass)),
+        0b0010 | 0b0011 => Some((3, ModeCode::Horizontal)),
+        _ => None,
     }
-    if let Some(found) = begins(bits, HORIZONTAL) {
-        return Some(found);
-    }
-    None
 }

@@ -47,14 +47,9 @@ pub(crate) fn short_pair_code(colour: Colour, first: u32, second: u32) -> Pendin
     ensures { result ≡ pair_bits colour first second }
 {
     let at = (first * SHORT_RUN + second) as usize;
-    match colour {
-        Colour::White => PendingBits::of(
-            u32::from(WHITE_PAIR_CODES[at]),
-            u32::from(WHITE_PAIR_LENS[at]),
-        ),
-        Colour::Black => PendingBits::of(
-            u32::from(BLACK_PAIR_CODES[at]),
-            u32::from(BLACK_PAIR_LENS[at]),
-        ),
-    }
+    let (code, len) = match colour {
+        Colour::White => (WHITE_PAIR_CODES[at], WHITE_PAIR_LENS[at]),
+        Colour::Black => (BLACK_PAIR_CODES[at], BLACK_PAIR_LENS[at]),
+    };
+    PendingBits::of(u32::from(code), u32::from(len))
 }

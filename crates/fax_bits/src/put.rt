@@ -7,13 +7,12 @@ ghost use Rattle.fax_bits.specs.Written.{run_codes, run_code_bits, run_bits, mod
 ghost use Rattle.fax_bits.specs.views.Codes.{IsWritten};
 ghost use Rattle.fax_bits.specs.views.Pairs.{pair_bits};
 ghost use Rattle.fax_bits.specs.views.Sink.{Appends, AppendsCodes, AppendsPrefix, AppendsAllBut};
-ghost use Rattle.fax_bits.specs.code.Codes.{bits_at, run_meaning};
+ghost use Rattle.fax_bits.specs.code.Codes.{run_meaning};
 
-use crate::codes::{CodeTable, LONGEST_CODE};
-use crate::modes::{HORIZONTAL, LEFT, MODES, PASS, UNDER};
+use crate::codes::LONGEST_CODE;
 use crate::pairs::{SHORT_RUN, short_pair_code};
-use crate::runs::TERMINATING_CODES;
-use crate::{BitSink, BlackRuns, Colour, Memory, ModeCode, Modes, PendingBits, WhiteRuns};
+use crate::runs::{TERMINATING_CODES, run_entry};
+use crate::{BitSink, Colour, Memory, ModeCode, PendingBits};
 
 /// The codes of vertical modes, from a1 three pels left of b1 to three pels right of it (T.4,
 /// table 4): small, since most modes of a page are written by them.
@@ -24,36 +23,9 @@ pub(crate) struct VerticalCodes {
 }
 
 pub(crate) static VERTICAL_CODES: VerticalCodes = VerticalCodes {
-    codes: [
-        MODES[LEFT + 3].code as u8,
-        MODES[LEFT + 2].code as u8,
-        MODES[LEFT + 1].code as u8,
-        MODES[UNDER].code as u8,
-        MODES[UNDER + 1].code as u8,
-        MODES[UNDER + 2].code as u8,
-        MODES[UNDER + 3].code as u8,
-    ],
-    lens: [
-        MODES[LEFT + 3].len,
-        MODES[LEFT + 2].len,
-        MODES[LEFT + 1].len,
-        MODES[UNDER].len,
-        MODES[UNDER + 1].len,
-        MODES[UNDER + 2].len,
-        MODES[UNDER + 3].len,
-    ],
+    codes: [0b0000010, 0b000010, 0b010, 0b1, 0b011, 0b000011, 0b0000011],
+    lens: [7, 6, 3, 1, 3, 6, 7],
 };
-
-/// The code at a place of the table.
-#[inline(always)]
-fn entry_code<T: CodeTable>(place: usize) -> PendingBits
-    requires { place < T.COUNT }
-    ensures bits { result ≡ bits_at T.table place }
-    ensures short { length result ≤ LONGEST_CODE }
-{
-    let entry = T::entry(place);
-    PendingBits::of(u32::from(entry.code), u32::from(entry.len))
-}
 
 /// The code at a place of the run table of a colour.
 #[inline(always)]
@@ -62,10 +34,8 @@ fn run_code(colour: Colour, place: usize) -> PendingBits
     ensures bits { result ≡ run_code_bits colour (run_meaning place) }
     ensures short { length result ≤ LONGEST_CODE }
 {
-    match colour {
-        Colour::White => entry_code::<WhiteRuns>(place),
-        Colour::Black => entry_code::<BlackRuns>(place),
-    }
+    let entry = run_entry(colour, place);
+    PendingBits::of(u32::from(entry.code), u32::from(entry.len))
 }
 
 /// The make-up code of so many times 64 pels, 1 to 40 times (T.4, tables 3a and 3b).
@@ -113,8 +83,8 @@ fn mode_code(mode: ModeCode) -> PendingBits
     ensures { result ≡ mode_bits mode }
 {
     match mode {
-        ModeCode::Pass => entry_code::<Modes>(PASS),
-        ModeCode::Horizontal => entry_code::<Modes>(HORIZONTAL),
+        ModeCode::Pass => PendingBits::of(0b0001, 4),
+        ModeCode::Horizontal => PendingBits::of(0b001, 3),
         ModeCode::Vertical(d) => vertical_code(d),
         // An extension is not written.
         ModeCode::Extension => PendingBits::none(),

@@ -22,135 +22,34 @@ pub enum RunCode {
     Extension,
 }
 
-/// A run that is read.
-#[derive(Clone, Copy, Debug)]
-pub struct ReadRun {
-    pub pels: u32,
-    /// Whether its codes are seen to be those that T.4 chooses.
-    pub is_chosen: bool,
-}
-
 /// How many entries a run table has: 64 terminating codes, 27 make-up codes of its own, 13 that
 /// both colours share, and the extension prefix.
 const RUN_ENTRIES: usize = 105;
 
 /// How many of them are terminating codes, which stand first.
-pub(crate) const TERMINATING_CODES: u8 = 64;
+pub(crate) const TERMINATING_CODES: u16 = 64;
 
 /// Where the extension prefix stands, after all codes of runs.
 const EXTENSION: usize = RUN_ENTRIES - 1;
 
-/// The most pels that one make-up code means.
-pub(crate) const LONGEST_MAKE_UP: u32 = 64 * (EXTENSION as u32 - TERMINATING_CODES as u32);
+/// The most pels that one make-up code means, 2560 (T.4, table 3b).
+pub const LONGEST_MAKE_UP: u32 = 64 * (EXTENSION as u32 - TERMINATING_CODES as u32);
 
-// The codes in the order of their meaning, which `meaning_at` gives, and their lengths in bits.
+// The codes in the order of their meaning, which `meaning_at` gives, as numbers: without the zeros
+// that they begin with. Then their lengths in bits.
 
 const WHITE_CODES: [u16; RUN_ENTRIES] = [
-    0b00110101,
-    0b000111,
-    0b0111,
-    0b1000,
-    0b1011,
-    0b1100,
-    0b1110,
-    0b1111,
-    0b10011,
-    0b10100,
-    0b00111,
-    0b01000,
-    0b001000,
-    0b000011,
-    0b110100,
-    0b110101,
-    0b101010,
-    0b101011,
-    0b0100111,
-    0b0001100,
-    0b0001000,
-    0b0010111,
-    0b0000011,
-    0b0000100,
-    0b0101000,
-    0b0101011,
-    0b0010011,
-    0b0100100,
-    0b0011000,
-    0b00000010,
-    0b00000011,
-    0b00011010,
-    0b00011011,
-    0b00010010,
-    0b00010011,
-    0b00010100,
-    0b00010101,
-    0b00010110,
-    0b00010111,
-    0b00101000,
-    0b00101001,
-    0b00101010,
-    0b00101011,
-    0b00101100,
-    0b00101101,
-    0b00000100,
-    0b00000101,
-    0b00001010,
-    0b00001011,
-    0b01010010,
-    0b01010011,
-    0b01010100,
-    0b01010101,
-    0b00100100,
-    0b00100101,
-    0b01011000,
-    0b01011001,
-    0b01011010,
-    0b01011011,
-    0b01001010,
-    0b01001011,
-    0b00110010,
-    0b00110011,
-    0b00110100,
-    0b11011,
-    0b10010,
-    0b010111,
-    0b0110111,
-    0b00110110,
-    0b00110111,
-    0b01100100,
-    0b01100101,
-    0b01101000,
-    0b01100111,
-    0b011001100,
-    0b011001101,
-    0b011010010,
-    0b011010011,
-    0b011010100,
-    0b011010101,
-    0b011010110,
-    0b011010111,
-    0b011011000,
-    0b011011001,
-    0b011011010,
-    0b011011011,
-    0b010011000,
-    0b010011001,
-    0b010011010,
-    0b011000,
-    0b010011011,
-    0b00000001000,
-    0b00000001100,
-    0b00000001101,
-    0b000000010010,
-    0b000000010011,
-    0b000000010100,
-    0b000000010101,
-    0b000000010110,
-    0b000000010111,
-    0b000000011100,
-    0b000000011101,
-    0b000000011110,
-    0b000000011111,
-    0b000000001,
+    0b110101, 0b111, 0b111, 0b1000, 0b1011, 0b1100, 0b1110, 0b1111, 0b10011, 0b10100, 0b111,
+    0b1000, 0b1000, 0b11, 0b110100, 0b110101, 0b101010, 0b101011, 0b100111, 0b1100, 0b1000,
+    0b10111, 0b11, 0b100, 0b101000, 0b101011, 0b10011, 0b100100, 0b11000, 0b10, 0b11, 0b11010,
+    0b11011, 0b10010, 0b10011, 0b10100, 0b10101, 0b10110, 0b10111, 0b101000, 0b101001, 0b101010,
+    0b101011, 0b101100, 0b101101, 0b100, 0b101, 0b1010, 0b1011, 0b1010010, 0b1010011, 0b1010100,
+    0b1010101, 0b100100, 0b100101, 0b1011000, 0b1011001, 0b1011010, 0b1011011, 0b1001010,
+    0b1001011, 0b110010, 0b110011, 0b110100, 0b11011, 0b10010, 0b10111, 0b110111, 0b110110,
+    0b110111, 0b1100100, 0b1100101, 0b1101000, 0b1100111, 0b11001100, 0b11001101, 0b11010010,
+    0b11010011, 0b11010100, 0b11010101, 0b11010110, 0b11010111, 0b11011000, 0b11011001, 0b11011010,
+    0b11011011, 0b10011000, 0b10011001, 0b10011010, 0b11000, 0b10011011, 0b1000, 0b1100, 0b1101,
+    0b10010, 0b10011, 0b10100, 0b10101, 0b10110, 0b10111, 0b11100, 0b11101, 0b11110, 0b11111, 0b1,
 ];
 
 const WHITE_LENS: [u8; RUN_ENTRIES] = [
@@ -161,111 +60,18 @@ const WHITE_LENS: [u8; RUN_ENTRIES] = [
 ];
 
 const BLACK_CODES: [u16; RUN_ENTRIES] = [
-    0b0000110111,
-    0b010,
-    0b11,
-    0b10,
-    0b011,
-    0b0011,
-    0b0010,
-    0b00011,
-    0b000101,
-    0b000100,
-    0b0000100,
-    0b0000101,
-    0b0000111,
-    0b00000100,
-    0b00000111,
-    0b000011000,
-    0b0000010111,
-    0b0000011000,
-    0b0000001000,
-    0b00001100111,
-    0b00001101000,
-    0b00001101100,
-    0b00000110111,
-    0b00000101000,
-    0b00000010111,
-    0b00000011000,
-    0b000011001010,
-    0b000011001011,
-    0b000011001100,
-    0b000011001101,
-    0b000001101000,
-    0b000001101001,
-    0b000001101010,
-    0b000001101011,
-    0b000011010010,
-    0b000011010011,
-    0b000011010100,
-    0b000011010101,
-    0b000011010110,
-    0b000011010111,
-    0b000001101100,
-    0b000001101101,
-    0b000011011010,
-    0b000011011011,
-    0b000001010100,
-    0b000001010101,
-    0b000001010110,
-    0b000001010111,
-    0b000001100100,
-    0b000001100101,
-    0b000001010010,
-    0b000001010011,
-    0b000000100100,
-    0b000000110111,
-    0b000000111000,
-    0b000000100111,
-    0b000000101000,
-    0b000001011000,
-    0b000001011001,
-    0b000000101011,
-    0b000000101100,
-    0b000001011010,
-    0b000001100110,
-    0b000001100111,
-    0b0000001111,
-    0b000011001000,
-    0b000011001001,
-    0b000001011011,
-    0b000000110011,
-    0b000000110100,
-    0b000000110101,
-    0b0000001101100,
-    0b0000001101101,
-    0b0000001001010,
-    0b0000001001011,
-    0b0000001001100,
-    0b0000001001101,
-    0b0000001110010,
-    0b0000001110011,
-    0b0000001110100,
-    0b0000001110101,
-    0b0000001110110,
-    0b0000001110111,
-    0b0000001010010,
-    0b0000001010011,
-    0b0000001010100,
-    0b0000001010101,
-    0b0000001011010,
-    0b0000001011011,
-    0b0000001100100,
-    0b0000001100101,
-    0b00000001000,
-    0b00000001100,
-    0b00000001101,
-    0b000000010010,
-    0b000000010011,
-    0b000000010100,
-    0b000000010101,
-    0b000000010110,
-    0b000000010111,
-    0b000000011100,
-    0b000000011101,
-    0b000000011110,
-    0b000000011111,
-    0b000000001,
+    0b110111, 0b10, 0b11, 0b10, 0b11, 0b11, 0b10, 0b11, 0b101, 0b100, 0b100, 0b101, 0b111, 0b100,
+    0b111, 0b11000, 0b10111, 0b11000, 0b1000, 0b1100111, 0b1101000, 0b1101100, 0b110111, 0b101000,
+    0b10111, 0b11000, 0b11001010, 0b11001011, 0b11001100, 0b11001101, 0b1101000, 0b1101001,
+    0b1101010, 0b1101011, 0b11010010, 0b11010011, 0b11010100, 0b11010101, 0b11010110, 0b11010111,
+    0b1101100, 0b1101101, 0b11011010, 0b11011011, 0b1010100, 0b1010101, 0b1010110, 0b1010111,
+    0b1100100, 0b1100101, 0b1010010, 0b1010011, 0b100100, 0b110111, 0b111000, 0b100111, 0b101000,
+    0b1011000, 0b1011001, 0b101011, 0b101100, 0b1011010, 0b1100110, 0b1100111, 0b1111, 0b11001000,
+    0b11001001, 0b1011011, 0b110011, 0b110100, 0b110101, 0b1101100, 0b1101101, 0b1001010,
+    0b1001011, 0b1001100, 0b1001101, 0b1110010, 0b1110011, 0b1110100, 0b1110101, 0b1110110,
+    0b1110111, 0b1010010, 0b1010011, 0b1010100, 0b1010101, 0b1011010, 0b1011011, 0b1100100,
+    0b1100101, 0b1000, 0b1100, 0b1101, 0b10010, 0b10011, 0b10100, 0b10101, 0b10110, 0b10111,
+    0b11100, 0b11101, 0b11110, 0b11111, 0b1,
 ];
 
 const BLACK_LENS: [u8; RUN_ENTRIES] = [
@@ -340,10 +146,9 @@ impl CodeTable for BlackRuns {
 
 /// The entry at a place of the run table of a colour.
 #[inline(always)]
-fn run_entry(colour: Colour, i: usize) -> CodeEntry<RunCode>
+pub(crate) fn run_entry(colour: Colour, i: usize) -> CodeEntry<RunCode>
     requires { i < 105 }
     ensures found { slice_get (run_table colour) i ≡ Some result }
-    ensures means { result.meaning ≡ run_meaning i }
 {
     let (code, len) = match colour {
         Colour::White => (WHITE_CODES[i], WHITE_LENS[i]),
@@ -387,13 +192,13 @@ fn run_place(colour: Colour, bits: u32) -> usize
     }
 }
 
-/// The length and the place of the code for a run of the colour that begins thirteen bits, but for
-/// the extension. `None` where no such code does. Short codes are looked up first.
+/// The length and the meaning of the code for a run of the colour that begins thirteen bits, but
+/// for the extension. `None` where no such code does. Short codes are looked up first.
 #[inline(always)]
-pub(crate) fn find_run_code(colour: Colour, bits: u32) -> Option<(u32, u32)>
+pub(crate) fn find_run_code(colour: Colour, bits: u32) -> Option<(u32, RunCode)>
     requires { bits < 2 ^ LONGEST_CODE }
-    ensures { IfSome result (λ found. (found.1 < 104) × HasCodeAhead (run_table colour)
-        (code_bits LONGEST_CODE bits) found.0 (run_meaning found.1)) }
+    ensures { IfSome result
+        (λ found. HasCodeAhead (run_table colour) (code_bits LONGEST_CODE bits) found.0 found.1) }
 {
     let at = bits as usize;
     let short = match colour {
@@ -407,7 +212,8 @@ pub(crate) fn find_run_code(colour: Colour, bits: u32) -> Option<(u32, u32)>
             return None;
         }
     }
-    Some((u32::from(run_entry(colour, place).len), place as u32))
+    let entry = run_entry(colour, place);
+    Some((u32::from(entry.len), entry.meaning))
 }
 
 /// What the code at a place of a run table means.
@@ -415,11 +221,10 @@ fn meaning_at(i: u16) -> RunCode
     requires { i < 105 }
     ensures { result ≡ run_meaning i }
 {
-    let terminating = u16::from(TERMINATING_CODES);
-    if i < terminating {
+    if i < TERMINATING_CODES {
         RunCode::Terminating(i)
     } else if usize::from(i) < EXTENSION {
-        RunCode::MakeUp(64 * (i - terminating + 1))
+        RunCode::MakeUp(64 * (i - TERMINATING_CODES + 1))
     } else {
         RunCode::Extension
     }

@@ -15,7 +15,6 @@ pub fn answer(alloc: Global, words: &[&str]) -> Result<Option<String>, WrongLine
         ["pairs", skip, bits, most] => pairs(alloc, skip, bits, most)?,
         ["pair_within", total, width, bits] => pair_within(alloc, total, width, bits)?,
         ["run_within", colour, bits, most] => run_within(alloc, colour, bits, most)?,
-        ["long_run_within", colour, bits, most] => long_run_within(alloc, colour, bits, most)?,
         ["mode", bits] => looked_up_mode(alloc, bits)?,
         ["past_ones", bits, most] => past_ones(alloc, bits, most)?,
         ["put_run", colour, pels] => run(alloc, colour, pels)?,
@@ -105,24 +104,6 @@ fn run_within(alloc: Global, colour: &str, bits: &str, most: &str) -> Result<Str
     match source.run_within(colour, most) {
         Some(pels) => Ok(format!(in alloc; "{pels} {}", source.place())?),
         None => Ok(format!(in alloc; "none {}", source.place())?),
-    }
-}
-
-/// The run with a make-up code and of at most so many pels that is read, whether its codes are seen
-/// to be T.4's choice, and the place then.
-fn long_run_within(
-    alloc: Global,
-    colour: &str,
-    bits: &str,
-    most: &str,
-) -> Result<String, WrongLine> {
-    let colour = words::colour(colour)?;
-    let bytes = words::bytes(alloc, bits)?;
-    let most = words::number(most)?;
-    let mut source = BitSource::new(&bytes, FillOrder::MsbFirst);
-    match source.long_run_within(colour, most) {
-        Some(run) => { Ok(format!(in alloc; "{} {} {}", run.pels, run.is_chosen, source.place())?) }
-        None => Ok(format!(in alloc; "none")?),
     }
 }
 

@@ -9,7 +9,9 @@ ghost use Rattle.fax_rows.specs.Rows.{other as other_than};
 ghost use Rattle.fax_rows.specs.Faults.{IsRunFault};
 
 use crate::RowFault;
-use fax_bits::{BitSource, BlackRuns, CodeFault, Colour, ReadRun, RunCode, WhiteRuns, read_code};
+use fax_bits::{
+    BitSource, BlackRuns, CodeFault, Colour, LONGEST_MAKE_UP, RunCode, WhiteRuns, read_code,
+};
 
 /// The opposite colour.
 pub(crate) fn other(colour: Colour) -> Colour
@@ -36,44 +38,19 @@ fn read_run_code(source: &mut BitSource, colour: Colour) -> Result<RunCode, Code
     }
 }
 
-/// Reads a run of the colour whose first pel is `from`, code by code, and answers how many pels it
-/// has: also where the run has a fault.
-fn read_run(source: &mut BitSource, colour: Colour, width: u32, from: u32) -> Result<u32, RowFault>
-    requires width { width < 2 ^ 16 }
-    requires from { from ≤ width }
-    ensures ok { IfOk result (λ n. IsRun colour source.old.left n source.new.left) }
-    ensures within { IfOk result (λ n. from + n ≤ width) }
-    ensures err { IfErr result (λ fault. IsRunFault colour width from source.old.left fault) }
-    ensures same_end { KeepsEnd source.old source.new }
-    ensures shorter { OnOk result (length source.new.left < length source.old.left) }
-{
-    let mut n = 0;
-    loop {
-        let code = read_run_code(source, colour)?;
-        match code {
-            RunCode::Terminating(more) => {
-                let run = n + u32::from(more);
-                if from + run > width {
-                    return Err(RowFault::RunTooLong);
-                }
-                return Ok(run);
-            }
-            RunCode::MakeUp(more) => {
-                n += u32::from(more);
-                if from + n > width {
-                    return Err(RowFault::RunTooLong);
-                }
-            }
-            RunCode::Extension => return Err(RowFault::Extension),
-        }
-    }
+/// A run that is read.
+#[derive(Clone, Copy)]
+pub(crate) struct ReadRun {
+    pub pels: u32,
+    /// Whether its codes are seen to be those that T.4 chooses.
+    pub is_chosen: bool,
 }
 
-/// What `read_run` does: by one look-up, or a look-up for each code, where these find the run, and
-/// then the codes may be seen to be those that T.4 chooses.
+/// Reads a run of the colour whose first pel is `from`, code by code, and names its fault where it
+/// has one. Its codes are T.4's choice where each make-up code but the last is the longest.
 #[cold]
 #[inline(never)]
-fn read_last_run(
+fn read_run(
     source: &mut BitSource,
     colour: Colour,
     width: u32,
@@ -89,25 +66,34 @@ fn read_last_run(
     ensures same_end { KeepsEnd source.old source.new }
     ensures shorter { OnOk result (length source.new.left < length source.old.left) }
 {
-    if let Some(pels) = source.last_run_within(colour, width - from) {
-        return Ok(ReadRun {
-            pels,
-            is_chosen: true,
-        });
+    fax_bits::laws::chosen_codes_are_written();
+    let mut pels = 0;
+    // Whether T.4 chooses the codes so far where the next one ends the run, and where it does not.
+    let mut is_chosen = true;
+    let mut are_longest = true;
+    loop {
+        match read_run_code(source, colour)? {
+            RunCode::Terminating(more) => {
+                let pels = pels + u32::from(more);
+                if from + pels > width {
+                    return Err(RowFault::RunTooLong);
+                }
+                return Ok(ReadRun { pels, is_chosen });
+            }
+            RunCode::MakeUp(more) => {
+                pels += u32::from(more);
+                if from + pels > width {
+                    return Err(RowFault::RunTooLong);
+                }
+                is_chosen = are_longest;
+                are_longest &= u32::from(more) == LONGEST_MAKE_UP;
+            }
+            RunCode::Extension => return Err(RowFault::Extension),
+        }
     }
-    let mut ahead = source.again();
-    if let Some(run) = ahead.long_run_within(colour, width - from) {
-        source.go_to(&ahead);
-        return Ok(run);
-    }
-    let pels = read_run(source, colour, width, from)?;
-    Ok(ReadRun {
-        pels,
-        is_chosen: false,
-    })
 }
 
-/// What `read_last_run` does for a source that stands in a value: only a copy of it is lent.
+/// What `read_run` does for a source that stands in a value: only a copy of it is lent.
 #[inline(always)]
 pub(crate) fn last_run(
     source: &mut BitSource,
@@ -126,7 +112,7 @@ pub(crate) fn last_run(
     ensures shorter { OnOk result (length source.new.left < length source.old.left) }
 {
     let mut copy = source.again();
-    let run = read_last_run(&mut copy, colour, width, from)?;
+    let run = read_run(&mut copy, colour, width, from)?;
     source.skip_to(copy.place());
     Ok(run)
 }

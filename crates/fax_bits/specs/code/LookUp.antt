@@ -1,14 +1,11 @@
 -- What one look-up finds of the next bits.
-use Rattle.std.specs.Prelude.{◌≡◌, ℕ, ◌+◌, ◌*◌, ◌<◌, ◌≤◌, ◌^◌, Bool, List, ◌++◌, length, Contains}
+use Rattle.std.specs.Prelude.{◌≡◌, ℕ, ◌<◌, ◌^◌, Bool, List, ◌++◌, length, Contains}
 use Rattle.fax_bits.specs.declared.codes.CodeEntry.{CodeEntry}
 use Rattle.fax_bits.specs.declared.pairs.Pair.{Pair}
-use Rattle.fax_bits.specs.declared.window.Window.{Window}
-use Rattle.fax_bits.specs.declared.FillOrder.{FillOrder}
 use Rattle.fax_bits.specs.Bits.{Colour, White, Black, BeginsWith}
 use Rattle.fax_bits.specs.Codes.{bits_of}
 use Rattle.fax_bits.specs.Written.{run_bits}
 use Rattle.fax_bits.specs.views.Source.{Source, KeepsEnd}
-use Rattle.fax_bits.specs.code.BitsAhead.{bits_ahead}
 
 -- the first of the bits, `len` of them and at least one, mean what is found
 pub record IsBegun {F : Type 0} (means : List Bool → F → Type 0) (b : List Bool) (len : ℕ)
@@ -27,17 +24,6 @@ pub record IsLookedUp {F : Type 0} (means : List Bool → F → Type 0) (old : S
   pub taken : old.left ≡ front ++ new.left
   pub same_end : KeepsEnd old new
   pub shorter : length new.left < length old.left
-
--- the bits from a window on begin with some that mean what is found, and the new window stands
--- after these
-pub record IsFoundAhead {F : Type 0} (means : List Bool → F → Type 0) (order : FillOrder)
-    (bytes : List ℕ) (old : Window) (found : F) (new : Window) : Type 0 where
-  pub front : List Bool
-  pub meaning : means front found
-  pub some : 0 < length front
-  pub ahead : bits_ahead order bytes old ≡ front ++ bits_ahead order bytes new
-  pub place : 8 * new.at + old.count ≡ 8 * old.at + new.count + length front
-  pub within : new.at ≤ length bytes
 
 -- the bits are the code of some entry that has this meaning (T.4, section 4.1.1)
 pub record IsCode {M : Type 0} (table : List (CodeEntry M)) (b : List Bool)

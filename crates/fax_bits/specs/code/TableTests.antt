@@ -3,7 +3,7 @@
 use Rattle.std.proofs.Common.{◌≡◌, ℕ, zero, suc, ◌^◌, ◌<◌, ◌≤◌, List, [], ◌∷◌, ◌++◌, length, get_or}
 use Rattle.std.proofs.Common.{map, Bool, true, false, not, refl, ap, sym, ◌∙◌, subst, arith}
 use Rattle.std.specs.Prelude.{◌&&◌, nat_lt, nat_le, Some, slice_get}
-use Rattle.std.proofs.lemmas.Bool.Decides.{nat_tests}
+use Rattle.std.proofs.lemmas.Bool.{and_parts, leb-true, ltb-true}
 use Rattle.std.proofs.lemmas.List.{get_or-map, length-map}
 use Rattle.std.proofs.lemmas.Option.{slice_get_within, get_or_from_slice_get}
 use Rattle.fax_bits.specs.declared.codes.CodeEntry.{CodeEntry}
@@ -37,16 +37,6 @@ short_codes_test (entry ∷ table) =
     ((nat_lt 0 entry.len && nat_le entry.len LONGEST_CODE) && nat_lt entry.code (2 ^ entry.len))
     && short_codes_test table
 
-and_both : (a b : Bool) → (a && b) ≡ true → (a ≡ true) × (b ≡ true)
-and_both true b h = (refl, h)
-and_both false b h = cc
-
-lt-from_test : (n m : ℕ) → nat_lt n m ≡ true → n < m
-lt-from_test n m h = grind (arith, nat_tests)
-
-le-from_test : (n m : ℕ) → nat_le n m ≡ true → n ≤ m
-le-from_test n m h = grind (arith, nat_tests)
-
 not_true : (b : Bool) → not b ≡ true → b ≡ false
 not_true true h = cc
 not_true false h = refl
@@ -64,10 +54,10 @@ none_starts-at : (code : List Bool) (others : List (List Bool)) (j : ℕ) → j 
     → (starts code (get_or others j []) ≡ false) × (starts (get_or others j []) code ≡ false)
 none_starts-at code [] j within h = absurd (omega arith)
 none_starts-at code (other ∷ others) zero within h =
-    let here = and_both _ _ (and_both _ _ h).0 in
+    let here = and_parts _ _ (and_parts _ _ h).0 in
     (not_true _ here.0, not_true _ here.1)
 none_starts-at code (other ∷ others) (suc j) within h =
-    none_starts-at code others j (omega arith) (and_both
+    none_starts-at code others j (omega arith) (and_parts
     (not (starts code other) && not (starts other code)) _ h).1
 
 -- the one place of a code
@@ -78,14 +68,14 @@ same_place [] i j more free here there is = absurd (omega arith)
 same_place (code ∷ codes) zero zero more free here there is = refl
 same_place (code ∷ codes) zero (suc j) more free here there is =
     let apart = none_starts-at code codes j (omega arith)
-    (and_both (none_starts code codes) (prefix_free_test codes) free).0 in
+    (and_parts (none_starts code codes) (prefix_free_test codes) free).0 in
     absurd (cc (apart.0, starts-from_append code (get_or codes j []) more is))
 same_place (code ∷ codes) (suc i) zero more free here there is =
     let apart = none_starts-at code codes i (omega arith)
-    (and_both (none_starts code codes) (prefix_free_test codes) free).0 in
+    (and_parts (none_starts code codes) (prefix_free_test codes) free).0 in
     absurd (cc (apart.1, starts-from_append (get_or codes i []) code more is))
 same_place (code ∷ codes) (suc i) (suc j) more free here there is =
-    ap suc (same_place codes i j more (and_both (none_starts code codes) (prefix_free_test codes)
+    ap suc (same_place codes i j more (and_parts (none_starts code codes) (prefix_free_test codes)
     free).1 (omega arith) (omega arith) is)
 
 -- the code at a place, as the test lists it
@@ -112,22 +102,22 @@ entry_is_short : {M : Type 0} (table : List (CodeEntry M)) (i : ℕ) (entry : Co
     × (entry.code < 2 ^ entry.len)
 entry_is_short [] i entry short within is = absurd (omega arith)
 entry_is_short (first ∷ table) zero entry short within is =
-    let here = and_both ((nat_lt 0 first.len && nat_le first.len LONGEST_CODE)
+    let here = and_parts ((nat_lt 0 first.len && nat_le first.len LONGEST_CODE)
     && nat_lt first.code (2 ^ first.len)) (short_codes_test table) short in
-    let lengths = and_both (nat_lt 0 first.len && nat_le first.len LONGEST_CODE)
+    let lengths = and_parts (nat_lt 0 first.len && nat_le first.len LONGEST_CODE)
     (nat_lt first.code (2 ^ first.len)) here.0 in
-    let ends = and_both (nat_lt 0 first.len) (nat_le first.len LONGEST_CODE) lengths.0 in
+    let ends = and_parts (nat_lt 0 first.len) (nat_le first.len LONGEST_CODE) lengths.0 in
     let P : CodeEntry _ → Type 0 = λ e. (0 < e.len) × (e.len ≤ LONGEST_CODE) ×
     (e.code < 2 ^ e.len) in
     subst P is (
-      lt-from_test 0 first.len ends.0,
-      le-from_test first.len LONGEST_CODE ends.1,
-      lt-from_test
+      ltb-true 0 first.len ends.0,
+      leb-true first.len LONGEST_CODE ends.1,
+      ltb-true
           first.code (2 ^ first.len) lengths.1,
     )
 entry_is_short (first ∷ table) (suc i) entry short within is =
     entry_is_short table i entry
-    (and_both ((nat_lt 0 first.len && nat_le first.len LONGEST_CODE) && nat_lt first.code
+    (and_parts ((nat_lt 0 first.len && nat_le first.len LONGEST_CODE) && nat_lt first.code
     (2 ^ first.len))
     (short_codes_test table) short).1
     (omega arith) is

@@ -5,18 +5,19 @@ use Rattle.std.specs.Prelude.{List, ◌++◌, replicate, ◌==◌}
 use Rattle.std.specs.Int.{bit_at}
 use Rattle.fax_bits.specs.declared.FillOrder.{FillOrder}
 use Rattle.fax_bits.specs.declared.FillOrder.TheVariants.{MsbFirst, LsbFirst}
-use Rattle.std.specs.Prelude.{◌≡◌, ℕ, ◌*◌, ◌/◌, ◌%◌, ◌^◌, ◌<◌, ◌==◌, Bool, false, List, ◌++◌}
+use Rattle.std.specs.Prelude.{◌≡◌, ℕ, ◌+◌, ◌*◌, ◌/◌, ◌%◌, ◌^◌, ◌<◌, ◌==◌, Bool, false, List, ◌++◌}
 use Rattle.std.specs.Prelude.{length, replicate, slice_index_or, All, ◌⊎◌}
 use Rattle.fax_bits.specs.declared.codes.CodeEntry.{CodeEntry}
 use Rattle.fax_bits.specs.declared.Colour.{Colour}
 use Rattle.fax_bits.specs.declared.FillOrder.TheVariants.{MsbFirst}
 use Rattle.fax_bits.specs.declared.modes.ModeCode.{ModeCode}
+use Rattle.fax_bits.specs.declared.runs.RunCode.TheVariants.{Terminating, MakeUp}
 use Rattle.fax_bits.specs.Bits.{byte_bits, bits}
 use Rattle.fax_bits.specs.Written.{run_bits, mode_bits}
 use Rattle.fax_bits.specs.Bits.{bits_number, packed}
 use Rattle.fax_bits.specs.Codes.{Takes, IsFaultOf, IsRun}
 use Rattle.fax_bits.specs.views.Codes.{IsWritten}
-use Rattle.fax_bits.specs.Tables.{modes}
+use Rattle.fax_bits.specs.Tables.{run_table, modes}
 
 -- which bit of a byte, 0 the lowest, is coded at this place of its eight bits (TIFF 6.0, FillOrder)
 abbrev pub bit_in_byte : FillOrder → ℕ → ℕ
@@ -108,6 +109,19 @@ abbrev pub RunBitsAreOneRun : Type 0
 RunBitsAreOneRun =
     (colour : Colour) (n m : ℕ) (more rest : List Bool) → n < 2 ^ 16
     → IsRun colour (run_bits colour n ++ more) m rest → (n ≡ m) × (more ≡ rest)
+
+-- bits begin with a run as it is written where they begin with a terminating code alone, with one
+-- make-up code before it, or with a make-up code of 2560 pels before a run as it is written
+-- (T.4, section 4.1.1)
+pub record ChosenCodesAreWritten : Type 0 where
+  pub short : (colour : Colour) (b : List Bool) (n : ℕ) (rest : List Bool)
+      → Takes (run_table colour) b (Terminating n) rest → b ≡ run_bits colour n ++ rest
+  pub long : (colour : Colour) (b : List Bool) (m n : ℕ) (middle rest : List Bool)
+      → Takes (run_table colour) b (MakeUp m) middle
+      → Takes (run_table colour) middle (Terminating n) rest → b ≡ run_bits colour (m + n) ++ rest
+  pub longest : (colour : Colour) (b : List Bool) (n : ℕ) (middle rest : List Bool)
+      → Takes (run_table colour) b (MakeUp 2560) middle
+      → middle ≡ run_bits colour n ++ rest → b ≡ run_bits colour (2560 + n) ++ rest
 
 -- a mode that is written is read again, whatever follows it (T.4, section 4.2.1.3.2 and table 4)
 abbrev pub ModeBitsAreRead : Type 0

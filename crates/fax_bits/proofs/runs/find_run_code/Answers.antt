@@ -15,15 +15,12 @@ returns c =
       | in-White w ↦ rw (w.short-is, w.in-White.is) (white_short_place c.args.bits c.requires)
       | in-Black w ↦ rw (w.short-is, w.in-Black.is) (black_short_place c.args.bits c.requires)
     ] in
-    let there : (place < 104) × (place ≡ place_of (run_table c.args.colour) 13 c.args.bits) = elim c.if-place-ge-EXTENSION.branch [
+    let there : place ≡ place_of (run_table c.args.colour) 13 c.args.bits = elim c.if-place-ge-EXTENSION.branch [
       | then-place-ge-EXTENSION+else-place-ge-EXTENSION-2 w ↦
-          (omega (arith, w.place-is, w.if-place-ge-EXTENSION-2.false), w.place-is ∙ w.run_place-place.ensures)
+          w.place-is ∙ w.run_place-place.ensures
       | else-place-ge-EXTENSION w ↦
           let few : c.match-colour.short < 104 = omega (arith, w.if-place-ge-EXTENSION.false, c.from-place.ensures) in
-          (omega (arith, w.place-is, c.from-place.ensures, few), w.place-is ∙ c.from-place.ensures ∙ short few)
+          w.place-is ∙ c.from-place.ensures ∙ short few
     ] in
-    rw c.from.ensures (
-      there.0,
-      rw (← c.run_entry.ensures.means)
-          (found_at_place (run_table c.args.colour) c.args.bits place c.run_entry.result there.1 c.run_entry.ensures.found),
-    )
+    rw c.from.ensures
+    (found_at_place (run_table c.args.colour) c.args.bits place c.run_entry-entry.result there c.run_entry-entry.ensures.found)

@@ -11,8 +11,8 @@ returns-clause-ok c =
     let run = rw start at c.in_ok-run.ensures.ok in
     let end = rw start at c.in_ok-run.ensures.same_end in
     let parts = run_after run in
-    let same = from_there c.args.source.now c.read_last_run.new.source parts.0 parts.1 end in
-    let there : c.skip_to.new.self ≡ c.read_last_run.new.source =
+    let same = from_there c.args.source.now c.read_run.new.source parts.0 parts.1 end in
+    let there : c.skip_to.new.self ≡ c.read_run.new.source =
     c.skip_to.ensures ∙ rw c.place.ensures same in
     subst (λ (s : Source). IsRun c.args.colour c.args.source.now.left c.in_ok-run.run'.pels s.left) (sym there) run
 
@@ -22,7 +22,7 @@ returns-clause-chosen c = λ chosen.
     let written = rw start at (c.in_ok-run.ensures.chosen chosen) in
     let end = rw start at c.in_ok-run.ensures.same_end in
     let parts = run_after (rw start at c.in_ok-run.ensures.ok) in
-    let same = from_there c.args.source.now c.read_last_run.new.source parts.0 parts.1 end in
-    let there : c.skip_to.new.self ≡ c.read_last_run.new.source =
+    let same = from_there c.args.source.now c.read_run.new.source parts.0 parts.1 end in
+    let there : c.skip_to.new.self ≡ c.read_run.new.source =
     c.skip_to.ensures ∙ rw c.place.ensures same in
     subst (λ (s : Source). c.args.source.now.left ≡ run_bits c.args.colour c.in_ok-run.run'.pels ++ s.left) (sym there) written

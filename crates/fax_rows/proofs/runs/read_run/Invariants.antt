@@ -1,14 +1,17 @@
 use Rattle.std.proofs.Common.{◌≡◌, ◌+◌, ◌≤◌, length}
-use Rattle.fax_rows.proofs.RunLemmas.{IsPartialRun}
+use Rattle.std.specs.Prelude.{IsTrue}
+use Rattle.fax_rows.proofs.RunLemmas.{IsPartialRun, AreChosen, AreLongest}
 use Rattle.fax_rows.proofs.runs.read_run.Given as goal
 
-abbrev pub invariant-loop-code : goal.invariant-loop-code
-invariant-loop-code l = record {
-  part : IsPartialRun l.colour l.initial.source.left l.n l.source.left;
-  within : l.from + l.n ≤ l.width;
+abbrev pub invariant-loop-more : goal.invariant-loop-more
+invariant-loop-more l = record {
+  part : IsPartialRun l.colour l.initial.source.left l.pels l.source.left;
+  chosen : IsTrue l.is_chosen → AreChosen l.colour l.initial.source.left l.pels l.source.left;
+  longest : IsTrue l.are_longest → AreLongest l.colour l.initial.source.left l.pels l.source.left;
+  within : l.from + l.pels ≤ l.width;
   no_longer : length l.source.left ≤ length l.initial.source.left;
   same_end : l.source.place + length l.source.left ≡ l.initial.source.place + length l.initial.source.left;
 }
 
-abbrev pub decreases-loop-code : goal.decreases-loop-code
-decreases-loop-code l = length l.source.left
+abbrev pub decreases-loop-more : goal.decreases-loop-more
+decreases-loop-more l = length l.source.left

@@ -1,26 +1,12 @@
-use Rattle.std.proofs.Common.{◌≡◌, ◌+◌, drop, refl, ap, ◌∙◌, arith}
-use Rattle.std.proofs.lemmas.List.{drop-drop}
-use Rattle.fax_bits.specs.Bits.{bits}
-use Rattle.fax_bits.specs.code.BitsAhead.{place_before}
-use Rattle.fax_bits.proofs.AheadLemmas.{ones_taken, end_kept}
+use Rattle.std.proofs.Common.{refl, arith}
+use Rattle.fax_bits.proofs.AheadLemmas.{after_ahead, ones_taken, end_kept}
 use Rattle.fax_bits.proofs.source.BitSource.past_ones.Goals as goal
 
 pub invariant_of-self : goal.invariant_of-self
 invariant_of-self c =
-    let order = c.self.inside.order in
-    let bytes = c.self.inside.bytes.now in
-    let is = c.self.invariant in
-    let n = c.min-count.result in
-    let place_is : place_before c.self.inside.window + n ≡ place_before c.after-self-inside.result =
-    omega (arith, is.before, c.after-self-inside.ensures.at, c.after-self-inside.ensures.count) in
-    record {
-      within = omega (arith, is.within, c.after-self-inside.ensures.at);
-      before = omega (arith, is.before, c.after-self-inside.ensures.at, c.after-self-inside.ensures.count);
-      counted = is.counted;
-      bits_are =
-          c.after-self-inside.ensures.ahead order bytes ∙ ap (drop n) is.bits_are ∙ drop-drop n (place_before c.self.inside.window) (bits order bytes)
-          ∙ ap (λ p. drop p (bits order bytes)) place_is;
-    }
+    let after = c.after-self-inside in
+    after_ahead c.self.inside.order c.self.inside.bytes.now c.self.inside.window after.result c.min-count.result c.self.invariant
+    (after.ensures.ahead c.self.inside.order c.self.inside.bytes.now) after.ensures.count after.ensures.at
 
 pub returns-clause-ones : goal.returns-clause-ones
 returns-clause-ones c =

@@ -1,14 +1,27 @@
-use Rattle.std.proofs.Common.{◌++◌, ap, ◌∙◌}
-use Rattle.std.proofs.lemmas.Option.{IfSome_then}
-use Rattle.fax_bits.proofs.LookUpLemmas.{run_taken}
+use Rattle.std.proofs.Common.{inl, arith}
+use Rattle.fax_bits.proofs.AheadLemmas.{begun_short, looked_up}
+use Rattle.fax_bits.proofs.LookUpLemmas.{run_written, run_taken}
 use Rattle.fax_bits.proofs.source.BitSource.run_within.Goals as goal
 
-pub returns-clause-run : goal.returns-clause-run
-returns-clause-run c =
-    IfSome_then c.look_up.result c.look_up.ensures.found
-    (λ pels is. run_taken c.args.colour is.front c.args.self.now.left pels c.look_up.new.self.left is.meaning.0 is.taken)
+pub after-self-inside-requires : goal.after-self-inside-requires
+after-self-inside-requires c =
+    let short = begun_short c.number.result c.in_ok-len.ensures in
+    record { loaded = omega (arith, short, c.in_ok-self-inside.ensures.many); short = omega (arith, short) }
 
-pub returns-clause-written : goal.returns-clause-written
-returns-clause-written c =
-    IfSome_then c.look_up.result c.look_up.ensures.found
-    (λ pels is. is.taken ∙ ap (λ front. front ++ c.look_up.new.self.left) is.meaning.0.spelled)
+pub returns : goal.returns
+returns c =
+    let order = c.self.inside.order in
+    let bytes = c.self.inside.bytes.now in
+    let w = c.in_ok-self-inside in
+    let is =
+    looked_up order bytes c.self.inside.window w.field-0 c.args.self.now c.self.invariant c.self.view_is w.ensures.ahead
+    w.ensures.place w.ensures.within w.ensures.many c.number.result (c.number.ensures.number order bytes (inl (omega (arith, w.ensures.many))))
+    c.in_ok-len.ensures c.after-self-inside.result c.after-self-inside.ensures.count c.after-self-inside.ensures.at in
+    record {
+      run = run_taken c.args.colour is.front c.args.self.now.left c.in_ok-len.pels _ is.meaning is.taken;
+      written = run_written c.args.colour is.front c.args.self.now.left c.in_ok-len.pels _ is.meaning is.taken;
+      few = c.if-pels-most.false;
+      unchanged = λ none. cc;
+      same_end = is.same_end;
+      shorter = λ some. is.shorter;
+    }
