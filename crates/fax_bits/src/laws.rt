@@ -3,7 +3,7 @@
 ghost use Rattle.fax_bits.specs.declared.Colour.{Colour};
 ghost use Rattle.fax_bits.specs.Codes.{Takes};
 ghost use Rattle.fax_bits.specs.laws.Codes as Law;
-ghost use Rattle.fax_bits.specs.Tables.{run_table, modes};
+ghost use Rattle.fax_bits.specs.Tables.{run_table};
 
 use crate::codes::CodeTable;
 
@@ -36,12 +36,6 @@ pub fn codes_are_read_in_one_way<T: CodeTable>()
 /// tables 2, 3a and 3b).
 pub fn run_codes_are_read_in_one_way()
     ensures { (colour : Colour) → Law.ReadsOneWay (run_table colour) }
-{}
-
-/// Bits are read by the mode table in one way, as `run_codes_are_read_in_one_way` says of the run
-/// tables (T.4, table 4).
-pub fn modes_are_read_in_one_way()
-    ensures { Law.ReadsOneWay modes }
 {}
 
 /// A run below 65,536 pels, as `put_run` writes it, is read as that run, whatever bits follow it

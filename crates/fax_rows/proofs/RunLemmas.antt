@@ -45,8 +45,8 @@ run_done colour b n m mid rest part taken = record {
 }
 
 -- make-up codes of the longest run so far: with a run after them that is written, they are one that is written
-abbrev pub AreLongest : Colour → List Bool → ℕ → List Bool → Type 0
-AreLongest colour b n rest = (m : ℕ) (after : List Bool) → rest ≡ run_bits colour m ++ after → b ≡ run_bits colour (n + m) ++ after
+abbrev pub AreLongestMakeUp : Colour → List Bool → ℕ → List Bool → Type 0
+AreLongestMakeUp colour b n rest = (m : ℕ) (after : List Bool) → rest ≡ run_bits colour m ++ after → b ≡ run_bits colour (n + m) ++ after
 
 -- with a terminating code after them, the make-up codes so far are a run that is written
 abbrev pub AreChosen : Colour → List Bool → ℕ → List Bool → Type 0
@@ -54,21 +54,21 @@ AreChosen colour b n rest =
     (m : ℕ) (after : List Bool) → Takes (run_table colour) rest (Terminating m) after → b ≡ run_bits colour (n + m) ++ after
 
 module _ (law : ChosenCodesAreWritten) (colour : Colour) (b : List Bool) where
-  pub none_longest : AreLongest colour b 0 b
+  pub none_longest : AreLongestMakeUp colour b 0 b
   none_longest = λ m after written. subst (λ k. b ≡ run_bits colour k ++ after) (omega arith) written
 
   pub none_chosen : AreChosen colour b 0 b
   none_chosen = λ m after taken. none_longest m after (law.short colour b m after taken)
 
   -- after the longest ones any make-up code may be the last
-  pub one_chosen : (n m : ℕ) (mid rest : List Bool) → AreLongest colour b n mid → Takes (run_table colour) mid (MakeUp m) rest
+  pub one_chosen : (n m : ℕ) (mid rest : List Bool) → AreLongestMakeUp colour b n mid → Takes (run_table colour) mid (MakeUp m) rest
       → AreChosen colour b (n + m) rest
   one_chosen n m mid rest are first = λ k after last.
       let sum_is : n + (m + k) ≡ n + m + k = omega arith in
       subst (λ j. b ≡ run_bits colour j ++ after) sum_is (are (m + k) after (law.long colour mid m k rest after first last))
 
-  pub one_longest : (n m : ℕ) (mid rest : List Bool) → AreLongest colour b n mid → m ≡ 2560
-      → Takes (run_table colour) mid (MakeUp m) rest → AreLongest colour b (n + m) rest
+  pub one_longest : (n m : ℕ) (mid rest : List Bool) → AreLongestMakeUp colour b n mid → m ≡ 2560
+      → Takes (run_table colour) mid (MakeUp m) rest → AreLongestMakeUp colour b (n + m) rest
   one_longest n m mid rest are most first = λ k after written.
       let sum_is : n + (2560 + k) ≡ n + m + k = omega (arith, most) in
       let taken = subst (λ j. Takes (run_table colour) mid (MakeUp j) rest) most first in

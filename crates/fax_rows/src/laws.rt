@@ -19,7 +19,7 @@ pub fn rows_over_a_reference_are_read_in_one_way()
     ensures { (reference : List Colour) → Law.ReadsRowsOverOneWay reference }
 {
     fax_bits::laws::run_codes_are_read_in_one_way();
-    fax_bits::laws::modes_are_read_in_one_way();
+    fax_bits::laws::codes_are_read_in_one_way::<fax_bits::Modes>();
 }
 
 /// What `put_1d` appends is read as the row that was put, whatever bits follow it (T.4, section

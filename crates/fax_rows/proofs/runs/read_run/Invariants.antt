@@ -1,13 +1,13 @@
 use Rattle.std.proofs.Common.{◌≡◌, ◌+◌, ◌≤◌, length}
 use Rattle.std.specs.Prelude.{IsTrue}
-use Rattle.fax_rows.proofs.RunLemmas.{IsPartialRun, AreChosen, AreLongest}
+use Rattle.fax_rows.proofs.RunLemmas.{IsPartialRun, AreChosen, AreLongestMakeUp}
 use Rattle.fax_rows.proofs.runs.read_run.Given as goal
 
 abbrev pub invariant-loop-more : goal.invariant-loop-more
 invariant-loop-more l = record {
   part : IsPartialRun l.colour l.initial.source.left l.pels l.source.left;
   chosen : IsTrue l.is_chosen → AreChosen l.colour l.initial.source.left l.pels l.source.left;
-  longest : IsTrue l.are_longest → AreLongest l.colour l.initial.source.left l.pels l.source.left;
+  longest : IsTrue l.are_longest → AreLongestMakeUp l.colour l.initial.source.left l.pels l.source.left;
   within : l.from + l.pels ≤ l.width;
   no_longer : length l.source.left ≤ length l.initial.source.left;
   same_end : l.source.place + length l.source.left ≡ l.initial.source.place + length l.initial.source.left;
