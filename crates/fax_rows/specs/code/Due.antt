@@ -16,11 +16,11 @@ use Rattle.fax_rows.specs.code.Chosen.{AreTwoRuns}
 use Rattle.fax_rows.specs.code.PlacedReached.{IsReadInside}
 use Rattle.fax_rows.specs.code.Reached.{reached_pel}
 
--- the bits begin with two runs within the row, which may be seen to be written as T.4 chooses
-pub record AreReadRuns (colour : Colour) (width from : ℕ) (b : List Bool) (runs : TwoRuns)
-    (rest : List Bool) : Type 0 where
+-- the bits begin with two runs within the row, where it is asked for written as T.4 chooses
+pub record AreReadRuns (choice : Bool) (colour : Colour) (width from : ℕ) (b : List Bool)
+    (runs : TwoRuns) (rest : List Bool) : Type 0 where
   pub found : AreTwoRuns colour b runs.first runs.second rest
-  pub written : IsTrue runs.is_chosen
+  pub written : IsTrue choice
       → b ≡ (run_bits colour runs.first ++ run_bits (other colour) runs.second) ++ rest
   pub within : from + runs.first + runs.second ≤ width
 

@@ -42,7 +42,6 @@ pub(super) fn chooses_runs<const CHOICE: bool>(
 ) -> bool
     requires b1 { IsB1At reference at.reached.a0 at.reached.colour at.b1 }
     requires within { reached_pel at.reached + runs.first + runs.second ≤ reference.width }
-    ensures codes { IsTrue result → IsTrue runs.is_chosen }
     ensures right { IsTrue result
         → is_right_of at.reached.a0 (reached_pel at.reached + runs.first) ≡ true }
     ensures second { IsTrue result
@@ -58,7 +57,6 @@ pub(super) fn chooses_runs<const CHOICE: bool>(
     let b1 = reference.places[at.b1];
     let b2 = reference.places[at.b1 + 1];
     CHOICE
-        && runs.is_chosen
         && at.reached.is_left_of(a1)
         && (runs.second > 0 || a1 == reference.width)
         && a1 <= b2

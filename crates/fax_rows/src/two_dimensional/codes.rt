@@ -1,11 +1,13 @@
 //! The next codes of a row in two-dimensional coding: by look-ups, or else by their tables (ITU-T T.4,
 //! section 4.2.1.3.2).
-ghost use Rattle.std.specs.Prelude.{◌+◌, ◌≤◌, ◌<◌, ◌^◌, Bool, List, length};
+ghost use Rattle.std.specs.Prelude.{◌+◌, ◌≤◌, ◌<◌, ◌^◌, Bool, List, true, length};
 ghost use Rattle.std.specs.Prelude.{OnOk, IfOk, IfErr, IfSome};
 ghost use Rattle.fax_bits.specs.views.Source.{KeepsEnd};
 ghost use Rattle.fax_rows.specs.code.Due.{AreReadRuns, AreRunsDue};
 ghost use Rattle.fax_rows.specs.code.RowFaults.{IsPairFault};
+ghost use Rattle.fax_rows.specs.code.Stop.{IsStopOf};
 
+use super::choices::is_taken;
 use crate::RowFault;
 use crate::runs::{last_run, other};
 use fax_bits::{BitSource, Colour};
@@ -41,14 +43,11 @@ impl<D> From<RowFault> for Stop<D> {
     }
 }
 
-/// The runs of horizontal mode.
+/// The runs of horizontal mode, by the pels that they have.
 #[derive(Clone, Copy)]
 pub(super) struct TwoRuns {
-    /// How many pels the first has, and the second.
     pub first: u32,
     pub second: u32,
-    /// Whether their codes are seen to be those that T.4 chooses.
-    pub is_chosen: bool,
 }
 
 /// Reads a run of the colour whose first pel is `from` and the run of the other one after it, each
@@ -62,7 +61,7 @@ fn run_by_run(
 ) -> Result<TwoRuns, Option<u32>>
     requires from { from ≤ width }
     ensures read { IfOk result
-        (λ runs. AreReadRuns colour width from source.old.left runs source.new.left) }
+        (λ runs. AreReadRuns true colour width from source.old.left runs source.new.left) }
     ensures due { IfErr result
         (λ first. AreRunsDue colour source.old.left first source.new.left) }
     ensures fits { IfErr result (λ first. IfSome first (λ n. from + n ≤ width)) }
@@ -75,11 +74,7 @@ fn run_by_run(
     let Some(second) = source.run_within(other(colour), width - from - first) else {
         return Err(Some(first));
     };
-    Ok(TwoRuns {
-        first,
-        second,
-        is_chosen: true,
-    })
+    Ok(TwoRuns { first, second })
 }
 
 /// What `run_by_run` does: a white run and the black one after it mostly by one look-up.
@@ -93,7 +88,7 @@ pub(super) fn two_runs(
     requires width { width < 2 ^ 16 }
     requires from { from ≤ width }
     ensures read { IfOk result
-        (λ runs. AreReadRuns colour width from source.old.left runs source.new.left) }
+        (λ runs. AreReadRuns true colour width from source.old.left runs source.new.left) }
     ensures due { IfErr result
         (λ first. AreRunsDue colour source.old.left first source.new.left) }
     ensures fits { IfErr result (λ first. IfSome first (λ n. from + n ≤ width)) }
@@ -105,7 +100,6 @@ pub(super) fn two_runs(
             Some(pair) => Ok(TwoRuns {
                 first: pair.white,
                 second: pair.black,
-                is_chosen: true,
             }),
             None => run_by_run(source, Colour::White, width, from),
         },
@@ -114,38 +108,43 @@ pub(super) fn two_runs(
 }
 
 /// Reads the runs that `two_runs` does not find, by their tables: a run of the colour whose first
-/// pel is `from`, where it is not read, and the run of the other colour after it.
-pub(super) fn last_two_runs(
+/// pel is `from`, where it is not read, and the run of the other colour after it. With `CHOICE` it
+/// stops where their codes are not seen to be T.4's choice.
+pub(super) fn last_two_runs<const CHOICE: bool>(
     source: &mut BitSource,
     colour: Colour,
     width: u32,
     from: u32,
     first: Option<u32>,
-) -> Result<TwoRuns, RowFault>
+) -> Result<TwoRuns, Stop<Due>>
     requires width { width < 2 ^ 16 }
     requires from { from ≤ width }
     requires fits { IfSome first (λ n. from + n ≤ width) }
     ensures read { (b : List Bool) → AreRunsDue colour b first source.old.left
-        → IfOk result (λ runs. AreReadRuns colour width from b runs source.new.left) }
+        → IfOk result (λ runs. AreReadRuns CHOICE colour width from b runs source.new.left) }
     ensures within { IfOk result (λ runs. from + runs.first + runs.second ≤ width) }
-    ensures err { (b : List Bool) → AreRunsDue colour b first source.old.left
-        → IfErr result (λ fault. IsPairFault colour width from b fault) }
+    ensures stop { (b : List Bool) → AreRunsDue colour b first source.old.left
+        → IfErr result (λ stop. IsStopOf CHOICE (λ fault. IsPairFault colour width from b fault)
+        (λ due. ⊥) stop) }
     ensures same_end { KeepsEnd source.old source.new }
     ensures shorter { OnOk result (length source.new.left < length source.old.left) }
 {
-    let Some(first) = first else {
-        let first = last_run(source, colour, width, from)?;
-        let second = last_run(source, other(colour), width, from + first.pels)?;
-        return Ok(TwoRuns {
-            first: first.pels,
-            second: second.pels,
-            is_chosen: first.is_chosen && second.is_chosen,
-        });
+    let mut is_chosen = true;
+    let first = match first {
+        Some(first) => first,
+        None => {
+            let run = last_run(source, colour, width, from)?;
+            is_chosen = run.is_chosen;
+            run.pels
+        }
     };
     let second = last_run(source, other(colour), width, from + first)?;
-    Ok(TwoRuns {
-        first,
-        second: second.pels,
-        is_chosen: second.is_chosen,
-    })
+    if is_taken::<CHOICE>(is_chosen && second.is_chosen) {
+        Ok(TwoRuns {
+            first,
+            second: second.pels,
+        })
+    } else {
+        Err(Stop::Other)
+    }
 }

@@ -42,7 +42,7 @@ fn past_runs<const CHOICE: bool>(
     requires inside { IsReadInside reference places.old at }
     requires within { reached_pel at.reached + runs.first + runs.second ≤ reference.width }
     ensures read { (b rest : List Bool)
-        → AreReadRuns at.reached.colour reference.entry.width (reached_pel at.reached) b runs rest
+        → AreReadRuns CHOICE at.reached.colour reference.entry.width (reached_pel at.reached) b runs rest
         → IfOk result (λ next. IsPairReadOn CHOICE reference.entry places.old places.new at next
         b rest) }
     ensures err { IfErr result (λ stop. IsStopOf CHOICE (λ fault. ⊥) (λ due. ⊥) stop) }
@@ -169,7 +169,7 @@ pub(super) fn last_horizontal<const CHOICE: bool>(
 {
     let from = at.reached.first_pel();
     let colour = colour_after(at.b1);
-    let runs = last_two_runs(source, colour, reference.width, from, first)?;
+    let runs = last_two_runs::<CHOICE>(source, colour, reference.width, from, first)?;
     past_runs::<CHOICE>(reference, places, at, runs)
 }
 

@@ -8,4 +8,4 @@ returns-in_err-runs-clause-err g c b due =
     let colour = c.colour_after-colour.ensures ∙ (c.requires.inside.so_far.b1 c.requires.inside.unfinished).colour_is in
     let p = err_from_is_err_and c.from_residual.result c.from_residual.ensures.1 in
     rw (p.1, p.2, length-placed_pels c.args.reference, ← c.first_pel-from.ensures, ← colour)
-    (c.in_err-runs.ensures.err b (rw colour due))
+    (c.in_err-runs.ensures.stop b (rw colour due))

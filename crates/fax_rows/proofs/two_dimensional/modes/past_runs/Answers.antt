@@ -18,7 +18,7 @@ returns-clause-read g c b rest read =
             some = λ h. fits.second is (omega (arith, len));
             left = fits.left is;
             far = fits.far is;
-            bits = read.written (fits.codes is);
+            bits = read.written asked;
             new_is = c.after_runs.ensures.placed;
           };
       so_far = c.after_runs.ensures.so_far;
