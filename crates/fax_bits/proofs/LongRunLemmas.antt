@@ -1,5 +1,5 @@
 -- A run of several make-up codes, read by a look-up each.
-use Rattle.std.proofs.Common.{◌≡◌, ℕ, ◌+◌, ◌*◌, ◌-◌, ◌/◌, ◌^◌, ◌<◌, ◌≤◌, List, ◌∷◌, ◌++◌, Bool, ap, ◌∙◌, subst, arith}
+use Rattle.std.proofs.Common.{◌≡◌, ℕ, ◌+◌, ◌*◌, ◌-◌, ◌/◌, ◌^◌, ◌<◌, ◌≤◌, List, ◌∷◌, ◌++◌, Bool, subst, arith}
 use Rattle.std.specs.Prelude.{sum}
 use Rattle.std.proofs.lemmas.Grind.{common_steps}
 use Rattle.fax_bits.specs.Bits.{code_bits}
@@ -35,12 +35,7 @@ make_up_begins colour most number len place found high within few =
 -- and is taken
 make_up_taken : (colour : Colour) (front left : List Bool) (pels : ℕ) (rest : List Bool) → IsCode (run_table colour) front (MakeUp pels)
     → left ≡ front ++ rest → Takes (run_table colour) left (MakeUp pels) rest
-make_up_taken colour front left pels rest code taken = record {
-  entry = code.entry;
-  listed = code.listed;
-  means = code.means;
-  spelled = taken ∙ ap (λ b. b ++ rest) code.spelled;
-}
+make_up_taken colour front left pels rest code taken = grind (arith, common_steps)
 
 -- a make-up code goes on with a run
 make_up_goes_on : (colour : Colour) (b : List Bool) (m n : ℕ) (middle rest : List Bool) → Takes (run_table colour) b (MakeUp m) middle
@@ -63,14 +58,10 @@ abbrev pub AreChosen : Colour → List Bool → ℕ → List Bool → Type 0
 AreChosen colour b pels rest = (n : ℕ) (after : List Bool) → rest ≡ run_bits colour n ++ after → b ≡ run_bits colour (pels + n) ++ after
 
 pub none_made_up : (colour : Colour) (b : List Bool) → AreMakeUp colour b 0 b
-none_made_up colour b = λ n after run.
-    let none : n ≡ 0 + n = omega arith in
-    subst (λ m. IsRun colour b m after) none run
+none_made_up colour b = grind (arith, common_steps)
 
 pub none_chosen : (colour : Colour) (b : List Bool) → AreChosen colour b 0 b
-none_chosen colour b = λ n after written.
-    let none : n ≡ 0 + n = omega arith in
-    subst (λ m. b ≡ run_bits colour m ++ after) none written
+none_chosen colour b = grind (arith, common_steps)
 
 pub one_made_up : (colour : Colour) (b : List Bool) (pels more : ℕ) (front middle rest : List Bool) → AreMakeUp colour b pels middle
     → IsCode (run_table colour) front (MakeUp more) → middle ≡ front ++ rest → AreMakeUp colour b (pels + more) rest

@@ -1,8 +1,9 @@
 -- A code that is found by its place in a table.
+use Rattle.std.proofs.lemmas.Grind.{common_steps}
 use Rattle.std.proofs.Common.{◌≡◌, ℕ, zero, suc, ◌+◌, ◌-◌, ◌*◌, ◌/◌, ◌%◌, ◌^◌, ◌<◌, ◌≤◌, List, [], ◌∷◌, ◌++◌, length, get_or, Bool, true}
-use Rattle.std.proofs.Common.{false, nat_eq, refl, ap, sym, ◌∙◌, subst, arith, inl, inr, append_assoc, length-append}
+use Rattle.std.proofs.Common.{false, refl, ap, sym, ◌∙◌, subst, arith, inl, inr, append_assoc, length-append}
 use Rattle.std.specs.Prelude.{◌&&◌, ◌||◌, Option, Some, None, MatchOption, slice_get, Contains, nat_le}
-use Rattle.std.proofs.lemmas.Bool.{and_from, and_parts, cases_Bool, eqb-true, eq-eqb, le-leb, leb-true, or_cases}
+use Rattle.std.proofs.lemmas.Bool.{and_parts, cases_Bool, leb-true, or_cases}
 use Rattle.std.proofs.lemmas.Nat.{pow-add, pow_pos, shl_below, shl-shr}
 use Rattle.std.proofs.Math.Nat.{div-div-eq-div-mul, lt-div-mul-add}
 use Rattle.fax_bits.specs.declared.codes.CodeEntry.{CodeEntry}
@@ -20,15 +21,11 @@ use Rattle.fax_bits.proofs.TableLemmas.{listed}
 -- what it says that an entry begins the bits
 begins_true : {M : Type 0} (entry : CodeEntry M) (width number : ℕ) → begins entry width number ≡ true
     → (entry.len ≤ width) × (number / 2 ^ (width - entry.len) ≡ entry.code)
-begins_true entry width number h =
-    let both = and_parts (nat_le entry.len width) (nat_eq (number / 2 ^ (width - entry.len)) entry.code) h in
-    (leb-true entry.len width both.0, eqb-true _ _ both.1)
+begins_true entry width number h = grind (arith, common_steps)
 
 pub begins_from : {M : Type 0} (entry : CodeEntry M) (width number : ℕ) → entry.len ≤ width → number / 2 ^ (width - entry.len) ≡ entry.code
     → begins entry width number ≡ true
-begins_from entry width number short is =
-    and_from (nat_le entry.len width) (nat_eq (number / 2 ^ (width - entry.len)) entry.code)
-    (le-leb entry.len width short) (eq-eqb _ _ is)
+begins_from entry width number short is = grind (arith, common_steps)
 
 -- the place of the first entry, by what it is
 first_place : {M : Type 0} (first : CodeEntry M) (table : List (CodeEntry M)) (width number : ℕ) → begins first width number ≡ true

@@ -1,12 +1,11 @@
 -- Runs that are written are read again, and as nothing else.
+use Rattle.std.proofs.lemmas.Grind.{common_steps}
 use Rattle.std.proofs.Common.{◌≡◌, ℕ, zero, suc, ◌+◌, ◌*◌, ◌/◌, ◌%◌, ◌<◌, ◌≤◌, List, [], ◌∷◌, ◌++◌, map, replicate, Bool, false, nat_eq}
 use Rattle.std.proofs.Common.{refl, ap, sym, ◌∙◌, subst, arith, append_assoc, append-nil, zero-add}
 use Rattle.std.specs.Prelude.{sum, flat_map}
 use Rattle.std.proofs.lemmas.List.Concat.{flat_map-append}
 use Rattle.std.proofs.lemmas.Bool.Decides.{nat_tests}
 use Rattle.std.proofs.lemmas.List.{map-append}
-use Rattle.std.proofs.lemmas.List.Folds.{sum_by-replicate}
-use Rattle.std.proofs.lemmas.List.Sums.{sum_by-append}
 use Rattle.fax_bits.specs.declared.codes.CodeEntry.{CodeEntry}
 use Rattle.fax_bits.specs.declared.Colour.{Colour}
 use Rattle.fax_bits.specs.declared.runs.RunCode.{RunCode}
@@ -120,13 +119,7 @@ codes_are n =
     ∙ ap (λ codes. replicate (n / 2560) (MakeUp 2560) ++ codes) (map-rest_pels (n % 2560 / 64)))
 
 pels_are : (n : ℕ) → sum (replicate (n / 2560) 2560 ++ rest_pels (n % 2560 / 64)) + n % 64 ≡ n
-pels_are n =
-    omega (
-      arith,
-      sum_by-append (λ (x : ℕ). x) (replicate (n / 2560) 2560) (rest_pels (n % 2560 / 64)),
-      sum_by-replicate (λ (x : ℕ). x) (n / 2560) 2560,
-      sum-rest_pels (n % 2560 / 64),
-    )
+pels_are n = grind (arith, common_steps)
 
 pub run_bits_are_read : RunBitsAreRead
 unfolding run_bits

@@ -1,4 +1,5 @@
 -- The codes of runs by their places in the run tables.
+use Rattle.std.proofs.lemmas.Grind.{common_steps}
 use Rattle.std.proofs.Common.{◌≡◌, ℕ, zero, suc, ◌+◌, ◌*◌, ◌-◌, ◌<◌, ◌≤◌, List, [], ◌∷◌, ◌++◌, length, Bool, true, false, refl, ap, sym}
 use Rattle.std.proofs.Common.{◌∙◌, arith, inl, inr, zero-add}
 use Rattle.std.specs.Prelude.{Some, slice_get, nat_lt, nat_eq}
@@ -27,21 +28,13 @@ run_meaning-terminating n short =
     let below : nat_lt n 64 ≡ true = grind (arith, nat_tests) in rw below
 
 pub make_up-at : (place : ℕ) → 64 ≤ place → place < 104 → run_meaning place ≡ MakeUp (64 * (place - 63))
-make_up-at place above below =
-    let not_terminating : nat_lt place 64 ≡ false = grind (arith, nat_tests) in
-    let make_up : nat_lt place 104 ≡ true = grind (arith, nat_tests) in
-    rw (not_terminating, make_up)
+make_up-at place above below = grind (arith, common_steps)
 
 pub extension-at : (place : ℕ) → 104 ≤ place → run_meaning place ≡ Extension
-extension-at place above =
-    let not_terminating : nat_lt place 64 ≡ false = grind (arith, nat_tests) in
-    let not_make_up : nat_lt place 104 ≡ false = grind (arith, nat_tests) in
-    rw (not_terminating, not_make_up)
+extension-at place above = grind (arith, common_steps)
 
 pub run_meaning-make_up : (steps : ℕ) → 0 < steps → steps ≤ 40 → run_meaning (63 + steps) ≡ MakeUp (64 * steps)
-run_meaning-make_up steps some few =
-    let e : 63 + steps - 63 ≡ steps = omega arith in
-    make_up-at (63 + steps) (omega arith) (omega arith) ∙ ap (λ n. MakeUp (64 * n)) e
+run_meaning-make_up steps some few = grind (arith, common_steps)
 
 same_run_code-itself : (code : RunCode) → same_run_code code code ≡ true
 same_run_code-itself (Terminating n) = grind (arith, nat_tests)

@@ -10,19 +10,11 @@ use Rattle.fax_bits.specs.views.Sink.{Sink, Appends, AppendsPrefix, AppendsAllBu
 use Rattle.fax_rows.specs.Coded.{alternating_bits}
 use Rattle.fax_rows.specs.Rows.{other}
 
--- bits that are put after others
-appends_two : (old mid new : Sink) (first second : List Bool) → Appends old first mid → Appends mid second new
-    → Appends old (first ++ second) new
-appends_two old mid new first second before after = grind (arith, common_steps)
-
 pub put_begins : (sink : Sink) (all : List Bool) → AppendsAllBut sink all all sink
 put_begins sink all = grind (arith, common_steps)
 
 -- bits are put in two parts, some of them pending before, between and after
 module _ (old mid new : Sink) (front first second pending : List Bool) (one : AppendsAllBut old (front ++ first) pending mid) where
-  parts_are : front ++ (first ++ second) ≡ one.done ++ (pending ++ second)
-  parts_are = sym (append_assoc front first second) ∙ ap (λ b. b ++ second) one.parts ∙ append_assoc one.done pending second
-
   pub pair_put : (left : List Bool) → AppendsAllBut mid (pending ++ second) left new
       → AppendsAllBut old (front ++ (first ++ second)) left new
   pair_put left two = grind (arith, common_steps)

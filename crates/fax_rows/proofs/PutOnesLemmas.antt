@@ -98,10 +98,6 @@ pels_put old from before word (suc r) fits within put =
     (pel_put one old (old ++ ones_among from 63 changes r) from before word r (change_bit before word r fits (omega arith))
     (pels_put old from before word r fits (omega arith) put))
 
--- what ascends does so in the list that is cut at its end, and back
-ascending_in : (places : List ℕ) (end : ℕ) → IsAscending places end → IsAscending (take end places) (length (take end places))
-ascending_in places end up = grind (arith, common_steps)
-
 -- the places of a row before a word
 none_put : (places : List ℕ) (end from before word : ℕ) → IsAscending places end → (1 < end → get_or places (end - 1) 0 < from)
     → ((k : ℕ) → from ≤ k → turned Black (take end places) k ≡ colour_of_bit (word_bit before 63))

@@ -139,11 +139,6 @@ module _ {rows : RowPair} {ahead : ChangesAhead} (is : AreAhead rows ahead) wher
       }))
       (is.b2 ∙ ap (b2 reference ahead.a0) is.colour))
 
-  -- the runs of horizontal mode
-  pub pair_is : run_pair_bits Horizontal (placed_pels rows.row) ahead.a0
-      (places (placed_pels rows.reference) (placed_pels rows.row) ahead.a0) ≡ run_pair ahead
-  pair_is = grind (arith, common_steps)
-
   pub horizontal_bits : (mode : ModeCode) → mode ≡ chosen_mode (record { a1 = ahead.a1; a2 = 0; b1 = ahead.b1; b2 = ahead.b2 })
       → mode ≡ Horizontal
       → bits_from (placed_pels rows.reference) (placed_pels rows.row) ahead.a0 ≡ mode_bits Horizontal ++ run_pair ahead
