@@ -144,21 +144,17 @@ module _ (reads : (colour : Colour) → ReadsOneWay (run_table colour)) where
       same_fault_after colour width from (from + sum first.make_up) (from + sum second.make_up) b c first.left second.left fault another
       first.make_up second.make_up at first.spelled refl first.within first.at_code second.spelled refl second.within second.at_code
 
+  fault_at_once : (colour : Colour) (width from : ℕ) (b : List Bool) (fault : RowFault) → from ≤ width
+      → IsAtRunCode colour width (from + 0) b fault → IsRunOrFault colour width from b
+  fault_at_once colour width from b fault within at =
+      inr (fault, record { make_up = []; left = b; spelled = refl; within = omega arith; at_code = at })
+
   run_by_code : (colour : Colour) (width from : ℕ) (b : List Bool) (code : RunCode) (rest : List Bool) → from ≤ width
       → Takes (run_table colour) b code rest → ((m : ℕ) → from + m ≤ width → IsRunOrFault colour width (from + m) rest)
       → IsRunOrFault colour width from b
   run_by_code colour width from b (Terminating n) rest within taken more =
       elim (cases_lt width (from + n)) [
-        | inl long ↦ inr (
-          RunTooLong,
-          record {
-            make_up = [];
-            left = b;
-            spelled = refl;
-            within = omega arith;
-            at_code = inr (Terminating n, rest, taken, (omega arith, refl));
-          },
-        )
+        | inl long ↦ fault_at_once colour width from b RunTooLong within (inr (Terminating n, rest, taken, (omega arith, refl)))
         | inr fits ↦ inl (
           n,
           rest,
@@ -169,16 +165,7 @@ module _ (reads : (colour : Colour) → ReadsOneWay (run_table colour)) where
       ]
   run_by_code colour width from b (MakeUp m) rest within taken more =
       elim (cases_lt width (from + m)) [
-        | inl long ↦ inr (
-          RunTooLong,
-          record {
-            make_up = [];
-            left = b;
-            spelled = refl;
-            within = omega arith;
-            at_code = inr (MakeUp m, rest, taken, (omega arith, refl));
-          },
-        )
+        | inl long ↦ fault_at_once colour width from b RunTooLong within (inr (MakeUp m, rest, taken, (omega arith, refl)))
         | inr fits ↦ elim (more m fits) [
           | inl run ↦ inl (
             m + run.0,
@@ -207,16 +194,7 @@ module _ (reads : (colour : Colour) → ReadsOneWay (run_table colour)) where
         ]
       ]
   run_by_code colour width from b RunExtension rest within taken more =
-      inr (
-        Extension,
-        record {
-          make_up = [];
-          left = b;
-          spelled = refl;
-          within = omega arith;
-          at_code = inr (RunExtension, rest, taken, refl);
-        },
-      )
+      fault_at_once colour width from b Extension within (inr (RunExtension, rest, taken, refl))
 
   find_run : (fuel : ℕ) (colour : Colour) (width from : ℕ) (b : List Bool) → length b < fuel → from ≤ width
       → IsRunOrFault colour width from b
@@ -226,16 +204,7 @@ module _ (reads : (colour : Colour) → ReadsOneWay (run_table colour)) where
         | inl taken ↦ run_by_code colour width from b taken.0 taken.1 within taken.2
             (λ m fits. find_run fuel colour width (from + m) taken.1
             (omega (arith, (reads colour).takes_bits b taken.0 taken.1 taken.2)) fits)
-        | inr none ↦ inr (
-          row_fault none.0,
-          record {
-            make_up = [];
-            left = b;
-            spelled = refl;
-            within = omega arith;
-            at_code = inl (none.0, none.1, refl);
-          },
-        )
+        | inr none ↦ fault_at_once colour width from b (row_fault none.0) within (inl (none.0, none.1, refl))
       ]
 
   -- a whole run within the width begins the bits, or they have a fault
