@@ -1,4 +1,5 @@
 -- How bits begin beside a code, bit by bit.
+use Rattle.std.proofs.lemmas.Grind.{common_steps}
 use Rattle.std.proofs.Common.{◌≡◌, ◌≢◌, ℕ, zero, suc, ◌-◌, ◌/◌, ◌^◌, ◌<◌, ◌≤◌, List, [], ◌∷◌, length, get_or, Bool, true, false, refl, ap}
 use Rattle.std.proofs.Common.{sym, ◌∙◌, arith, length-append, nat_eq}
 use mathlib.Core.Bool.{not, beq}
@@ -58,8 +59,7 @@ pub not_ahead-of_other : (code b : List Bool) (i : ℕ) → i < length code → 
 not_ahead-of_other code b i short other ahead = other (ap (λ xs. get_or xs i false) ahead.1 ∙ get_or-append code ahead.0 false i short)
 
 pub not_cut-of_other : (code b : List Bool) (i : ℕ) → i < length b → get_or b i false ≢ get_or code i false → IsCutBy code b → ⊥
-not_cut-of_other code b i short other cut =
-    other (sym (get_or-append b (cut.0 ∷ cut.1) false i short) ∙ ap (λ xs. get_or xs i false) cut.2)
+not_cut-of_other code b i short other cut = grind (arith, common_steps)
 
 same_bit : (a b : Bool) → not (beq a b) ≡ false → a ≡ b
 same_bit true true h = refl

@@ -1,7 +1,7 @@
 -- Codes that are put one after another.
 use Rattle.std.proofs.lemmas.Grind.{common_steps}
-use Rattle.std.proofs.Common.{◌≡◌, ℕ, ◌+◌, ◌-◌, ◌*◌, ◌/◌, ◌%◌, ◌<◌, ◌≤◌, List, [], ◌∷◌, ◌++◌, replicate, Bool}
-use Rattle.std.proofs.Common.{ap, sym, ◌∙◌, arith, append_assoc, append-nil}
+use Rattle.std.proofs.Common.{◌≡◌, ℕ, ◌+◌, ◌-◌, ◌*◌, ◌/◌, ◌%◌, ◌<◌, ◌≤◌, List, ◌++◌, replicate}
+use Rattle.std.proofs.Common.{ap, sym, ◌∙◌, arith, append_assoc}
 use Rattle.std.specs.Prelude.{flat_map, Result, Ok, Err, OnErr}
 use Rattle.std.proofs.lemmas.List.{replicate-append-replicate}
 use Rattle.fax_bits.specs.declared.Colour.{Colour}
@@ -9,10 +9,6 @@ use Rattle.fax_bits.specs.declared.runs.RunCode.{RunCode}
 use Rattle.fax_bits.specs.declared.runs.RunCode.TheVariants.{Terminating, MakeUp}
 use Rattle.fax_bits.specs.Written.{run_codes, run_code_bits, run_bits}
 use Rattle.fax_bits.specs.views.Sink.{Sink, Appends, AppendsCodes}
-
-pub appends-then : (old mid new : Sink) (first second : List Bool) → Appends old first mid → Appends mid second new
-    → Appends old (first ++ second) new
-appends-then old mid new first second one two = grind (arith, common_steps)
 
 -- these codes were put
 abbrev pub Put : Colour → Sink → List RunCode → Sink → Type 0
@@ -43,18 +39,9 @@ pub put-rest : (colour : Colour) (n : ℕ) (old mid new : Sink) → Put colour o
 unfolding run_bits
 put-rest colour n old mid new one two = grind (arith, common_steps)
 
--- a run of fewer than 64 pels is one code
-short_codes : (n : ℕ) → n < 64 → run_codes n ≡ Terminating n ∷ []
-short_codes n short = grind (arith, common_steps)
-
 pub short_bits : (colour : Colour) (n : ℕ) → n < 64 → run_code_bits colour (Terminating n) ≡ run_bits colour n
 unfolding run_bits
-short_bits colour n short =
-    sym (ap (flat_map (run_code_bits colour)) (short_codes n short) ∙ append-nil (run_code_bits colour (Terminating n)))
-
--- a run of one make-up code is two codes
-long_codes : (n : ℕ) → 64 ≤ n → n < 2560 → run_codes n ≡ MakeUp (64 * (n / 64)) ∷ Terminating (n % 64) ∷ []
-long_codes n long short = grind (arith, common_steps)
+short_bits colour n short = grind (arith, common_steps)
 
 pub long_bits : (colour : Colour) (n : ℕ) → 64 ≤ n → n < 2560
     → run_code_bits colour (MakeUp (64 * (n / 64))) ++ run_code_bits colour (Terminating (n % 64)) ≡ run_bits colour n

@@ -1,7 +1,7 @@
 -- Runs that are written are read again, and as nothing else.
 use Rattle.std.proofs.lemmas.Grind.{common_steps}
 use Rattle.std.proofs.Common.{◌≡◌, ℕ, zero, suc, ◌+◌, ◌*◌, ◌/◌, ◌%◌, ◌<◌, ◌≤◌, List, [], ◌∷◌, ◌++◌, map, replicate, Bool, false, nat_eq}
-use Rattle.std.proofs.Common.{refl, ap, sym, ◌∙◌, subst, arith, append_assoc, append-nil, zero-add}
+use Rattle.std.proofs.Common.{refl, ap, sym, ◌∙◌, subst, arith, append_assoc, append-nil}
 use Rattle.std.specs.Prelude.{sum, flat_map}
 use Rattle.std.proofs.lemmas.List.Concat.{flat_map-append}
 use Rattle.std.proofs.lemmas.Bool.Decides.{nat_tests}
@@ -102,10 +102,6 @@ rest_pels (suc k) = 64 * suc k ∷ []
 map-rest_pels : (steps : ℕ) → map MakeUp (rest_pels steps) ≡ one_make_up steps
 map-rest_pels zero = refl
 map-rest_pels (suc k) = sym (one_make_up-suc k)
-
-sum-rest_pels : (steps : ℕ) → sum (rest_pels steps) ≡ 64 * steps
-sum-rest_pels zero = refl
-sum-rest_pels (suc k) = omega (arith, zero-add (64 * suc k))
 
 map-replicate : (q pels : ℕ) → map MakeUp (replicate q pels) ≡ replicate q (MakeUp pels)
 map-replicate zero pels = refl

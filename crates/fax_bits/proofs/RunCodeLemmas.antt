@@ -1,9 +1,8 @@
 -- The codes of runs by their places in the run tables.
 use Rattle.std.proofs.lemmas.Grind.{common_steps}
 use Rattle.std.proofs.Common.{◌≡◌, ℕ, zero, suc, ◌+◌, ◌*◌, ◌-◌, ◌<◌, ◌≤◌, List, [], ◌∷◌, ◌++◌, length, Bool, true, false, refl, ap, sym}
-use Rattle.std.proofs.Common.{◌∙◌, arith, inl, inr, zero-add}
-use Rattle.std.specs.Prelude.{Some, slice_get, nat_lt, nat_eq}
-use Rattle.std.proofs.lemmas.Bool.{cases_lt}
+use Rattle.std.proofs.Common.{◌∙◌, arith, zero-add}
+use Rattle.std.specs.Prelude.{Some, slice_get}
 use Rattle.std.proofs.lemmas.Bool.Decides.{nat_tests}
 use Rattle.fax_bits.specs.declared.codes.CodeEntry.{CodeEntry}
 use Rattle.fax_bits.specs.declared.Colour.{Colour}
@@ -24,14 +23,10 @@ bits_at-found (first ∷ table) zero entry found = let same : first ≡ entry = 
 bits_at-found (first ∷ table) (suc place) entry found = bits_at-found table place entry found
 
 pub run_meaning-terminating : (n : ℕ) → n < 64 → run_meaning n ≡ Terminating n
-run_meaning-terminating n short =
-    let below : nat_lt n 64 ≡ true = grind (arith, nat_tests) in rw below
+run_meaning-terminating n short = grind (arith, common_steps)
 
 pub make_up-at : (place : ℕ) → 64 ≤ place → place < 104 → run_meaning place ≡ MakeUp (64 * (place - 63))
 make_up-at place above below = grind (arith, common_steps)
-
-pub extension-at : (place : ℕ) → 104 ≤ place → run_meaning place ≡ Extension
-extension-at place above = grind (arith, common_steps)
 
 pub run_meaning-make_up : (steps : ℕ) → 0 < steps → steps ≤ 40 → run_meaning (63 + steps) ≡ MakeUp (64 * steps)
 run_meaning-make_up steps some few = grind (arith, common_steps)
@@ -41,26 +36,9 @@ same_run_code-itself (Terminating n) = grind (arith, nat_tests)
 same_run_code-itself (MakeUp n) = grind (arith, nat_tests)
 same_run_code-itself Extension = refl
 
-apart : (n m : ℕ) → m < n → nat_eq n m ≡ false
-apart n m h = grind (arith, nat_tests)
-
 -- codes at two places mean different things
 differ : (i j : ℕ) → i < j → j < 105 → same_run_code (run_meaning j) (run_meaning i) ≡ false
-differ i j order within =
-    elim (cases_lt i 64) [
-      | inl i_low ↦ elim (cases_lt j 64) [
-        | inl j_low ↦ rw (run_meaning-terminating j j_low, run_meaning-terminating i i_low) (apart j i order)
-        | inr j_high ↦ elim (cases_lt j 104) [
-          | inl j_middle ↦ rw (make_up-at j j_high j_middle, run_meaning-terminating i i_low)
-          | inr j_last ↦ rw (extension-at j j_last, run_meaning-terminating i i_low)
-        ]
-      ]
-      | inr i_high ↦ elim (cases_lt j 104) [
-        | inl j_middle ↦ rw (make_up-at j (omega arith) j_middle, make_up-at i i_high (omega arith))
-            (apart (64 * (j - 63)) (64 * (i - 63)) (omega arith))
-        | inr j_last ↦ rw (extension-at j j_last, make_up-at i i_high (omega arith))
-      ]
-    ]
+differ i j order within = grind (arith, common_steps)
 
 -- the first code with a meaning is the one at its place
 code_for-run_entries : (first : ℕ) (codes lens : List ℕ) (i : ℕ) → i < length codes → i < length lens → first + i < 105

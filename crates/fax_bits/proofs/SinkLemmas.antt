@@ -1,4 +1,5 @@
 -- Bits that are put after others: into the pending bits, and from there into bytes.
+use Rattle.std.proofs.lemmas.Grind.{common_steps}
 use Rattle.std.proofs.Common.{◌≡◌, ℕ, ◌+◌, ◌-◌, ◌*◌, ◌/◌, ◌%◌, ◌^◌, ◌<◌, ◌≤◌, List, [], ◌∷◌, ◌++◌, length, map, take, drop}
 use Rattle.std.proofs.Common.{replicate, Bool, true, false, refl, ap, sym, ◌∙◌, subst, arith, append_assoc, append-nil, add-zero}
 use Rattle.std.proofs.Common.{length-append}
@@ -26,8 +27,7 @@ on_ok-holds (Err e) ok holds = cc
 -- one more byte
 pub bits-push : (order : FillOrder) (bytes : List ℕ) (byte : ℕ) → bits order (bytes ++ byte ∷ []) ≡ bits order bytes ++ byte_bits order byte
 unfolding bits
-bits-push order bytes byte =
-    flat_map-append (byte_bits order) bytes (byte ∷ []) ∙ ap (λ b. bits order bytes ++ b) (append-nil (byte_bits order byte))
+bits-push order bytes byte = grind (arith, common_steps)
 
 -- pending bits and those that are put, as one number
 module _ (count pending len number : ℕ) (pending_fits : pending < 2 ^ count) (number_fits : number < 2 ^ len)

@@ -377,19 +377,7 @@ module _ (row : PlacedRow) where
   -- and where it does as a0 goes on with its colour
   pub same_start : (a0 : Option ℕ) (colour : Colour) (b a : ℕ) → IsB1At row a0 colour b → unwrap_or a0 0 ≤ a
       → IsBeforeB1 row a colour b
-  same_start a0 colour b a at order = record {
-    within = at.within;
-    colour_is = at.colour_is;
-    passed = λ h. omega (arith, not_right a0 (get_or row.places.now (b - 2) 0) (at.passed h) order);
-  }
-    where
-      not_right : (from : Option ℕ) (p : ℕ) → is_right_of from p ≡ false → unwrap_or from 0 ≤ a → p ≤ a
-      not_right None p not le = absurd (true≢false not)
-      not_right (Some x) p not le =
-          elim (cases_lt x p) [
-            | inl less ↦ absurd (true≢false (sym (lt-ltb x p less) ∙ not))
-            | inr more ↦ omega arith
-          ]
+  same_start a0 colour b a at order = grind (arith, common_steps)
 
   -- b1 stands at the next change, or at the one after it, by the colour of a0
   pub b1_here : (a0 : Option ℕ) (k b : ℕ) (colour : Colour) → IsFrom row.places.now row.end a0 k → (b ≡ k) ⊎ (b ≡ k + 1)

@@ -74,8 +74,7 @@ more_room put = omega (arith, put.room, put.within, places_within _ _ _ put.asce
 -- a place more is put
 pub put_on : {width : ℕ} {old new : List ℕ} {end next total place : ℕ} → ArePut width old end total → TurnsAt old new end next place
     → place ≤ width → ArePut width new next place
-put_on put turns within =
-    record { room = turns.same_len ∙ put.room; ascending = turns.ascending; last = turns.last; within = within }
+put_on put turns within = grind (arith, common_steps)
 
 -- all places but the last are below it
 pub below_last : (places : List ℕ) (end width : ℕ) → IsAscending places end → get_or places (end - 1) 0 ≤ width
@@ -119,8 +118,7 @@ run_turned {width =
 -- a row that is shown otherwise
 pub one_dimensional_as : {width wide : ℕ} {b : List Bool} {row shown : List Colour} {rest : List Bool}
     → IsOneDimensionalRow width b row rest → width ≡ wide → shown ≡ row → IsOneDimensionalRow wide b shown rest
-one_dimensional_as {width = width} {b = b} {shown = shown} {rest = rest} is same shows =
-    subst (λ n. IsOneDimensionalRow n b shown rest) same (subst (λ r. IsOneDimensionalRow width b r rest) (sym shows) is)
+one_dimensional_as {width = width} {b = b} {shown = shown} {rest = rest} is same shows = grind (arith, common_steps)
 
 -- elements that are all written over
 pub refilled : (len : ℕ) (new old : List ℕ) → length new ≡ len → take len (new ++ drop (length new) old) ≡ new

@@ -1,7 +1,7 @@
 -- Steps of two-dimensional coding over places of change.
 use Rattle.std.proofs.lemmas.Grind.{common_steps}
 use Rattle.std.proofs.Common.{◌≡◌, ℕ, ◌+◌, ◌-◌, ℤ, negsuc, ◌+ℤ◌, ◌≤ℤ◌, ◌<◌, ◌≤◌, List, [], ◌++◌, length, take, get_or, replicate, Bool}
-use Rattle.std.proofs.Common.{true, refl, ap, sym, ◌∙◌, subst, arith, pos, inl, inr}
+use Rattle.std.proofs.Common.{true, refl, ap, sym, ◌∙◌, arith, pos, inl, inr}
 use Rattle.std.specs.Prelude.{Option, Some, None, unwrap_or, ◌<ℤ◌, nat_abs}
 use Rattle.std.proofs.lemmas.Bool.{ltb-true}
 use Rattle.std.proofs.lemmas.Int.{ints}
@@ -321,8 +321,7 @@ steps_done reference b at row rest width so_far some done len same = grind (arit
 pub two_dimensional_as : {reference shown_reference : List Colour} {b : List Bool} {row shown : List Colour} {rest : List Bool}
     → IsTwoDimensionalRow reference b row rest → reference ≡ shown_reference → shown ≡ row
     → IsTwoDimensionalRow shown_reference b shown rest
-two_dimensional_as {reference = reference} {b = b} {shown = shown} {rest = rest} is same shows =
-    subst (λ r. IsTwoDimensionalRow r b shown rest) same (subst (λ r. IsTwoDimensionalRow reference b r rest) (sym shows) is)
+two_dimensional_as {reference = reference} {b = b} {shown = shown} {rest = rest} is same shows = grind (arith, common_steps)
 
 -- a step that is no part of the row
 pub fault_here : (reference : List Colour) (b : List Bool) (at : Reached) (row : List Colour) (mid : List Bool)

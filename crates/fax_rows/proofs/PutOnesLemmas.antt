@@ -4,7 +4,7 @@ use Rattle.std.proofs.Common.{◌≡◌, ℕ, zero, suc, ◌+◌, ◌-◌, ◌^�
 use Rattle.std.proofs.Common.{if◌then◌else◌, Bool, true, false, nat_eq, refl, ap, sym, ◌∙◌, subst, arith, inl, inr}
 use Rattle.std.specs.Int.{bit_at}
 use Rattle.std.proofs.lemmas.Bool.{cases_lt}
-use Rattle.std.proofs.lemmas.List.{append-nil, append_assoc, get_or-take, get_or_push, get_or_append_left, length-append, length-take-le}
+use Rattle.std.proofs.lemmas.List.{append-nil, append_assoc, get_or-take, get_or_push, length-append, length-take-le}
 use Rattle.fax_bits.specs.declared.Colour.TheVariants.{Black}
 use Rattle.fax_rows.specs.Rows.{other}
 use Rattle.fax_rows.specs.Coded.{colour_of_bit}
@@ -26,26 +26,7 @@ pub record HasPut (old places : List ℕ) (from before word r : ℕ) : Type 0 wh
 ascending_on : (places : List ℕ) (place : ℕ) → IsAscending places (length places)
     → (1 < length places → get_or places (length places - 1) 0 < place)
     → IsAscending (places ++ place ∷ []) (length (places ++ place ∷ []))
-ascending_on places place up right = record {
-  started = omega (arith, len, up.started);
-  within = omega arith;
-  first = get_or_append_left places (place ∷ []) 0 0 up.started ∙ up.first;
-  steps = λ i some h. elim (cases_lt (i + 1) (length places)) [
-    | inl less ↦
-        rw (get_or_append_left places (place ∷ []) 0 i (omega arith), get_or_append_left places (place ∷ []) 0 (i + 1) less)
-        (up.steps i some less)
-    | inr more ↦
-        let end : i + 1 ≡ length places = omega (arith, len) in
-        let before : length places - 1 ≡ i = omega arith in
-        let there : get_or (places ++ place ∷ []) (i + 1) 0 ≡ place =
-        ap (λ n. get_or (places ++ place ∷ []) n 0) end ∙ get_or_push places place 0 (length places) refl in
-        rw (get_or_append_left places (place ∷ []) 0 i (omega arith), there)
-        (subst (λ n. get_or places n 0 < place) before (right (omega arith)))
-  ];
-}
-  where
-    len : length (places ++ place ∷ []) ≡ length places + 1
-    len = length-append places (place ∷ [])
+ascending_on places place up right = grind (arith, common_steps)
 
 -- a pel more: its place is put where it has another colour than the one before it
 pel_put : (one : Bool) (old places : List ℕ) (from before word r : ℕ)

@@ -2,7 +2,7 @@
 use Rattle.std.proofs.Common.{◌≡◌, ◌≢◌, ℕ, zero, suc, ◌+◌, ◌<◌, ◌≤◌, List, [], ◌∷◌, ◌++◌, length, replicate, Bool, refl, ap, sym, ◌∙◌}
 use Rattle.std.proofs.Common.{subst, arith, inl, inr}
 use Rattle.std.specs.Prelude.{ℤ, pos, negsuc, ◌+ℤ◌, ◌<ℤ◌, ◌≤ℤ◌, ◌⊎◌, Option, Some, None, unwrap_or}
-use Rattle.std.proofs.lemmas.Bool.{cases_lt}
+use Rattle.std.proofs.lemmas.Bool.{cases_eq}
 use Rattle.std.proofs.lemmas.Int.{ints, by_lt_z}
 use Rattle.fax_bits.specs.declared.Colour.{Colour}
 use Rattle.fax_bits.specs.declared.modes.ModeCode.{ModeCode}
@@ -73,12 +73,9 @@ IsEndOrFault reference from b = AreStepsToEnd reference from b ⊎ AreStepsToFau
 end_or_not : (a0 : Option ℕ) (width : ℕ) → (a0 ≡ Some width) ⊎ (a0 ≢ Some width)
 end_or_not None width = inr (λ same. cc)
 end_or_not (Some a) width =
-    elim (cases_lt a width) [
-      | inl less ↦ inr (λ same. absurd (omega (arith, ap (λ o. unwrap_or o 0) same)))
-      | inr over ↦ elim (cases_lt width a) [
-        | inl more ↦ inr (λ same. absurd (omega (arith, ap (λ o. unwrap_or o 0) same)))
-        | inr within ↦ inl (ap (λ n. Some n) (omega arith))
-      ]
+    elim (cases_eq a width) [
+      | inl same ↦ inl (ap (λ n. Some n) same)
+      | inr other ↦ inr (λ same. other (ap (λ o. unwrap_or o 0) same))
     ]
 
 module _ (runs_read : (colour : Colour) → ReadsOneWay (run_table colour)) (modes_read : ReadsOneWay modes) where

@@ -1,10 +1,9 @@
 -- Steps with a1 under b1, one after another, over places of change that are copied.
 use Rattle.std.proofs.lemmas.Grind.{common_steps}
 use Rattle.std.proofs.Common.{◌≡◌, ℕ, zero, suc, ◌+◌, ◌-◌, ◌<◌, ◌≤◌, List, [], ◌∷◌, ◌++◌, length, take, get_or, replicate, Bool, ℤ}
-use Rattle.std.proofs.Common.{pos, refl, ap, sym, ◌∙◌, subst, arith, inl, inr, true, rules}
+use Rattle.std.proofs.Common.{pos, refl, ap, sym, ◌∙◌, subst, arith, true, rules}
 use Prim.{search}
-use Rattle.std.specs.Prelude.{◌⊎◌, Some}
-use Rattle.std.proofs.lemmas.Bool.{cases_lt}
+use Rattle.std.specs.Prelude.{Some}
 use Rattle.std.proofs.lemmas.Int.{ints}
 use Rattle.std.proofs.lemmas.List.{take_more, get_or-take}
 use Rattle.fax_bits.specs.declared.Colour.{Colour}
@@ -118,30 +117,10 @@ under_all zero reference at = at
 under_all (suc k) reference at = under_all k reference (under reference at)
 
 module _ (reference : PlacedRow) (places : List ℕ) where
-  -- the last place is left of b1
-  last_left : (at : PlacedReached) → IsReadInside reference places at → at.b1 < reference.end → 1 < at.end
-      → get_or places (at.end - 1) 0 < get_or reference.places.now at.b1 0
-  last_left at here inside some = grind (arith, common_steps)
-
   -- the places ascend with the next one too
   ascending_more : (at : PlacedReached) → IsReadInside reference places at → at.b1 < reference.end
       → get_or places at.end 0 ≡ get_or reference.places.now at.b1 0 → IsAscending places (at.end + 1)
-  ascending_more at here inside is = record {
-    started = omega arith;
-    within = let room = room_left here in omega arith;
-    first = here.so_far.ascending.first;
-    steps = λ i some h. by i some h (cases_lt (i + 1) at.end);
-  }
-    where
-      by : (i : ℕ) → 0 < i → i + 1 < at.end + 1 → (i + 1 < at.end) ⊎ (at.end ≤ i + 1) → get_or places i 0 < get_or places (i + 1) 0
-      by i some h (inl less) = here.so_far.ascending.steps i some less
-      by i some h (inr over) =
-          let last : i + 1 ≡ at.end = omega arith in
-          let before : i ≡ at.end - 1 = omega arith in
-          let less = last_left at here inside (omega arith) in
-          subst (λ m. get_or places i 0 < get_or places m 0) (sym last)
-          (subst (λ n. get_or places n 0 < get_or places at.end 0) (sym before)
-          (subst (λ p. get_or places (at.end - 1) 0 < p) (sym is) less))
+  ascending_more at here inside is = grind (arith, common_steps)
 
   -- the step to b1, whose place stands there already
   module _ (at : PlacedReached) (here : IsReadInside reference places at)
@@ -227,8 +206,7 @@ abbrev pub placed : ℕ → Colour → ℕ → ℕ → PlacedReached
 placed place colour end b1 = record { reached = record { a0 = Some place; colour = colour }; end = end; b1 = b1 }
 
 same_placed : {p q : ℕ} {c d : Colour} {m n i j : ℕ} → p ≡ q → c ≡ d → m ≡ n → i ≡ j → placed p c m i ≡ placed q d n j
-same_placed {q = q} {c = c} {d = d} {m = m} {n = n} {i = i} place colour end b1 =
-    ap (λ x. placed x c m i) place ∙ ap (λ x. placed q x m i) colour ∙ ap (λ x. placed q d x i) end ∙ ap (λ x. placed q d n x) b1
+same_placed {q = q} {c = c} {d = d} {m = m} {n = n} {i = i} place colour end b1 = grind (arith, common_steps)
 
 -- how far it is read after so many steps, one at least
 pub under_all_is : (k : ℕ) (reference : PlacedRow) (at : PlacedReached)

@@ -14,7 +14,7 @@ use Rattle.fax_bits.specs.declared.Colour.TheVariants.{Black}
 use Rattle.fax_rows.specs.declared.put.ChangesAhead.{ChangesAhead}
 use Rattle.fax_rows.specs.declared.rows.PlacedRow.{PlacedRow}
 use Rattle.fax_rows.specs.declared.rows.RowPair.{RowPair}
-use Rattle.fax_rows.specs.Rows.{other, is_right_of, next_change, b1, b2}
+use Rattle.fax_rows.specs.Rows.{other, is_right_of}
 use Rattle.fax_rows.specs.code.ChangesAhead.{AreAhead, IsWrittenTo, mode_from, bits_from, place_from, run_pair}
 use Rattle.fax_rows.specs.code.PlacedRow.{placed_pels, IsBeforeB1, IsB1At}
 use Rattle.fax_rows.specs.code.Turns.{alternate, IsFrom, ArePlacesUpTo}
@@ -124,20 +124,7 @@ module _ {rows : RowPair} {ahead : ChangesAhead} (is : AreAhead rows ahead) wher
   -- the mode that is chosen is that of the step from a0
   pub mode_is : mode_from (placed_pels rows.reference) (placed_pels rows.row) ahead.a0
       ≡ chosen_mode (record { a1 = ahead.a1; a2 = 0; b1 = ahead.b1; b2 = ahead.b2 })
-  mode_is =
-      let reference = placed_pels rows.reference in
-      let row = placed_pels rows.row in
-      sym (ap (λ p. chosen_mode (record { a1 = p; a2 = 0; b1 = ahead.b1; b2 = ahead.b2 })) is.a1
-      ∙ ap (λ p. chosen_mode (record { a1 = next_change row ahead.a0; a2 = 0; b1 = p; b2 = ahead.b2 }))
-      (is.b1 ∙ ap (b1 reference ahead.a0) is.colour)
-      ∙ ap (λ p. chosen_mode (record {
-        a1 = next_change row ahead.a0;
-        a2 = 0;
-        b1 = b1 reference ahead.a0 (colour_of row ahead.a0);
-        b2 =
-            p;
-      }))
-      (is.b2 ∙ ap (b2 reference ahead.a0) is.colour))
+  mode_is = grind (arith, common_steps)
 
   pub horizontal_bits : (mode : ModeCode) → mode ≡ chosen_mode (record { a1 = ahead.a1; a2 = 0; b1 = ahead.b1; b2 = ahead.b2 })
       → mode ≡ Horizontal
