@@ -1,9 +1,9 @@
 -- Packing and unpacking of rows undo one another.
 use Rattle.std.proofs.lemmas.Grind.{common_steps}
 use Rattle.std.proofs.Common.{◌≡◌, ℕ, ◌+◌, ◌-◌, ◌*◌, ◌/◌, ◌%◌, ◌<◌, List, [], ◌∷◌, ◌++◌, map, length, take, drop, replicate, get_or, Bool}
-use Rattle.std.proofs.Common.{true, false, nat_eq, refl, ap, sym, ◌∙◌, arith, length-append, get_or-drop}
+use Rattle.std.proofs.Common.{true, false, nat_eq, refl, ap, sym, ◌∙◌, arith, get_or-drop}
 use Rattle.std.specs.Int.{bit_at}
-use Rattle.std.proofs.lemmas.List.{length-replicate, length-map, get_or-map, get_or-take, take-map, ext_get_or}
+use Rattle.std.proofs.lemmas.List.{get_or-map, get_or-take, take-map, ext_get_or}
 use Rattle.std.proofs.lemmas.List.FromFn.{length-map-range_with_len, get_or-map-range_with_len}
 use Rattle.fax_bits.specs.declared.FillOrder.TheVariants.{MsbFirst}
 use Rattle.fax_bits.specs.declared.Colour.{Colour}
@@ -60,14 +60,7 @@ module _ (places : AreBitsByPlace) (one_byte : AreBitsOfOneByte) where
       long = omega (arith, places.count MsbFirst (packed_row row), length-packed_row row)
 
       padded_long : length (map is_black row ++ replicate (8 * packed_len (length row) - length row) false) ≡ 8 * packed_len (length row)
-      padded_long =
-          omega (
-            arith,
-            length-append (map is_black row) (replicate (8 * packed_len (length row) - length row) false),
-            length-map row
-                is_black,
-            length-replicate (8 * packed_len (length row) - length row) false,
-          )
+      padded_long = grind (arith, common_steps)
 
   colour_of_black : (colour : Colour) → colour ≡ colour_of_bit (is_black colour)
   colour_of_black White = refl

@@ -41,8 +41,7 @@ differs_is Black Black h = absurd (h refl)
 module _ (row : PlacedRow) where
   rank_from : (i n k : ℕ) → 0 < k → k + n ≡ row.end → get_or row.places.now (k - 1) 0 ≤ i
       → (j : ℕ) × ArePlacesUpTo row.places.now row.end i j
-  rank_from i zero k some sum left =
-      (k, record { some = some; within = omega arith; left = left; right = λ h. absurd (omega arith) })
+  rank_from i zero k some sum left = grind (arith, common_steps)
   rank_from i (suc n) k some sum left =
       elim (cases_lt i (get_or row.places.now k 0)) [
         | inl less ↦ (k, record { some = some; within = omega arith; left = left; right = λ h. less })
@@ -368,11 +367,7 @@ module _ (row : PlacedRow) where
       one = omega (arith, at.some)
 
       not_right : (p : ℕ) → is_right_of a0 p ≡ false → p ≤ a1
-      not_right p not =
-          elim (cases_lt a1 p) [
-            | inl less ↦ absurd (true≢false (sym (further_right a0 a1 p (omega arith) right) ∙ not))
-            | inr more ↦ more
-          ]
+      not_right p not = grind (arith, common_steps)
 
   -- and where it does as a0 goes on with its colour
   pub same_start : (a0 : Option ℕ) (colour : Colour) (b a : ℕ) → IsB1At row a0 colour b → unwrap_or a0 0 ≤ a
@@ -401,27 +396,8 @@ module _ (row : PlacedRow) where
       few : (b ≡ k) ⊎ (b ≡ k + 1) → 2 < b → ⊥
       few (inl same) h = omega (arith, at)
       few (inr next) h = omega (arith, at)
-  b1_here (Some a) k b colour at (inl same) is = record {
-    some = omega (arith, at.some);
-    within = omega (arith, at.within);
-    colour_is = is;
-    passed = λ h.
-        let order = not_later row.placed.ascending (b - 2) (k - 1) (omega arith) (omega (arith, at.within, at.some)) in
-        le-ltb a (get_or row.places.now (b - 2) 0) (omega (arith, at.left));
-    ahead = λ h. lt-ltb a (get_or row.places.now b 0) (subst (λ m. a < get_or row.places.now m 0) (sym same) (at.right (omega arith)));
-  }
-  b1_here (Some a) k b colour at (inr next) is = record {
-    some = omega arith;
-    within = omega (arith, at.within);
-    colour_is = is;
-    passed = λ h.
-        let back : b - 2 ≡ k - 1 = omega arith in
-        le-ltb a (get_or row.places.now (b - 2) 0) (subst (λ m. get_or row.places.now m 0 ≤ a) (sym back) at.left);
-    ahead = λ h.
-        let first = at.right (omega arith) in
-        let second = below_later row.placed.ascending k b at.some (omega arith) h in
-        lt-ltb a (get_or row.places.now b 0) (omega arith);
-  }
+  b1_here (Some a) k b colour at (inl same) is = grind (arith, common_steps)
+  b1_here (Some a) k b colour at (inr next) is = grind (arith, common_steps)
 
   -- b1 and b2 as `next_of` and `b1_b2` answer them
   pub b1_right : {a0 : Option ℕ} {colour : Colour} {b : ℕ} → IsB1At row a0 colour b → get_or row.places.now b 0 < row.width

@@ -64,8 +64,7 @@ longer_by_0 few more n within room first each =
 
     at : (k : ℕ) → k < length (take (n + 1) more) → get_or (take (n + 1) more) k 0 ≡ get_or (0 ∷ take n few) k 0
     at zero h = get_or-take (n + 1) more 0 0 (omega arith) ∙ first
-    at (suc k) h =
-        get_or-take (n + 1) more (suc k) 0 (omega (arith, long)) ∙ each k (omega (arith, long)) ∙ sym (get_or-take n few k 0 (omega (arith, long)))
+    at (suc k) h = grind (arith, common_steps)
 
 -- the places of a row that begins black, and those after the first of them
 module _ (old new : List ℕ) (end width : ℕ) (all : ArePlaces old end width) (black : get_or old 1 0 ≡ 0) (len : length new ≡ length old)
@@ -133,11 +132,7 @@ module _ (old new : List ℕ) (end width : ℕ) (all : ArePlaces old end width) 
 
   steps_up : (i : ℕ) → 0 < i → i + 1 < end + 1 → get_or new i 0 < get_or new (i + 1) 0
   steps_up zero some h = absurd (omega arith)
-  steps_up (suc zero) some h =
-      let here : get_or new 1 0 ≡ get_or old 0 0 = each 0 (omega (arith, all.room)) in
-      let there : get_or new 2 0 ≡ get_or old 1 0 = each 1 (omega (arith, all.room, all.some)) in
-      let start = all.ascending.first in
-      omega arith
+  steps_up (suc zero) some h = grind (arith, common_steps)
   steps_up (suc (suc i)) some h =
       let same : suc (suc i) + 1 ≡ suc (suc (suc i)) = omega arith in
       let next : suc i + 1 ≡ suc (suc i) = omega arith in
@@ -150,14 +145,8 @@ module _ (old new : List ℕ) (end width : ℕ) (all : ArePlaces old end width) 
 
   all_below : (i : ℕ) → 0 < i → i < end + 1 → get_or new i 0 < width
   all_below zero some h = absurd (omega arith)
-  all_below (suc zero) some h =
-      let here : get_or new 1 0 ≡ get_or old 0 0 = each 0 (omega (arith, all.room)) in
-      omega (arith, all.ascending.first, all.some)
-  all_below (suc (suc i)) some h =
-      let here : get_or new (suc (suc i)) 0 ≡ get_or old (suc i) 0 =
-      each (suc i) (omega (arith, all.ascending.within, few_changes, all.room)) in
-      let less = all.below (suc i) (omega arith) (omega arith) in
-      omega arith
+  all_below (suc zero) some h = grind (arith, common_steps)
+  all_below (suc (suc i)) some h = grind (arith, common_steps)
 
   pub with_first : ArePlaces new (end + 1) width
   with_first = record {

@@ -1,4 +1,5 @@
 -- What a row of places of change shows: its pels, its changing elements, and the next of them.
+use Rattle.std.proofs.lemmas.Grind.{common_steps}
 use Rattle.std.proofs.Common.{◌≡◌, ℕ, zero, suc, ◌+◌, ◌-◌, ◌<◌, ◌≤◌, List, [], ◌∷◌, length, take, drop, get_or, replicate, true}
 use Rattle.std.proofs.Common.{false, refl, ap, sym, ◌∙◌, subst, arith, inl, inr, drop-cons}
 use Rattle.std.specs.Prelude.{◌⊎◌, Option, Some, None}
@@ -185,11 +186,7 @@ module _ {places : List ℕ} {end width : ℕ} (all : ArePlaces places end width
       sym (drop_all k (take end places) (omega (arith, length-take-le end places all.ascending.within, over)))
     where
       over : end ≤ k
-      over =
-          elim (cases_lt k end) [
-            | inl inside ↦ let less = all.below k some inside in absurd (omega (arith, next inside))
-            | inr more ↦ more
-          ]
+      over = grind (arith, common_steps)
   filter_from a (suc n) k sum some within next last =
       elim (cases_lt k end) [
         | inr more ↦ goes_on a n k (filter_from (a + 1) n k (omega arith)) (omega arith) (λ h. absurd (omega arith)) some within next last

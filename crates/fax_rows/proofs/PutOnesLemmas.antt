@@ -12,7 +12,7 @@ use Rattle.fax_rows.specs.code.Ones.{ones_among}
 use Rattle.fax_rows.specs.code.PackedWord.{word_bit}
 use Rattle.fax_rows.specs.code.Turns.{turned, IsAscending}
 use Rattle.fax_rows.proofs.TurnLemmas.{turned-push_left, turned-push_right}
-use Rattle.fax_rows.proofs.UnpackedWordLemmas.{bit_before, change_bit, changes_of, equal_bits, other_colour, turns_bit}
+use Rattle.fax_rows.proofs.UnpackedWordLemmas.{bit_before, change_bit, changes_of, other_colour, turns_bit}
 
 -- the places of the first r pels of a word are put after the old ones
 pub record HasPut (old places : List ℕ) (from before word r : ℕ) : Type 0 where
@@ -32,20 +32,7 @@ ascending_on places place up right = grind (arith, common_steps)
 pel_put : (one : Bool) (old places : List ℕ) (from before word r : ℕ)
     → one ≡ turns_bit (word_bit word r) (bit_before before word r) → HasPut old places from before word r
     → HasPut old (places ++ (if one then (from + r) ∷ [] else [])) from before word (suc r)
-pel_put false old places from before word r is put =
-    let same = equal_bits (word_bit word r) (bit_before before word r) (sym is) in
-    rw (append-nil places) (record {
-      kept = put.kept;
-      done = λ i h. elim (cases_lt i r) [
-        | inl less ↦ put.done i less
-        | inr more ↦
-            let last : i ≡ r = omega arith in
-            put.after (from + i) (omega arith) ∙ ap colour_of_bit (sym same) ∙ ap (λ n. colour_of_bit (word_bit word n)) (sym last)
-      ];
-      after = λ k h. put.after k (omega arith) ∙ ap colour_of_bit (sym same);
-      ascending = put.ascending;
-      last = λ h. omega (arith, put.last h);
-    })
+pel_put false old places from before word r is put = grind (arith, common_steps)
 pel_put true old places from before word r is put = record {
   kept = λ k h. turned-push_left Black places (from + r) k (omega arith) ∙ put.kept k h;
   done = λ i h. elim (cases_lt i r) [

@@ -100,10 +100,7 @@ module _ (reads : (colour : Colour) → ReadsOneWay (run_table colour)) where
 
   same_fault_at_code : (colour : Colour) (width so_far : ℕ) (b c : List Bool) (fault another : RowFault) → b ≡ c
       → IsAtRunCode colour width so_far b fault → IsAtRunCode colour width so_far c another → fault ≡ another
-  same_fault_at_code colour width so_far b c fault another at (inl none) (inl neither) =
-      let same = (reads colour).code.one_fault b none.0 neither.0 none.1
-      (subst (λ x. IsFaultOf (run_table colour) x neither.0) (sym at) neither.1) in
-      none.2 ∙ ap row_fault same ∙ sym neither.2
+  same_fault_at_code colour width so_far b c fault another at (inl none) (inl neither) = grind (arith, common_steps)
   same_fault_at_code colour width so_far b c fault another at (inl none) (inr some) =
       absurd ((reads colour).code.answer_has_no_fault c some.0 some.1 none.0 some.2
       (subst (λ x. IsFaultOf (run_table colour) x none.0) at none.1))

@@ -33,9 +33,7 @@ AreSteps-append : (reference : List Colour) (first : Position) (b : List Bool) (
     (mid : List Bool) (after : List Position) (new : Position) (rest : List Bool)
     → AreSteps reference first b before old mid → AreSteps reference old mid after new rest
     → AreSteps reference first b (before ++ after) new rest
-AreSteps-append reference first b [] old mid after new rest steps more =
-    subst (λ c. AreSteps reference first c after new rest) (sym steps.1)
-    (subst (λ at. AreSteps reference at mid after new rest) steps.0 more)
+AreSteps-append reference first b [] old mid after new rest steps more = grind (arith, common_steps)
 AreSteps-append reference first b (next ∷ before) old mid after new rest steps more =
     (steps.0, steps.1, steps.2, AreSteps-append reference next steps.1 before old mid after new rest steps.3 more)
 
@@ -50,8 +48,7 @@ all_go_on {reference = reference} {b = b} {old = old} {mid = mid} {new = new} {r
 chosen_on : (reference : List Colour) (b : List Bool) (old : Position) (mid : List Bool) (positions : List Position) (new : Position)
     (rest : List Bool) → IsChosenSoFar reference b old mid → AreChosenSteps reference old mid positions new rest
     → IsChosenSoFar reference b new rest
-chosen_on reference b old mid [] new rest so_far more =
-    subst (λ at. IsChosenSoFar reference b at rest) (sym more.0) (subst (λ c. IsChosenSoFar reference b old c) more.1 so_far)
+chosen_on reference b old mid [] new rest so_far more = grind (arith, common_steps)
 chosen_on reference b old mid (next ∷ positions) new rest so_far more =
     chosen_on reference b next more.1 positions new rest
     (row_goes_on reference b old mid next more.1 so_far more.2 more.0) more.3
@@ -159,11 +156,7 @@ module _ (reference : PlacedRow) (places : List ℕ) where
   pub all_under : (k : ℕ) (at : PlacedReached) (b rest : List Bool) → Spells modes b (replicate k (Vertical (pos 0))) rest
       → IsReadInside reference places at → at.b1 + k ≤ reference.end
       → ((i : ℕ) → i < k → get_or places (at.end + i) 0 ≡ get_or reference.places.now (at.b1 + i) 0) → AreUnder at k b rest
-  all_under zero at b rest spells here inside copied = record {
-    goes_on = record { positions = []; steps = (refl, spells) };
-    chosen = record { positions = []; steps = (refl, spells) };
-    so_far = here.so_far;
-  }
+  all_under zero at b rest spells here inside copied = grind (arith, common_steps)
   all_under (suc k) at b rest spells here inside copied =
       let same : at.end + 0 ≡ at.end = omega arith in
       let again : at.b1 + 0 ≡ at.b1 = omega arith in
@@ -212,9 +205,7 @@ same_placed {q = q} {c = c} {d = d} {m = m} {n = n} {i = i} place colour end b1 
 pub under_all_is : (k : ℕ) (reference : PlacedRow) (at : PlacedReached)
     → placed (get_or reference.places.now (at.b1 + k) 0) (alternate at.reached.colour (suc k)) (at.end + suc k) (at.b1 + suc k)
     ≡ under_all (suc k) reference at
-under_all_is zero reference at =
-    let b1 : at.b1 + 0 ≡ at.b1 = omega arith in
-    same_placed (ap (λ n. get_or reference.places.now n 0) b1) refl refl refl
+under_all_is zero reference at = grind (arith, common_steps)
 under_all_is (suc k) reference at =
     let next = under reference at in
     same_placed

@@ -1,12 +1,11 @@
 -- A row that is written is read back.
 use Rattle.std.proofs.lemmas.Grind.{common_steps}
-use Rattle.std.proofs.Common.{◌≡◌, ◌≢◌, ℕ, zero, suc, ◌+◌, ◌^◌, ◌<◌, ◌≤◌, List, [], ◌∷◌, ◌++◌, length, take, replicate, Bool, true}
+use Rattle.std.proofs.Common.{◌≡◌, ◌≢◌, ℕ, zero, suc, ◌+◌, ◌^◌, ◌<◌, ◌≤◌, List, [], ◌∷◌, ◌++◌, length, take, replicate, Bool}
 use Rattle.std.proofs.Common.{refl, ap, sym, ◌∙◌, subst, arith, inl, inr, append_assoc}
-use Rattle.std.specs.Prelude.{nat_eq, sum, Option, Some, None, unwrap_or}
+use Rattle.std.specs.Prelude.{sum, Option, Some, None}
 use Rattle.std.proofs.Math.Seq.{take-length}
 use Rattle.std.proofs.lemmas.Bool.{cases_lt}
 use Rattle.std.proofs.lemmas.List.{replicate-append-replicate}
-use Rattle.std.proofs.lemmas.Bool.Decides.{nat_tests}
 use Rattle.fax_bits.specs.declared.Colour.{Colour}
 use Rattle.fax_bits.specs.declared.Colour.TheVariants.{White, Black}
 use Rattle.fax_bits.specs.declared.modes.ModeCode.{ModeCode}
@@ -39,9 +38,7 @@ pub step_bits-end : (limit : ℕ) (reference row : List Colour) (a0 : Option ℕ
     → step_bits limit reference row a0 ≡ []
 unfolding step_bits
 step_bits-end zero reference row a0 done = refl
-step_bits-end (suc limit) reference row a0 done =
-    let ends : nat_eq (unwrap_or a0 0) (length row) ≡ true = grind (arith, nat_tests) in
-    rw ends refl
+step_bits-end (suc limit) reference row a0 done = grind (arith, common_steps)
 
 -- elsewhere a step is written, and those after it
 pub step_bits-more : (limit : ℕ) (reference row : List Colour) (a0 : Option ℕ) → first_of a0 < length row
