@@ -1,8 +1,9 @@
 -- Bits that are loaded, and codes that are read from them.
+use Rattle.std.proofs.lemmas.Grind.{common_steps}
 use Rattle.std.proofs.Common.{Bool, true, false, replicate, ◌≡◌, ℕ, ◌+◌, ◌*◌, ◌<◌, ◌≤◌, List, [], ◌∷◌, ◌++◌, length, take, drop, refl, ap}
 use Rattle.std.proofs.Common.{sym, ◌∙◌, subst, arith, append_assoc, length-append, length-drop, inl, inr, ◌⊎◌}
 use Rattle.std.specs.Prelude.{pos}
-use Rattle.std.proofs.lemmas.List.{drop-drop, take-append-drop, take-take, take-replicate}
+use Rattle.std.proofs.lemmas.List.{take-append-drop, take-take, take-replicate}
 use Rattle.fax_bits.specs.declared.FillOrder.{FillOrder}
 use Rattle.fax_bits.specs.declared.window.Window.{Window}
 use Rattle.fax_bits.specs.declared.modes.ModeCode.TheVariants.{Vertical}
@@ -58,9 +59,7 @@ module _ (order : FillOrder) (bytes : List ℕ) (old window : Window) (source : 
     place_after = omega (arith, is.before)
 
     pub left_after_code : drop (place_before after) (bits order bytes) ≡ drop n source.left
-    left_after_code =
-        ap (λ p. drop p (bits order bytes)) (sym place_after) ∙ sym (drop-drop n (place_before old) (bits order bytes))
-        ∙ ap (λ (s : Source). drop n s.left) shown
+    left_after_code = grind (arith, common_steps)
 
     pub end_kept : KeepsEnd source (source_of order bytes (place_before after))
     end_kept =

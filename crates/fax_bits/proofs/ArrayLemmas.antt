@@ -1,4 +1,5 @@
 -- A run table from its codes and their lengths.
+use Rattle.std.proofs.lemmas.Grind.{common_steps}
 use Rattle.std.proofs.Common.{◌≡◌, ℕ, zero, suc, ◌+◌, ◌<◌, List, [], ◌∷◌, length, get_or, refl, arith, ap, ◌∙◌, zero-add}
 use Rattle.std.specs.Prelude.{Some, slice_get}
 use Rattle.fax_bits.specs.declared.codes.CodeEntry.{CodeEntry}
@@ -20,8 +21,7 @@ pub slice_get-run_entries : (first : ℕ) (codes lens : List ℕ) (i : ℕ) → 
     ≡ Some (record { code = get_or codes i 0; len = get_or lens i 0; meaning = run_meaning (first + i) })
 slice_get-run_entries first [] lens i h k = absurd (omega arith)
 slice_get-run_entries first (c ∷ codes) [] i h k = absurd (omega arith)
-slice_get-run_entries first (c ∷ codes) (l ∷ lens) zero h k =
-    let e : first + zero ≡ first = omega arith in rw e
+slice_get-run_entries first (c ∷ codes) (l ∷ lens) zero h k = grind (arith, common_steps)
 slice_get-run_entries first (c ∷ codes) (l ∷ lens) (suc i) h k =
     let e : first + suc i ≡ suc first + i = omega arith in rw e (slice_get-run_entries (suc first) codes lens i (omega arith) (omega arith))
 

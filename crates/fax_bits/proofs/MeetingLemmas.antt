@@ -23,8 +23,7 @@ length-code_bits (suc len) code = ap suc (length-code_bits len code)
 pub get_or-code_bits : (len code i : ℕ) → i < len → get_or (code_bits len code) i false ≡ nat_eq (bit_at code (len - 1 - i)) 1
 unfolding code_bits
 get_or-code_bits zero code i h = absurd (omega arith)
-get_or-code_bits (suc len) code zero h =
-    let e : suc len - 1 - zero ≡ len = omega arith in rw e
+get_or-code_bits (suc len) code zero h = grind (arith, common_steps)
 get_or-code_bits (suc len) code (suc i) h =
     let e : suc len - 1 - suc i ≡ len - 1 - i = omega arith in rw e (get_or-code_bits len code i (omega arith))
 

@@ -1,4 +1,5 @@
 -- The codes of modes by their places in the mode table.
+use Rattle.std.proofs.lemmas.Grind.{common_steps}
 use Rattle.std.proofs.Common.{◌≡◌, List, ◌++◌, Bool, lit<, ℕ, zero, suc, ◌+◌, ◌-◌, ◌/◌, ◌^◌, ◌<◌, ◌≤◌, ℤ, pos, negsuc, unsigned_abs, get_or}
 use Rattle.std.proofs.Common.{map, to_z, of_z, w8, w32, refl, ap, sym, ◌∙◌, arith}
 use Rattle.std.specs.Prelude.{Option, None, Some, slice_get, nat_abs, ◌+ℤ◌}
@@ -116,8 +117,7 @@ mode_bits_are_read (Vertical (pos (suc (suc zero)))) more written =
     takes_mode 4 _ (Vertical (pos 2)) more refl refl (bits_at-right 2 (lit< tt))
 mode_bits_are_read (Vertical (pos (suc (suc (suc zero))))) more written =
     takes_mode 5 _ (Vertical (pos 3)) more refl refl (bits_at-right 3 (lit< tt))
-mode_bits_are_read (Vertical (pos (suc (suc (suc (suc n)))))) more written =
-    absurd (omega (arith, few (pos (suc (suc (suc (suc n))))) written))
+mode_bits_are_read (Vertical (pos (suc (suc (suc (suc n)))))) more written = grind (arith, common_steps)
 mode_bits_are_read (Vertical (negsuc zero)) more written = takes_mode 6 _ (Vertical (negsuc 0)) more refl refl (bits_at-left 0 (lit< tt))
 mode_bits_are_read (Vertical (negsuc (suc zero))) more written =
     takes_mode 7 _ (Vertical (negsuc 1)) more refl refl (bits_at-left 1 (lit< tt))

@@ -57,9 +57,7 @@ pair_at : (number : ℕ) (whites blacks lens : List ℕ) (i : ℕ) → are_pairs
 pair_at number whites blacks [] i are within some = absurd (omega arith)
 pair_at number [] blacks (len ∷ lens) i are within some = cc
 pair_at number (white ∷ whites) [] (len ∷ lens) i are within some = cc
-pair_at number (white ∷ whites) (black ∷ blacks) (len ∷ lens) zero are within some =
-    let e : number + zero ≡ number = omega arith in
-    rw e (is_one number white black len some (and_parts _ (are_pairs (suc number) whites blacks lens) are).0)
+pair_at number (white ∷ whites) (black ∷ blacks) (len ∷ lens) zero are within some = grind (arith, common_steps)
 pair_at number (white ∷ whites) (black ∷ blacks) (len ∷ lens) (suc i) are within some =
     let e : number + suc i ≡ suc number + i = omega arith in
     rw e (pair_at (suc number) whites blacks lens i

@@ -68,9 +68,7 @@ found_at_place table number place entry place_is found =
 past_begins_none : {M : Type 0} (table : List (CodeEntry M)) (width number : ℕ) → length table ≤ place_of table width number
     → (k : ℕ) (entry : CodeEntry M) → k < length table → get_or table k entry ≡ entry → begins entry width number ≡ true → ⊥
 past_begins_none [] width number past k entry within is begun = absurd (omega arith)
-past_begins_none (first ∷ table) width number past zero entry within is begun =
-    let here : begins first width number ≡ true = ap (λ (e : CodeEntry _). begins e width number) is ∙ begun in
-    omega (arith, past, first_place first table width number here)
+past_begins_none (first ∷ table) width number past zero entry within is begun = grind (arith, common_steps)
 past_begins_none (first ∷ table) width number past (suc k) entry within is begun =
     elim (cases_Bool (begins first width number)) [
       | inl here ↦ omega (arith, past, first_place first table width number here)

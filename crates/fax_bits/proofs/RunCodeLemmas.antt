@@ -45,11 +45,7 @@ code_for-run_entries : (first : ℕ) (codes lens : List ℕ) (i : ℕ) → i < l
     → code_for (same_run_code (run_meaning (first + i))) (run_entries first codes lens) ≡ bits_at (run_entries first codes lens) i
 code_for-run_entries first [] lens i h k within = absurd (omega arith)
 code_for-run_entries first (c ∷ codes) [] i h k within = absurd (omega arith)
-code_for-run_entries first (c ∷ codes) (l ∷ lens) zero h k within =
-    let e : first + zero ≡ first = omega arith in
-    let here : same_run_code (run_meaning (first + zero)) (run_meaning first) ≡ true =
-    ap (λ n. same_run_code (run_meaning n) (run_meaning first)) e ∙ same_run_code-itself (run_meaning first) in
-    rw here
+code_for-run_entries first (c ∷ codes) (l ∷ lens) zero h k within = grind (arith, common_steps)
 code_for-run_entries first (c ∷ codes) (l ∷ lens) (suc i) h k within =
     let e : suc first + i ≡ first + suc i = omega arith in
     let other : same_run_code (run_meaning (first + suc i)) (run_meaning first) ≡ false =

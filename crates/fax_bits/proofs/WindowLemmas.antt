@@ -165,9 +165,7 @@ zeros_before count word n more few fits is within = (
 pub first_is_one : (count word : ℕ) → count ≤ 64 → word < 2 ^ 64 → word % 2 ^ (64 - count) ≡ 0
     → nat_eq (word / 2 ^ 63) 1 ≡ get_or (first_bits count word) 0 false
 unfolding code_bits
-first_is_one zero word few fits zeros =
-    let none : word ≡ 0 = omega (arith, zeros, fits) in
-    ap (λ w. nat_eq (w / 2 ^ 63) 1) none
+first_is_one zero word few fits zeros = grind (arith, common_steps)
 first_is_one (suc count) word few fits zeros =
     let places : 64 - suc count + count ≡ 63 = omega arith in
     let top : word / 2 ^ (64 - suc count) / 2 ^ count ≡ word / 2 ^ 63 =

@@ -32,12 +32,7 @@ twice_at_first places i = let at : nat_le 0 i ≡ true = le-leb 0 i (omega arith
 
 -- a 0 that is put before the first place
 pub put_first : (old new rest : List ℕ) → new ≡ 0 ∷ old → old ≡ 0 ∷ rest → IsTurnedFrom old new 0
-put_first old new rest new_is old_is = record {
-  left = λ i h. absurd (omega arith);
-  right = λ i h.
-      ap (λ places. turned Black places i) (new_is ∙ ap (λ places. 0 ∷ places) old_is) ∙ twice_at_first rest i
-      ∙ sym (ap (λ places. other (turned Black places i)) old_is);
-}
+put_first old new rest new_is old_is = grind (arith, common_steps, twice_at_first)
 
 -- and one that is taken away
 pub take_first : (old new rest : List ℕ) → old ≡ 0 ∷ new → new ≡ 0 ∷ rest → IsTurnedFrom old new 0

@@ -1,5 +1,5 @@
 -- A run is read in one way, where the run tables are.
-use Rattle.std.proofs.Common.{◌≡◌, ℕ, zero, suc, ◌+◌, ◌<◌, ◌≤◌, List, [], ◌∷◌, ◌++◌, length, map, Bool, refl, ap, sym, ◌∙◌, subst, arith}
+use Rattle.std.proofs.Common.{◌≡◌, ℕ, zero, suc, ◌+◌, ◌<◌, ◌≤◌, List, [], ◌∷◌, ◌++◌, length, map, Bool, refl, sym, ◌∙◌, subst, arith}
 use Rattle.std.proofs.Common.{inl, inr}
 use Rattle.std.specs.Prelude.{sum, ◌⊎◌}
 use Rattle.std.proofs.lemmas.Bool.{cases_lt}
@@ -58,10 +58,7 @@ module _ (reads : (colour : Colour) → ReadsOneWay (run_table colour)) where
   -- at most one run begins the bits
   pub same_run : {colour : Colour} {b c : List Bool} {n m : ℕ} {rest remaining : List Bool} → b ≡ c
       → IsRun colour b n rest → IsRun colour c m remaining → (n ≡ m) × (rest ≡ remaining)
-  same_run {colour = colour} {b = b} {c = c} {rest = rest} {remaining = remaining} at first second =
-      let same = same_codes colour b c rest remaining first.make_up second.make_up first.last second.last at first.spelled second.spelled in
-      let sums : sum first.make_up ≡ sum second.make_up = ap sum same.0 in
-      (omega (arith, first.length, second.length, sums, same.1), same.2)
+  same_run {colour = colour} {b = b} {c = c} {rest = rest} {remaining = remaining} at first second = grind (arith, common_steps, same_codes)
 
   -- where a code is taken the fault is that code's
   fault_of_taken : (colour : Colour) (width so_far : ℕ) (b c : List Bool) (code : RunCode) (rest : List Bool) (fault : RowFault) → b ≡ c

@@ -1,20 +1,17 @@
 -- A row in two-dimensional coding is read in one way, where the tables are.
 use Rattle.std.proofs.Common.{arith}
 use Rattle.std.proofs.lemmas.Grind.{common_steps}
-use Rattle.std.proofs.Common.{◌≡◌, ℕ, List, [], ◌∷◌, length, Bool, refl, ap, sym, ◌∙◌, subst}
-use Rattle.std.specs.Prelude.{pos, Some}
+use Rattle.std.proofs.Common.{◌≡◌, List, [], ◌∷◌, length, Bool, sym, subst}
+use Rattle.std.specs.Prelude.{Some}
 use Rattle.fax_bits.specs.declared.Colour.{Colour}
 use Rattle.fax_bits.specs.declared.modes.ModeCode.{ModeCode}
 use Rattle.fax_bits.specs.declared.modes.ModeCode.TheVariants.{Pass, Horizontal, Vertical, Extension}
 use Rattle.fax_bits.specs.Codes.{Takes}
 use Rattle.fax_bits.specs.laws.Codes.{ReadsOneWay}
 use Rattle.fax_bits.specs.Tables.{run_table, modes}
-use Rattle.fax_rows.specs.Rows.{Position, beginning, IsStepBy, IsStep, AreSteps}
+use Rattle.fax_rows.specs.Rows.{Position, IsStepBy, IsStep, AreSteps}
 use Rattle.fax_rows.specs.Rows.{IsTwoDimensionalRow}
 use Rattle.fax_rows.proofs.RunLaws.{same_run}
-
-same_place : (m n : ℕ) → pos m ≡ pos n → m ≡ n
-same_place m n same = cc
 
 module _ (runs_read : (colour : Colour) → ReadsOneWay (run_table colour)) (modes_read : ReadsOneWay modes) where
   -- what a mode does is one step
@@ -56,8 +53,4 @@ module _ (runs_read : (colour : Colour) → ReadsOneWay (run_table colour)) (mod
   pub one_two_dimensional_row : (reference : List Colour) (b : List Bool) (row another : List Colour) (rest remaining : List Bool)
       → IsTwoDimensionalRow reference b row rest → IsTwoDimensionalRow reference b another remaining
       → (row ≡ another) × (rest ≡ remaining)
-  one_two_dimensional_row reference b row another rest remaining first second =
-      let same =
-      same_steps reference beginning beginning b b first.positions second.positions first.last second.last rest remaining refl refl
-      first.steps first.ends second.steps second.ends in
-      (first.pels ∙ ap (λ (p : Position). p.pels) same.0 ∙ sym second.pels, same.1)
+  one_two_dimensional_row reference b row another rest remaining first second = grind (arith, common_steps, same_steps)

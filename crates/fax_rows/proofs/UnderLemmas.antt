@@ -73,13 +73,7 @@ pub vertical_goes_on : {reference : PlacedRow} {places : List ℕ} {at : PlacedR
     → (b : List Bool) (new : Position) (rest : List Bool) (d read : ℤ) → Takes modes b (Vertical d) rest
     → IsVerticalStep (placed_pels reference) (placed_position reference.width places at) read new → read ≡ d
     → GoesOn (placed_pels reference) (placed_position reference.width places at) b new rest
-vertical_goes_on {reference} {places} {at} here b new rest d distance taken step same =
-    step_goes_on here b new rest (record {
-      mode = Vertical d;
-      after = rest;
-      taken = taken;
-      step = (subst (λ e. IsVerticalStep (placed_pels reference) (placed_position reference.width places at) e new) same step, refl);
-    })
+vertical_goes_on {reference} {places} {at} here b new rest d distance taken step same = grind (arith, common_steps, step_goes_on)
 
 pub chosen_goes_on : {reference : PlacedRow} {places : List ℕ} {at : PlacedReached} → IsReadInside reference places at
     → (b : List Bool) (new : Position) (rest : List Bool)
@@ -93,13 +87,7 @@ chosen_goes_on {reference} {places} {at} here b new rest step = record {
 -- a place that stands where the next one is to be put
 turned_more : (places : List ℕ) (end place : ℕ) → end < length places → get_or places end 0 ≡ place
     → IsTurnedFrom (take end places) (take (end + 1) places) place
-turned_more places end place room is = record {
-  left = λ i h. ap (λ ps. turned Black ps i) split ∙ turned-push_left Black (take end places) place i h;
-  right = λ i h. ap (λ ps. turned Black ps i) split ∙ turned-push_right Black (take end places) place i h;
-}
-  where
-    split : take (end + 1) places ≡ take end places ++ place ∷ []
-    split = take_more places end 0 room ∙ ap (λ p. take end places ++ p ∷ []) is
+turned_more places end place room is = grind (arith, common_steps, turned-push_left, turned-push_right, take_more)
 
 -- how far the row is read after the step to b1, and after so many of them
 abbrev pub under : PlacedRow → PlacedReached → PlacedReached

@@ -85,12 +85,7 @@ module _ (runs_read : RunBitsAreRead) (modes_taken : ModeBitsAreRead) (reference
       → step_bits (suc limit) reference row a0 ++ more
       ≡ mode_bits (mode_at a0) ++ (run_pair_bits (mode_at a0) row a0 (places reference row a0) ++ (step_bits limit reference row
       (Some (next_at a0)) ++ more))
-  bits_of_step limit a0 more unfinished =
-      ap (λ b. b ++ more) (step_bits-more limit reference row a0 unfinished)
-      ∙ append_assoc (mode_bits (mode_at a0) ++ run_pair_bits (mode_at a0) row a0 (places reference row a0))
-      (step_bits limit reference row (Some (next_at a0))) more
-      ∙ append_assoc (mode_bits (mode_at a0)) (run_pair_bits (mode_at a0) row a0 (places reference row a0))
-      (step_bits limit reference row (Some (next_at a0)) ++ more)
+  bits_of_step limit a0 more unfinished = grind (arith, common_steps, step_bits-more, append_assoc)
 
   back_by_step : (limit : ℕ) (a0 : Option ℕ) (more : List Bool) → first_of a0 < length row
       → (rest : List Bool) → rest ≡ step_bits limit reference row (Some (next_at a0)) ++ more
