@@ -12,7 +12,6 @@ use Rattle.fax_bits.specs.views.Source.{HasZerosAhead, Source, source_of, KeepsE
 use Rattle.fax_bits.specs.Bits.{bits_number}
 use Rattle.fax_bits.specs.Codes.{Takes}
 use Rattle.fax_bits.specs.Tables.{modes}
-use Rattle.fax_bits.specs.code.Window.{first_bits}
 use Rattle.fax_bits.specs.code.BitsAhead.{bits_ahead, IsAhead, place_before}
 use Rattle.fax_bits.proofs.SourceLemmas.{length-left}
 use Rattle.fax_bits.proofs.MeetingLemmas.{length-code_bits}
@@ -45,13 +44,7 @@ module _ (order : FillOrder) (bytes : List ℕ) (old window : Window) (source : 
   loaded_left = same ∙ is.bits_are ∙ ap (λ (s : Source). s.left) shown
 
   loaded-left : window.count ≤ length source.left
-  loaded-left =
-      omega (
-        arith,
-        ap length loaded_left,
-        length-append (first_bits window.count window.bits) (bits order (drop window.at bytes)),
-        length-first_bits window.count window.bits,
-      )
+  loaded-left = grind (arith, common_steps, loaded_left, length-append, length-first_bits)
 
   -- after some of its bits
   module _ (n : ℕ) (after : Window) (short : n ≤ 32) (count : after.count + n ≡ window.count) (at : after.at ≡ window.at) where

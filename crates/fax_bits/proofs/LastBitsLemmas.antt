@@ -1,4 +1,5 @@
 -- What a look-up finds of the last bits of some bytes.
+use Rattle.std.proofs.lemmas.Grind.{common_steps}
 use Rattle.std.proofs.Common.{◌≡◌, ℕ, ◌+◌, ◌≤◌, List, ◌++◌, length, take, drop, replicate, Bool, false, ap, sym, ◌∙◌, arith}
 use Rattle.std.proofs.Common.{append_assoc, length-append}
 use Rattle.std.proofs.Math.Seq.{take-append_seam, drop-append_seam}
@@ -7,7 +8,6 @@ use Rattle.fax_bits.specs.declared.FillOrder.{FillOrder}
 use Rattle.fax_bits.specs.declared.window.Window.{Window}
 use Rattle.fax_bits.specs.Bits.{bits, bits_number, code_bits, BeginsWith}
 use Rattle.fax_bits.specs.views.Source.{Source, source_of}
-use Rattle.fax_bits.specs.code.Window.{first_bits}
 use Rattle.fax_bits.specs.code.BitsAhead.{bits_ahead, IsAhead, place_before}
 use Rattle.fax_bits.specs.code.LookUp.{IsFoundAhead, IsLookedUp}
 use Rattle.fax_bits.proofs.PeekLemmas.{padded}
@@ -16,12 +16,7 @@ use Rattle.fax_bits.proofs.WindowLemmas.{length-first_bits}
 
 -- as many bits as are loaded stand ahead
 pub count_ahead : (order : FillOrder) (bytes : List ℕ) (window : Window) → window.count ≤ length (bits_ahead order bytes window)
-count_ahead order bytes window =
-    omega (
-      arith,
-      length-append (first_bits window.count window.bits) (bits order (drop window.at bytes)),
-      length-first_bits window.count window.bits,
-    )
+count_ahead order bytes window = grind (arith, common_steps, length-append, length-first_bits)
 
 -- what begins bits with zeros after them begins the bits, where they are as many
 pub front_stands : (b : List Bool) (number : ℕ) (front : List Bool) → number ≡ bits_number (take 32 (padded b 32))
@@ -58,15 +53,4 @@ module _ {F : Type 0} (means : List Bool → F → Type 0) (order : FillOrder) (
 
   pub found_last : (source : Source) → source_of order bytes (place_before old) ≡ source
       → IsLookedUp means source found (source_of order bytes (place_before new))
-  found_last source shown =
-      let left = drop (place_before new) (bits order bytes) in
-      let taken : source.left ≡ ahead.front ++ left =
-      sym (ap (λ (s : Source). s.left) shown) ∙ sym is.bits_are ∙ ahead.ahead ∙ ap (λ b. ahead.front ++ b) ahead_still.bits_are in
-      let long : length source.left ≡ length ahead.front + length left = ap length taken ∙ length-append ahead.front left in
-      record {
-        front = ahead.front;
-        meaning = ahead.meaning;
-        taken = taken;
-        same_end = omega (arith, long, found_place, ap (λ (s : Source). s.place) shown);
-        shorter = omega (arith, long, ahead.some);
-      }
+  found_last source shown = grind (arith, common_steps, ahead_still, length-append, found_place)

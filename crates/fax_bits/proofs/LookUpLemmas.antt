@@ -1,9 +1,10 @@
 -- What one look-up finds, and what was read then.
+use Rattle.std.proofs.lemmas.Grind.{common_steps}
 use Rattle.std.proofs.Common.{◌≡◌, ℕ, ◌+◌, ◌*◌, ◌-◌, ◌/◌, ◌%◌, ◌^◌, ◌<◌, ◌≤◌, List, [], ◌++◌, length, Bool, refl, ap, sym, ◌∙◌, subst, arith}
 use Rattle.std.proofs.Common.{append_assoc, append-nil, length-append}
 use Rattle.fax_bits.specs.declared.codes.CodeEntry.{CodeEntry}
 use Rattle.fax_bits.specs.declared.pairs.Pair.{Pair}
-use Rattle.fax_bits.specs.Bits.{White, Black, code_bits}
+use Rattle.fax_bits.specs.Bits.{code_bits}
 use Rattle.fax_bits.specs.Codes.{bits_of, Takes, IsRun}
 use Rattle.fax_bits.specs.Written.{run_bits}
 use Rattle.fax_bits.specs.declared.Colour.{Colour}
@@ -139,38 +140,9 @@ run_taken colour front left pels rest is taken =
 pub pair_begins : (total width : ℕ) (b : List Bool) (len : ℕ) (pair : Pair) → IsPairAhead b len pair
     → total + pair.white + pair.black ≤ width
     → IsBegun (λ front (found : Pair). AreTwoRuns front found × (total + found.white + found.black ≤ width)) b len pair
-pair_begins total width b len pair found within = record {
-  front = code_bits len found.code;
-  ahead = found.ahead;
-  long = length-code_bits len found.code;
-  some = found.some;
-  meaning = (
-    record {
-      white = found.white;
-      black = found.black;
-      short_white = found.short_white;
-      short_black = found.short_black;
-      spelled = found.spelled;
-    },
-    within,
-  );
-}
+pair_begins total width b len pair found within = grind (arith, common_steps, length-code_bits)
 
 -- and are read
 pub pair_taken : (front left : List Bool) (pair : Pair) (rest : List Bool) → AreTwoRuns front pair → left ≡ front ++ rest
     → IsPairRead left pair rest
-pair_taken front left pair rest are is =
-    let middle = run_bits Black pair.black ++ rest in
-    let parts : left ≡ run_bits White pair.white ++ middle =
-    is ∙ ap (λ bits. bits ++ rest) are.spelled ∙ append_assoc (run_bits White pair.white) (run_bits Black pair.black) rest in
-    record {
-      middle = middle;
-      white =
-          subst (λ bits. IsRun White bits pair.white middle) (sym parts)
-          (run_bits_are_read White pair.white middle (omega (arith, are.short_white)));
-      black = run_bits_are_read Black pair.black rest (omega (arith, are.short_black));
-      white_written = parts;
-      black_written = refl;
-      white_some = are.white;
-      black_some = are.black;
-    }
+pair_taken front left pair rest are is = grind (arith, common_steps, append_assoc, run_bits_are_read)

@@ -100,12 +100,7 @@ vertical_short (negsuc (suc (suc (suc n)))) written = absurd (omega (arith, few 
 takes_mode : (place : ℕ) (listed_entry : CodeEntry ModeCode) (mode : ModeCode) (more : List Bool) → slice_get modes place
     ≡ Some listed_entry
     → listed_entry.meaning ≡ mode → bits_at modes place ≡ mode_bits mode → Takes modes (mode_bits mode ++ more) mode more
-takes_mode place listed_entry mode more found means same = record {
-  entry = listed_entry;
-  listed = listed modes place listed_entry found;
-  means = means;
-  spelled = ap (λ b. b ++ more) (sym same ∙ bits_at-found modes place listed_entry found);
-}
+takes_mode place listed_entry mode more found means same = grind (arith, common_steps, listed, bits_at-found)
 
 pub mode_bits_are_read : ModeBitsAreRead
 unfolding modes
@@ -129,13 +124,7 @@ mode_bits_are_read ModeExtension more written = absurd written
 -- a code of the table that is the first of thirteen bits
 pub mode_begins : (number place : ℕ) (entry : CodeEntry ModeCode) → slice_get modes place ≡ Some entry → entry.len ≤ 13
     → number / 2 ^ (13 - entry.len) ≡ entry.code → HasCodeAhead modes (code_bits 13 number) entry.len entry.meaning
-mode_begins number place entry found short is = record {
-  entry = entry;
-  listed = listed modes place entry found;
-  length = refl;
-  means = refl;
-  ahead = code_ahead 13 number entry.len entry.code short is;
-}
+mode_begins number place entry found short is = grind (arith, common_steps, listed, code_ahead)
 
 -- the length of a vertical mode's code, and how far right of b1 a1 is
 abbrev vertical_len : ModeCode → ℕ → ℕ

@@ -48,10 +48,6 @@ are_pairs number (white ∷ whites) (black ∷ blacks) (len ∷ lens) =
 pairs_are : are_pairs 0 PAIRS.whites PAIRS.blacks PAIRS.lens ≡ true
 pairs_are = refl
 
-is_one : (number white black len : ℕ) → 0 < len → (if nat_eq len 0 then true else is_pair number white black len) ≡ true
-    → is_pair number white black len ≡ true
-is_one number white black len some is = grind (arith, common_steps)
-
 pair_at : (number : ℕ) (whites blacks lens : List ℕ) (i : ℕ) → are_pairs number whites blacks lens ≡ true → i < length lens
     → 0 < get_or lens i 0 → is_pair (number + i) (get_or whites i 0) (get_or blacks i 0) (get_or lens i 0) ≡ true
 pair_at number whites blacks [] i are within some = absurd (omega arith)

@@ -99,11 +99,7 @@ first_of_first number width short len in_short in_width =
 
 long_is_low : {M : Type 0} (entry : CodeEntry M) (low number : ℕ) → low ≤ number → (entry.code + 1) * 2 ^ (13 - entry.len) ≤ low
     → number / 2 ^ (13 - entry.len) ≡ entry.code → ⊥
-long_is_low entry low number above below is =
-    let top : number < number / 2 ^ (13 - entry.len) * 2 ^ (13 - entry.len) + 2 ^ (13 - entry.len) =
-    lt-div-mul-add (pow_pos (13 - entry.len)) in
-    let same = ap (λ k. k * 2 ^ (13 - entry.len)) is in
-    omega (arith, top, same, below)
+long_is_low entry low number above below is = grind (arith, common_steps, lt-div-mul-add, pow_pos)
 
 -- the test of one entry
 same_begins : {M : Type 0} (entry : CodeEntry M) (short low number : ℕ) → short ≤ 13 → low ≤ number

@@ -73,12 +73,7 @@ SpelledByOwn colour codes = (more : List Bool) → Spells (run_table colour) (fl
 
 spelled-both : (colour : Colour) (codes others : List RunCode) → SpelledByOwn colour codes → SpelledByOwn colour others
     → SpelledByOwn colour (codes ++ others)
-spelled-both colour codes others first second more =
-    let f = run_code_bits colour in
-    let parts : flat_map f (codes ++ others) ++ more ≡ flat_map f codes ++ (flat_map f others ++ more) =
-    ap (λ b. b ++ more) (flat_map-append f codes others) ∙ append_assoc (flat_map f codes) (flat_map f others) more in
-    subst (λ b. Spells (run_table colour) b (codes ++ others) more) (sym parts)
-    (spells-append (run_table colour) _ (flat_map f others ++ more) more codes others (first (flat_map f others ++ more)) (second more))
+spelled-both colour codes others first second more = grind (arith, common_steps, flat_map-append, append_assoc, spells-append)
 
 spelled-terminating : (colour : Colour) (n : ℕ) → n < 64 → SpelledByOwn colour (Terminating n ∷ [])
 spelled-terminating colour n short more =
@@ -108,11 +103,7 @@ map-replicate zero pels = refl
 map-replicate (suc q) pels = ap (λ codes. MakeUp pels ∷ codes) (map-replicate q pels)
 
 codes_are : (n : ℕ) → map MakeUp (replicate (n / 2560) 2560 ++ rest_pels (n % 2560 / 64)) ++ Terminating (n % 64) ∷ [] ≡ run_codes n
-codes_are n =
-    ap (λ codes. codes ++ Terminating (n % 64) ∷ [])
-    (map-append MakeUp (replicate (n / 2560) 2560) (rest_pels (n % 2560 / 64))
-    ∙ ap (λ codes. codes ++ map MakeUp (rest_pels (n % 2560 / 64))) (map-replicate (n / 2560) 2560)
-    ∙ ap (λ codes. replicate (n / 2560) (MakeUp 2560) ++ codes) (map-rest_pels (n % 2560 / 64)))
+codes_are n = grind (arith, common_steps, map-append, map-replicate, map-rest_pels)
 
 pels_are : (n : ℕ) → sum (replicate (n / 2560) 2560 ++ rest_pels (n % 2560 / 64)) + n % 64 ≡ n
 pels_are n = grind (arith, common_steps)

@@ -1,13 +1,11 @@
 -- The codes of runs by their places in the run tables.
 use Rattle.std.proofs.lemmas.Grind.{common_steps}
-use Rattle.std.proofs.Common.{◌≡◌, ℕ, zero, suc, ◌+◌, ◌*◌, ◌-◌, ◌<◌, ◌≤◌, List, [], ◌∷◌, ◌++◌, length, Bool, true, false, refl, ap, sym}
+use Rattle.std.proofs.Common.{◌≡◌, ℕ, zero, suc, ◌+◌, ◌*◌, ◌-◌, ◌<◌, ◌≤◌, List, [], ◌∷◌, ◌++◌, length, Bool, false, refl, ap, sym}
 use Rattle.std.proofs.Common.{◌∙◌, arith, zero-add}
 use Rattle.std.specs.Prelude.{Some, slice_get}
-use Rattle.std.proofs.lemmas.Bool.Decides.{nat_tests}
 use Rattle.fax_bits.specs.declared.codes.CodeEntry.{CodeEntry}
 use Rattle.fax_bits.specs.declared.Colour.{Colour}
-use Rattle.fax_bits.specs.declared.runs.RunCode.{RunCode}
-use Rattle.fax_bits.specs.declared.runs.RunCode.TheVariants.{Terminating, MakeUp, Extension}
+use Rattle.fax_bits.specs.declared.runs.RunCode.TheVariants.{Terminating, MakeUp}
 use Rattle.fax_bits.specs.Codes.{bits_of, Takes}
 use Rattle.fax_bits.specs.code.Codes.{bits_at}
 use Rattle.fax_bits.specs.Written.{same_run_code, code_for, run_code_bits}
@@ -30,11 +28,6 @@ make_up-at place above below = grind (arith, common_steps)
 
 pub run_meaning-make_up : (steps : ℕ) → 0 < steps → steps ≤ 40 → run_meaning (63 + steps) ≡ MakeUp (64 * steps)
 run_meaning-make_up steps some few = grind (arith, common_steps)
-
-same_run_code-itself : (code : RunCode) → same_run_code code code ≡ true
-same_run_code-itself (Terminating n) = grind (arith, nat_tests)
-same_run_code-itself (MakeUp n) = grind (arith, nat_tests)
-same_run_code-itself Extension = refl
 
 -- codes at two places mean different things
 differ : (i j : ℕ) → i < j → j < 105 → same_run_code (run_meaning j) (run_meaning i) ≡ false
