@@ -1,6 +1,7 @@
 -- Bits that are loaded, and codes that are read from them.
-use Rattle.std.proofs.Common.{Bool, true, replicate, ◌≡◌, ℕ, ◌+◌, ◌*◌, ◌≤◌, List, [], ◌∷◌, ◌++◌, length, take, drop, refl, ap}
-use Rattle.std.proofs.Common.{sym, ◌∙◌, arith, append_assoc, length-append, inl, inr, ◌⊎◌}
+use Rattle.std.proofs.Common.{Bool, true, replicate, ◌≡◌, ℕ, ◌+◌, ◌*◌, ◌≤◌, List, [], ◌∷◌, ◌++◌, length, take, drop, refl, ap, sym, ◌∙◌, arith}
+use Rattle.std.proofs.Common.{append_assoc, length-append, inl, inr, ◌⊎◌}
+use Rattle.std.proofs.lemmas.Grind.{common_steps}
 use Rattle.std.specs.Prelude.{pos}
 use Rattle.std.proofs.lemmas.List.{drop-drop, take-append-drop, take-take, take-replicate}
 use Rattle.fax_bits.specs.declared.FillOrder.{FillOrder}
@@ -10,7 +11,6 @@ use Rattle.fax_bits.specs.Bits.{bits, code_bits}
 use Rattle.fax_bits.specs.views.Source.{HasZerosAhead, Source, source_of, KeepsEnd}
 use Rattle.fax_bits.specs.Bits.{bits_number}
 use Rattle.fax_bits.specs.Tables.{modes}
-use Rattle.fax_bits.specs.code.Window.{first_bits}
 use Rattle.fax_bits.specs.code.BitsAhead.{bits_ahead, IsAhead, place_before}
 use Rattle.fax_bits.specs.code.LookUp.{IsBegun, IsCode, IsLookedUp}
 use Rattle.fax_bits.proofs.SourceLemmas.{length-left}
@@ -65,13 +65,7 @@ module _ (order : FillOrder) (bytes : List ℕ) (old window : Window) (source : 
   loaded_left = same ∙ is.bits_are ∙ ap (λ (s : Source). s.left) shown
 
   loaded-left : window.count ≤ length source.left
-  loaded-left =
-      omega (
-        arith,
-        ap length loaded_left,
-        length-append (first_bits window.count window.bits) (bits order (drop window.at bytes)),
-        length-first_bits window.count window.bits,
-      )
+  loaded-left = grind (arith, common_steps, loaded_left, length-append, length-first_bits)
 
   -- after some of its bits
   module _ (n : ℕ) (after : Window) (short : n ≤ 32) (count : after.count + n ≡ window.count) (at : after.at ≡ window.at) where
@@ -79,9 +73,7 @@ module _ (order : FillOrder) (bytes : List ℕ) (old window : Window) (source : 
     place_after = omega (arith, is.before)
 
     pub left_after_code : drop (place_before after) (bits order bytes) ≡ drop n source.left
-    left_after_code =
-        ap (λ p. drop p (bits order bytes)) (sym place_after) ∙ sym (drop-drop n (place_before old) (bits order bytes))
-        ∙ ap (λ (s : Source). drop n s.left) shown
+    left_after_code = grind (arith, common_steps)
 
     pub end_kept : KeepsEnd source (source_of order bytes (place_before after))
     end_kept =

@@ -1,5 +1,6 @@
 -- A run table from its codes and their lengths.
-use Rattle.std.proofs.Common.{◌≡◌, ℕ, zero, suc, ◌+◌, ◌<◌, List, [], ◌∷◌, length, get_or, refl, arith, ap, ◌∙◌, zero-add}
+use Rattle.std.proofs.lemmas.Grind.{common_steps}
+use Rattle.std.proofs.Common.{◌≡◌, ℕ, zero, suc, ◌+◌, ◌<◌, List, [], ◌∷◌, length, get_or, refl, arith, zero-add}
 use Rattle.std.specs.Prelude.{Some, slice_get}
 use Rattle.fax_bits.specs.declared.codes.CodeEntry.{CodeEntry}
 use Rattle.fax_bits.specs.declared.runs.RunCode.{RunCode}
@@ -20,8 +21,7 @@ pub slice_get-run_entries : (first : ℕ) (codes lens : List ℕ) (i : ℕ) → 
     ≡ Some (record { code = get_or codes i 0; len = get_or lens i 0; meaning = run_meaning (first + i) })
 slice_get-run_entries first [] lens i h k = absurd (omega arith)
 slice_get-run_entries first (c ∷ codes) [] i h k = absurd (omega arith)
-slice_get-run_entries first (c ∷ codes) (l ∷ lens) zero h k =
-    let e : first + zero ≡ first = omega arith in rw e
+slice_get-run_entries first (c ∷ codes) (l ∷ lens) zero h k = grind (arith, common_steps)
 slice_get-run_entries first (c ∷ codes) (l ∷ lens) (suc i) h k =
     let e : first + suc i ≡ suc first + i = omega arith in rw e (slice_get-run_entries (suc first) codes lens i (omega arith) (omega arith))
 
@@ -46,10 +46,4 @@ run_table_is Black = refl
 -- its entry at a place
 pub run_entry_at : (colour : Colour) (place : ℕ) → place < 105 → slice_get (run_table colour) place
     ≡ Some (record { code = get_or (codes_of colour) place 0; len = get_or (lens_of colour) place 0; meaning = run_meaning place })
-run_entry_at colour place within =
-    let lengths = length-codes_of colour in
-    let entry : RunCode → CodeEntry RunCode =
-    λ meaning. record { code = get_or (codes_of colour) place 0; len = get_or (lens_of colour) place 0; meaning = meaning } in
-    ap (λ table. slice_get table place) (run_table_is colour)
-    ∙ slice_get-run_entries 0 (codes_of colour) (lens_of colour) place (omega (arith, lengths.0)) (omega (arith, lengths.1))
-    ∙ ap (λ i. Some (entry (run_meaning i))) (zero-add place)
+run_entry_at colour place within = grind (arith, common_steps, length-codes_of, run_table_is, slice_get-run_entries, zero-add)

@@ -1,5 +1,6 @@
 -- The index arrays hold the places of the code tables.
-use Rattle.std.proofs.Common.{◌≡◌, ℕ, zero, suc, inl, inr, ◌+◌, ◌-◌, ◌/◌, ◌^◌, ◌<◌, ◌≤◌, List, map, get_or, true, refl, ap, sym, ◌∙◌, subst}
+use Rattle.std.proofs.lemmas.Grind.{common_steps}
+use Rattle.std.proofs.Common.{◌≡◌, ℕ, zero, suc, ◌+◌, ◌-◌, ◌/◌, ◌^◌, ◌<◌, ◌≤◌, List, map, get_or, true, refl, ap, sym, ◌∙◌, subst}
 use Rattle.std.proofs.Common.{arith}
 use Rattle.std.specs.List.{range_with_len}
 use Rattle.std.proofs.lemmas.List.FromFn.{get_or-map-range_with_len}
@@ -97,16 +98,8 @@ black_long_first (suc (suc (suc (suc i)))) within = absurd (omega arith)
 
 pub white_short_place : (number : ℕ) → number < 2 ^ 13 → get_or WHITE_SHORT (number / 2 ^ 4) 0 < 104
     → get_or WHITE_SHORT (number / 2 ^ 4) 0 ≡ place_of white_runs 13 number
-white_short_place number within few =
-    elim (cases_lt number 64) [
-      | inl below ↦ absurd (omega (arith, few, white_long_first (number / 2 ^ 4) (omega arith)))
-      | inr above ↦ white_place number above within
-    ]
+white_short_place number within few = grind (arith, common_steps, cases_lt, white_long_first, white_place)
 
 pub black_short_place : (number : ℕ) → number < 2 ^ 13 → get_or BLACK_SHORT (number / 2 ^ 7) 0 < 104
     → get_or BLACK_SHORT (number / 2 ^ 7) 0 ≡ place_of black_runs 13 number
-black_short_place number within few =
-    elim (cases_lt number 512) [
-      | inl below ↦ absurd (omega (arith, few, black_long_first (number / 2 ^ 7) (omega arith)))
-      | inr above ↦ black_place number above within
-    ]
+black_short_place number within few = grind (arith, common_steps, cases_lt, black_long_first, black_place)

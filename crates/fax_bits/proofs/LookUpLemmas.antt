@@ -1,9 +1,10 @@
 -- What one look-up finds, and what was read then.
 use Rattle.std.proofs.Common.{◌≡◌, ℕ, ◌+◌, ◌*◌, ◌/◌, ◌%◌, ◌^◌, ◌≤◌, List, [], ◌++◌, length, Bool, refl, ap, sym, ◌∙◌, subst, arith}
+use Rattle.std.proofs.lemmas.Grind.{common_steps}
 use Rattle.std.proofs.Common.{append_assoc, append-nil, length-append}
 use Rattle.fax_bits.specs.declared.codes.CodeEntry.{CodeEntry}
 use Rattle.fax_bits.specs.declared.pairs.Pair.{Pair}
-use Rattle.fax_bits.specs.Bits.{White, Black, code_bits}
+use Rattle.fax_bits.specs.Bits.{code_bits}
 use Rattle.fax_bits.specs.Codes.{bits_of, Takes, IsRun}
 use Rattle.fax_bits.specs.Written.{run_bits}
 use Rattle.fax_bits.specs.declared.Colour.{Colour}
@@ -154,18 +155,4 @@ pair_begins b len pair found = record {
 -- and are read
 pub pair_taken : (front left : List Bool) (pair : Pair) (rest : List Bool) → AreTwoRuns front pair → left ≡ front ++ rest
     → IsPairRead left pair rest
-pair_taken front left pair rest are is =
-    let middle = run_bits Black pair.black ++ rest in
-    let parts : left ≡ run_bits White pair.white ++ middle =
-    is ∙ ap (λ bits. bits ++ rest) are.spelled ∙ append_assoc (run_bits White pair.white) (run_bits Black pair.black) rest in
-    record {
-      middle = middle;
-      white =
-          subst (λ bits. IsRun White bits pair.white middle) (sym parts)
-          (run_bits_are_read White pair.white middle (omega (arith, are.short_white)));
-      black = run_bits_are_read Black pair.black rest (omega (arith, are.short_black));
-      white_written = parts;
-      black_written = refl;
-      white_some = are.white;
-      black_some = are.black;
-    }
+pair_taken front left pair rest are is = grind (arith, common_steps, append_assoc, run_bits_are_read)

@@ -1,5 +1,6 @@
 -- The codes of modes by their places in the mode table.
 use Rattle.std.proofs.Common.{◌≡◌, List, ◌++◌, Bool, lit<, ℕ, zero, suc, ◌-◌, ◌/◌, ◌^◌, ◌<◌, ◌≤◌, ℤ, pos, negsuc, unsigned_abs, get_or}
+use Rattle.std.proofs.lemmas.Grind.{common_steps}
 use Rattle.std.proofs.Common.{map, to_z, of_z, w8, w32, refl, ap, sym, ◌∙◌, arith}
 use Rattle.std.specs.Prelude.{Option, None, Some, slice_get, nat_abs, ◌+ℤ◌}
 use Rattle.fax_bits.specs.declared.indexes.TheConstants.{MODE_PLACES, VERTICAL_MODES}
@@ -79,13 +80,7 @@ mode_bits_are_read ModeExtension more written = absurd written
 -- a code of the table that is the first of thirteen bits
 pub mode_begins : (number place : ℕ) (entry : CodeEntry ModeCode) → slice_get modes place ≡ Some entry → entry.len ≤ 13
     → number / 2 ^ (13 - entry.len) ≡ entry.code → HasCodeAhead modes (code_bits 13 number) entry.len entry.meaning
-mode_begins number place entry found short is = record {
-  entry = entry;
-  listed = listed modes place entry found;
-  length = refl;
-  means = refl;
-  ahead = code_ahead 13 number entry.len entry.code short is;
-}
+mode_begins number place entry found short is = grind (arith, common_steps, listed, code_ahead)
 
 -- the length of a vertical mode's code, and how far right of b1 a1 is
 abbrev vertical_len : ModeCode → ℕ → ℕ

@@ -1,9 +1,9 @@
 -- The arrays of the pairs hold two codes each: a white terminating code and a black one after it.
+use Rattle.std.proofs.lemmas.Grind.{common_steps}
 use Rattle.std.proofs.Common.{◌≡◌, ℕ, zero, suc, ◌+◌, ◌-◌, ◌*◌, ◌/◌, ◌%◌, ◌^◌, ◌<◌, ◌≤◌, List, [], ◌∷◌, ◌++◌, map, length, get_or, Bool, true, false}
 use Rattle.std.proofs.Common.{if◌then◌else◌, refl, ap, sym, ◌∙◌, subst, arith, zero-add}
 use Rattle.std.specs.Prelude.{◌&&◌, nat_lt, nat_le, nat_eq}
-use Rattle.std.proofs.lemmas.Bool.{and_parts, eqb-true, leb-true, ltb-true}
-use Rattle.std.proofs.lemmas.Bool.Decides.{nat_tests}
+use Rattle.std.proofs.lemmas.Bool.{and_parts}
 use Rattle.std.proofs.lemmas.List.FromFn.{get_or-map-range_with_len}
 use Rattle.std.proofs.lemmas.Nat.{mul-add-lt, pow-add}
 use Rattle.std.proofs.Math.Nat.{div-div-eq-div-mul, pow-succ'}
@@ -48,19 +48,12 @@ are_pairs number (white ∷ whites) (black ∷ blacks) (len ∷ lens) =
 pairs_are : are_pairs 0 PAIRS.whites PAIRS.blacks PAIRS.lens ≡ true
 pairs_are = refl
 
-is_one : (number white black len : ℕ) → 0 < len → (if nat_eq len 0 then true else is_pair number white black len) ≡ true
-    → is_pair number white black len ≡ true
-is_one number white black len some is =
-    let not_none : nat_eq len 0 ≡ false = grind (arith, nat_tests) in rw not_none at is
-
 pair_at : (number : ℕ) (whites blacks lens : List ℕ) (i : ℕ) → are_pairs number whites blacks lens ≡ true → i < length lens
     → 0 < get_or lens i 0 → is_pair (number + i) (get_or whites i 0) (get_or blacks i 0) (get_or lens i 0) ≡ true
 pair_at number whites blacks [] i are within some = absurd (omega arith)
 pair_at number [] blacks (len ∷ lens) i are within some = cc
 pair_at number (white ∷ whites) [] (len ∷ lens) i are within some = cc
-pair_at number (white ∷ whites) (black ∷ blacks) (len ∷ lens) zero are within some =
-    let e : number + zero ≡ number = omega arith in
-    rw e (is_one number white black len some (and_parts _ (are_pairs (suc number) whites blacks lens) are).0)
+pair_at number (white ∷ whites) (black ∷ blacks) (len ∷ lens) zero are within some = grind (arith, common_steps)
 pair_at number (white ∷ whites) (black ∷ blacks) (len ∷ lens) (suc i) are within some =
     let e : number + suc i ≡ suc number + i = omega arith in
     rw e (pair_at (suc number) whites blacks lens i
@@ -77,22 +70,7 @@ pub record IsPair (number white black len : ℕ) : Type 0 where
   pub spelled : number / 2 ^ (12 - len) ≡ get_or WHITE_CODES white 0 * 2 ^ get_or BLACK_LENS black 0 + get_or BLACK_CODES black 0
 
 from_test : (number white black len : ℕ) → is_pair number white black len ≡ true → IsPair number white black len
-from_test number white black len is =
-    let one = and_parts (nat_lt 0 white) _ is in
-    let two = and_parts (nat_lt 0 black) _ one.1 in
-    let three = and_parts (nat_lt white 64) _ two.1 in
-    let four = and_parts (nat_lt black 64) _ three.1 in
-    let five = and_parts (nat_le len 12) _ four.1 in
-    let six = and_parts (nat_eq len (get_or WHITE_LENS white 0 + get_or BLACK_LENS black 0)) (spells_pair number white black len) five.1 in
-    record {
-      white_some = ltb-true 0 white one.0;
-      black_some = ltb-true 0 black two.0;
-      white_short = ltb-true white 64 three.0;
-      black_short = ltb-true black 64 four.0;
-      within = leb-true len 12 five.0;
-      len_is = eqb-true len _ six.0;
-      spelled = eqb-true (number / 2 ^ (12 - len)) _ six.1;
-    }
+from_test number white black len is = grind (arith, common_steps)
 
 pub found : (number : ℕ) → number < 4096 → 0 < get_or PAIRS.lens number 0
     → IsPair number (get_or PAIRS.whites number 0) (get_or PAIRS.blacks number 0) (get_or PAIRS.lens number 0)

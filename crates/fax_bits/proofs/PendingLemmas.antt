@@ -1,15 +1,14 @@
 -- Bits that wait for a sink, and go to it word by word.
-use Rattle.std.proofs.Common.{◌≡◌, ℕ, ◌+◌, ◌*◌, ◌%◌, ◌^◌, ◌<◌, List, [], ◌++◌, length, Bool}
-use Rattle.std.proofs.Common.{ap, sym, ◌∙◌, arith, append_assoc, append-nil}
-use Rattle.std.specs.Prelude.{bit_or, flat_map}
-use Rattle.std.proofs.lemmas.List.Concat.{flat_map-append}
+use Rattle.std.proofs.lemmas.Grind.{common_steps}
+use Rattle.std.proofs.Common.{◌≡◌, ℕ, ◌+◌, ◌*◌, ◌%◌, ◌^◌, ◌<◌, List, ◌++◌, length, Bool}
+use Rattle.std.proofs.Common.{ap, sym, ◌∙◌, arith}
+use Rattle.std.specs.Prelude.{bit_or}
 use Rattle.fax_bits.specs.declared.Colour.{Colour}
 use Rattle.fax_bits.specs.Bits.{code_bits}
-use Rattle.fax_bits.specs.Written.{run_codes, run_code_bits, run_bits}
+use Rattle.fax_bits.specs.Written.{run_codes, run_bits}
 use Rattle.fax_bits.specs.code.Sink.{AreWaiting}
 use Rattle.fax_bits.specs.views.Sink.{Sink, Appends, AppendsPrefix, AppendsAllBut, AppendsCodes}
 use Rattle.fax_bits.proofs.CodeBitsLemmas.{length-code_bits}
-use Rattle.fax_bits.proofs.PutLemmas.{appends-then}
 use Rattle.fax_bits.proofs.SinkLemmas.{joined-lt, joined_bits}
 
 -- how many bits wait
@@ -29,28 +28,14 @@ module _ (count number next_count next_number : ℕ) (first : AreWaiting count n
 
 -- where all bits are left
 pub all_left : (sink : Sink) (all left : List Bool) → left ≡ all → AppendsAllBut sink all left sink
-all_left sink all left same = record {
-  done = [];
-  appended = ap (λ b. record { order = sink.order; bits = b }) (sym (append-nil sink.bits));
-  parts = sym same;
-}
+all_left sink all left same = grind (arith, common_steps)
 
 pub prefix-second : (old mid new : Sink) (first second : List Bool) → Appends old first mid → AppendsPrefix mid second new
     → AppendsPrefix old (first ++ second) new
-prefix-second old mid new first second one two = record {
-  done = first ++ two.done;
-  missing = two.missing;
-  appended = appends-then old mid new first two.done one two.appended;
-  parts = ap (λ b. first ++ b) two.parts ∙ sym (append_assoc first two.done two.missing);
-}
+prefix-second old mid new first second one two = grind (arith, common_steps)
 
 -- whole codes of a run are a part of its bits
 pub bits_of_codes : (colour : Colour) (n : ℕ) (old new : Sink) → AppendsCodes old colour (run_codes n) new
     → AppendsPrefix old (run_bits colour n) new
 unfolding run_bits
-bits_of_codes colour n old new codes = record {
-  done = flat_map (run_code_bits colour) codes.done;
-  missing = flat_map (run_code_bits colour) codes.missing;
-  appended = codes.appended;
-  parts = ap (flat_map (run_code_bits colour)) codes.parts ∙ flat_map-append (run_code_bits colour) codes.done codes.missing;
-}
+bits_of_codes colour n old new codes = grind (arith, common_steps)

@@ -1,8 +1,9 @@
 -- A code that is found by its place in a table.
+use Rattle.std.proofs.lemmas.Grind.{common_steps}
 use Rattle.std.proofs.Common.{◌≡◌, ℕ, zero, suc, ◌+◌, ◌-◌, ◌*◌, ◌/◌, ◌%◌, ◌^◌, ◌<◌, ◌≤◌, List, [], ◌∷◌, ◌++◌, length, get_or, Bool, true}
-use Rattle.std.proofs.Common.{false, nat_eq, refl, ap, sym, ◌∙◌, subst, arith, inl, inr, append_assoc, length-append}
+use Rattle.std.proofs.Common.{false, refl, ap, sym, ◌∙◌, subst, arith, inl, inr, append_assoc, length-append}
 use Rattle.std.specs.Prelude.{◌&&◌, ◌||◌, Option, Some, None, MatchOption, slice_get, Contains, nat_le}
-use Rattle.std.proofs.lemmas.Bool.{and_parts, and_from, cases_Bool, eqb-true, eq-eqb, le-leb, leb-true, or_cases}
+use Rattle.std.proofs.lemmas.Bool.{and_parts, cases_Bool, leb-true, or_cases}
 use Rattle.std.proofs.lemmas.Nat.{pow-add, pow_pos, shl_below, shl-shr}
 use Rattle.std.proofs.Math.Nat.{div-div-eq-div-mul, lt-div-mul-add}
 use Rattle.fax_bits.specs.declared.codes.CodeEntry.{CodeEntry}
@@ -20,15 +21,11 @@ use Rattle.fax_bits.proofs.TableLemmas.{listed}
 -- what it says that an entry begins the bits
 begins_true : {M : Type 0} (entry : CodeEntry M) (width number : ℕ) → begins entry width number ≡ true
     → (entry.len ≤ width) × (number / 2 ^ (width - entry.len) ≡ entry.code)
-begins_true entry width number h =
-    let both = and_parts (nat_le entry.len width) (nat_eq (number / 2 ^ (width - entry.len)) entry.code) h in
-    (leb-true entry.len width both.0, eqb-true _ _ both.1)
+begins_true entry width number h = grind (arith, common_steps)
 
 pub begins_from : {M : Type 0} (entry : CodeEntry M) (width number : ℕ) → entry.len ≤ width → number / 2 ^ (width - entry.len) ≡ entry.code
     → begins entry width number ≡ true
-begins_from entry width number short is =
-    and_from (nat_le entry.len width) (nat_eq (number / 2 ^ (width - entry.len)) entry.code)
-    (le-leb entry.len width short) (eq-eqb _ _ is)
+begins_from entry width number short is = grind (arith, common_steps)
 
 -- the place of the first entry, by what it is
 first_place : {M : Type 0} (first : CodeEntry M) (table : List (CodeEntry M)) (width number : ℕ) → begins first width number ≡ true
@@ -71,9 +68,7 @@ found_at_place table number place entry place_is found =
 past_begins_none : {M : Type 0} (table : List (CodeEntry M)) (width number : ℕ) → length table ≤ place_of table width number
     → (k : ℕ) (entry : CodeEntry M) → k < length table → get_or table k entry ≡ entry → begins entry width number ≡ true → ⊥
 past_begins_none [] width number past k entry within is begun = absurd (omega arith)
-past_begins_none (first ∷ table) width number past zero entry within is begun =
-    let here : begins first width number ≡ true = ap (λ (e : CodeEntry _). begins e width number) is ∙ begun in
-    omega (arith, past, first_place first table width number here)
+past_begins_none (first ∷ table) width number past zero entry within is begun = grind (arith, common_steps)
 past_begins_none (first ∷ table) width number past (suc k) entry within is begun =
     elim (cases_Bool (begins first width number)) [
       | inl here ↦ omega (arith, past, first_place first table width number here)
@@ -104,11 +99,7 @@ first_of_first number width short len in_short in_width =
 
 long_is_low : {M : Type 0} (entry : CodeEntry M) (low number : ℕ) → low ≤ number → (entry.code + 1) * 2 ^ (13 - entry.len) ≤ low
     → number / 2 ^ (13 - entry.len) ≡ entry.code → ⊥
-long_is_low entry low number above below is =
-    let top : number < number / 2 ^ (13 - entry.len) * 2 ^ (13 - entry.len) + 2 ^ (13 - entry.len) =
-    lt-div-mul-add (pow_pos (13 - entry.len)) in
-    let same = ap (λ k. k * 2 ^ (13 - entry.len)) is in
-    omega (arith, top, same, below)
+long_is_low entry low number above below is = grind (arith, common_steps, lt-div-mul-add, pow_pos)
 
 -- the test of one entry
 same_begins : {M : Type 0} (entry : CodeEntry M) (short low number : ℕ) → short ≤ 13 → low ≤ number

@@ -1,6 +1,7 @@
 -- A table that keeps its rules is read in one way.
+use Rattle.std.proofs.lemmas.Grind.{common_steps}
 use Rattle.std.proofs.Common.{◌≡◌, List, [], ◌∷◌, ◌++◌, length, length-append, Bool, refl, ap, sym, ◌∙◌, arith, inl, inr}
-use Rattle.std.specs.Prelude.{◌⊎◌, Contains, Some, slice_get}
+use Rattle.std.specs.Prelude.{◌⊎◌, Contains}
 use Rattle.std.proofs.lemmas.List.{append_cancel_left}
 use Rattle.std.proofs.lemmas.Option.{slice_get_read}
 use Rattle.fax_bits.specs.declared.codes.CodeEntry.{CodeEntry}
@@ -25,21 +26,12 @@ one_starts_the_other (x ∷ a) (y ∷ b) r s is =
 took_same : {M : Type 0} (table : List (CodeEntry M)) (b : List Bool) (meaning other : M) (rest remaining : List Bool)
     → (first : Takes table b meaning rest) → (second : Takes table b other remaining) → first.entry ≡ second.entry
     → (meaning ≡ other) × (rest ≡ remaining)
-took_same table b meaning other rest remaining first second same = (
-  sym first.means ∙ ap (λ (e : CodeEntry _). e.meaning) same ∙ second.means,
-  append_cancel_left (bits_of first.entry) rest remaining
-      (sym first.spelled ∙ second.spelled ∙ ap (λ (e : CodeEntry _). bits_of e ++ remaining) (sym same)),
-)
+took_same table b meaning other rest remaining first second same = grind (arith, common_steps, append_cancel_left)
 
 -- an entry whose code begins the code of another is that entry
 same_entry : {M : Type 0} (table : List (CodeEntry M)) (entry other : CodeEntry M) (more : List Bool) → IsPrefixFree table
     → Contains table entry → Contains table other → bits_of other ≡ bits_of entry ++ more → entry ≡ other
-same_entry table entry other more free here there is =
-    let at : slice_get table here.0 ≡ Some entry = slice_get_read table (length table) here.0 entry refl here.1 (sym here.2) in
-    let at_other : slice_get table there.0 ≡ Some other = slice_get_read table (length table) there.0 other refl there.1 (sym there.2) in
-    let place : here.0 ≡ there.0 = free here.0 there.0 entry other more at at_other is in
-    let found : Some entry ≡ Some other = sym at ∙ ap (slice_get table) place ∙ at_other in
-    cc
+same_entry table entry other more free here there is = grind (arith, common_steps, slice_get_read)
 
 pub takes_one : {M : Type 0} (table : List (CodeEntry M)) → IsPrefixFree table → HasOneAnswer (Takes table)
 takes_one table free b meaning other rest remaining first second =

@@ -1,12 +1,11 @@
 -- Runs that are written are read again, and as nothing else.
+use Rattle.std.proofs.lemmas.Grind.{common_steps}
 use Rattle.std.proofs.Common.{◌≡◌, ℕ, zero, suc, ◌+◌, ◌*◌, ◌/◌, ◌%◌, ◌<◌, ◌≤◌, List, [], ◌∷◌, ◌++◌, map, replicate, Bool, false, nat_eq}
-use Rattle.std.proofs.Common.{refl, ap, sym, ◌∙◌, subst, arith, append_assoc, append-nil, zero-add}
+use Rattle.std.proofs.Common.{refl, ap, sym, ◌∙◌, subst, arith, append_assoc, append-nil}
 use Rattle.std.specs.Prelude.{sum, flat_map}
 use Rattle.std.proofs.lemmas.List.Concat.{flat_map-append}
 use Rattle.std.proofs.lemmas.Bool.Decides.{nat_tests}
 use Rattle.std.proofs.lemmas.List.{map-append}
-use Rattle.std.proofs.lemmas.List.Folds.{sum_by-replicate}
-use Rattle.std.proofs.lemmas.List.Sums.{sum_by-append}
 use Rattle.fax_bits.specs.declared.codes.CodeEntry.{CodeEntry}
 use Rattle.fax_bits.specs.declared.Colour.{Colour}
 use Rattle.fax_bits.specs.declared.runs.RunCode.{RunCode}
@@ -74,12 +73,7 @@ SpelledByOwn colour codes = (more : List Bool) → Spells (run_table colour) (fl
 
 spelled-both : (colour : Colour) (codes others : List RunCode) → SpelledByOwn colour codes → SpelledByOwn colour others
     → SpelledByOwn colour (codes ++ others)
-spelled-both colour codes others first second more =
-    let f = run_code_bits colour in
-    let parts : flat_map f (codes ++ others) ++ more ≡ flat_map f codes ++ (flat_map f others ++ more) =
-    ap (λ b. b ++ more) (flat_map-append f codes others) ∙ append_assoc (flat_map f codes) (flat_map f others) more in
-    subst (λ b. Spells (run_table colour) b (codes ++ others) more) (sym parts)
-    (spells-append (run_table colour) _ (flat_map f others ++ more) more codes others (first (flat_map f others ++ more)) (second more))
+spelled-both colour codes others first second more = grind (arith, common_steps, flat_map-append, append_assoc, spells-append)
 
 spelled-terminating : (colour : Colour) (n : ℕ) → n < 64 → SpelledByOwn colour (Terminating n ∷ [])
 spelled-terminating colour n short more =
@@ -104,29 +98,15 @@ map-rest_pels : (steps : ℕ) → map MakeUp (rest_pels steps) ≡ one_make_up s
 map-rest_pels zero = refl
 map-rest_pels (suc k) = sym (one_make_up-suc k)
 
-sum-rest_pels : (steps : ℕ) → sum (rest_pels steps) ≡ 64 * steps
-sum-rest_pels zero = refl
-sum-rest_pels (suc k) = omega (arith, zero-add (64 * suc k))
-
 map-replicate : (q pels : ℕ) → map MakeUp (replicate q pels) ≡ replicate q (MakeUp pels)
 map-replicate zero pels = refl
 map-replicate (suc q) pels = ap (λ codes. MakeUp pels ∷ codes) (map-replicate q pels)
 
 codes_are : (n : ℕ) → map MakeUp (replicate (n / 2560) 2560 ++ rest_pels (n % 2560 / 64)) ++ Terminating (n % 64) ∷ [] ≡ run_codes n
-codes_are n =
-    ap (λ codes. codes ++ Terminating (n % 64) ∷ [])
-    (map-append MakeUp (replicate (n / 2560) 2560) (rest_pels (n % 2560 / 64))
-    ∙ ap (λ codes. codes ++ map MakeUp (rest_pels (n % 2560 / 64))) (map-replicate (n / 2560) 2560)
-    ∙ ap (λ codes. replicate (n / 2560) (MakeUp 2560) ++ codes) (map-rest_pels (n % 2560 / 64)))
+codes_are n = grind (arith, common_steps, map-append, map-replicate, map-rest_pels)
 
 pels_are : (n : ℕ) → sum (replicate (n / 2560) 2560 ++ rest_pels (n % 2560 / 64)) + n % 64 ≡ n
-pels_are n =
-    omega (
-      arith,
-      sum_by-append (λ (x : ℕ). x) (replicate (n / 2560) 2560) (rest_pels (n % 2560 / 64)),
-      sum_by-replicate (λ (x : ℕ). x) (n / 2560) 2560,
-      sum-rest_pels (n % 2560 / 64),
-    )
+pels_are n = grind (arith, common_steps)
 
 pub run_bits_are_read : RunBitsAreRead
 unfolding run_bits

@@ -1,13 +1,11 @@
 -- The codes of runs by their places in the run tables.
-use Rattle.std.proofs.Common.{◌≡◌, ℕ, zero, suc, ◌+◌, ◌*◌, ◌-◌, ◌<◌, ◌≤◌, List, [], ◌∷◌, ◌++◌, length, Bool, true, false, refl, ap, sym}
-use Rattle.std.proofs.Common.{◌∙◌, arith, inl, inr, zero-add}
-use Rattle.std.specs.Prelude.{Some, slice_get, nat_lt, nat_eq}
-use Rattle.std.proofs.lemmas.Bool.{cases_lt}
-use Rattle.std.proofs.lemmas.Bool.Decides.{nat_tests}
+use Rattle.std.proofs.lemmas.Grind.{common_steps}
+use Rattle.std.proofs.Common.{◌≡◌, ℕ, zero, suc, ◌+◌, ◌*◌, ◌-◌, ◌<◌, ◌≤◌, List, [], ◌∷◌, ◌++◌, length, Bool, false, refl, ap, sym}
+use Rattle.std.proofs.Common.{◌∙◌, arith, zero-add}
+use Rattle.std.specs.Prelude.{Some, slice_get}
 use Rattle.fax_bits.specs.declared.codes.CodeEntry.{CodeEntry}
 use Rattle.fax_bits.specs.declared.Colour.{Colour}
-use Rattle.fax_bits.specs.declared.runs.RunCode.{RunCode}
-use Rattle.fax_bits.specs.declared.runs.RunCode.TheVariants.{Terminating, MakeUp, Extension}
+use Rattle.fax_bits.specs.declared.runs.RunCode.TheVariants.{Terminating, MakeUp}
 use Rattle.fax_bits.specs.Codes.{bits_of, Takes}
 use Rattle.fax_bits.specs.code.Codes.{bits_at}
 use Rattle.fax_bits.specs.Written.{same_run_code, code_for, run_code_bits}
@@ -23,62 +21,24 @@ bits_at-found (first ∷ table) zero entry found = let same : first ≡ entry = 
 bits_at-found (first ∷ table) (suc place) entry found = bits_at-found table place entry found
 
 pub run_meaning-terminating : (n : ℕ) → n < 64 → run_meaning n ≡ Terminating n
-run_meaning-terminating n short =
-    let below : nat_lt n 64 ≡ true = grind (arith, nat_tests) in rw below
+run_meaning-terminating n short = grind (arith, common_steps)
 
 pub make_up-at : (place : ℕ) → 64 ≤ place → place < 104 → run_meaning place ≡ MakeUp (64 * (place - 63))
-make_up-at place above below =
-    let not_terminating : nat_lt place 64 ≡ false = grind (arith, nat_tests) in
-    let make_up : nat_lt place 104 ≡ true = grind (arith, nat_tests) in
-    rw (not_terminating, make_up)
-
-pub extension-at : (place : ℕ) → 104 ≤ place → run_meaning place ≡ Extension
-extension-at place above =
-    let not_terminating : nat_lt place 64 ≡ false = grind (arith, nat_tests) in
-    let not_make_up : nat_lt place 104 ≡ false = grind (arith, nat_tests) in
-    rw (not_terminating, not_make_up)
+make_up-at place above below = grind (arith, common_steps)
 
 pub run_meaning-make_up : (steps : ℕ) → 0 < steps → steps ≤ 40 → run_meaning (63 + steps) ≡ MakeUp (64 * steps)
-run_meaning-make_up steps some few =
-    let e : 63 + steps - 63 ≡ steps = omega arith in
-    make_up-at (63 + steps) (omega arith) (omega arith) ∙ ap (λ n. MakeUp (64 * n)) e
-
-same_run_code-itself : (code : RunCode) → same_run_code code code ≡ true
-same_run_code-itself (Terminating n) = grind (arith, nat_tests)
-same_run_code-itself (MakeUp n) = grind (arith, nat_tests)
-same_run_code-itself Extension = refl
-
-apart : (n m : ℕ) → m < n → nat_eq n m ≡ false
-apart n m h = grind (arith, nat_tests)
+run_meaning-make_up steps some few = grind (arith, common_steps)
 
 -- codes at two places mean different things
 differ : (i j : ℕ) → i < j → j < 105 → same_run_code (run_meaning j) (run_meaning i) ≡ false
-differ i j order within =
-    elim (cases_lt i 64) [
-      | inl i_low ↦ elim (cases_lt j 64) [
-        | inl j_low ↦ rw (run_meaning-terminating j j_low, run_meaning-terminating i i_low) (apart j i order)
-        | inr j_high ↦ elim (cases_lt j 104) [
-          | inl j_middle ↦ rw (make_up-at j j_high j_middle, run_meaning-terminating i i_low)
-          | inr j_last ↦ rw (extension-at j j_last, run_meaning-terminating i i_low)
-        ]
-      ]
-      | inr i_high ↦ elim (cases_lt j 104) [
-        | inl j_middle ↦ rw (make_up-at j (omega arith) j_middle, make_up-at i i_high (omega arith))
-            (apart (64 * (j - 63)) (64 * (i - 63)) (omega arith))
-        | inr j_last ↦ rw (extension-at j j_last, make_up-at i i_high (omega arith))
-      ]
-    ]
+differ i j order within = grind (arith, common_steps)
 
 -- the first code with a meaning is the one at its place
 code_for-run_entries : (first : ℕ) (codes lens : List ℕ) (i : ℕ) → i < length codes → i < length lens → first + i < 105
     → code_for (same_run_code (run_meaning (first + i))) (run_entries first codes lens) ≡ bits_at (run_entries first codes lens) i
 code_for-run_entries first [] lens i h k within = absurd (omega arith)
 code_for-run_entries first (c ∷ codes) [] i h k within = absurd (omega arith)
-code_for-run_entries first (c ∷ codes) (l ∷ lens) zero h k within =
-    let e : first + zero ≡ first = omega arith in
-    let here : same_run_code (run_meaning (first + zero)) (run_meaning first) ≡ true =
-    ap (λ n. same_run_code (run_meaning n) (run_meaning first)) e ∙ same_run_code-itself (run_meaning first) in
-    rw here
+code_for-run_entries first (c ∷ codes) (l ∷ lens) zero h k within = grind (arith, common_steps)
 code_for-run_entries first (c ∷ codes) (l ∷ lens) (suc i) h k within =
     let e : suc first + i ≡ first + suc i = omega arith in
     let other : same_run_code (run_meaning (first + suc i)) (run_meaning first) ≡ false =

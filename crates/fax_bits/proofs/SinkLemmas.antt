@@ -1,4 +1,5 @@
 -- Bits that are put after others: into the pending bits, and from there into bytes.
+use Rattle.std.proofs.lemmas.Grind.{common_steps}
 use Rattle.std.proofs.Common.{◌≡◌, ℕ, ◌+◌, ◌-◌, ◌*◌, ◌/◌, ◌%◌, ◌^◌, ◌<◌, ◌≤◌, List, [], ◌∷◌, ◌++◌, length, map, take, drop}
 use Rattle.std.proofs.Common.{replicate, Bool, true, false, refl, ap, sym, ◌∙◌, subst, arith, append_assoc, append-nil, add-zero}
 use Rattle.std.proofs.Common.{length-append}
@@ -26,8 +27,7 @@ on_ok-holds (Err e) ok holds = cc
 -- one more byte
 pub bits-push : (order : FillOrder) (bytes : List ℕ) (byte : ℕ) → bits order (bytes ++ byte ∷ []) ≡ bits order bytes ++ byte_bits order byte
 unfolding bits
-bits-push order bytes byte =
-    flat_map-append (byte_bits order) bytes (byte ∷ []) ∙ ap (λ b. bits order bytes ++ b) (append-nil (byte_bits order byte))
+bits-push order bytes byte = grind (arith, common_steps)
 
 -- pending bits and those that are put, as one number
 module _ (count pending len number : ℕ) (pending_fits : pending < 2 ^ count) (number_fits : number < 2 ^ len)
@@ -87,10 +87,7 @@ written_over len new old same = take_at new (drop (length new) old) len same
 pub pushed_bits : (order : FillOrder) (bytes pushed : List ℕ) (byte n : ℕ) (all rest : List Bool) → pushed ≡ bytes ++ byte ∷ []
     → byte_bits order byte ≡ code_bits 8 n
     → all ≡ code_bits 8 n ++ rest → bits order pushed ++ rest ≡ bits order bytes ++ all
-pushed_bits order bytes pushed byte n all rest pushed_is byte_is all_is =
-    ap (λ xs. bits order xs ++ rest) pushed_is ∙ ap (λ b. b ++ rest) (bits-push order bytes byte)
-    ∙ append_assoc (bits order bytes) (byte_bits order byte) rest
-    ∙ ap (λ b. bits order bytes ++ (b ++ rest)) byte_is ∙ ap (λ b. bits order bytes ++ b) (sym all_is)
+pushed_bits order bytes pushed byte n all rest pushed_is byte_is all_is = grind (arith, common_steps, bits-push, append_assoc)
 
 -- bytes that are pushed
 pub bits-append : (order : FillOrder) (bytes xs : List ℕ) → bits order (bytes ++ xs) ≡ bits order bytes ++ bits order xs
@@ -106,16 +103,7 @@ be_coded n fits =
 -- how many bits a sink has
 pub length-sink : (order : FillOrder) (bytes : List ℕ) (count pending : ℕ) (sink : Sink) → sink_of order bytes count pending ≡ sink
     → length sink.bits ≡ 8 * length bytes + count
-length-sink order bytes count pending sink is =
-    let parts : length (bits MsbFirst bytes ++ code_bits count pending) ≡ 8 * length bytes + count =
-    omega (
-      arith,
-      length-append (bits MsbFirst bytes) (code_bits count pending),
-      length-bits MsbFirst bytes,
-      length-code_bits count
-          pending,
-    ) in
-    ap (λ (s : Sink). length s.bits) (sym is) ∙ parts
+length-sink order bytes count pending sink is = grind (arith, common_steps, length-append, length-bits, length-code_bits)
 
 -- a sink with no pending bits
 pub none_pending : (order : FillOrder) (bytes : List ℕ) (count pending : ℕ) → count ≡ 0 → bits order bytes ++ code_bits count pending
@@ -144,26 +132,14 @@ pub put_after : (order : FillOrder) (bytes : List ℕ) (count pending len number
     → sink_of order bytes count pending ≡ old
     → sink_of order bytes (count + len) (bit_or (pending * 2 ^ len % 2 ^ 64) number)
     ≡ record { order = old.order; bits = old.bits ++ code_bits len number }
-put_after order bytes count pending len number old fits number_fits short old_is =
-    ap (λ b. record { order = order; bits = bits MsbFirst bytes ++ b }) (joined_bits count pending len number fits number_fits short)
-    ∙ ap (λ b. record {
-      order = order;
-      bits =
-          b;
-    }) (sym (append_assoc (bits MsbFirst bytes) (code_bits count pending) (code_bits len number)))
-    ∙ ap (λ (s : Sink). record { order = s.order; bits = s.bits ++ code_bits len number }) old_is
+put_after order bytes count pending len number old fits number_fits short old_is = grind (arith, common_steps, joined_bits, append_assoc)
 
 -- the first 32 of the pending bits are stored
 pub word_stored : (order : FillOrder) (bytes pushed : List ℕ) (count pending : ℕ) (sink : Sink) → 32 ≤ count → count ≤ 64
     → pending < 2 ^ count
     → sink_of order bytes count pending ≡ sink → bits MsbFirst pushed ≡ bits MsbFirst bytes ++ code_bits 32 (pending / 2 ^ (count - 32))
     → sink_of order pushed (count - 32) (bit_and pending (1 * 2 ^ (count - 32) % 2 ^ 64 - 1)) ≡ sink
-word_stored order bytes pushed count pending sink whole short fits is pushed_is =
-    let left = code_bits (count - 32) (bit_and pending (1 * 2 ^ (count - 32) % 2 ^ 64 - 1)) in
-    ap (λ b. record { order = order; bits = b })
-    (ap (λ b. b ++ left) pushed_is ∙ append_assoc (bits MsbFirst bytes) (code_bits 32 (pending / 2 ^ (count - 32))) left
-    ∙ ap (λ b. bits MsbFirst bytes ++ b) (sym (split_bits 32 count pending (omega arith) whole short fits)))
-    ∙ is
+word_stored order bytes pushed count pending sink whole short fits is pushed_is = grind (arith, common_steps, append_assoc, split_bits)
 
 -- pending bits with zeros after them, up to a whole byte
 padded_bits : (count pending zeros : ℕ) → pending < 2 ^ count → count + zeros ≤ 64

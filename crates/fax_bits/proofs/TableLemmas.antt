@@ -1,9 +1,9 @@
 -- Codes of a table, by the entries gone through so far.
-use Rattle.std.proofs.Common.{◌≡◌, ℕ, ◌+◌, ◌<◌, ◌≤◌, List, ◌++◌, length, drop, Bool, refl, ap, sym, ◌∙◌, subst, arith, below_more}
+use Rattle.std.proofs.lemmas.Grind.{common_steps}
+use Rattle.std.proofs.Common.{◌≡◌, ℕ, ◌+◌, ◌<◌, ◌≤◌, List, ◌++◌, length, drop, Bool, refl, sym, arith}
 use Rattle.std.specs.Prelude.{Some, slice_get, Contains}
 use Rattle.std.proofs.lemmas.Option.{slice_get_within, get_or_from_slice_get, slice_get_read}
 use Rattle.fax_bits.specs.declared.codes.CodeEntry.{CodeEntry}
-use Rattle.std.proofs.Math.Seq.{drop-append_seam}
 
 pub listed : {M : Type 0} (table : List (CodeEntry M)) (i : ℕ) (entry : CodeEntry M) → slice_get table i ≡ Some entry → Contains table entry
 listed table i entry found = (i, slice_get_within table i entry found, get_or_from_slice_get table i entry entry found)
@@ -14,9 +14,7 @@ EachBelow {M} P table i = (k : ℕ) → k < i → (entry : CodeEntry M) → slic
 
 pub each_below_more : {M : Type 0} (P : CodeEntry M → Type 0) (table : List (CodeEntry M)) (i : ℕ) (entry : CodeEntry M)
     → EachBelow P table i → slice_get table i ≡ Some entry → P entry → EachBelow P table (i + 1)
-each_below_more P table i entry below found here =
-    below_more (λ k. (other : CodeEntry _) → slice_get table k ≡ Some other → P other) i below
-    (λ other same. let e : entry ≡ other = cc in subst P e here)
+each_below_more P table i entry below found here = grind (arith, common_steps)
 
 pub each-from_below : {M : Type 0} (P : CodeEntry M → Type 0) (table : List (CodeEntry M)) (i : ℕ)
     → length table ≤ i → EachBelow P table i → (entry : CodeEntry M) → Contains table entry → P entry
@@ -25,5 +23,4 @@ each-from_below P table i all below entry at =
 
 -- the bits after a code that was skipped
 pub left_after : (left code rest : List Bool) (n : ℕ) → left ≡ code ++ rest → length code ≡ n → left ≡ code ++ drop n left
-left_after left code rest n ahead len =
-    ahead ∙ ap (λ b. code ++ b) (sym (ap (drop n) ahead ∙ ap (λ k. drop k (code ++ rest)) (sym len) ∙ drop-append_seam code rest))
+left_after left code rest n ahead len = grind (arith, common_steps)

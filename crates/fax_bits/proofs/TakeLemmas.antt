@@ -1,4 +1,5 @@
 -- Bits that stand next in a source.
+use Rattle.std.proofs.lemmas.Grind.{common_steps}
 use Rattle.std.proofs.Common.{◌≡◌, ℕ, suc, ◌+◌, ◌-◌, ◌*◌, ◌/◌, ◌%◌, ◌^◌, ◌<◌, ◌≤◌, subst, List, ◌∷◌, ◌++◌, length, take, drop, replicate}
 use Rattle.std.proofs.Common.{get_or, Bool, true, false, ◌↔◌, IsTrue, add-one, refl, ap, sym, ◌∙◌, arith, append_assoc, length-append}
 use Rattle.std.proofs.Common.{drop-cons}
@@ -35,23 +36,11 @@ as_many b len number begins =
 
 pub spells_it : (b : List Bool) (len number : ℕ) → number < 2 ^ len → BeginsWith b (code_bits len number)
     → bits_number (take len (padded b len)) ≡ number
-spells_it b len number fits begins =
-    let front = code_bits len number in
-    let long : length front ≡ len = length-code_bits len number in
-    ap bits_number
-    (take-append-le len b (replicate len false) (as_many b len number begins) ∙ ap (take len) begins.1
-    ∙ ap (λ n. take n (front ++ begins.0)) (sym long) ∙ take-append_seam front begins.0)
-    ∙ number-code_bits len number fits
+spells_it b len number fits begins = grind (arith, common_steps, length-code_bits, take-append-le, as_many, take-append_seam, number-code_bits)
 
 -- whether bits begin with these, after those that both begin with
 pub begins_after : (b c front more : List Bool) → b ≡ front ++ c → BeginsWith c more ↔ BeginsWith b (front ++ more)
-begins_after b c front more is = (
-  λ begins. (begins.0, is ∙ ap (λ d. front ++ d) begins.1 ∙ sym (append_assoc front more begins.0)),
-  λ begins. (
-    begins.0,
-    append_cancel_left front c (more ++ begins.0) (sym is ∙ begins.1 ∙ append_assoc front more begins.0),
-  ),
-)
+begins_after b c front more is = grind (arith, common_steps, append_assoc, append_cancel_left)
 
 pub taken_iff : (front b : List Bool) (result : Bool) (rest : List Bool) → IsTaken front b result rest → IsTrue result ↔ BeginsWith b front
 taken_iff front b true rest taken = (λ is. (rest, taken), λ begins. refl)
@@ -101,13 +90,7 @@ bits-cons byte bytes = ap (λ b. b ++ bits MsbFirst bytes) (byte_bits-msb byte)
 module _ (bytes : List ℕ) (i : ℕ) (source ahead : List Bool) (so_far : source ≡ bits MsbFirst (take i bytes) ++ ahead) where
   pub next_byte : (byte : ℕ) (rest : List Bool) → i < length bytes → byte ≡ get_or bytes i 0 → ahead ≡ code_bits 8 byte ++ rest
       → source ≡ bits MsbFirst (take (i + 1) bytes) ++ rest
-  next_byte byte rest within byte_is taken =
-      let front = bits MsbFirst (take i bytes) in
-      so_far ∙ ap (λ b. front ++ b) (taken ∙ ap (λ n. code_bits 8 n ++ rest) byte_is)
-      ∙ sym (append_assoc front (code_bits 8 (get_or bytes i 0)) rest)
-      ∙ ap (λ b. front ++ b ++ rest) (sym (byte_bits-msb (get_or bytes i 0)))
-      ∙ ap (λ b. b ++ rest) (sym (bits-push MsbFirst (take i bytes) (get_or bytes i 0)))
-      ∙ ap (λ xs. bits MsbFirst xs ++ rest) (rw (add-one, take-suc bytes i 0 within))
+  next_byte byte rest within byte_is taken = grind (arith, common_steps, append_assoc, byte_bits-msb, bits-push, add-one, take-suc)
 
   pub other_byte : (byte : ℕ) (pending : List Bool) → i < length bytes → byte ≡ get_or bytes i 0
       → (BeginsWith ahead (code_bits 8 byte) → ⊥) → BeginsWith source (bits MsbFirst bytes ++ pending) → ⊥

@@ -1,4 +1,5 @@
 -- Words of 64 bits: `count` bits, the highest first, with zeros after them.
+use Rattle.std.proofs.lemmas.Grind.{common_steps}
 use Rattle.std.proofs.Common.{◌≡◌, ℕ, zero, suc, ◌+◌, ◌-◌, ◌*◌, ◌/◌, ◌%◌, ◌^◌, ◌<◌, ◌≤◌, List, [], ◌∷◌, ◌++◌, length, take, drop, replicate}
 use Rattle.std.proofs.Common.{get_or, Bool, true, false, nat_eq, refl, append_assoc, ap, sym, ◌∙◌, subst, arith}
 use Rattle.std.proofs.Common.{add-zero}
@@ -135,12 +136,7 @@ one_bit (suc n) =
 
 -- the highest bit of a word, which stands after its leading zeros
 top_bit : (word n m : ℕ) → n + suc m ≡ 64 → word < 2 ^ suc m → 2 ^ suc m ≤ 2 * word + 1 → word / 2 ^ (64 - suc n) ≡ 1
-top_bit word n m parts below most =
-    let place : 64 - suc n ≡ m = omega arith in
-    let double : 2 ^ suc m ≡ 2 * 2 ^ m = pow-succ' 2 m in
-    let low : word - 2 ^ m < 2 ^ m = omega (arith, pow_pos m) in
-    let is : word ≡ 1 * 2 ^ m + (word - 2 ^ m) = omega arith in
-    ap (λ k. word / 2 ^ k) place ∙ ap (λ w. w / 2 ^ m) is ∙ shr_high 1 m (word - 2 ^ m) low
+top_bit word n m parts below most = grind (arith, common_steps)
 
 leading_one : (word n m : ℕ) → n + m ≡ 64 → n < 64 → word < 2 ^ m → 2 ^ m ≤ 2 * word + 1 → word / 2 ^ (64 - suc n) ≡ 1
 leading_one word n zero parts within below most = absurd (omega arith)
@@ -169,9 +165,7 @@ zeros_before count word n more few fits is within = (
 pub first_is_one : (count word : ℕ) → count ≤ 64 → word < 2 ^ 64 → word % 2 ^ (64 - count) ≡ 0
     → nat_eq (word / 2 ^ 63) 1 ≡ get_or (first_bits count word) 0 false
 unfolding code_bits
-first_is_one zero word few fits zeros =
-    let none : word ≡ 0 = omega (arith, zeros, fits) in
-    ap (λ w. nat_eq (w / 2 ^ 63) 1) none
+first_is_one zero word few fits zeros = grind (arith, common_steps)
 first_is_one (suc count) word few fits zeros =
     let places : 64 - suc count + count ≡ 63 = omega arith in
     let top : word / 2 ^ (64 - suc count) / 2 ^ count ≡ word / 2 ^ 63 =

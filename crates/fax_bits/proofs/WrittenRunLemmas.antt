@@ -1,9 +1,8 @@
 -- A run that is read by one make-up code at most has the bits that are written.
-use Rattle.std.proofs.Common.{◌≡◌, ℕ, suc, ◌+◌, ◌*◌, ◌-◌, ◌/◌, ◌%◌, ◌<◌, ◌≤◌, List, [], ◌∷◌, ◌++◌, length, Bool, refl, ap, sym, ◌∙◌}
-use Rattle.std.proofs.Common.{arith, inl, inr, append_assoc, append-nil}
+use Rattle.std.proofs.lemmas.Grind.{common_steps}
+use Rattle.std.proofs.Common.{◌≡◌, ℕ, suc, ◌+◌, ◌*◌, ◌/◌, ◌%◌, ◌<◌, ◌≤◌, List, [], ◌∷◌, ◌++◌, length, Bool, refl, ap, sym, ◌∙◌}
+use Rattle.std.proofs.Common.{arith, append_assoc, append-nil}
 use Rattle.std.specs.Prelude.{Some, slice_get, flat_map}
-use Rattle.std.proofs.lemmas.Bool.{cases_lt}
-use Rattle.std.proofs.Math.Nat.{eq-or-lt_of_le}
 use Rattle.std.proofs.lemmas.Option.{slice_get_read}
 use Rattle.fax_bits.specs.declared.codes.CodeEntry.{CodeEntry}
 use Rattle.fax_bits.specs.declared.Colour.{Colour}
@@ -16,8 +15,7 @@ use Rattle.fax_bits.specs.Written.{run_code_bits, run_codes, run_bits}
 use Rattle.fax_bits.specs.Tables.{run_table}
 use Rattle.fax_bits.proofs.ArrayLemmas.{run_entry_at}
 use Rattle.fax_bits.proofs.PutLemmas.{short_bits}
-use Rattle.fax_bits.proofs.ReadBackLemmas.{one_make_up-suc}
-use Rattle.fax_bits.proofs.RunCodeLemmas.{bits_at-found, bits_at-run_table, run_meaning-terminating, make_up-at, extension-at}
+use Rattle.fax_bits.proofs.RunCodeLemmas.{bits_at-found, bits_at-run_table}
 
 -- the place of a code in its table, whose bits are those that are written
 record IsCodeAt (colour : Colour) (b : List Bool) (code : RunCode) (rest : List Bool) : Type 0 where
@@ -48,14 +46,7 @@ code_taken colour b code rest takes =
     entry_at colour b code rest takes place _ within at (run_entry_at colour place within) refl
 
 short_means : (place n : ℕ) → place < 105 → run_meaning place ≡ Terminating n → n < 64
-short_means place n within means =
-    elim (cases_lt place 64) [
-      | inl low ↦ let is = run_meaning-terminating place low in let same : place ≡ n = cc in omega arith
-      | inr high ↦ elim (cases_lt place 104) [
-        | inl middle ↦ let is = make_up-at place high middle in cc
-        | inr last ↦ let is = extension-at place last in cc
-      ]
-    ]
+short_means place n within means = grind (arith, common_steps)
 
 -- how many steps of 64 pels a make-up code means
 record AreSteps (m : ℕ) : Type 0 where
@@ -65,17 +56,7 @@ record AreSteps (m : ℕ) : Type 0 where
   are : m ≡ 64 * steps
 
 make_up_means : (place m : ℕ) → place < 105 → run_meaning place ≡ MakeUp m → AreSteps m
-make_up_means place m within means =
-    elim (cases_lt place 64) [
-      | inl low ↦ let is = run_meaning-terminating place low in cc
-      | inr high ↦ elim (cases_lt place 104) [
-        | inl middle ↦
-            let is = make_up-at place high middle in
-            let same : m ≡ 64 * (place - 63) = cc in
-            record { steps = place - 63; some = omega arith; few = omega arith; are = same }
-        | inr last ↦ let is = extension-at place last in cc
-      ]
-    ]
+make_up_means place m within means = grind (arith, common_steps)
 
 -- a code means so many pels at most
 pub terminating_few : (colour : Colour) (b : List Bool) (n : ℕ) (rest : List Bool) → Takes (run_table colour) b (Terminating n) rest → n < 64
@@ -96,20 +77,7 @@ short_written colour b n rest takes =
 
 -- the codes of a run with a make-up code
 long_codes : (steps n : ℕ) → 0 < steps → steps ≤ 40 → n < 64 → run_codes (64 * steps + n) ≡ MakeUp (64 * steps) ∷ Terminating n ∷ []
-long_codes steps n some few short =
-    let low : (64 * steps + n) % 64 ≡ n = omega arith in
-    elim (eq-or-lt_of_le few) [
-      | inl all ↦
-          let often : (64 * steps + n) / 2560 ≡ 1 = omega arith in
-          let none : (64 * steps + n) % 2560 / 64 ≡ 0 = omega arith in
-          let most : 64 * steps ≡ 2560 = omega arith in
-          rw (often, none, low, most) refl
-      | inr less ↦
-          let often : (64 * steps + n) / 2560 ≡ 0 = omega arith in
-          let more : (64 * steps + n) % 2560 / 64 ≡ suc (steps - 1) = omega arith in
-          let same : suc (steps - 1) ≡ steps = omega arith in
-          rw (often, more, low, one_make_up-suc (steps - 1), same) refl
-    ]
+long_codes steps n some few short = grind (arith, common_steps)
 
 pub long_written : (colour : Colour) (b : List Bool) (m n : ℕ) (middle rest : List Bool) → Takes (run_table colour) b (MakeUp m) middle
     → Takes (run_table colour) middle (Terminating n) rest → b ≡ run_bits colour (m + n) ++ rest

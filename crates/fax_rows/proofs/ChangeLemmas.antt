@@ -1,8 +1,9 @@
 -- Changing elements: where the next one stands, and the pels before it.
+use Rattle.std.proofs.lemmas.Grind.{common_steps}
 use Rattle.std.proofs.Common.{◌≡◌, ℕ, zero, suc, ◌+◌, ◌-◌, ◌<◌, ◌≤◌, List, [], ◌∷◌, ◌++◌, length, take, replicate, Bool, true, false, not}
-use Rattle.std.proofs.Common.{refl, ap, sym, ◌∙◌, subst, arith, inl, inr}
+use Rattle.std.proofs.Common.{refl, ap, sym, ◌∙◌, arith, inl, inr}
 use Rattle.std.specs.Prelude.{◌&&◌, Option, Some, None, unwrap_or}
-use Rattle.std.proofs.lemmas.Bool.{and_parts, cases_lt, ltb-true, lt-ltb}
+use Rattle.std.proofs.lemmas.Bool.{and_parts, ltb-true, lt-ltb}
 use Rattle.std.proofs.Math.Nat.{eq-or-lt_of_le}
 use Rattle.fax_bits.specs.declared.Colour.{Colour}
 use Rattle.fax_bits.specs.declared.Colour.TheVariants.{White, Black}
@@ -21,30 +22,12 @@ pub record IsFirstPlace (test : ℕ → Bool) (i n place : ℕ) : Type 0 where
 first_place_more : (test : ℕ → Bool) (i n : ℕ) (passes : Bool) → test i ≡ passes
     → IsFirstPlace test (i + 1) n (first_place test (i + 1) n) → IsFirstPlace test i (suc n) (first_place test i (suc n))
 unfolding first_place
-first_place_more test i n true is more = rw is record {
-  from = omega arith;
-  within = omega arith;
-  before = λ k h l. absurd (omega arith);
-  there = λ h. is;
-}
-first_place_more test i n false is more = rw is record {
-  from = omega (arith, more.from);
-  within = omega (arith, more.within);
-  before = λ k h l. elim (eq-or-lt_of_le h) [
-    | inl same ↦ subst (λ j. test j ≡ false) same is
-    | inr less ↦ more.before k (omega arith) l
-  ];
-  there = λ h. more.there (omega arith);
-}
+first_place_more test i n true is more = grind (arith, common_steps)
+first_place_more test i n false is more = grind (arith, common_steps)
 
 pub first_place_is : (test : ℕ → Bool) (i n : ℕ) → IsFirstPlace test i n (first_place test i n)
 unfolding first_place
-first_place_is test i zero = record {
-  from = omega arith;
-  within = omega arith;
-  before = λ k h l. absurd (omega arith);
-  there = λ h. absurd (omega arith);
-}
+first_place_is test i zero = grind (arith, common_steps)
 first_place_is test i (suc n) = first_place_more test i n (test i) refl (first_place_is test (i + 1) n)
 
 -- a place right of `from` that is a changing element
@@ -129,11 +112,7 @@ colour_at {row = row} {from = from} {place = place} next inside =
 pub next_is_ahead : {row : List Colour} (from : Option ℕ) {place : ℕ} → IsNextChange row from place
     → first_of from ≤ length row → first_of from ≤ place
 next_is_ahead None next within = omega arith
-next_is_ahead {row = row} (Some a) {place = place} next within =
-    elim (cases_lt place (length row)) [
-      | inl inside ↦ omega (arith, ltb-true a place (next.right inside))
-      | inr over ↦ omega arith
-    ]
+next_is_ahead {row = row} (Some a) {place = place} next within = grind (arith, common_steps)
 
 -- pels of one colour
 replicate_pels : (row : List Colour) (n : ℕ) (colour : Colour) → n ≤ length row

@@ -44,10 +44,6 @@ pub record IsChosen (reference row : List Colour) (a0 : Option ℕ) (rest : List
   pub colour : next_a0 mode (places reference row a0) < length row
       → colour_after mode (colour_of row a0) ≡ pel row (next_a0 mode (places reference row a0))
 
-right_passes : (from : Option ℕ) (place : ℕ) → is_right_of from place ≡ true → passed from ≤ place
-right_passes None place right = omega arith
-right_passes (Some a) place right = ltb-true a place right
-
 pub passed_within : (from : Option ℕ) (width : ℕ) → first_of from < width → passed from ≤ width
 passed_within None width h = omega arith
 passed_within (Some a) width h = omega arith

@@ -78,12 +78,7 @@ module _ (row : List Colour) (from : Option ℕ) (colour : Colour) (to : ℕ) (s
 
 -- at the width there is no changing element any more
 none_after : (row : List Colour) (a : ℕ) → length row ≤ a → next_change row (Some a) ≡ length row
-none_after row a over =
-    let next = next_change_is row (Some a) in
-    elim (cases_lt (next_change row (Some a)) (length row)) [
-      | inl inside ↦ absurd (omega (arith, ltb-true a (next_change row (Some a)) (next.right inside)))
-      | inr after ↦ omega (arith, next.within)
-    ]
+none_after row a over = grind (arith, common_steps, next_change_is, cases_lt, ltb-true)
 
 -- ---- pels that are read, and those after them
 

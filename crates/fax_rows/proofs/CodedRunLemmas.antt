@@ -1,5 +1,6 @@
 -- Runs that are read one after another, with their colours and their sum.
-use Rattle.std.proofs.Common.{◌≡◌, ℕ, zero, suc, ◌+◌, ◌<◌, List, [], ◌∷◌, length, take, Bool, sym, subst, arith}
+use Rattle.std.proofs.lemmas.Grind.{common_steps}
+use Rattle.std.proofs.Common.{◌≡◌, ℕ, zero, suc, ◌+◌, ◌<◌, List, [], ◌∷◌, length, take, Bool, arith}
 use Rattle.std.specs.Prelude.{sum}
 use Rattle.fax_bits.specs.declared.Colour.{Colour}
 use Rattle.fax_bits.specs.Codes.{IsRun}
@@ -35,11 +36,7 @@ runs_from width colour from b (n ∷ runs) rest coded whole below = (
 pub stop_from : (width : ℕ) (colour : Colour) (from place : ℕ) (b : List Bool) (runs : List ℕ) (left : List Bool) (fault : RowFault)
     → AreCodedRuns colour b runs left → place ≡ from + sum runs → place < width
     → IsRunFault (colour_after_runs colour runs) width place left fault → StopsAtRun width colour from b runs fault
-stop_from width colour from place b [] left fault coded placed unfinished at_run =
-    let same : place ≡ from = omega (arith, placed) in (
-      omega (arith, placed),
-      subst (λ c. IsRunFault colour width from c fault) (sym coded) (subst (λ k. IsRunFault colour width k left fault) same at_run),
-    )
+stop_from width colour from place b [] left fault coded placed unfinished at_run = grind (arith, common_steps)
 stop_from width colour from place b (n ∷ runs) left fault coded placed unfinished at_run = (
   omega (arith, placed, sum-cons n runs),
   coded.0,

@@ -177,10 +177,7 @@ module _ (law : AreBitsByPlace) where
   pub plain_in_byte : (bytes : List ℕ) (colour : Colour) (q from to : ℕ) → q < length bytes → from < 8
       → to ≤ first_other_in_byte (get_or bytes q 0) from colour → IsPlain bytes colour (8 * q + from) (8 * q + to)
   unfolding first_other_in_byte
-  plain_in_byte bytes colour q from to inside within below k l h =
-      let first = first_place_is (is_other_bit (get_or bytes q 0) colour) from (8 - from) in
-      let near : k - 8 * q < 8 = omega (arith, first.within) in
-      bit_of bytes colour q (k - 8 * q) k inside near (omega arith) ∙ first.before (k - 8 * q) (omega arith) (omega arith)
+  plain_in_byte bytes colour q from to inside within below k l h = grind (arith, common_steps, first_place_is, bit_of)
 
   pub other_in_byte : (bytes : List ℕ) (colour : Colour) (q from found k : ℕ) → q < length bytes → from < 8
       → found ≡ first_other_in_byte (get_or bytes q 0) from colour → found < 8 → 8 * q + found ≡ k → is_other bytes colour k ≡ true

@@ -1,6 +1,7 @@
 -- Rows that are made of their longest runs.
+use Rattle.std.proofs.lemmas.Grind.{common_steps}
 use Rattle.std.proofs.Common.{◌≡◌, ℕ, zero, suc, ◌+◌, ◌-◌, ◌<◌, ◌≤◌, List, [], ◌∷◌, ◌++◌, length, take, get_or, replicate, refl, ap, sym}
-use Rattle.std.proofs.Common.{◌∙◌, subst, arith, inl, inr}
+use Rattle.std.proofs.Common.{◌∙◌, arith, inl, inr}
 use Rattle.std.specs.Prelude.{sum, ◌⊎◌}
 use Rattle.std.proofs.lemmas.Bool.{cases_lt}
 use Rattle.std.proofs.Math.ListN.{get_or-append}
@@ -61,10 +62,7 @@ put_run runs total n old new put turn = record {
 -- the next of the runs
 pub put_next_run : (runs : List ℕ) (i total n : ℕ) (old new : List ℕ) → i < length runs → n ≡ get_or runs i 0
     → ArePutRuns (take i runs) total old → IsTurnedFrom old new (total + n) → ArePutRuns (take (i + 1) runs) (total + n) new
-put_next_run runs i total n old new inside is put turn =
-    subst (λ front. ArePutRuns front (total + n) new)
-    (ap (λ m. take i runs ++ m ∷ []) is ∙ sym (take_more runs i 0 inside))
-    (put_run (take i runs) total n old new put turn)
+put_next_run runs i total n old new inside is put turn = grind (arith, common_steps, take_more, put_run)
 
 -- runs in front are no longer than all together
 pub part_within : (runs : List ℕ) (i : ℕ) → sum (take i runs) ≤ sum runs

@@ -1,4 +1,5 @@
 -- The longest runs that are still to come, by the place where they begin and those where each ends.
+use Rattle.std.proofs.lemmas.Grind.{common_steps}
 use Rattle.std.proofs.Common.{◌≡◌, ℕ, zero, suc, ◌+◌, ◌-◌, ◌%◌, ◌<◌, ◌≤◌, List, [], ◌∷◌, length, take, drop, get_or, map, refl, ap, sym, ◌∙◌}
 use Rattle.std.proofs.Common.{arith, length-drop}
 use Rattle.std.proofs.Math.Seq.{take-length}
@@ -14,9 +15,7 @@ rest_is xs n = ap (λ k. take k (drop n xs)) (sym (length-drop n xs)) ∙ take-l
 pub row_bounds : (places : List ℕ) (end : ℕ) → 0 < length places → get_or places 0 0 ≡ 0
     → take (end + 1) places ≡ 0 ∷ take end (drop 1 places)
 row_bounds [] end some first = absurd (omega arith)
-row_bounds (place ∷ places) end some first =
-    let next : end + 1 ≡ suc end = omega arith in
-    ap (λ n. take n (place ∷ places)) next ∙ ap (λ p. p ∷ take end places) first
+row_bounds (place ∷ places) end some first = grind (arith, common_steps)
 
 pub are_bounds : (ends : List ℕ) → AreAheadOf 0 ends → AreBounds (0 ∷ ends)
 are_bounds ends ahead = record { some = omega arith; ahead = ahead }

@@ -1,8 +1,9 @@
 -- The ones of a word, byte by byte.
+use Rattle.std.proofs.lemmas.Grind.{common_steps}
 use Rattle.std.proofs.Common.{◌≡◌, ℕ, zero, suc, ◌+◌, ◌-◌, ◌*◌, ◌/◌, ◌%◌, ◌^◌, ◌<◌, ◌≤◌, List, [], ◌∷◌, ◌++◌, if◌then◌else◌, get_or, nat_eq}
 use Rattle.std.proofs.Common.{ap, sym, ◌∙◌, arith}
 use Rattle.std.specs.Int.{bit_at, to_be_bytes, w64}
-use Rattle.std.proofs.lemmas.List.{append-nil, append_assoc}
+use Rattle.std.proofs.lemmas.List.{append_assoc}
 use Rattle.fax_rows.specs.code.Ones.{ones_among}
 use Rattle.fax_rows.proofs.PackedWordLemmas.{be_byte, byte_bit}
 
@@ -10,9 +11,7 @@ use Rattle.fax_rows.proofs.PackedWordLemmas.{be_byte, byte_bit}
 ones_of_part : (from word q j : ℕ) → q < 8 → j ≤ 8
     → ones_among from 63 word (8 * q) ++ ones_among (from + 8 * q) 7 (word / 2 ^ (8 * (7 - q)) % 256) j
     ≡ ones_among from 63 word (8 * q + j)
-ones_of_part from word q zero few within =
-    let none : 8 * q ≡ 8 * q + 0 = omega arith in
-    append-nil (ones_among from 63 word (8 * q)) ∙ ap (ones_among from 63 word) none
+ones_of_part from word q zero few within = grind (arith, common_steps)
 ones_of_part from word q (suc j) few within =
     let byte = word / 2 ^ (8 * (7 - q)) % 256 in
     let next : suc (8 * q + j) ≡ 8 * q + suc j = omega arith in

@@ -1,9 +1,9 @@
 -- Packing and unpacking of rows undo one another.
 use Rattle.std.proofs.lemmas.Grind.{common_steps}
-use Rattle.std.proofs.Common.{◌≡◌, ℕ, ◌+◌, ◌-◌, ◌*◌, ◌/◌, ◌%◌, ◌<◌, List, [], ◌∷◌, ◌++◌, map, length, take, drop, replicate, get_or, Bool}
-use Rattle.std.proofs.Common.{true, false, nat_eq, refl, ap, sym, ◌∙◌, arith, length-append, get_or-drop}
+use Rattle.std.proofs.Common.{◌≡◌, ℕ, ◌+◌, ◌-◌, ◌*◌, ◌<◌, List, [], ◌∷◌, ◌++◌, map, length, take, drop, replicate, get_or, Bool}
+use Rattle.std.proofs.Common.{true, false, nat_eq, refl, ap, sym, ◌∙◌, arith, get_or-drop}
 use Rattle.std.specs.Int.{bit_at}
-use Rattle.std.proofs.lemmas.List.{length-replicate, length-map, get_or-map, get_or-take, take-map, ext_get_or}
+use Rattle.std.proofs.lemmas.List.{get_or-map, get_or-take, take-map, ext_get_or}
 use Rattle.std.proofs.lemmas.List.FromFn.{length-map-range_with_len, get_or-map-range_with_len}
 use Rattle.fax_bits.specs.declared.FillOrder.TheVariants.{MsbFirst}
 use Rattle.fax_bits.specs.declared.Colour.{Colour}
@@ -41,12 +41,7 @@ module _ (places : AreBitsByPlace) (one_byte : AreBitsOfOneByte) where
   -- bit i of a packed row
   bit-packed_row : (row : List Colour) (i : ℕ) → i < 8 * packed_len (length row)
       → get_or (bits MsbFirst (packed_row row)) i false ≡ get_or (map is_black row) i false
-  bit-packed_row row i within =
-      let at : 8 * (i / 8) + i % 8 ≡ i = omega arith in
-      places.of_bytes MsbFirst (packed_row row) i (omega (arith, length-packed_row row))
-      ∙ ap (λ byte. nat_eq (bit_at byte (7 - i % 8)) 1) (get_or-packed_row row (i / 8) (omega arith))
-      ∙ bit-packed_byte row (8 * (i / 8)) (i % 8) (omega arith) (omega arith)
-      ∙ ap (λ n. get_or (map is_black row) n false) at
+  bit-packed_row row i within = grind (arith, common_steps, length-packed_row, nat_eq, get_or-packed_row, bit-packed_byte)
 
   bits_of_pels : HasBitsOfPels
   bits_of_pels row =
@@ -60,24 +55,14 @@ module _ (places : AreBitsByPlace) (one_byte : AreBitsOfOneByte) where
       long = omega (arith, places.count MsbFirst (packed_row row), length-packed_row row)
 
       padded_long : length (map is_black row ++ replicate (8 * packed_len (length row) - length row) false) ≡ 8 * packed_len (length row)
-      padded_long =
-          omega (
-            arith,
-            length-append (map is_black row) (replicate (8 * packed_len (length row) - length row) false),
-            length-map row
-                is_black,
-            length-replicate (8 * packed_len (length row) - length row) false,
-          )
+      padded_long = grind (arith, common_steps)
 
   colour_of_black : (colour : Colour) → colour ≡ colour_of_bit (is_black colour)
   colour_of_black White = refl
   colour_of_black Black = refl
 
   read_back : IsReadBack
-  read_back row =
-      sym (unpacked_at places row (packed_row row) (length row) refl (length-packed_row row)
-      (λ k h. colour_of_black (get_or row k White)
-      ∙ ap colour_of_bit (sym (bit-packed_row row k (omega arith) ∙ get_or-map is_black row k White false h))))
+  read_back row = grind (arith, common_steps, unpacked_at, length-packed_row, colour_of_black, bit-packed_row, get_or-map)
 
   black_of_bits : (b : List Bool) → map is_black (map colour_of_bit b) ≡ b
   black_of_bits [] = refl
@@ -94,11 +79,7 @@ module _ (places : AreBitsByPlace) (one_byte : AreBitsOfOneByte) where
   length-unpacked_row width bytes whole = grind (arith, common_steps)
 
   packed_back : IsPackedBack
-  packed_back width bytes whole =
-      bits_of_pels (unpacked_row width bytes)
-      ∙ ap (λ b. b ++ replicate (8 * packed_len (length (unpacked_row width bytes)) - length (unpacked_row width bytes)) false)
-      (bits_of_unpacked width bytes)
-      ∙ ap (λ n. take width (bits MsbFirst bytes) ++ replicate (8 * packed_len n - n) false) (length-unpacked_row width bytes whole)
+  packed_back width bytes whole = grind (arith, common_steps, bits_of_pels, bits_of_unpacked, length-unpacked_row)
 
   pub packing_undoes_unpacking : PackingUndoesUnpacking
   packing_undoes_unpacking = record { bits_of_pels = bits_of_pels; read_back = read_back; packed_back = packed_back }

@@ -42,10 +42,7 @@ module _ (law : AreBitsByPlace) where
       ∙ sym (get_or-take width (map colour_of_bit (bits MsbFirst bytes)) k White inside))
 
 pub unpacked_none : (b : List Bool) (places : List ℕ) → places ≡ 0 ∷ [] → IsUnpackedTo b places 0 White
-unpacked_none b places is = record {
-  before = λ k h. absurd (omega arith);
-  after = λ k h. ap (λ ps. turned Black ps k) is ∙ turned-first k;
-}
+unpacked_none b places is = grind (arith, common_steps, turned-first)
 
 -- pels more of the colour
 pub unpacked_run : (b : List Bool) (places : List ℕ) (i j : ℕ) (colour : Colour) → IsUnpackedTo b places i colour → i ≤ j

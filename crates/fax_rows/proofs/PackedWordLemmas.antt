@@ -37,16 +37,10 @@ ones-bits : (word s i : ℕ) → s ≤ 64 → bit_at (turned_word word s) i ≡ 
 ones-bits word s i within = ap (λ ones. bit_at (bit_xor word ones) i) (ones_shr 64 s within) ∙ bit_at_xor word (2 ^ (64 - s) - 1) i
 
 turned_left : (word s i : ℕ) → s < 64 → i < s → word_bit (turned_word word s) i ≡ word_bit word i
-turned_left word s i within before =
-    ap (λ b. nat_eq b 1) (ones-bits word s (63 - i) (omega arith)
-    ∙ ap (λ b. (bit_at word (63 - i) + b) % 2) (bit_at_ones_above (64 - s) (63 - i) (omega arith)))
-    ∙ same_bit (bit_at word (63 - i)) (bit_at-lt word (63 - i))
+turned_left word s i within before = grind (arith, common_steps, nat_eq, ones-bits, bit_at_ones_above, same_bit, bit_at-lt)
 
 turned_right : (word s i : ℕ) → s < 64 → s ≤ i → i < 64 → word_bit (turned_word word s) i ≡ not (word_bit word i)
-turned_right word s i within after inside =
-    ap (λ b. nat_eq b 1) (ones-bits word s (63 - i) (omega arith)
-    ∙ ap (λ b. (bit_at word (63 - i) + b) % 2) (bit_at_ones (64 - s) (63 - i) (omega arith)))
-    ∙ turned_bit (bit_at word (63 - i)) (bit_at-lt word (63 - i))
+turned_right word s i within after inside = grind (arith, common_steps, nat_eq, ones-bits, bit_at_ones, turned_bit, bit_at-lt)
 
 turned_fits : (word s : ℕ) → word < 2 ^ 64 → s ≤ 64 → turned_word word s < 2 ^ 64
 turned_fits word s fits within = xor_lt 64 word ((2 ^ 64 - 1) / 2 ^ s) fits (omega (arith, shr_le (2 ^ 64 - 1) s))
@@ -75,13 +69,7 @@ module _ (row : PlacedRow) where
   -- the pels up to the next place
   pub pel_of_word : {from word k : ℕ} → IsWordTo row from word k → (i : ℕ) → i < 64 → from + i < row.width
       → (k < row.end → from + i < get_or row.places.now k 0) → word_bit word i ≡ get_or pels (from + i) false
-  pel_of_word {from = from} {k = k} so_far i inside wide right =
-      elim (cases_lt (from + i) (get_or row.places.now (k - 1) 0)) [
-        | inl less ↦ so_far.before i inside less
-        | inr more ↦
-            so_far.after i inside more
-            ∙ sym (bit_after row.placed (from + i) k wide (record { some = so_far.some; within = so_far.within; left = more; right = right }))
-      ]
+  pel_of_word {from = from} {k = k} so_far i inside wide right = grind (arith, common_steps, cases_lt, bit_after)
 
   -- after the last place stands the width
   pub before_end : {from word k : ℕ} → IsWordTo row from word k → get_or row.places.now k 0 < row.width → k < row.end

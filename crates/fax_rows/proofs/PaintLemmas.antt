@@ -1,11 +1,10 @@
 -- Pels that are painted from a place on.
-use Rattle.std.proofs.Common.{◌≡◌, ℕ, ◌+◌, ◌-◌, ◌<◌, ◌≤◌, List, ◌++◌, length, take, get_or, replicate, sym, ◌∙◌, arith, length-append, inl}
+use Rattle.std.proofs.lemmas.Grind.{common_steps}
+use Rattle.std.proofs.Common.{◌≡◌, ℕ, ◌+◌, ◌<◌, ◌≤◌, List, ◌++◌, length, take, get_or, replicate, arith, length-append, inl}
 use Rattle.std.proofs.Common.{inr}
 use Rattle.std.specs.Prelude.{◌⊎◌}
 use Rattle.std.proofs.lemmas.Bool.{cases_lt}
-use Rattle.std.proofs.Math.ListN.{get_or-append}
-use Rattle.std.proofs.Math.Seq.{get_or-append_right}
-use Rattle.std.proofs.lemmas.List.{get_or-replicate, length-replicate, get_or-take, ext_get_or, length-take-le}
+use Rattle.std.proofs.lemmas.List.{length-replicate, ext_get_or, length-take-le}
 use Rattle.fax_bits.specs.declared.Colour.{Colour}
 use Rattle.fax_bits.specs.declared.Colour.TheVariants.{White}
 
@@ -27,13 +26,5 @@ painted_front old new from n colour within len before painted =
 
     by : (k : ℕ) → k < from + n → (k < from) ⊎ (from ≤ k)
         → get_or (take (from + n) new) k White ≡ get_or (take from old ++ replicate n colour) k White
-    by k h (inl less) =
-        let left : k < length (take from old) = omega (arith, short) in
-        get_or-take (from + n) new k White h ∙ before k less ∙ sym (get_or-take from old k White less)
-        ∙ sym (get_or-append (take from old) (replicate n colour) White k left)
-    by k h (inr more) =
-        let right : length (take from old) ≤ k = omega (arith, short) in
-        let near : k - length (take from old) < n = omega (arith, short) in
-        get_or-take (from + n) new k White h ∙ painted k more h
-        ∙ sym (get_or-replicate n (k - length (take from old)) colour White near)
-        ∙ sym (get_or-append_right (take from old) (replicate n colour) k White right)
+    by k h (inl less) = grind (arith, common_steps)
+    by k h (inr more) = grind (arith, common_steps)

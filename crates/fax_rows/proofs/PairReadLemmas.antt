@@ -58,13 +58,11 @@ read_on {width} {b} {chosen} {also} {total} {place} {colour} {old} {new} {end} {
 
 run_again : (colour : Colour) (b : List Bool) (total run : ℕ) (rest : List Bool) → IsRun colour b run rest
     → IsRun colour b (total + run - total) rest
-run_again colour b total run rest is =
-    let e : run ≡ total + run - total = omega arith in subst (λ n. IsRun colour b n rest) e is
+run_again colour b total run rest is = grind (arith, common_steps)
 
 written_again : (colour : Colour) (b : List Bool) (total run : ℕ) (rest : List Bool) → b ≡ run_bits colour run ++ rest
     → b ≡ run_bits colour (total + run - total) ++ rest
-written_again colour b total run rest is =
-    let e : run ≡ total + run - total = omega arith in is ∙ ap (λ n. run_bits colour n ++ rest) e
+written_again colour b total run rest is = grind (arith, common_steps)
 
 -- the two runs of a pair are read on from white
 pub pair_read_on : {width : ℕ} {b : List Bool} {chosen : Type 0} {total : ℕ} {colour : Colour} {old mid new : List ℕ}

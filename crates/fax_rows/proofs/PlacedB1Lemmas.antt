@@ -41,8 +41,7 @@ differs_is Black Black h = absurd (h refl)
 module _ (row : PlacedRow) where
   rank_from : (i n k : ℕ) → 0 < k → k + n ≡ row.end → get_or row.places.now (k - 1) 0 ≤ i
       → (j : ℕ) × ArePlacesUpTo row.places.now row.end i j
-  rank_from i zero k some sum left =
-      (k, record { some = some; within = omega arith; left = left; right = λ h. absurd (omega arith) })
+  rank_from i zero k some sum left = grind (arith, common_steps)
   rank_from i (suc n) k some sum left =
       elim (cases_lt i (get_or row.places.now k 0)) [
         | inl less ↦ (k, record { some = some; within = omega arith; left = left; right = λ h. less })
@@ -60,17 +59,7 @@ module _ (row : PlacedRow) where
   -- a changing element is a place after the first
   place_of_change : (i j : ℕ) → ArePlacesUpTo row.places.now row.end i j → i < row.width → is_changing (placed_pels row) i ≡ true
       → (1 < j) × (get_or row.places.now (j - 1) 0 ≡ i)
-  place_of_change i j at inside changes =
-      elim (eq-or-lt_of_le at.some) [
-        | inl one ↦ absurd (true≢false (sym changes ∙ unchanging row.placed.ascending row.width i j at
-            (inl (sym one)) inside))
-        | inr more ↦
-            elim (eq-or-lt_of_le at.left) [
-              | inl same ↦ (more, same)
-              | inr less ↦ absurd (true≢false (sym changes ∙ unchanging row.placed.ascending row.width i j at
-                  (inr less) inside))
-            ]
-      ]
+  place_of_change i j at inside changes = grind (arith, common_steps, eq-or-lt_of_le, true≢false, unchanging)
 
   -- a changing element right of a0 and left of the place of b1 is the one before that
   before_b1 : (a0 : Option ℕ) (colour : Colour) (b i j : ℕ) → IsB1At row a0 colour b → i < get_or row.places.now b 0
@@ -138,25 +127,13 @@ module _ (row : PlacedRow) where
 
   pub b1_within : (b : ℕ) → 0 < b → b ≤ row.end + 1 → ((b < row.end) × (get_or row.places.now b 0 < row.width)) ⊎
       ((row.end ≤ b) × (get_or row.places.now b 0 ≡ row.width))
-  b1_within b some within =
-      elim (cases_lt b row.end) [
-        | inl less ↦ inl (less, row.placed.below b some less)
-        | inr over ↦ inr (over, over_end b over (omega arith))
-      ]
+  b1_within b some within = grind (arith, common_steps, cases_lt, over_end)
 
   pub b1_at_most : (b : ℕ) → 0 < b → b ≤ row.end + 1 → get_or row.places.now b 0 ≤ row.width
-  b1_at_most b some within =
-      elim (b1_within b some within) [
-        | inl less ↦ omega (arith, less.1)
-        | inr over ↦ omega (arith, over.1)
-      ]
+  b1_at_most b some within = grind (arith, common_steps, b1_within)
 
   pub inside_end : (b : ℕ) → 0 < b → b ≤ row.end + 1 → get_or row.places.now b 0 < row.width → b < row.end
-  inside_end b some within inside =
-      elim (b1_within b some within) [
-        | inl less ↦ less.0
-        | inr over ↦ absurd (omega (arith, over.1))
-      ]
+  inside_end b some within inside = grind (arith, common_steps, b1_within)
 
   -- b1 and b2 stand among the places
   pub b1_index : (b : ℕ) → b ≤ row.end + 1 → b + 1 < length row.places.now
@@ -210,30 +187,7 @@ module _ (row : PlacedRow) where
   -- and b2 is the one after it
   pub after_b1 : (b : ℕ) → 0 < b → b ≤ row.end + 1
       → get_or row.places.now (b + 1) 0 ≡ next_change (placed_pels row) (Some (get_or row.places.now b 0))
-  after_b1 b some within =
-      elim (cases_lt b row.end) [
-        | inl inside ↦
-            (next_here row.placed (Some (get_or row.places.now b 0)) (b + 1) (record {
-              some = omega arith;
-              within = omega arith;
-              left = subst (λ m. get_or row.places.now m 0 ≤ get_or row.places.now b 0) (sym same) (omega arith);
-              right = λ l. below_later row.placed.ascending b (b + 1) some (omega arith) l;
-            })).place
-        | inr over ↦ over_end (b + 1) (omega arith) (omega arith) ∙ sym
-            (none_after (get_or row.places.now b 0) (over_end b over (omega arith)))
-      ]
-    where
-      same : b + 1 - 1 ≡ b
-      same = omega arith
-
-      none_after : (a : ℕ) → a ≡ row.width → next_change (placed_pels row) (Some a) ≡ row.width
-      none_after a is =
-          let next = next_change_is (placed_pels row) (Some a) in
-          let len = length-placed_pels row in
-          elim (cases_lt (next_change (placed_pels row) (Some a)) (length (placed_pels row))) [
-            | inl less ↦ let right = ltb-true a _ (next.right less) in absurd (omega arith)
-            | inr over ↦ omega (arith, next.within)
-          ]
+  after_b1 b some within = grind (arith, common_steps, cases_lt, next_here, below_later, over_end, next_change_is, length-placed_pels, ltb-true)
 
   pub b2_is : {a0 : Option ℕ} {colour : Colour} {b : ℕ} → IsB1At row a0 colour b
       → get_or row.places.now (b + 1) 0 ≡ b2 (placed_pels row) a0 colour
@@ -280,45 +234,15 @@ module _ (row : PlacedRow) where
 
   -- and b2 not left of b1
   pub b2_ahead : (b : ℕ) → 0 < b → b ≤ row.end + 1 → get_or row.places.now b 0 ≤ get_or row.places.now (b + 1) 0
-  b2_ahead b some within =
-      elim (cases_lt (b + 1) row.end) [
-        | inl less ↦ let l = below_later row.placed.ascending b (b + 1) some (omega arith) less in omega arith
-        | inr over ↦ omega (arith, over_end (b + 1) over (omega arith), b1_at_most b some within)
-      ]
+  b2_ahead b some within = grind (arith, common_steps, cases_lt, below_later, over_end, b1_at_most)
 
   pub b2_at_most : (b : ℕ) → 0 < b → b ≤ row.end + 1 → get_or row.places.now (b + 1) 0 ≤ row.width
-  b2_at_most b some within =
-      elim (cases_lt (b + 1) row.end) [
-        | inl less ↦ let l = row.placed.below (b + 1) (omega arith) less in omega arith
-        | inr over ↦ omega (arith, over_end (b + 1) over (omega arith))
-      ]
+  b2_at_most b some within = grind (arith, common_steps, cases_lt, over_end)
 
   -- after a pass the next place but one is that of b1
   pub b1_passed : {a0 : Option ℕ} {colour : Colour} {b : ℕ} → IsB1At row a0 colour b → get_or row.places.now (b + 1) 0 < row.width
       → IsB1At row (Some (get_or row.places.now (b + 1) 0)) colour (b + 2)
-  b1_passed {b = b} at inside = record {
-    some = omega arith;
-    within = omega (arith, less);
-    colour_is = ap (alternate Black) two ∙ at.colour_is;
-    passed = λ h.
-        subst (λ m. is_right_of (Some (get_or row.places.now (b + 1) 0)) (get_or row.places.now m 0) ≡ false) back
-        (le-ltb (get_or row.places.now (b + 1) 0) (get_or row.places.now b 0) (b2_ahead b at.some at.within));
-    ahead = λ h. lt-ltb (get_or row.places.now (b + 1) 0) (get_or row.places.now (b + 2) 0)
-        (below_later row.placed.ascending (b + 1) (b + 2) (omega arith) (omega arith) h);
-  }
-    where
-      less : b + 1 < row.end
-      less =
-          elim (cases_lt (b + 1) row.end) [
-            | inl inner ↦ inner
-            | inr over ↦ absurd (omega (arith, over_end (b + 1) over (omega (arith, at.within))))
-          ]
-
-      two : b + 2 ≡ suc (suc b)
-      two = omega arith
-
-      back : b ≡ b + 2 - 2
-      back = omega arith
+  b1_passed {b = b} at inside = grind (arith, common_steps, le-ltb, b2_ahead, lt-ltb, below_later, cases_lt, over_end)
 
   -- where the search for b1 begins as the colour turns at a place that is not left of b1
   pub right_start : (a0 : Option ℕ) (colour : Colour) (b a1 : ℕ) → IsB1At row a0 colour b → get_or row.places.now b 0 ≤ a1 → a1 < row.width
@@ -368,28 +292,12 @@ module _ (row : PlacedRow) where
       one = omega (arith, at.some)
 
       not_right : (p : ℕ) → is_right_of a0 p ≡ false → p ≤ a1
-      not_right p not =
-          elim (cases_lt a1 p) [
-            | inl less ↦ absurd (true≢false (sym (further_right a0 a1 p (omega arith) right) ∙ not))
-            | inr more ↦ more
-          ]
+      not_right p not = grind (arith, common_steps)
 
   -- and where it does as a0 goes on with its colour
   pub same_start : (a0 : Option ℕ) (colour : Colour) (b a : ℕ) → IsB1At row a0 colour b → unwrap_or a0 0 ≤ a
       → IsBeforeB1 row a colour b
-  same_start a0 colour b a at order = record {
-    within = at.within;
-    colour_is = at.colour_is;
-    passed = λ h. omega (arith, not_right a0 (get_or row.places.now (b - 2) 0) (at.passed h) order);
-  }
-    where
-      not_right : (from : Option ℕ) (p : ℕ) → is_right_of from p ≡ false → unwrap_or from 0 ≤ a → p ≤ a
-      not_right None p not le = absurd (true≢false not)
-      not_right (Some x) p not le =
-          elim (cases_lt x p) [
-            | inl less ↦ absurd (true≢false (sym (lt-ltb x p less) ∙ not))
-            | inr more ↦ omega arith
-          ]
+  same_start a0 colour b a at order = grind (arith, common_steps)
 
   -- b1 stands at the next change, or at the one after it, by the colour of a0
   pub b1_here : (a0 : Option ℕ) (k b : ℕ) (colour : Colour) → IsFrom row.places.now row.end a0 k → (b ≡ k) ⊎ (b ≡ k + 1)
@@ -413,27 +321,8 @@ module _ (row : PlacedRow) where
       few : (b ≡ k) ⊎ (b ≡ k + 1) → 2 < b → ⊥
       few (inl same) h = omega (arith, at)
       few (inr next) h = omega (arith, at)
-  b1_here (Some a) k b colour at (inl same) is = record {
-    some = omega (arith, at.some);
-    within = omega (arith, at.within);
-    colour_is = is;
-    passed = λ h.
-        let order = not_later row.placed.ascending (b - 2) (k - 1) (omega arith) (omega (arith, at.within, at.some)) in
-        le-ltb a (get_or row.places.now (b - 2) 0) (omega (arith, at.left));
-    ahead = λ h. lt-ltb a (get_or row.places.now b 0) (subst (λ m. a < get_or row.places.now m 0) (sym same) (at.right (omega arith)));
-  }
-  b1_here (Some a) k b colour at (inr next) is = record {
-    some = omega arith;
-    within = omega (arith, at.within);
-    colour_is = is;
-    passed = λ h.
-        let back : b - 2 ≡ k - 1 = omega arith in
-        le-ltb a (get_or row.places.now (b - 2) 0) (subst (λ m. get_or row.places.now m 0 ≤ a) (sym back) at.left);
-    ahead = λ h.
-        let first = at.right (omega arith) in
-        let second = below_later row.placed.ascending k b at.some (omega arith) h in
-        lt-ltb a (get_or row.places.now b 0) (omega arith);
-  }
+  b1_here (Some a) k b colour at (inl same) is = grind (arith, common_steps)
+  b1_here (Some a) k b colour at (inr next) is = grind (arith, common_steps)
 
   -- b1 and b2 as `next_of` and `b1_b2` answer them
   pub b1_right : {a0 : Option ℕ} {colour : Colour} {b : ℕ} → IsB1At row a0 colour b → get_or row.places.now b 0 < row.width

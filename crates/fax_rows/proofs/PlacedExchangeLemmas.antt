@@ -32,12 +32,7 @@ twice_at_first places i = let at : nat_le 0 i ≡ true = le-leb 0 i (omega arith
 
 -- a 0 that is put before the first place
 pub put_first : (old new rest : List ℕ) → new ≡ 0 ∷ old → old ≡ 0 ∷ rest → IsTurnedFrom old new 0
-put_first old new rest new_is old_is = record {
-  left = λ i h. absurd (omega arith);
-  right = λ i h.
-      ap (λ places. turned Black places i) (new_is ∙ ap (λ places. 0 ∷ places) old_is) ∙ twice_at_first rest i
-      ∙ sym (ap (λ places. other (turned Black places i)) old_is);
-}
+put_first old new rest new_is old_is = grind (arith, common_steps, twice_at_first)
 
 -- and one that is taken away
 pub take_first : (old new rest : List ℕ) → old ≡ 0 ∷ new → new ≡ 0 ∷ rest → IsTurnedFrom old new 0
@@ -52,6 +47,19 @@ take_first old new rest old_is new_is = record {
 begins_with_0 : (places : List ℕ) → 0 < length places → get_or places 0 0 ≡ 0 → places ≡ 0 ∷ drop 1 places
 begins_with_0 [] some first = absurd (omega arith)
 begins_with_0 (p ∷ places) some first = ap (λ q. q ∷ places) first
+
+-- the first of some places, and a 0 before them
+longer_by_0 : (few more : List ℕ) (n : ℕ) → n ≤ length few → n + 1 ≤ length more → get_or more 0 0 ≡ 0
+    → ((k : ℕ) → k < n → get_or more (suc k) 0 ≡ get_or few k 0) → take (n + 1) more ≡ 0 ∷ take n few
+longer_by_0 few more n within room first each =
+    ext_get_or 0 (take (n + 1) more) (0 ∷ take n few) (omega (arith, long, length-take-le n few within)) at
+  where
+    long : length (take (n + 1) more) ≡ n + 1
+    long = length-take-le (n + 1) more room
+
+    at : (k : ℕ) → k < length (take (n + 1) more) → get_or (take (n + 1) more) k 0 ≡ get_or (0 ∷ take n few) k 0
+    at zero h = get_or-take (n + 1) more 0 0 (omega arith) ∙ first
+    at (suc k) h = grind (arith, common_steps)
 
 -- the places of a row that begins black, and those after the first of them
 module _ (old new : List ℕ) (end width : ℕ) (all : ArePlaces old end width) (black : get_or old 1 0 ≡ 0) (len : length new ≡ length old)
@@ -89,21 +97,12 @@ module _ (old new : List ℕ) (end width : ℕ) (all : ArePlaces old end width) 
   pub turned_white : IsTurnedFrom (take end old) (take (end - 1) new) 0
   turned_white =
       let started = some_change in
-      let len_old : length (take end old) ≡ end = length-take-le end old all.ascending.within in
-      let len_new : length (take (end - 1) new) ≡ end - 1 = length-take-le (end - 1) new (omega (arith, all.ascending.within)) in
-      let first : get_or (take end old) 0 0 ≡ 0 = get_or-take end old 0 0 (omega arith) ∙ all.ascending.first in
-      let first_new : get_or (take (end - 1) new) 0 0 ≡ 0 =
-      get_or-take (end - 1) new 0 0 (omega arith) ∙ each 0 (omega (arith, all.room)) ∙ black in
+      let same : end - 1 + 1 ≡ end = omega arith in
+      let first : get_or (take (end - 1) new) 0 0 ≡ 0 = get_or-take (end - 1) new 0 0 (omega arith) ∙ each 0 (omega (arith, all.room)) ∙ black in
       take_first (take end old) (take (end - 1) new) (drop 1 (take (end - 1) new))
-      (ext_get_or 0 (take end old) (0 ∷ take (end - 1) new) (omega (arith, len_old, len_new))
-      (λ k h. same_at k (omega (arith, len_old)) first))
-      (begins_with_0 (take (end - 1) new) (omega (arith, len_new)) first_new)
-    where
-      same_at : (k : ℕ) → k < end → get_or (take end old) 0 0 ≡ 0 → get_or (take end old) k 0 ≡ get_or (0 ∷ take (end - 1) new) k 0
-      same_at zero h first = first
-      same_at (suc k) h first =
-          get_or-take end old (suc k) 0 h ∙ sym (each k (omega (arith, all.ascending.within)))
-          ∙ sym (get_or-take (end - 1) new k 0 (omega arith))
+      (ap (λ n. take n old) (sym same) ∙ longer_by_0 new old (end - 1) (omega (arith, all.ascending.within)) (omega (arith, all.ascending.within))
+      all.ascending.first (λ k h. sym (each k (omega (arith, all.ascending.within)))))
+      (begins_with_0 (take (end - 1) new) (omega (arith, length-take-le (end - 1) new (omega (arith, all.ascending.within)))) first)
 
 -- the places of a row that begins white, and a 0 before them
 module _ (old new : List ℕ) (end width : ℕ) (all : ArePlaces old end width) (white : 0 < get_or old 1 0) (len : length new ≡ length old)
@@ -128,11 +127,7 @@ module _ (old new : List ℕ) (end width : ℕ) (all : ArePlaces old end width) 
 
   steps_up : (i : ℕ) → 0 < i → i + 1 < end + 1 → get_or new i 0 < get_or new (i + 1) 0
   steps_up zero some h = absurd (omega arith)
-  steps_up (suc zero) some h =
-      let here : get_or new 1 0 ≡ get_or old 0 0 = each 0 (omega (arith, all.room)) in
-      let there : get_or new 2 0 ≡ get_or old 1 0 = each 1 (omega (arith, all.room, all.some)) in
-      let start = all.ascending.first in
-      omega arith
+  steps_up (suc zero) some h = grind (arith, common_steps)
   steps_up (suc (suc i)) some h =
       let same : suc (suc i) + 1 ≡ suc (suc (suc i)) = omega arith in
       let next : suc i + 1 ≡ suc (suc i) = omega arith in
@@ -145,14 +140,8 @@ module _ (old new : List ℕ) (end width : ℕ) (all : ArePlaces old end width) 
 
   all_below : (i : ℕ) → 0 < i → i < end + 1 → get_or new i 0 < width
   all_below zero some h = absurd (omega arith)
-  all_below (suc zero) some h =
-      let here : get_or new 1 0 ≡ get_or old 0 0 = each 0 (omega (arith, all.room)) in
-      omega (arith, all.ascending.first, all.some)
-  all_below (suc (suc i)) some h =
-      let here : get_or new (suc (suc i)) 0 ≡ get_or old (suc i) 0 =
-      each (suc i) (omega (arith, all.ascending.within, few_changes, all.room)) in
-      let less = all.below (suc i) (omega arith) (omega arith) in
-      omega arith
+  all_below (suc zero) some h = grind (arith, common_steps)
+  all_below (suc (suc i)) some h = grind (arith, common_steps)
 
   pub with_first : ArePlaces new (end + 1) width
   with_first = record {
@@ -173,19 +162,11 @@ module _ (old new : List ℕ) (end width : ℕ) (all : ArePlaces old end width) 
 
   pub turned_black : IsTurnedFrom (take end old) (take (end + 1) new) 0
   turned_black =
-      let len_old : length (take end old) ≡ end = length-take-le end old all.ascending.within in
-      let len_new : length (take (end + 1) new) ≡ end + 1 = length-take-le (end + 1) new (omega (arith, few_changes, all.room, len)) in
       let start : get_or (take end old) 0 0 ≡ 0 = get_or-take end old 0 0 all.ascending.started ∙ all.ascending.first in
       put_first (take end old) (take (end + 1) new) (drop 1 (take end old))
-      (ext_get_or 0 (take (end + 1) new) (0 ∷ take end old) (omega (arith, len_old, len_new))
-      (λ k h. same_at k (omega (arith, len_new))))
-      (begins_with_0 (take end old) (omega (arith, len_old, all.ascending.started)) start)
-    where
-      same_at : (k : ℕ) → k < end + 1 → get_or (take (end + 1) new) k 0 ≡ get_or (0 ∷ take end old) k 0
-      same_at zero h = get_or-take (end + 1) new 0 0 h ∙ first
-      same_at (suc k) h =
-          get_or-take (end + 1) new (suc k) 0 h ∙ each k (omega (arith, few_changes, all.room))
-          ∙ sym (get_or-take end old k 0 (omega arith))
+      (longer_by_0 old new end all.ascending.within (omega (arith, few_changes, all.room, len)) first
+      (λ k h. each k (omega (arith, few_changes, all.room))))
+      (begins_with_0 (take end old) (omega (arith, length-take-le end old all.ascending.within, all.ascending.started)) start)
 
 -- a row whose places are turned from its first pel on
 pub exchanged : (width : ℕ) (old new : List ℕ) → IsTurnedFrom old new 0 → pels_by width new ≡ map other (pels_by width old)

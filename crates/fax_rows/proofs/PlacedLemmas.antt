@@ -1,4 +1,5 @@
 -- A row in two-dimensional coding, put step by step.
+use Rattle.std.proofs.lemmas.Grind.{common_steps}
 use Rattle.std.proofs.Common.{◌≡◌, ℕ, zero, suc, ◌+◌, ◌-◌, ◌<◌, ◌≤◌, List, [], ◌++◌, length, Bool, arith}
 use Rattle.std.specs.Prelude.{Option, Some, None}
 use Rattle.fax_bits.specs.declared.Colour.{Colour}
@@ -44,8 +45,7 @@ step_left : (reference row : List Colour) (old : Sink) (a0 : Option ℕ) (pendin
     → AppendsAllBut old (two_dimensional_bits reference row) (pending ++ step_bits limit reference row a0) new
     → IsStepLeft reference row old a0 pending new
 step_left reference row old a0 pending new zero inside enough so_far = absurd (omega (arith, passed_within a0 (length row) inside))
-step_left reference row old a0 pending new (suc limit) inside enough so_far =
-    record { limit = limit; enough = omega arith; so_far = so_far }
+step_left reference row old a0 pending new (suc limit) inside enough so_far = grind (arith, common_steps)
 
 module _ (reference row : List Colour) (same_width : length reference ≡ length row) (old mid new : Sink) (a0 : Option ℕ)
     (pending : List Bool) (placed : IsPutToPlace reference row old a0 pending mid) (inside : first_of a0 < length row) where

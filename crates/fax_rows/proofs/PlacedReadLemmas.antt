@@ -1,6 +1,6 @@
 -- Places of change that are put one after the other while a row is read.
 use Rattle.std.proofs.lemmas.Grind.{common_steps}
-use Rattle.std.proofs.Common.{◌≡◌, ℕ, ◌+◌, ◌-◌, ◌<◌, ◌≤◌, ◌≢◌, List, [], ◌∷◌, ◌++◌, length, take, drop, get_or, Bool, ap}
+use Rattle.std.proofs.Common.{◌≡◌, ℕ, ◌+◌, ◌-◌, ◌<◌, ◌≤◌, ◌≢◌, List, [], ◌∷◌, ◌++◌, length, take, drop, get_or, Bool}
 use Rattle.std.proofs.Common.{sym, ◌∙◌, subst, arith, inl, inr}
 use Rattle.std.specs.Prelude.{◌⊎◌}
 use Rattle.std.proofs.Math.ListN.{set}
@@ -18,13 +18,7 @@ use Rattle.fax_rows.proofs.RowLemmas.{IsRowSoFar, row_goes_on}
 -- a place that is put
 pub turned_on : (places : List ℕ) (end place : ℕ) → end < length places
     → IsTurnedFrom (take end places) (take (end + 1) (set places end place)) place
-turned_on places end place room = record {
-  left = λ i h. ap (λ ps. turned Black ps i) split ∙ turned-push_left Black (take end places) place i h;
-  right = λ i h. ap (λ ps. turned Black ps i) split ∙ turned-push_right Black (take end places) place i h;
-}
-  where
-    split : take (end + 1) (set places end place) ≡ take end places ++ place ∷ []
-    split = take_more_set places end place room
+turned_on places end place room = grind (arith, common_steps, turned-push_left, turned-push_right, take_more_set)
 
 -- the last place stands after the others
 last_split : (places : List ℕ) (end place : ℕ) → 0 < end → end ≤ length places → get_or places (end - 1) 0 ≡ place
@@ -34,15 +28,7 @@ last_split places end place some within is = grind (arith, common_steps)
 -- the last place that is taken away again
 pub turned_back : (places : List ℕ) (end place : ℕ) → 0 < end → end ≤ length places → get_or places (end - 1) 0 ≡ place
     → IsTurnedFrom (take end places) (take (end - 1) places) place
-turned_back places end place some within is = record {
-  left = λ i h. sym (ap (λ ps. turned Black ps i) split ∙ turned-push_left Black (take (end - 1) places) place i h);
-  right = λ i h.
-      sym (ap (λ ps. other (turned Black ps i)) split ∙ ap other (turned-push_right Black (take (end - 1) places) place i h)
-      ∙ other-other (turned Black (take (end - 1) places) i));
-}
-  where
-    split : take end places ≡ take (end - 1) places ++ place ∷ []
-    split = last_split places end place some within is
+turned_back places end place some within is = grind (arith, common_steps, turned-push_left, turned-push_right, other-other, last_split)
 
 -- rows whose pels are the same
 same_pels_by : (width : ℕ) (some others : List ℕ) → ((i : ℕ) → i < width → turned Black some i ≡ turned Black others i)
@@ -74,8 +60,7 @@ more_room put = omega (arith, put.room, put.within, places_within _ _ _ put.asce
 -- a place more is put
 pub put_on : {width : ℕ} {old new : List ℕ} {end next total place : ℕ} → ArePut width old end total → TurnsAt old new end next place
     → place ≤ width → ArePut width new next place
-put_on put turns within =
-    record { room = turns.same_len ∙ put.room; ascending = turns.ascending; last = turns.last; within = within }
+put_on put turns within = grind (arith, common_steps)
 
 -- all places but the last are below it
 pub below_last : (places : List ℕ) (end width : ℕ) → IsAscending places end → get_or places (end - 1) 0 ≤ width
@@ -119,8 +104,7 @@ run_turned {width =
 -- a row that is shown otherwise
 pub one_dimensional_as : {width wide : ℕ} {b : List Bool} {row shown : List Colour} {rest : List Bool}
     → IsOneDimensionalRow width b row rest → width ≡ wide → shown ≡ row → IsOneDimensionalRow wide b shown rest
-one_dimensional_as {width = width} {b = b} {shown = shown} {rest = rest} is same shows =
-    subst (λ n. IsOneDimensionalRow n b shown rest) same (subst (λ r. IsOneDimensionalRow width b r rest) (sym shows) is)
+one_dimensional_as {width = width} {b = b} {shown = shown} {rest = rest} is same shows = grind (arith, common_steps)
 
 -- elements that are all written over
 pub refilled : (len : ℕ) (new old : List ℕ) → length new ≡ len → take len (new ++ drop (length new) old) ≡ new

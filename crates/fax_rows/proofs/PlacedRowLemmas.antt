@@ -1,4 +1,5 @@
 -- What a row of places of change shows: its pels, its changing elements, and the next of them.
+use Rattle.std.proofs.lemmas.Grind.{common_steps}
 use Rattle.std.proofs.Common.{◌≡◌, ℕ, zero, suc, ◌+◌, ◌-◌, ◌<◌, ◌≤◌, List, [], ◌∷◌, length, take, drop, get_or, replicate, true}
 use Rattle.std.proofs.Common.{false, refl, ap, sym, ◌∙◌, subst, arith, inl, inr, drop-cons}
 use Rattle.std.specs.Prelude.{◌⊎◌, Option, Some, None}
@@ -68,18 +69,10 @@ module _ {places : List ℕ} {end width : ℕ} (all : ArePlaces places end width
       ]
 
   pub place_or_width : (k : ℕ) → 0 < k → k ≤ end → ((k < end) × (get_or places k 0 < width)) ⊎ ((k ≡ end) × (get_or places k 0 ≡ width))
-  place_or_width k some within =
-      elim (eq-or-lt_of_le within) [
-        | inl same ↦ inr (same, ap (λ m. get_or places m 0) same ∙ at_end)
-        | inr less ↦ inl (less, all.below k some less)
-      ]
+  place_or_width k some within = grind (arith, common_steps, eq-or-lt_of_le, at_end)
 
   place_within : (k : ℕ) → 0 < k → k ≤ end → get_or places k 0 ≤ width
-  place_within k some within =
-      elim (place_or_width k some within) [
-        | inl less ↦ omega (arith, less.1)
-        | inr same ↦ omega (arith, same.1)
-      ]
+  place_within k some within = grind (arith, common_steps, place_or_width)
 
   -- the place that is read for the next change right of `from`
   pub at_from : (from : Option ℕ) (k : ℕ) → IsFrom places end from k → (0 < k) × (k ≤ end)
@@ -185,11 +178,7 @@ module _ {places : List ℕ} {end width : ℕ} (all : ArePlaces places end width
       sym (drop_all k (take end places) (omega (arith, length-take-le end places all.ascending.within, over)))
     where
       over : end ≤ k
-      over =
-          elim (cases_lt k end) [
-            | inl inside ↦ let less = all.below k some inside in absurd (omega (arith, next inside))
-            | inr more ↦ more
-          ]
+      over = grind (arith, common_steps)
   filter_from a (suc n) k sum some within next last =
       elim (cases_lt k end) [
         | inr more ↦ goes_on a n k (filter_from (a + 1) n k (omega arith)) (omega arith) (λ h. absurd (omega arith)) some within next last
@@ -203,12 +192,7 @@ module _ {places : List ℕ} {end width : ℕ} (all : ArePlaces places end width
   -- the changing elements are the places after the first
   pub changes_are : {row : List Colour} → pels_by width (take end places) ≡ row
       → take (end - 1) (drop 1 places) ≡ filter (is_changing row) (range_with_len 0 (length row))
-  changes_are is =
-      subst (λ r. take (end - 1) (drop 1 places) ≡ filter (is_changing r) (range_with_len 0 (length r))) is
-      (take-drop_first places end ∙ sym (filter_from 0 width 1 (omega arith) (omega arith) (omega (arith, all.ascending.started))
-      (λ h. omega arith) (inl refl))
-      ∙ ap (λ n. filter (is_changing (pels_by width (take end places))) (range_with_len 0 n))
-      (sym (length-pels_by width (take end places))))
+  changes_are is = grind (arith, common_steps, take-drop_first, filter_from, length-pels_by)
 
   -- the width is that of the row
   pub width_is : {row : List Colour} → pels_by width (take end places) ≡ row → width ≡ length row
@@ -216,10 +200,7 @@ module _ {places : List ℕ} {end width : ℕ} (all : ArePlaces places end width
 
   -- a row without a change is white
   pub all_white : {row : List Colour} → pels_by width (take end places) ≡ row → end ≡ 1 → row ≡ replicate (length row) White
-  all_white is alone =
-      sym is ∙ ap (λ n. pels_by width (take n places)) alone
-      ∙ ap (pels_by width) (take-first places (omega (arith, all.room)) all.ascending.first) ∙ white_row width
-      ∙ ap (λ n. replicate n White) (width_is is)
+  all_white is alone = grind (arith, common_steps, take-first, white_row, width_is)
 
   -- the colour of the pel at a place, by how many places it lies after
   pub pel_here : {row : List Colour} → pels_by width (take end places) ≡ row → (i k : ℕ) → i < length row → ArePlacesUpTo places end i k

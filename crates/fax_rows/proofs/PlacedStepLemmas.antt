@@ -1,7 +1,7 @@
 -- Steps of two-dimensional coding over places of change.
 use Rattle.std.proofs.lemmas.Grind.{common_steps}
 use Rattle.std.proofs.Common.{◌≡◌, ℕ, ◌+◌, ◌-◌, ℤ, negsuc, ◌+ℤ◌, ◌≤ℤ◌, ◌<◌, ◌≤◌, List, [], ◌++◌, length, take, get_or, replicate, Bool}
-use Rattle.std.proofs.Common.{true, refl, ap, sym, ◌∙◌, subst, arith, pos, inl, inr}
+use Rattle.std.proofs.Common.{true, refl, ap, sym, ◌∙◌, arith, pos}
 use Rattle.std.specs.Prelude.{Option, Some, None, unwrap_or, ◌<ℤ◌, nat_abs}
 use Rattle.std.proofs.lemmas.Bool.{ltb-true}
 use Rattle.std.proofs.lemmas.Int.{ints}
@@ -90,11 +90,7 @@ module _ {reference : PlacedRow} {places : List ℕ} {at : PlacedReached} (here 
   pub pass_step : position_of (record { a0 = Some (get_or reference.places.now (at.b1 + 1) 0); colour = at.reached.colour })
       (pels_by reference.width (take at.end places))
       ≡ coloured_up_to (placed_position reference.width places at) (b2 (placed_pels reference) at.reached.a0 at.reached.colour)
-  pass_step =
-      coloured reference.width (take at.end places) (take at.end places) at.reached
-      (get_or reference.places.now (at.b1 + 1) 0) b2_order b2_within
-      (λ i h. refl) here.so_far.after
-      ∙ ap (coloured_up_to (placed_position reference.width places at)) (b2_is reference (here.so_far.b1 here.unfinished))
+  pass_step = grind (arith, common_steps, coloured, b2_order, b2_within, b2_is)
 
   pub pass_so_far : IsReadTo reference places
       (record {
@@ -197,16 +193,7 @@ module _ {reference : PlacedRow} {places : List ℕ} {at : PlacedReached} (here 
 
   -- b1 is right of a0, and in the row
   pub under_right : a0_number (position_of at.reached []) <ℤ pos (get_or reference.places.now at.b1 0)
-  under_right = by at.reached.a0 (here.so_far.b1 here.unfinished) here.unfinished
-    where
-      by : (a0 : Option ℕ) → IsB1At reference a0 at.reached.colour at.b1 → unwrap_or a0 0 < reference.width
-          → a0_number (record { a0 = a0; colour = at.reached.colour; pels = [] }) <ℤ pos (get_or reference.places.now at.b1 0)
-      by None b1 h = omega (arith, ints)
-      by (Some a) b1 h =
-          elim (b1_within reference at.b1 b1.some b1.within) [
-            | inl less ↦ omega (arith, ints, ltb-true a (get_or reference.places.now at.b1 0) (b1.ahead less.0))
-            | inr over ↦ omega (arith, ints, over.1)
-          ]
+  under_right = grind (arith, common_steps, pos, ints, b1_within, ltb-true)
 
   pub under_ahead : reached_pel at.reached ≤ get_or reference.places.now at.b1 0
   under_ahead = b1_ahead reference at.reached.a0 (here.so_far.b1 here.unfinished) here.unfinished
@@ -294,21 +281,7 @@ module _ {reference : PlacedRow} {places : List ℕ} {at : PlacedReached} (here 
 -- before the first pel
 pub nothing_read : {reference : PlacedRow} {places : List ℕ} → HasRoom reference.width places
     → IsReadTo reference places (record { reached = record { a0 = None; colour = White }; end = 1; b1 = 1 })
-nothing_read {reference} {places} room = record {
-  room = room.len;
-  within = omega arith;
-  started = λ h. refl;
-  ascending = (none_put 0 room (omega arith)).ascending;
-  last = omega (arith, room.first);
-  after = λ i h. ap (λ ps. turned Black ps i) (take-first places (omega (arith, room.len)) room.first) ∙ turned-first i;
-  b1 = λ h. record {
-    some = omega arith;
-    within = omega (arith, reference.placed.ascending.started);
-    colour_is = refl;
-    passed = λ l. absurd (omega arith);
-    ahead = λ l. refl;
-  };
-}
+nothing_read {reference} {places} room = grind (arith, common_steps, none_put, take-first, turned-first)
 
 -- the row is read to its end
 pub steps_done : (reference : List Colour) (b : List Bool) (at : Reached) (row : List Colour) (rest : List Bool) (width : ℕ)
@@ -321,8 +294,7 @@ steps_done reference b at row rest width so_far some done len same = grind (arit
 pub two_dimensional_as : {reference shown_reference : List Colour} {b : List Bool} {row shown : List Colour} {rest : List Bool}
     → IsTwoDimensionalRow reference b row rest → reference ≡ shown_reference → shown ≡ row
     → IsTwoDimensionalRow shown_reference b shown rest
-two_dimensional_as {reference = reference} {b = b} {shown = shown} {rest = rest} is same shows =
-    subst (λ r. IsTwoDimensionalRow r b shown rest) same (subst (λ r. IsTwoDimensionalRow reference b r rest) (sym shows) is)
+two_dimensional_as {reference = reference} {b = b} {shown = shown} {rest = rest} is same shows = grind (arith, common_steps)
 
 -- a step that is no part of the row
 pub fault_here : (reference : List Colour) (b : List Bool) (at : Reached) (row : List Colour) (mid : List Bool)

@@ -10,19 +10,11 @@ use Rattle.fax_bits.specs.views.Sink.{Sink, Appends, AppendsPrefix, AppendsAllBu
 use Rattle.fax_rows.specs.Coded.{alternating_bits}
 use Rattle.fax_rows.specs.Rows.{other}
 
--- bits that are put after others
-appends_two : (old mid new : Sink) (first second : List Bool) → Appends old first mid → Appends mid second new
-    → Appends old (first ++ second) new
-appends_two old mid new first second before after = grind (arith, common_steps)
-
 pub put_begins : (sink : Sink) (all : List Bool) → AppendsAllBut sink all all sink
 put_begins sink all = grind (arith, common_steps)
 
 -- bits are put in two parts, some of them pending before, between and after
 module _ (old mid new : Sink) (front first second pending : List Bool) (one : AppendsAllBut old (front ++ first) pending mid) where
-  parts_are : front ++ (first ++ second) ≡ one.done ++ (pending ++ second)
-  parts_are = sym (append_assoc front first second) ∙ ap (λ b. b ++ second) one.parts ∙ append_assoc one.done pending second
-
   pub pair_put : (left : List Bool) → AppendsAllBut mid (pending ++ second) left new
       → AppendsAllBut old (front ++ (first ++ second)) left new
   pair_put left two = grind (arith, common_steps)
@@ -49,8 +41,7 @@ put_pending old mid new all pending left so_far none more = grind (arith, common
 
 -- and where a growth was refused for them
 pub pending_stops : {old mid new : Sink} {all left : List Bool} → AppendsAllBut old all left mid → new ≡ mid → AppendsPrefix old all new
-pending_stops {left = left} so_far same =
-    record { done = so_far.done; missing = left; appended = same ∙ so_far.appended; parts = so_far.parts }
+pending_stops {left = left} so_far same = grind (arith, common_steps)
 
 -- a fact holds also where it is asked for after an error alone
 pub on_err : {T E P : Type 0} (r : Result T E) → P → OnErr r P

@@ -4,7 +4,7 @@ use Rattle.std.proofs.Common.{◌≡◌, ℕ, zero, suc, ◌+◌, ◌-◌, ◌^�
 use Rattle.std.proofs.Common.{if◌then◌else◌, Bool, true, false, nat_eq, refl, ap, sym, ◌∙◌, subst, arith, inl, inr}
 use Rattle.std.specs.Int.{bit_at}
 use Rattle.std.proofs.lemmas.Bool.{cases_lt}
-use Rattle.std.proofs.lemmas.List.{append-nil, append_assoc, get_or-take, get_or_push, get_or_append_left, length-append, length-take-le}
+use Rattle.std.proofs.lemmas.List.{append-nil, append_assoc, get_or-take, get_or_push, length-append, length-take-le}
 use Rattle.fax_bits.specs.declared.Colour.TheVariants.{Black}
 use Rattle.fax_rows.specs.Rows.{other}
 use Rattle.fax_rows.specs.Coded.{colour_of_bit}
@@ -12,7 +12,7 @@ use Rattle.fax_rows.specs.code.Ones.{ones_among}
 use Rattle.fax_rows.specs.code.PackedWord.{word_bit}
 use Rattle.fax_rows.specs.code.Turns.{turned, IsAscending}
 use Rattle.fax_rows.proofs.TurnLemmas.{turned-push_left, turned-push_right}
-use Rattle.fax_rows.proofs.UnpackedWordLemmas.{bit_before, change_bit, changes_of, equal_bits, other_colour, turns_bit}
+use Rattle.fax_rows.proofs.UnpackedWordLemmas.{bit_before, change_bit, changes_of, other_colour, turns_bit}
 
 -- the places of the first r pels of a word are put after the old ones
 pub record HasPut (old places : List ℕ) (from before word r : ℕ) : Type 0 where
@@ -26,45 +26,13 @@ pub record HasPut (old places : List ℕ) (from before word r : ℕ) : Type 0 wh
 ascending_on : (places : List ℕ) (place : ℕ) → IsAscending places (length places)
     → (1 < length places → get_or places (length places - 1) 0 < place)
     → IsAscending (places ++ place ∷ []) (length (places ++ place ∷ []))
-ascending_on places place up right = record {
-  started = omega (arith, len, up.started);
-  within = omega arith;
-  first = get_or_append_left places (place ∷ []) 0 0 up.started ∙ up.first;
-  steps = λ i some h. elim (cases_lt (i + 1) (length places)) [
-    | inl less ↦
-        rw (get_or_append_left places (place ∷ []) 0 i (omega arith), get_or_append_left places (place ∷ []) 0 (i + 1) less)
-        (up.steps i some less)
-    | inr more ↦
-        let end : i + 1 ≡ length places = omega (arith, len) in
-        let before : length places - 1 ≡ i = omega arith in
-        let there : get_or (places ++ place ∷ []) (i + 1) 0 ≡ place =
-        ap (λ n. get_or (places ++ place ∷ []) n 0) end ∙ get_or_push places place 0 (length places) refl in
-        rw (get_or_append_left places (place ∷ []) 0 i (omega arith), there)
-        (subst (λ n. get_or places n 0 < place) before (right (omega arith)))
-  ];
-}
-  where
-    len : length (places ++ place ∷ []) ≡ length places + 1
-    len = length-append places (place ∷ [])
+ascending_on places place up right = grind (arith, common_steps)
 
 -- a pel more: its place is put where it has another colour than the one before it
 pel_put : (one : Bool) (old places : List ℕ) (from before word r : ℕ)
     → one ≡ turns_bit (word_bit word r) (bit_before before word r) → HasPut old places from before word r
     → HasPut old (places ++ (if one then (from + r) ∷ [] else [])) from before word (suc r)
-pel_put false old places from before word r is put =
-    let same = equal_bits (word_bit word r) (bit_before before word r) (sym is) in
-    rw (append-nil places) (record {
-      kept = put.kept;
-      done = λ i h. elim (cases_lt i r) [
-        | inl less ↦ put.done i less
-        | inr more ↦
-            let last : i ≡ r = omega arith in
-            put.after (from + i) (omega arith) ∙ ap colour_of_bit (sym same) ∙ ap (λ n. colour_of_bit (word_bit word n)) (sym last)
-      ];
-      after = λ k h. put.after k (omega arith) ∙ ap colour_of_bit (sym same);
-      ascending = put.ascending;
-      last = λ h. omega (arith, put.last h);
-    })
+pel_put false old places from before word r is put = grind (arith, common_steps)
 pel_put true old places from before word r is put = record {
   kept = λ k h. turned-push_left Black places (from + r) k (omega arith) ∙ put.kept k h;
   done = λ i h. elim (cases_lt i r) [
@@ -97,10 +65,6 @@ pels_put old from before word (suc r) fits within put =
     (append_assoc old (ones_among from 63 changes r) (if one then (from + r) ∷ [] else []))
     (pel_put one old (old ++ ones_among from 63 changes r) from before word r (change_bit before word r fits (omega arith))
     (pels_put old from before word r fits (omega arith) put))
-
--- what ascends does so in the list that is cut at its end, and back
-ascending_in : (places : List ℕ) (end : ℕ) → IsAscending places end → IsAscending (take end places) (length (take end places))
-ascending_in places end up = grind (arith, common_steps)
 
 -- the places of a row before a word
 none_put : (places : List ℕ) (end from before word : ℕ) → IsAscending places end → (1 < end → get_or places (end - 1) 0 < from)

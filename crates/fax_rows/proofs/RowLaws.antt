@@ -1,4 +1,5 @@
 -- A row in one-dimensional coding is read in one way, where the run tables are.
+use Rattle.std.proofs.lemmas.Grind.{common_steps}
 use Rattle.std.proofs.Common.{◌≡◌, ℕ, zero, suc, ◌+◌, ◌<◌, ◌≤◌, List, [], ◌∷◌, length, replicate, Bool, refl, ap, sym, ◌∙◌}
 use Rattle.std.proofs.Common.{subst, arith, length-append, inl, inr}
 use Rattle.std.specs.Prelude.{sum, ◌⊎◌}
@@ -50,10 +51,8 @@ module _ (reads : (colour : Colour) → ReadsOneWay (run_table colour)) where
       → from ≡ place → AreRuns width colour from b runs rest → AreRuns width colour place c more remaining
       → (runs ≡ more) × (rest ≡ remaining)
   same_runs colour width from place b c [] [] rest remaining at here first second = (refl, sym first.1 ∙ at ∙ second.1)
-  same_runs colour width from place b c [] (m ∷ more) rest remaining at here first second =
-      absurd (omega (arith, first.0, second.0))
-  same_runs colour width from place b c (n ∷ runs) [] rest remaining at here first second =
-      absurd (omega (arith, first.0, second.0))
+  same_runs colour width from place b c [] (m ∷ more) rest remaining at here first second = grind (arith, common_steps)
+  same_runs colour width from place b c (n ∷ runs) [] rest remaining at here first second = grind (arith, common_steps)
   same_runs colour width from place b c (n ∷ runs) (m ∷ more) rest remaining at here first second =
       let run = same_run reads at first.2 second.2 in
       let after = same_runs (other colour) width (from + n) (place + m) first.1 second.1 runs more rest remaining run.1

@@ -40,18 +40,12 @@ runs_after-other Black Black n pels other = absurd (other refl)
 -- the pel at place i is of the run's colour
 pub goes_on : (colour first : Colour) (n i : ℕ) (pels : List Colour) → i < length pels → get_or pels i White ≡ first → first ≡ colour
     → runs_after colour n (drop i pels) ≡ runs_after colour (n + 1) (drop (i + 1) pels)
-goes_on colour first n i pels within at same =
-    ap (λ xs. runs_after colour n xs) (drop-cons pels i White within)
-    ∙ runs_after-same colour (get_or pels i White) n (drop (suc i) pels) (at ∙ same)
-    ∙ ap (λ j. runs_after colour (n + 1) (drop j pels)) (suc-eq-add-one i)
+goes_on colour first n i pels within at same = grind (arith, common_steps, drop-cons, runs_after-same, suc-eq-add-one)
 
 -- it is of the other colour, so that a run ends before it
 pub turns : (colour first : Colour) (n i : ℕ) (pels : List Colour) → i < length pels → get_or pels i White ≡ first → first ≢ colour
     → runs_after colour n (drop i pels) ≡ n ∷ runs_after first 1 (drop (i + 1) pels)
-turns colour first n i pels within at other =
-    ap (λ xs. runs_after colour n xs) (drop-cons pels i White within ∙ ap (λ x. x ∷ drop (suc i) pels) at)
-    ∙ runs_after-other colour first n (drop (suc i) pels) other
-    ∙ ap (λ j. n ∷ runs_after first 1 (drop j pels)) (suc-eq-add-one i)
+turns colour first n i pels within at other = grind (arith, common_steps, drop-cons, runs_after-other, suc-eq-add-one)
 
 -- the colour of a run goes on at a pel that is no changing element, and turns at one that is
 changes_not : (a b : Colour) → not (same_colour a b) ≡ false → a ≡ b

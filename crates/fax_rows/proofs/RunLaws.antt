@@ -1,5 +1,5 @@
 -- A run is read in one way, where the run tables are.
-use Rattle.std.proofs.Common.{◌≡◌, ℕ, zero, suc, ◌+◌, ◌<◌, ◌≤◌, List, [], ◌∷◌, ◌++◌, length, map, Bool, refl, ap, sym, ◌∙◌, subst, arith}
+use Rattle.std.proofs.Common.{◌≡◌, ℕ, zero, suc, ◌+◌, ◌<◌, ◌≤◌, List, [], ◌∷◌, ◌++◌, length, map, Bool, refl, sym, ◌∙◌, subst, arith}
 use Rattle.std.proofs.Common.{inl, inr}
 use Rattle.std.specs.Prelude.{sum, ◌⊎◌}
 use Rattle.std.proofs.lemmas.Bool.{cases_lt}
@@ -58,10 +58,7 @@ module _ (reads : (colour : Colour) → ReadsOneWay (run_table colour)) where
   -- at most one run begins the bits
   pub same_run : {colour : Colour} {b c : List Bool} {n m : ℕ} {rest remaining : List Bool} → b ≡ c
       → IsRun colour b n rest → IsRun colour c m remaining → (n ≡ m) × (rest ≡ remaining)
-  same_run {colour = colour} {b = b} {c = c} {rest = rest} {remaining = remaining} at first second =
-      let same = same_codes colour b c rest remaining first.make_up second.make_up first.last second.last at first.spelled second.spelled in
-      let sums : sum first.make_up ≡ sum second.make_up = ap sum same.0 in
-      (omega (arith, first.length, second.length, sums, same.1), same.2)
+  same_run {colour = colour} {b = b} {c = c} {rest = rest} {remaining = remaining} at first second = grind (arith, common_steps, same_codes)
 
   -- where a code is taken the fault is that code's
   fault_of_taken : (colour : Colour) (width so_far : ℕ) (b c : List Bool) (code : RunCode) (rest : List Bool) (fault : RowFault) → b ≡ c
@@ -100,10 +97,7 @@ module _ (reads : (colour : Colour) → ReadsOneWay (run_table colour)) where
 
   same_fault_at_code : (colour : Colour) (width so_far : ℕ) (b c : List Bool) (fault another : RowFault) → b ≡ c
       → IsAtRunCode colour width so_far b fault → IsAtRunCode colour width so_far c another → fault ≡ another
-  same_fault_at_code colour width so_far b c fault another at (inl none) (inl neither) =
-      let same = (reads colour).code.one_fault b none.0 neither.0 none.1
-      (subst (λ x. IsFaultOf (run_table colour) x neither.0) (sym at) neither.1) in
-      none.2 ∙ ap row_fault same ∙ sym neither.2
+  same_fault_at_code colour width so_far b c fault another at (inl none) (inl neither) = grind (arith, common_steps)
   same_fault_at_code colour width so_far b c fault another at (inl none) (inr some) =
       absurd ((reads colour).code.answer_has_no_fault c some.0 some.1 none.0 some.2
       (subst (λ x. IsFaultOf (run_table colour) x none.0) at none.1))
@@ -144,21 +138,17 @@ module _ (reads : (colour : Colour) → ReadsOneWay (run_table colour)) where
       same_fault_after colour width from (from + sum first.make_up) (from + sum second.make_up) b c first.left second.left fault another
       first.make_up second.make_up at first.spelled refl first.within first.at_code second.spelled refl second.within second.at_code
 
+  fault_at_once : (colour : Colour) (width from : ℕ) (b : List Bool) (fault : RowFault) → from ≤ width
+      → IsAtRunCode colour width (from + 0) b fault → IsRunOrFault colour width from b
+  fault_at_once colour width from b fault within at =
+      inr (fault, record { make_up = []; left = b; spelled = refl; within = omega arith; at_code = at })
+
   run_by_code : (colour : Colour) (width from : ℕ) (b : List Bool) (code : RunCode) (rest : List Bool) → from ≤ width
       → Takes (run_table colour) b code rest → ((m : ℕ) → from + m ≤ width → IsRunOrFault colour width (from + m) rest)
       → IsRunOrFault colour width from b
   run_by_code colour width from b (Terminating n) rest within taken more =
       elim (cases_lt width (from + n)) [
-        | inl long ↦ inr (
-          RunTooLong,
-          record {
-            make_up = [];
-            left = b;
-            spelled = refl;
-            within = omega arith;
-            at_code = inr (Terminating n, rest, taken, (omega arith, refl));
-          },
-        )
+        | inl long ↦ fault_at_once colour width from b RunTooLong within (inr (Terminating n, rest, taken, (omega arith, refl)))
         | inr fits ↦ inl (
           n,
           rest,
@@ -169,16 +159,7 @@ module _ (reads : (colour : Colour) → ReadsOneWay (run_table colour)) where
       ]
   run_by_code colour width from b (MakeUp m) rest within taken more =
       elim (cases_lt width (from + m)) [
-        | inl long ↦ inr (
-          RunTooLong,
-          record {
-            make_up = [];
-            left = b;
-            spelled = refl;
-            within = omega arith;
-            at_code = inr (MakeUp m, rest, taken, (omega arith, refl));
-          },
-        )
+        | inl long ↦ fault_at_once colour width from b RunTooLong within (inr (MakeUp m, rest, taken, (omega arith, refl)))
         | inr fits ↦ elim (more m fits) [
           | inl run ↦ inl (
             m + run.0,
@@ -207,16 +188,7 @@ module _ (reads : (colour : Colour) → ReadsOneWay (run_table colour)) where
         ]
       ]
   run_by_code colour width from b RunExtension rest within taken more =
-      inr (
-        Extension,
-        record {
-          make_up = [];
-          left = b;
-          spelled = refl;
-          within = omega arith;
-          at_code = inr (RunExtension, rest, taken, refl);
-        },
-      )
+      fault_at_once colour width from b Extension within (inr (RunExtension, rest, taken, refl))
 
   find_run : (fuel : ℕ) (colour : Colour) (width from : ℕ) (b : List Bool) → length b < fuel → from ≤ width
       → IsRunOrFault colour width from b
@@ -226,16 +198,7 @@ module _ (reads : (colour : Colour) → ReadsOneWay (run_table colour)) where
         | inl taken ↦ run_by_code colour width from b taken.0 taken.1 within taken.2
             (λ m fits. find_run fuel colour width (from + m) taken.1
             (omega (arith, (reads colour).takes_bits b taken.0 taken.1 taken.2)) fits)
-        | inr none ↦ inr (
-          row_fault none.0,
-          record {
-            make_up = [];
-            left = b;
-            spelled = refl;
-            within = omega arith;
-            at_code = inl (none.0, none.1, refl);
-          },
-        )
+        | inr none ↦ fault_at_once colour width from b (row_fault none.0) within (inl (none.0, none.1, refl))
       ]
 
   -- a whole run within the width begins the bits, or they have a fault

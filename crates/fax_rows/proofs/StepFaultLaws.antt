@@ -1,8 +1,8 @@
 -- A row in two-dimensional coding or its one fault, where the tables are read in one way.
-use Rattle.std.proofs.Common.{◌≡◌, ◌≢◌, ℕ, zero, suc, ◌+◌, ◌<◌, ◌≤◌, List, [], ◌∷◌, ◌++◌, length, replicate, Bool, refl, ap, sym, ◌∙◌}
+use Rattle.std.proofs.lemmas.Grind.{common_steps}
+use Rattle.std.proofs.Common.{◌≡◌, ◌≢◌, ℕ, zero, suc, ◌+◌, ◌<◌, ◌≤◌, List, [], ◌∷◌, ◌++◌, length, replicate, Bool, refl, sym, ◌∙◌}
 use Rattle.std.proofs.Common.{subst, arith, inl, inr}
-use Rattle.std.specs.Prelude.{ℤ, pos, negsuc, ◌+ℤ◌, ◌<ℤ◌, ◌≤ℤ◌, ◌⊎◌, Option, Some, None, unwrap_or}
-use Rattle.std.proofs.lemmas.Bool.{cases_lt}
+use Rattle.std.specs.Prelude.{ℤ, pos, negsuc, ◌+ℤ◌, ◌<ℤ◌, ◌≤ℤ◌, ◌⊎◌, Option, Some, None}
 use Rattle.std.proofs.lemmas.Int.{ints, by_lt_z}
 use Rattle.fax_bits.specs.declared.Colour.{Colour}
 use Rattle.fax_bits.specs.declared.modes.ModeCode.{ModeCode}
@@ -72,14 +72,7 @@ IsEndOrFault reference from b = AreStepsToEnd reference from b ⊎ AreStepsToFau
 -- a0 is at the row's end, or it is not
 end_or_not : (a0 : Option ℕ) (width : ℕ) → (a0 ≡ Some width) ⊎ (a0 ≢ Some width)
 end_or_not None width = inr (λ same. cc)
-end_or_not (Some a) width =
-    elim (cases_lt a width) [
-      | inl less ↦ inr (λ same. absurd (omega (arith, ap (λ o. unwrap_or o 0) same)))
-      | inr over ↦ elim (cases_lt width a) [
-        | inl more ↦ inr (λ same. absurd (omega (arith, ap (λ o. unwrap_or o 0) same)))
-        | inr within ↦ inl (ap (λ n. Some n) (omega arith))
-      ]
-    ]
+end_or_not (Some a) width = grind (arith, common_steps)
 
 module _ (runs_read : (colour : Colour) → ReadsOneWay (run_table colour)) (modes_read : ReadsOneWay modes) where
   -- where a mode is taken the fault is that mode's
@@ -145,9 +138,7 @@ module _ (runs_read : (colour : Colour) → ReadsOneWay (run_table colour)) (mod
   same_step_fault reference old b c fault another at (inr first) second =
       same_mode_fault first.0 reference old first.1 fault another first.3
       (fault_of_mode reference old b c first.0 first.1 another at first.2 second)
-  same_step_fault reference old b c fault another at (inl first) (inl second) =
-      let same = modes_read.code.one_fault b first.0 second.0 first.1 (subst (λ x. IsFaultOf modes x second.0) (sym at) second.1) in
-      first.2 ∙ ap row_fault same ∙ sym second.2
+  same_step_fault reference old b c fault another at (inl first) (inl second) = grind (arith, common_steps)
   same_step_fault reference old b c fault another at (inl first) (inr second) =
       absurd (modes_read.code.answer_has_no_fault b second.0 second.1 first.0
       (subst (λ x. Takes modes x second.0 second.1) (sym at) second.2) first.1)
@@ -292,10 +283,8 @@ module _ (runs_read : (colour : Colour) → ReadsOneWay (run_table colour)) (mod
       (rest left : List Bool) (fault : RowFault) → old ≡ start → b ≡ c
       → AreSteps reference old b positions last rest → last.a0 ≡ Some (length reference)
       → AreSteps reference start c more another left → (another.a0 ≢ Some (length reference)) → IsStepFault reference another left fault → ⊥
-  ended_or_not reference old start b c [] [] last another rest left fault from at first ended second unfinished fails =
-      unfinished (ap (λ (p : Position). p.a0) (second.0 ∙ sym from ∙ sym first.0) ∙ ended)
-  ended_or_not reference old start b c [] (next ∷ more) last another rest left fault from at first ended second unfinished fails =
-      second.0 (ap (λ (p : Position). p.a0) (sym from ∙ sym first.0) ∙ ended)
+  ended_or_not reference old start b c [] [] last another rest left fault from at first ended second unfinished fails = grind (arith, common_steps)
+  ended_or_not reference old start b c [] (next ∷ more) last another rest left fault from at first ended second unfinished fails = grind (arith, common_steps)
   ended_or_not reference old start b c (next ∷ positions) [] last another rest left fault from at first ended second unfinished fails =
       step_has_no_fault reference old b left next first.1 fault (at ∙ second.1) first.2
       (subst (λ p. IsStepFault reference p left fault) (second.0 ∙ sym from) fails)

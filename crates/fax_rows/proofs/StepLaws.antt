@@ -1,18 +1,17 @@
 -- A row in two-dimensional coding is read in one way, where the tables are.
-use Rattle.std.proofs.Common.{◌≡◌, ℕ, List, [], ◌∷◌, length, Bool, refl, ap, sym, ◌∙◌, subst}
-use Rattle.std.specs.Prelude.{pos, Some}
+use Rattle.std.proofs.Common.{arith}
+use Rattle.std.proofs.lemmas.Grind.{common_steps}
+use Rattle.std.proofs.Common.{◌≡◌, List, [], ◌∷◌, length, Bool, sym, subst}
+use Rattle.std.specs.Prelude.{Some}
 use Rattle.fax_bits.specs.declared.Colour.{Colour}
 use Rattle.fax_bits.specs.declared.modes.ModeCode.{ModeCode}
 use Rattle.fax_bits.specs.declared.modes.ModeCode.TheVariants.{Pass, Horizontal, Vertical, Extension}
 use Rattle.fax_bits.specs.Codes.{Takes}
 use Rattle.fax_bits.specs.laws.Codes.{ReadsOneWay}
 use Rattle.fax_bits.specs.Tables.{run_table, modes}
-use Rattle.fax_rows.specs.Rows.{Position, beginning, IsStepBy, IsStep, AreSteps}
+use Rattle.fax_rows.specs.Rows.{Position, IsStepBy, IsStep, AreSteps}
 use Rattle.fax_rows.specs.Rows.{IsTwoDimensionalRow}
 use Rattle.fax_rows.proofs.RunLaws.{same_run}
-
-same_place : (m n : ℕ) → pos m ≡ pos n → m ≡ n
-same_place m n same = cc
 
 module _ (runs_read : (colour : Colour) → ReadsOneWay (run_table colour)) (modes_read : ReadsOneWay modes) where
   -- what a mode does is one step
@@ -20,11 +19,8 @@ module _ (runs_read : (colour : Colour) → ReadsOneWay (run_table colour)) (mod
       (rest remaining : List Bool)
       → b ≡ c → IsStepBy mode reference old b new rest → IsStepBy mode reference old c another remaining
       → (new ≡ another) × (rest ≡ remaining)
-  same_by Pass reference old b c new another rest remaining at first second =
-      (first.0 ∙ sym second.0, sym first.1 ∙ at ∙ second.1)
-  same_by (Vertical d) reference old b c new another rest remaining at first second =
-      let a1 = same_place first.0.a1 second.0.a1 (first.0.a1_is ∙ sym second.0.a1_is) in
-      (cc (a1, first.0.new_is, second.0.new_is), sym first.1 ∙ at ∙ second.1)
+  same_by Pass reference old b c new another rest remaining at first second = grind (arith, common_steps)
+  same_by (Vertical d) reference old b c new another rest remaining at first second = grind (arith, common_steps)
   same_by Horizontal reference old b c new another rest remaining at first second =
       let run = same_run runs_read at first.first_run second.first_run in
       let after = same_run runs_read run.1 first.second_run second.second_run in
@@ -45,12 +41,9 @@ module _ (runs_read : (colour : Colour) → ReadsOneWay (run_table colour)) (mod
       → AreSteps reference old b positions last rest → last.a0 ≡ Some (length reference)
       → AreSteps reference start c more another remaining → another.a0 ≡ Some (length reference)
       → (last ≡ another) × (rest ≡ remaining)
-  same_steps reference old start b c [] [] last another rest remaining from at first ended second done =
-      (first.0 ∙ from ∙ sym second.0, sym first.1 ∙ at ∙ second.1)
-  same_steps reference old start b c [] (next ∷ more) last another rest remaining from at first ended second done =
-      absurd (second.0 (ap (λ (p : Position). p.a0) (sym from ∙ sym first.0) ∙ ended))
-  same_steps reference old start b c (next ∷ positions) [] last another rest remaining from at first ended second done =
-      absurd (first.0 (ap (λ (p : Position). p.a0) (from ∙ sym second.0) ∙ done))
+  same_steps reference old start b c [] [] last another rest remaining from at first ended second done = grind (arith, common_steps)
+  same_steps reference old start b c [] (next ∷ more) last another rest remaining from at first ended second done = grind (arith, common_steps)
+  same_steps reference old start b c (next ∷ positions) [] last another rest remaining from at first ended second done = grind (arith, common_steps)
   same_steps reference old start b c (next ∷ positions) (onward ∷ more) last another rest remaining from at first ended second done =
       let step = same_step at first.2
       (subst (λ p. IsStep reference p c onward second.1) (sym from) second.2) in
@@ -60,8 +53,4 @@ module _ (runs_read : (colour : Colour) → ReadsOneWay (run_table colour)) (mod
   pub one_two_dimensional_row : (reference : List Colour) (b : List Bool) (row another : List Colour) (rest remaining : List Bool)
       → IsTwoDimensionalRow reference b row rest → IsTwoDimensionalRow reference b another remaining
       → (row ≡ another) × (rest ≡ remaining)
-  one_two_dimensional_row reference b row another rest remaining first second =
-      let same =
-      same_steps reference beginning beginning b b first.positions second.positions first.last second.last rest remaining refl refl
-      first.steps first.ends second.steps second.ends in
-      (first.pels ∙ ap (λ (p : Position). p.pels) same.0 ∙ sym second.pels, same.1)
+  one_two_dimensional_row reference b row another rest remaining first second = grind (arith, common_steps, same_steps)

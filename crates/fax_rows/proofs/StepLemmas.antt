@@ -1,12 +1,11 @@
 -- A row in two-dimensional coding, step by step.
 use Rattle.std.proofs.lemmas.Grind.{common_steps}
-use Rattle.std.proofs.Common.{◌≡◌, ℕ, ◌<◌, List, length, Option, Some, None, pos, negsuc, ◌+ℤ◌, ◌≤ℤ◌, ℤ}
-use Rattle.std.proofs.Common.{ap, ◌∙◌, arith}
+use Rattle.std.proofs.Common.{◌≡◌, ℕ, ◌<◌, List, length, Option, Some, None, pos, negsuc, ◌+ℤ◌, ◌≤ℤ◌, ℤ, arith}
 use Rattle.std.specs.Prelude.{unwrap_or, nat_abs}
 use Rattle.std.proofs.lemmas.Int.{ints}
 use Rattle.fax_bits.specs.declared.Colour.{Colour}
 use Rattle.fax_rows.specs.declared.two_dimensional.steps.Reached.{Reached}
-use Rattle.fax_rows.specs.Rows.{other, Position, coloured_up_to, IsInRow, IsVerticalStep}
+use Rattle.fax_rows.specs.Rows.{other, coloured_up_to, IsInRow, IsVerticalStep}
 use Rattle.fax_rows.specs.code.Seen.{b1_from}
 use Rattle.fax_rows.specs.code.Reached.{position_of}
 
@@ -14,16 +13,6 @@ use Rattle.fax_rows.specs.code.Reached.{position_of}
 pub abs-same : (z sum : ℤ) → pos 0 ≤ℤ z → z ≡ sum → pos (nat_abs z) ≡ sum
 abs-same (pos n) sum h same = same
 abs-same (negsuc n) sum h same = absurd (omega (arith, ints))
-
-abbrev with_colour : Colour → Position → Position
-with_colour colour at = record at { colour = colour }
-
--- the colour changes where a step ends
-turned : (at next : Reached) (old new : List Colour) (to : ℕ) (colour : Colour)
-    → position_of next new ≡ coloured_up_to (position_of at old) to → colour ≡ other at.colour
-    → with_colour colour (position_of next new) ≡ with_colour (other at.colour) (coloured_up_to (position_of at old) to)
-turned at next old new to colour coloured turn =
-    ap (with_colour colour) coloured ∙ ap (λ c. with_colour c (coloured_up_to (position_of at old) to)) turn
 
 -- a step in vertical mode
 pub vertical_step : (reference old new : List Colour) (at next : Reached) (d : ℤ) (a1 : ℕ) (colour : Colour)

@@ -1,8 +1,8 @@
 -- A row in one-dimensional coding whose next run has a fault, and why a row in two-dimensional coding is not read on.
-use Rattle.std.proofs.Common.{ℕ, ◌<◌, List, Bool, subst, arith}
+use Rattle.std.proofs.Common.{ℕ, ◌<◌, List, Bool, arith}
 use Rattle.std.specs.Prelude.{Result, Ok, Err, IfErr}
+use Rattle.std.proofs.lemmas.Grind.{common_steps}
 use Rattle.fax_bits.specs.declared.Colour.{Colour}
-use Rattle.fax_bits.specs.declared.Colour.TheVariants.{White}
 use Rattle.fax_rows.specs.declared.RowFault.{RowFault}
 use Rattle.fax_rows.specs.declared.two_dimensional.codes.Stop.{Stop}
 use Rattle.fax_rows.specs.declared.two_dimensional.codes.Stop.TheVariants.{Due, Other, Fault}
@@ -14,13 +14,7 @@ use Rattle.fax_rows.proofs.PairReadLemmas.{HasRead}
 pub row_stops : {width : ℕ} {b : List Bool} {chosen : Type 0} {total : ℕ} {colour : Colour} {places : List ℕ} {end : ℕ} {left : List Bool}
     {fault : RowFault} → HasRead width b chosen total colour places end left → total < width → IsRunFault colour width total left fault
     → IsOneDimensionalFault width b fault
-row_stops {width} {b} {chosen} {total} {colour} {places} {end} {left} {fault} read unfinished stops =
-    let so_far = read.so_far in
-    record {
-      runs = so_far.runs;
-      stops = stop_from width White 0 total b so_far.runs left fault so_far.coded (omega (arith, so_far.sum_is)) unfinished
-          (subst (λ c. IsRunFault c width total left fault) so_far.colour_is stops);
-    }
+row_stops {width} {b} {chosen} {total} {colour} {places} {end} {left} {fault} read unfinished stops = grind (arith, common_steps, stop_from)
 
 -- why a row is not read on, by what else holds of a fault and of what is due
 pub stop_as : {D : Type 0} (choice : Bool) {faults others : RowFault → Type 0} {dues more : D → Type 0} (stop : Stop D)

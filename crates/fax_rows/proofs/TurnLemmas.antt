@@ -1,8 +1,9 @@
 -- Rows by their places of change: the pel at a place, and where it changes.
+use Rattle.std.proofs.lemmas.Grind.{common_steps}
 use Rattle.std.proofs.Common.{◌≡◌, ℕ, zero, suc, ◌+◌, ◌-◌, ◌%◌, ◌<◌, ◌≤◌, List, [], ◌∷◌, ◌++◌, length, take, get_or, true, false, not, refl}
 use Rattle.std.proofs.Common.{ap, sym, ◌∙◌, subst, arith, inl, inr}
 use Rattle.std.specs.Prelude.{◌⊎◌, nat_le, if◌then◌else◌}
-use Rattle.std.proofs.lemmas.Bool.{cases_lt, le-leb, lt-leb}
+use Rattle.std.proofs.lemmas.Bool.{le-leb, lt-leb}
 use Rattle.std.proofs.Math.Nat.{eq-or-lt_of_le}
 use Rattle.std.proofs.lemmas.List.{get_or-take, length-take-le}
 use Rattle.std.proofs.lemmas.List.FromFn.{get_or-map-range_with_len, length-map-range_with_len}
@@ -139,10 +140,7 @@ module _ {places : List ℕ} {end : ℕ} (up : IsAscending places end) where
       rw two refl
     where
       few : j < 2
-      few = elim (cases_lt j 2) [
-        | inl less ↦ less
-        | inr more ↦ let l = below_later 1 j (omega arith) (omega arith) h in absurd (omega (arith, is))
-      ]
+      few = grind (arith, common_steps)
 
       later : 2 < end → 0 < get_or places 2 0
       later l = let m = below_later 1 2 (omega arith) (omega arith) l in omega arith

@@ -1,10 +1,9 @@
 -- Steps with a1 under b1, one after another, over places of change that are copied.
 use Rattle.std.proofs.lemmas.Grind.{common_steps}
 use Rattle.std.proofs.Common.{◌≡◌, ℕ, zero, suc, ◌+◌, ◌-◌, ◌<◌, ◌≤◌, List, [], ◌∷◌, ◌++◌, length, take, get_or, replicate, Bool, ℤ}
-use Rattle.std.proofs.Common.{pos, refl, ap, sym, ◌∙◌, subst, arith, inl, inr, true, rules}
+use Rattle.std.proofs.Common.{pos, refl, ap, sym, ◌∙◌, subst, arith, true, rules}
 use Prim.{search}
-use Rattle.std.specs.Prelude.{◌⊎◌, Some}
-use Rattle.std.proofs.lemmas.Bool.{cases_lt}
+use Rattle.std.specs.Prelude.{Some}
 use Rattle.std.proofs.lemmas.Int.{ints}
 use Rattle.std.proofs.lemmas.List.{take_more, get_or-take}
 use Rattle.fax_bits.specs.declared.Colour.{Colour}
@@ -44,13 +43,7 @@ pub vertical_goes_on : {reference : PlacedRow} {places : List ℕ} {at : PlacedR
     → (b : List Bool) (new : Position) (rest : List Bool) (d read : ℤ) → Takes modes b (Vertical d) rest
     → IsVerticalStep (placed_pels reference) (placed_position reference.width places at) read new → read ≡ d
     → GoesOn (placed_pels reference) (placed_position reference.width places at) b new rest
-vertical_goes_on {reference} {places} {at} here b new rest d distance taken step same =
-    step_goes_on here b new rest (record {
-      mode = Vertical d;
-      after = rest;
-      taken = taken;
-      step = (subst (λ e. IsVerticalStep (placed_pels reference) (placed_position reference.width places at) e new) same step, refl);
-    })
+vertical_goes_on {reference} {places} {at} here b new rest d distance taken step same = grind (arith, common_steps, step_goes_on)
 
 pub chosen_goes_on : {reference : PlacedRow} {places : List ℕ} {at : PlacedReached} → IsReadInside reference places at
     → (b : List Bool) (new : Position) (rest : List Bool)
@@ -64,13 +57,7 @@ chosen_goes_on {reference} {places} {at} here b new rest step = record {
 -- a place that stands where the next one is to be put
 turned_more : (places : List ℕ) (end place : ℕ) → end < length places → get_or places end 0 ≡ place
     → IsTurnedFrom (take end places) (take (end + 1) places) place
-turned_more places end place room is = record {
-  left = λ i h. ap (λ ps. turned Black ps i) split ∙ turned-push_left Black (take end places) place i h;
-  right = λ i h. ap (λ ps. turned Black ps i) split ∙ turned-push_right Black (take end places) place i h;
-}
-  where
-    split : take (end + 1) places ≡ take end places ++ place ∷ []
-    split = take_more places end 0 room ∙ ap (λ p. take end places ++ p ∷ []) is
+turned_more places end place room is = grind (arith, common_steps, turned-push_left, turned-push_right, take_more)
 
 -- how far the row is read after the step to b1, and after so many of them
 abbrev pub under : PlacedRow → PlacedReached → PlacedReached
@@ -85,30 +72,10 @@ under_all zero reference at = at
 under_all (suc k) reference at = under_all k reference (under reference at)
 
 module _ (reference : PlacedRow) (places : List ℕ) where
-  -- the last place is left of b1
-  last_left : (at : PlacedReached) → IsReadInside reference places at → at.b1 < reference.end → 1 < at.end
-      → get_or places (at.end - 1) 0 < get_or reference.places.now at.b1 0
-  last_left at here inside some = grind (arith, common_steps)
-
   -- the places ascend with the next one too
   ascending_more : (at : PlacedReached) → IsReadInside reference places at → at.b1 < reference.end
       → get_or places at.end 0 ≡ get_or reference.places.now at.b1 0 → IsAscending places (at.end + 1)
-  ascending_more at here inside is = record {
-    started = omega arith;
-    within = let room = room_left here in omega arith;
-    first = here.so_far.ascending.first;
-    steps = λ i some h. by i some h (cases_lt (i + 1) at.end);
-  }
-    where
-      by : (i : ℕ) → 0 < i → i + 1 < at.end + 1 → (i + 1 < at.end) ⊎ (at.end ≤ i + 1) → get_or places i 0 < get_or places (i + 1) 0
-      by i some h (inl less) = here.so_far.ascending.steps i some less
-      by i some h (inr over) =
-          let last : i + 1 ≡ at.end = omega arith in
-          let before : i ≡ at.end - 1 = omega arith in
-          let less = last_left at here inside (omega arith) in
-          subst (λ m. get_or places i 0 < get_or places m 0) (sym last)
-          (subst (λ n. get_or places n 0 < get_or places at.end 0) (sym before)
-          (subst (λ p. get_or places (at.end - 1) 0 < p) (sym is) less))
+  ascending_more at here inside is = grind (arith, common_steps)
 
   -- the step to b1, whose place stands there already
   module _ (at : PlacedReached) (here : IsReadInside reference places at)
@@ -147,11 +114,7 @@ module _ (reference : PlacedRow) (places : List ℕ) where
   pub all_under : (k : ℕ) (at : PlacedReached) (b rest : List Bool) → Spells modes b (replicate k (Vertical (pos 0))) rest
       → IsReadInside reference places at → at.b1 + k ≤ reference.end
       → ((i : ℕ) → i < k → get_or places (at.end + i) 0 ≡ get_or reference.places.now (at.b1 + i) 0) → AreUnder at k b rest
-  all_under zero at b rest spells here inside copied = record {
-    goes_on = record { positions = []; steps = (refl, spells) };
-    chosen = record { positions = []; steps = (refl, spells) };
-    so_far = here.so_far;
-  }
+  all_under zero at b rest spells here inside copied = grind (arith, common_steps)
   all_under (suc k) at b rest spells here inside copied =
       let same : at.end + 0 ≡ at.end = omega arith in
       let again : at.b1 + 0 ≡ at.b1 = omega arith in
@@ -194,16 +157,13 @@ abbrev pub placed : ℕ → Colour → ℕ → ℕ → PlacedReached
 placed place colour end b1 = record { reached = record { a0 = Some place; colour = colour }; end = end; b1 = b1 }
 
 same_placed : {p q : ℕ} {c d : Colour} {m n i j : ℕ} → p ≡ q → c ≡ d → m ≡ n → i ≡ j → placed p c m i ≡ placed q d n j
-same_placed {q = q} {c = c} {d = d} {m = m} {n = n} {i = i} place colour end b1 =
-    ap (λ x. placed x c m i) place ∙ ap (λ x. placed q x m i) colour ∙ ap (λ x. placed q d x i) end ∙ ap (λ x. placed q d n x) b1
+same_placed {q = q} {c = c} {d = d} {m = m} {n = n} {i = i} place colour end b1 = grind (arith, common_steps)
 
 -- how far it is read after so many steps, one at least
 pub under_all_is : (k : ℕ) (reference : PlacedRow) (at : PlacedReached)
     → placed (get_or reference.places.now (at.b1 + k) 0) (alternate at.reached.colour (suc k)) (at.end + suc k) (at.b1 + suc k)
     ≡ under_all (suc k) reference at
-under_all_is zero reference at =
-    let b1 : at.b1 + 0 ≡ at.b1 = omega arith in
-    same_placed (ap (λ n. get_or reference.places.now n 0) b1) refl refl refl
+under_all_is zero reference at = grind (arith, common_steps)
 under_all_is (suc k) reference at =
     let next = under reference at in
     same_placed

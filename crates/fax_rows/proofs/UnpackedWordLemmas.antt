@@ -183,22 +183,10 @@ shifted_one : (at : ℕ) → 1 * 2 ^ (63 - at) % 2 ^ 64 ≡ 2 ^ (63 - at)
 shifted_one at = one_shl (63 - at) 64 (omega arith)
 
 other_bits : (left at i : ℕ) → at < 64 → i < 64 → i ≢ at → word_bit (without left at) i ≡ word_bit left i
-other_bits left at i within inside differs =
-    let apart : 63 - i ≢ 63 - at = omega arith in
-    ap (λ n. nat_eq (bit_at (bit_xor left n) (63 - i)) 1) (shifted_one at)
-    ∙ ap (λ b. nat_eq b 1)
-    (bit_at_xor left (2 ^ (63 - at)) (63 - i) ∙ ap (λ b. (bit_at left (63 - i) + b) % 2) (bit_at-pow_other (63 - at) (63 - i) apart)
-    ∙ none (bit_at left (63 - i)) (bit_at-lt left (63 - i)))
-  where
-    none : (b : ℕ) → b < 2 → (b + 0) % 2 ≡ b
-    none b h = omega arith
+other_bits left at i within inside differs = grind (arith, common_steps, nat_eq, shifted_one, bit_at_xor, bit_at-pow_other, bit_at-lt)
 
 that_bit : (left at : ℕ) → word_bit left at ≡ true → word_bit (without left at) at ≡ false
-that_bit left at there =
-    ap (λ n. nat_eq (bit_at (bit_xor left n) (63 - at)) 1) (shifted_one at)
-    ∙ ap (λ b. nat_eq b 1)
-    (bit_at_xor left (2 ^ (63 - at)) (63 - at) ∙ ap (λ b. (bit_at left (63 - at) + b) % 2) (bit_at-pow_same (63 - at))
-    ∙ ap (λ b. (b + 1) % 2) (eqb-true (bit_at left (63 - at)) 1 there))
+that_bit left at there = grind (arith, common_steps, nat_eq, shifted_one, bit_at_xor, bit_at-pow_same, eqb-true)
 
 pub less_without : (left at : ℕ) → IsHighest left at → without left at < left
 less_without left at top =

@@ -1,17 +1,14 @@
 -- A row that is written is read back.
 use Rattle.std.proofs.lemmas.Grind.{common_steps}
-use Rattle.std.proofs.Common.{◌≡◌, ◌≢◌, ℕ, zero, suc, ◌+◌, ◌^◌, ◌<◌, ◌≤◌, List, [], ◌∷◌, ◌++◌, length, take, replicate, Bool, true, false}
+use Rattle.std.proofs.Common.{◌≡◌, ◌≢◌, ℕ, zero, suc, ◌+◌, ◌^◌, ◌<◌, ◌≤◌, List, [], ◌∷◌, ◌++◌, length, take, replicate, Bool}
 use Rattle.std.proofs.Common.{refl, ap, sym, ◌∙◌, subst, arith, inl, inr, append_assoc}
-use Rattle.std.specs.Prelude.{nat_eq, sum, Option, Some, None, unwrap_or}
-use Rattle.std.specs.Prelude.{pos, ◌-ℤ◌, if◌then◌else◌}
+use Rattle.std.specs.Prelude.{sum, Option, Some, None}
 use Rattle.std.proofs.Math.Seq.{take-length}
 use Rattle.std.proofs.lemmas.Bool.{cases_lt}
-use Rattle.std.proofs.lemmas.List.{append-nil, replicate-append-replicate}
-use Rattle.std.proofs.lemmas.Bool.Decides.{nat_tests}
+use Rattle.std.proofs.lemmas.List.{replicate-append-replicate}
 use Rattle.fax_bits.specs.declared.Colour.{Colour}
 use Rattle.fax_bits.specs.declared.Colour.TheVariants.{White, Black}
 use Rattle.fax_bits.specs.declared.modes.ModeCode.{ModeCode}
-use Rattle.fax_bits.specs.declared.modes.ModeCode.TheVariants.{Pass, Horizontal, Vertical}
 use Rattle.fax_bits.specs.Codes.{Takes}
 use Rattle.fax_bits.specs.laws.Codes.{RunBitsAreRead, ModeBitsAreRead}
 use Rattle.fax_bits.specs.Written.{mode_bits}
@@ -19,7 +16,7 @@ use Rattle.fax_bits.specs.Tables.{modes}
 use Rattle.fax_rows.specs.Rows.{other, pels_of, runs_after, runs_of, IsOneDimensionalRow}
 use Rattle.fax_rows.specs.Rows.{Position, AreSteps, IsTwoDimensionalRow}
 use Rattle.fax_rows.specs.laws.Rows.{HasWidth}
-use Rattle.fax_rows.specs.Coded.{chosen_step, step_bits, two_dimensional_bits, alternating_bits}
+use Rattle.fax_rows.specs.Coded.{step_bits, two_dimensional_bits, alternating_bits}
 use Rattle.fax_rows.specs.code.Choice.{places, colour_of, chosen_mode, run_pair_bits, next_a0}
 use Rattle.fax_rows.specs.Coded.{one_dimensional_bits}
 use Rattle.fax_rows.proofs.ChangeLemmas.{first_of}
@@ -41,45 +38,7 @@ pub step_bits-end : (limit : ℕ) (reference row : List Colour) (a0 : Option ℕ
     → step_bits limit reference row a0 ≡ []
 unfolding step_bits
 step_bits-end zero reference row a0 done = refl
-step_bits-end (suc limit) reference row a0 done =
-    let ends : nat_eq (unwrap_or a0 0) (length row) ≡ true = grind (arith, nat_tests) in
-    rw ends refl
-
--- the step that is written, by its mode
-abbrev by_mode : (reference row : List Colour) (a0 : Option ℕ) → ModeCode → List Bool × ℕ
-by_mode reference row a0 mode =
-    (mode_bits mode ++ run_pair_bits mode row a0 (places reference row a0), next_a0 mode (places reference row a0))
-
-abbrev with_place : ℕ → List Bool → List Bool × ℕ
-with_place place bits = (bits, place)
-
-by_tests : (first second : Bool) (pass vertical : List Bool) (b2 a1 : ℕ) (horizontal : List Bool × ℕ)
-    → (if first then (pass, b2) else (if second then (vertical, a1) else horizontal))
-    ≡ (if first then (pass ++ [], b2) else (if second then (vertical ++ [], a1) else horizontal))
-by_tests true second pass vertical b2 a1 horizontal = ap (with_place b2) (sym (append-nil pass))
-by_tests false true pass vertical b2 a1 horizontal = ap (with_place a1) (sym (append-nil vertical))
-by_tests false false pass vertical b2 a1 horizontal = refl
-
-chosen_by : (first second : Bool) (f : ModeCode → List Bool × ℕ) (x y z : ModeCode)
-    → (if first then f x else (if second then f y else f z)) ≡ f (if first then x else (if second then y else z))
-chosen_by true second f x y z = refl
-chosen_by false true f x y z = refl
-chosen_by false false f x y z = refl
-
-chosen_in : (reference row : List Colour) (a0 : Option ℕ) (first second : Bool)
-    → (if first then (mode_bits Pass, (places reference row a0).b2)
-    else (if second then (
-      mode_bits (Vertical (pos (places reference row a0).a1 -ℤ pos (places reference row a0).b1)),
-      (places reference row a0).a1,
-    ) else by_mode reference row a0 Horizontal))
-    ≡ by_mode reference row a0 (if first then Pass else (if second
-    then Vertical (pos (places reference row a0).a1 -ℤ pos (places reference row a0).b1) else Horizontal))
-chosen_in reference row a0 first second = grind (arith, common_steps)
-
-chosen_step_is : (reference row : List Colour) (a0 : Option ℕ)
-    → chosen_step reference row a0 ≡ by_mode reference row a0 (chosen_mode (places reference row a0))
-chosen_step_is reference row None = chosen_in reference row None _ _
-chosen_step_is reference row (Some a) = chosen_in reference row (Some a) _ _
+step_bits-end (suc limit) reference row a0 done = grind (arith, common_steps)
 
 -- elsewhere a step is written, and those after it
 pub step_bits-more : (limit : ℕ) (reference row : List Colour) (a0 : Option ℕ) → first_of a0 < length row
@@ -126,12 +85,7 @@ module _ (runs_read : RunBitsAreRead) (modes_taken : ModeBitsAreRead) (reference
       → step_bits (suc limit) reference row a0 ++ more
       ≡ mode_bits (mode_at a0) ++ (run_pair_bits (mode_at a0) row a0 (places reference row a0) ++ (step_bits limit reference row
       (Some (next_at a0)) ++ more))
-  bits_of_step limit a0 more unfinished =
-      ap (λ b. b ++ more) (step_bits-more limit reference row a0 unfinished)
-      ∙ append_assoc (mode_bits (mode_at a0) ++ run_pair_bits (mode_at a0) row a0 (places reference row a0))
-      (step_bits limit reference row (Some (next_at a0))) more
-      ∙ append_assoc (mode_bits (mode_at a0)) (run_pair_bits (mode_at a0) row a0 (places reference row a0))
-      (step_bits limit reference row (Some (next_at a0)) ++ more)
+  bits_of_step limit a0 more unfinished = grind (arith, common_steps, step_bits-more, append_assoc)
 
   back_by_step : (limit : ℕ) (a0 : Option ℕ) (more : List Bool) → first_of a0 < length row
       → (rest : List Bool) → rest ≡ step_bits limit reference row (Some (next_at a0)) ++ more

@@ -1,20 +1,20 @@
 -- How far a row is written after a step: the indexes of a1 and b1 after each mode.
 use Rattle.std.proofs.lemmas.Grind.{common_steps}
-use Rattle.std.proofs.Common.{◌≡◌, ℕ, suc, ◌+◌, ◌-◌, ◌<◌, ◌≤◌, ◌++◌, length, get_or, true, false, refl, ap, sym, ◌∙◌, subst, arith}
-use Rattle.std.specs.Prelude.{Option, Some, None, unwrap_or, pos, ◌-ℤ◌, nat_lt}
+use Rattle.std.proofs.Common.{◌≡◌, ℕ, suc, ◌+◌, ◌-◌, ◌<◌, ◌≤◌, ◌++◌, length, get_or, true, ap, sym, ◌∙◌, subst, arith}
+use Rattle.std.specs.Prelude.{Option, Some, None, unwrap_or, pos}
 use Rattle.std.proofs.lemmas.Bool.Decides.{nat_tests}
 use Rattle.std.proofs.lemmas.Int.{ints}
 use Rattle.std.proofs.lemmas.List.{append-nil}
 use Rattle.fax_bits.specs.declared.modes.ModeCode.{ModeCode}
 use Rattle.fax_bits.specs.declared.modes.ModeCode.TheVariants.{Horizontal, Vertical}
 use Rattle.fax_bits.specs.Written.{mode_bits}
-use Rattle.fax_rows.specs.code.Choice.{places, colour_of, chosen_mode, run_pair_bits, next_a0}
+use Rattle.fax_rows.specs.code.Choice.{places, colour_of, chosen_mode, next_a0}
 use Rattle.fax_bits.specs.declared.Colour.{Colour}
 use Rattle.fax_bits.specs.declared.Colour.TheVariants.{Black}
 use Rattle.fax_rows.specs.declared.put.ChangesAhead.{ChangesAhead}
 use Rattle.fax_rows.specs.declared.rows.PlacedRow.{PlacedRow}
 use Rattle.fax_rows.specs.declared.rows.RowPair.{RowPair}
-use Rattle.fax_rows.specs.Rows.{other, is_right_of, next_change, b1, b2}
+use Rattle.fax_rows.specs.Rows.{other, is_right_of}
 use Rattle.fax_rows.specs.code.ChangesAhead.{AreAhead, IsWrittenTo, mode_from, bits_from, place_from, run_pair}
 use Rattle.fax_rows.specs.code.PlacedRow.{placed_pels, IsBeforeB1, IsB1At}
 use Rattle.fax_rows.specs.code.Turns.{alternate, IsFrom, ArePlacesUpTo}
@@ -46,20 +46,10 @@ module _ {rows : RowPair} {ahead : ChangesAhead} (is : AreAhead rows ahead) wher
   row_at = at_from rows.row.placed ahead.a0 ahead.row is.row
 
   pub from_a1 : ahead.a1 < rows.row.width → IsFrom rows.row.places.now rows.row.end (Some ahead.a1) (ahead.row + 1)
-  from_a1 inside =
-      let less = inside_end rows.row ahead.row row_at.0 (omega (arith, row_at.1))
-      (omega (arith, is.a1_at)) in
-      subst (λ a. ArePlacesUpTo rows.row.places.now rows.row.end a (ahead.row + 1)) (sym is.a1_at)
-      (after_place rows.row ahead.row row_at.0 less)
+  from_a1 inside = grind (arith, common_steps, inside_end, row_at, after_place)
 
   pub from_a2 : ahead.a2 < rows.row.width → IsFrom rows.row.places.now rows.row.end (Some ahead.a2) (ahead.row + 2)
-  from_a2 inside =
-      let less = inside_end rows.row (ahead.row + 1) (omega arith) (omega (arith, row_at.1))
-      (omega (arith, is.a2_at)) in
-      let next : ahead.row + 1 + 1 ≡ ahead.row + 2 = omega arith in
-      subst (λ a. ArePlacesUpTo rows.row.places.now rows.row.end a (ahead.row + 2)) (sym is.a2_at)
-      (subst (λ k. ArePlacesUpTo rows.row.places.now rows.row.end (get_or rows.row.places.now (ahead.row + 1) 0) k) next
-      (after_place rows.row (ahead.row + 1) (omega arith) less))
+  from_a2 inside = grind (arith, common_steps, inside_end, row_at, after_place)
 
   -- b2 is not left of a0
   b2_from_a0 : unwrap_or ahead.a0 0 ≤ ahead.b2
@@ -70,12 +60,7 @@ module _ {rows : RowPair} {ahead : ChangesAhead} (is : AreAhead rows ahead) wher
       omega (arith, first, second, is.b2_at)
 
   pub from_b2 : ahead.b2 < ahead.a1 → IsFrom rows.row.places.now rows.row.end (Some ahead.b2) ahead.row
-  from_b2 left = record {
-    some = row_at.0;
-    within = row_at.1;
-    left = omega (arith, b2_from_a0, first_left rows.row ahead.a0 ahead.row is.row);
-    right = λ l. omega (arith, left, is.a1_at);
-  }
+  from_b2 left = grind (arith, common_steps, row_at, b2_from_a0, first_left)
 
   -- the colour after one change, and after two
   turned_colour : other ahead.colour ≡ alternate Black (ahead.row + 1)
@@ -124,25 +109,7 @@ module _ {rows : RowPair} {ahead : ChangesAhead} (is : AreAhead rows ahead) wher
   -- the mode that is chosen is that of the step from a0
   pub mode_is : mode_from (placed_pels rows.reference) (placed_pels rows.row) ahead.a0
       ≡ chosen_mode (record { a1 = ahead.a1; a2 = 0; b1 = ahead.b1; b2 = ahead.b2 })
-  mode_is =
-      let reference = placed_pels rows.reference in
-      let row = placed_pels rows.row in
-      sym (ap (λ p. chosen_mode (record { a1 = p; a2 = 0; b1 = ahead.b1; b2 = ahead.b2 })) is.a1
-      ∙ ap (λ p. chosen_mode (record { a1 = next_change row ahead.a0; a2 = 0; b1 = p; b2 = ahead.b2 }))
-      (is.b1 ∙ ap (b1 reference ahead.a0) is.colour)
-      ∙ ap (λ p. chosen_mode (record {
-        a1 = next_change row ahead.a0;
-        a2 = 0;
-        b1 = b1 reference ahead.a0 (colour_of row ahead.a0);
-        b2 =
-            p;
-      }))
-      (is.b2 ∙ ap (b2 reference ahead.a0) is.colour))
-
-  -- the runs of horizontal mode
-  pub pair_is : run_pair_bits Horizontal (placed_pels rows.row) ahead.a0
-      (places (placed_pels rows.reference) (placed_pels rows.row) ahead.a0) ≡ run_pair ahead
-  pair_is = grind (arith, common_steps)
+  mode_is = grind (arith, common_steps)
 
   pub horizontal_bits : (mode : ModeCode) → mode ≡ chosen_mode (record { a1 = ahead.a1; a2 = 0; b1 = ahead.b1; b2 = ahead.b2 })
       → mode ≡ Horizontal
@@ -151,20 +118,11 @@ module _ {rows : RowPair} {ahead : ChangesAhead} (is : AreAhead rows ahead) wher
 
   -- a1 under b1
   under_mode : ahead.a1 ≡ ahead.b1 → mode_from (placed_pels rows.reference) (placed_pels rows.row) ahead.a0 ≡ Vertical (pos 0)
-  under_mode same =
-      let second = b2_ahead rows.reference ahead.reference is.reference.some
-      is.reference.within in
-      let order : ahead.a1 ≤ ahead.b2 = omega (arith, second, same, is.b1_at, is.b2_at) in
-      let no_pass : nat_lt ahead.b2 ahead.a1 ≡ false = grind (arith, nat_tests) in
-      let under : pos ahead.a1 -ℤ pos ahead.b1 ≡ pos 0 = omega (arith, ints) in
-      mode_is ∙ rw (no_pass, under) refl
+  under_mode same = grind (arith, common_steps, b2_ahead, nat_tests, ints, mode_is)
 
   pub under_bits : ahead.a1 ≡ ahead.b1 → bits_from (placed_pels rows.reference) (placed_pels rows.row) ahead.a0 ≡ mode_bits
       (Vertical (pos 0))
-  under_bits same =
-      let at = places (placed_pels rows.reference) (placed_pels rows.row) ahead.a0 in
-      ap (λ m. mode_bits m ++ run_pair_bits m (placed_pels rows.row) ahead.a0 at) (under_mode same) ∙ append-nil
-      (mode_bits (Vertical (pos 0)))
+  under_bits same = grind (arith, common_steps, under_mode, append-nil)
 
   pub under_place : ahead.a1 ≡ ahead.b1 → ahead.a1 ≡ place_from (placed_pels rows.reference) (placed_pels rows.row) ahead.a0
   under_place same =

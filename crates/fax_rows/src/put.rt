@@ -202,15 +202,12 @@ fn put_far_step(
 ) -> Result<(WrittenTo, PendingBits), Memory>
     requires places { Spec.AreAhead rows ahead }
     ensures ok { IfOk result (λ next. AppendsAllBut sink.old
-        (pending ++ Spec.bits_from (placed_pels rows.entry.reference)
-        (placed_pels rows.entry.row) ahead.a0) next.1 sink.new) }
-    ensures next { IfOk result (λ next. next.0.a0
-        ≡ Some (Spec.place_from (placed_pels rows.entry.reference)
-        (placed_pels rows.entry.row) ahead.a0)) }
+        (pending ++ Spec.bits_ahead rows.entry ahead.a0) next.1 sink.new) }
+    ensures next { IfOk result (λ next.
+        next.0.a0 ≡ Some (Spec.place_ahead rows.entry ahead.a0)) }
     ensures places { IfOk result (λ next. Spec.IsWrittenTo rows.entry next.0) }
     ensures err { OnErr result (AppendsPrefix sink.old
-        (pending ++ Spec.bits_from (placed_pels rows.entry.reference)
-        (placed_pels rows.entry.row) ahead.a0) sink.new) }
+        (pending ++ Spec.bits_ahead rows.entry ahead.a0) sink.new) }
 {
     let mode = choose(ahead.a1, ahead.b1, ahead.b2);
     match mode {
@@ -244,15 +241,12 @@ fn put_step(
     requires places { Spec.IsWrittenTo rows at }
     requires unfinished { unwrap_or at.a0 0 < rows.row.width }
     ensures ok { IfOk result (λ next. AppendsAllBut sink.old
-        (pending ++ Spec.bits_from (placed_pels rows.entry.reference)
-        (placed_pels rows.entry.row) at.a0) next.1 sink.new) }
-    ensures next { IfOk result (λ next. next.0.a0
-        ≡ Some (Spec.place_from (placed_pels rows.entry.reference)
-        (placed_pels rows.entry.row) at.a0)) }
+        (pending ++ Spec.bits_ahead rows.entry at.a0) next.1 sink.new) }
+    ensures next { IfOk result (λ next.
+        next.0.a0 ≡ Some (Spec.place_ahead rows.entry at.a0)) }
     ensures places { IfOk result (λ next. Spec.IsWrittenTo rows.entry next.0) }
     ensures err { OnErr result (AppendsPrefix sink.old
-        (pending ++ Spec.bits_from (placed_pels rows.entry.reference)
-        (placed_pels rows.entry.row) at.a0) sink.new) }
+        (pending ++ Spec.bits_ahead rows.entry at.a0) sink.new) }
 {
     let ahead = ChangesAhead::of(rows, at);
     if ahead.a1 == ahead.b1 {

@@ -52,6 +52,13 @@ bits_from reference row a0 =
 abbrev pub place_from : List Colour → List Colour → Option ℕ → ℕ
 place_from reference row a0 = next_a0 (mode_from reference row a0) (places reference row a0)
 
+-- these two of a row that is written over its reference row
+abbrev pub bits_ahead : RowPair → Option ℕ → List Bool
+bits_ahead rows a0 = bits_from (placed_pels rows.reference) (placed_pels rows.row) a0
+
+abbrev pub place_ahead : RowPair → Option ℕ → ℕ
+place_ahead rows a0 = place_from (placed_pels rows.reference) (placed_pels rows.row) a0
+
 -- the runs a0a1 and a1a2, the first of a0's colour (T.4, section 4.2.1.3.2)
 abbrev pub run_pair : ChangesAhead → List Bool
 run_pair ahead = run_bits ahead.colour (ahead.a1 - unwrap_or ahead.a0 0) ++ run_bits
