@@ -255,7 +255,7 @@ uint32_t faxpages_convert(const uint8_t *file, size_t file_len,
  * 16 bytes are enough. Answers how many bytes the name has, 0 where no fault has this number. */
 size_t faxpages_fault_name(uint32_t number, uint8_t *name, size_t name_room);
 
-/* The version as a number, 10204 for 1.2.4; and as text, as faxpages_fault_name writes names. */
+/* The version as a number, 10205 for 1.2.5; and as text, as faxpages_fault_name writes names. */
 uint32_t faxpages_version(void);
 size_t faxpages_version_text(uint8_t *text, size_t text_room);
 

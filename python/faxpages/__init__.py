@@ -91,7 +91,7 @@ _fraction = functools.lru_cache(maxsize=64)(Fraction)
 
 
 def version() -> str:
-    """The version of libfaxpages, as "1.2.4"."""
+    """The version of libfaxpages, as "1.2.5"."""
     text = ctypes.create_string_buffer(32)
     length = _c.library.faxpages_version_text(text, 32)
     return text.raw[:length].decode()

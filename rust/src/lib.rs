@@ -344,7 +344,7 @@ pub fn convert(file: &[u8], options: &Options) -> Result<Vec<u8>, Error> {
     }
 }
 
-/// The version of libfaxpages, as 10204 for 1.2.4.
+/// The version of libfaxpages, as 10205 for 1.2.5.
 pub fn version() -> u32 {
     // SAFETY: it takes nothing.
     unsafe { calls::faxpages_version() }

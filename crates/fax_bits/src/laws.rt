@@ -1,7 +1,6 @@
 //! Laws of bits and of the code tables. The functions compute nothing: each has a law as its
 //! contract.
 ghost use Rattle.fax_bits.specs.declared.Colour.{Colour};
-ghost use Rattle.fax_bits.specs.Codes.{Takes};
 ghost use Rattle.fax_bits.specs.laws.Codes as Law;
 ghost use Rattle.fax_bits.specs.Tables.{run_table};
 

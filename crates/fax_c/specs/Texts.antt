@@ -30,7 +30,7 @@ NamesFault number old len new =
 
 -- the version, and its number
 abbrev pub version : List ℕ
-version = codes "1.2.4"
+version = codes "1.2.5"
 
 abbrev pub version_number : ℕ
-version_number = 10204
+version_number = 10205

@@ -56,7 +56,7 @@ fn read_modes<const CHOICE: bool>(
 {
     match read_by_look_ups::<CHOICE>(source, reference, places) {
         Ok(end) => Ok(end),
-        Err(Stop::Due(left)) => read_on::<CHOICE>(source, reference, places, left),
+        Err(Stop::Due(pause)) => read_on::<CHOICE>(source, reference, places, pause),
         Err(Stop::Other) => Err(Stop::Other),
         Err(Stop::Fault(fault)) => Err(Stop::Fault(fault)),
     }

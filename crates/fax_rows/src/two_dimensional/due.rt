@@ -7,7 +7,7 @@ ghost use Rattle.fax_bits.specs.views.Source.{KeepsEnd};
 ghost use Rattle.fax_rows.specs.Rows as Spec;
 ghost use Rattle.fax_rows.specs.Faults as Fault;
 ghost use Rattle.fax_rows.specs.code.Due.{IsDue, IsDueWithin};
-ghost use Rattle.fax_rows.specs.code.Left.{IsLeft};
+ghost use Rattle.fax_rows.specs.code.Pause.{IsPause};
 ghost use Rattle.fax_rows.specs.code.PlacedReached.{IsReadInside, IsReadOn};
 ghost use Rattle.fax_rows.specs.code.Put.{HasRoom};
 ghost use Rattle.fax_rows.specs.code.Reached.{position_of, reached_pel};
@@ -25,7 +25,7 @@ use fax_bits::{BitSource, Modes, read_code};
 
 /// Where a row is to be read on, by the numbers that the loop over its modes keeps.
 #[derive(Clone, Copy)]
-pub(super) struct Left {
+pub(super) struct Pause {
     /// What no look-up finds.
     pub due: Due,
     /// Its place in the bits of the source.
@@ -38,7 +38,7 @@ pub(super) struct Left {
     pub b1: usize,
 }
 
-impl Left {
+impl Pause {
     /// How far the row is read.
     fn reached(self) -> PlacedReached
         ensures { (at : PlacedReached) → self.a0 ≡ Spec.a0_number (position_of at.reached [])
@@ -122,9 +122,9 @@ pub(super) fn read_on<const CHOICE: bool>(
     source: &mut BitSource,
     reference: PlacedRow,
     places: &mut [u32],
-    left: Left,
+    pause: Pause,
 ) -> Result<usize, Stop<Due>>
-    requires left { IsLeft CHOICE reference source.old places.old left }
+    requires pause { IsPause CHOICE reference source.old places.old pause }
     ensures read { IfOk result (λ end. IsReadRow CHOICE reference.entry source.old.left places.new
         end source.new.left) }
     ensures stop { IfErr result (λ stop. IsRowStop CHOICE reference.entry source.old.left
@@ -134,8 +134,8 @@ pub(super) fn read_on<const CHOICE: bool>(
     ensures same_end { KeepsEnd source.old source.new }
 {
     let mut ahead = source.again();
-    ahead.skip_to(left.place);
-    let mut at = read_due::<CHOICE>(&mut ahead, reference, places, left.reached(), left.due)?;
+    ahead.skip_to(pause.place);
+    let mut at = read_due::<CHOICE>(&mut ahead, reference, places, pause.reached(), pause.due)?;
     while at.reached.first_pel() < reference.width {
         at = any_steps::<CHOICE>(&mut ahead, reference, places, at)?;
     }

@@ -10,7 +10,7 @@ ghost use Rattle.fax_rows.specs.Rows as Spec;
 ghost use Rattle.fax_rows.specs.Faults as Fault;
 ghost use Rattle.fax_rows.specs.declared.RowFault.TheVariants.{OutOfRow};
 ghost use Rattle.fax_rows.specs.code.Due.{AreReadRuns, AreRunsDue, IsDueAt, IsHorizontalDue};
-ghost use Rattle.fax_rows.specs.code.Left.{IsLeft};
+ghost use Rattle.fax_rows.specs.code.Pause.{IsPause};
 ghost use Rattle.fax_rows.specs.code.Seen.{b2_from};
 ghost use Rattle.fax_rows.specs.code.PlacedRow.{placed_pels};
 ghost use Rattle.fax_rows.specs.code.RowFaults.{IsHorizontalFault};
@@ -23,7 +23,7 @@ ghost use Rattle.fax_rows.specs.code.PlacedReached.{placed_position, IsReadTo, I
 use super::choices::{chooses_a1, chooses_b2, chooses_runs, is_taken};
 use super::codes::{Due, Stop, TwoRuns, last_two_runs, two_runs};
 use super::copied::under_several;
-use super::due::Left;
+use super::due::Pause;
 use super::steps::{PlacedReached, after_runs, left_of_b1, right_of_b1, under_b1, under_b2};
 use crate::RowFault;
 use crate::rows::PlacedRow;
@@ -243,12 +243,12 @@ pub(super) fn read_by_look_ups<const CHOICE: bool>(
     source: &mut BitSource,
     reference: PlacedRow,
     places: &mut [u32],
-) -> Result<usize, Stop<Left>>
+) -> Result<usize, Stop<Pause>>
     requires room { HasRoom reference.width places.old }
     ensures read { IfOk result (λ end. IsReadRow CHOICE reference.entry source.old.left places.new
         end source.new.left) }
     ensures stop { IfErr result (λ stop. IsRowStop CHOICE reference.entry source.old.left
-        (λ left. IsLeft CHOICE reference.entry source.old places.new left) stop) }
+        (λ pause. IsPause CHOICE reference.entry source.old places.new pause) stop) }
     ensures unchanged { OnErr result (source.new ≡ source.old) }
     ensures room { HasRoom reference.entry.width places.new }
     ensures same_end { KeepsEnd source.old source.new }
@@ -259,7 +259,7 @@ pub(super) fn read_by_look_ups<const CHOICE: bool>(
         match next_steps::<CHOICE>(&mut ahead, reference, places, at) {
             Ok(next) => at = next,
             Err(Stop::Due(due)) => {
-                return Err(Stop::Due(Left {
+                return Err(Stop::Due(Pause {
                     due,
                     place: ahead.place(),
                     a0: at.reached.number(),

@@ -13,40 +13,40 @@ use Rattle.fax_rows.proofs.two_dimensional.due.read_on.Goals as goal
 
 pub returns-in_err-at-clause-stop : goal.returns-in_err-at-clause-stop
 returns-in_err-at-clause-stop g c =
-    let left = c.requires.left in
+    let pause = c.requires.pause in
     let same =
-    c.reached.ensures left.at left.a0 left.end left.b1 (left.due.inside.so_far.b1 left.due.inside.unfinished).colour_is in
+    c.reached.ensures pause.at pause.a0 pause.end pause.b1 (pause.due.inside.so_far.b1 pause.due.inside.unfinished).colour_is in
     let there = ap (λ (s : Source). s.left) c.skip_to.ensures
-    ∙ rw c.again-ahead.ensures (rest_there c.args.source.now c.args.left.place left.front left.rest left.bits left.place) in
-    let due : IsDue c.reached.result.reached.colour left.middle c.args.left.due c.skip_to.new.self.left = rw (same, there) left.due.read in
-    let here = fault_here (placed_pels c.args.reference) c.args.source.now.left left.at.reached
-    (pels_by c.args.reference.width (take left.at.end c.args.places.now)) left.middle left.steps
-    (omega (arith, length-placed_pels c.args.reference, left.due.inside.unfinished)) in
+    ∙ rw c.again-ahead.ensures (rest_there c.args.source.now c.args.pause.place pause.front pause.rest pause.bits pause.place) in
+    let due : IsDue c.reached.result.reached.colour pause.middle c.args.pause.due c.skip_to.new.self.left = rw (same, there) pause.due.read in
+    let here = fault_here (placed_pels c.args.reference) c.args.source.now.left pause.at.reached
+    (pels_by c.args.reference.width (take pause.at.end c.args.places.now)) pause.middle pause.steps
+    (omega (arith, length-placed_pels c.args.reference, pause.due.inside.unfinished)) in
     let p = err_from_is_err_and c.from_residual.result c.from_residual.ensures.1 in
-    rw (p.1, p.2) (stop_as _ c.in_err-at.field-0.0 (rw same at (c.in_err-at.ensures.stop left.middle due)) here (λ more h. h))
+    rw (p.1, p.2) (stop_as _ c.in_err-at.field-0.0 (rw same at (c.in_err-at.ensures.stop pause.middle due)) here (λ more h. h))
 
 pub loop-ahead-init : goal.loop-ahead-init
 loop-ahead-init g c =
-    let left = c.requires.left in
+    let pause = c.requires.pause in
     let same =
-    c.reached.ensures left.at left.a0 left.end left.b1 (left.due.inside.so_far.b1 left.due.inside.unfinished).colour_is in
+    c.reached.ensures pause.at pause.a0 pause.end pause.b1 (pause.due.inside.so_far.b1 pause.due.inside.unfinished).colour_is in
     let there = ap (λ (s : Source). s.left) c.skip_to.ensures
-    ∙ rw c.again-ahead.ensures (rest_there c.args.source.now c.args.left.place left.front left.rest left.bits left.place) in
+    ∙ rw c.again-ahead.ensures (rest_there c.args.source.now c.args.pause.place pause.front pause.rest pause.bits pause.place) in
     let place = ap (λ (s : Source). s.place) c.skip_to.ensures in
-    let due : IsDue c.reached.result.reached.colour left.middle c.args.left.due c.skip_to.new.self.left = rw (same, there) left.due.read in
-    let read = rw same at (c.in_ok-at.ensures.read left.middle due) in
+    let due : IsDue c.reached.result.reached.colour pause.middle c.args.pause.due c.skip_to.new.self.left = rw (same, there) pause.due.read in
+    let read = rw same at (c.in_ok-at.ensures.read pause.middle due) in
     record {
-      steps = goes_further left.steps read.steps;
-      chosen = λ h. chosen_further (left.chosen h) (read.chosen h);
+      steps = goes_further pause.steps read.steps;
+      chosen = λ h. chosen_further (pause.chosen h) (read.chosen h);
       so_far = read.so_far;
       same_end = omega (
         arith,
         c.in_ok-at.ensures.same_end,
         place,
         ap length there,
-        left.place,
-        ap length left.bits,
-        length-append left.front left.rest,
+        pause.place,
+        ap length pause.bits,
+        length-append pause.front pause.rest,
       );
     }
 

@@ -2,7 +2,7 @@
 use Rattle.std.specs.Prelude.{◌≡◌, ℕ, ◌+◌, ◌++◌, Bool, List, [], IsTrue, length}
 use Rattle.fax_bits.specs.views.Source.{Source}
 use Rattle.fax_rows.specs.declared.rows.PlacedRow.{PlacedRow}
-use Rattle.fax_rows.specs.declared.two_dimensional.due.Left.{Left}
+use Rattle.fax_rows.specs.declared.two_dimensional.due.Pause.{Pause}
 use Rattle.fax_rows.specs.declared.two_dimensional.steps.PlacedReached.{PlacedReached}
 use Rattle.fax_rows.specs.Rows.{beginning, a0_number}
 use Rattle.fax_rows.specs.code.Chosen.{GoesOn, GoesOnAsChosen}
@@ -12,12 +12,12 @@ use Rattle.fax_rows.specs.code.PlacedRow.{placed_pels}
 use Rattle.fax_rows.specs.code.Reached.{position_of}
 
 -- the bits of the source begin with steps from the row's beginning on, and then this is due
-pub record IsLeft (choice : Bool) (reference : PlacedRow) (source : Source) (places : List ℕ)
-    (left : Left) : Type 0 where
+pub record IsPause (choice : Bool) (reference : PlacedRow) (source : Source) (places : List ℕ)
+    (pause : Pause) : Type 0 where
   pub at : PlacedReached
-  pub a0 : left.a0 ≡ a0_number (position_of at.reached [])
-  pub end : left.end ≡ at.end
-  pub b1 : left.b1 ≡ at.b1
+  pub a0 : pause.a0 ≡ a0_number (position_of at.reached [])
+  pub end : pause.end ≡ at.end
+  pub b1 : pause.b1 ≡ at.b1
   pub middle : List Bool
   pub steps : GoesOn (placed_pels reference) beginning source.left
       (placed_position reference.width places at) middle
@@ -26,5 +26,5 @@ pub record IsLeft (choice : Bool) (reference : PlacedRow) (source : Source) (pla
   pub front : List Bool
   pub rest : List Bool
   pub bits : source.left ≡ front ++ rest
-  pub place : left.place ≡ source.place + length front
-  pub due : IsDueAt reference places at middle left.due rest
+  pub place : pause.place ≡ source.place + length front
+  pub due : IsDueAt reference places at middle pause.due rest
