@@ -1,27 +1,31 @@
 //! A row in two-dimensional coding, read on from where no look-up finds the next code (ITU-T T.4,
 //! section 4.2.1.3.2).
 ghost use Rattle.std.specs.Prelude.{◌≡◌, ◌<◌, Bool, List, [], length};
-ghost use Rattle.std.specs.Prelude.{OnOk, OnErr, IfOk, IfErr};
+ghost use Rattle.std.specs.Prelude.{OnOk, OnErr, IfOk, IfErr, IfSome, ◌+◌, ◌≤◌};
+ghost use Rattle.fax_bits.specs.Codes.{Takes, IsFaultOf};
+ghost use Rattle.fax_bits.specs.Tables.{modes};
 ghost use Rattle.fax_bits.specs.declared.Colour.TheVariants.{Black};
 ghost use Rattle.fax_bits.specs.views.Source.{KeepsEnd};
 ghost use Rattle.fax_rows.specs.Rows as Spec;
 ghost use Rattle.fax_rows.specs.Faults as Fault;
-ghost use Rattle.fax_rows.specs.code.Due.{IsDue, IsDueWithin};
+ghost use Rattle.fax_rows.specs.code.Due.{AreRunsDue, IsDue, IsDueWithin};
 ghost use Rattle.fax_rows.specs.code.Pause.{IsPause};
-ghost use Rattle.fax_rows.specs.code.PlacedReached.{IsReadInside, IsReadOn};
+ghost use Rattle.fax_rows.specs.code.PlacedReached.{placed_position, IsReadInside, IsReadOn, IsPairReadOn};
+ghost use Rattle.fax_rows.specs.code.PlacedRow.{placed_pels};
 ghost use Rattle.fax_rows.specs.code.Put.{HasRoom};
+ghost use Rattle.fax_rows.specs.code.RowFaults.{IsHorizontalFault};
 ghost use Rattle.fax_rows.specs.code.Reached.{position_of, reached_pel};
-ghost use Rattle.fax_rows.specs.code.Stop.{IsStepStop, IsRowStop};
+ghost use Rattle.fax_rows.specs.code.Stop.{IsStopOf, IsStepStop, IsRowStop};
 ghost use Rattle.fax_rows.specs.code.ReadRow.{IsReadRow};
 ghost use Rattle.fax_rows.specs.code.Turns.{alternate};
 
-use super::codes::{Due, Stop};
-use super::modes::{by_mode, last_horizontal, next_steps};
+use super::codes::{Due, Stop, last_two_runs};
+use super::modes::{pass, past_runs, vertical};
 use super::steps::{PlacedReached, Reached};
 use crate::RowFault;
 use crate::rows::PlacedRow;
 use crate::turns::colour_after;
-use fax_bits::{BitSource, Modes, read_code};
+use fax_bits::{BitSource, CodeFault, ModeCode, Modes, read_code};
 
 /// Where a row is to be read on, by the numbers that the loop over its modes keeps.
 #[derive(Clone, Copy)]
@@ -61,9 +65,74 @@ impl Pause {
     }
 }
 
+/// Reads a mode by a look-up, or else by its table.
+fn last_mode(source: &mut BitSource) -> Result<ModeCode, CodeFault>
+    ensures ok { IfOk result (λ mode. Takes modes source.old.left mode source.new.left) }
+    ensures err { IfErr result (λ fault. IsFaultOf modes source.old.left fault) }
+    ensures same_end { KeepsEnd source.old source.new }
+    ensures shorter { OnOk result (length source.new.left < length source.old.left) }
+{
+    if let Some(mode) = source.mode() {
+        return Ok(mode);
+    }
+    read_code::<Modes>(source)
+}
+
+/// Horizontal mode with runs by their tables: the first of them where it is not read, and the second.
+fn last_horizontal<const CHOICE: bool>(
+    source: &mut BitSource,
+    reference: PlacedRow,
+    places: &mut [u32],
+    at: PlacedReached,
+    first: Option<u32>,
+) -> Result<PlacedReached, Stop<Due>>
+    requires inside { IsReadInside reference places.old at }
+    requires fits { IfSome first (λ n. reached_pel at.reached + n ≤ reference.width) }
+    ensures read { (b : List Bool) → AreRunsDue at.reached.colour b first source.old.left
+        → IfOk result (λ next. IsPairReadOn CHOICE reference.entry places.old places.new at next
+        b source.new.left) }
+    ensures err { (b : List Bool) → AreRunsDue at.reached.colour b first source.old.left
+        → IfErr result (λ stop. IsStopOf CHOICE (λ fault. IsHorizontalFault
+        (placed_pels reference.entry) (placed_position reference.entry.width places.old at) b fault)
+        (λ due. ⊥) stop) }
+    ensures room { HasRoom reference.entry.width places.new }
+    ensures same_end { KeepsEnd source.old source.new }
+    ensures shorter { OnOk result (length source.new.left < length source.old.left) }
+{
+    let from = at.reached.first_pel();
+    let colour = colour_after(at.b1);
+    let runs = last_two_runs::<CHOICE>(source, colour, reference.width, from, first)?;
+    past_runs::<CHOICE>(reference, places, at, runs)
+}
+
+/// Goes on by a mode, after its code, with runs by their tables.
+fn last_step<const CHOICE: bool>(
+    source: &mut BitSource,
+    reference: PlacedRow,
+    places: &mut [u32],
+    at: PlacedReached,
+    mode: ModeCode,
+) -> Result<PlacedReached, Stop<Due>>
+    requires inside { IsReadInside reference places.old at }
+    ensures read { (b : List Bool) → Takes modes b mode source.old.left
+        → IfOk result (λ next. IsReadOn CHOICE reference.entry places.old places.new at next
+        b source.new.left) }
+    ensures stop { (b : List Bool) → Takes modes b mode source.old.left
+        → IfErr result (λ stop. IsStepStop CHOICE reference.entry places.old at b (λ more. ⊥)
+        stop) }
+    ensures room { HasRoom reference.entry.width places.new }
+    ensures same_end { KeepsEnd source.old source.new }
+    ensures no_longer { OnOk result (length source.new.left ≤ length source.old.left) }
+{
+    match mode {
+        ModeCode::Vertical(d) => vertical::<CHOICE>(reference, places, at, d),
+        ModeCode::Pass => pass::<CHOICE>(reference, places, at),
+        ModeCode::Horizontal => last_horizontal::<CHOICE>(source, reference, places, at, None),
+        ModeCode::Extension => Err(Stop::Fault(RowFault::Extension)),
+    }
+}
+
 /// Reads what is due, and goes on by it.
-#[cold]
-#[inline(never)]
 fn read_due<const CHOICE: bool>(
     source: &mut BitSource,
     reference: PlacedRow,
@@ -84,33 +153,11 @@ fn read_due<const CHOICE: bool>(
     ensures shorter { OnOk result (length source.new.left < length source.old.left) }
 {
     match due {
-        Due::Mode => match read_code::<Modes>(source) {
-            Ok(mode) => by_mode::<CHOICE, true>(source, reference, places, at, mode),
+        Due::Mode => match last_mode(source) {
+            Ok(mode) => last_step::<CHOICE>(source, reference, places, at, mode),
             Err(fault) => Err(Stop::Fault(RowFault::from(fault))),
         },
         Due::Runs(first) => last_horizontal::<CHOICE>(source, reference, places, at, first),
-    }
-}
-
-/// Reads one mode, or more of them with a1 under b1, as `next_steps` does, or else what is due.
-fn any_steps<const CHOICE: bool>(
-    source: &mut BitSource,
-    reference: PlacedRow,
-    places: &mut [u32],
-    at: PlacedReached,
-) -> Result<PlacedReached, Stop<Due>>
-    requires inside { IsReadInside reference places.old at }
-    ensures read { IfOk result (λ next. IsReadOn CHOICE reference.entry places.old places.new
-        at next source.old.left source.new.left) }
-    ensures stop { IfErr result (λ stop. IsStepStop CHOICE reference.entry places.old at
-        source.old.left (λ more. ⊥) stop) }
-    ensures room { HasRoom reference.entry.width places.new }
-    ensures same_end { KeepsEnd source.old source.new }
-    ensures shorter { OnOk result (length source.new.left < length source.old.left) }
-{
-    match next_steps::<CHOICE>(source, reference, places, at) {
-        Err(Stop::Due(due)) => read_due::<CHOICE>(source, reference, places, at, due),
-        step => step,
     }
 }
 
@@ -137,7 +184,7 @@ pub(super) fn read_on<const CHOICE: bool>(
     ahead.skip_to(pause.place);
     let mut at = read_due::<CHOICE>(&mut ahead, reference, places, pause.reached(), pause.due)?;
     while at.reached.first_pel() < reference.width {
-        at = any_steps::<CHOICE>(&mut ahead, reference, places, at)?;
+        at = read_due::<CHOICE>(&mut ahead, reference, places, at, Due::Mode)?;
     }
     source.go_to(&ahead);
     Ok(at.end)

@@ -1,7 +1,7 @@
 //! The modes of a row in two-dimensional coding, read over its reference row (ITU-T T.4, section
 //! 4.2.1.3.3). The bits ahead stand in a value.
 ghost use Rattle.std.specs.Prelude.{◌≡◌, ◌+◌, ◌≤◌, ◌<◌, Bool, List, IsTrue, length};
-ghost use Rattle.std.specs.Prelude.{IfOk, IfErr, IfSome, Option, OnOk, OnErr};
+ghost use Rattle.std.specs.Prelude.{IfOk, IfErr, OnOk, OnErr};
 ghost use Rattle.fax_bits.specs.Codes.{Takes};
 ghost use Rattle.fax_bits.specs.Tables.{modes};
 ghost use Rattle.fax_bits.specs.views.Source.{KeepsEnd};
@@ -9,11 +9,10 @@ ghost use Rattle.fax_rows.specs.Rows.{b2};
 ghost use Rattle.fax_rows.specs.Rows as Spec;
 ghost use Rattle.fax_rows.specs.Faults as Fault;
 ghost use Rattle.fax_rows.specs.declared.RowFault.TheVariants.{OutOfRow};
-ghost use Rattle.fax_rows.specs.code.Due.{AreReadRuns, AreRunsDue, IsDueAt, IsHorizontalDue};
+ghost use Rattle.fax_rows.specs.code.Due.{AreReadRuns, IsDueAt, IsHorizontalDue};
 ghost use Rattle.fax_rows.specs.code.Pause.{IsPause};
 ghost use Rattle.fax_rows.specs.code.Seen.{b2_from};
 ghost use Rattle.fax_rows.specs.code.PlacedRow.{placed_pels};
-ghost use Rattle.fax_rows.specs.code.RowFaults.{IsHorizontalFault};
 ghost use Rattle.fax_rows.specs.code.Stop.{IsStopOf, IsStepStop, IsRowStop};
 ghost use Rattle.fax_rows.specs.code.ReadRow.{IsReadRow};
 ghost use Rattle.fax_rows.specs.code.Put.{HasRoom};
@@ -21,7 +20,7 @@ ghost use Rattle.fax_rows.specs.code.Reached.{reached_pel};
 ghost use Rattle.fax_rows.specs.code.PlacedReached.{placed_position, IsReadTo, IsReadInside, IsReadOn, IsPairReadOn};
 
 use super::choices::{chooses_a1, chooses_b2, chooses_runs, is_taken};
-use super::codes::{Due, Stop, TwoRuns, last_two_runs, two_runs};
+use super::codes::{Due, Stop, TwoRuns, two_runs};
 use super::copied::under_several;
 use super::due::Pause;
 use super::steps::{PlacedReached, after_runs, left_of_b1, right_of_b1, under_b1, under_b2};
@@ -33,7 +32,7 @@ use fax_bits::{BitSource, ModeCode};
 /// Horizontal mode, after its two runs, where that is T.4's choice or this is not asked for (T.4,
 /// sections 4.2.1.3.2 and 4.2.1.3.3).
 #[inline(always)]
-fn past_runs<const CHOICE: bool>(
+pub(super) fn past_runs<const CHOICE: bool>(
     reference: PlacedRow,
     places: &mut [u32],
     at: PlacedReached,
@@ -76,7 +75,7 @@ fn horizontal<const CHOICE: bool>(
 {
     let from = at.reached.first_pel();
     let colour = colour_after(at.b1);
-    match two_runs(source, colour, reference.width, from) {
+    match two_runs::<CHOICE>(source, colour, reference.width, from) {
         Ok(runs) => past_runs::<CHOICE>(reference, places, at, runs),
         Err(first) => Err(Stop::Due(Due::Runs(first))),
     }
@@ -86,7 +85,7 @@ fn horizontal<const CHOICE: bool>(
 /// section 4.2.1.3.2). Vertical mode always is T.4's choice where a1 is not right of b1 (T.4,
 /// section 4.2.1.3.3).
 #[inline(always)]
-fn vertical<const CHOICE: bool>(
+pub(super) fn vertical<const CHOICE: bool>(
     reference: PlacedRow,
     places: &mut [u32],
     at: PlacedReached,
@@ -122,7 +121,7 @@ fn vertical<const CHOICE: bool>(
 
 /// Pass mode, where that is T.4's choice or this is not asked for (T.4, section 4.2.1.3.3).
 #[inline(always)]
-fn pass<const CHOICE: bool>(
+pub(super) fn pass<const CHOICE: bool>(
     reference: PlacedRow,
     places: &[u32],
     at: PlacedReached,
@@ -145,38 +144,10 @@ fn pass<const CHOICE: bool>(
     }
 }
 
-/// Horizontal mode as `horizontal` reads it, but with runs by their tables: the first of them where
-/// it is not read, and the second.
-pub(super) fn last_horizontal<const CHOICE: bool>(
-    source: &mut BitSource,
-    reference: PlacedRow,
-    places: &mut [u32],
-    at: PlacedReached,
-    first: Option<u32>,
-) -> Result<PlacedReached, Stop<Due>>
-    requires inside { IsReadInside reference places.old at }
-    requires fits { IfSome first (λ n. reached_pel at.reached + n ≤ reference.width) }
-    ensures read { (b : List Bool) → AreRunsDue at.reached.colour b first source.old.left
-        → IfOk result (λ next. IsPairReadOn CHOICE reference.entry places.old places.new at next
-        b source.new.left) }
-    ensures err { (b : List Bool) → AreRunsDue at.reached.colour b first source.old.left
-        → IfErr result (λ stop. IsStopOf CHOICE (λ fault. IsHorizontalFault
-        (placed_pels reference.entry) (placed_position reference.entry.width places.old at) b fault)
-        (λ due. ⊥) stop) }
-    ensures room { HasRoom reference.entry.width places.new }
-    ensures same_end { KeepsEnd source.old source.new }
-    ensures shorter { OnOk result (length source.new.left < length source.old.left) }
-{
-    let from = at.reached.first_pel();
-    let colour = colour_after(at.b1);
-    let runs = last_two_runs::<CHOICE>(source, colour, reference.width, from, first)?;
-    past_runs::<CHOICE>(reference, places, at, runs)
-}
-
 /// Goes on by a mode, after its code; where a1 is under b1 it reads more such modes too (T.4,
-/// section 4.2.1.3.3). With `LAST` it reads runs by their tables.
+/// section 4.2.1.3.3).
 #[inline(always)]
-pub(super) fn by_mode<const CHOICE: bool, const LAST: bool>(
+fn by_mode<const CHOICE: bool>(
     source: &mut BitSource,
     reference: PlacedRow,
     places: &mut [u32],
@@ -189,7 +160,7 @@ pub(super) fn by_mode<const CHOICE: bool, const LAST: bool>(
         b source.new.left) }
     ensures stop { (b : List Bool) → Takes modes b mode source.old.left
         → IfErr result (λ stop. IsStepStop CHOICE reference.entry places.old at b
-        (λ due. (IsTrue LAST → ⊥) × (places.new ≡ places.old)
+        (λ due. (places.new ≡ places.old)
         × IsDueAt reference.entry places.old at b due source.new.left) stop) }
     ensures room { OnErr result (HasRoom reference.entry.width places.new) }
     ensures same_end { KeepsEnd source.old source.new }
@@ -199,13 +170,7 @@ pub(super) fn by_mode<const CHOICE: bool, const LAST: bool>(
         ModeCode::Vertical(0) => Ok(under_several(source, reference, places, at)),
         ModeCode::Vertical(d) => vertical::<CHOICE>(reference, places, at, d),
         ModeCode::Pass => pass::<CHOICE>(reference, places, at),
-        ModeCode::Horizontal => {
-            if LAST {
-                last_horizontal::<CHOICE>(source, reference, places, at, None)
-            } else {
-                horizontal::<CHOICE>(source, reference, places, at)
-            }
-        }
+        ModeCode::Horizontal => horizontal::<CHOICE>(source, reference, places, at),
         ModeCode::Extension => Err(Stop::Fault(RowFault::Extension)),
     }
 }
@@ -213,7 +178,7 @@ pub(super) fn by_mode<const CHOICE: bool, const LAST: bool>(
 /// Reads one mode by a look-up, and goes on by what it says; where a1 is under b1 it reads more such
 /// modes too (T.4, section 4.2.1.3.3).
 #[inline(always)]
-pub(super) fn next_steps<const CHOICE: bool>(
+fn next_steps<const CHOICE: bool>(
     source: &mut BitSource,
     reference: PlacedRow,
     places: &mut [u32],
@@ -232,7 +197,7 @@ pub(super) fn next_steps<const CHOICE: bool>(
     let Some(mode) = source.mode() else {
         return Err(Stop::Due(Due::Mode));
     };
-    by_mode::<CHOICE, false>(source, reference, places, at, mode)
+    by_mode::<CHOICE>(source, reference, places, at, mode)
 }
 
 /// Reads the modes of a row over the reference row by look-ups, and answers where its places end.

@@ -1,4 +1,4 @@
-use Rattle.std.proofs.Common.{length, length-append, take, ap, ◌∙◌, arith}
+use Rattle.std.proofs.Common.{refl, length, length-append, take, ap, ◌∙◌, arith}
 use Rattle.std.proofs.lemmas.Result.{err_from_is_err_and}
 use Rattle.fax_bits.specs.views.Source.{Source}
 use Rattle.fax_rows.specs.code.Due.{IsDue}
@@ -51,12 +51,14 @@ loop-ahead-init g c =
     }
 
 pub loop-ahead-preserved : goal.loop-ahead-preserved
-loop-ahead-preserved g c = record {
-  steps = goes_further c.loop-ahead.invariant.steps c.in_ok-at-2.ensures.read.steps;
-  chosen = λ h. chosen_further (c.loop-ahead.invariant.chosen h) (c.in_ok-at-2.ensures.read.chosen h);
-  so_far = c.in_ok-at-2.ensures.read.so_far;
-  same_end = omega (arith, c.in_ok-at-2.ensures.same_end, c.loop-ahead.invariant.same_end);
-}
+loop-ahead-preserved g c =
+    let read = c.in_ok-at-2.ensures.read c.loop-ahead.ahead.left refl in
+    record {
+      steps = goes_further c.loop-ahead.invariant.steps read.steps;
+      chosen = λ h. chosen_further (c.loop-ahead.invariant.chosen h) (read.chosen h);
+      so_far = read.so_far;
+      same_end = omega (arith, c.in_ok-at-2.ensures.same_end, c.loop-ahead.invariant.same_end);
+    }
 
 pub returns-in_err-at-2-clause-stop : goal.returns-in_err-at-2-clause-stop
 returns-in_err-at-2-clause-stop g c =
@@ -64,7 +66,7 @@ returns-in_err-at-2-clause-stop g c =
     (pels_by c.args.reference.width (take c.loop-ahead.at.end c.loop-ahead.places)) c.loop-ahead.ahead.left
     c.loop-ahead.invariant.steps (omega (arith, length-placed_pels c.args.reference)) in
     let p = err_from_is_err_and c.from_residual-in_err-at-2.result c.from_residual-in_err-at-2.ensures.1 in
-    rw (p.1, p.2) (stop_as _ c.in_err-at-2.field-0.0 c.in_err-at-2.ensures.stop here (λ more h. h))
+    rw (p.1, p.2) (stop_as _ c.in_err-at-2.field-0.0 (c.in_err-at-2.ensures.stop c.loop-ahead.ahead.left refl) here (λ more h. h))
 
 pub returns-clause-read : goal.returns-clause-read
 returns-clause-read g c =

@@ -1,8 +1,6 @@
-use Rattle.std.proofs.Common.{◌≡◌, pos, inr, refl, rules}
+use Rattle.std.proofs.Common.{◌≡◌, pos, rules}
 use Prim.{search}
-use Rattle.fax_bits.specs.declared.modes.ModeCode.TheVariants.{Horizontal}
 use Rattle.fax_rows.proofs.ChosenStepLemmas.{map_ok, map_three}
-use Rattle.fax_rows.proofs.StopLemmas.{stops_as}
 use Rattle.fax_rows.proofs.ReadOnLemmas.{asked_or_not, vertical_read, pass_read, pair_read}
 use Rattle.fax_rows.proofs.two_dimensional.modes.by_mode.Goals as goal
 
@@ -23,19 +21,7 @@ returns-in-Pass-clause-read g c b taken =
     map_three c.pass.result c.pass.ensures.ok c.pass.ensures.so_far c.pass.ensures.inside
     (λ next step so_far inside. pass_read c.requires.inside takes step so_far inside)
 
-pub returns-then-this-ne0-clause-read : goal.returns-then-this-ne0-clause-read
-returns-then-this-ne0-clause-read g c b taken =
-    let takes = rw c.in-Horizontal.is at taken in
-    map_ok c.last_horizontal.result (c.last_horizontal.ensures.read c.args.source.now.left refl)
-    (λ next read. pair_read c.requires.inside takes read)
-
-pub returns-else-this-ne0-clause-read : goal.returns-else-this-ne0-clause-read
-returns-else-this-ne0-clause-read g c b taken =
+pub returns-in-Horizontal-clause-read : goal.returns-in-Horizontal-clause-read
+returns-in-Horizontal-clause-read g c b taken =
     let takes = rw c.in-Horizontal.is at taken in
     map_ok c.horizontal.result c.horizontal.ensures.read (λ next read. pair_read c.requires.inside takes read)
-
-pub returns-then-this-ne0-clause-stop : goal.returns-then-this-ne0-clause-stop
-returns-then-this-ne0-clause-stop g c b taken =
-    let takes = rw c.in-Horizontal.is at taken in
-    stops_as _ c.last_horizontal.result (c.last_horizontal.ensures.err c.args.source.now.left refl)
-    (λ fault is. inr (Horizontal, c.args.source.now.left, takes, is)) (λ due none. absurd none)

@@ -1,7 +1,7 @@
 use Rattle.std.proofs.Common.{◌∙◌}
 use Rattle.std.proofs.lemmas.Result.{err_from_is_err_and}
 use Rattle.fax_rows.proofs.PlacedB1Lemmas.{length-placed_pels}
-use Rattle.fax_rows.proofs.two_dimensional.modes.last_horizontal.Goals as goal
+use Rattle.fax_rows.proofs.two_dimensional.due.last_horizontal.Goals as goal
 
 pub returns-in_err-runs-clause-err : goal.returns-in_err-runs-clause-err
 returns-in_err-runs-clause-err g c b due =
